@@ -32,3 +32,10 @@ pub record LeavesOnly (old new : History) (P : Files → Type 0) : Type 0 where
   pub later : old.moment ≤ new.moment
   pub kept : (k : ℕ) → k ≤ old.moment → new.had_at k ≡ old.had_at k
   pub each : (k : ℕ) → old.moment ≤ k → k ≤ new.moment → (image : Files) → IsImage (new.had_at k) image → P image
+
+-- So far, from start to now: each image that a crash might have left has P, each that a crash now may leave has Q,
+-- and the files have N.
+pub record Run (start now : History) (P Q N : Files → Type 0) : Type 0 where
+  pub since : LeavesOnly start now P
+  pub present : LeavesNow now Q
+  pub here : N (files_now now)

@@ -1,5 +1,5 @@
 -- What the inputs and a log hold.
-use Rattle.std.specs.Prelude.{◌≡◌, ◌≤◌, ℕ, List}
+use Rattle.std.specs.Prelude.{ℕ, List}
 
 -- a line of a log, without its end
 abbrev pub Line : Type 0

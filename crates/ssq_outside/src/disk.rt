@@ -6,9 +6,8 @@ ghost use Rattle.ssq_outside.specs.Files.{Had, added, removed, settled_at, IsSyn
 ghost use Rattle.ssq_outside.specs.History.{History, had_now, files_now, Elapses};
 
 use crate::name::Name;
-use thiserror::Error;
-
 use std::alloc::Global;
+use thiserror::Error;
 
 /// Why a disk gave nothing.
 #[derive(Clone, Copy, Debug, PartialEq, Eq, Error)]

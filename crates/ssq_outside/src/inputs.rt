@@ -4,9 +4,8 @@ ghost use Rattle.std.specs.Prelude.{◌≡◌, ◌+◌, ◌-◌, ◌^◌, ◌<�
 ghost use Rattle.ssq_outside.specs.Faults.{Rises, StaysSure};
 ghost use Rattle.ssq_outside.specs.Logs.{Held, Line};
 
-use thiserror::Error;
-
 use std::alloc::Global;
+use thiserror::Error;
 
 /// Why a file, a number of parts or a log was not had.
 #[derive(Clone, Copy, Debug, PartialEq, Eq, Error)]

@@ -33,7 +33,8 @@ impl Name {
             (Name::Plan(epoch), Name::Plan(of)) => epoch == of,
             (Name::Commit(epoch), Name::Commit(of)) => epoch == of,
             (Name::Out(epoch), Name::Out(of)) => epoch == of,
-            (Name::Delta(partition, version), Name::Delta(of, at)) => partition == of && version == at,
+            (Name::Delta(partition, version), Name::Delta(of, at)) => partition == of
+                && version == at,
             (Name::Snapshot(partition, version), Name::Snapshot(of, at)) => {
                 partition == of && version == at
             }
