@@ -4,14 +4,11 @@
 #![tactic(auto)]
 
 mod fault;
-
 mod keyword;
-
 mod symbol;
 mod token;
 
 pub use fault::{LexCause, LexFault};
 pub use keyword::Keyword;
-
 pub use symbol::Symbol;
 pub use token::{Kind, Token};
