@@ -1,0 +1,22 @@
+use thiserror::Error;
+
+/// What is wrong where a text has no token.
+#[derive(Clone, Copy, Debug, PartialEq, Eq)]
+pub enum LexCause {
+    /// A character outside quoted texts and comments that begins no token.
+    BadChar,
+    /// A number above 9223372036854775807; its place is its first digit.
+    BadNumber,
+    /// A quoted text without its end; its place is its opening quote.
+    Unclosed,
+}
+
+/// Why a text was not cut into tokens.
+#[derive(Debug, Drop, Error)]
+pub enum LexFault {
+    /// The first place, in bytes, at which the text has no token, and what is wrong there.
+    #[error("{cause:?} at {at}")]
+    Refused { at: usize, cause: LexCause },
+    #[error("out of memory")]
+    NoMemory,
+}

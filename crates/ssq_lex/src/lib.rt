@@ -1,0 +1,14 @@
+//! The tokens of a query file: keywords, names, numbers, quoted texts and symbols, each with its place.
+//!
+//! [`tokens`] reads a whole text in one pass. Its rules stand in `specs/`, by cases on the bytes.
+#![tactic(auto)]
+
+mod fault;
+mod keyword;
+mod symbol;
+mod token;
+
+pub use fault::{LexCause, LexFault};
+pub use keyword::Keyword;
+pub use symbol::Symbol;
+pub use token::{Kind, Token};

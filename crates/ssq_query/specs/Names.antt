@@ -1,0 +1,14 @@
+-- The names that a query gives.
+use Rattle.std.specs.Prelude.{ℕ, List, [], map, slice_index_or}
+use Rattle.ssq_query.specs.declared.query.Item.{Item}
+use Rattle.ssq_query.specs.declared.query.Item.TheVariants as item
+use Rattle.ssq_query.specs.declared.query.Query.{Query}
+
+-- the name under which SELECT gives an item: a bare column has its own
+abbrev pub output_name : List (List ℕ) → Item → List ℕ
+output_name columns (item.Column at) = slice_index_or columns at []
+output_name columns (item.Named sum name) = name
+
+-- the names of the columns that the query gives, in SELECT's order
+abbrev pub output_names : Query → List (List ℕ)
+output_names query = map (output_name query.columns) query.items

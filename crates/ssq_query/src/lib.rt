@@ -1,0 +1,17 @@
+//! The queries that are run so far: one filter over one stream of numbers.
+//!
+//! ```text
+//! query = CREATE STREAM name "(" name BIGINT { "," name BIGINT } ")" FROM text ";"
+//!         SELECT item { "," item } FROM name [ WHERE sum cmp sum ] OUTPUT APPEND ";"
+//! item  = name | sum AS name
+//! sum   = term { ( "+" | "-" ) term }
+//! term  = name | number
+//! cmp   = "=" | "<>" | "<" | "<=" | ">" | ">="
+//! ```
+#![tactic(auto)]
+
+mod query;
+mod sequence;
+
+pub use query::{Comparison, Filter, Item, Op, Query, Step, Sum, Term};
+pub use sequence::Sequence;

@@ -1,0 +1,78 @@
+//! Texts, as contracts see them: the list of their bytes.
+
+ghost use Rattle.std.specs.Prelude.{◌≡◌, ◌==◌, length, string_bytes, IfOk};
+ghost use Rattle.std.specs.Str.{IsUtf8};
+
+use std::alloc::{AllocError, Global};
+use std::marker::Model;
+
+/// A text of any length. Contracts see its UTF-8 bytes.
+#[derive(Debug, Drop)]
+pub struct Text(String);
+
+impl Model for Text {
+    ghost use Rattle.std.specs.Prelude.{List, ℕ, string_bytes};
+
+    ghost Value = { List ℕ };
+
+    ghost view = { λ t. string_bytes t.0 };
+}
+
+impl Text {
+    /// Takes the text over, without a copy.
+    pub fn from_string(text: String) -> Text
+        ensures { result ≡ string_bytes text }
+    {
+        Text(text)
+    }
+
+    /// Copies the text.
+    pub fn from_str(alloc: Global, text: &str) -> Result<Text, AllocError>
+        ensures { IfOk result (λ made. made ≡ text.now) }
+    {
+        Ok(Text(String::from_str(alloc, text)?))
+    }
+
+    /// Gives the text back, without a copy.
+    pub fn into_string(self) -> String
+        ensures { string_bytes result ≡ self }
+    {
+        let Text(text) = self;
+        text
+    }
+
+    pub fn as_str(&self) -> &str
+        ensures { result.now ≡ self.now }
+    {
+        self.0.as_str()
+    }
+
+    pub fn as_bytes(&self) -> &[u8]
+        ensures bytes { result.now ≡ self.now }
+        ensures utf8 { IsUtf8 result.now }
+    {
+        self.0.as_str().as_bytes()
+    }
+
+    /// The number of bytes.
+    pub fn len(&self) -> usize
+        ensures { result ≡ length self.now }
+    {
+        self.0.len()
+    }
+
+    pub fn is_empty(&self) -> bool
+        ensures { result ≡ (length self.now == 0) }
+    {
+        self.0.is_empty()
+    }
+}
+
+/// A copy in memory of its own.
+impl Clone for Text {
+    ghost is_clone = { λ old new. new ≡ old };
+
+    fn clone(&self) -> Result<Text, AllocError> {
+        Ok(Text(self.0.clone()?))
+    }
+}
