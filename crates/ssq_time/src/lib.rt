@@ -4,6 +4,7 @@
 #![tactic(auto)]
 
 mod digits;
+mod printer;
 mod reader;
 
-pub use reader::read_time;
+pub use reader::{read_stamp, read_time};

@@ -1,12 +1,13 @@
 //! Reads the texts of times.
 ghost use Rattle.std.specs.Prelude.{◌≡◌, ◌+◌, ◌<◌, ◌≤◌, pos, length, IfSome};
 ghost use Rattle.jiff_core.specs.Calendar.{IsEpochDay};
-ghost use Rattle.ssq_time.specs.Time.{day_number, day_at_head, second_number, second_behind_day, micros_written, micros_of, moment, time_of};
+ghost use Rattle.ssq_time.specs.Time.{day_number, day_at_head, second_number, second_behind_day, micros_written, micros_of, moment, time_of, six_micros_of, stamp_micros_of, stamp_of};
 
 use crate::digits::{decimal, two};
 use jiff_core::civil::Date;
 
 const SECOND: i64 = 1_000_000;
+
 const DAY: i64 = 86_400 * SECOND;
 
 /// The day's number from 1970-01-01, where the calendar has the day.
@@ -138,5 +139,50 @@ pub fn read_time(text: &[u8]) -> Option<i64>
     let day = day_at(1000, 9000, text)?;
     let second = second_at(text)?;
     let micro = micros_at(text)?;
+    Some(joined(day, second, micro))
+}
+
+/// A point and six digits that are not all 0.
+#[tactic(auto, unfolding(crate::specs::Time::six_micros_of))]
+fn six_micros_at(text: &[u8]) -> Option<u32>
+    requires { 26 ≤ length text.now }
+    ensures value { result ≡ six_micros_of text.now }
+    ensures bound { IfSome result (λ n. n < 1000000) }
+{
+    let micro = micros_from(6, text)?;
+    if micro == 0 { None } else { Some(micro) }
+}
+
+/// What stands behind the seconds of a printed text, up to the `Z` that ends it.
+#[tactic(auto, unfolding(crate::specs::Time::stamp_micros_of))]
+fn stamp_micros_at(text: &[u8]) -> Option<u32>
+    requires { 20 ≤ length text.now }
+    ensures value { result ≡ stamp_micros_of text.now }
+    ensures bound { IfSome result (λ n. n < 1000000) }
+{
+    if text[text.len() - 1] == b'Z' {
+        if text.len() == 20 {
+            Some(0)
+        } else if text.len() == 27 {
+            six_micros_at(text)
+        } else {
+            None
+        }
+    } else {
+        None
+    }
+}
+
+/// The time that a printed text is.
+#[tactic(auto, unfolding(crate::specs::Time::stamp_of))]
+pub fn read_stamp(text: &[u8]) -> Option<i64>
+    ensures value { result ≡ stamp_of text.now }
+{
+    if text.len() < 20 {
+        return None;
+    }
+    let day = day_at(1, 9999, text)?;
+    let second = second_at(text)?;
+    let micro = stamp_micros_at(text)?;
     Some(joined(day, second, micro))
 }
