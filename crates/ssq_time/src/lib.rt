@@ -1,0 +1,10 @@
+//! Times as texts, and spans of time as texts. A time is a number of microseconds since
+//! 1970-01-01T00:00:00Z by the proleptic Gregorian calendar, without leap seconds; a span is a
+//! number of microseconds.
+#![tactic(auto)]
+
+mod digits;
+mod printer;
+mod reader;
+
+pub use reader::{read_stamp, read_time};

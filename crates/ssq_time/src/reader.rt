@@ -1,0 +1,188 @@
+//! Reads the texts of times.
+ghost use Rattle.std.specs.Prelude.{◌≡◌, ◌+◌, ◌<◌, ◌≤◌, pos, length, IfSome};
+ghost use Rattle.jiff_core.specs.Calendar.{IsEpochDay};
+ghost use Rattle.ssq_time.specs.Time.{day_number, day_at_head, second_number, second_behind_day, micros_written, micros_of, moment, time_of, six_micros_of, stamp_micros_of, stamp_of};
+
+use crate::digits::{decimal, two};
+use jiff_core::civil::Date;
+
+const SECOND: i64 = 1_000_000;
+
+const DAY: i64 = 86_400 * SECOND;
+
+/// The day's number from 1970-01-01, where the calendar has the day.
+#[tactic(auto, unfolding(crate::specs::Time::day_number))]
+fn day_from(first: u16, last: u16, year: u16, month: u8, day: u8) -> Option<i32>
+    requires { last ≤ 9999 }
+    ensures value { result ≡ day_number first last year month day }
+    ensures bound { IfSome result IsEpochDay }
+{
+    if year < first || year > last || month < 1 || month > 12 || day < 1 {
+        return None;
+    }
+    let date = Date::constrain(year as i16, month, day);
+    if date.day != day {
+        return None;
+    }
+    Some(date.to_unix_epoch_day())
+}
+
+/// `YYYY-MM-DD` at the head of a text.
+#[tactic(auto, unfolding(crate::specs::Time::day_at_head))]
+fn day_at(first: u16, last: u16, text: &[u8]) -> Option<i32>
+    requires years { last ≤ 9999 }
+    requires room { 20 ≤ length text.now }
+    ensures value { result ≡ day_at_head first last text.now }
+    ensures bound { IfSome result IsEpochDay }
+{
+    let century = two(text, 0)?;
+    let year = two(text, 2)?;
+    let month = two(text, 5)?;
+    let day = two(text, 8)?;
+    if text[4] == b'-' && text[7] == b'-' {
+        day_from(first, last, 100 * century as u16 + year as u16, month, day)
+    } else {
+        None
+    }
+}
+
+/// The seconds of a day up to that time of day.
+#[tactic(auto, unfolding(crate::specs::Time::second_number))]
+fn second_from(hour: u8, minute: u8, second: u8) -> Option<u32>
+    ensures value { result ≡ second_number hour minute second }
+    ensures bound { IfSome result (λ n. n < 86400) }
+{
+    if hour <= 23 && minute <= 59 && second <= 59 {
+        Some(3600 * hour as u32 + 60 * minute as u32 + second as u32)
+    } else {
+        None
+    }
+}
+
+/// `THH:MM:SS` behind the day.
+#[tactic(auto, unfolding(crate::specs::Time::second_behind_day))]
+fn second_at(text: &[u8]) -> Option<u32>
+    requires { 20 ≤ length text.now }
+    ensures value { result ≡ second_behind_day text.now }
+    ensures bound { IfSome result (λ n. n < 86400) }
+{
+    let hour = two(text, 11)?;
+    let minute = two(text, 14)?;
+    let second = two(text, 17)?;
+    if text[10] == b'T' && text[13] == b':' && text[16] == b':' {
+        second_from(hour, minute, second)
+    } else {
+        None
+    }
+}
+
+/// A point and `written` digits behind the seconds: microseconds.
+#[tactic(auto, unfolding(crate::specs::Time::micros_written))]
+fn micros_from(written: usize, text: &[u8]) -> Option<u32>
+    requires { 20 + written ≤ length text.now }
+    ensures value { result ≡ micros_written written text.now }
+    ensures bound { IfSome result (λ n. n < 1000000) }
+{
+    let a = decimal(text, written, 0)?;
+    let b = decimal(text, written, 1)?;
+    let c = decimal(text, written, 2)?;
+    let d = decimal(text, written, 3)?;
+    let e = decimal(text, written, 4)?;
+    let f = decimal(text, written, 5)?;
+    if text[19] == b'.' {
+        let milli = 100 * a as u32 + 10 * b as u32 + c as u32;
+        let micro = 100 * d as u32 + 10 * e as u32 + f as u32;
+        Some(1000 * milli + micro)
+    } else {
+        None
+    }
+}
+
+/// What stands behind the seconds, up to the `Z` that ends the text.
+#[tactic(auto, unfolding(crate::specs::Time::micros_of))]
+fn micros_at(text: &[u8]) -> Option<u32>
+    requires { 20 ≤ length text.now }
+    ensures value { result ≡ micros_of text.now }
+    ensures bound { IfSome result (λ n. n < 1000000) }
+{
+    if text[text.len() - 1] == b'Z' {
+        if text.len() == 20 {
+            Some(0)
+        } else if 22 <= text.len() && text.len() <= 27 {
+            micros_from(text.len() - 21, text)
+        } else {
+            None
+        }
+    } else {
+        None
+    }
+}
+
+/// A day's number, a second of that day and a microsecond of that second, as one number.
+fn joined(day: i32, second: u32, micro: u32) -> i64
+    requires day { IsEpochDay day }
+    requires second { second < 86400 }
+    requires micro { micro < 1000000 }
+    ensures { result ≡ moment day second micro }
+{
+    day as i64 * DAY + (second as i64 * SECOND + micro as i64)
+}
+
+/// The time that the text is.
+#[tactic(auto, unfolding(crate::specs::Time::time_of))]
+pub fn read_time(text: &[u8]) -> Option<i64>
+    ensures { result ≡ time_of text.now }
+{
+    if text.len() < 20 {
+        return None;
+    }
+    let day = day_at(1000, 9000, text)?;
+    let second = second_at(text)?;
+    let micro = micros_at(text)?;
+    Some(joined(day, second, micro))
+}
+
+/// A point and six digits that are not all 0.
+#[tactic(auto, unfolding(crate::specs::Time::six_micros_of))]
+fn six_micros_at(text: &[u8]) -> Option<u32>
+    requires { 26 ≤ length text.now }
+    ensures value { result ≡ six_micros_of text.now }
+    ensures bound { IfSome result (λ n. n < 1000000) }
+{
+    let micro = micros_from(6, text)?;
+    if micro == 0 { None } else { Some(micro) }
+}
+
+/// What stands behind the seconds of a printed text, up to the `Z` that ends it.
+#[tactic(auto, unfolding(crate::specs::Time::stamp_micros_of))]
+fn stamp_micros_at(text: &[u8]) -> Option<u32>
+    requires { 20 ≤ length text.now }
+    ensures value { result ≡ stamp_micros_of text.now }
+    ensures bound { IfSome result (λ n. n < 1000000) }
+{
+    if text[text.len() - 1] == b'Z' {
+        if text.len() == 20 {
+            Some(0)
+        } else if text.len() == 27 {
+            six_micros_at(text)
+        } else {
+            None
+        }
+    } else {
+        None
+    }
+}
+
+/// The time that a printed text is.
+#[tactic(auto, unfolding(crate::specs::Time::stamp_of))]
+pub fn read_stamp(text: &[u8]) -> Option<i64>
+    ensures value { result ≡ stamp_of text.now }
+{
+    if text.len() < 20 {
+        return None;
+    }
+    let day = day_at(1, 9999, text)?;
+    let second = second_at(text)?;
+    let micro = stamp_micros_at(text)?;
+    Some(joined(day, second, micro))
+}
