@@ -1,0 +1,9 @@
+//! What a query means, on whole lists of lines, and the evaluation that it rests on.
+//!
+//! The definitions stand in `specs/`: they filter and project whole lists and know nothing of files, retries or
+//! order of work. What runs a query is proved against them.
+#![tactic(auto)]
+
+mod evaluate;
+
+pub use evaluate::{EvalFault, shown_row};
