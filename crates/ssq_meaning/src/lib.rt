@@ -4,6 +4,10 @@
 //! order of work. What runs a query is proved against them.
 #![tactic(auto)]
 
+mod cuts;
 mod evaluate;
+mod line;
 
+pub use cuts::{epochs_add_up, next_end};
 pub use evaluate::{EvalFault, shown_row};
+pub use line::{LineFault, schema_of, show_line};

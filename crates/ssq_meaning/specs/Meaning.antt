@@ -1,0 +1,101 @@
+-- What a query shows of a log, on whole lists of lines.
+use Rattle.std.specs.Prelude.{◌≡◌, ◌<◌, ℕ, zero, suc, ◌+◌, ◌-◌, Bool, true, false, List, [], ◌∷◌, ◌++◌, length, map, take, drop, filter, min, Option, Some, None, Result, Ok, Err, is_err, position, option_and_then}
+use Rattle.std.specs.List.{filter_map}
+use Rattle.std.specs.Result.{result_ok}
+use Rattle.ssq_value.specs.declared.column.ColType.TheVariants.{Bigint}
+use Rattle.ssq_value.specs.declared.column.Column.{Column}
+use Rattle.ssq_value.specs.declared.value.Value.{Value}
+use Rattle.ssq_value.specs.Layout.{Layout}
+use Rattle.ssq_json.specs.Line.{row_of}
+use Rattle.ssq_json.specs.declared.bad_row.BadRow.{BadRow}
+use Rattle.ssq_query.specs.declared.query.Query.{Query}
+use Rattle.ssq_meaning.specs.declared.evaluate.EvalFault.{EvalFault}
+use Rattle.ssq_meaning.specs.Evaluation.{passes, projected, shown_row}
+
+-- a line of a log, without its end
+abbrev pub Line : Type 0
+Line = List ℕ
+
+-- a row of a stream, or one that is shown
+abbrev pub Values : Type 0
+Values = List Value
+
+-- a column of whole numbers of 64 bits
+abbrev pub bigint_column : List ℕ → Column
+bigint_column name = record { name = name; kind = Bigint }
+
+-- the stream's columns: each is a BIGINT, and none is an event time
+abbrev pub layout_of : Query → Layout
+layout_of query = record { columns = map bigint_column query.columns; event = None }
+
+-- what a line is
+abbrev pub read_as : Query → Line → Result (Option Values) BadRow
+read_as query line = row_of (layout_of query) line
+
+-- the row that a line is; a blank line is none, nor is a bad one
+abbrev pub row_in : Query → Line → Option Values
+row_in query line = option_and_then (λ row. row) (result_ok (read_as query line))
+
+-- whether WHERE is TRUE
+abbrev pub is_true_answer : Result Bool EvalFault → Bool
+is_true_answer (Ok passing) = passing
+is_true_answer (Err fault) = false
+
+abbrev pub is_fed : Query → Values → Bool
+is_fed query row = is_true_answer (passes row query.filter)
+
+-- the rows among the lines on which WHERE is TRUE
+abbrev pub fed : Query → List Line → List Values
+fed query lines = filter (is_fed query) (filter_map (row_in query) lines)
+
+-- these rows as SELECT shows them
+abbrev pub shown : Query → List Values → List Values
+shown query rows = filter_map (λ row. result_ok (projected row query.items)) rows
+
+-- Whether a line is a fault of its epoch: it is bad, or WHERE, or where that is TRUE an item of SELECT, is outside 64 bits.
+abbrev pub is_faulty_row : Query → Result (Option Values) BadRow → Bool
+is_faulty_row query (Err bad) = true
+is_faulty_row query (Ok None) = false
+is_faulty_row query (Ok (Some row)) = is_err (shown_row query row)
+
+abbrev pub is_faulty : Query → Line → Bool
+is_faulty query line = is_faulty_row query (read_as query line)
+
+-- A cutting of a log into epochs: how many lines the first n epochs cover.
+abbrev pub Cuts : Type 0
+Cuts = ℕ → ℕ
+
+-- the lines of epoch e: those from the end of the epoch before to its own
+abbrev pub lines_of : List Line → Cuts → ℕ → List Line
+lines_of lines cuts e = take (cuts (e + 1) - cuts e) (drop (cuts e) lines)
+
+-- the rows that epoch e gives
+abbrev pub out : Query → List Line → Cuts → ℕ → List Values
+out query lines cuts e = shown query (fed query (lines_of lines cuts e))
+
+-- the first line of epoch e that is a fault, counted from the epoch's first line
+abbrev pub fault : Query → List Line → Cuts → ℕ → Option ℕ
+fault query lines cuts e = position (is_faulty query) (lines_of lines cuts e)
+
+-- What the query means on the lines of the first n epochs: the batch query on that prefix, however it was cut.
+abbrev pub meaning : Query → List Line → Cuts → ℕ → List Values
+meaning query lines cuts n = shown query (fed query (take (cuts n) lines))
+
+-- what the first n epochs gave, one after the other
+unfoldable pub given : Query → List Line → Cuts → ℕ → List Values
+given query lines cuts zero = []
+given query lines cuts (suc n) = given query lines cuts n ++ out query lines cuts n
+
+-- where the next epoch ends: at what was seen, or earlier where an epoch has at most so many lines
+abbrev pub next_end : Option ℕ → ℕ → ℕ → ℕ
+next_end None seen from = seen
+next_end (Some most) seen from = min (from + most) seen
+
+-- the cutting of a round that saw so many lines of a log without epochs
+unfoldable pub next_cuts : Option ℕ → ℕ → Cuts
+next_cuts most seen zero = 0
+next_cuts most seen (suc n) = next_end most seen (next_cuts most seen n)
+
+-- each of the first n epochs has a line
+abbrev pub AreProper : Cuts → ℕ → Type 0
+AreProper cuts n = (e : ℕ) → e < n → cuts e < cuts (e + 1)

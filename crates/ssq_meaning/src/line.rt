@@ -1,0 +1,63 @@
+//! What a query shows of one line of its log.
+
+ghost use Rattle.std.specs.Prelude.{◌≡◌, ◌≤◌, [], ◌∷◌, true, false, length, option_to_list, IfOk, IsErrOf};
+ghost use Rattle.ssq_meaning.specs.Meaning.{layout_of, fed, shown, is_faulty};
+
+use crate::evaluate::{EvalFault, shown_row};
+use ssq_json::{BadRow, read_row};
+use ssq_query::Query;
+use ssq_value::{ColType, Column, Row, Schema};
+use thiserror::Error;
+
+use std::alloc::{AllocError, Global};
+
+/// Why a line shows nothing.
+#[derive(Clone, Copy, Debug, PartialEq, Eq, Error)]
+pub enum LineFault {
+    /// The line is bad, or a result on it is outside 64 bits.
+    #[error("the line is bad, or overflows")]
+    Faulty,
+    /// Memory ran out.
+    #[error("out of memory")]
+    NoMemory,
+}
+
+/// The schema of a query's stream.
+pub fn schema_of(alloc: Global, query: &Query) -> Result<Schema, AllocError>
+    requires { length query.now.columns ≤ 64 }
+    ensures { IfOk result (λ schema. schema ≡ layout_of query.now) }
+{
+    let names = query.columns.as_slice();
+    let mut columns = Vec::with_capacity(alloc, names.len())?;
+    for name in names {
+        columns.push(Column {
+            name: name.clone()?,
+            kind: ColType::Bigint,
+        })?;
+    }
+    Ok(Schema::new(columns, None))
+}
+
+/// The row that a query shows for a line, if it shows one.
+pub fn show_line(
+    alloc: Global,
+    query: &Query,
+    schema: &Schema,
+    line: &[u8],
+) -> Result<Option<Row>, LineFault>
+    requires { schema.now ≡ layout_of query.now }
+    ensures row { IfOk result (λ row. shown query.now (fed query.now (line.now ∷ [])) ≡ option_to_list row) }
+    ensures good { IfOk result (λ _. is_faulty query.now line.now ≡ false) }
+    ensures faulty { IsErrOf result LineFault.Faulty → is_faulty query.now line.now ≡ true }
+{
+    match read_row(alloc, line, schema) {
+        Ok(None) => Ok(None),
+        Ok(Some(row)) => match shown_row(alloc, query, row.as_slice()) {
+            Ok(shown) => Ok(shown),
+            Err(EvalFault::Overflow) => Err(LineFault::Faulty),
+            Err(EvalFault::NoMemory) => Err(LineFault::NoMemory),
+        },
+        Err(BadRow::NoMemory) => Err(LineFault::NoMemory),
+        Err(_) => Err(LineFault::Faulty),
+    }
+}
