@@ -36,6 +36,32 @@ pub enum StageError {
     NoMemory,
 }
 
+impl From<DiskFault> for DiskError {
+    ghost use Rattle.std.specs.Prelude.{◌≡◌};
+    ghost use Rattle.ssq_outside.specs.declared.disk.DiskError.TheVariants.{Fault};
+
+    ghost from_gives = { λ _ error. error ≡ Fault };
+
+    fn from(_: DiskFault) -> DiskError {
+        DiskError::Fault
+    }
+}
+
+/// A fault of a staged file, once it is discarded, is the disk's.
+impl From<StageError> for DiskError {
+    ghost use Rattle.std.specs.Prelude.{◌≡◌};
+    ghost use Rattle.ssq_outside.specs.Outcomes.{error_of_stage};
+
+    ghost from_gives = { λ cause error. error ≡ error_of_stage cause };
+
+    fn from(error: StageError) -> DiskError {
+        match error {
+            StageError::Fault => DiskError::Fault,
+            StageError::NoMemory => DiskError::NoMemory,
+        }
+    }
+}
+
 /// A file that is written aside, owned by one task. It stands in no checkpoint and in no image of a crash.
 pub trait Stage: Drop + Send + Sized {
     /// The file when it is whole and on the disk, to be published under a name.
