@@ -1,6 +1,6 @@
 -- What a query shows of a log, on whole lists of lines.
-use Rattle.std.specs.Prelude.{◌≡◌, ◌<◌, ℕ, zero, suc, ◌+◌, ◌-◌, Bool, true, false, List, [], ◌∷◌, ◌++◌, length, map, take, drop, filter, min, Option, Some, None, Result, Ok, Err, is_err, position, option_and_then}
-use Rattle.std.specs.List.{filter_map}
+use Rattle.std.specs.Prelude.{◌≡◌, ◌<◌, ℕ, zero, suc, ◌+◌, ◌-◌, Bool, true, false, List, [], ◌∷◌, ◌++◌, length, map, take, drop, filter, min, Option, Some, None, Result, Ok, Err, is_err, option_and_then}
+use Rattle.std.specs.List.{filter_map, position_from}
 use Rattle.std.specs.Result.{result_ok}
 use Rattle.ssq_value.specs.declared.column.ColType.TheVariants.{Bigint}
 use Rattle.ssq_value.specs.declared.column.Column.{Column}
@@ -65,17 +65,21 @@ is_faulty query line = is_faulty_row query (read_as query line)
 abbrev pub Cuts : Type 0
 Cuts = ℕ → ℕ
 
+-- the lines from one offset up to another; offsets count from 0
+abbrev pub lines_between : ℕ → ℕ → List Line → List Line
+lines_between from end lines = take (end - from) (drop from lines)
+
 -- the lines of epoch e: those from the end of the epoch before to its own
 abbrev pub lines_of : List Line → Cuts → ℕ → List Line
-lines_of lines cuts e = take (cuts (e + 1) - cuts e) (drop (cuts e) lines)
+lines_of lines cuts e = lines_between (cuts e) (cuts (e + 1)) lines
 
 -- the rows that epoch e gives
 abbrev pub out : Query → List Line → Cuts → ℕ → List Values
 out query lines cuts e = shown query (fed query (lines_of lines cuts e))
 
--- the first line of epoch e that is a fault, counted from the epoch's first line
+-- the offset of the first line of epoch e that is a fault
 abbrev pub fault : Query → List Line → Cuts → ℕ → Option ℕ
-fault query lines cuts e = position (is_faulty query) (lines_of lines cuts e)
+fault query lines cuts e = position_from (is_faulty query) (cuts e) (lines_of lines cuts e)
 
 -- What the query means on the lines of the first n epochs: the batch query on that prefix, however it was cut.
 abbrev pub meaning : Query → List Line → Cuts → ℕ → List Values
