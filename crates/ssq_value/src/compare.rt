@@ -5,6 +5,7 @@ ghost use Rattle.std.specs.Cmp.{IsTotalOrder};
 ghost use Rattle.ssq_value.specs.declared.value.Value.{Value as Cell};
 ghost use Rattle.ssq_value.specs.Order.{rank_of, value_cmp, values_cmp};
 
+use crate::row::Row;
 use crate::value::Value;
 use std::cmp::Ordering;
 
@@ -85,7 +86,7 @@ impl PartialOrd for Value {
     ghost laws = { po value_cmp_total (λ left right. refl) };
 
     fn partial_cmp(&self, other: &Value) -> Option<Ordering> {
-        Some(order(self, other))
+        Some(self.cmp(other))
     }
 }
 
@@ -105,5 +106,64 @@ impl Ord for Value {
 
     fn cmp(&self, other: &Value) -> Ordering {
         order(self, other)
+    }
+}
+
+/// Rows are equal where `order_rows` tells them not apart.
+impl PartialEq for Row {
+    ghost use Rattle.std.specs.Ordering.{eq_by_cmp};
+    ghost use Rattle.std.specs.Cmp.{eq_by_cmp_equiv, partial_equiv_from_equiv};
+    ghost use Rattle.ssq_value.specs.Order.{values_cmp};
+    ghost use Rattle.ssq_value.specs.OrderLaws.{values_cmp_total};
+
+    ghost eq = { eq_by_cmp values_cmp };
+
+    ghost laws = { partial_equiv_from_equiv (eq_by_cmp_equiv values_cmp_total) };
+
+    fn eq(&self, other: &Row) -> bool {
+        order_rows(self.as_slice(), other.as_slice()).is_eq()
+    }
+}
+
+impl Eq for Row {
+    ghost use Rattle.std.specs.Cmp.{eq_by_cmp_equiv};
+    ghost use Rattle.ssq_value.specs.OrderLaws.{values_cmp_total};
+
+    ghost laws = { eq_by_cmp_equiv values_cmp_total };
+}
+
+/// The order of `order_rows`.
+impl PartialOrd for Row {
+    ghost use Rattle.std.proofs.Common.{refl};
+    ghost use Rattle.std.specs.Ordering.{as_partial_cmp};
+    ghost use Rattle.std.specs.Cmp.{po};
+    ghost use Rattle.ssq_value.specs.Order.{values_cmp};
+    ghost use Rattle.ssq_value.specs.OrderLaws.{values_cmp_total};
+
+    ghost partial_cmp = { as_partial_cmp values_cmp };
+
+    ghost laws = { po values_cmp_total (λ left right. refl) };
+
+    fn partial_cmp(&self, other: &Row) -> Option<Ordering> {
+        Some(self.cmp(other))
+    }
+}
+
+/// The order of `order_rows`, so that rows can be sorted.
+impl Ord for Row {
+    ghost use Rattle.std.proofs.Common.{refl};
+    ghost use Rattle.ssq_value.specs.Order.{values_cmp};
+    ghost use Rattle.ssq_value.specs.OrderLaws.{values_cmp_total};
+
+    ghost cmp = { values_cmp };
+
+    ghost total = { values_cmp_total };
+
+    ghost matches_partial_cmp = { λ left right. refl };
+
+    ghost matches_eq = { λ left right. refl };
+
+    fn cmp(&self, other: &Row) -> Ordering {
+        order_rows(self.as_slice(), other.as_slice())
     }
 }

@@ -16,3 +16,6 @@ pub use row::Row;
 pub use schema::Schema;
 pub use text::Text;
 pub use value::Value;
+
+#[cfg(test)]
+mod tests;
