@@ -30,8 +30,8 @@ last_begun_is start (suc n) m day one within begun later =
     elim (cases_order m (suc n)) [
       | inl same ↦ last_begun-here start n day (rw (← same) begun) ∙ sym same
       | inr (inl before) ↦
-        last_begun-before start n day (later (suc n) before (omega arith))
-        ∙ last_begun_is start n m day one (omega arith) begun (λ k after small. later k after (omega arith))
+          last_begun-before start n day (later (suc n) before (omega arith))
+          ∙ last_begun_is start n m day one (omega arith) begun (λ k after small. later k after (omega arith))
       | inr (inr after) ↦ absurd (omega arith)
     ]
 
@@ -47,10 +47,10 @@ last_begun_within start zero day begun later = absurd (omega (arith, ints))
 last_begun_within start (suc n) day begun later =
     by_lt_z day (start (suc n))
     (λ lt. rw (last_begun-before start n day lt)
-      (let h : IsLastBegun start n day (last_begun start n day) = last_begun_within start n day begun lt in
-       record { first = h.first; last = omega (arith, h.last); begun = h.begun; next = h.next }))
+    (let h : IsLastBegun start n day (last_begun start n day) = last_begun_within start n day begun lt in
+    record { first = h.first; last = omega (arith, h.last); begun = h.begun; next = h.next }))
     (λ ge. rw (last_begun-here start n day ge)
-      (record { first = omega arith; last = omega arith; begun = ge; next = later }))
+    (record { first = omega arith; last = omega arith; begun = ge; next = later }))
 
 -- the day's number is that of 1 January of the year and the days between
 january-le : (y : ℤ) (m d : ℕ) → 1 ≤ d → days_from_civil y 1 1 ≤ℤ days_from_civil y m d
@@ -63,16 +63,16 @@ year_of-days_from_civil y m d one h =
     last_begun_is (λ year. days_from_civil (pos year) 1 1) 9999 y (days_from_civil (pos y) m d) one (omega (arith, signed_arith, h.0))
     (january-le (pos y) m d h.2.0)
     (λ k after small.
-      let count = day_count-lt_year (pos y) m d (pos k) 1 1 h (omega arith) (omega (arith, signed_arith)) in
-      omega (arith, signed_arith, days_from_civil-day_count (pos k) 1 1, days_from_civil-day_count (pos y) m d, count))
+    let count = day_count-lt_year (pos y) m d (pos k) 1 1 h (omega arith) (omega (arith, signed_arith)) in
+    omega (arith, signed_arith, days_from_civil-day_count (pos k) 1 1, days_from_civil-day_count (pos y) m d, count))
 
 month_is : (y : ℤ) (m d : ℕ) → IsCivilDate y m d → last_begun (λ month. days_from_civil y month 1) 12 (days_from_civil y m d) ≡ m
 month_is y m d h =
     last_begun_is (λ month. days_from_civil y month 1) 12 m (days_from_civil y m d) h.1.0 h.1.1
     (omega (arith, signed_arith, days_from_civil-day y m d 1 h.2.0 (omega arith), h.2.0))
     (λ k after small.
-      let count = day_count-lt_month y m d k 1 h (omega arith) after in
-      omega (arith, signed_arith, days_from_civil-day_count y k 1, days_from_civil-day_count y m d, count))
+    let count = day_count-lt_month y m d k 1 h (omega arith) after in
+    omega (arith, signed_arith, days_from_civil-day_count y k 1, days_from_civil-day_count y m d, count))
 
 pub month_of-days_from_civil : (y m d : ℕ) → 1 ≤ y → IsCivilDate (pos y) m d → month_of (days_from_civil (pos y) m d) ≡ m
 unfolding month_of
@@ -84,7 +84,8 @@ day_in_month-days_from_civil y m d one h =
     rw (year_of-days_from_civil y m d one h, month_of-days_from_civil y m d one h)
     (omega (arith, signed_arith, days_from_civil-day (pos y) m d 1 h.2.0 (omega arith), h.2.0, one_part (days_from_civil (pos y) m d -ℤ days_from_civil (pos y) m 1)))
 
-first_day : days_from_civil (pos 1) 1 1 ≡ neg_ℤ (pos 719_162)
+-- 0001-01-01
+pub first_day : days_from_civil (pos 1) 1 1 ≡ neg_ℤ (pos 719_162)
 first_day = omega (arith, signed_arith, days_from_civil-day_count (pos 1) 1 1, day_count-early (pos 1) 10000 1 1 refl (omega arith) (omega arith) (omega arith))
 
 day_behind : days_from_civil (pos 10000) 1 1 ≡ pos 2_932_897
@@ -104,9 +105,16 @@ year_within day low high =
 -- the year ends where the thirteenth month would begin
 thirteenth : (y : ℕ) → days_from_civil (pos y) 13 1 ≡ days_from_civil (pos (suc y)) 1 1
 thirteenth y =
-    omega (arith, signed_arith, days_from_civil-day_count (pos y) 13 1, days_from_civil-day_count (pos (suc y)) 1 1,
-      day_count-next_month (pos y) 12 (omega arith), day_count-day (pos y) 12 31 1 (omega arith) (omega arith), day_count-last_of_year (pos y),
-      day_count-next_year (pos y) (pos (suc y)) (omega (arith, signed_arith)) (omega (arith, signed_arith)))
+    omega (
+      arith,
+      signed_arith,
+      days_from_civil-day_count (pos y) 13 1,
+      days_from_civil-day_count (pos (suc y)) 1 1,
+      day_count-next_month (pos y) 12 (omega arith),
+      day_count-day (pos y) 12 31 1 (omega arith) (omega arith),
+      day_count-last_of_year (pos y),
+      day_count-next_year (pos y) (pos (suc y)) (omega (arith, signed_arith)) (omega (arith, signed_arith)),
+    )
 
 month_within : (day : ℤ) → neg_ℤ (pos 719_162) ≤ℤ day → day ≤ℤ pos 2_932_896 → IsLastBegun (λ month. days_from_civil (pos (year_of day)) month 1) 12 day (month_of day)
 unfolding month_of
@@ -118,9 +126,10 @@ month_within day low high =
 day_within : (y m d : ℕ) (day : ℤ) → days_from_civil (pos y) m 1 ≤ℤ day → day <ℤ days_from_civil (pos y) (suc m) 1 → 1 ≤ m → d ≡ unsigned_abs (day -ℤ days_from_civil (pos y) m 1) + 1 → (d ≤ days_in_month (pos y) m) × (days_from_civil (pos y) m d ≡ day)
 day_within y m d day low high one e =
     let next : day_count (pos y) (suc m) 1 ≡ day_count (pos y) m 1 + days_in_month (pos y) m = rw (← add-one m) (day_count-next_month (pos y) m one) in
-    let parts = one_part (day -ℤ days_from_civil (pos y) m 1) in
-    (omega (arith, signed_arith, days_from_civil-day_count (pos y) m 1, days_from_civil-day_count (pos y) (suc m) 1),
-     omega (arith, signed_arith, days_from_civil-day (pos y) m d 1 (omega arith) (omega arith)))
+    let parts = one_part (day -ℤ days_from_civil (pos y) m 1) in (
+      omega (arith, signed_arith, days_from_civil-day_count (pos y) m 1, days_from_civil-day_count (pos y) (suc m) 1),
+      omega (arith, signed_arith, days_from_civil-day (pos y) m d 1 (omega arith) (omega arith)),
+    )
 
 pub day_of_parts : (day : ℤ) → neg_ℤ (pos 719_162) ≤ℤ day → day ≤ℤ pos 2_932_896 → IsDayOfParts day
 unfolding day_in_month
