@@ -53,7 +53,7 @@ value_of-read kind None = record { held = tt; years = tt }
 value_of-read kind (Some field) = value_of-read_by kind field (is_some (as_null field))
 
 -- what holds on either side holds of the choice
-IfOk-cond : {A E : Type 0} (P : A → Type 0) (test : Bool) (this that : Result A E) → IfOk yes P → IfOk not_so P → IfOk (cond test this that) P
+IfOk-cond : {A E : Type 0} (P : A → Type 0) (test : Bool) (this that : Result A E) → IfOk this P → IfOk that P → IfOk (cond test this that) P
 IfOk-cond P true this that h k = h
 IfOk-cond P false this that h k = k
 

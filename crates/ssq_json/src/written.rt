@@ -72,9 +72,9 @@ fn put_text(out: &mut Vec<u8>, text: &str) -> Result<(), AllocError>
 {
     let alloc = *out.allocator();
     let mut writer = Writer::new(mem::replace(out, Vec::new(alloc)));
-    writer.string(text)?;
+    let done = writer.string(text);
     *out = writer.into_inner();
-    Ok(())
+    done
 }
 
 fn put_quoted_time(out: &mut Vec<u8>, time: i64) -> Result<(), AllocError>
