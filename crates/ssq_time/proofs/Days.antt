@@ -53,7 +53,7 @@ last_begun_within start (suc n) day begun later =
     (record { first = omega arith; last = omega arith; begun = ge; next = later }))
 
 -- the day's number is that of 1 January of the year and the days between
-january-le : (y : ℤ) (m d : ℕ) → 1 ≤ d → days_from_civil y 1 1 ≤ℤ days_from_civil y m d
+pub january-le : (y : ℤ) (m d : ℕ) → 1 ≤ d → days_from_civil y 1 1 ≤ℤ days_from_civil y m d
 january-le y m d h =
     omega (arith, signed_arith, days_from_civil-day_count y 1 1, days_from_civil-day_count y m d, day_count-day_of_year y m d h)
 
@@ -88,7 +88,7 @@ day_in_month-days_from_civil y m d one h =
 pub first_day : days_from_civil (pos 1) 1 1 ≡ neg_ℤ (pos 719_162)
 first_day = omega (arith, signed_arith, days_from_civil-day_count (pos 1) 1 1, day_count-early (pos 1) 10000 1 1 refl (omega arith) (omega arith) (omega arith))
 
-day_behind : days_from_civil (pos 10000) 1 1 ≡ pos 2_932_897
+pub day_behind : days_from_civil (pos 10000) 1 1 ≡ pos 2_932_897
 day_behind = omega (arith, signed_arith, days_from_civil-day_count (pos 10000) 1 1, day_count-end)
 
 -- a day of the years 1 to 9999 is the day of the calendar that its year, month and day name

@@ -1,3 +1,4 @@
 mod Days
 mod Parts
+mod Printed
 mod Readback
