@@ -1,10 +1,11 @@
 -- Each row that a line is fits its schema.
-use Rattle.std.proofs.Common.{◌≡◌, ℕ, zero, suc, ◌+◌, ℤ, Bool, true, false, List, [], ◌∷◌, length, nat_lt, cond, Option, Some, None, is_some, option_map, option_and_then, Result, Ok, Err, IfSome, IfOk, refl, arith}
+use Rattle.std.proofs.Common.{◌≡◌, ℕ, zero, suc, ◌+◌, Bool, true, false, List, [], ◌∷◌, length, nat_lt, cond, Option, Some, None, is_some, option_map, option_and_then, Result, Ok, Err, IfSome, IfOk, refl, subst, arith}
 use Rattle.std.specs.List.{All, list_all}
 use Rattle.std.proofs.lemmas.Option.{IfSome_then}
 use Rattle.serde_json.specs.Data.{Data}
-use Rattle.serde_json.specs.Find.{get, as_null, as_bool, as_number, as_str, as_object, as_i64}
+use Rattle.serde_json.specs.Find.{get, as_null, as_str, as_object}
 use Rattle.ssq_time.specs.Time.{time_of, IsLineTime}
+use Rattle.ssq_time.proofs.Printed.{line_if_some}
 use Rattle.ssq_value.specs.declared.column.ColType.{ColType}
 use Rattle.ssq_value.specs.declared.column.ColType.TheVariants.{Bigint, Str, Timestamp, Bool as Boolean}
 use Rattle.ssq_value.specs.declared.column.Column.{Column}
@@ -30,12 +31,9 @@ found_any : {A : Type 0} (P : A → Type 0) (found : Option A) → ((x : A) → 
 found_any P None h = tt
 found_any P (Some x) h = h x
 
-time_of-years : (text : List ℕ) → IfSome (time_of text) IsLineTime
-time_of-years text = ?
-
 time_read : (text : Option (List ℕ)) → IfSome (option_and_then time_of text) (λ t. IsRead Timestamp (Time t))
 time_read None = tt
-time_read (Some text) = IfSome_then (time_of text) (time_of-years text) (λ t years. record { held = refl; years = years })
+time_read (Some text) = IfSome_then (time_of text) (line_if_some (time_of text) text refl) (λ t years. record { held = refl; years = years })
 
 typed_value-read : (kind : ColType) (field : Data) → IfSome (typed_value kind field) (IsRead kind)
 typed_value-read Bigint field = mapped Int _ (IsRead Bigint) (found_any (λ x. IsRead Bigint (Int x)) _ (λ x. record { held = refl; years = tt }))
@@ -98,3 +96,10 @@ unfolding row_of
 row_of-fits schema line =
     IfOk-cond (λ row. IfSome row (FitsSchema schema)) (nat_lt longest (length line)) (Err TooLong) _ tt
     (IfOk-cond (λ row. IfSome row (FitsSchema schema)) (list_all is_blank line) (Ok None) (row_in schema (json_of line)) tt (row_in-fits schema (json_of line)))
+
+-- the same of an answer that is the row of the line
+pub fits_if_ok : (schema : Layout) (line : List ℕ) (r : Result (Option (List Value)) BadRow) → IfOk r (λ row. row_of schema line ≡ Ok row) → IfOk r (λ row. IfSome row (FitsSchema schema))
+fits_if_ok schema line (Ok row) is =
+    let Fits : Result (Option (List Value)) BadRow → Type 0 = λ r. IfOk r (λ row. IfSome row (FitsSchema schema)) in
+    subst Fits is (row_of-fits schema line)
+fits_if_ok schema line (Err bad) is = tt

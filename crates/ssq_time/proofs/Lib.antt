@@ -1,4 +1,4 @@
 mod Days
 mod Parts
-mod Printed
+pub mod Printed
 mod Readback
