@@ -2,7 +2,7 @@
 use Rattle.std.proofs.Common.{◌≡◌, ℕ, ◌+◌, ◌<◌, ◌≤◌, Bool, true, false, List, [], ◌∷◌, ◌++◌, length, drop, get_or, Option, Some, None, Result, Ok, Err, refl, sym, ap, ◌∙◌, append_assoc, append-nil}
 use Rattle.std.specs.Str.{IsUtf8, is_utf8}
 use Rattle.std.proofs.lemmas.Str.{IsUtf8-from_is_utf8, is_utf8-from_IsUtf8}
-use Rattle.std.proofs.lemmas.List.{drop_more, drop_all}
+use Rattle.std.proofs.lemmas.List.{drop_all}
 use Rattle.serde_json.specs.Data.{Data}
 use Rattle.serde_json.specs.Find.{get}
 use Rattle.serde_json.specs.Read.{read}
@@ -10,6 +10,7 @@ use Rattle.ssq_value.specs.declared.column.Column.{Column}
 use Rattle.ssq_value.specs.declared.value.Value.{Value}
 use Rattle.ssq_json.specs.declared.bad_row.BadRow.{BadRow}
 use Rattle.ssq_json.specs.declared.bad_row.BadRow.TheVariants.{WrongType}
+use Rattle.ssq_json.proofs.Lists.{drop_next}
 use Rattle.ssq_json.specs.Line.{json_of, value_of, values_of, with_column, in_front}
 
 pub json_of-utf8 : (line : List ℕ) → IsUtf8 line → json_of line ≡ read line
@@ -32,10 +33,6 @@ after_values before (Err bad) = Err bad
 after_values-in_front : (before : List Value) (value : Value) (rest : Result (List Value) BadRow) → after_values before (in_front value rest) ≡ after_values (before ++ value ∷ []) rest
 after_values-in_front before value (Ok values) = ap Ok (sym (append_assoc before (value ∷ []) values))
 after_values-in_front before value (Err bad) = refl
-
--- the columns that are left begin with the next
-drop_next : (columns : List Column) (at : ℕ) (column : Column) → at < length columns → column ≡ get_or columns at column → drop at columns ≡ column ∷ drop (at + 1) columns
-drop_next columns at column low is = drop_more columns at column low ∙ ap (λ next. next ∷ drop (at + 1) columns) (sym is)
 
 -- what is left, with the next column read
 values_of-drop : (columns : List Column) (at : ℕ) (column : Column) (fields : Data) (before : List Value) (value : Option Value) → at < length columns → column ≡ get_or columns at column → value_of column.kind (get column.name fields) ≡ value → after_values before (values_of at (drop at columns) fields) ≡ after_values before (with_column at value (values_of (at + 1) (drop (at + 1) columns) fields))

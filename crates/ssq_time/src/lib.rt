@@ -7,4 +7,5 @@ mod digits;
 mod printer;
 mod reader;
 
+pub use printer::{put_time, time_text};
 pub use reader::{read_stamp, read_time};

@@ -1,5 +1,5 @@
 //! Prints times.
-ghost use Rattle.std.specs.Prelude.{◌≡◌, ℕ, ◌+◌, ◌*◌, ◌/◌, ◌%◌, ◌<◌, ◌≤◌, ◌++◌, pos, IfOk, OnOk, OnErr, unsigned_abs};
+ghost use Rattle.std.specs.Prelude.{◌≡◌, ℕ, ◌+◌, ◌*◌, ◌/◌, ◌%◌, ◌<◌, ◌≤◌, ◌++◌, pos, ◌+ℤ◌, ◌≤ℤ◌, IfOk, OnOk, OnErr, unsigned_abs};
 ghost use Rattle.std.specs.Int.{IsInRange};
 ghost use Rattle.jiff_core.specs.Date.{epoch_day};
 ghost use Rattle.ssq_time.specs.Time.{IsStampTime, moment, parts_text, stamp_text};
@@ -87,4 +87,54 @@ fn put_parts(
     } else {
         out.extend_from_slice(&text)
     }
+}
+
+/// The microseconds from the first day of the calendar, -9999-01-01, on.
+fn since_first_day(time: i64) -> u64
+    requires { IsStampTime time }
+    ensures { time +ℤ pos 377705116800000000 ≡ pos result }
+{
+    (time + BEFORE) as u64
+}
+
+/// The day that many days after -9999-01-01, from 0001-01-01 on.
+#[tactic(auto, using(crate::proofs::Parts::year_from_first))]
+fn date_after(days: u32) -> Date
+    requires first { 3652425 ≤ days }
+    requires last { days ≤ 7304483 }
+    ensures year { pos 1 ≤ℤ result.year }
+    ensures day { epoch_day result +ℤ pos 4371587 ≡ pos days }
+{
+    Date::from_days_since_min(days)
+}
+
+/// Appends the text of a time of the years 0001 to 9999: `YYYY-MM-DDTHH:MM:SSZ`, with a point and
+/// six digits before the `Z` where the fraction of the second is not 0. After an error `out` holds
+/// what it held before.
+pub fn put_time(out: &mut Vec<u8>, time: i64) -> Result<(), AllocError>
+    requires { IsStampTime time }
+    ensures ok { OnOk result (out.new.items ≡ out.old.items ++ stamp_text time) }
+    ensures err { OnErr result (out.new.items ≡ out.old.items) }
+{
+    let since = since_first_day(time);
+    let date = date_after((since / DAY) as u32);
+    let micro = since % DAY;
+    put_parts(
+        out,
+        date.year.unsigned_abs() as u32,
+        date.month as u32,
+        date.day as u32,
+        (micro / SECOND) as u32,
+        (micro % SECOND) as u32,
+    )
+}
+
+/// The text of a time of the years 0001 to 9999, as `put_time` appends it.
+pub fn time_text(alloc: Global, time: i64) -> Result<Vec<u8>, AllocError>
+    requires { IsStampTime time }
+    ensures { IfOk result (λ text. text.items ≡ stamp_text time) }
+{
+    let mut text = Vec::with_capacity(alloc, 27)?;
+    put_time(&mut text, time)?;
+    Ok(text)
 }

@@ -1,7 +1,7 @@
 //! Reads the texts of times.
-ghost use Rattle.std.specs.Prelude.{◌≡◌, ◌+◌, ◌<◌, ◌≤◌, pos, length, IfSome};
+ghost use Rattle.std.specs.Prelude.{◌≡◌, ◌+◌, ◌<◌, ◌≤◌, pos, length, IfSome, IfNone, ℤ, ◌≢◌};
 ghost use Rattle.jiff_core.specs.Calendar.{IsEpochDay};
-ghost use Rattle.ssq_time.specs.Time.{day_number, day_at_head, second_number, second_behind_day, micros_written, micros_of, moment, time_of, six_micros_of, stamp_micros_of, stamp_of};
+ghost use Rattle.ssq_time.specs.Time.{day_number, day_at_head, second_number, second_behind_day, micros_written, micros_of, moment, IsLineTime, IsStampTime, time_of, stamp_text, six_micros_of, stamp_micros_of, stamp_of};
 
 use crate::digits::{decimal, two};
 use jiff_core::civil::Date;
@@ -128,20 +128,6 @@ fn joined(day: i32, second: u32, micro: u32) -> i64
     day as i64 * DAY + (second as i64 * SECOND + micro as i64)
 }
 
-/// The time that the text is.
-#[tactic(auto, unfolding(crate::specs::Time::time_of))]
-pub fn read_time(text: &[u8]) -> Option<i64>
-    ensures { result ≡ time_of text.now }
-{
-    if text.len() < 20 {
-        return None;
-    }
-    let day = day_at(1000, 9000, text)?;
-    let second = second_at(text)?;
-    let micro = micros_at(text)?;
-    Some(joined(day, second, micro))
-}
-
 /// A point and six digits that are not all 0.
 #[tactic(auto, unfolding(crate::specs::Time::six_micros_of))]
 fn six_micros_at(text: &[u8]) -> Option<u32>
@@ -173,10 +159,22 @@ fn stamp_micros_at(text: &[u8]) -> Option<u32>
     }
 }
 
-/// The time that a printed text is.
+#[tactic(auto, unfolding(crate::specs::Time::time_of))]
+fn time_in(text: &[u8]) -> Option<i64>
+    ensures { result ≡ time_of text.now }
+{
+    if text.len() < 20 {
+        return None;
+    }
+    let day = day_at(1000, 9000, text)?;
+    let second = second_at(text)?;
+    let micro = micros_at(text)?;
+    Some(joined(day, second, micro))
+}
+
 #[tactic(auto, unfolding(crate::specs::Time::stamp_of))]
-pub fn read_stamp(text: &[u8]) -> Option<i64>
-    ensures value { result ≡ stamp_of text.now }
+fn stamp_in(text: &[u8]) -> Option<i64>
+    ensures { result ≡ stamp_of text.now }
 {
     if text.len() < 20 {
         return None;
@@ -185,4 +183,26 @@ pub fn read_stamp(text: &[u8]) -> Option<i64>
     let second = second_at(text)?;
     let micro = stamp_micros_at(text)?;
     Some(joined(day, second, micro))
+}
+
+/// The time that a text spells, in microseconds since 1970-01-01T00:00:00Z: `YYYY-MM-DDTHH:MM:SS`,
+/// then nothing or a point and one to six digits, then `Z`. The year is one of 1000 to 9000, the
+/// calendar has the day, hours end at 23, minutes and seconds at 59. `None` for every other text.
+#[tactic(auto, using(crate::proofs::Printed::line_if_some))]
+pub fn read_time(text: &[u8]) -> Option<i64>
+    ensures value { result ≡ time_of text.now }
+    ensures line { IfSome result IsLineTime }
+{
+    time_in(text)
+}
+
+/// The time whose text `time_text` prints so, and `None` where it prints no such text: a fraction
+/// stands only where it isn't 0, and then with six digits, and the year is one of 0001 to 9999.
+#[tactic(auto, using(crate::proofs::Printed::stamp_if_some, crate::proofs::Printed::stamp_if_none))]
+pub fn read_stamp(text: &[u8]) -> Option<i64>
+    ensures value { result ≡ stamp_of text.now }
+    ensures printed { IfSome result (λ t. (text.now ≡ stamp_text t) × IsStampTime t) }
+    ensures other { IfNone result ((t : ℤ) → IsStampTime t → text.now ≢ stamp_text t) }
+{
+    stamp_in(text)
 }

@@ -1,0 +1,8 @@
+use Rattle.std.proofs.Common.{◌≡◌, ◌++◌, take}
+use Rattle.std.specs.List.{flat_map}
+use Rattle.ssq_sink.specs.Sink.{line_with}
+use Rattle.ssq_sink.proofs.epoch.put_lines.Given as goal
+
+-- the lines so far
+abbrev pub invariant-loop-row : goal.invariant-loop-row
+invariant-loop-row l = l.text.items ≡ l.initial.text.items ++ flat_map (line_with l.heads) (take l.row-index l.rows)

@@ -1,0 +1,59 @@
+//! The rows of an epoch as the text of its sink file.
+
+ghost use Rattle.std.specs.Prelude.{◌≡◌, ◌++◌, ℕ, Bool, List, IfOk, OnOk, count_by};
+ghost use Rattle.std.specs.List.{All, flat_map};
+ghost use Rattle.std.specs.List.Sorted.{IsPermutation};
+ghost use Rattle.ssq_value.specs.declared.value.Value.{Value as Cell};
+ghost use Rattle.ssq_time.specs.Time.{IsStampTime};
+ghost use Rattle.ssq_json.specs.Fits.{IfTime};
+ghost use Rattle.ssq_json.specs.RowText.{names_of};
+ghost use Rattle.ssq_sink.specs.Sink.{is_row_below, line_with, sink_text};
+ghost use Rattle.ssq_sink.specs.Sorted.{sorted};
+
+use ssq_json::{Heads, put_row};
+use ssq_value::{Row, Schema};
+use std::alloc::{AllocError, Global};
+
+/// The text of an epoch's sink file: the rows sorted value by value from the left, one JSON line each, with a line feed behind
+/// each. Of no rows it is empty. The rows have the columns of the schema, and times of the years 0001 to 9999.
+pub fn epoch_text(alloc: Global, schema: &Schema, rows: Vec<Row>) -> Result<Vec<u8>, AllocError>
+    requires { All (All (IfTime IsStampTime)) rows.items }
+    ensures { IfOk result
+        (λ text. text.items ≡ sink_text (names_of schema.now.columns) rows.items) }
+{
+    let heads = Heads::new(alloc, schema.columns())?;
+    let rows = sort(rows);
+    let mut text = Vec::new(alloc);
+    put_lines(&mut text, &heads, rows.as_slice())?;
+    Ok(text)
+}
+
+fn sort(mut rows: Vec<Row>) -> Vec<Row>
+    ensures sorted { result.items ≡ sorted is_row_below rows.items }
+    ensures permutation { IsPermutation rows.items result.items }
+{
+    rows.sort_unstable();
+    rows
+}
+
+fn put_lines(text: &mut Vec<u8>, heads: &Heads, rows: &[Row]) -> Result<(), AllocError>
+    requires { All (All (IfTime IsStampTime)) rows.now }
+    ensures { OnOk result
+        (text.new.items ≡ text.old.items ++ flat_map (line_with heads.now) rows.now) }
+{
+    for row in rows {
+        put_row(text, heads, row)?;
+        text.push(b'\n')?;
+    }
+    Ok(())
+}
+
+/// The law of `epoch_text`: the order in which the rows come changes nothing, so two lists with the same rows, each as often,
+/// have one text.
+pub fn order_is_free()
+    ensures permuted { (names : List (List ℕ)) (left right : List (List Cell))
+        → IsPermutation left right → sink_text names left ≡ sink_text names right }
+    ensures same_rows { (names : List (List ℕ)) (left right : List (List Cell))
+        → ((test : List Cell → Bool) → count_by test left ≡ count_by test right)
+        → sink_text names left ≡ sink_text names right }
+{}

@@ -1,0 +1,4 @@
+mod Days
+mod Parts
+pub mod Printed
+mod Readback
