@@ -1,6 +1,8 @@
 //! Evaluation of expressions on a row.
 
-ghost use Rattle.std.specs.Prelude.{◌≡◌, ◌+ℤ◌, ◌-ℤ◌};
+ghost use Rattle.std.specs.Prelude.{◌≡◌, ◌+ℤ◌, ◌-ℤ◌, All, IfOk, IfSome};
+ghost use Rattle.ssq_time.specs.Time.{IsStampTime};
+ghost use Rattle.ssq_json.specs.Fits.{IfTime};
 ghost use Rattle.ssq_meaning.specs.Evaluation.{term_value, applied, sum_value, compares, is_true, passes, item_value, value_of, projected, shown_row, Answers};
 
 use ssq_query::{Comparison, Filter, Item, Op, Query, Sum, Term};
@@ -113,7 +115,8 @@ fn item_value(item: &Item, row: &[Value]) -> Result<Option<i64>, EvalFault>
 }
 
 fn value_of(number: Option<i64>) -> Value
-    ensures { result ≡ value_of number }
+    ensures value { result ≡ value_of number }
+    ensures years { IfTime IsStampTime result }
 {
     match number {
         Some(number) => Value::Int(number),
@@ -123,7 +126,8 @@ fn value_of(number: Option<i64>) -> Value
 
 #[tactic(auto, unfolding(crate::specs::Evaluation::projected))]
 fn projected(alloc: Global, items: &[Item], row: &[Value]) -> Result<Vec<Value>, EvalFault>
-    ensures { Answers (λ values. values.items) result (projected row.now items.now) }
+    ensures values { Answers (λ values. values.items) result (projected row.now items.now) }
+    ensures years { IfOk result (λ values. All (IfTime IsStampTime) values.items) }
 {
     let mut values = Vec::with_capacity(alloc, items.len())?;
     for item in items {
@@ -135,7 +139,8 @@ fn projected(alloc: Global, items: &[Item], row: &[Value]) -> Result<Vec<Value>,
 
 /// The row that a query shows for a row of its stream: `None` where WHERE is not TRUE on it.
 pub fn shown_row(alloc: Global, query: &Query, row: &[Value]) -> Result<Option<Row>, EvalFault>
-    ensures { Answers (λ shown. shown) result (shown_row query.now row.now) }
+    ensures row { Answers (λ shown. shown) result (shown_row query.now row.now) }
+    ensures years { IfOk result (λ shown. IfSome shown (All (IfTime IsStampTime))) }
 {
     if !passes(&query.filter, row)? {
         return Ok(None);

@@ -1,6 +1,8 @@
 //! What a query shows of one line of its log.
 
-ghost use Rattle.std.specs.Prelude.{◌≡◌, ◌≤◌, [], ◌∷◌, true, false, length, option_to_list, IfOk, IsErrOf};
+ghost use Rattle.std.specs.Prelude.{◌≡◌, ◌≤◌, [], ◌∷◌, true, false, length, option_to_list, All, IfOk, IfSome, IsErrOf};
+ghost use Rattle.ssq_time.specs.Time.{IsStampTime};
+ghost use Rattle.ssq_json.specs.Fits.{IfTime};
 ghost use Rattle.ssq_meaning.specs.Meaning.{layout_of, fed, shown, is_faulty};
 
 use crate::evaluate::{EvalFault, shown_row};
@@ -47,6 +49,8 @@ pub fn show_line(
 ) -> Result<Option<Row>, LineFault>
     requires { schema.now ≡ layout_of query.now }
     ensures row { IfOk result (λ row. shown query.now (fed query.now (line.now ∷ [])) ≡ option_to_list row) }
+    // It has no times that could not be printed.
+    ensures years { IfOk result (λ row. IfSome row (All (IfTime IsStampTime))) }
     ensures good { IfOk result (λ _. is_faulty query.now line.now ≡ false) }
     ensures faulty { IsErrOf result LineFault.Faulty → is_faulty query.now line.now ≡ true }
 {

@@ -1,7 +1,9 @@
 //! The map task of an epoch: its lines, from the log to the rows that it shows.
 
-ghost use Rattle.std.specs.Prelude.{◌≡◌, ◌<◌, ◌≤◌, ◌≢◌, ℕ, ◌++◌, Some, None, length, option_to_list, IfOk, OnOk, IsErrOf};
+ghost use Rattle.std.specs.Prelude.{◌≡◌, ◌<◌, ◌≤◌, ◌≢◌, ℕ, ◌++◌, Some, None, length, option_to_list, All, IfOk, IfSome, OnOk, IsErrOf};
 ghost use Rattle.std.specs.List.{position_from};
+ghost use Rattle.ssq_time.specs.Time.{IsStampTime};
+ghost use Rattle.ssq_json.specs.Fits.{IfTime};
 ghost use Rattle.ssq_meaning.specs.Meaning.{layout_of, lines_between, fed, shown, is_faulty};
 ghost use Rattle.ssq_outside.specs.Faults.{Rises};
 ghost use Rattle.ssq_run.specs.Feeding.{IsRead, Shows, IsFaultyAt};
@@ -72,6 +74,7 @@ fn row_at<L: Log>(
 ) -> Result<Option<Row>, FeedFault>
     requires { schema.now ≡ layout_of query.now }
     ensures shows { L.tells → IfOk result (λ row. Shows query.now (L.lines log.new) at (option_to_list row)) }
+    ensures years { IfOk result (λ row. IfSome row (All (IfTime IsStampTime))) }
     ensures line { L.tells → (x : ℕ) → IsErrOf result (FeedFault.Line x) → (x ≡ at) × IsFaultyAt query.now (L.lines log.new) at }
     ensures short { (found : ℕ) → IsErrOf result (FeedFault.LogShort found) → found ≤ at }
     ensures short_told { L.tells → (found : ℕ) → IsErrOf result (FeedFault.LogShort found) → L.shown log.old ≤ found }
@@ -89,7 +92,9 @@ fn row_at<L: Log>(
 }
 
 fn add(rows: &mut Vec<Row>, row: Option<Row>) -> Result<(), AllocError>
-    ensures { OnOk result (rows.new.items ≡ rows.old.items ++ option_to_list row) }
+    ensures years { All (All (IfTime IsStampTime)) rows.old.items → IfSome row (All (IfTime IsStampTime)) →
+        OnOk result (All (All (IfTime IsStampTime)) rows.new.items) }
+    ensures items { OnOk result (rows.new.items ≡ rows.old.items ++ option_to_list row) }
 {
     match row {
         Some(row) => Ok(rows.push(row)?),
@@ -108,6 +113,8 @@ pub fn feed<L: Log>(
 ) -> Result<Vec<Row>, FeedFault>
     requires { schema.now ≡ layout_of query.now }
     ensures rows { L.tells → IfOk result (λ rows. rows.items ≡ shown query.now (fed query.now (lines_between from end (L.lines log.old)))) }
+    // No time among them could not be printed.
+    ensures years { IfOk result (λ rows. All (All (IfTime IsStampTime)) rows.items) }
     ensures good { L.tells → OnOk result (position_from (is_faulty query.now) from (lines_between from end (L.lines log.old)) ≡ None) }
     ensures line { L.tells → (at : ℕ) → IsErrOf result (FeedFault.Line at) →
         position_from (is_faulty query.now) from (lines_between from end (L.lines log.old)) ≡ Some at }
