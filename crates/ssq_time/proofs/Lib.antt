@@ -2,3 +2,5 @@ mod Days
 mod Parts
 mod Printed
 mod Readback
+mod Spans
+mod Tests

@@ -6,6 +6,8 @@
 mod digits;
 mod printer;
 mod reader;
+mod span;
 
 pub use printer::{put_time, time_text};
 pub use reader::{read_stamp, read_time};
+pub use span::read_span;
