@@ -3,4 +3,4 @@ mod Parts
 mod Printed
 mod Readback
 mod Spans
-mod Tests
+mod Steps

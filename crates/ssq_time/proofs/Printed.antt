@@ -9,7 +9,7 @@ use Rattle.std.proofs.lemmas.Slice.Eq.{text_from_reads}
 use Rattle.jiff_core.proofs.CalendarLemmas.{days_from_civil-day_count, day_count-lt_year, days_in_month_bounds}
 use Rattle.jiff_core.proofs.MarchLemmas.{day_count-early}
 use Rattle.std.proofs.lemmas.Bool.{cases_order}
-use Rattle.ssq_time.proofs.Tests.{if_some, none_some, some_same, both_true, same_true, above_zero, if_none, if_cases}
+use Rattle.ssq_time.proofs.Steps.{if_some, none_some, some_same, both_true, same_true, above_zero, if_none, if_cases}
 use Rattle.ssq_time.proofs.Days.{first_day, day_behind, january-le}
 use Rattle.ssq_time.proofs.Parts.{stamp_text-parts}
 use Rattle.ssq_time.proofs.Readback.{plain_text, full_text, parts_text-zero, parts_text-more, stamp_of-stamp_text}

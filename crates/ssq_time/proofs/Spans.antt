@@ -6,7 +6,7 @@ use Rattle.std.proofs.lemmas.Bool.{cases_order}
 use Rattle.std.proofs.lemmas.List.{drop_all}
 use Rattle.std.proofs.Math.Nat.{mul-le-mul_left}
 use Rattle.ssq_time.specs.Time.{digit_of, digits_after, number_of, unit_of, span_from, span_with, at_most_longest}
-use Rattle.ssq_time.proofs.Tests.{if_some, if_none, if_cases, some_same, none_some}
+use Rattle.ssq_time.proofs.Steps.{if_some, if_none, if_cases, some_same, none_some}
 
 -- further digits make no number less
 digits_after_ge : (n : ℕ) (text : List ℕ) (m : ℕ) → digits_after n text ≡ Some m → n ≤ m
@@ -46,7 +46,7 @@ unit_at_least : (word : List ℕ) (seconds : ℕ) → unit_of word ≡ Some seco
 unfolding unit_of
 unit_at_least word n =
     at_least_one _ 1 _ n (omega arith) (at_least_one _ 60 _ n (omega arith)
-      (at_least_one _ 3600 _ n (omega arith) (at_least_one _ 86400 None n (omega arith) (λ e. absurd (none_number n e)))))
+    (at_least_one _ 3600 _ n (omega arith) (at_least_one _ 86400 None n (omega arith) (λ e. absurd (none_number n e)))))
 
 too_long : (n : ℕ) → 31_622_400 < n → span_from n ≡ None
 unfolding span_from
