@@ -1,5 +1,5 @@
 -- Windows of event time: half open, aligned to 1970-01-01T00:00:00Z.
-use Rattle.std.specs.Prelude.{◌≡◌, ℕ, ◌+◌, ◌-◌, ◌*◌, ◌/◌, ◌<◌, ℤ, pos, ◌+ℤ◌, ◌-ℤ◌, ◌*ℤ◌, ◌<ℤ◌, ◌≤ℤ◌, unsigned_abs}
+use Rattle.std.specs.Prelude.{◌≡◌, ℕ, ◌+◌, ◌-◌, ◌*◌, ◌/◌, ◌<◌, ◌≤◌, ℤ, pos, ◌+ℤ◌, ◌-ℤ◌, ◌*ℤ◌, ◌<ℤ◌, ◌≤ℤ◌, unsigned_abs}
 use Rattle.std.specs.Int.{int_rem_euclid}
 
 -- a window [start, start + size) that begins at a multiple of the slide and contains the time
@@ -23,4 +23,11 @@ window_count t size slide = (unsigned_abs size - rest_of t slide + (unsigned_abs
 
 -- the start of the first of them
 abbrev pub first_start : ℤ → ℤ → ℤ → ℤ
-first_start t size slide = (t -ℤ pos (rest_of t slide)) -ℤ pos ((window_count t size slide - 1) * unsigned_abs slide)
+first_start t size slide = t -ℤ pos (rest_of t slide + (window_count t size slide - 1) * unsigned_abs slide)
+
+-- that many slides cover what is left of the size behind the time, and one slide less does not
+pub record Covers (rest size slide count : ℕ) : Type 0 where
+  pub some : 1 ≤ count
+  pub few : size ≤ 64 * slide → count ≤ 64
+  pub short : (count - 1) * slide + rest < size
+  pub long : size ≤ count * slide + rest
