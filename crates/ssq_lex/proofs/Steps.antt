@@ -1,8 +1,8 @@
 -- One turn over a text takes the front off it.
-use Rattle.std.proofs.Common.{◌≡◌, ℕ, zero, suc, ◌+◌, ◌-◌, ◌<◌, ◌≤◌, List, [], ◌∷◌, ◌++◌, length, drop, IsUtf8, Result, Ok, Err, sym, refl, ap, ◌∙◌, arith, add-zero, append_assoc, append-nil, length-drop}
+use Rattle.std.proofs.Common.{◌≡◌, ℕ, zero, suc, ◌+◌, ◌-◌, ◌<◌, ◌≤◌, List, [], ◌∷◌, ◌++◌, length, drop, IsUtf8, Ok, Err, sym, refl, ap, ◌∙◌, arith, add-zero, append_assoc, append-nil, length-drop}
 use Rattle.ssq_lex.specs.declared.fault.LexCause.{LexCause}
 use Rattle.ssq_lex.specs.Lexeme.{Lexed}
-use Rattle.ssq_lex.specs.Cut.{Head, Refusal, Tokens, front, token_at, followed, and_rest, tokens_from, tokens_of}
+use Rattle.ssq_lex.specs.Cut.{Head, Tokens, front, token_at, followed, and_rest, tokens_from, tokens_of}
 
 tokens_from-taken : (n at : ℕ) (bytes : List ℕ) → n ≤ length bytes → tokens_from n at bytes ≡ tokens_from 0 (at + n) (drop n bytes)
 tokens_from-taken zero at bytes within = ap (λ k. tokens_from 0 k bytes) (sym (add-zero at))

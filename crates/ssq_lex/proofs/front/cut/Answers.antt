@@ -1,4 +1,4 @@
-use Rattle.std.proofs.Common.{sym, subst, IsUtf8, rules}
+use Rattle.std.proofs.Common.{sym, subst, IsUtf8}
 use Rattle.std.proofs.lemmas.Str.{IsUtf8-drop}
 use Rattle.ssq_lex.proofs.front.cut.Goals as goal
 

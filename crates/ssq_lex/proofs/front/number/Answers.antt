@@ -1,4 +1,4 @@
-use Rattle.std.proofs.Common.{length, length-take, arith, ap}
+use Rattle.std.proofs.Common.{arith}
 use Rattle.ssq_lex.proofs.Boundaries.{digits_boundary, digits_before}
 use Rattle.ssq_lex.proofs.front.number.Goals as goal
 

@@ -1,6 +1,6 @@
-use Rattle.std.proofs.Common.{◌≡◌, ◌∙◌, sym, ap, take, Ok}
+use Rattle.std.proofs.Common.{◌∙◌, sym, ap, take, Ok}
 use Rattle.ssq_lex.specs.Cut.{closing}
-use Rattle.ssq_lex.proofs.Boundaries.{quote_boundary, Parts, content_boundary, end_boundary, text_found}
+use Rattle.ssq_lex.proofs.Boundaries.{quote_boundary, content_boundary, end_boundary, text_found}
 use Rattle.ssq_lex.proofs.front.quoted.Goals as goal
 
 pub split_at-requires : goal.split_at-requires
