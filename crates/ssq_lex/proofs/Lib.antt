@@ -1,0 +1,4 @@
+pub mod Boundaries
+pub mod Closing
+pub mod Quotes
+pub mod Steps

@@ -1,2 +1,4 @@
+pub mod Answer
+pub mod Cut
 pub mod Lexeme
 pub mod Spelling

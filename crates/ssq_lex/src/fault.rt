@@ -1,3 +1,7 @@
+ghost use Rattle.std.specs.Prelude.{◌≡◌};
+ghost use Rattle.ssq_lex.specs.declared.fault.LexFault.TheVariants.{NoMemory};
+
+use std::alloc::AllocError;
 use thiserror::Error;
 
 /// What is wrong where a text has no token.
@@ -19,4 +23,12 @@ pub enum LexFault {
     Refused { at: usize, cause: LexCause },
     #[error("out of memory")]
     NoMemory,
+}
+
+impl From<AllocError> for LexFault {
+    ghost from_gives = { λ _ fault. fault ≡ NoMemory };
+
+    fn from(_error: AllocError) -> LexFault {
+        LexFault::NoMemory
+    }
 }

@@ -1,4 +1,5 @@
 ghost use Rattle.std.specs.Prelude.{◌≡◌};
+ghost use Rattle.ssq_lex.specs.Spelling.{EachIsRead};
 ghost use Rattle.ssq_lex.specs.Spelling.{keyword_spelling, keyword_of};
 
 /// A word of the language. It is read in any case of letters, and is never a name.
@@ -172,3 +173,8 @@ pub fn keyword_of(word: &str) -> Option<Keyword>
         .copied()
         .find(|keyword| word.eq_ignore_ascii_case(keyword.text()))
 }
+
+/// Each keyword is read where its own spelling stands.
+pub fn keywords_are_read()
+    ensures { EachIsRead }
+{}

@@ -4,11 +4,19 @@
 #![tactic(auto)]
 
 mod fault;
+mod front;
 mod keyword;
+mod lexer;
+mod quoting;
 mod symbol;
 mod token;
 
 pub use fault::{LexCause, LexFault};
-pub use keyword::Keyword;
+pub use keyword::{Keyword, keywords_are_read};
+pub use lexer::tokens;
+pub use quoting::{push_quoted, unquoted};
 pub use symbol::Symbol;
 pub use token::{Kind, Token};
+
+#[cfg(test)]
+mod tests;

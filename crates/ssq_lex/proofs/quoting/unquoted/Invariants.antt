@@ -1,0 +1,11 @@
+use denote.Shadow.{shadow}
+use denote.Text.{Utf8}
+use Rattle.std.proofs.Common.{◌≡◌, ◌++◌, length, string_bytes}
+use Rattle.ssq_lex.specs.Lexeme.{undoubled}
+use Rattle.ssq_lex.proofs.quoting.unquoted.Given as goal
+
+abbrev pub invariant-loop-before : goal.invariant-loop-before
+invariant-loop-before l = (string_bytes l.text ++ undoubled l.rest ≡ undoubled l.content) × shadow (Utf8 l.rest)
+
+abbrev pub decreases-loop-before : goal.decreases-loop-before
+decreases-loop-before l = length l.rest
