@@ -6,7 +6,7 @@ ghost use Rattle.ssq_outside.specs.Files.{Had, added, removed, settled_at, IsSyn
 ghost use Rattle.ssq_outside.specs.History.{History, had_now, files_now, Elapses};
 
 use crate::name::Name;
-use std::alloc::Global;
+use std::alloc::{AllocError, Global};
 use thiserror::Error;
 
 /// Why a disk gave nothing.
@@ -59,6 +59,17 @@ impl From<StageError> for DiskError {
             StageError::Fault => DiskError::Fault,
             StageError::NoMemory => DiskError::NoMemory,
         }
+    }
+}
+
+impl From<AllocError> for DiskError {
+    ghost use Rattle.std.specs.Prelude.{◌≡◌};
+    ghost use Rattle.ssq_outside.specs.declared.disk.DiskError.TheVariants.{NoMemory};
+
+    ghost from_gives = { λ _ error. error ≡ NoMemory };
+
+    fn from(_: AllocError) -> DiskError {
+        DiskError::NoMemory
     }
 }
 

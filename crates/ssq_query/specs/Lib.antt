@@ -1,5 +1,1 @@
-pub mod File
 pub mod Names
-pub mod Reading
-pub mod Spelling
-pub mod Taken

@@ -10,12 +10,8 @@
 //! ```
 #![tactic(auto)]
 
-mod fault;
-mod parse;
 mod query;
-mod reader;
 mod sequence;
 
-pub use fault::QueryFault;
 pub use query::{Comparison, Filter, Item, Op, Query, Step, Sum, Term};
 pub use sequence::Sequence;

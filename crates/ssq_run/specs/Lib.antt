@@ -1,2 +1,4 @@
 pub mod Settled
 pub mod Feeding
+pub mod Standing
+pub mod Stopping

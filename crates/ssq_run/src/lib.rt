@@ -1,5 +1,9 @@
 //! The top call of the engine: `stream_main` does all that the program does, over the traits of the outside.
 #![tactic(auto)]
 
+mod epoch;
 mod feed;
 mod settle;
+mod stop;
+
+pub use stop::Stop;
