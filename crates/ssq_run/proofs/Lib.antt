@@ -1,3 +1,5 @@
 pub mod Rows
 pub mod Settling
 pub mod Standing
+pub mod Stopping
+pub mod Rounds

@@ -2,3 +2,4 @@ pub mod Settled
 pub mod Feeding
 pub mod Standing
 pub mod Stopping
+pub mod Told

@@ -1,14 +1,17 @@
 -- How faults become the program's stop, and what each stop says.
-use Rattle.std.specs.Prelude.{◌≡◌, ◌≤◌, ℕ, List, Some, ⊤}
+use Rattle.std.specs.Prelude.{◌≡◌, ◌<◌, ◌≤◌, ◌+◌, ◌++◌, ℕ, List, length, Some, None, ⊤}
 use Rattle.ssq_outside.specs.Faults.{Rises}
 use Rattle.ssq_outside.specs.declared.disk.DiskError.{DiskError}
 use Rattle.ssq_outside.specs.declared.disk.DiskError.TheVariants as disk
-use Rattle.ssq_meaning.specs.Meaning.{fault}
+use Rattle.ssq_outside.specs.History.{History, LeavesNow}
+use Rattle.ssq_meaning.specs.Meaning.{fault, out}
 use Rattle.ssq_run.specs.declared.feed.FeedFault.{FeedFault}
 use Rattle.ssq_run.specs.declared.feed.FeedFault.TheVariants as feed
 use Rattle.ssq_run.specs.declared.stop.Stop.{Stop}
 use Rattle.ssq_run.specs.declared.stop.Stop.TheVariants.{Usage, Query, Line, NotYet, LogFault, DiskFault, NoMemory}
-use Rattle.ssq_run.specs.Standing.{Job}
+use Rattle.ssq_run.specs.Settled.{IsSettledAs}
+use Rattle.ssq_run.specs.Standing.{Job, files_at, IsReached, IsDuring}
+use Rattle.ssq_run.specs.Told.{told_before}
 
 abbrev pub stop_of_disk : DiskError → Stop
 stop_of_disk disk.Fault = DiskFault
@@ -64,3 +67,37 @@ DiskRises NotYet before now = ⊤
 DiskRises LogFault before now = ⊤
 DiskRises DiskFault before now = Rises before now
 DiskRises NoMemory before now = ⊤
+
+-- epoch e is done: its plan, its rows and its commit are settled, it has no fault, and it gave so many rows
+pub record IsEpochDone (job : Job) (text : List ℕ) (e : ℕ) (now : History) (rows : ℕ) : Type 0 where
+  pub settled : IsSettledAs now (files_at job text (e + 1) (e + 1) (e + 1))
+  pub good : fault job.query job.lines job.cuts e ≡ None
+  pub count : rows ≡ length (out job.query job.lines job.cuts e)
+
+-- What stops epoch e: its first faulty line, with the epoch planned and nothing more, or a fault of the outside.
+abbrev pub IsEpochStop : Job → List ℕ → ℕ → History → Stop → Type 0
+IsEpochStop job text e now (Line stream at) =
+    (stream ≡ job.query.stream) × (fault job.query job.lines job.cuts e ≡ Some at) × IsSettledAs now (files_at job text (e + 1) e e)
+IsEpochStop job text e now LogFault = ⊤
+IsEpochStop job text e now NoMemory = ⊤
+IsEpochStop job text e now DiskFault = ⊤
+IsEpochStop job text e now Usage = ⊥
+IsEpochStop job text e now Query = ⊥
+IsEpochStop job text e now NotYet = ⊥
+
+-- How a round stops: some epochs are done, and one more has begun at most. What is told are the lines of those that are done;
+-- where it is a line that stops the round, it is the first fault of the epoch that was planned last.
+pub record IsRoundStop (job : Job) (text : List ℕ) (seen : ℕ) (now : History) (before told : List ℕ) (stop : Stop) : Type 0 where
+  pub epochs : ℕ
+  pub reached : IsReached job epochs epochs epochs
+  pub unfinished : job.cuts epochs < seen
+  pub lines : told ≡ before ++ told_before job epochs
+  pub present : LeavesNow now (IsDuring job text epochs)
+  pub cause : IsEpochStop job text epochs now stop
+
+-- A round is done: its last epoch ends at what was seen.
+pub record IsRoundDone (job : Job) (text : List ℕ) (seen : ℕ) (now : History) (before told : List ℕ) (epochs : ℕ) : Type 0 where
+  pub reached : IsReached job epochs epochs epochs
+  pub covered : job.cuts epochs ≡ seen
+  pub lines : told ≡ before ++ told_before job epochs
+  pub settled : IsSettledAs now (files_at job text epochs epochs epochs)

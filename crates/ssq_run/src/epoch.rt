@@ -10,7 +10,7 @@ ghost use Rattle.ssq_outside.specs.Faults.{Rises};
 ghost use Rattle.ssq_outside.specs.History.{LeavesOnly};
 ghost use Rattle.ssq_plans.specs.Records.{plan_text, commit_text};
 ghost use Rattle.ssq_run.specs.Settled.{IsSettledAs};
-ghost use Rattle.ssq_run.specs.Stopping.{IsStopAt, IsLogStop, IsRunStop, LogRises};
+ghost use Rattle.ssq_run.specs.Stopping.{IsStopAt, IsLogStop, IsRunStop, LogRises, DiskRises, IsEpochDone, IsEpochStop};
 ghost use Rattle.ssq_run.specs.Standing.{Job, plan_of, commit_of, files_at, IsDuring, IsEpochOf};
 
 use crate::feed::{FeedFault, feed};
@@ -153,6 +153,7 @@ fn epoch_rows<L: Log>(
     ensures grown { L.tells → L.shown log.old ≤ L.shown log.new }
     ensures counted { L.faults log.old ≤ L.faults log.new }
     ensures cause { IfErr result (λ stop. LogRises stop (L.faults log.old) (L.faults log.new)) }
+    ensures not_the_disk { (before now : ℕ) → IfErr result (λ stop. DiskRises stop before now) }
 {
     match feed(
         alloc,
@@ -165,4 +166,44 @@ fn epoch_rows<L: Log>(
         Ok(rows) => Ok(rows),
         Err(fault) => Err(stop_at(&prepared.query, fault)?),
     }
+}
+
+/// Runs one epoch: its plan is settled before its lines are read, its rows before its commit. How many rows it gave.
+pub fn run_epoch<D: Disk, L: Log>(
+    alloc: Global,
+    disk: &mut D,
+    log: &mut L,
+    prepared: &Prepared,
+    epoch: Epoch,
+) -> Result<usize, Stop>
+    requires stream { prepared.now.stream ≡ layout_of prepared.now.query }
+    requires shown { names_of prepared.now.shown.columns ≡ output_names prepared.now.query }
+
+    ensures done { D.tells → L.tells → (job : Job) (text : List ℕ) →
+        IsEpochOf job prepared.now.query (L.lines log.old) epoch.number epoch.from epoch.end →
+        IsSettledAs (D.history disk.old) (files_at job text epoch.number epoch.number epoch.number) →
+        IfOk result (λ rows. IsEpochDone job text epoch.number (D.history disk.new) rows) }
+    // A crash at any moment leaves the epoch not planned, planned, written or committed.
+    ensures any_moment { D.tells → L.tells → (job : Job) (text : List ℕ) →
+        IsEpochOf job prepared.now.query (L.lines log.old) epoch.number epoch.from epoch.end →
+        IsSettledAs (D.history disk.old) (files_at job text epoch.number epoch.number epoch.number) →
+        LeavesOnly (D.history disk.old) (D.history disk.new) (IsDuring job text epoch.number) }
+    ensures stop { D.tells → L.tells → (job : Job) (text : List ℕ) →
+        IsEpochOf job prepared.now.query (L.lines log.old) epoch.number epoch.from epoch.end →
+        IsSettledAs (D.history disk.old) (files_at job text epoch.number epoch.number epoch.number) →
+        epoch.end ≤ L.shown log.old → IfErr result (IsEpochStop job text epoch.number (D.history disk.new)) }
+    ensures only { IfErr result IsRunStop }
+    ensures same { L.tells → L.lines log.new ≡ L.lines log.old }
+    ensures grown { L.tells → L.shown log.old ≤ L.shown log.new }
+    ensures disk_counted { D.faults disk.old ≤ D.faults disk.new }
+    ensures log_counted { L.faults log.old ≤ L.faults log.new }
+    ensures disk_cause { IfErr result (λ stop. DiskRises stop (D.faults disk.old) (D.faults disk.new)) }
+    ensures log_cause { IfErr result (λ stop. LogRises stop (L.faults log.old) (L.faults log.new)) }
+{
+    plan_epoch(alloc, disk, epoch)?;
+    let rows = epoch_rows(alloc, log, prepared, epoch)?;
+    let count = rows.as_slice().len();
+    write_rows(alloc, disk, epoch.number, &prepared.shown, rows)?;
+    commit_epoch(alloc, disk, epoch.number)?;
+    Ok(count)
 }

@@ -3,6 +3,7 @@
 
 mod epoch;
 mod feed;
+mod round;
 mod settle;
 mod stop;
 
