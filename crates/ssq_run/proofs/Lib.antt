@@ -3,3 +3,5 @@ pub mod Settling
 pub mod Standing
 pub mod Stopping
 pub mod Rounds
+pub mod Beginning
+pub mod Ending

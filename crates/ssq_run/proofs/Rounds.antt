@@ -34,7 +34,7 @@ told_next : (job : Job) (n : ℕ) → told_before job (n + 1) ≡ told_before jo
 unfolding told_before
 told_next job n = ap (told_before job) (add-one n)
 
-told_none : (job : Job) → told_before job 0 ≡ []
+pub told_none : (job : Job) → told_before job 0 ≡ []
 unfolding told_before
 told_none job = refl
 

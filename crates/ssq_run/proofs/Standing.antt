@@ -126,3 +126,6 @@ rows_published job text n k m bytes spelled = ap (λ b. published (name.Out m) b
 pub rows_spelled : (job : Job) (e : ℕ) (columns : List Column) (rows : List (List Value)) → names_of columns ≡ output_names job.query → rows ≡ out job.query job.lines job.cuts e
     → sink_text (names_of columns) rows ≡ epoch_rows job e
 rows_spelled job e columns rows names is = ap (λ n. sink_text n rows) names ∙ ap (sink_text (output_names job.query)) is
+
+pub meta_published : (job : Job) (text bytes : List ℕ) (files : Files) → IsEmpty files → bytes ≡ meta_text (meta_of text) → published name.Meta bytes files ≡ files_at job text 0 0 0
+meta_published job text bytes files empty spelled = ap (λ b. published name.Meta b files) spelled ∙ meta_step job text files empty

@@ -3,3 +3,5 @@ pub mod Feeding
 pub mod Standing
 pub mod Stopping
 pub mod Told
+pub mod Ending
+pub mod Beginning
