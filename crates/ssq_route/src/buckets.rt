@@ -32,7 +32,8 @@ impl<T: Drop> Buckets<T> {
     #[tactic(auto, unfolding(crate::specs::Buckets::buckets_of))]
     pub fn new(alloc: Global, partitions: u32) -> Result<Buckets<T>, AllocError>
         requires { 1 ≤ partitions }
-        ensures { IfOk result (λ made. made ≡ buckets_of partitions []) }
+        ensures empty { IfOk result (λ made. made ≡ buckets_of partitions []) }
+        ensures len { IfOk result (λ made. length made ≡ partitions) }
     {
         let mut buckets = Vec::with_capacity(alloc, partitions as usize)?;
         for _ in 0..partitions {
@@ -62,6 +63,7 @@ impl<T: Drop> Buckets<T> {
             self.old ≡ buckets_of (length self.old) added →
             self.new ≡ buckets_of (length self.old) (added ++ (key.now, item) ∷ [])) }
         ensures err { OnErr result (self.new ≡ self.old) }
+        ensures len { length self.new ≡ length self.old }
     {
         let at = place(key, self.partitions) as usize;
         self.buckets[at].push(item)?;
@@ -83,6 +85,7 @@ impl<T: Drop> Buckets<T> {
         requires { at < length self.old }
         ensures bucket { result.items ≡ bucket_at self.old at }
         ensures rest { self.new ≡ slice_set self.old at [] }
+        ensures len { length self.new ≡ length self.old }
     {
         mem::replace(&mut self.buckets[at as usize], Vec::new(alloc))
     }
