@@ -1,10 +1,10 @@
 -- A text that is read as a printed time is the text of that time.
-use Rattle.std.proofs.Common.{◌≡◌, ℕ, zero, suc, ◌+◌, ◌-◌, ◌*◌, ◌/◌, ◌%◌, ◌<◌, ◌≤◌, ◌&&◌, ◌==◌, ◌⊎◌, inl, inr, sym, ◌∙◌, ap, subst, refl, arith, true, false, ℤ, pos, neg_ℤ, ◌≤ℤ◌, ◌<ℤ◌, Option, Some, None, IfSome, IfNone, ◌≢◌, List, length, slice_index, nat_lt, nat_le, if◌then◌else◌, Bool, cond}
+use Rattle.std.proofs.Common.{◌≡◌, ℕ, zero, suc, ◌+◌, ◌-◌, ◌*◌, ◌/◌, ◌%◌, ◌<◌, ◌≤◌, ◌&&◌, ◌==◌, inl, inr, sym, ◌∙◌, ap, subst, refl, arith, ℤ, pos, neg_ℤ, ◌≤ℤ◌, ◌<ℤ◌, Option, Some, None, IfSome, IfNone, ◌≢◌, List, length, slice_index, nat_lt, nat_le, if◌then◌else◌}
 use Rattle.std.proofs.lemmas.Bool.Decides.{nat_tests}
 use Rattle.std.proofs.lemmas.Option.{option_and_then_some}
 use Rattle.jiff_core.specs.Calendar.{days_from_civil, days_in_month, IsCivilDate}
 use Rattle.jiff_core.proofs.SignedLemmas.{signed_arith}
-use Rattle.ssq_time.specs.Time.{digit_of, two_at, decimal_at, day_number, day_at_head, second_number, second_behind_day, micros_written, six_micros_of, stamp_micros_of, stamp_of, micros_of, time_of, moment, parts_text, two_digits, second_text, stamp_text, IsStampTime, IsLineTime}
+use Rattle.ssq_time.specs.Time.{digit_of, two_at, decimal_at, day_number, day_at_head, second_number, second_behind_day, micros_written, six_micros_of, stamp_micros_of, stamp_of, micros_of, time_of, moment, parts_text, stamp_text, IsStampTime, IsLineTime}
 use Rattle.std.proofs.lemmas.Slice.Eq.{text_from_reads}
 use Rattle.jiff_core.proofs.CalendarLemmas.{days_from_civil-day_count, day_count-lt_year, days_in_month_bounds}
 use Rattle.jiff_core.proofs.MarchLemmas.{day_count-early}

@@ -1,12 +1,12 @@
 -- Numbers that are too great for a span.
-use Rattle.std.proofs.Common.{Bool, if◌then◌else◌, ◌≡◌, ℕ, zero, suc, ◌+◌, ◌*◌, ◌<◌, ◌≤◌, ◌∙◌, sym, ap, refl, inl, inr, arith, rules, true, false, Option, Some, None, List, [], ◌∷◌, length, drop, get_or, nat_le, add-one, drop-cons}
+use Rattle.std.proofs.Common.{Bool, if◌then◌else◌, ◌≡◌, ℕ, ◌+◌, ◌*◌, ◌<◌, ◌≤◌, sym, refl, inl, inr, arith, true, false, Option, Some, None, List, [], ◌∷◌, length, drop, get_or, nat_le, add-one, drop-cons}
 use Rattle.std.proofs.lemmas.Bool.Decides.{nat_tests}
 use Rattle.std.proofs.lemmas.Option.{option_and_then_some}
 use Rattle.std.proofs.lemmas.Bool.{cases_order}
 use Rattle.std.proofs.lemmas.List.{drop_all}
 use Rattle.std.proofs.Math.Nat.{mul-le-mul_left}
-use Rattle.ssq_time.specs.Time.{digit_of, digits_after, number_of, unit_of, span_from, span_with, at_most_longest}
-use Rattle.ssq_time.proofs.Steps.{if_some, if_none, if_cases, some_same, none_some}
+use Rattle.ssq_time.specs.Time.{digit_of, digits_after, unit_of, span_from, span_with, at_most_longest}
+use Rattle.ssq_time.proofs.Steps.{some_same}
 
 -- further digits make no number less
 digits_after_ge : (n : ℕ) (text : List ℕ) (m : ℕ) → digits_after n text ≡ Some m → n ≤ m

@@ -29,6 +29,7 @@ fn day_from(first: u16, last: u16, year: u16, month: u8, day: u8) -> Option<i32>
 
 /// `YYYY-MM-DD` at the head of a text.
 #[tactic(auto, unfolding(crate::specs::Time::day_at_head))]
+#[inline(always)]
 fn day_at(first: u16, last: u16, text: &[u8]) -> Option<i32>
     requires years { last ≤ 9999 }
     requires room { 20 ≤ length text.now }
@@ -61,6 +62,7 @@ fn second_from(hour: u8, minute: u8, second: u8) -> Option<u32>
 
 /// `THH:MM:SS` behind the day.
 #[tactic(auto, unfolding(crate::specs::Time::second_behind_day))]
+#[inline(always)]
 fn second_at(text: &[u8]) -> Option<u32>
     requires { 20 ≤ length text.now }
     ensures value { result ≡ second_behind_day text.now }
@@ -78,6 +80,7 @@ fn second_at(text: &[u8]) -> Option<u32>
 
 /// A point and `written` digits behind the seconds: microseconds.
 #[tactic(auto, unfolding(crate::specs::Time::micros_written))]
+#[inline(always)]
 fn micros_from(written: usize, text: &[u8]) -> Option<u32>
     requires { 20 + written ≤ length text.now }
     ensures value { result ≡ micros_written written text.now }
