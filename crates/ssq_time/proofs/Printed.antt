@@ -420,9 +420,5 @@ pub stamp_if_some : (r : Option ℤ) (text : List ℕ) → r ≡ stamp_of text �
 stamp_if_some (Some t) text e = stamp_of_is text t (sym e)
 stamp_if_some None text e = tt
 
-pub stamp_if_none : (r : Option ℤ) (text : List ℕ) → r ≡ stamp_of text → IfNone r ((t : ℤ) → IsStampTime t → text ≢ stamp_text t)
-stamp_if_none (Some t) text e = tt
-stamp_if_none None text e = λ t h same.
-    let read = stamp_of-stamp_text t h in
-    let back : stamp_of text ≡ Some t = ap stamp_of same ∙ read in
-    absurd (none_some t (e ∙ back))
+pub stamp_each : (r : Option ℤ) (text : List ℕ) → r ≡ stamp_of text → (t : ℤ) → IsStampTime t → text ≡ stamp_text t → r ≡ Some t
+stamp_each r text e t h same = e ∙ ap stamp_of same ∙ stamp_of-stamp_text t h

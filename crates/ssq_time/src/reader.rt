@@ -1,5 +1,5 @@
 //! Reads the texts of times.
-ghost use Rattle.std.specs.Prelude.{◌≡◌, ◌+◌, ◌<◌, ◌≤◌, pos, length, IfSome, IfNone, ℤ, ◌≢◌};
+ghost use Rattle.std.specs.Prelude.{◌≡◌, ◌+◌, ◌<◌, ◌≤◌, pos, length, IfSome, Some, ℤ};
 ghost use Rattle.jiff_core.specs.Calendar.{IsEpochDay};
 ghost use Rattle.ssq_time.specs.Time.{day_number, day_at_head, second_number, second_behind_day, micros_written, micros_of, moment, IsLineTime, IsStampTime, time_of, stamp_text, six_micros_of, stamp_micros_of, stamp_of};
 
@@ -201,11 +201,11 @@ pub fn read_time(text: &[u8]) -> Option<i64>
 
 /// The time whose text `time_text` prints so, and `None` where it prints no such text: a fraction
 /// stands only where it isn't 0, and then with six digits, and the year is one of 0001 to 9999.
-#[tactic(auto, using(crate::proofs::Printed::stamp_if_some, crate::proofs::Printed::stamp_if_none))]
+#[tactic(auto, using(crate::proofs::Printed::stamp_if_some))]
 pub fn read_stamp(text: &[u8]) -> Option<i64>
     ensures value { result ≡ stamp_of text.now }
     ensures printed { IfSome result (λ t. (text.now ≡ stamp_text t) × IsStampTime t) }
-    ensures other { IfNone result ((t : ℤ) → IsStampTime t → text.now ≢ stamp_text t) }
+    ensures each { (t : ℤ) → IsStampTime t → text.now ≡ stamp_text t → result ≡ Some t }
 {
     stamp_in(text)
 }
