@@ -1,5 +1,5 @@
 -- A text that is read as a printed time is the text of that time.
-use Rattle.std.proofs.Common.{◌≡◌, ℕ, zero, suc, ◌+◌, ◌-◌, ◌*◌, ◌/◌, ◌%◌, ◌<◌, ◌≤◌, ◌&&◌, ◌==◌, inl, inr, sym, ◌∙◌, ap, subst, refl, arith, ℤ, pos, neg_ℤ, ◌≤ℤ◌, ◌<ℤ◌, Option, Some, None, IfSome, IfNone, ◌≢◌, List, length, slice_index, nat_lt, nat_le, if◌then◌else◌}
+use Rattle.std.proofs.Common.{◌≡◌, ℕ, zero, suc, ◌+◌, ◌-◌, ◌*◌, ◌/◌, ◌%◌, ◌<◌, ◌≤◌, ◌&&◌, ◌==◌, inl, inr, sym, ◌∙◌, ap, subst, refl, arith, ℤ, pos, neg_ℤ, ◌≤ℤ◌, ◌<ℤ◌, Option, Some, None, IfSome, List, length, slice_index, nat_lt, nat_le, if◌then◌else◌}
 use Rattle.std.proofs.lemmas.Bool.Decides.{nat_tests}
 use Rattle.std.proofs.lemmas.Option.{option_and_then_some}
 use Rattle.jiff_core.specs.Calendar.{days_from_civil, days_in_month, IsCivilDate}
@@ -9,7 +9,7 @@ use Rattle.std.proofs.lemmas.Slice.Eq.{text_from_reads}
 use Rattle.jiff_core.proofs.CalendarLemmas.{days_from_civil-day_count, day_count-lt_year, days_in_month_bounds}
 use Rattle.jiff_core.proofs.MarchLemmas.{day_count-early}
 use Rattle.std.proofs.lemmas.Bool.{cases_order}
-use Rattle.ssq_time.proofs.Steps.{if_some, none_some, some_same, both_true, same_true, above_zero, if_none, if_cases}
+use Rattle.ssq_time.proofs.Steps.{if_some, some_same, both_true, same_true, above_zero, if_none, if_cases}
 use Rattle.ssq_time.proofs.Days.{first_day, day_behind, january-le}
 use Rattle.ssq_time.proofs.Parts.{stamp_text-parts}
 use Rattle.ssq_time.proofs.Readback.{plain_text, full_text, parts_text-zero, parts_text-more, stamp_of-stamp_text}
