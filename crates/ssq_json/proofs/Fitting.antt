@@ -1,10 +1,11 @@
 -- Each row that a line is fits its schema.
-use Rattle.std.proofs.Common.{◌≡◌, ℕ, zero, suc, ◌+◌, Bool, true, false, List, [], ◌∷◌, length, nat_lt, cond, Option, Some, None, is_some, option_map, option_and_then, Result, Ok, Err, IfSome, IfOk, refl, subst, arith}
+use Rattle.std.proofs.Common.{◌≡◌, ℤ, ℕ, zero, suc, ◌+◌, Bool, true, false, List, [], ◌∷◌, length, nat_lt, cond, Option, Some, None, is_some, option_map, option_and_then, Result, Ok, Err, IfSome, IfOk, refl, subst, arith}
 use Rattle.std.specs.List.{All, list_all}
+use Rattle.std.proofs.lemmas.Int.{ints}
 use Rattle.std.proofs.lemmas.Option.{IfSome_then}
 use Rattle.serde_json.specs.Data.{Data}
 use Rattle.serde_json.specs.Find.{get, as_null, as_str, as_object}
-use Rattle.ssq_time.specs.Time.{time_of, IsLineTime}
+use Rattle.ssq_time.specs.Time.{time_of, IsLineTime, IsStampTime}
 use Rattle.ssq_time.proofs.Printed.{line_if_some}
 use Rattle.ssq_value.specs.declared.column.ColType.{ColType}
 use Rattle.ssq_value.specs.declared.column.ColType.TheVariants.{Bigint, Str, Timestamp, Bool as Boolean}
@@ -103,3 +104,17 @@ fits_if_ok schema line (Ok row) is =
     let Fits : Result (Option (List Value)) BadRow → Type 0 = λ r. IfOk r (λ row. IfSome row (FitsSchema schema)) in
     subst Fits is (row_of-fits schema line)
 fits_if_ok schema line (Err bad) is = tt
+
+IfTime-more : (P Q : ℤ → Type 0) (value : Value) → ((t : ℤ) → P t → Q t) → IfTime P value → IfTime Q value
+IfTime-more P Q Null gives h = tt
+IfTime-more P Q (Int number) gives h = tt
+IfTime-more P Q (Text text) gives h = tt
+IfTime-more P Q (Time time) gives h = gives time h
+IfTime-more P Q (Truth truth) gives h = tt
+
+stamp_from_line : (t : ℤ) → IsLineTime t → IsStampTime t
+stamp_from_line t years = (omega (arith, ints), omega (arith, ints))
+
+-- a row that was read has a text
+pub prints : (schema : Layout) (row : List Value) → FitsSchema schema row → All (IfTime IsStampTime) row
+prints schema row fits k d low = IfTime-more IsLineTime IsStampTime _ stamp_from_line (fits.years k d low)
