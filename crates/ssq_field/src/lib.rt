@@ -1,13 +1,15 @@
-// A library with one function.
+//! Fields of records and of state files: decimal numbers, and numbers of 4, 8 and 16 bytes.
 #![tactic(auto)]
 
-ghost use Rattle.std.specs.Prelude.{◌≡◌};
-ghost use Rattle.ssq_field.specs.Echo.{echo_of};
+mod big_endian;
+mod bytes;
+mod decimal;
+mod law;
 
-// The `ensures` clause is the contract: what `echo` returns is `echo_of` of its argument, a definition
-// in `specs/Echo.antt`, which a caller's clause can cite too.
-pub fn echo(x: usize) -> usize
-    ensures { result ≡ echo_of x }
-{
-    x
-}
+pub use big_endian::{put_be32, put_be64, put_be128, take_be32, take_be64, take_be128};
+pub use bytes::Bytes;
+pub use decimal::{put_decimal, take_decimal};
+pub use law::fields_are_apart;
+
+#[cfg(test)]
+mod tests;

@@ -1,13 +1,11 @@
-// A library with one function.
+//! Which partition a key belongs to, and items apart by partition.
 #![tactic(auto)]
 
-ghost use Rattle.std.specs.Prelude.{◌≡◌};
-ghost use Rattle.ssq_route.specs.Echo.{echo_of};
+mod buckets;
+mod hash;
 
-// The `ensures` clause is the contract: what `echo` returns is `echo_of` of its argument, a definition
-// in `specs/Echo.antt`, which a caller's clause can cite too.
-pub fn echo(x: usize) -> usize
-    ensures { result ≡ echo_of x }
-{
-    x
-}
+pub use buckets::Buckets;
+pub use hash::place;
+
+#[cfg(test)]
+mod tests;

@@ -85,9 +85,23 @@ pub fn key_bytes(alloc: Global, values: &[Value]) -> Result<Vec<u8>, AllocError>
     requires { All HasShortText values.now }
     ensures { IfOk result (λ key. key.items ≡ keys_of values.now) }
 {
-    let mut key = Vec::new(alloc);
+    let mut key = Vec::with_capacity(alloc, room(values))?;
     put_key(&mut key, values)?;
     Ok(key)
+}
+
+/// How many bytes the key takes, so that it grows but once.
+fn room(values: &[Value]) -> usize {
+    let mut room: usize = 0;
+    for value in values {
+        room = room.saturating_add(match value {
+            Value::Null => 1,
+            Value::Truth(_) => 2,
+            Value::Int(_) | Value::Time(_) => 9,
+            Value::Text(text) => text.len().saturating_add(5),
+        });
+    }
+    room
 }
 
 /// The law of keys: before whatever follows, a key of so many values is the key of no others. So of two
