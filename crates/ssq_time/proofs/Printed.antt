@@ -9,20 +9,10 @@ use Rattle.std.proofs.lemmas.Slice.Eq.{text_from_reads}
 use Rattle.jiff_core.proofs.CalendarLemmas.{days_from_civil-day_count, day_count-lt_year, days_in_month_bounds}
 use Rattle.jiff_core.proofs.MarchLemmas.{day_count-early}
 use Rattle.std.proofs.lemmas.Bool.{cases_order}
+use Rattle.ssq_time.proofs.Steps.{if_some, none_some, some_same, both_true, same_true, above_zero, if_none, if_cases}
 use Rattle.ssq_time.proofs.Days.{first_day, day_behind, january-le}
 use Rattle.ssq_time.proofs.Parts.{stamp_text-parts}
 use Rattle.ssq_time.proofs.Readback.{plain_text, full_text, parts_text-zero, parts_text-more, stamp_of-stamp_text}
-
--- a test that let a value through was true
-if_some : {A : Type 0} (b : Bool) (o : Option A) (x : A) → (if b then o else None) ≡ Some x → (b ≡ true) × (o ≡ Some x)
-if_some true o x e = (refl, e)
-if_some false o x e = absurd (cc)
-
-none_some : (t : ℤ) → None ≡ Some t → ⊥
-none_some t e = cc
-
-some_same : {A : Type 0} (a b : A) → Some a ≡ Some b → a ≡ b
-some_same a b e = cc
 
 digit_is : (byte n : ℕ) → digit_of byte ≡ Some n → (byte ≡ 48 + n) × (n ≤ 9)
 unfolding digit_of
@@ -64,13 +54,6 @@ day_is first last y m d day small e =
     let d_low : 1 ≤ d = grind (arith, nat_tests, h.0) in
     let d_high : d ≤ days_in_month (pos y) m = grind (arith, nat_tests, h.0) in
     record { low = low; high = high; civil = (omega (arith, signed_arith), (m_low, m_high), (d_low, d_high)); number = some_same _ _ h.1 }
-
-both_true : (a b : Bool) → (a && b) ≡ true → (a ≡ true) × (b ≡ true)
-both_true true b e = (refl, e)
-both_true false b e = absurd (cc)
-
-same_true : (a b : ℕ) → (a == b) ≡ true → a ≡ b
-same_true a b e = grind (arith, nat_tests)
 
 -- the head of a text is the day
 pub record HasDay (first last : ℕ) (text : List ℕ) (day : ℤ) : Type 0 where
@@ -202,13 +185,6 @@ pub data HasEnd (text : List ℕ) : ℕ → Type 0 where
   plain : length text ≡ 20 → slice_index text 19 ≡ 90 → HasEnd text 0
   full : (micro : ℕ) → length text ≡ 27 → slice_index text 26 ≡ 90 → 0 < micro → HasMicros text micro → HasEnd text micro
 
-above_zero : (n : ℕ) → (n == 0) ≡ false → 0 < n
-above_zero n e = grind (arith, nat_tests)
-
-if_none : {A : Type 0} (b : Bool) (o : Option A) (x : A) → (if b then None else o) ≡ Some x → (b ≡ false) × (o ≡ Some x)
-if_none true o x e = absurd (cc)
-if_none false o x e = (refl, e)
-
 six_is : (text : List ℕ) (micro : ℕ) → six_micros_of text ≡ Some micro → HasMicros text micro × (0 < micro)
 unfolding six_micros_of
 six_is text micro e =
@@ -218,10 +194,6 @@ six_is text micro e =
     let some : 0 < n = above_zero n h.0 in
     let P : ℕ → Type 0 = λ k. HasMicros text k × (0 < k) in
     subst P same (micros_is text n en, some))
-
-if_cases : {A P : Type 0} (b : Bool) (o o' : Option A) (x : A) → (if b then o else o') ≡ Some x → (b ≡ true → o ≡ Some x → P) → (b ≡ false → o' ≡ Some x → P) → P
-if_cases true o o' x e on_true on_false = on_true refl e
-if_cases false o o' x e on_true on_false = on_false refl e
 
 stamp_micros_is : (text : List ℕ) (micro : ℕ) → stamp_micros_of text ≡ Some micro → HasEnd text micro
 unfolding stamp_micros_of

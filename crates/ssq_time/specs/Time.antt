@@ -1,5 +1,5 @@
 -- The texts of times: microseconds since 1970-01-01T00:00:00Z, by the proleptic Gregorian calendar, without leap seconds.
-use Rattle.std.specs.Prelude.{ℕ, zero, suc, ◌+◌, ◌-◌, ◌*◌, ◌/◌, ◌%◌, ◌==◌, ◌&&◌, nat_lt, nat_le, ℤ, pos, neg_ℤ, ◌+ℤ◌, ◌-ℤ◌, ◌*ℤ◌, ◌≤ℤ◌, int_le, unsigned_abs, List, [], ◌∷◌, ◌++◌, length, slice_index, Option, Some, None, option_and_then, if◌then◌else◌}
+use Rattle.std.specs.Prelude.{ℕ, zero, suc, ◌+◌, ◌-◌, ◌*◌, ◌/◌, ◌%◌, ◌==◌, ◌&&◌, ◌||◌, take, drop, position, codes, bytes_eq, nat_lt, nat_le, ℤ, pos, neg_ℤ, ◌+ℤ◌, ◌-ℤ◌, ◌*ℤ◌, ◌≤ℤ◌, int_le, unsigned_abs, List, [], ◌∷◌, ◌++◌, length, slice_index, Option, Some, None, option_and_then, if◌then◌else◌}
 use Rattle.std.specs.Int.{int_div_euclid, int_rem_euclid}
 use Rattle.jiff_core.specs.Calendar.{days_from_civil, days_in_month}
 
@@ -163,3 +163,51 @@ stamp_text t =
     let day = int_div_euclid t (pos 86_400_000_000) in
     let micro = unsigned_abs (int_rem_euclid t (pos 86_400_000_000)) in
     parts_text (year_of day) (month_of day) (day_in_month day) (micro / 1_000_000) (micro % 1_000_000)
+
+-- what n and then those digits spell, where all bytes are digits
+unfoldable pub digits_after : ℕ → List ℕ → Option ℕ
+digits_after n [] = Some n
+digits_after n (byte ∷ rest) = do
+  digit ← digit_of byte
+  digits_after (10 * n + digit) rest
+
+-- the number that a text spells: digits alone, at least one, and the first of them is not 0
+unfoldable pub number_of : List ℕ → Option ℕ
+number_of text =
+    if (length text == 0) || (slice_index text 0 == 48) then None else digits_after 0 text
+
+-- the seconds of a unit of time
+unfoldable pub unit_of : List ℕ → Option ℕ
+unit_of word =
+    if bytes_eq word (codes "second") || bytes_eq word (codes "seconds") then Some 1
+    else (if bytes_eq word (codes "minute") || bytes_eq word (codes "minutes") then Some 60
+    else (if bytes_eq word (codes "hour") || bytes_eq word (codes "hours") then Some 3600
+    else (if bytes_eq word (codes "day") || bytes_eq word (codes "days") then Some 86400 else None)))
+
+-- that many seconds as a span, which is 1 second to 366 days long
+unfoldable pub span_from : ℕ → Option ℤ
+span_from seconds =
+    if nat_le 1 seconds && nat_le seconds 31_622_400 then Some (pos (1_000_000 * seconds)) else None
+
+-- the span of a number of units
+unfoldable pub span_with : Option ℕ → Option ℕ → Option ℤ
+span_with number unit = do
+  n ← number
+  seconds ← unit
+  span_from (n * seconds)
+
+-- the span that a text is: a number, one space and a unit
+unfoldable pub span_of : List ℕ → Option ℤ
+span_of text = do
+  space ← position (λ byte. byte == 32) text
+  span_with (number_of (take space text)) (unit_of (drop (space + 1) text))
+
+-- a span is 1 second to 366 days long
+abbrev pub IsSpan : ℤ → Type 0
+IsSpan span = (pos 1_000_000 ≤ℤ span) × (span ≤ℤ pos 31_622_400_000_000)
+
+-- the number, where it is no greater than the seconds of 366 days
+unfoldable pub at_most_longest : Option ℕ → Option ℕ
+at_most_longest number = do
+  n ← number
+  if nat_le n 31_622_400 then Some n else None

@@ -6,6 +6,10 @@
 mod digits;
 mod printer;
 mod reader;
+mod span;
+#[cfg(test)]
+mod tests;
 
 pub use printer::{put_time, time_text};
 pub use reader::{read_stamp, read_time};
+pub use span::read_span;

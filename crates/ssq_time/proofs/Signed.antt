@@ -1,0 +1,2 @@
+-- Signed numbers for `omega`, passed on to the crates above.
+pub use Rattle.jiff_core.proofs.SignedLemmas.{signed_arith, signed_casts, one_part}
