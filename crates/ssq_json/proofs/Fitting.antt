@@ -1,5 +1,5 @@
 -- Each row that a line is fits its schema.
-use Rattle.std.proofs.Common.{◌≡◌, ℤ, ℕ, zero, suc, ◌+◌, ◌≤◌, Bool, true, false, List, [], ◌∷◌, length, nat_lt, cond, Option, Some, None, is_some, option_map, option_and_then, Result, Ok, Err, IfSome, IfOk, refl, subst, arith}
+use Rattle.std.proofs.Common.{◌≡◌, ℤ, ℕ, ◌+◌, ◌≤◌, Bool, true, false, List, [], ◌∷◌, length, nat_lt, cond, Option, Some, None, is_some, option_map, option_and_then, Result, Ok, Err, IfSome, IfOk, refl, subst, arith}
 use Rattle.std.specs.List.{All, list_all}
 use Rattle.std.proofs.lemmas.Bool.{ltb-false}
 use Rattle.std.proofs.lemmas.Int.{ints}
