@@ -1,11 +1,14 @@
 -- What holds of each row that was read.
-use Rattle.std.specs.Prelude.{◌≡◌, ℕ, ◌≤◌, ℤ, false, List, length}
+use Rattle.std.specs.Prelude.{◌≡◌, ℕ, ◌<◌, ◌≤◌, ℤ, false, List, length}
 use Rattle.std.specs.List.{All}
 use Rattle.ssq_time.specs.Time.{IsLineTime}
+use Rattle.ssq_value.specs.declared.column.Column.{Column}
 use Rattle.ssq_value.specs.declared.value.Value.{Value}
 use Rattle.ssq_value.specs.declared.value.Value.TheVariants.{Null, Int, Text, Time, Truth}
 use Rattle.ssq_value.specs.Kind.{IsRowOf}
 use Rattle.ssq_value.specs.Layout.{Layout}
+use Rattle.ssq_json.specs.declared.bad_row.BadRow.{BadRow}
+use Rattle.ssq_json.specs.declared.bad_row.BadRow.TheVariants.{TooLong, NotJson, NotObject, WrongType, NoEventTime, NoMemory}
 use Rattle.ssq_json.specs.Line.{longest, lacks_time}
 
 -- P of the time, if the value is one
@@ -35,3 +38,12 @@ pub record FitsSchema (schema : Layout) (row : List Value) : Type 0 where
   pub years : All (IfTime IsLineTime) row
   pub texts : All (IfText IsLineText) row
   pub timed : lacks_time schema.event row ≡ false
+
+-- where a column is to blame, it is one of the stream's
+abbrev pub BlamesColumn : List Column → BadRow → Type 0
+BlamesColumn columns TooLong = Unit {0}
+BlamesColumn columns NotJson = Unit {0}
+BlamesColumn columns NotObject = Unit {0}
+BlamesColumn columns (WrongType at) = at < length columns
+BlamesColumn columns NoEventTime = Unit {0}
+BlamesColumn columns NoMemory = Unit {0}
