@@ -1,5 +1,5 @@
 -- A loop's next line, and the end of its lines.
-use Rattle.std.proofs.Common.{◌≡◌, ℕ, ◌+◌, ◌<◌, ◌≤◌, ◌∙◌, sym, ap, refl, arith, ℤ, Option, List, [], ◌++◌, length, drop, get_or, add-one, drop-cons, append_assoc}
+use Rattle.std.proofs.Common.{◌≡◌, ℕ, ◌+◌, ◌<◌, ◌≤◌, arith, ℤ, Option, List, ◌++◌, length, drop, get_or, add-one, drop-cons, append_assoc}
 use Rattle.std.proofs.lemmas.List.{drop_all, append-nil}
 use Rattle.std.specs.Option.{ForSome}
 use Rattle.ssq_time.specs.Time.{IsLineTime, IsStampTime}

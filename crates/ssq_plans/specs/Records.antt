@@ -1,5 +1,5 @@
 -- The texts of records, line by line. Numbers are decimal without leading zeros, and a line feed ends each line.
-use Rattle.std.specs.Prelude.{◌≡◌, ℕ, ◌+◌, ◌≤◌, ◌==◌, ℤ, List, [], ◌∷◌, ◌++◌, length, All, Option, Some, None, if◌then◌else◌, codes, decimal}
+use Rattle.std.specs.Prelude.{ℕ, ◌+◌, ◌≤◌, ◌==◌, ℤ, List, [], ◌∷◌, ◌++◌, length, All, Option, Some, None, if◌then◌else◌, codes, decimal}
 use Rattle.ssq_time.specs.Time.{stamp_text}
 use Rattle.ssq_plans.specs.declared.meta.Meta.{Meta}
 use Rattle.ssq_plans.specs.declared.plan.Plan.{Plan}

@@ -7,6 +7,8 @@ mod listed;
 mod meta;
 mod plan;
 mod seen;
+#[cfg(test)]
+mod tests;
 
 pub use commit::{Commit, write_commit};
 pub use listed::Listed;

@@ -1,7 +1,7 @@
 mod Days
 mod Parts
 pub mod Printed
-mod Readback
+pub mod Readback
 pub mod Signed
 mod Spans
 mod Steps

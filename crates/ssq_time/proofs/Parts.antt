@@ -1,16 +1,15 @@
 -- The text of a time, by the parts of the time.
-use Rattle.std.proofs.Common.{◌≡◌, subst, ℕ, ◌+◌, ◌*◌, ◌/◌, ◌%◌, ◌<◌, ◌≤◌, sym, ◌∙◌, ap, refl, arith, ℤ, pos, neg_ℤ, ◌+ℤ◌, ◌*ℤ◌, ◌<ℤ◌, ◌≤ℤ◌, unsigned_abs, List, Some, get_or}
+use Rattle.std.proofs.Common.{◌≡◌, subst, ℕ, ◌+◌, ◌*◌, ◌/◌, ◌%◌, ◌<◌, ◌≤◌, sym, arith, ℤ, pos, neg_ℤ, ◌+ℤ◌, ◌≤ℤ◌, unsigned_abs}
 use Rattle.std.specs.Int.{int_div_euclid, int_rem_euclid}
-use Rattle.std.proofs.lemmas.Bool.Decides.{nat_tests}
-use Rattle.jiff_core.specs.Calendar.{days_from_civil, days_in_month, IsCivilDate}
+use Rattle.jiff_core.specs.Calendar.{days_from_civil, IsCivilDate}
 use Rattle.jiff_core.proofs.SignedLemmas.{signed_arith, one_part}
 use Rattle.jiff_core.proofs.CalendarLemmas.{days_from_civil-day_count, day_count-lt_year}
 use Rattle.jiff_core.proofs.DateLemmas.{civil}
 use Rattle.jiff_core.specs.declared.civil.date.Date.{Date}
 use Rattle.jiff_core.specs.Date.{epoch_day}
 use Rattle.std.proofs.lemmas.Int.{by_lt_z}
-use Rattle.ssq_time.specs.Time.{digit_of, two_at, day_number, day_at_head, second_number, second_behind_day, moment, year_of, month_of, day_in_month, parts_text, stamp_text, IsStampTime}
-use Rattle.ssq_time.proofs.Days.{first_day, year_of-days_from_civil, month_of-days_from_civil, day_in_month-days_from_civil, day_of_parts, IsDayOfParts}
+use Rattle.ssq_time.specs.Time.{moment, parts_text, stamp_text, IsStampTime}
+use Rattle.ssq_time.proofs.Days.{first_day, year_of-days_from_civil, month_of-days_from_civil, day_in_month-days_from_civil}
 
 -- a moment's day, and the microsecond of that day
 moment-day : (day : ℤ) (second micro : ℕ) → second < 86400 → micro < 1_000_000 → int_div_euclid (moment day second micro) (pos 86_400_000_000) ≡ day

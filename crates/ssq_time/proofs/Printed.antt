@@ -1,15 +1,15 @@
 -- A text that is read as a printed time is the text of that time.
-use Rattle.std.proofs.Common.{◌≡◌, ℕ, zero, suc, ◌+◌, ◌-◌, ◌*◌, ◌/◌, ◌%◌, ◌<◌, ◌≤◌, ◌&&◌, ◌==◌, ◌⊎◌, inl, inr, sym, ◌∙◌, ap, subst, refl, arith, true, false, ℤ, pos, neg_ℤ, ◌≤ℤ◌, ◌<ℤ◌, Option, Some, None, IfSome, IfNone, ◌≢◌, List, length, slice_index, nat_lt, nat_le, if◌then◌else◌, Bool, cond}
+use Rattle.std.proofs.Common.{◌≡◌, ℕ, zero, suc, ◌+◌, ◌-◌, ◌*◌, ◌/◌, ◌%◌, ◌<◌, ◌≤◌, ◌&&◌, ◌==◌, inl, inr, sym, ◌∙◌, ap, subst, refl, arith, ℤ, pos, neg_ℤ, ◌≤ℤ◌, ◌<ℤ◌, Option, Some, None, IfSome, List, length, slice_index, nat_lt, nat_le, if◌then◌else◌}
 use Rattle.std.proofs.lemmas.Bool.Decides.{nat_tests}
 use Rattle.std.proofs.lemmas.Option.{option_and_then_some}
 use Rattle.jiff_core.specs.Calendar.{days_from_civil, days_in_month, IsCivilDate}
 use Rattle.jiff_core.proofs.SignedLemmas.{signed_arith}
-use Rattle.ssq_time.specs.Time.{digit_of, two_at, decimal_at, day_number, day_at_head, second_number, second_behind_day, micros_written, six_micros_of, stamp_micros_of, stamp_of, micros_of, time_of, moment, parts_text, two_digits, second_text, stamp_text, IsStampTime, IsLineTime}
+use Rattle.ssq_time.specs.Time.{digit_of, two_at, decimal_at, day_number, day_at_head, second_number, second_behind_day, micros_written, six_micros_of, stamp_micros_of, stamp_of, micros_of, time_of, moment, parts_text, stamp_text, IsStampTime, IsLineTime}
 use Rattle.std.proofs.lemmas.Slice.Eq.{text_from_reads}
 use Rattle.jiff_core.proofs.CalendarLemmas.{days_from_civil-day_count, day_count-lt_year, days_in_month_bounds}
 use Rattle.jiff_core.proofs.MarchLemmas.{day_count-early}
 use Rattle.std.proofs.lemmas.Bool.{cases_order}
-use Rattle.ssq_time.proofs.Steps.{if_some, none_some, some_same, both_true, same_true, above_zero, if_none, if_cases}
+use Rattle.ssq_time.proofs.Steps.{if_some, some_same, both_true, same_true, above_zero, if_none, if_cases}
 use Rattle.ssq_time.proofs.Days.{first_day, day_behind, january-le}
 use Rattle.ssq_time.proofs.Parts.{stamp_text-parts}
 use Rattle.ssq_time.proofs.Readback.{plain_text, full_text, parts_text-zero, parts_text-more, stamp_of-stamp_text}
@@ -420,9 +420,5 @@ pub stamp_if_some : (r : Option ℤ) (text : List ℕ) → r ≡ stamp_of text �
 stamp_if_some (Some t) text e = stamp_of_is text t (sym e)
 stamp_if_some None text e = tt
 
-pub stamp_if_none : (r : Option ℤ) (text : List ℕ) → r ≡ stamp_of text → IfNone r ((t : ℤ) → IsStampTime t → text ≢ stamp_text t)
-stamp_if_none (Some t) text e = tt
-stamp_if_none None text e = λ t h same.
-    let read = stamp_of-stamp_text t h in
-    let back : stamp_of text ≡ Some t = ap stamp_of same ∙ read in
-    absurd (none_some t (e ∙ back))
+pub stamp_each : (r : Option ℤ) (text : List ℕ) → r ≡ stamp_of text → (t : ℤ) → IsStampTime t → text ≡ stamp_text t → r ≡ Some t
+stamp_each r text e t h same = e ∙ ap stamp_of same ∙ stamp_of-stamp_text t h

@@ -1,8 +1,8 @@
 -- What is printed of a time is read as that time.
-use Rattle.std.proofs.Common.{◌≡◌, ℕ, ◌+◌, ◌*◌, ◌/◌, ◌%◌, ◌<◌, ◌≤◌, sym, ◌∙◌, ap, refl, inl, inr, unsigned_abs, [], ◌∷◌, ◌++◌, arith, ℤ, pos, zero, suc, List, Some, slice_index, length, nat_le, nat_lt, ◌&&◌, true, ◌==◌, false}
+use Rattle.std.proofs.Common.{◌≡◌, ℕ, ◌+◌, ◌*◌, ◌/◌, ◌%◌, ◌<◌, ◌≤◌, sym, ◌∙◌, ap, refl, inl, inr, unsigned_abs, [], ◌∷◌, ◌++◌, arith, ℤ, pos, List, Some, slice_index, length, nat_lt, ◌==◌, false}
 use Rattle.std.proofs.lemmas.Bool.Decides.{nat_tests}
 use Rattle.std.proofs.lemmas.Bool.{cases_order}
-use Rattle.jiff_core.specs.Calendar.{days_from_civil, days_in_month, IsCivilDate}
+use Rattle.jiff_core.specs.Calendar.{days_from_civil, IsCivilDate}
 use Rattle.jiff_core.proofs.SignedLemmas.{signed_arith}
 use Rattle.jiff_core.proofs.CalendarLemmas.{days_in_month_bounds}
 use Rattle.std.specs.Int.{int_div_euclid, int_rem_euclid}

@@ -1,12 +1,12 @@
 -- Numbers that are too great for a span.
-use Rattle.std.proofs.Common.{Bool, if◌then◌else◌, ◌≡◌, ℕ, zero, suc, ◌+◌, ◌*◌, ◌<◌, ◌≤◌, ◌∙◌, sym, ap, refl, inl, inr, arith, rules, true, false, Option, Some, None, List, [], ◌∷◌, length, drop, get_or, nat_le, add-one, drop-cons}
+use Rattle.std.proofs.Common.{Bool, if◌then◌else◌, ◌≡◌, ℕ, ◌+◌, ◌*◌, ◌<◌, ◌≤◌, sym, refl, inl, inr, arith, true, false, Option, Some, None, List, [], ◌∷◌, length, drop, get_or, nat_le, add-one, drop-cons}
 use Rattle.std.proofs.lemmas.Bool.Decides.{nat_tests}
 use Rattle.std.proofs.lemmas.Option.{option_and_then_some}
 use Rattle.std.proofs.lemmas.Bool.{cases_order}
 use Rattle.std.proofs.lemmas.List.{drop_all}
 use Rattle.std.proofs.Math.Nat.{mul-le-mul_left}
-use Rattle.ssq_time.specs.Time.{digit_of, digits_after, number_of, unit_of, span_from, span_with, at_most_longest}
-use Rattle.ssq_time.proofs.Steps.{if_some, if_none, if_cases, some_same, none_some}
+use Rattle.ssq_time.specs.Time.{digit_of, digits_after, unit_of, span_from, span_with, at_most_longest}
+use Rattle.ssq_time.proofs.Steps.{some_same, none_some}
 
 -- further digits make no number less
 digits_after_ge : (n : ℕ) (text : List ℕ) (m : ℕ) → digits_after n text ≡ Some m → n ≤ m
@@ -14,9 +14,6 @@ unfolding digits_after
 digits_after_ge n [] m e = let same : n ≡ m = some_same n m e in omega arith
 digits_after_ge n (byte ∷ rest) m e =
     option_and_then_some _ (digit_of byte) m e (λ digit ed e1. omega (arith, digits_after_ge (10 * n + digit) rest m e1))
-
-none_number : (n : ℕ) → None ≡ Some n → ⊥
-none_number n e = cc
 
 pub too_great : (n : ℕ) → 31_622_400 < n → at_most_longest (Some n) ≡ None
 unfolding at_most_longest
@@ -46,7 +43,7 @@ unit_at_least : (word : List ℕ) (seconds : ℕ) → unit_of word ≡ Some seco
 unfolding unit_of
 unit_at_least word n =
     at_least_one _ 1 _ n (omega arith) (at_least_one _ 60 _ n (omega arith)
-    (at_least_one _ 3600 _ n (omega arith) (at_least_one _ 86400 None n (omega arith) (λ e. absurd (none_number n e)))))
+    (at_least_one _ 3600 _ n (omega arith) (at_least_one _ 86400 None n (omega arith) (λ e. absurd (none_some n e)))))
 
 too_long : (n : ℕ) → 31_622_400 < n → span_from n ≡ None
 unfolding span_from

@@ -1,5 +1,5 @@
 -- What a value says of the tests and the steps that made it.
-use Rattle.std.proofs.Common.{◌≡◌, ℕ, ◌<◌, refl, arith, true, false, ◌&&◌, ◌==◌, ℤ, Option, Some, None, if◌then◌else◌, Bool}
+use Rattle.std.proofs.Common.{◌≡◌, ℕ, ◌<◌, refl, arith, true, false, ◌&&◌, ◌==◌, Option, Some, None, if◌then◌else◌, Bool}
 use Rattle.std.proofs.lemmas.Bool.Decides.{nat_tests}
 
 -- a test that let a value through was true
@@ -7,8 +7,8 @@ pub if_some : {A : Type 0} (b : Bool) (o : Option A) (x : A) → (if b then o el
 if_some true o x e = (refl, e)
 if_some false o x e = absurd (cc)
 
-pub none_some : (t : ℤ) → None ≡ Some t → ⊥
-none_some t e = cc
+pub none_some : {A : Type 0} (x : A) → None ≡ Some x → ⊥
+none_some x e = cc
 
 pub some_same : {A : Type 0} (a b : A) → Some a ≡ Some b → a ≡ b
 some_same a b e = cc

@@ -1,4 +1,6 @@
--- The texts of times: microseconds since 1970-01-01T00:00:00Z, by the proleptic Gregorian calendar, without leap seconds.
+-- The texts of times and spans. A time is a number of microseconds since 1970-01-01T00:00:00Z, by the proleptic
+-- Gregorian calendar, without leap seconds. Bytes are numbers: 32 is a space, 45 `-`, 46 `.`, 48 `0`, 57 `9`, 58 `:`,
+-- 84 `T` and 90 `Z`.
 use Rattle.std.specs.Prelude.{ℕ, zero, suc, ◌+◌, ◌-◌, ◌*◌, ◌/◌, ◌%◌, ◌==◌, ◌&&◌, ◌||◌, take, drop, position, codes, bytes_eq, nat_lt, nat_le, ℤ, pos, neg_ℤ, ◌+ℤ◌, ◌-ℤ◌, ◌*ℤ◌, ◌≤ℤ◌, int_le, unsigned_abs, List, [], ◌∷◌, ◌++◌, length, slice_index, Option, Some, None, option_and_then, if◌then◌else◌}
 use Rattle.std.specs.Int.{int_div_euclid, int_rem_euclid}
 use Rattle.jiff_core.specs.Calendar.{days_from_civil, days_in_month}

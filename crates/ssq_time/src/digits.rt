@@ -4,6 +4,7 @@ ghost use Rattle.ssq_time.specs.Time.{digit_of, two_at, decimal_at};
 
 /// The value of a digit.
 #[tactic(auto, unfolding(crate::specs::Time::digit_of))]
+#[inline(always)]
 pub(crate) fn digit(byte: u8) -> Option<u8>
     ensures value { result ≡ digit_of byte }
     ensures bound { IfSome result (λ d. d ≤ 9) }
@@ -16,6 +17,7 @@ pub(crate) fn digit(byte: u8) -> Option<u8>
 
 /// The number that two digits spell.
 #[tactic(auto, unfolding(crate::specs::Time::two_at))]
+#[inline(always)]
 pub(crate) fn two(text: &[u8], at: usize) -> Option<u8>
     requires { at + 1 < length text.now }
     ensures value { result ≡ two_at text.now at }
@@ -28,6 +30,7 @@ pub(crate) fn two(text: &[u8], at: usize) -> Option<u8>
 
 /// The digit at that place behind the point, where `written` digits stand: the others are 0.
 #[tactic(auto, unfolding(crate::specs::Time::decimal_at))]
+#[inline(always)]
 pub(crate) fn decimal(text: &[u8], written: usize, at: usize) -> Option<u8>
     requires { 20 + written ≤ length text.now }
     ensures value { result ≡ decimal_at text.now written at }

@@ -1,5 +1,5 @@
 //! Reads the texts of times.
-ghost use Rattle.std.specs.Prelude.{◌≡◌, ◌+◌, ◌<◌, ◌≤◌, pos, length, IfSome, IfNone, ℤ, ◌≢◌};
+ghost use Rattle.std.specs.Prelude.{◌≡◌, ◌+◌, ◌<◌, ◌≤◌, pos, length, IfSome, Some, ℤ};
 ghost use Rattle.jiff_core.specs.Calendar.{IsEpochDay};
 ghost use Rattle.ssq_time.specs.Time.{day_number, day_at_head, second_number, second_behind_day, micros_written, micros_of, moment, IsLineTime, IsStampTime, time_of, stamp_text, six_micros_of, stamp_micros_of, stamp_of};
 
@@ -29,6 +29,7 @@ fn day_from(first: u16, last: u16, year: u16, month: u8, day: u8) -> Option<i32>
 
 /// `YYYY-MM-DD` at the head of a text.
 #[tactic(auto, unfolding(crate::specs::Time::day_at_head))]
+#[inline(always)]
 fn day_at(first: u16, last: u16, text: &[u8]) -> Option<i32>
     requires years { last ≤ 9999 }
     requires room { 20 ≤ length text.now }
@@ -61,6 +62,7 @@ fn second_from(hour: u8, minute: u8, second: u8) -> Option<u32>
 
 /// `THH:MM:SS` behind the day.
 #[tactic(auto, unfolding(crate::specs::Time::second_behind_day))]
+#[inline(always)]
 fn second_at(text: &[u8]) -> Option<u32>
     requires { 20 ≤ length text.now }
     ensures value { result ≡ second_behind_day text.now }
@@ -78,6 +80,7 @@ fn second_at(text: &[u8]) -> Option<u32>
 
 /// A point and `written` digits behind the seconds: microseconds.
 #[tactic(auto, unfolding(crate::specs::Time::micros_written))]
+#[inline(always)]
 fn micros_from(written: usize, text: &[u8]) -> Option<u32>
     requires { 20 + written ≤ length text.now }
     ensures value { result ≡ micros_written written text.now }
@@ -198,11 +201,11 @@ pub fn read_time(text: &[u8]) -> Option<i64>
 
 /// The time whose text `time_text` prints so, and `None` where it prints no such text: a fraction
 /// stands only where it isn't 0, and then with six digits, and the year is one of 0001 to 9999.
-#[tactic(auto, using(crate::proofs::Printed::stamp_if_some, crate::proofs::Printed::stamp_if_none))]
+#[tactic(auto, using(crate::proofs::Printed::stamp_if_some))]
 pub fn read_stamp(text: &[u8]) -> Option<i64>
     ensures value { result ≡ stamp_of text.now }
     ensures printed { IfSome result (λ t. (text.now ≡ stamp_text t) × IsStampTime t) }
-    ensures other { IfNone result ((t : ℤ) → IsStampTime t → text.now ≢ stamp_text t) }
+    ensures each { (t : ℤ) → IsStampTime t → text.now ≡ stamp_text t → result ≡ Some t }
 {
     stamp_in(text)
 }

@@ -2,7 +2,7 @@
 use super::{read_span, read_stamp, read_time, time_text};
 use std::test::Fail;
 
-const TIMES: [(&str, Option<i64>); 81] = [
+static TIMES: [(&str, Option<i64>); 81] = [
     ("2024-01-01T00:00:00Z", Some(1_704_067_200_000_000)),
     ("1970-01-01T00:00:00.5Z", Some(500_000)),
     ("2024-02-30T00:00:00Z", None),
@@ -86,7 +86,7 @@ const TIMES: [(&str, Option<i64>); 81] = [
     ("1970-01-01T00:00:00Z", Some(0)),
 ];
 
-const STAMPS: [(i64, &str); 39] = [
+static STAMPS: [(i64, &str); 39] = [
     (500_000, "1970-01-01T00:00:00.500000Z"),
     (0, "1970-01-01T00:00:00Z"),
     (-1, "1969-12-31T23:59:59.999999Z"),
@@ -129,7 +129,7 @@ const STAMPS: [(i64, &str); 39] = [
 ];
 
 /// Texts that are not printed of any time.
-const OTHERS: [&str; 13] = [
+static OTHERS: [&str; 13] = [
     "1970-01-01T00:00:00.5Z",
     "1970-01-01T00:00:00.000000Z",
     "1970-01-01T00:00:00.50000Z",
@@ -145,7 +145,7 @@ const OTHERS: [&str; 13] = [
     "",
 ];
 
-const SPANS: [(&str, Option<i64>); 32] = [
+static SPANS: [(&str, Option<i64>); 32] = [
     ("10 minutes", Some(600_000_000)),
     ("1 day", Some(86_400_000_000)),
     ("0 seconds", None),
@@ -181,24 +181,32 @@ const SPANS: [(&str, Option<i64>); 32] = [
 ];
 
 #[test]
-fn reads_and_prints(rt: HostRuntime) -> Result<(), Fail> {
-    for (text, time) in TIMES {
-        assert_eq!(rt; read_time(text.as_bytes()), time, "{text}");
+fn reads_times(rt: HostRuntime) {
+    for (text, time) in &TIMES {
+        assert_eq!(rt; read_time(text.as_bytes()), *time, "{text}");
     }
-    for (time, text) in STAMPS {
-        assert!(rt; -62_135_596_800_000_000 <= time && time <= 253_402_300_799_999_999);
+}
+
+#[test]
+fn prints_and_reads_stamps(rt: HostRuntime) -> Result<(), Fail> {
+    for (time, text) in &STAMPS {
+        assert!(rt; -62_135_596_800_000_000 <= *time && *time <= 253_402_300_799_999_999);
         assert_eq!(rt;
-            time_text(rt.alloc(), time)?.as_slice(),
+            time_text(rt.alloc(), *time)?.as_slice(),
             text.as_bytes(),
             "{text}"
         );
-        assert_eq!(rt; read_stamp(text.as_bytes()), Some(time), "{text}");
+        assert_eq!(rt; read_stamp(text.as_bytes()), Some(*time), "{text}");
     }
-    for text in OTHERS {
+    for text in &OTHERS {
         assert_eq!(rt; read_stamp(text.as_bytes()), None, "{text}");
     }
-    for (text, span) in SPANS {
-        assert_eq!(rt; read_span(text.as_bytes()), span, "{text}");
-    }
     Ok(())
+}
+
+#[test]
+fn reads_spans(rt: HostRuntime) {
+    for (text, span) in &SPANS {
+        assert_eq!(rt; read_span(text.as_bytes()), *span, "{text}");
+    }
 }

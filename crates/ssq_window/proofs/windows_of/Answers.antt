@@ -1,6 +1,5 @@
-use Rattle.std.proofs.Common.{FitsSigned, w64, to_z-of_z, arith, ◌≡◌, ◌∙◌, ap, ◌+◌, ◌-◌, ◌*◌, ◌-ℤ◌, pos, unsigned_abs}
+use Rattle.std.proofs.Common.{FitsSigned, w64, to_z-of_z, arith}
 use Rattle.ssq_time.proofs.Signed.{signed_arith, signed_casts}
-use Rattle.ssq_window.specs.Window.{rest_of, window_count, first_start}
 use Rattle.ssq_window.proofs.Windows.{windows_of_parts, first_start_of_parts}
 use Rattle.ssq_window.proofs.windows_of.Goals as goal
 
