@@ -11,3 +11,6 @@ pub use bad_row::BadRow;
 pub use heads::Heads;
 pub use line::{MAX_LINE, read_row};
 pub use written::{put_row, row_text};
+
+#[cfg(test)]
+mod tests;

@@ -3,7 +3,7 @@
 ghost use Rattle.std.specs.Prelude.{◌≡◌, ◌≢◌, Some, None, Ok, Err, IfSome, IfOk, IfErr};
 ghost use Rattle.std.specs.List.{list_all};
 ghost use Rattle.serde_json.specs.View.{view};
-ghost use Rattle.ssq_json.specs.Fits.{FitsSchema};
+ghost use Rattle.ssq_json.specs.Fits.{BlamesColumn, FitsSchema};
 ghost use Rattle.ssq_json.specs.Line.{is_blank, json_of, lacks_time, row_of};
 
 use crate::bad_row::BadRow;
@@ -25,6 +25,7 @@ pub fn read_row(alloc: Global, line: &[u8], schema: &Schema) -> Result<Option<Ro
     ensures ok { IfOk result (λ row. row_of schema.now line.now ≡ Ok row) }
     ensures err { IfErr result
         (λ bad. bad ≢ BadRow.NoMemory → row_of schema.now line.now ≡ Err bad) }
+    ensures column { IfErr result (BlamesColumn schema.now.columns) }
     ensures fits { IfOk result (λ row. IfSome row (FitsSchema schema.now)) }
 {
     if line.len() > MAX_LINE {

@@ -4,3 +4,6 @@
 mod epoch;
 
 pub use epoch::{epoch_text, order_is_free};
+
+#[cfg(test)]
+mod tests;
