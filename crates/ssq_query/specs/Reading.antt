@@ -1,5 +1,5 @@
 -- How the code reads words, from the left: a value and the words behind it, or none.
-use Rattle.std.specs.Prelude.{◌≡◌, ℕ, zero, suc, ◌-◌, Bool, true, false, ◌&&◌, if◌then◌else◌, List, [], ◌∷◌, ◌++◌, length, drop, map, Option, Some, None, Result, Ok, Err, is_some}
+use Rattle.std.specs.Prelude.{◌≡◌, ℕ, zero, suc, ◌-◌, Bool, true, false, ◌&&◌, if◌then◌else◌, List, [], ◌∷◌, ◌++◌, length, drop, map, position, Option, Some, None, Result, Ok, Err, is_some}
 use Rattle.std.specs.Option.{option_map}
 use Rattle.std.specs.Str.{bytes_eq}
 use denote.Enum.Bare.{sameb}
@@ -89,8 +89,7 @@ quoted_at other = None
 
 -- the place of a column in the declaration
 abbrev pub column_of : List ℕ → List (List ℕ) → Option ℕ
-column_of text [] = None
-column_of text (column ∷ columns) = if bytes_eq column text then Some 0 else option_map suc (column_of text columns)
+column_of text columns = position (λ column. bytes_eq column text) columns
 
 unfoldable pub term_at : List (List ℕ) → Words → Read Term
 term_at columns (name text ∷ rest) = option_map (λ at. (term.Column at, rest)) (column_of text columns)
@@ -117,7 +116,7 @@ step_then columns more words (Some operator) =
     term_at columns (drop 1 words) >>= (λ found. in_front (record { op = operator; term = found.0 }) (more found.1))
 
 -- so many further operands at most, and then no operator
-abbrev pub steps_at : List (List ℕ) → ℕ → Words → Read (List Step)
+unfoldable pub steps_at : List (List ℕ) → ℕ → Words → Read (List Step)
 steps_at columns zero words = if is_some (first_op words) then None else Some ([], words)
 steps_at columns (suc most) words = step_then columns (steps_at columns most) words (first_op words)
 
@@ -134,7 +133,7 @@ list_then more found =
     if is_symbol mark.Comma found.1 then in_front found.0 (more (drop 1 found.1)) else Some (found.0 ∷ [], found.1)
 
 -- one element at least, and at most so many
-abbrev pub list_at : {A : Type 0} → (Words → Read A) → ℕ → Words → Read (List A)
+unfoldable pub list_at : {A : Type 0} → (Words → Read A) → ℕ → Words → Read (List A)
 list_at one zero words = None
 list_at one (suc most) words = one words >>= list_then (list_at one most)
 
@@ -147,13 +146,13 @@ column_at words = do
   Some (found.0, bigint.1)
 
 -- an item without a label is a column alone
+abbrev pub bare_of : Term → List Step → Option Item
+bare_of (term.Column at) [] = Some (item.Column at)
+bare_of (term.Column at) (step ∷ steps) = None
+bare_of (term.Number n) steps = None
+
 abbrev pub bare : Sum → Words → Read Item
-bare sum words = bare_if sum.first sum.steps
-where
-  bare_if : Term → List Step → Read Item
-  bare_if (term.Column at) [] = Some (item.Column at, words)
-  bare_if (term.Column at) (step ∷ steps) = None
-  bare_if (term.Number n) steps = None
+bare sum words = option_map (λ found. (found, words)) (bare_of sum.first sum.steps)
 
 unfoldable pub label_at : Sum → Words → Read Item
 label_at sum words = do
