@@ -1,1 +1,4 @@
+pub mod Files
+pub mod Laws
+pub mod OutputNames
 pub mod Turns

@@ -1,3 +1,4 @@
+pub mod Fault
 pub mod File
 pub mod Names
 pub mod Reading

@@ -48,6 +48,12 @@ abbrev pub is_empty : Words → Bool
 is_empty [] = true
 is_empty (word ∷ words) = false
 
+-- what a call that reads all words answers, unless memory ran out
+abbrev pub Answers : {A : Type 0} → Option A → Result A QueryFault → Type 0
+Answers found (Ok x) = found ≡ Some x
+Answers found (Err NotYet) = found ≡ None
+Answers found (Err NoMemory) = Unit {0}
+
 -- ---- single words
 
 abbrev pub same_keyword : Keyword → Keyword → Bool

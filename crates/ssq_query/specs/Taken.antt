@@ -1,6 +1,6 @@
 -- Which queries are taken.
-use Rattle.std.specs.Prelude.{◌≡◌, ℕ, ◌+◌, ◌<◌, ◌≤◌, max, Bool, true, false, not, ◌&&◌, ◌||◌, List, [], ◌∷◌, length, IfSome}
-use Rattle.std.specs.List.{AllByRecursion}
+use Rattle.std.specs.Prelude.{◌≡◌, ℕ, ◌+◌, ◌<◌, ◌≤◌, max, Bool, true, not, ◌&&◌, List, [], ◌∷◌, length, IfSome}
+use Rattle.std.specs.List.{AllByRecursion, list_any}
 use Rattle.std.specs.Str.{bytes_eq}
 use Rattle.ssq_query.specs.declared.query.Filter.{Filter}
 use Rattle.ssq_query.specs.declared.query.Item.{Item}
@@ -14,8 +14,7 @@ use Rattle.ssq_query.specs.Names.{output_names}
 
 -- one of the names is this one
 abbrev pub has_name : List ℕ → List (List ℕ) → Bool
-has_name name [] = false
-has_name name (other ∷ names) = bytes_eq other name || has_name name names
+has_name name names = list_any (λ other. bytes_eq other name) names
 
 -- no two of the names are one
 abbrev pub are_distinct : List (List ℕ) → Bool

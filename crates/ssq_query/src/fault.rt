@@ -1,6 +1,7 @@
 ghost use Rattle.std.specs.Prelude.{◌≡◌};
 ghost use Rattle.ssq_query.specs.declared.fault.QueryFault.TheVariants.{NoMemory};
 
+use ssq_lex::LexFault;
 use std::alloc::AllocError;
 use thiserror::Error;
 
@@ -19,5 +20,20 @@ impl From<AllocError> for QueryFault {
 
     fn from(_error: AllocError) -> QueryFault {
         QueryFault::NoMemory
+    }
+}
+
+/// A file that is not cut into tokens is no query.
+impl From<LexFault> for QueryFault {
+    ghost use Rattle.std.specs.Prelude.{◌≡◌};
+    ghost use Rattle.ssq_query.specs.Fault.{query_fault};
+
+    ghost from_gives = { λ fault made. made ≡ query_fault fault };
+
+    fn from(fault: LexFault) -> QueryFault {
+        match fault {
+            LexFault::Refused { .. } => QueryFault::NotYet,
+            LexFault::NoMemory => QueryFault::NoMemory,
+        }
     }
 }

@@ -10,12 +10,15 @@
 //! ```
 #![tactic(auto)]
 
+mod apart;
 mod fault;
 mod parse;
 mod query;
+mod read;
 mod reader;
 mod sequence;
 
 pub use fault::QueryFault;
+pub use read::{one_query, read_query};
 pub use query::{Comparison, Filter, Item, Op, Query, Step, Sum, Term};
 pub use sequence::Sequence;

@@ -214,7 +214,7 @@ fn filter(
 }
 
 #[tactic(auto, unfolding(crate::specs::Reading::declaration_at))]
-fn read_declaration(alloc: Global, reader: &mut Reader<'_>) -> Result<Declaration, QueryFault>
+pub(crate) fn read_declaration(alloc: Global, reader: &mut Reader<'_>) -> Result<Declaration, QueryFault>
     ensures { Reads (λ x. x) (spec.declaration_at reader.old) result reader.new }
 {
     reader.keyword(Keyword::Create)?;
@@ -243,7 +243,7 @@ fn output(reader: &mut Reader<'_>) -> Result<(), QueryFault>
 }
 
 #[tactic(auto, unfolding(crate::specs::Reading::selection_at))]
-fn read_selection(
+pub(crate) fn read_selection(
     alloc: Global,
     reader: &mut Reader<'_>,
     columns: &[Text],
