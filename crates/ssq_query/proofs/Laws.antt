@@ -71,6 +71,12 @@ is_symbol-found s (number n ∷ rest) is = absurd (cc)
 is_symbol-found s (quoted text ∷ rest) is = absurd (cc)
 is_symbol-found s (symbol found ∷ rest) is = ap (λ j. symbol j ∷ rest) (symbol_found s found is)
 
+pub symbol_is : (s : Symbol) (rest : Words) → is_symbol s (symbol s ∷ rest) ≡ true
+symbol_is s rest = true_same symbol_type s s refl
+
+pub keyword_is : (k : Keyword) (rest : Words) → is_keyword k (keyword k ∷ rest) ≡ true
+keyword_is k rest = true_same keyword_type k k refl
+
 pub keyword_sound : (k : Keyword) (words : Words) (x : Unit {0} × Words) → keyword_at k words ≡ Some x → words ≡ keyword k ∷ x.1
 unfolding keyword_at
 keyword_sound k words x is =

@@ -1,4 +1,6 @@
 pub mod Files
 pub mod Laws
+pub mod Lists
 pub mod OutputNames
+pub mod Sums
 pub mod Turns

@@ -1,4 +1,5 @@
-use Rattle.ssq_query.proofs.Laws.{term_complete, quoted_complete, name_complete, quoted_sound, name_sound, term_sound, symbol_complete, symbol_sound, keyword_complete, keyword_sound}
+use Rattle.ssq_query.proofs.Lists.{list_sound, list_complete}
+use Rattle.ssq_query.proofs.Sums.{sum_sound, sum_complete}
 use Rattle.ssq_query.proofs.read.one_query.Goals as goal
 
 pub returns : goal.returns
