@@ -2,5 +2,6 @@ pub mod Files
 pub mod Laws
 pub mod Lists
 pub mod OutputNames
+pub mod Queries
 pub mod Sums
 pub mod Turns
