@@ -65,8 +65,8 @@ item_rest_sound columns words sum true x next read is =
     let l = bind_some (name_at (drop 1 sum.1)) _ x is in
     subst (ItemIs columns words) (some_same (item.Named sum.0 l.0.0, l.0.1) x l.2) (
       read.0
-      ∙ ap (λ ws. sum_words columns sum.0 ++ ws) (is_keyword-found As sum.1 next ∙ ap (λ ws. keyword As ∷ ws) (name_sound (drop 1 sum.1) l.0 l.1))
-      ∙ sym (append_assoc (sum_words columns sum.0) (keyword As ∷ name l.0.0 ∷ []) l.0.1),
+          ∙ ap (λ ws. sum_words columns sum.0 ++ ws) (is_keyword-found As sum.1 next ∙ ap (λ ws. keyword As ∷ ws) (name_sound (drop 1 sum.1) l.0 l.1))
+          ∙ sym (append_assoc (sum_words columns sum.0) (keyword As ∷ name l.0.0 ∷ []) l.0.1),
       (read.1, omega (arith, read.2)),
     )
 item_rest_sound columns words sum false x next read is =
@@ -165,8 +165,8 @@ condition_sound columns words x is =
     let s = symbol (comparison_symbol c.0.0) in
     subst (ConditionIs columns words) (some_same (record { left = l.0.0; comparison = c.0.0; right = r.0.0 }, r.0.1) x r.2) (
       left.0
-      ∙ ap (λ ws. sum_words columns l.0.0 ++ ws) (comparison_sound l.0.1 c.0 c.1 ∙ ap (λ ws. s ∷ ws) right.0)
-      ∙ sym (append_assoc (sum_words columns l.0.0) (s ∷ sum_words columns r.0.0) r.0.1),
+          ∙ ap (λ ws. sum_words columns l.0.0 ++ ws) (comparison_sound l.0.1 c.0 c.1 ∙ ap (λ ws. s ∷ ws) right.0)
+          ∙ sym (append_assoc (sum_words columns l.0.0) (s ∷ sum_words columns r.0.0) r.0.1),
       record { left = left.1; right = right.1; height = omega (arith, left.2, right.2) },
     )
 
@@ -228,18 +228,18 @@ declaration_sound words x is =
     let d : Declaration = record { stream = stream.0.0; columns = columns.0.0; source = source.0.0 } in
     let tail = symbol mark.RightParen ∷ keyword From ∷ quoted source.0.0 ∷ symbol mark.Semicolon ∷ [] in
     let tail_is =
-        symbol_sound mark.RightParen columns.0.1 closed.0 closed.1
-        ∙ ap (λ ws. symbol mark.RightParen ∷ ws) (keyword_sound From closed.0.1 from.0 from.1
-        ∙ ap (λ ws. keyword From ∷ ws) (quoted_sound from.0.1 source.0 source.1
-        ∙ ap (λ ws. quoted source.0.0 ∷ ws) (symbol_sound mark.Semicolon source.0.1 ended.0 ended.1))) in
+    symbol_sound mark.RightParen columns.0.1 closed.0 closed.1
+    ∙ ap (λ ws. symbol mark.RightParen ∷ ws) (keyword_sound From closed.0.1 from.0 from.1
+    ∙ ap (λ ws. keyword From ∷ ws) (quoted_sound from.0.1 source.0 source.1
+    ∙ ap (λ ws. quoted source.0.0 ∷ ws) (symbol_sound mark.Semicolon source.0.1 ended.0 ended.1))) in
     let written =
-        keyword_sound Create words create.0 create.1
-        ∙ ap (λ ws. keyword Create ∷ ws) (keyword_sound Stream create.0.1 declared.0 declared.1
-        ∙ ap (λ ws. keyword Stream ∷ ws) (name_sound declared.0.1 stream.0 stream.1
-        ∙ ap (λ ws. name stream.0.0 ∷ ws) (symbol_sound mark.LeftParen stream.0.1 opened.0 opened.1
-        ∙ ap (λ ws. symbol mark.LeftParen ∷ ws) (list.0
-        ∙ ap (λ ws. separated (map column_words columns.0.0) ++ ws) tail_is
-        ∙ sym (append_assoc (separated (map column_words columns.0.0)) tail ended.0.1))))) in
+    keyword_sound Create words create.0 create.1
+    ∙ ap (λ ws. keyword Create ∷ ws) (keyword_sound Stream create.0.1 declared.0 declared.1
+    ∙ ap (λ ws. keyword Stream ∷ ws) (name_sound declared.0.1 stream.0 stream.1
+    ∙ ap (λ ws. name stream.0.0 ∷ ws) (symbol_sound mark.LeftParen stream.0.1 opened.0 opened.1
+    ∙ ap (λ ws. symbol mark.LeftParen ∷ ws) (list.0
+    ∙ ap (λ ws. separated (map column_words columns.0.0) ++ ws) tail_is
+    ∙ sym (append_assoc (separated (map column_words columns.0.0)) tail ended.0.1))))) in
     subst (DeclarationIs words) (some_same (d, ended.0.1) x ended.2) (written, (list.2, list.3))
 
 declaration_complete : (d : Declaration) (rest : Words) → IsListed d.columns → declaration_at (declared_words d ++ rest) ≡ Some (d, rest)
@@ -324,13 +324,13 @@ selection_sound columns words x is =
     let front = separated (map (item_words columns) items.0.0) in
     let middle = keyword From ∷ name stream.0.0 ∷ filter_words columns filter.0.0 in
     let written =
-        keyword_sound Select words select.0 select.1
-        ∙ ap (λ ws. keyword Select ∷ ws) (list.0
-        ∙ ap (λ ws. front ++ ws) (keyword_sound From items.0.1 from.0 from.1
-        ∙ ap (λ ws. keyword From ∷ ws) (name_sound from.0.1 stream.0 stream.1
-        ∙ ap (λ ws. name stream.0.0 ∷ ws) (condition.0
-        ∙ ap (λ ws. filter_words columns filter.0.0 ++ ws) (output_sound filter.0.1 ended.0 ended.1))))
-        ∙ regrouped front middle output_words ended.0.1) in
+    keyword_sound Select words select.0 select.1
+    ∙ ap (λ ws. keyword Select ∷ ws) (list.0
+    ∙ ap (λ ws. front ++ ws) (keyword_sound From items.0.1 from.0 from.1
+    ∙ ap (λ ws. keyword From ∷ ws) (name_sound from.0.1 stream.0 stream.1
+    ∙ ap (λ ws. name stream.0.0 ∷ ws) (condition.0
+    ∙ ap (λ ws. filter_words columns filter.0.0 ++ ws) (output_sound filter.0.1 ended.0 ended.1))))
+    ∙ regrouped front middle output_words ended.0.1) in
     subst (SelectionIs columns words) (some_same (s, ended.0.1) x ended.2) (written, record { items = (list.2, list.3); each_item = list.1; condition = condition.1 })
 
 selection_complete : (columns : List (List ℕ)) (s : Selection) (rest : Words) → are_distinct columns ≡ true → IsSelected columns s → selection_at columns (selected_words columns s ++ rest) ≡ Some (s, rest)
@@ -374,10 +374,10 @@ query_sound words query is =
     let selected = selection_sound d.0.0.columns d.0.1 s.0 s.1 in
     subst (λ (found : Query). (words ≡ declaration_words found ++ selection_words found) × IsTaken found) test.1 (
       declared.0
-      ∙ ap (λ ws. declared_words d.0.0 ++ ws) (selected.0
-      ∙ ap (λ ws. selected_words d.0.0.columns s.0.0 ++ ws) (empty_is s.0.1 ended.0)
-      ∙ append-nil (selected_words d.0.0.columns s.0.0)
-      ∙ ap (λ stream. selected_words d.0.0.columns (record { items = s.0.0.items; stream = stream; filter = s.0.0.filter })) (sym same)),
+          ∙ ap (λ ws. declared_words d.0.0 ++ ws) (selected.0
+          ∙ ap (λ ws. selected_words d.0.0.columns s.0.0 ++ ws) (empty_is s.0.1 ended.0)
+          ∙ append-nil (selected_words d.0.0.columns s.0.0)
+          ∙ ap (λ stream. selected_words d.0.0.columns (record { items = s.0.0.items; stream = stream; filter = s.0.0.filter })) (sym same)),
       record {
         columns = declared.1;
         columns_apart = names.1;

@@ -19,6 +19,6 @@ mod reader;
 mod sequence;
 
 pub use fault::QueryFault;
-pub use read::{one_query, read_query};
 pub use query::{Comparison, Filter, Item, Op, Query, Step, Sum, Term};
+pub use read::{one_query, read_query};
 pub use sequence::Sequence;

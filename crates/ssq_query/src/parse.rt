@@ -181,11 +181,7 @@ fn comparison(reader: &mut Reader<'_>) -> Result<Comparison, QueryFault>
 }
 
 #[tactic(auto, unfolding(crate::specs::Reading::condition_at))]
-fn condition(
-    alloc: Global,
-    reader: &mut Reader<'_>,
-    columns: &[Text],
-) -> Result<Filter, QueryFault>
+fn condition(alloc: Global, reader: &mut Reader<'_>, columns: &[Text]) -> Result<Filter, QueryFault>
     ensures { Reads (λ x. x) (spec.condition_at columns.now reader.old) result reader.new }
 {
     let left = sum(alloc, reader, columns, MOST_STEPS - 1)?;
@@ -214,7 +210,10 @@ fn filter(
 }
 
 #[tactic(auto, unfolding(crate::specs::Reading::declaration_at))]
-pub(crate) fn read_declaration(alloc: Global, reader: &mut Reader<'_>) -> Result<Declaration, QueryFault>
+pub(crate) fn read_declaration(
+    alloc: Global,
+    reader: &mut Reader<'_>,
+) -> Result<Declaration, QueryFault>
     ensures { Reads (λ x. x) (spec.declaration_at reader.old) result reader.new }
 {
     reader.keyword(Keyword::Create)?;

@@ -76,5 +76,4 @@ pub fn read_query(alloc: Global, file: &[u8]) -> Result<Query, QueryFault>
 /// Two queries that are taken and written by the same words are one.
 pub fn one_query()
     ensures { HaveOneQuery }
-{
-}
+{}

@@ -57,10 +57,12 @@ impl<'a> Reader<'a> {
         ensures { result ≡ is_keyword wanted self.now }
     {
         match self.rest.first() {
-            Some(Token {
-                kind: Kind::Keyword(found),
-                ..
-            }) => *found == wanted,
+            Some(
+                Token {
+                    kind: Kind::Keyword(found),
+                    ..
+                },
+            ) => *found == wanted,
             _ => false,
         }
     }
@@ -69,10 +71,12 @@ impl<'a> Reader<'a> {
         ensures { result ≡ is_symbol wanted self.now }
     {
         match self.rest.first() {
-            Some(Token {
-                kind: Kind::Symbol(found),
-                ..
-            }) => *found == wanted,
+            Some(
+                Token {
+                    kind: Kind::Symbol(found),
+                    ..
+                },
+            ) => *found == wanted,
             _ => false,
         }
     }
