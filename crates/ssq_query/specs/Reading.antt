@@ -26,7 +26,7 @@ use Rattle.ssq_query.specs.declared.query.Step.{Step}
 use Rattle.ssq_query.specs.declared.query.Sum.{Sum}
 use Rattle.ssq_query.specs.declared.query.Term.{Term}
 use Rattle.ssq_query.specs.declared.query.Term.TheVariants as term
-use Rattle.ssq_query.specs.Names.{output_names}
+use Rattle.ssq_query.specs.Names.{output_names, bare_of}
 use Rattle.ssq_query.specs.Spelling.{Words}
 use Rattle.ssq_query.specs.Taken.{are_distinct}
 
@@ -152,11 +152,6 @@ column_at words = do
   Some (found.0, bigint.1)
 
 -- an item without a label is a column alone
-abbrev pub bare_of : Term → List Step → Option Item
-bare_of (term.Column at) [] = Some (item.Column at)
-bare_of (term.Column at) (step ∷ steps) = None
-bare_of (term.Number n) steps = None
-
 abbrev pub bare : Sum → Words → Read Item
 bare sum words = option_map (λ found. (found, words)) (bare_of sum.first sum.steps)
 

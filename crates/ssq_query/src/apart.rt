@@ -1,6 +1,6 @@
 //! Whether names are given twice.
 
-ghost use Rattle.std.specs.Prelude.{◌≡◌, map};
+ghost use Rattle.std.specs.Prelude.{◌≡◌, [], map, slice_index_or};
 ghost use Rattle.ssq_query.specs.Names.{output_name, output_names};
 ghost use Rattle.ssq_query.specs.Reading.{agrees};
 ghost use Rattle.std.specs.List.{list_any};
@@ -29,15 +29,22 @@ fn columns_apart(columns: &[Text]) -> bool
     true
 }
 
+/// The name of a declared column.
+pub(crate) fn column_name(columns: &[Text], at: usize) -> &str
+    ensures { result.now ≡ slice_index_or columns.now at [] }
+{
+    match columns.get(at) {
+        Some(column) => column.as_str(),
+        None => "",
+    }
+}
+
 /// The name under which SELECT gives an item.
-fn output_name<'q>(columns: &'q [Text], item: &'q Item) -> &'q str
+pub(crate) fn output_name<'q>(columns: &'q [Text], item: &'q Item) -> &'q str
     ensures { result.now ≡ output_name columns.now item.now }
 {
     match item {
-        Item::Column(at) => match columns.get(*at) {
-            Some(column) => column.as_str(),
-            None => "",
-        },
+        Item::Column(at) => column_name(columns, *at),
         Item::Named { name, .. } => name.as_str(),
     }
 }

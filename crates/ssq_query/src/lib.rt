@@ -13,10 +13,12 @@
 mod apart;
 mod fault;
 mod parse;
+mod printer;
 mod query;
 mod read;
 mod reader;
 mod sequence;
+mod text;
 
 pub use fault::QueryFault;
 pub use query::{Comparison, Filter, Item, Op, Query, Step, Sum, Term};

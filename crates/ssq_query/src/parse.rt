@@ -116,9 +116,9 @@ fn columns(alloc: Global, reader: &mut Reader<'_>) -> Result<Sequence<Text>, Que
     Err(QueryFault::NotYet)
 }
 
-/// An item without a label is a column alone.
-fn bare(sum: &Sum) -> Option<Item>
-    ensures { result ≡ spec.bare_of sum.now.first sum.now.steps }
+/// The item that a sum is without a label, if it is a column alone.
+pub(crate) fn bare(sum: &Sum) -> Option<Item>
+    ensures { result ≡ names.bare_of sum.now.first sum.now.steps }
 {
     match (sum.first, sum.steps.as_slice()) {
         (Term::Column(at), []) => Some(Item::Column(at)),
