@@ -11,6 +11,7 @@
 #![tactic(auto)]
 
 mod apart;
+mod canonical;
 mod fault;
 mod parse;
 mod printer;
@@ -18,9 +19,12 @@ mod query;
 mod read;
 mod reader;
 mod sequence;
-mod text;
 
+pub use canonical::text;
 pub use fault::QueryFault;
 pub use query::{Comparison, Filter, Item, Op, Query, Step, Sum, Term};
 pub use read::{one_query, read_query};
 pub use sequence::Sequence;
+
+#[cfg(test)]
+mod tests;

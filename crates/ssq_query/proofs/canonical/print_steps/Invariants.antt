@@ -2,7 +2,7 @@ use Rattle.std.proofs.Common.{◌≡◌, drop}
 use Rattle.std.specs.List.{flat_map}
 use Rattle.ssq_query.specs.Canonical.{with_words}
 use Rattle.ssq_query.specs.Spelling.{step_words}
-use Rattle.ssq_query.proofs.text.print_steps.Given as goal
+use Rattle.ssq_query.proofs.canonical.print_steps.Given as goal
 
 abbrev pub invariant-loop-step : goal.invariant-loop-step
 invariant-loop-step l =
