@@ -1,1 +1,4 @@
+pub mod Canonical
+pub mod Fault
+pub mod File
 pub mod Names

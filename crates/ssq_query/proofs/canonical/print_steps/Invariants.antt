@@ -1,0 +1,9 @@
+use Rattle.std.proofs.Common.{◌≡◌, drop}
+use Rattle.std.specs.List.{flat_map}
+use Rattle.ssq_query.specs.Canonical.{with_words}
+use Rattle.ssq_query.specs.Spelling.{step_words}
+use Rattle.ssq_query.proofs.canonical.print_steps.Given as goal
+
+abbrev pub invariant-loop-step : goal.invariant-loop-step
+invariant-loop-step l =
+    with_words l.printer (flat_map (step_words l.columns) (drop l.step-index l.steps)) ≡ with_words l.fn.printer (flat_map (step_words l.columns) l.steps)

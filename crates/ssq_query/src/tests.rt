@@ -1,0 +1,163 @@
+use super::*;
+use ssq_value::Text;
+use std::alloc::Global;
+use std::test::Fail;
+
+/// The canonical text of a file, or `not yet`.
+fn shown(alloc: Global, file: &[u8]) -> Result<Text, Fail> {
+    match read_query(alloc, file) {
+        Ok(query) => Ok(text(alloc, &query)?),
+        Err(QueryFault::NotYet) => Ok(Text::from_str(alloc, "not yet")?),
+        Err(QueryFault::NoMemory) => Ok(Text::from_str(alloc, "no memory")?),
+    }
+}
+
+const FIRST: &str =
+    "CREATE STREAM s (id BIGINT, v BIGINT) FROM 's'; SELECT id, v + 1 AS w FROM s WHERE v > 10 OUTPUT APPEND;";
+
+#[test]
+fn reads_files(rt: HostRuntime) -> Result<(), Fail> {
+    let rows = [
+        (FIRST, FIRST),
+        (
+            "create Stream s(id bigint,v BIGINT)from 's';\r\n\tSELECT id,v+001 As w -- the sum\nFROM s WHERE v>10 OUTPUT APPEND ;",
+            FIRST,
+        ),
+        (
+            "CREATE STREAM a (v BIGINT) FROM 'it''s'; SELECT v AS v, v - 1 + v AS w, 7 AS x FROM a WHERE 1 != v + v OUTPUT APPEND;",
+            "CREATE STREAM a (v BIGINT) FROM 'it''s'; SELECT v, v - 1 + v AS w, 7 AS x FROM a WHERE 1 <> v + v OUTPUT APPEND;",
+        ),
+        (
+            "CREATE STREAM a (v BIGINT) FROM ''; SELECT v + 0 AS v FROM a OUTPUT APPEND;",
+            "CREATE STREAM a (v BIGINT) FROM ''; SELECT v + 0 AS v FROM a OUTPUT APPEND;",
+        ),
+        // Not of the grammar.
+        ("", "not yet"),
+        ("CREATE STREAM a (v BIGINT) FROM 'a';", "not yet"),
+        (
+            "CREATE STREAM a () FROM 'a'; SELECT 1 AS x FROM a OUTPUT APPEND;",
+            "not yet",
+        ),
+        (
+            "CREATE STREAM a (v STRING) FROM 'a'; SELECT v FROM a OUTPUT APPEND;",
+            "not yet",
+        ),
+        (
+            "CREATE STREAM a (v BIGINT) FROM 'a'; SELECT v FROM a OUTPUT APPEND",
+            "not yet",
+        ),
+        (
+            "CREATE STREAM a (v BIGINT) FROM 'a'; SELECT v FROM a OUTPUT UPDATE;",
+            "not yet",
+        ),
+        (
+            "CREATE STREAM a (v BIGINT) FROM 'a'; SELECT v FROM a OUTPUT APPEND; ;",
+            "not yet",
+        ),
+        (
+            "CREATE STREAM a (v BIGINT) FROM 'a'; SELECT v + 1 FROM a OUTPUT APPEND;",
+            "not yet",
+        ),
+        (
+            "CREATE STREAM a (v BIGINT) FROM 'a'; SELECT v + AS w FROM a OUTPUT APPEND;",
+            "not yet",
+        ),
+        (
+            "CREATE STREAM a (v BIGINT) FROM 'a'; SELECT (v) AS w FROM a OUTPUT APPEND;",
+            "not yet",
+        ),
+        (
+            "CREATE STREAM a (v BIGINT) FROM 'a'; SELECT v AS count FROM a OUTPUT APPEND;",
+            "not yet",
+        ),
+        (
+            "CREATE STREAM a (v BIGINT) FROM 'a'; SELECT v FROM a WHERE v BETWEEN 1 AND 2 OUTPUT APPEND;",
+            "not yet",
+        ),
+        // Not of the tokens.
+        (
+            "CREATE STREAM a (v BIGINT) FROM 'a; SELECT v FROM a OUTPUT APPEND;",
+            "not yet",
+        ),
+        (
+            "CREATE STREAM a (v BIGINT) FROM 'a'; SELECT v FROM a WHERE v = 9223372036854775808 OUTPUT APPEND;",
+            "not yet",
+        ),
+        // Names that are unknown or given twice.
+        (
+            "CREATE STREAM a (v BIGINT) FROM 'a'; SELECT w FROM a OUTPUT APPEND;",
+            "not yet",
+        ),
+        (
+            "CREATE STREAM a (v BIGINT) FROM 'a'; SELECT v FROM b OUTPUT APPEND;",
+            "not yet",
+        ),
+        (
+            "CREATE STREAM a (v BIGINT, v BIGINT) FROM 'a'; SELECT 1 AS x FROM a OUTPUT APPEND;",
+            "not yet",
+        ),
+        (
+            "CREATE STREAM a (v BIGINT) FROM 'a'; SELECT v, 1 AS v FROM a OUTPUT APPEND;",
+            "not yet",
+        ),
+    ];
+    for (file, want) in rows {
+        let found = shown(rt.alloc(), file.as_bytes())?;
+        assert_eq!(rt; found.as_str(), want, "at {file}");
+    }
+    assert_eq!(rt; FIRST.len(), 104);
+    let found = shown(rt.alloc(), b"-- \xff")?;
+    assert_eq!(rt; found.as_str(), "not yet");
+    Ok(())
+}
+
+/// So many operands of a sum.
+fn operands(alloc: Global, count: usize) -> Result<String, Fail> {
+    let mut sum = String::from_str(alloc, "v")?;
+    for _turn in 1..count {
+        sum.push_str(" - v")?;
+    }
+    Ok(sum)
+}
+
+#[test]
+fn keeps_limits(rt: HostRuntime) -> Result<(), Fail> {
+    let alloc = rt.alloc();
+    for (count, left, right, is_taken) in [
+        (64, 63, 63, true),
+        (65, 1, 1, false),
+        (1, 64, 1, false),
+        (1, 1, 64, false),
+    ] {
+        let item = operands(alloc, count)?;
+        let left = operands(alloc, left)?;
+        let right = operands(alloc, right)?;
+        let file = format!(in alloc;
+            "CREATE STREAM a (v BIGINT) FROM 'a'; SELECT {item} AS w FROM a WHERE {left} < {right} OUTPUT APPEND;"
+        )?;
+        let found = shown(alloc, file.as_str().as_bytes())?;
+        let is_read = found.as_str() == file.as_str();
+        assert_eq!(rt; is_read, is_taken, "at {count}");
+    }
+    for (count, is_taken) in [(64, true), (65, false)] {
+        let mut columns = String::from_str(alloc, "c0 BIGINT")?;
+        for turn in 1..count {
+            write!(columns, ", c{turn} BIGINT")?;
+        }
+        let file = format!(in alloc;
+            "CREATE STREAM a ({columns}) FROM 'a'; SELECT c0 FROM a OUTPUT APPEND;"
+        )?;
+        let found = shown(alloc, file.as_str().as_bytes())?;
+        let is_read = found.as_str() == file.as_str();
+        assert_eq!(rt; is_read, is_taken, "at {count} columns");
+    }
+    for (bytes, want) in [(65_536, FIRST), (65_537, "not yet")] {
+        let mut file = String::from_str(alloc, FIRST)?;
+        for _turn in FIRST.len()..bytes {
+            file.push_str(" ")?;
+        }
+        let found = shown(alloc, file.as_str().as_bytes())?;
+        assert_eq!(rt; found.as_str(), want, "at {bytes} bytes");
+    }
+    Ok(())
+}
