@@ -1,0 +1,16 @@
+//! The outside in memory, for tests: a disk, inputs, logs and an output that tell what they hold, each with a list
+//! of calls that are to fail, and a gate that is open.
+//!
+//! An object without such a list never fails (`sure`, of the traits). A call that is to fail raises the object's
+//! count of faults, answers the fault and does nothing else. Calls are counted from 0 on each object, those that have
+//! a fault to give.
+#![tactic(auto)]
+
+mod faults;
+mod gate;
+mod log;
+mod output;
+
+pub use gate::OpenGate;
+pub use log::MemLog;
+pub use output::MemOut;
