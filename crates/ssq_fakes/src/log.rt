@@ -1,6 +1,6 @@
 //! A log in memory.
 
-ghost use Rattle.std.specs.Prelude.{◌≡◌, ◌≤◌, [], ⊤, length, map, replicate, take, IfOk, OnOk, slice_get, option_map};
+ghost use Rattle.std.specs.Prelude.{◌≡◌, ◌≤◌, [], ⊤, length, map, replicate, take, IfNone, IfOk, OnOk, OnErr, Err, slice_get, option_map};
 ghost use Rattle.ssq_outside.specs.Faults.{StaysSure};
 
 use crate::faults::Faults;
@@ -34,7 +34,8 @@ impl Lines {
     }
 
     fn get(&self, at: u64) -> Option<&[u8]>
-        ensures { option_map (λ line. line.now) result ≡ slice_get (lines_of self.now) at }
+        ensures found { option_map (λ line. line.now) result ≡ slice_get (lines_of self.now) at }
+        ensures none { IfNone result (length (lines_of self.now) ≤ at) }
     {
         match self {
             Lines::Each(lines) => {
@@ -60,7 +61,7 @@ pub struct MemLog {
 }
 
 impl MemLog {
-    ghost use Rattle.ssq_fakes.specs.Logs.{log_lines, log_faults, whole_lines};
+    ghost use Rattle.ssq_fakes.specs.Logs.{lines_of, log_lines, log_faults, whole_lines};
 
     /// These lines, without their ends. It never fails. Where memory runs out they are lost.
     pub fn of(alloc: Global, lines: Vec<Vec<u8>>) -> Result<Self, AllocError>
@@ -121,7 +122,7 @@ impl MemLog {
     }
 
     fn holding(alloc: Global, lines: Lines) -> Result<Self, AllocError>
-        ensures lines { IfOk result (λ log. arc_value log.lines ≡ lines) }
+        ensures lines { IfOk result (λ log. log_lines log ≡ lines_of lines) }
         ensures count { IfOk result (λ log. log_faults log ≡ 0) }
         ensures sure { IfOk result (λ log. ⟦<MemLog as Log>⟧.sure log) }
     {
@@ -156,23 +157,32 @@ impl Log for MemLog {
         if self.faults.fails() {
             return Err(LineError::Fault);
         }
-        match self.lines.get(at) {
-            Some(line) => refill(into, line),
+        let lines: &Lines = &self.lines;
+        match lines.get(at) {
+            Some(line) => Ok(refill(into, front(line, LONGEST))?),
             None => Err(LineError::Short {
-                found: self.lines.count(),
+                found: lines.count(),
             }),
         }
     }
 }
 
-/// Puts the front of a line into the buffer, in place of what it held.
-fn refill(into: &mut Vec<u8>, line: &[u8]) -> Result<(), LineError>
-    ensures ok { OnOk result (into.new.items ≡ take 1048577 line.now) }
-    ensures cap { OnOk result (length into.new.items ≤ 1048577) }
+/// At most so many bytes of a line, from its front.
+#[tactic(auto, using(crate::proofs::WholeLines::front_steps))]
+fn front(line: &[u8], most: usize) -> &[u8]
+    ensures bytes { result.now ≡ take most line.now }
+    ensures cap { length result.now ≤ most }
+{
+    &line[..line.len().min(most)]
+}
+
+/// Puts the bytes into the buffer, in place of what it held.
+fn refill(into: &mut Vec<u8>, bytes: &[u8]) -> Result<(), LineError>
+    ensures ok { OnOk result (into.new.items ≡ bytes.now) }
     ensures err { OnErr result (result ≡ Err LineError.NoMemory) }
 {
     into.clear();
-    match into.extend_from_slice(&line[..line.len().min(LONGEST)]) {
+    match into.extend_from_slice(bytes) {
         Ok(()) => Ok(()),
         Err(_) => Err(LineError::NoMemory),
     }
