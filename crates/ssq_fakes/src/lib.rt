@@ -8,9 +8,11 @@
 
 mod faults;
 mod gate;
+mod inputs;
 mod log;
 mod output;
 
 pub use gate::OpenGate;
+pub use inputs::MemInputs;
 pub use log::MemLog;
 pub use output::MemOut;

@@ -57,7 +57,7 @@ impl Lines {
 #[derive(Drop)]
 pub struct MemLog {
     lines: Arc<Lines>,
-    faults: Faults<Vec<u64>>,
+    pub(crate) faults: Faults<Vec<u64>>,
 }
 
 impl MemLog {
@@ -167,13 +167,13 @@ impl Log for MemLog {
     }
 }
 
-/// At most so many bytes of a line, from its front.
+/// At most so many of these bytes, from the front.
 #[tactic(auto, using(crate::proofs::WholeLines::front_steps))]
-fn front(line: &[u8], most: usize) -> &[u8]
-    ensures bytes { result.now ≡ take most line.now }
+pub(crate) fn front(bytes: &[u8], most: usize) -> &[u8]
+    ensures bytes { result.now ≡ take most bytes.now }
     ensures cap { length result.now ≤ most }
 {
-    &line[..line.len().min(most)]
+    &bytes[..bytes.len().min(most)]
 }
 
 /// Puts the bytes into the buffer, in place of what it held.

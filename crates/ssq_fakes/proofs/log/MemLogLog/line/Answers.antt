@@ -1,4 +1,4 @@
-use Rattle.std.proofs.Common.{◌≡◌, ◌∙◌, sym, arith}
+use Rattle.std.proofs.Common.{◌∙◌, sym}
 use Rattle.ssq_fakes.proofs.log.MemLogLog.line.Goals as goal
 
 pub returns-in_ok-refill-in-Some-clause-bytes : goal.returns-in_ok-refill-in-Some-clause-bytes
