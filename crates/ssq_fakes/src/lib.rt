@@ -11,6 +11,7 @@ mod gate;
 mod inputs;
 mod log;
 mod output;
+mod record;
 
 pub use gate::OpenGate;
 pub use inputs::MemInputs;
