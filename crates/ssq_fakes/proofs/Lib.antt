@@ -1,2 +1,6 @@
+pub mod Histories
+pub mod NameLists
+pub mod NameOrder
 pub mod Parts
+pub mod Rooms
 pub mod WholeLines

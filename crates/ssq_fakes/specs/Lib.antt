@@ -1,4 +1,6 @@
+pub mod Disks
 pub mod Inputs
 pub mod Logs
+pub mod Names
 pub mod Outputs
 pub mod Records

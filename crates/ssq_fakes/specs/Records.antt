@@ -1,5 +1,5 @@
 -- The record of a disk in memory: its events, the newest first.
-use Rattle.std.specs.Prelude.{Bool, true, false, List, [], ◌∷◌, not, None, Some, if◌then◌else◌}
+use Rattle.std.specs.Prelude.{Bool, true, false, List, [], ◌∷◌, not, Option, None, Some, if◌then◌else◌}
 use Rattle.ssq_outside.specs.declared.name.Name.{Name}
 use Rattle.ssq_outside.specs.Files.{same_name, Content, Had, files_of, added, changed, settled_at}
 use Rattle.ssq_fakes.specs.declared.record.Event.{Event}
@@ -27,6 +27,12 @@ abbrev pub is_about : Event → Name → Bool
 is_about (Put name bytes) q = same_name q name
 is_about (Gone name) q = same_name q name
 is_about Synced q = false
+
+-- the name that an event changes
+abbrev pub name_of : Event → Option Name
+name_of (Put name bytes) = Some name
+name_of (Gone name) = Some name
+name_of Synced = None
 
 -- what an event puts at its name
 abbrev pub content_of : Event → Content

@@ -54,8 +54,17 @@ impl<P: Plan> Faults<P> {
         let fails = self.plan.has(self.calls);
         self.calls = self.calls.saturating_add(1);
         if fails {
-            self.count = self.count.saturating_add(1);
+            self.raise();
         }
         fails
+    }
+
+    /// Counts a fault.
+    pub fn raise(&mut self)
+        ensures plan { self.new.plan ≡ self.old.plan }
+        ensures rises { Rises self.old.count self.new.count }
+        ensures counted { self.old.count ≤ self.new.count }
+    {
+        self.count = self.count.saturating_add(1);
     }
 }

@@ -6,13 +6,16 @@
 //! a fault to give.
 #![tactic(auto)]
 
+mod disk;
 mod faults;
 mod gate;
 mod inputs;
 mod log;
+mod names;
 mod output;
 mod record;
 
+pub use disk::{FailAt, MemDisk, MemFile, MemStage};
 pub use gate::OpenGate;
 pub use inputs::MemInputs;
 pub use log::MemLog;

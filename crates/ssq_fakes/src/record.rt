@@ -1,8 +1,10 @@
 //! The record of a disk in memory.
 
-ghost use Rattle.std.specs.Prelude.{◌≡◌, ◌+◌, [], ◌∷◌, length, drop, option_map, MatchOption};
+ghost use Rattle.std.specs.Prelude.{◌≡◌, ◌+◌, [], ◌∷◌, length, drop, filter, option_map, is_some, IfOk, MatchOption};
 
+use crate::names::insert_some;
 use ssq_outside::Name;
+use std::alloc::{AllocError, Global};
 use std::mem;
 
 /// What changed on a disk.
@@ -17,7 +19,7 @@ pub enum Event {
 }
 
 impl Event {
-    ghost use Rattle.ssq_fakes.specs.Records.{is_about, content_of, is_sync};
+    ghost use Rattle.ssq_fakes.specs.Records.{is_about, name_of, content_of, is_sync};
 
     pub fn is_about(&self, name: Name) -> bool
         ensures { result ≡ is_about self.now name }
@@ -26,6 +28,17 @@ impl Event {
             Event::Put(of, _) => name.is(*of),
             Event::Gone(of) => name.is(*of),
             Event::Synced => false,
+        }
+    }
+
+    /// The name that it changes.
+    pub fn name(&self) -> Option<Name>
+        ensures { result ≡ name_of self.now }
+    {
+        match self {
+            Event::Put(name, _) => Some(*name),
+            Event::Gone(name) => Some(*name),
+            Event::Synced => None,
         }
     }
 
@@ -68,6 +81,7 @@ impl Drop for Record {
 
 impl Record {
     ghost use Rattle.ssq_fakes.specs.Records.{events_of, content_in, is_unsettled, is_changed_in};
+    ghost use Rattle.ssq_fakes.specs.Names.{names_from};
 
     /// Adds an event in this room.
     pub fn push(&mut self, event: Event, mut room: Box<Record>)
@@ -125,6 +139,13 @@ impl Record {
         None
     }
 
+    /// Whether a file stands at the name.
+    pub fn has(&self, name: Name) -> bool
+        ensures { result ≡ is_some (content_in (events_of self.now) name) }
+    {
+        self.content(name).is_some()
+    }
+
     /// Whether something changed since the last sync.
     pub fn is_unsettled(&self) -> bool
         ensures { result ≡ is_unsettled (events_of self.now) }
@@ -151,5 +172,44 @@ impl Record {
             at = older;
         }
         false
+    }
+
+    /// The names that ever changed, each once, in their order.
+    fn names(&self, alloc: Global) -> Result<Vec<Name>, AllocError>
+        ensures { IfOk result (λ names. names.items ≡ names_from [] (events_of self.now)) }
+    {
+        let mut names = Vec::new(alloc);
+        let mut at = self;
+        while let Record::Then(event, older) = at {
+            insert_some(&mut names, event.name())?;
+            at = older;
+        }
+        Ok(names)
+    }
+
+    /// The names that have a file, each once, in their order.
+    pub fn present(&self, alloc: Global) -> Result<Vec<Name>, AllocError>
+        ensures { IfOk result (λ names. names.items ≡ filter (λ q. is_some (content_in (events_of self.now) q)) (names_from [] (events_of self.now))) }
+    {
+        let mut present = Vec::new(alloc);
+        for name in &self.names(alloc)? {
+            if self.has(*name) {
+                present.push(*name)?;
+            }
+        }
+        Ok(present)
+    }
+
+    /// The names that changed since the last sync, each once, in their order.
+    pub fn changed(&self, alloc: Global) -> Result<Vec<Name>, AllocError>
+        ensures { IfOk result (λ names. names.items ≡ filter (λ q. is_changed_in (events_of self.now) q) (names_from [] (events_of self.now))) }
+    {
+        let mut changed = Vec::new(alloc);
+        for name in &self.names(alloc)? {
+            if self.is_changed(*name) {
+                changed.push(*name)?;
+            }
+        }
+        Ok(changed)
     }
 }
