@@ -1,3 +1,4 @@
+pub mod Crashes
 pub mod Histories
 pub mod NameLists
 pub mod NameOrder

@@ -148,7 +148,7 @@ has_names-kept [] q names has = has
 has_names-kept (event ∷ older) q names has = has_names-kept older q (with_some (name_of event) names) (has_some-kept event q names has)
 
 -- an event changes the name
-abbrev is_mentioned : List Event → Name → Bool
+abbrev pub is_mentioned : List Event → Name → Bool
 is_mentioned [] q = false
 is_mentioned (event ∷ older) q = if is_about event q then true else is_mentioned older q
 
@@ -157,7 +157,7 @@ mention_by : (b r : Bool) (event : Event) (older : List Event) (q : Name) (names
 mention_by true r event older q names about there later = has_names-kept older q (with_some (name_of event) names) (has_some event q names about)
 mention_by false r event older q names about there later = later there
 
-mentioned : (events : List Event) (q : Name) (names : List Name) → is_mentioned events q ≡ true → has_name (names_from names events) q ≡ true
+pub mentioned : (events : List Event) (q : Name) (names : List Name) → is_mentioned events q ≡ true → has_name (names_from names events) q ≡ true
 mentioned [] q names there = cc
 mentioned (event ∷ older) q names there = mention_by (is_about event q) true event older q names refl there (mentioned older q (with_some (name_of event) names))
 

@@ -1,3 +1,4 @@
+pub mod Crashes
 pub mod Disks
 pub mod Inputs
 pub mod Logs

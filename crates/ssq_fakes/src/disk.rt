@@ -1,10 +1,12 @@
 //! A disk in memory.
 
-ghost use Rattle.std.specs.Prelude.{◌≡◌, ◌+◌, ◌-◌, ◌^◌, ◌≤◌, ◌⊎◌, [], ◌∷◌, ⊤, None, length, option_map, IfOk, OnOk, OnErr};
+ghost use Rattle.std.specs.Prelude.{◌≡◌, ◌+◌, ◌-◌, ◌^◌, ◌≤◌, ◌⊎◌, [], ◌∷◌, ⊤, None, length, min, slice_index, option_map, IfOk, OnOk, OnErr};
 ghost use Rattle.ssq_outside.specs.Faults.{Rises};
-ghost use Rattle.ssq_fakes.specs.Records.{events_of, had_after};
+ghost use Rattle.ssq_fakes.specs.Records.{events_of};
+ghost use Rattle.ssq_fakes.specs.Crashes.{EachImageIsPicked};
 
 use crate::faults::{Faults, Plan};
+use crate::names::index_of;
 use crate::record::{Event, Record};
 use ssq_outside::{Disk, DiskError, DiskFault, Name, Stage, StageError};
 use std::alloc::{AllocError, Global};
@@ -124,7 +126,10 @@ pub struct MemDisk {
 }
 
 impl MemDisk {
-    ghost use Rattle.ssq_fakes.specs.Disks.{disk_history, disk_faults, history_of};
+    ghost use Rattle.ssq_outside.specs.declared.name.Name.{Name};
+    ghost use Rattle.ssq_fakes.specs.Records.{content_in};
+    ghost use Rattle.ssq_fakes.specs.Crashes.{IsCrashed, filled};
+    ghost use Rattle.ssq_fakes.specs.Disks.{disk_history, disk_faults, history_of, IsSureDisk};
 
     /// An empty disk at moment 0. It never fails.
     pub fn new(alloc: Global) -> Self
@@ -161,6 +166,62 @@ impl MemDisk {
     {
         self.faults.plan.stop_after = Some(n);
         self
+    }
+
+    /// The disk after a crash at this moment, or now where that is past the clock: settled at moment 0, with no fault,
+    /// and it never fails.
+    ///
+    /// The image picks what the crash left. It has a number for each name that changed since the last sync before
+    /// that moment, in the order of names: 0 for the content that was settled, then those that the name had since, the
+    /// oldest first. A number past them picks the newest, and a name without a number keeps the settled content.
+    pub fn crash_at(&self, alloc: Global, moment: u64, image: &[u64]) -> Result<MemDisk, AllocError>
+        ensures crashed { IfOk result (λ disk. IsCrashed ((disk_history self.now).had_at (min moment (disk_history self.now).moment)) image.now (disk_history disk)) }
+        ensures count { IfOk result (λ disk. disk_faults disk ≡ 0) }
+        ensures sure { IfOk result (λ disk. ⟦<MemDisk as Disk>⟧.sure disk) }
+    {
+        let past = self.record.before(self.clock.saturating_sub(moment));
+        let changed = past.changed(alloc)?;
+        let mut disk = MemDisk::new(alloc);
+        let names = past.names(alloc)?;
+        for name in &names {
+            let (content, _) = past.after_changes(*name, number_at(image, index_of(&changed, *name)));
+            disk.fill(alloc, *name, content)?;
+        }
+        disk.settle(alloc)?;
+        Ok(disk)
+    }
+
+    /// Gives the name what it begins with, if it is a file.
+    fn fill(&mut self, alloc: Global, name: Name, content: Option<&[u8]>) -> Result<(), AllocError>
+        ensures content { OnOk result ((q : Name) → content_in (events_of self.new.record) q ≡ filled name (option_map (λ bytes. bytes.now) content.entry) (content_in (events_of self.old.record)) q) }
+        ensures clock { self.new.clock ≡ self.old.clock }
+        ensures count { disk_faults self.new ≡ disk_faults self.old }
+        ensures sure { IsSureDisk self.old → OnOk result (IsSureDisk self.new) }
+    {
+        if let Some(bytes) = content {
+            let bytes = bytes.to_vec(alloc)?;
+            let Room {
+                publish,
+                sync,
+                removal,
+                last_sync,
+            } = Room::new(alloc)?;
+            self.keep_room(sync, removal, last_sync);
+            self.record.push(Event::Put(name, bytes), publish);
+        }
+        Ok(())
+    }
+
+    /// Settles what it begins with.
+    fn settle(&mut self, alloc: Global) -> Result<(), AllocError>
+        ensures record { OnOk result (events_of self.new.record ≡ Event.Synced ∷ events_of self.old.record) }
+        ensures clock { self.new.clock ≡ self.old.clock }
+        ensures count { disk_faults self.new ≡ disk_faults self.old }
+        ensures sure { IsSureDisk self.old → OnOk result (IsSureDisk self.new) }
+    {
+        let room = Box::new(alloc, Record::Empty)?;
+        self.record.push(Event::Synced, room);
+        Ok(())
     }
 
     /// Puts an event into the record, in this room, and counts the moment, unless the clock is at its end.
@@ -328,6 +389,22 @@ impl Disk for MemDisk {
     fn clock(&self) -> u64 {
         self.clock
     }
+}
+
+/// The number at this place, or 0 past the end.
+fn number_at(numbers: &[u64], at: usize) -> u64
+    ensures { result ≡ slice_index numbers.now at }
+{
+    match numbers.get(at) {
+        Some(number) => *number,
+        None => 0,
+    }
+}
+
+/// Every image of a crash at some moment is what some numbers pick.
+pub fn each_image_is_picked()
+    ensures { EachImageIsPicked }
+{
 }
 
 /// Begins the file with this number.

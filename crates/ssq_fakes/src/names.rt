@@ -3,6 +3,7 @@
 ghost use Rattle.std.specs.Prelude.{◌≡◌, ◌≤◌, length, slice_get, OnOk, false};
 ghost use Rattle.std.specs.Option.{option_map_or};
 ghost use Rattle.ssq_outside.specs.Files.{same_name, name_before, kind_of, first_of, second_of};
+ghost use Rattle.ssq_fakes.specs.Crashes.{index_of};
 ghost use Rattle.ssq_fakes.specs.Names.{place_of, with_name, with_some};
 
 use ssq_outside::Name;
@@ -74,4 +75,16 @@ pub fn insert_some(names: &mut Vec<Name>, name: Option<Name>) -> Result<(), Allo
         Some(name) => Ok(insert(names, name)?),
         None => Ok(()),
     }
+}
+
+/// Where the name stands among these, or else how many there are.
+pub fn index_of(names: &[Name], name: Name) -> usize
+    ensures { result ≡ index_of names.now name }
+{
+    for (i, other) in names.iter().enumerate() {
+        if name.is(*other) {
+            return i;
+        }
+    }
+    names.len()
 }

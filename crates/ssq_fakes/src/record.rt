@@ -1,6 +1,6 @@
 //! The record of a disk in memory.
 
-ghost use Rattle.std.specs.Prelude.{◌≡◌, ◌+◌, [], ◌∷◌, length, drop, filter, option_map, is_some, IfOk, MatchOption};
+ghost use Rattle.std.specs.Prelude.{◌≡◌, ◌+◌, [], ◌∷◌, length, drop, filter, min, option_map, is_some, IfOk, MatchOption};
 
 use crate::names::insert_some;
 use ssq_outside::Name;
@@ -80,7 +80,8 @@ impl Drop for Record {
 }
 
 impl Record {
-    ghost use Rattle.ssq_fakes.specs.Records.{events_of, content_in, is_unsettled, is_changed_in};
+    ghost use Rattle.ssq_fakes.specs.Records.{events_of, had_after, content_in, is_unsettled, is_changed_in};
+    ghost use Rattle.ssq_fakes.specs.Crashes.{content_at};
     ghost use Rattle.ssq_fakes.specs.Names.{names_from};
 
     /// Adds an event in this room.
@@ -175,7 +176,7 @@ impl Record {
     }
 
     /// The names that ever changed, each once, in their order.
-    fn names(&self, alloc: Global) -> Result<Vec<Name>, AllocError>
+    pub fn names(&self, alloc: Global) -> Result<Vec<Name>, AllocError>
         ensures { IfOk result (λ names. names.items ≡ names_from [] (events_of self.now)) }
     {
         let mut names = Vec::new(alloc);
@@ -211,5 +212,27 @@ impl Record {
             }
         }
         Ok(changed)
+    }
+
+    /// What stands at the name after only so many of its changes since the last sync, the oldest first, and how many
+    /// there were of these.
+    pub fn after_changes(&self, name: Name, number: u64) -> (Option<&[u8]>, u64)
+        ensures content { option_map (λ bytes. bytes.now) result.0 ≡ content_at (had_after (events_of self.now) name) number }
+        ensures count { result.1 ≡ min number (length (had_after (events_of self.now) name).since) }
+    {
+        match self {
+            Record::Empty => (None, 0),
+            Record::Then(event, older) => {
+                if event.is_sync() {
+                    return (older.content(name), 0);
+                }
+                let (content, changes) = older.after_changes(name, number);
+                if event.is_about(name) && changes < number {
+                    (event.content(), changes + 1)
+                } else {
+                    (content, changes)
+                }
+            }
+        }
     }
 }
