@@ -1,15 +1,14 @@
 -- Crashes by numbers: what is picked is an image, and each image is picked.
-use Rattle.std.proofs.Common.{◌≡◌, ◌⊎◌, ◌++◌, ◌∷◌, [], ◌<◌, ◌≤◌, ◌+◌, ◌∙◌, ℕ, List, Bool, true, false, zero, suc, None, Some, length, take, drop, get_or, refl, ap, sym, subst, inl, inr, arith, rules}
+use Rattle.std.proofs.Common.{◌≡◌, ◌++◌, ◌∷◌, [], ◌<◌, ◌≤◌, ◌+◌, ◌∙◌, ℕ, List, Bool, true, false, zero, suc, None, Some, length, take, drop, get_or, refl, ap, sym, subst, inl, inr, arith}
 use Rattle.std.specs.Prelude.{if◌then◌else◌, slice_index, min, map, filter, Contains}
 use Rattle.std.proofs.lemmas.List.{take_all, take-append-drop}
 use Rattle.std.proofs.lemmas.List.Elements.{Contains-append_left}
-use Rattle.std.proofs.Common.{length-append, add-one}
+use Rattle.std.proofs.Common.{length-append}
 use lib.Seq.{take-nil}
 use Rattle.std.proofs.lemmas.Grind.{common_steps}
-use Rattle.std.proofs.lemmas.Bool.{cases_lt}
 use Rattle.ssq_outside.specs.declared.name.Name.{Name}
 use Rattle.ssq_outside.specs.declared.name.Name.TheVariants.{Meta}
-use Rattle.ssq_outside.specs.Files.{same_name, Content, Contents, Had, Files, newest, last_or, MayBe, files_of, settled_at, IsImage}
+use Rattle.ssq_outside.specs.Files.{same_name, Content, Contents, Had, Files, newest, last_or, MayBe, settled_at}
 use Rattle.ssq_outside.specs.History.{had_now, files_now}
 use Rattle.ssq_outside.proofs.Names.{same_name-true, same_name-same}
 use Rattle.ssq_outside.proofs.Steps.{last_or-push, files_are_image}
@@ -19,7 +18,7 @@ use Rattle.ssq_fakes.specs.Records.{is_about, is_sync, content_of, content_in, h
 use Rattle.ssq_fakes.specs.Names.{names_from}
 use Rattle.ssq_fakes.specs.Disks.{has_name, history_of}
 use Rattle.ssq_fakes.specs.Crashes.{content_at, index_of, picked, has_changed, filled, AreChanged, IsCrashed, EachImageIsPicked}
-use Rattle.ssq_fakes.proofs.NameLists.{Chosen, chosen_changed, is_mentioned, mentioned}
+use Rattle.ssq_fakes.proofs.NameLists.{chosen_changed, is_mentioned, mentioned}
 use Rattle.ssq_fakes.proofs.Histories.{newest-had_after, had_now-is}
 
 -- an event that is no sync changes what its name had
@@ -68,12 +67,12 @@ content_may_be contents number =
 
 number_for : (contents : Contents) (content : Content) → MayBe contents content → (number : ℕ) × (content_at contents number ≡ content)
 number_for contents content (inl settled) = (0, sym settled)
-number_for contents content (inr among) = (among.0 + 1, last_taken contents.settled contents.since among.0 content among.1 among.2)
+number_for contents content (inr among) = (suc among.0, last_taken contents.settled contents.since among.0 content among.1 among.2)
   where
-    last_taken : (first : Content) (since : List Content) (k : ℕ) (content : Content) → k < length since → get_or since k content ≡ content → last_or first (take (k + 1) since) ≡ content
+    last_taken : (first : Content) (since : List Content) (k : ℕ) (content : Content) → k < length since → get_or since k content ≡ content → last_or first (take (suc k) since) ≡ content
     last_taken first [] k content below is = absurd (omega (arith, below))
     last_taken first (c ∷ cs) zero content below is = is
-    last_taken first (c ∷ cs) (suc k) content below is = rw add-one (last_taken c cs k content (omega (arith, below)) is)
+    last_taken first (c ∷ cs) (suc k) content below is = last_taken c cs k content (omega (arith, below)) is
 
 number_at-index : (number : Name → ℕ) (names : List Name) (q : Name) → has_name names q ≡ true → slice_index (map number names) (index_of names q) ≡ number q
 number_at-index number [] q has = cc
@@ -142,9 +141,9 @@ one_more false true name q (Some bytes) wanted before is there one = rw is (one 
 one_more false false name q (Some bytes) wanted before is there one = rw is there
 
 -- one more name has its file, if it is one
-pub holds_more : (files : Files) (names : List Name) (i : ℕ) (name : Name) (events new : List Event) → i < length names → get_or names i name ≡ name → Holds events (take i names) files
+pub holds_more : (files : Files) (names : List Name) (i : ℕ) (name d : Name) (events new : List Event) → i < length names → name ≡ get_or names i d → Holds events (take i names) files
     → ((q : Name) → content_in new q ≡ filled name (files name) (content_in events) q) → Holds new (take (i + 1) names) files
-holds_more files names i name events new below is holds fills q =
+holds_more files names i name d events new below is holds fills q =
     let taken : take (i + 1) names ≡ take i names ++ name ∷ [] = grind (arith, common_steps) in
     let has : has_name (take (i + 1) names) q ≡ (if has_name (take i names) q then true else same_name q name) = rw taken (has_name-push (take i names) name q) in
     rw (fills q, has)

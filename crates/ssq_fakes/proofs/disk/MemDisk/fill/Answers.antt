@@ -1,4 +1,4 @@
-use Rattle.std.proofs.Common.{◌≡◌, refl}
+use Rattle.std.proofs.Common.{refl}
 use Rattle.ssq_fakes.proofs.Rooms.{sure_put}
 use Rattle.ssq_fakes.proofs.disk.MemDisk.fill.Goals as goal
 
