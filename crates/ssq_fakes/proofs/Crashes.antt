@@ -147,7 +147,7 @@ holds_more files names i name d events new below is holds fills q =
     let taken : take (i + 1) names ≡ take i names ++ name ∷ [] = grind (arith, common_steps) in
     let has : has_name (take (i + 1) names) q ≡ (if has_name (take i names) q then true else same_name q name) = rw taken (has_name-push (take i names) name q) in
     rw (fills q, has)
-        (one_more (has_name (take i names) q) (same_name q name) name q (files name) (files q) (content_in events) refl (holds q) (λ same. ap files (sym (same_name-true q name same))))
+    (one_more (has_name (take i names) q) (same_name q name) name q (files name) (files q) (content_in events) refl (holds q) (λ same. ap files (sym (same_name-true q name same))))
 
 nothing_yet : (events : List Event) (q : Name) → is_mentioned events q ≡ false → had_after events q ≡ record { settled = None; since = [] }
 nothing_yet [] q none = refl
@@ -204,7 +204,7 @@ crashed_after events now new numbers clock holds is start =
     let changed = filter (λ q. is_changed_in events q) (names_from [] events) in
     let files = picked (had_after events) changed numbers in
     let each : (q : Name) → newest (had_after now q) ≡ files q = λ q.
-        newest-had_after now q ∙ holds q ∙ unnamed events changed numbers q (has_name (names_from [] events) q) (is_mentioned events q) refl refl in
+    newest-had_after now q ∙ holds q ∙ unnamed events changed numbers q (has_name (names_from [] events) q) (is_mentioned events q) refl refl in
     let settled : had_now (history_of new clock) ≡ settled_at files = had_now-is new clock ∙ ap had_after is ∙ ap settled_at (λ i q. each q i) in
     record {
       names = changed;

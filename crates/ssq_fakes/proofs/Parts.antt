@@ -55,7 +55,7 @@ pub held_by-push : (text : List ℕ → List ℕ) (parts : List Part) (part : Pa
 held_by-push text parts part =
     let b : List ℕ → Bool = bytes_eq (string_bytes part.stream) in
     let count : (q : List ℕ) → length (parts_of (parts ++ part ∷ []) q) ≡ (if b q then length (parts_of parts q) + 1 else length (parts_of parts q)) =
-        λ q. rw (parts_of-push parts part q) (count_if (b q) (parts_of parts q) part) in
+    λ q. rw (parts_of-push parts part q) (count_if (b q) (parts_of parts q) part) in
     let lines : (q : List ℕ) (k : ℕ) → lines_at (parts_of (parts ++ part ∷ []) q) k ≡ (if b q && k == length (parts_of parts q) then log_lines part.log else lines_at (parts_of parts q) k) =
-        λ q k. rw (parts_of-push parts part q) (lines_if (b q) (parts_of parts q) part k) in
+    λ q k. rw (parts_of-push parts part q) (lines_if (b q) (parts_of parts q) part k) in
     λ i. record { text = text; parts = λ q. count q i; lines = λ q k. lines q k i }

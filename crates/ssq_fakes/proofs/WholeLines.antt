@@ -2,7 +2,6 @@
 use Rattle.std.proofs.Common.{◌≡◌, ◌++◌, ◌∷◌, [], ◌<◌, ◌+◌, ◌==◌, ℕ, List, Bool, true, false, length, drop, get_or, refl, append_assoc, add-one, drop-cons, arith, rules, eq-eqb}
 use Rattle.ssq_outside.specs.Logs.{Line}
 use Rattle.ssq_fakes.specs.Logs.{lines_after}
-
 use Rattle.std.proofs.lemmas.List.{take_min, length-take}
 
 pub ruleset front_steps = (take_min, length-take)

@@ -184,7 +184,10 @@ impl MemDisk {
         let mut disk = MemDisk::new(alloc);
         let names = past.names(alloc)?;
         for name in &names {
-            let (content, _) = past.after_changes(*name, number_at(image, index_of(&changed, *name)));
+            let (content, _) = past.after_changes(
+                *name,
+                number_at(image, index_of(&changed, *name)),
+            );
             disk.fill(alloc, *name, content)?;
         }
         disk.settle(alloc)?;
@@ -280,11 +283,7 @@ impl MemDisk {
 }
 
 /// The calls that are to fail on the stage with this number.
-fn stage_calls(
-    alloc: Global,
-    calls: &[FailAt],
-    stage: u64,
-) -> Result<Vec<u64>, AllocError>
+fn stage_calls(alloc: Global, calls: &[FailAt], stage: u64) -> Result<Vec<u64>, AllocError>
     ensures { IfOk result (λ found. length found.items ≤ length calls.now) }
 {
     let mut found = Vec::new(alloc);
@@ -404,8 +403,7 @@ fn number_at(numbers: &[u64], at: usize) -> u64
 /// Every image of a crash at some moment is what some numbers pick.
 pub fn each_image_is_picked()
     ensures { EachImageIsPicked }
-{
-}
+{}
 
 /// Begins the file with this number.
 fn begin(alloc: Global, calls: &[FailAt], number: u64) -> Result<MemStage, AllocError>

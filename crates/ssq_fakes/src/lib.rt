@@ -15,8 +15,11 @@ mod names;
 mod output;
 mod record;
 
-pub use disk::{FailAt, MemDisk, MemFile, MemStage};
+pub use disk::{FailAt, MemDisk, MemFile, MemStage, each_image_is_picked};
 pub use gate::OpenGate;
 pub use inputs::MemInputs;
 pub use log::MemLog;
 pub use output::MemOut;
+
+#[cfg(test)]
+mod tests;

@@ -42,13 +42,7 @@ impl Lines {
                 let line = lines.get(at as usize)?;
                 Some(line.as_slice())
             }
-            Lines::Same(line, n) => {
-                if at < *n {
-                    Some(line.as_slice())
-                } else {
-                    None
-                }
-            }
+            Lines::Same(line, n) => { if at < *n { Some(line.as_slice()) } else { None } }
         }
     }
 }

@@ -29,7 +29,7 @@ loop-name-preserved c =
     let files : Files = picked had c.in_ok-changed.changed.items c.args.image.now in
     let at : c.index_of.result ≡ index_of c.in_ok-changed.changed.items name = rw c.deref.ensures.value at c.index_of.ensures in
     let content : option_map (λ bytes. bytes.now) c.after_changes.result.0 ≡ files name =
-        c.after_changes.ensures.content ∙ ap (content_at (had name)) (c.number_at.ensures ∙ ap (slice_index c.args.image.now) at) in
+    c.after_changes.ensures.content ∙ ap (content_at (had name)) (c.number_at.ensures ∙ ap (slice_index c.args.image.now) at) in
     let M : Content → Type 0 = λ begun. (q : Name) → content_in (events_of c.fill.new.self.record) q ≡ filled name begun (content_in (events_of c.loop-name.disk.record)) q in
     record {
       files = holds_more files names c.loop-name.name-index name Meta (events_of c.loop-name.disk.record) (events_of c.fill.new.self.record) c.loop-name-test.true refl
@@ -48,9 +48,9 @@ returns-clause-crashed c =
     let whole : take c.loop-name.name-index names ≡ names = take_all c.loop-name.name-index names c.loop-name-test.false in
     let holds : Holds (events_of disk.record) names (picked (had_after past) c.in_ok-changed.changed.items c.args.image.now) = rw whole at c.loop-name.invariant.files in
     crashed past (events_of disk.record) (events_of c.settle.new.self.record) _ c.in_ok-changed.changed.items names c.args.image.now c.settle.new.self.clock
-        (rw (moment, c.before-past.ensures, c.saturating_sub.ensures) refl)
-        c.in_ok-changed.ensures
-        (c.deref-name-items.ensures.value ∙ c.in_ok-names.ensures)
-        holds
-        c.in_ok-settle.ensures.record
-        (c.in_ok-settle.ensures.clock ∙ c.loop-name.invariant.clock)
+    (rw (moment, c.before-past.ensures, c.saturating_sub.ensures) refl)
+    c.in_ok-changed.ensures
+    (c.deref-name-items.ensures.value ∙ c.in_ok-names.ensures)
+    holds
+    c.in_ok-settle.ensures.record
+    (c.in_ok-settle.ensures.clock ∙ c.loop-name.invariant.clock)

@@ -15,7 +15,7 @@ returns-clause-steps c = λ _.
     let next : OnOk c.advance.result (c.advance.new.self.clock ≡ old.clock + 1) = rw c.keep_room.ensures.clock at c.advance.ensures.clock in
     let same : OnErr c.advance.result (disk_history c.advance.new.self ≡ disk_history old) = rw (c.keep_room.ensures.record, c.keep_room.ensures.clock) at c.advance.ensures.err in
     advances c.advance.result (Put c.args.name c.args.file.bytes) _ _ _ _ _ is next same
-        (ap (added c.args.name c.args.file.bytes.items) (sym (had_now-is (events_of old.record) old.clock)))
+    (ap (added c.args.name c.args.file.bytes.items) (sym (had_now-is (events_of old.record) old.clock)))
 
 pub returns-clause-never : goal.returns-clause-never
 returns-clause-never c = λ sure.
@@ -28,4 +28,4 @@ returns-clause-never c = λ sure.
     let unfailed : OnOk c.advance.result (new.faults.count ≡ old.faults.count) = rw count at c.advance.ensures.unfailed in
     let clock : c.keep_room.new.self.clock ≡ old.clock = c.keep_room.ensures.clock in
     stays_sure c.advance.result _ _ _ _ _ c.advance.ensures.full (λ full early. omega arith) unfailed
-        (on_ok_weaker c.advance.result (sure_put old new c.args.name c.args.file.bytes sure plan spare) is)
+    (on_ok_weaker c.advance.result (sure_put old new c.args.name c.args.file.bytes sure plan spare) is)

@@ -11,4 +11,4 @@ returns-clause-steps c = λ _.
     let had = had_after (events_of old.record) in
     let M : Had → Type 0 = λ before. IsSyncStep before (settled_at (files_of had)) in
     advances c.advance_in_spare.result Synced _ _ _ _ _ c.advance_in_spare.ensures.ok c.advance_in_spare.ensures.clock c.advance_in_spare.ensures.err
-        (subst M (sym (had_now-is (events_of old.record) old.clock)) (sync_step had))
+    (subst M (sym (had_now-is (events_of old.record) old.clock)) (sync_step had))

@@ -12,4 +12,4 @@ pub returns-then-changes-number-clause-content : goal.returns-then-changes-numbe
 returns-then-changes-number-clause-content t c =
     let counted : c.after_changes-changes.result.1 ≡ min c.args.number (length (had_after (events_of c.in-Then.older.value) c.args.name).since) = rw c.deref-in-Then.ensures at c.after_changes-changes.ensures.count in
     rw (c.in-Then.is, content_at-change c.in-Then.event (events_of c.in-Then.older.value) c.args.name _ c.args.number (sym c.is_sync.ensures ∙ c.if-is_sync.false) (sym c.is_about.ensures ∙ c.if-is_about.true) counted c.if-changes-number.true)
-        c.content-then-changes-number.ensures
+    c.content-then-changes-number.ensures
