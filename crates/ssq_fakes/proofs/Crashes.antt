@@ -8,9 +8,9 @@ use lib.Seq.{take-nil}
 use Rattle.std.proofs.lemmas.Grind.{common_steps}
 use Rattle.ssq_outside.specs.declared.name.Name.{Name}
 use Rattle.ssq_outside.specs.declared.name.Name.TheVariants.{Meta}
-use Rattle.ssq_outside.specs.Files.{same_name, Content, Contents, Had, Files, newest, last_or, MayBe, settled_at}
+use Rattle.ssq_outside.specs.Files.{same_name, Content, Contents, Had, Files, newest, last_or, MayBe, settled_at, IsImage}
 use Rattle.ssq_outside.specs.History.{had_now, files_now}
-use Rattle.ssq_outside.proofs.Names.{same_name-true, same_name-same}
+use Rattle.ssq_outside.proofs.Names.{same_name-true}
 use Rattle.ssq_outside.proofs.Steps.{last_or-push, files_are_image}
 use Rattle.ssq_fakes.specs.declared.record.Event.{Event}
 use Rattle.ssq_fakes.specs.declared.record.Event.TheVariants.{Put, Gone, Synced}
@@ -18,7 +18,8 @@ use Rattle.ssq_fakes.specs.Records.{is_about, is_sync, content_of, content_in, h
 use Rattle.ssq_fakes.specs.Names.{names_from}
 use Rattle.ssq_fakes.specs.Disks.{has_name, history_of}
 use Rattle.ssq_fakes.specs.Crashes.{content_at, index_of, picked, has_changed, filled, AreChanged, IsCrashed, EachImageIsPicked}
-use Rattle.ssq_fakes.proofs.NameLists.{chosen_changed, is_mentioned, mentioned}
+use Rattle.ssq_fakes.proofs.NameLists.{has_name-Contains, chosen_changed, is_mentioned, mentioned}
+use Rattle.ssq_fakes.proofs.Unique.{changed_once}
 use Rattle.ssq_fakes.proofs.Histories.{newest-had_after, had_now-is}
 
 -- an event that is no sync changes what its name had
@@ -91,26 +92,21 @@ only_settled contents content number same may = unchanged contents.settled conte
     unchanged settled [] same may = rw take-nil (elim may [ inl is ↦ sym is | inr among ↦ absurd (omega (arith, among.1)) ])
     unchanged settled (c ∷ cs) same may = cc
 
-has_name-Contains : (names : List Name) (q : Name) (k : ℕ) → k < length names → get_or names k q ≡ q → has_name names q ≡ true
-has_name-Contains [] q k below is = absurd (omega (arith, below))
-has_name-Contains (name ∷ names) q zero below is = let same : same_name q name ≡ true = rw is (same_name-same q) in rw same refl
-has_name-Contains (name ∷ names) q (suc k) below is = later (same_name q name) (has_name-Contains names q k (omega (arith, below)) is)
+each_picked : (had : Had) (names : List Name) (image : Files) → AreChanged had names → (is : IsImage had image) → (q : Name) → picked had names (map (λ q. (number_for (had q) (image q) (is q)).0) names) q ≡ image q
+each_picked had names image changed is q = at (has_changed (had q)) refl
   where
-    later : (b : Bool) → has_name names q ≡ true → (if b then true else has_name names q) ≡ true
-    later true has = refl
-    later false has = has
-
-pub each_image_picked : EachImageIsPicked
-each_image_picked had names image changed is =
-    let number : Name → ℕ = λ q. (number_for (had q) (image q) (is q)).0 in
-    (map number names, λ q. at q (has_changed (had q)) refl)
-  where
-    at : (q : Name) (b : Bool) → has_changed (had q) ≡ b → picked had names (map (λ q. (number_for (had q) (image q) (is q)).0) names) q ≡ image q
-    at q false same = only_settled (had q) (image q) _ same (is q)
-    at q true change =
+    at : (b : Bool) → has_changed (had q) ≡ b → picked had names (map (λ q. (number_for (had q) (image q) (is q)).0) names) q ≡ image q
+    at false same = only_settled (had q) (image q) _ same (is q)
+    at true change =
         let among = changed.all q change in
         let has : has_name names q ≡ true = has_name-Contains names q among.0 among.1 among.2 in
         rw (number_at-index (λ q. (number_for (had q) (image q) (is q)).0) names q has) (number_for (had q) (image q) (is q)).1
+
+pub each_image_picked : EachImageIsPicked
+each_image_picked had names image changed is =
+    let numbers = map (λ (q : Name). (number_for (had q) (image q) (is q)).0) names in
+    let M : (q : Name) → List Name → Type 0 = λ q others. picked had others numbers q ≡ image q in
+    (numbers, λ others once q. subst (M q) (changed_once had names others changed once) (each_picked had names image changed is q))
 
 -- The disk that begins with what was picked.
 

@@ -4,4 +4,5 @@ pub mod NameLists
 pub mod NameOrder
 pub mod Parts
 pub mod Rooms
+pub mod Unique
 pub mod WholeLines

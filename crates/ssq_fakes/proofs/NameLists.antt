@@ -38,12 +38,12 @@ with_name-there name [] there = cc
 with_name-there name (m ∷ ms) there = stay_by (name_before m name) name m ms (with_name name ms) (place_of name ms) there (with_name-there name ms)
 
 -- each of them comes after this one
-abbrev Follow : Name → List Name → Type 0
+abbrev pub Follow : Name → List Name → Type 0
 Follow m [] = Unit {0}
 Follow m (n ∷ ns) = (name_before m n ≡ true) × Follow m ns
 
 -- each comes after those before it
-abbrev Ascend : List Name → Type 0
+abbrev pub Ascend : List Name → Type 0
 Ascend [] = Unit {0}
 Ascend (m ∷ ms) = Follow m ms × Ascend ms
 
@@ -183,6 +183,16 @@ contains_by false m q ms other has later = let found = later has in (suc found.0
 pub Contains-has_name : (names : List Name) (q : Name) → has_name names q ≡ true → Contains names q
 Contains-has_name [] q has = cc
 Contains-has_name (m ∷ ms) q has = contains_by (same_name q m) m q ms refl has (Contains-has_name ms q)
+
+-- and the other way round
+pub has_name-Contains : (names : List Name) (q : Name) (k : ℕ) → k < length names → get_or names k q ≡ q → has_name names q ≡ true
+has_name-Contains [] q k below is = absurd (omega (arith, below))
+has_name-Contains (name ∷ names) q zero below is = let same : same_name q name ≡ true = rw is (same_name-same q) in rw same refl
+has_name-Contains (name ∷ names) q (suc k) below is = later (same_name q name) (has_name-Contains names q k (omega (arith, below)) is)
+  where
+    later : (b : Bool) → has_name names q ≡ true → (if b then true else has_name names q) ≡ true
+    later true has = refl
+    later false has = has
 
 kept_by : (P : Name → Bool) (b : Bool) (m q : Name) (ms : List Name) → P m ≡ b → P q ≡ true → (if same_name q m then true else has_name ms q) ≡ true → (has_name ms q ≡ true → has_name (filter P ms) q ≡ true)
     → has_name (if b then m ∷ filter P ms else filter P ms) q ≡ true

@@ -43,3 +43,10 @@ after_by m n false is not_before other =
 -- of two names one comes first
 pub name_before-other : (m n : Name) → name_before m n ≡ false → same_name n m ≡ false → name_before n m ≡ true
 name_before-other m n = after_by m n (name_before n m) refl
+
+key_itself : (a b c : ℕ) → key_before a b c a b c ≡ false
+key_itself a b c = grind (arith, nat_tests)
+
+-- none comes before itself
+pub name_before-itself : (m : Name) → name_before m m ≡ false
+name_before-itself m = key_itself (kind_of m) (first_of m) (second_of m)

@@ -40,9 +40,10 @@ pub record IsCrashed (had : Had) (numbers : List ℕ) (after : History) : Type 0
   pub settled : had_now after ≡ settled_at (picked had names numbers)
   pub image : IsImage had (files_now after)
 
--- Every image of a crash is picked by some numbers.
+-- Every image of a crash is picked by some numbers, beside the names that changed, which are one list.
 abbrev pub EachImageIsPicked : Type 0
-EachImageIsPicked = (had : Had) (names : List Name) (image : Files) → AreChanged had names → IsImage had image → (numbers : List ℕ) × ((q : Name) → picked had names numbers q ≡ image q)
+EachImageIsPicked = (had : Had) (names : List Name) (image : Files) → AreChanged had names → IsImage had image
+    → (numbers : List ℕ) × ((others : List Name) → AreChanged had others → (q : Name) → picked had others numbers q ≡ image q)
 
 -- the files, where a file begins at this name
 abbrev pub filled : Name → Content → Files → Files

@@ -4,7 +4,7 @@ ghost use Rattle.std.specs.Prelude.{◌≡◌, ◌<◌, [], ⊤, Some, length, s
 
 use crate::faults::Faults;
 use crate::log::{MemLog, front};
-use ssq_outside::{InputError, Inputs};
+use ssq_outside::{InputError, Inputs, Log};
 use std::alloc::{AllocError, Global};
 
 /// A file by its name.
@@ -67,7 +67,7 @@ impl MemInputs {
     pub fn with_part(mut self, alloc: Global, stream: &str, log: MemLog) -> Result<Self, AllocError>
         ensures held { IfOk result (λ inputs. inputs_held inputs ≡ holding_part stream.now (log_lines log) (inputs_held self)) }
         ensures count { IfOk result (λ inputs. input_faults inputs ≡ input_faults self) }
-        ensures sure { ⟦<MemInputs as Inputs>⟧.sure self → IsSureLog log → IfOk result (λ inputs. ⟦<MemInputs as Inputs>⟧.sure inputs) }
+        ensures sure { ⟦<MemInputs as Inputs>⟧.sure self → ⟦<MemLog as Log>⟧.sure log → IfOk result (λ inputs. ⟦<MemInputs as Inputs>⟧.sure inputs) }
     {
         let stream = String::from_str(alloc, stream)?;
         self.parts.push(Part { stream, log })?;

@@ -82,6 +82,15 @@ fn faults_of_logs(rt: HostRuntime) -> Result<(), Fail> {
     Ok(())
 }
 
+/// Opens a part, if it is there.
+fn open(alloc: Global, inputs: &mut MemInputs, stream: &str, part: u32) -> Result<MemLog, Fail> {
+    if part < inputs.parts(alloc, stream)? {
+        Ok(inputs.log(alloc, stream, part)?)
+    } else {
+        Err(Fail::from("no such part"))
+    }
+}
+
 #[test]
 fn inputs(rt: HostRuntime) -> Result<(), Fail> {
     let alloc = rt.alloc();
@@ -91,17 +100,16 @@ fn inputs(rt: HostRuntime) -> Result<(), Fail> {
         .with_part(alloc, "n", MemLog::torn(alloc, b"1\n2\n")?)?
         .with_part(alloc, "m", MemLog::torn(alloc, b"3\n")?)?
         .with_part(alloc, "n", MemLog::torn(alloc, b"4\n")?)?
-        .failing(vec![in alloc; 0, 5, 7]?);
+        .failing(vec![in alloc; 0, 4, 6]?);
     assert_eq!(rt; inputs.text(alloc, "q", 9).err(), Some(InputError::Fault));
     assert_eq!(rt; inputs.text(alloc, "q", 4)?.as_slice(), b"from".as_slice());
     assert_eq!(rt; inputs.text(alloc, "r", 9)?.as_slice(), b"".as_slice());
-    assert_eq!(rt; inputs.parts(alloc, "n")?, 2);
     assert_eq!(rt; inputs.parts(alloc, "o")?, 0);
     assert_eq!(rt; inputs.parts(alloc, "n"), Err(InputError::Fault));
-    let log = inputs.log(alloc, "n", 1)?;
-    assert_eq!(rt; inputs.log(alloc, "n", 1).err(), Some(InputError::Fault));
+    assert!(rt; open(alloc, &mut inputs, "n", 1).is_err());
+    let log = open(alloc, &mut inputs, "n", 1)?;
     inputs.give_back(log);
-    let again = inputs.log(alloc, "n", 1)?;
+    let again = open(alloc, &mut inputs, "n", 1)?;
     assert_eq!(rt; read_all(alloc, again)?.as_slice(), b"4|".as_slice());
     Ok(())
 }
