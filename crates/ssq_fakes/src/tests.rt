@@ -82,10 +82,15 @@ fn faults_of_logs(rt: HostRuntime) -> Result<(), Fail> {
     Ok(())
 }
 
-/// Opens a part, if it is there.
-fn open(alloc: Global, inputs: &mut MemInputs, stream: &str, part: u32) -> Result<MemLog, Fail> {
+/// What opening a part answers, if it is there.
+fn open(
+    alloc: Global,
+    inputs: &mut MemInputs,
+    stream: &str,
+    part: u32,
+) -> Result<Result<MemLog, InputError>, Fail> {
     if part < inputs.parts(alloc, stream)? {
-        Ok(inputs.log(alloc, stream, part)?)
+        Ok(inputs.log(alloc, stream, part))
     } else {
         Err(Fail::from("no such part"))
     }
@@ -106,10 +111,13 @@ fn inputs(rt: HostRuntime) -> Result<(), Fail> {
     assert_eq!(rt; inputs.text(alloc, "r", 9)?.as_slice(), b"".as_slice());
     assert_eq!(rt; inputs.parts(alloc, "o")?, 0);
     assert_eq!(rt; inputs.parts(alloc, "n"), Err(InputError::Fault));
-    assert!(rt; open(alloc, &mut inputs, "n", 1).is_err());
-    let log = open(alloc, &mut inputs, "n", 1)?;
+    assert_eq!(rt;
+        open(alloc, &mut inputs, "n", 1)?.err(),
+        Some(InputError::Fault)
+    );
+    let log = open(alloc, &mut inputs, "n", 1)??;
     inputs.give_back(log);
-    let again = open(alloc, &mut inputs, "n", 1)?;
+    let again = open(alloc, &mut inputs, "n", 1)??;
     assert_eq!(rt; read_all(alloc, again)?.as_slice(), b"4|".as_slice());
     Ok(())
 }
