@@ -1,0 +1,172 @@
+//! Inputs in memory.
+
+ghost use Rattle.std.specs.Prelude.{◌≡◌, ◌<◌, [], ⊤, Some, length, slice_get, IfOk, All};
+
+use crate::faults::Faults;
+use crate::log::{MemLog, front};
+use ssq_outside::{InputError, Inputs, Log};
+use std::alloc::{AllocError, Global};
+
+/// A file by its name.
+#[derive(Drop)]
+struct Text {
+    name: String,
+    bytes: Vec<u8>,
+}
+
+/// A part of a stream.
+#[derive(Drop)]
+struct Part {
+    stream: String,
+    log: MemLog,
+}
+
+/// Files by their names, and streams' parts. A log that it hands out has the part's lines, none of which are copied,
+/// and the part's list of calls that are to fail.
+#[derive(Drop)]
+pub struct MemInputs {
+    /// The newest first.
+    texts: Vec<Text>,
+    /// Each stream's in their order.
+    parts: Vec<Part>,
+    faults: Faults<Vec<u64>>,
+}
+
+impl MemInputs {
+    ghost use Rattle.ssq_fakes.specs.Logs.{log_lines};
+    ghost use Rattle.ssq_fakes.specs.Inputs.{inputs_held, input_faults, holding_text, holding_part, parts_of, text_in, IsSureLog};
+
+    /// No file and no part. They never fail.
+    pub fn new(alloc: Global) -> Self
+        ensures held { inputs_held result ≡ record { text = λ name. []; parts = λ stream. 0; lines = λ stream number. [] } }
+        ensures count { input_faults result ≡ 0 }
+        ensures sure { ⟦<MemInputs as Inputs>⟧.sure result }
+    {
+        MemInputs {
+            texts: Vec::new(alloc),
+            parts: Vec::new(alloc),
+            faults: Faults::new(Vec::new(alloc)),
+        }
+    }
+
+    /// With these bytes as the file of this name, in place of what it had. Where memory runs out the inputs are lost.
+    pub fn with_text(mut self, alloc: Global, name: &str, bytes: &[u8]) -> Result<Self, AllocError>
+        ensures held { IfOk result (λ inputs. inputs_held inputs ≡ holding_text name.now bytes.now (inputs_held self)) }
+        ensures count { IfOk result (λ inputs. input_faults inputs ≡ input_faults self) }
+        ensures sure { ⟦<MemInputs as Inputs>⟧.sure self → IfOk result (λ inputs. ⟦<MemInputs as Inputs>⟧.sure inputs) }
+    {
+        let text = Text {
+            name: String::from_str(alloc, name)?,
+            bytes: bytes.to_vec(alloc)?,
+        };
+        self.texts.insert(0, text)?;
+        Ok(self)
+    }
+
+    /// With this log as the next part of the stream. Where memory runs out the inputs and the log are lost.
+    pub fn with_part(mut self, alloc: Global, stream: &str, log: MemLog) -> Result<Self, AllocError>
+        ensures held { IfOk result (λ inputs. inputs_held inputs ≡ holding_part stream.now (log_lines log) (inputs_held self)) }
+        ensures count { IfOk result (λ inputs. input_faults inputs ≡ input_faults self) }
+        ensures sure { ⟦<MemInputs as Inputs>⟧.sure self → ⟦<MemLog as Log>⟧.sure log → IfOk result (λ inputs. ⟦<MemInputs as Inputs>⟧.sure inputs) }
+    {
+        let stream = String::from_str(alloc, stream)?;
+        self.parts.push(Part { stream, log })?;
+        Ok(self)
+    }
+
+    /// The same, where the calls of `text`, `parts` and `log` with these numbers, from 0, fail.
+    pub fn failing(mut self, calls: Vec<u64>) -> Self
+        ensures held { inputs_held result ≡ inputs_held self }
+        ensures count { input_faults result ≡ input_faults self }
+    {
+        self.faults.plan = calls;
+        self
+    }
+
+    fn find_text(&self, name: &str) -> &[u8]
+        ensures { result.now ≡ text_in self.now.texts.items name.now }
+    {
+        for text in &self.texts {
+            if text.name.as_str() == name {
+                return &text.bytes;
+            }
+        }
+        &[]
+    }
+
+    fn count_parts(&self, stream: &str) -> usize
+        ensures { result ≡ length (parts_of self.now.parts.items stream.now) }
+    {
+        self.parts
+            .iter()
+            .filter(|part| part.stream.as_str() == stream)
+            .count()
+    }
+
+    fn find_part(&self, stream: &str, number: u32) -> &Part
+        requires { number < length (parts_of self.now.parts.items stream.now) }
+        ensures found { slice_get (parts_of self.now.parts.items stream.now) number ≡ Some result.now }
+        ensures sure { All (λ part. IsSureLog part.log) self.now.parts.items → IsSureLog result.now.log }
+    {
+        let mut left = number;
+        for part in &self.parts {
+            if part.stream.as_str() == stream {
+                if left == 0 {
+                    return part;
+                }
+                left -= 1;
+            }
+        }
+        unreachable!()
+    }
+}
+
+impl Inputs for MemInputs {
+    ghost use Rattle.std.specs.Prelude.{◌≡◌, [], ⊤, length, All};
+    ghost use Rattle.ssq_fakes.specs.Inputs.{inputs_held, input_faults, IsSureLog};
+
+    type Log = MemLog;
+
+    ghost tells = { ⊤ };
+
+    ghost held = { inputs_held };
+
+    ghost shown = { λ inputs stream part. length ((inputs_held inputs).lines stream part) };
+
+    ghost faults = { input_faults };
+
+    ghost sure = { λ inputs. (inputs.faults.plan.items ≡ []) × All (λ part. IsSureLog part.log) inputs.parts.items };
+
+    ghost logs_tell = { λ tells. tells };
+
+    fn text(&mut self, alloc: Global, name: &str, max: usize) -> Result<Vec<u8>, InputError> {
+        if self.faults.fails() {
+            return Err(InputError::Fault);
+        }
+        match front(self.find_text(name), max).to_vec(alloc) {
+            Ok(bytes) => Ok(bytes),
+            Err(_) => Err(InputError::NoMemory),
+        }
+    }
+
+    fn parts(&mut self, _alloc: Global, stream: &str) -> Result<u32, InputError> {
+        if self.faults.fails() {
+            return Err(InputError::Fault);
+        }
+        Ok(self.count_parts(stream).min(65) as u32)
+    }
+
+    fn log(&mut self, alloc: Global, stream: &str, part: u32) -> Result<MemLog, InputError> {
+        if self.faults.fails() {
+            return Err(InputError::Fault);
+        }
+        match self.find_part(stream, part).log.reopened(alloc) {
+            Ok(log) => Ok(log),
+            Err(_) => Err(InputError::NoMemory),
+        }
+    }
+
+    fn give_back(&mut self, log: MemLog) {
+        self.faults.count = self.faults.count.saturating_add(log.faults.count);
+    }
+}
