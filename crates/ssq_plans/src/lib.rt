@@ -1,0 +1,6 @@
+//! The records of a checkpoint as texts: names, plans and commits.
+#![tactic(auto)]
+
+mod names;
+
+pub use names::NameText;
