@@ -1,6 +1,6 @@
 //! Files of lines as logs.
 
-ghost use Rattle.std.specs.Prelude.{◌≡◌, ◌≤◌, ℕ, [], Ok, OnOk, vec_len};
+ghost use Rattle.std.specs.Prelude.{◌≡◌, ◌≤◌, ℕ, [], Ok, IfOk, OnOk, vec_len};
 ghost use Rattle.std.specs.Prelude.{true, false};
 
 use crate::faults::raise;
@@ -27,9 +27,18 @@ pub struct FileLog<F> {
 
 impl<F: Read + Seek + Drop> FileLog<F> {
     /// The log of an open file. An error is want of memory.
-    pub(crate) fn new(alloc: Global, file: F) -> io::Result<FileLog<F>> {
+    pub(crate) fn new(alloc: Global, file: F) -> io::Result<FileLog<F>>
+        ensures { IfOk result (λ log. log.faults ≡ 0) }
+    {
         let lines = Lines::new(alloc, file)?;
         Ok(FileLog { lines, faults: 0 })
+    }
+
+    /// How often it has failed.
+    pub(crate) fn faults(&self) -> u64
+        ensures { result ≡ self.now.faults }
+    {
+        self.faults
     }
 }
 

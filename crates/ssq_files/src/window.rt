@@ -56,7 +56,7 @@ impl<F: Read + Seek + Drop> Window<F> {
 }
 
 /// Reads once, again after an interrupt. It gives 0 at the end of the file.
-fn read_some(file: &mut impl Read, into: &mut [u8]) -> io::Result<usize>
+pub fn read_some(file: &mut impl Read, into: &mut [u8]) -> io::Result<usize>
     ensures { ReadsAtMost result into.new }
 {
     for _ in 0..u64::MAX {

@@ -3,4 +3,4 @@
 
 mod names;
 
-pub use names::NameText;
+pub use names::{NameText, read_name};

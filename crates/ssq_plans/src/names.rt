@@ -28,3 +28,8 @@ impl fmt::Display for NameText {
         }
     }
 }
+
+/// The name that a text is.
+pub fn read_name(_text: &[u8]) -> Option<Name> {
+    None
+}
