@@ -108,11 +108,7 @@ impl<F: Read + Seek + Drop> Lines<F> {
     /// Counts the lines whose ends came since the last count.
     fn count(&mut self) -> io::Result<()> {
         for _ in 0..u64::MAX {
-            self.window.fill(self.scanned)?;
             let block = self.window.rest(self.scanned);
-            if block.is_empty() {
-                break;
-            }
             if let Some(last) = memrchr(b'\n', block) {
                 self.counted = Place {
                     line: later(self.counted.line, memchr_iter(b'\n', block).count()),
@@ -121,6 +117,9 @@ impl<F: Read + Seek + Drop> Lines<F> {
                 self.marks.pass(self.counted);
             }
             self.scanned = later(self.scanned, block.len());
+            if !self.window.refill(self.scanned)? {
+                break;
+            }
         }
         Ok(())
     }
@@ -163,7 +162,6 @@ impl<F: Read + Seek + Drop> Lines<F> {
         into.clear();
         let mut byte = self.next.byte;
         'parts: for _ in 0..u64::MAX {
-            self.window.fill(byte)?;
             let bytes = self.window.rest(byte);
             if let Some(end) = memchr(b'\n', bytes) {
                 keep(into, &bytes[..end])?;
@@ -173,11 +171,11 @@ impl<F: Read + Seek + Drop> Lines<F> {
                 };
                 return Ok(());
             }
-            if bytes.is_empty() {
-                break;
-            }
             keep(into, bytes)?;
             byte = later(byte, bytes.len());
+            if !self.window.refill(byte)? {
+                break;
+            }
         }
         Err(io::Error::from(ErrorKind::UnexpectedEof))
     }

@@ -33,15 +33,22 @@ impl<F: Read + Seek + Drop> Window<F> {
         })
     }
 
-    /// Reads a block from this byte on, where the window has not that byte. At the end of the file it has none.
-    pub fn fill(&mut self, byte: u64) -> io::Result<()> {
-        if self.rest(byte).is_empty() {
-            self.len = 0;
-            self.start = byte;
-            self.file.seek(SeekFrom::Start(byte))?;
-            self.len = read_some(&mut self.file, &mut self.bytes)?;
+    /// Reads a block from this byte on, in place of what the window had. `false`: the file ends there, and the window
+    /// stays.
+    pub fn refill(&mut self, byte: u64) -> io::Result<bool> {
+        self.file.seek(SeekFrom::Start(byte))?;
+        match read_some(&mut self.file, &mut self.bytes) {
+            Ok(0) => Ok(false),
+            Ok(count) => {
+                self.start = byte;
+                self.len = count;
+                Ok(true)
+            }
+            Err(e) => {
+                self.len = 0;
+                Err(e)
+            }
         }
-        Ok(())
     }
 
     /// What the window has from this byte on.
