@@ -21,3 +21,6 @@ pub use disk::{FolderDisk, FolderStage, SealedFile};
 pub use inputs::FolderInputs;
 pub use log::FileLog;
 pub use output::StandardOutput;
+
+#[cfg(test)]
+mod tests;
