@@ -3,4 +3,4 @@
 
 mod names;
 
-pub use names::{NameText, read_name};
+pub use names::{NameText, name_text, read_name};
