@@ -1,0 +1,2 @@
+pub mod BigEndian
+pub mod Digits

@@ -1,0 +1,7 @@
+use Rattle.std.proofs.Common.{arith}
+use Rattle.ssq_field.proofs.BigEndian.{begins_32}
+use Rattle.ssq_field.proofs.big_endian.take_be32.Goals as goal
+
+pub returns-clause-found : goal.returns-clause-found
+returns-clause-found c =
+    begins_32 c.args.from.now _ _ (λ i. omega (arith, c.type_inv.from i)) (omega (arith, c.in_ok-bytes.ensures.cases.2)) c.in_ok-bytes.ensures.cases.0 c.from_be_bytes.ensures
