@@ -1,5 +1,5 @@
 -- The texts of names.
-use Rattle.std.specs.Prelude.{◌<◌, ◌^◌, ◌++◌, ℕ, List, codes}
+use Rattle.std.specs.Prelude.{◌≡◌, ◌<◌, ◌^◌, ◌++◌, ℕ, List, codes}
 use Rattle.std.specs.Fmt.{decimal}
 use Rattle.ssq_outside.specs.declared.name.Name.{Name}
 use Rattle.ssq_outside.specs.declared.name.Name.TheVariants.{Meta, Plan, Commit, Out, Delta, Snapshot}
@@ -21,3 +21,7 @@ IsInRange (Commit e) = e < 2 ^ 32
 IsInRange (Out e) = e < 2 ^ 32
 IsInRange (Delta p v) = (p < 2 ^ 32) × (v < 2 ^ 32)
 IsInRange (Snapshot p v) = (p < 2 ^ 32) × (v < 2 ^ 32)
+
+-- no two names have one text
+abbrev pub AreTextsApart : Type 0
+AreTextsApart = (m n : Name) → IsInRange m → IsInRange n → text_of m ≡ text_of n → m ≡ n

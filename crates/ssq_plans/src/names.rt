@@ -2,7 +2,6 @@
 
 ghost use Rattle.std.specs.Prelude.{◌≡◌, ◌≢◌, ◌<◌, ◌≤◌, ◌^◌, ◌++◌, ℕ, List, Option, Some, IfOk, IfSome, IsSomeAnd, MatchOption, codes, decimal, length};
 ghost use Rattle.ssq_field.specs.Decimal.{NoDigit};
-
 ghost use Rattle.ssq_outside.specs.declared.name.Name.{Name as NameOf};
 ghost use Rattle.ssq_plans.specs.Names.{text_of, IsInRange};
 
@@ -45,6 +44,7 @@ pub fn name_text(alloc: Global, name: Name) -> Result<Bytes, AllocError>
 /// The name whose text these bytes are. `None` where they are no name's.
 pub fn read_name(text: &[u8]) -> Option<Name>
     ensures found { IfSome result (λ name. text.now ≡ text_of name) }
+    ensures in_range { IfSome result IsInRange }
     // So `None` comes only where no name has this text.
     ensures each { (name : NameOf) → IsInRange name → text.now ≡ text_of name → result ≡ Some name }
 {
@@ -109,3 +109,6 @@ fn after<'a>(text: &'a [u8], front: &[u8]) -> Option<&'a [u8]>
 {
     text.strip_prefix(front)
 }
+
+#[cfg(test)]
+mod tests;
