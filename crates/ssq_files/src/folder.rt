@@ -1,7 +1,5 @@
 //! The folders of a checkpoint.
 
-ghost use Rattle.std.specs.Prelude.{◌≤◌};
-
 use arrayvec::ArrayVec;
 use ssq_outside::Name;
 use std::fmt;

@@ -1,7 +1,6 @@
 //! Files of lines as logs.
 
-ghost use Rattle.std.specs.Prelude.{◌≡◌, ◌≤◌, ℕ, [], Ok, IfOk, OnOk, vec_len};
-ghost use Rattle.std.specs.Prelude.{true, false};
+ghost use Rattle.std.specs.Prelude.{◌≡◌, ◌≤◌, ℕ, [], true, false, Ok, IfOk, OnOk, vec_len};
 
 use crate::faults::raise;
 use crate::marks::{Marks, Place};

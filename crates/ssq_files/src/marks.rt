@@ -1,7 +1,5 @@
 //! Places in a file of lines, to go back to.
 
-ghost use Rattle.std.specs.Prelude.{◌≤◌, vec_len};
-
 use std::alloc::Global;
 use std::io;
 

@@ -68,7 +68,7 @@ fn a_folder_and_a_file_of_lines(rt: HostRuntime) {
     let _ = fs::remove_dir_all(&rt, base.as_str());
     fs::create_dir(&rt, base.as_str()).expect(&rt, "the test's folder");
 
-    // A folder that is not there is an empty disk, and is made with the first file.
+    // A folder that is not there is an empty disk. It is made with the first file.
     let root = format!(in alloc; "{base}/checkpoint").expect(&rt, "memory");
     assert!(rt; root.len() <= 192);
     let mut disk = FolderDisk::new(rt, root.as_str());

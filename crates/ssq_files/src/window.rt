@@ -1,6 +1,6 @@
 //! A part of a file in memory.
 
-ghost use Rattle.std.specs.Prelude.{◌≤◌, length, vec_len};
+ghost use Rattle.std.specs.Prelude.{◌≤◌, vec_len};
 ghost use Rattle.std.specs.Io.{ReadsAtMost};
 
 use std::alloc::Global;

@@ -1,5 +1,5 @@
 -- A number is all that follows exactly where nothing follows its digits.
-use Rattle.std.proofs.Common.{◌≡◌, [], Some, length, ap, arith}
+use Rattle.std.proofs.Common.{[], Some, length, ap, arith}
 use Rattle.ssq_plans.proofs.Texts.{follows}
 use Rattle.ssq_plans.proofs.names.number_after.Goals as goal
 
