@@ -5,3 +5,4 @@ pub mod Stopping
 pub mod Told
 pub mod Ending
 pub mod Beginning
+pub mod Words

@@ -8,5 +8,6 @@ mod round;
 mod run;
 mod settle;
 mod stop;
+mod words;
 
 pub use stop::Stop;

@@ -1,6 +1,6 @@
 mod Days
 mod Parts
-mod Printed
+pub mod Printed
 pub mod Readback
 pub mod Signed
 mod Spans
