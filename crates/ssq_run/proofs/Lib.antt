@@ -5,3 +5,4 @@ pub mod Stopping
 pub mod Rounds
 pub mod Beginning
 pub mod Ending
+pub mod Spelled

@@ -6,3 +6,4 @@ pub mod Told
 pub mod Ending
 pub mod Beginning
 pub mod Words
+pub mod Program

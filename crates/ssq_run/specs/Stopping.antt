@@ -4,6 +4,10 @@ use Rattle.ssq_outside.specs.Faults.{Rises}
 use Rattle.ssq_outside.specs.declared.disk.DiskError.{DiskError}
 use Rattle.ssq_outside.specs.declared.disk.DiskError.TheVariants as disk
 use Rattle.ssq_outside.specs.History.{History, LeavesNow}
+use Rattle.ssq_outside.specs.declared.inputs.InputError.{InputError}
+use Rattle.ssq_outside.specs.declared.inputs.InputError.TheVariants as input
+use Rattle.ssq_query.specs.declared.fault.QueryFault.{QueryFault}
+use Rattle.ssq_query.specs.declared.fault.QueryFault.TheVariants as query
 use Rattle.ssq_meaning.specs.Meaning.{fault, out}
 use Rattle.ssq_run.specs.declared.feed.FeedFault.{FeedFault}
 use Rattle.ssq_run.specs.declared.feed.FeedFault.TheVariants as feed
@@ -16,6 +20,14 @@ use Rattle.ssq_run.specs.Told.{told_before}
 abbrev pub stop_of_disk : DiskError → Stop
 stop_of_disk disk.Fault = DiskFault
 stop_of_disk disk.NoMemory = NoMemory
+
+abbrev pub stop_of_input : InputError → Stop
+stop_of_input input.Fault = LogFault
+stop_of_input input.NoMemory = NoMemory
+
+abbrev pub stop_of_query : QueryFault → Stop
+stop_of_query query.NotYet = Query
+stop_of_query query.NoMemory = NoMemory
 
 -- a log that is short cannot be run yet
 abbrev pub stop_of_feed : List ℕ → FeedFault → Stop

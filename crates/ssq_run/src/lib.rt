@@ -4,6 +4,7 @@
 mod begin;
 mod epoch;
 mod feed;
+mod prepare;
 mod round;
 mod run;
 mod settle;

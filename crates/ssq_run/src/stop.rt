@@ -1,6 +1,7 @@
 //! Why the program stops before its job is done.
 
-use ssq_outside::DiskError;
+use ssq_outside::{DiskError, InputError};
+use ssq_query::QueryFault;
 use ssq_value::Text;
 use std::alloc::{AllocError, AllocFailed};
 use thiserror::Error;
@@ -43,6 +44,34 @@ impl From<DiskError> for Stop {
         match error {
             DiskError::Fault => Stop::DiskFault,
             DiskError::NoMemory => Stop::NoMemory,
+        }
+    }
+}
+
+impl From<InputError> for Stop {
+    ghost use Rattle.std.specs.Prelude.{◌≡◌};
+    ghost use Rattle.ssq_run.specs.Stopping.{stop_of_input};
+
+    ghost from_gives = { λ error stop. stop ≡ stop_of_input error };
+
+    fn from(error: InputError) -> Stop {
+        match error {
+            InputError::Fault => Stop::LogFault,
+            InputError::NoMemory => Stop::NoMemory,
+        }
+    }
+}
+
+impl From<QueryFault> for Stop {
+    ghost use Rattle.std.specs.Prelude.{◌≡◌};
+    ghost use Rattle.ssq_run.specs.Stopping.{stop_of_query};
+
+    ghost from_gives = { λ error stop. stop ≡ stop_of_query error };
+
+    fn from(error: QueryFault) -> Stop {
+        match error {
+            QueryFault::NotYet => Stop::Query,
+            QueryFault::NoMemory => Stop::NoMemory,
         }
     }
 }

@@ -33,16 +33,25 @@ fn is_max_lines(word: &str) -> bool
     word == "--max-lines"
 }
 
+fn is_cap(number: u64) -> bool
+    ensures { IsTrue result ↔ IsCap number }
+{
+    1 <= number && number <= 1_099_511_627_776
+}
+
 /// The number that a word spells, where it can be a cap.
 fn cap(word: &str) -> Option<u64>
     ensures found { IfSome result (λ n. IsCap n × (word.now ≡ decimal n)) }
     ensures none { IfNone result ((n : ℕ) → IsCap n → word.now ≢ decimal n) }
 {
-    let (number, len) = take_decimal(word.as_bytes())?;
-    if len == word.len() && number >= 1 && number <= 1_099_511_627_776 {
-        Some(number)
-    } else {
-        None
+    match take_decimal(word.as_bytes()) {
+        None => None,
+        Some((number, len)) => {
+            if len != word.len() {
+                return None;
+            }
+            if is_cap(number) { Some(number) } else { None }
+        }
     }
 }
 
@@ -65,12 +74,14 @@ pub fn ask(words: &[String]) -> Option<Asked<'_>>
                 && is_file_name(file.as_str())
                 && is_max_lines(option.as_str())
             {
-                let most = cap(number.as_str())?;
                 let file = file.as_str();
-                Some(Asked {
-                    file,
-                    most: Some(most),
-                })
+                match cap(number.as_str()) {
+                    Some(most) => Some(Asked {
+                        file,
+                        most: Some(most),
+                    }),
+                    None => None,
+                }
             } else {
                 None
             }
