@@ -1,0 +1,38 @@
+# make         proves and builds the program, and leaves it at bin/ssq
+# make demo    runs it on a fresh copy of examples/first, in demo/
+# make clean   removes what was built
+#
+# It needs GNU make, a POSIX shell and the Rattle toolchain (`rt`). What is proved stays in crates/*/out, so that a
+# later make proves only what changed.
+
+# Files and folders, so that one which went counts as a change too.
+SOURCES := $(shell find crates/*/src crates/*/specs crates/*/proofs) crates.txt HANDLES
+
+.PHONY: all demo clean
+
+all: bin/ssq
+
+# `rt run` proves and links. Only then it says that it is running the program, which without words touches nothing and
+# stops. So that line, and not the status, tells that the program is built. Until then the old one stays.
+bin/ssq: $(SOURCES)
+	@mkdir -p bin
+	@cd crates/ssq_main && rt run 2>&1 | { \
+		while IFS= read -r line; do \
+			case $$line in "rt: running "*) cat > /dev/null; exit 0;; esac; \
+			printf '%s\n' "$$line"; \
+		done; \
+		exit 1; \
+	}
+	@cp crates/ssq_main/out/ssq_main bin/ssq.new
+	@mv -f bin/ssq.new bin/ssq
+
+demo: bin/ssq
+	@rm -rf demo
+	@cp -R examples/first demo
+	@cat demo/query.sql demo/s.0.jsonl
+	@echo '$$ ssq run query.sql --max-lines 2'
+	@cd demo && ../bin/ssq run query.sql --max-lines 2
+	@cd demo/checkpoint && for file in sink/*; do echo "\$$ cat checkpoint/$$file"; cat "$$file"; done
+
+clean:
+	rm -rf bin demo crates/*/out
