@@ -6,3 +6,5 @@ pub mod Rounds
 pub mod Beginning
 pub mod Ending
 pub mod Spelled
+pub mod Passing
+pub mod Telling

@@ -60,6 +60,16 @@ IsRunStop LogFault = ⊤
 IsRunStop DiskFault = ⊤
 IsRunStop NoMemory = ⊤
 
+-- what can come once the words are taken
+abbrev pub IsPastWords : Stop → Type 0
+IsPastWords Usage = ⊥
+IsPastWords Query = ⊤
+IsPastWords (Line stream at) = ⊤
+IsPastWords NotYet = ⊤
+IsPastWords LogFault = ⊤
+IsPastWords DiskFault = ⊤
+IsPastWords NoMemory = ⊤
+
 -- a fault of a log is told only where it was counted
 abbrev pub LogRises : Stop → ℕ → ℕ → Type 0
 LogRises Usage before now = ⊤

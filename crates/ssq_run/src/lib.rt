@@ -8,7 +8,10 @@ mod prepare;
 mod round;
 mod run;
 mod settle;
+mod source;
 mod stop;
+mod stream;
+mod tell;
 mod words;
 
 pub use stop::Stop;

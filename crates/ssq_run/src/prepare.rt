@@ -8,7 +8,7 @@ ghost use Rattle.ssq_query.specs.File.{IsWritten};
 ghost use Rattle.ssq_query.specs.Names.{output_name, output_names};
 ghost use Rattle.ssq_query.specs.Taken.{IsTaken};
 ghost use Rattle.ssq_run.specs.Program.{read_of, ReadCause};
-ghost use Rattle.ssq_run.specs.Stopping.{LogRises, DiskRises};
+ghost use Rattle.ssq_run.specs.Stopping.{LogRises, DiskRises, IsPastWords};
 
 use crate::epoch::Prepared;
 use crate::stop::Stop;
@@ -27,6 +27,7 @@ pub fn read_file<I: Inputs>(alloc: Global, inputs: &mut I, file: &str) -> Result
     ensures written { I.tells → IfOk result (IsWritten (read_of (I.held inputs.old) file.now)) }
     ensures taken { IfOk result IsTaken }
     ensures stop { I.tells → IfErr result (ReadCause (read_of (I.held inputs.old) file.now)) }
+    ensures only { IfErr result IsPastWords }
     ensures same { I.tells → I.held inputs.new ≡ I.held inputs.old }
     ensures grown { I.tells → (stream : List ℕ) (part : ℕ) → I.shown inputs.old stream part ≤ I.shown inputs.new stream part }
     ensures counted { I.faults inputs.old ≤ I.faults inputs.new }
