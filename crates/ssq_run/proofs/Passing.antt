@@ -13,7 +13,7 @@ use Rattle.ssq_query.specs.File.{IsWritten, IsNoQuery}
 use Rattle.ssq_run.specs.declared.stop.Stop.TheVariants.{Usage, Query, Line, NotYet, LogFault, DiskFault, NoMemory}
 use Rattle.ssq_run.specs.Stopping.{IsPastWords, IsRunStop}
 use Rattle.ssq_run.specs.Words.{IsAsked}
-use Rattle.ssq_run.specs.Program.{Given, read_of, ReadCause, WordsCause, SourceEnd, unstarted, not_one_part, ran, ProgramEnd, no_file, no_query, query_run}
+use Rattle.ssq_run.specs.Program.{Given, read_of, ReadCause, WordsCause, stop_in, SourceEnd, unstarted, not_one_part, ran, ProgramEnd, no_file, no_query, query_run}
 
 pub on_ok : {T E : Type 0} {P Q : Type 0} (r : Result T E) → OnOk r P → (P → Q) → OnOk r Q
 on_ok (Ok x) p f = f p
@@ -124,3 +124,9 @@ pub ran_query : (given : Given) (held1 : Held) (shown1 : List ℕ → ℕ → �
 ran_query given held1 shown1 query prepared file most start now told_old told stop asked is same_query same less end =
     let P : Asking → Type 0 = λ q. SourceEnd held1 shown1 q most start now told_old told stop in
     query_run file most query asked is (source_earlier given.held held1 given.shown shown1 query most start now told_old told stop same less (subst P same_query end))
+
+-- a result tells how the program ended
+pub ends_so : {T : Type 0} (given : Given) (start now : History) (told_old told : List ℕ) (r : Result T Stop) → told_old ≡ []
+    → OnOk r (ProgramEnd given start now told_old told None) → IfErr r (λ stop. ProgramEnd given start now told_old told (Some stop)) → ProgramEnd given start now [] told (stop_in r)
+ends_so given start now told_old told (Ok done) none ok err = let P : List ℕ → Type 0 = λ t. ProgramEnd given start now t told None in subst P none ok
+ends_so given start now told_old told (Err stop) none ok err = let P : List ℕ → Type 0 = λ t. ProgramEnd given start now t told (Some stop) in subst P none err

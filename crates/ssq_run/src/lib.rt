@@ -15,3 +15,4 @@ mod tell;
 mod words;
 
 pub use stop::Stop;
+pub use stream::{Ended, stream_main};

@@ -57,3 +57,48 @@ fn work<D: Disk, I: Inputs>(
     let text = text(alloc, &prepared.query)?;
     run_source(alloc, disk, inputs, &prepared, text, asked.most, told)
 }
+
+/// Does all that the program does: what the words ask for, on this disk and these inputs, with what there is to say on this
+/// output. `words` begin with the program's name. The outside comes back with the program's status.
+///
+/// `run QUERY [--max-lines N]` runs the query of the file QUERY over the log of its one part, in epochs of at most N lines, into a
+/// checkpoint that is empty. When that is done it writes one line for each epoch, and then how many there are. A refusal is
+/// one line, and its number is the status: 2, the words are none of these; 3, the file is no query that can be run yet; 4, the first
+/// line of the planned epoch that is bad or overflows; 9, what cannot be run yet; 6, 7 and 8, the inputs, the disk or the
+/// output failed; 10, memory ran out.
+pub fn stream_main<R: Threads + Wait + Sync, D: Disk, I: Inputs, O: Output, G: Gate>(
+    _rt: &R,
+    alloc: Global,
+    words: &[String],
+    disk: D,
+    inputs: I,
+    out: O,
+    _gate: &G,
+) -> Ended<D, I, O>
+    // How it ends, in the order of its work: what is left on the disk, what was written, and why.
+    ensures ending { D.tells → I.tells → ProgramWrote
+        (record { words = map string_bytes words.now; held = I.held inputs; shown = I.shown inputs })
+        (D.history disk) (D.history result.disk) O.tells (O.content out) (O.content result.out) (O.faults out) (O.faults result.out) result.status }
+
+    // The words are refused exactly where they are no command, unless memory runs out.
+    ensures usage { result.status ≡ 2 → (file : List ℕ) (most : Option ℕ) → IsAsked (map string_bytes words.now) file most → ⊥ }
+    ensures no_command { ((file : List ℕ) (most : Option ℕ) → IsAsked (map string_bytes words.now) file most → ⊥) → (result.status ≡ 2) ⊎ (result.status ≡ 10) }
+
+    // A fault of the outside is answered only where it was counted.
+    ensures inputs_fault { result.status ≡ 6 → Rises (I.faults inputs) (I.faults result.inputs) }
+    ensures disk_fault { result.status ≡ 7 → Rises (D.faults disk) (D.faults result.disk) }
+    ensures out_fault { result.status ≡ 8 → Rises (O.faults out) (O.faults result.out) }
+{
+    let mut disk = disk;
+    let mut inputs = inputs;
+    let mut out = out;
+    let mut told = String::new(alloc);
+    let end = work(alloc, words, &mut disk, &mut inputs, &mut told);
+    let status = tell(alloc, &mut out, told, end);
+    Ended {
+        status,
+        disk,
+        inputs,
+        out,
+    }
+}
