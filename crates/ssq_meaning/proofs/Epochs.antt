@@ -12,7 +12,7 @@ use Rattle.ssq_query.specs.declared.query.Query.{Query}
 use Rattle.ssq_json.specs.Line.{row_of, longest}
 use Rattle.ssq_json.specs.declared.bad_row.BadRow.TheVariants.{TooLong}
 use Rattle.ssq_meaning.specs.Evaluation.{projected}
-use Rattle.ssq_meaning.specs.Meaning.{Line, Values, Cuts, row_in, read_as, is_fed, fed, shown, lines_between, lines_of, out, given, meaning}
+use Rattle.ssq_meaning.specs.Meaning.{Line, Cuts, row_in, read_as, is_fed, fed, shown, lines_between, lines_of, given, meaning}
 
 -- rows are shown line by line
 pub shown-append : (query : Query) (xs ys : List Line) → shown query (fed query (xs ++ ys)) ≡ shown query (fed query xs) ++ shown query (fed query ys)
@@ -60,8 +60,8 @@ too_long query line long = rw long refl
 pub read_as-take : (query : Query) (line : Line) → read_as query (take 1048577 line) ≡ read_as query line
 read_as-take query line =
     elim (cases_lt 1048577 (length line)) [
-      inl long ↦
-        let cut : length (take 1048577 line) ≡ 1048577 = length-take-le 1048577 line (omega (arith, long)) in
-        too_long query (take 1048577 line) (rw cut refl) ∙ sym (too_long query line (lt-ltb _ _ (omega (arith, long))))
-    | inr short ↦ ap (read_as query) (take_all 1048577 line short)
+      | inl long ↦
+          let cut : length (take 1048577 line) ≡ 1048577 = length-take-le 1048577 line (omega (arith, long)) in
+          too_long query (take 1048577 line) (rw cut refl) ∙ sym (too_long query line (lt-ltb _ _ (omega (arith, long))))
+      | inr short ↦ ap (read_as query) (take_all 1048577 line short)
     ]

@@ -1,5 +1,5 @@
 -- What a query shows of a log, on whole lists of lines.
-use Rattle.std.specs.Prelude.{◌≡◌, ◌<◌, ℕ, zero, suc, ◌+◌, ◌-◌, Bool, true, false, List, [], ◌∷◌, ◌++◌, length, map, take, drop, filter, min, Option, Some, None, Result, Ok, Err, is_err, option_and_then}
+use Rattle.std.specs.Prelude.{◌<◌, ℕ, zero, suc, ◌+◌, ◌-◌, Bool, true, false, List, [], ◌++◌, map, take, drop, filter, min, Option, Some, None, Result, Ok, Err, is_err, option_and_then}
 use Rattle.std.specs.List.{filter_map, position_from}
 use Rattle.std.specs.Result.{result_ok}
 use Rattle.ssq_value.specs.declared.column.ColType.TheVariants.{Bigint}

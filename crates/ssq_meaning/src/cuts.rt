@@ -19,5 +19,4 @@ pub fn next_end(most: Option<u64>, seen: u64, from: u64) -> u64
 pub fn epochs_add_up()
     ensures { (query : Query) (lines : List Line) (cuts : Cuts) (n : ℕ) → cuts 0 ≡ 0 → ((e : ℕ) → cuts e ≤ cuts (e + 1)) →
         given query lines cuts n ≡ meaning query lines cuts n }
-{
-}
+{}

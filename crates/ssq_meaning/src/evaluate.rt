@@ -7,9 +7,8 @@ ghost use Rattle.ssq_meaning.specs.Evaluation.{term_value, applied, sum_value, c
 
 use ssq_query::{Comparison, Filter, Item, Op, Query, Sum, Term};
 use ssq_value::{Row, Value};
-use thiserror::Error;
-
 use std::alloc::{AllocError, Global};
+use thiserror::Error;
 
 /// Why a row was not evaluated.
 #[derive(Clone, Copy, Debug, PartialEq, Eq, Error)]

@@ -9,9 +9,8 @@ use crate::evaluate::{EvalFault, shown_row};
 use ssq_json::{BadRow, read_row};
 use ssq_query::Query;
 use ssq_value::{ColType, Column, Row, Schema};
-use thiserror::Error;
-
 use std::alloc::{AllocError, Global};
+use thiserror::Error;
 
 /// Why a line shows nothing.
 #[derive(Clone, Copy, Debug, PartialEq, Eq, Error)]

@@ -48,9 +48,11 @@ begin_stop job text old h0 h1 error empty left = by_error error (left.each h1.mo
   where
     same : (now : Files) → IsEmpty now → now ≡ old
     same now gone = λ i q. (gone q ∙ sym (empty q)) i
+
     left_as : (now : Files) → IsFirst job text now → (now ≡ old) ⊎ (IsEmpty old × (now ≡ files_at job text 0 0 0))
     left_as now (inl gone) = inl (same now gone)
     left_as now (inr first) = inr (empty, first)
+
     by_error : (error : DiskError) → IsFirst job text (files_now h1) → BeginCause job text old (files_now h1) (stop_of_disk error)
     by_error disk.Fault first = left_as (files_now h1) first
     by_error disk.NoMemory first = left_as (files_now h1) first

@@ -24,10 +24,13 @@ IsEmptyOrStands job text files = IsEmpty files ⊎ Stands job text files
 
 reach_none : (job : Job) → job.cuts 0 ≡ 0 → IsReached job 0 0 0
 reach_none job first = record {
-    written_first = omega arith; planned_first = omega arith; one_ahead = omega arith;
-    proper = λ e lt. absurd (omega (arith, lt));
-    inside = omega (arith, first);
-    faultless = λ e lt. absurd (omega (arith, lt)) }
+  written_first = omega arith;
+  planned_first = omega arith;
+  one_ahead = omega arith;
+  proper = λ e lt. absurd (omega (arith, lt));
+  inside = omega (arith, first);
+  faultless = λ e lt. absurd (omega (arith, lt));
+}
 
 abbrev stands_first : (job : Job) (text : List ℕ) (files : Files) → job.cuts 0 ≡ 0 → files ≡ files_at job text 0 0 0 → Stands job text files
 stands_first job text files first is = record { planned = 0; committed = 0; written = 0; reached = reach_none job first; exactly = is }
@@ -42,35 +45,39 @@ untold job told = append-nil (told ++ told_before job 0) ∙ ap (λ t. told ++ t
 -- nothing was done to the disk
 idle_moments : (job : Job) (text : List ℕ) (h : History) → LeavesNow h IsEmpty → LeavesOnly h h (IsEmptyOrStands job text)
 idle_moments job text h now = record {
-    later = omega arith;
-    kept = λ k le. refl;
-    each = λ k from to image is.
+  later = omega arith;
+  kept = λ k le. refl;
+  each = λ k from to image is.
       let M : ℕ → Type 0 = λ k. IsImage (h.had_at k) image in
       let at : k ≡ h.moment = omega arith in
-      inl (now.each image (subst M at is))
-  }
+      inl (now.each image (subst M at is));
+}
 
 -- the log could not be counted
 pub uncounted : (query : Asking) (text : List ℕ) (log : List LogLine) (shown : ℕ) (most : Option ℕ) (h : History) (told : List ℕ)
     → RunLeaves query text log shown most h h told told (Some LogFault)
 uncounted query text log shown most h told = record {
-    seen = shown; epochs = 0; saw = omega arith;
-    lines = sym (untold (round_of query log most shown) told);
-    files = untouched refl refl;
-    cause = tt;
-    moments = idle_moments (round_of query log most shown) text h
-  }
+  seen = shown;
+  epochs = 0;
+  saw = omega arith;
+  lines = sym (untold (round_of query log most shown) told);
+  files = untouched refl refl;
+  cause = tt;
+  moments = idle_moments (round_of query log most shown) text h;
+}
 
 -- the log has too many lines
 pub too_many : (query : Asking) (text : List ℕ) (log : List LogLine) (shown : ℕ) (most : Option ℕ) (h : History) (told : List ℕ) (seen : ℕ)
     → shown ≤ seen → most_lines < seen → RunLeaves query text log shown most h h told told (Some NotYet)
 too_many query text log shown most h told seen saw many = record {
-    seen = seen; epochs = 0; saw = saw;
-    lines = sym (untold (round_of query log most seen) told);
-    files = untouched refl refl;
-    cause = inl many;
-    moments = idle_moments (round_of query log most seen) text h
-  }
+  seen = seen;
+  epochs = 0;
+  saw = saw;
+  lines = sym (untold (round_of query log most seen) told);
+  files = untouched refl refl;
+  cause = inl many;
+  moments = idle_moments (round_of query log most seen) text h;
+}
 
 begin_files : (job : Job) (text : List ℕ) (old now : Files) → job.cuts 0 ≡ 0 → (now ≡ old) ⊎ (IsEmpty old × (now ≡ files_at job text 0 0 0)) → FilesLeft job text 0 old now
 begin_files job text old now first (inl same) = untouched refl same
@@ -102,11 +109,13 @@ pub not_begun : (query : Asking) (text : List ℕ) (log : List LogLine) (shown :
 not_begun query text log shown most start now told seen stop saw few cause moments =
     let job = round_of query log most seen in
     record {
-      seen = seen; epochs = 0; saw = saw;
+      seen = seen;
+      epochs = 0;
+      saw = saw;
       lines = sym (untold job told);
       files = begin_left job text (files_now start) (files_now now) stop (cuts_first most seen) cause;
       cause = begin_cause job text seen (files_now start) (files_now now) stop few cause;
-      moments = λ empty. weaker (IsFirst job text) (IsEmptyOrStands job text) start now (moments empty) (λ f is. first_stands job text f (cuts_first most seen) is)
+      moments = λ empty. weaker (IsFirst job text) (IsEmptyOrStands job text) start now (moments empty) (λ f is. first_stands job text f (cuts_first most seen) is);
     }
 
 during_left : (job : Job) (text : List ℕ) (n : ℕ) (old now : Files) → IsEmpty old → IsReached job n n n → job.cuts n < job.cuts (n + 1) → job.cuts (n + 1) ≤ length job.lines → IsDuring job text n now → FilesLeft job text n old now
@@ -133,8 +142,8 @@ run_moments : (job : Job) (text : List ℕ) (start begun now : History) → job.
     → LeavesNow start IsEmpty → LeavesOnly start now (IsEmptyOrStands job text)
 run_moments job text start begun now first earlier later_on empty =
     joined (IsEmptyOrStands job text) start begun now
-      (weaker (IsFirst job text) (IsEmptyOrStands job text) start begun (earlier empty) (λ f is. first_stands job text f first is))
-      (weaker (Stands job text) (IsEmptyOrStands job text) begun now later_on (λ f is. inr is))
+    (weaker (IsFirst job text) (IsEmptyOrStands job text) start begun (earlier empty) (λ f is. first_stands job text f first is))
+    (weaker (Stands job text) (IsEmptyOrStands job text) begun now later_on (λ f is. inr is))
 
 -- the round stopped
 pub round_stopped : (query : Asking) (text : List ℕ) (log : List LogLine) (shown : ℕ) (most : Option ℕ) (start begun now : History) (first told : List ℕ) (seen : ℕ) (stop : Stop)
@@ -150,11 +159,13 @@ round_stopped query text log shown most start begun now first told seen stop som
     let line : job.cuts n < job.cuts (n + 1) = omega (arith, bounds.0, next) in
     let whole : job.cuts (n + 1) ≤ length log = omega (arith, bounds.1, next, inside) in
     record {
-      seen = seen; epochs = n; saw = saw;
+      seen = seen;
+      epochs = n;
+      saw = saw;
       lines = round.lines ∙ sym (append-nil (first ++ told_before job n));
       files = during_left job text n (files_now start) (files_now now) empty round.reached line whole (round.present.each (files_now now) (files_are_image (had_now now)));
       cause = round_cause job text seen n (files_now start) now stop few round.unfinished round.cause;
-      moments = run_moments job text start begun now (cuts_first most seen) earlier later_on
+      moments = run_moments job text start begun now (cuts_first most seen) earlier later_on;
     }
 
 done_left : (job : Job) (text : List ℕ) (n seen : ℕ) (old : Files) (now : History) (first told : List ℕ) → IsEmpty old → IsRoundDone job text seen now first told n → FilesLeft job text n old (files_now now)
@@ -170,11 +181,13 @@ pub round_told : (query : Asking) (text : List ℕ) (log : List LogLine) (shown 
 round_told query text log shown most start begun now first told told' seen n saw few empty earlier later_on round added =
     let job = round_of query log most seen in
     record {
-      seen = seen; epochs = n; saw = saw;
+      seen = seen;
+      epochs = n;
+      saw = saw;
       lines = added ∙ ap (λ t. t ++ done_line n) round.lines;
       files = done_left job text n seen (files_now start) now first told empty round;
       cause = (few, round.covered, settled_files now (files_at job text n n n) round.settled);
-      moments = run_moments job text start begun now (cuts_first most seen) earlier later_on
+      moments = run_moments job text start begun now (cuts_first most seen) earlier later_on;
     }
 
 -- the round is done, and that could not be told
@@ -186,9 +199,11 @@ pub round_not_told : (query : Asking) (text : List ℕ) (log : List LogLine) (sh
 round_not_told query text log shown most start begun now first told told' seen n saw empty earlier later_on round same =
     let job = round_of query log most seen in
     record {
-      seen = seen; epochs = n; saw = saw;
+      seen = seen;
+      epochs = n;
+      saw = saw;
       lines = same ∙ round.lines ∙ sym (append-nil (first ++ told_before job n));
       files = done_left job text n seen (files_now start) now first told empty round;
       cause = tt;
-      moments = run_moments job text start begun now (cuts_first most seen) earlier later_on
+      moments = run_moments job text start begun now (cuts_first most seen) earlier later_on;
     }

@@ -28,7 +28,7 @@ pub known_less : (query : Asking) (text text' : List ℕ) (log log' : List LogLi
     → log ≡ log' → text ≡ text' → shown' ≤ shown → RunLeaves query text log shown most start now told_old told stop → RunLeaves query text' log' shown' most start now told_old told stop
 known_less query text text' log log' shown shown' most start now told_old told stop same spelled less left =
     let less_known : RunLeaves query text log shown' most start now told_old told stop =
-      record { seen = left.seen; epochs = left.epochs; saw = omega (arith, left.saw, less); lines = left.lines; files = left.files; cause = left.cause; moments = left.moments } in
+    record { seen = left.seen; epochs = left.epochs; saw = omega (arith, left.saw, less); lines = left.lines; files = left.files; cause = left.cause; moments = left.moments } in
     let P : List LogLine → Type 0 = λ log. RunLeaves query text log shown' most start now told_old told stop in
     let Q : List ℕ → Type 0 = λ text. RunLeaves query text log' shown' most start now told_old told stop in
     subst Q spelled (subst P same less_known)
@@ -43,8 +43,8 @@ source_ran held mid query shown mid_shown source parts log known text most start
     let one_part : held.parts source ≡ 1 = omega (arith, counted, one) in
     let whole : log ≡ held.lines query.source 0 = lines ∙ ap (λ (h : Held). h.lines source 0) unchanged ∙ ap (λ s. held.lines s 0) same in
     let less : shown query.source 0 ≤ known =
-      let P : List ℕ → Type 0 = λ s. shown s 0 ≤ known in
-      let at : shown source 0 ≤ known = omega (arith, grown source 0, begins) in subst P same at in
+    let P : List ℕ → Type 0 = λ s. shown s 0 ≤ known in
+    let at : shown source 0 ≤ known = omega (arith, grown source 0, begins) in subst P same at in
     ran (ap held.parts (sym same) ∙ one_part) (known_less query text (canonical query) log (held.lines query.source 0) known (shown query.source 0) most start now told_old told stop whole spelled less left)
 
 abbrev value_or_0 : Option ℕ → ℕ
@@ -114,8 +114,8 @@ source_earlier held0 held1 shown0 shown1 query most start now told_old told stop
     not_one_part (λ e. parts (ap (λ (h : Held). h.parts query.source) same ∙ e)) is idle
 source_earlier held0 held1 shown0 shown1 query most start now told_old told stop same less (ran parts left) =
     ran (ap (λ (h : Held). h.parts query.source) (sym same) ∙ parts)
-      (known_less query (canonical query) (canonical query) (held1.lines query.source 0) (held0.lines query.source 0) (shown1 query.source 0) (shown0 query.source 0) most start now told_old told stop
-        (ap (λ (h : Held). h.lines query.source 0) same) refl (less query.source 0) left)
+    (known_less query (canonical query) (canonical query) (held1.lines query.source 0) (held0.lines query.source 0) (shown1 query.source 0) (shown0 query.source 0) most start now told_old told stop
+    (ap (λ (h : Held). h.lines query.source 0) same) refl (less query.source 0) left)
 
 -- the query was run
 pub ran_query : (given : Given) (held1 : Held) (shown1 : List ℕ → ℕ → ℕ) (query prepared : Asking) (file : List ℕ) (most : Option ℕ) (start now : History) (told_old told : List ℕ) (stop : Option Stop)

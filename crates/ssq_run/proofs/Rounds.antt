@@ -41,18 +41,26 @@ told_none job = refl
 -- one epoch more can be planned
 pub reach_planned : (job : Job) (n : ℕ) → IsReached job n n n → job.cuts n < job.cuts (n + 1) → job.cuts (n + 1) ≤ length job.lines → IsReached job (n + 1) n n
 reach_planned job n reached line inside = record {
-    written_first = omega arith; planned_first = omega arith; one_ahead = omega arith;
-    proper = λ e lt. elim (cases_lt e n) [ inl old ↦ reached.proper e old | inr new ↦
-      let same : n ≡ e = omega arith in
-      let P : ℕ → Type 0 = λ e. job.cuts e < job.cuts (e + 1) in subst P same line ];
-    inside = inside;
-    faultless = reached.faultless
-  }
+  written_first = omega arith;
+  planned_first = omega arith;
+  one_ahead = omega arith;
+  proper = λ e lt. elim (cases_lt e n) [
+    | inl old ↦ reached.proper e old
+    | inr new ↦
+        let same : n ≡ e = omega arith in
+        let P : ℕ → Type 0 = λ e. job.cuts e < job.cuts (e + 1) in subst P same line
+  ];
+  inside = inside;
+  faultless = reached.faultless;
+}
 
 more_good : (job : Job) (n : ℕ) → IsReached job n n n → fault job.query job.lines job.cuts n ≡ None → (e : ℕ) → e < n + 1 → fault job.query job.lines job.cuts e ≡ None
-more_good job n reached good e lt = elim (cases_lt e n) [ inl old ↦ reached.faultless e old | inr new ↦
-    let same : n ≡ e = omega arith in
-    let P : ℕ → Type 0 = λ e. fault job.query job.lines job.cuts e ≡ None in subst P same good ]
+more_good job n reached good e lt = elim (cases_lt e n) [
+  | inl old ↦ reached.faultless e old
+  | inr new ↦
+      let same : n ≡ e = omega arith in
+      let P : ℕ → Type 0 = λ e. fault job.query job.lines job.cuts e ≡ None in subst P same good
+]
 
 -- and written, and committed, where it has no fault
 pub reach_written : (job : Job) (n : ℕ) → IsReached job n n n → job.cuts n < job.cuts (n + 1) → job.cuts (n + 1) ≤ length job.lines → fault job.query job.lines job.cuts n ≡ None → IsReached job (n + 1) n (n + 1)
@@ -86,15 +94,18 @@ pub record RoundSoFar (job : Job) (text : List ℕ) (start now : History) (first
 pub round_begins : (job : Job) (text : List ℕ) (start : History) (first : List ℕ) → job.cuts 0 ≡ 0 → IsSettledAs start (files_at job text 0 0 0) → RoundSoFar job text start start first first 0
 round_begins job text start first none settled =
     let reached : IsReached job 0 0 0 = record {
-      written_first = omega arith; planned_first = omega arith; one_ahead = omega arith;
+      written_first = omega arith;
+      planned_first = omega arith;
+      one_ahead = omega arith;
       proper = λ e lt. absurd (omega (arith, lt));
       inside = omega (arith, none);
-      faultless = λ e lt. absurd (omega (arith, lt)) } in
+      faultless = λ e lt. absurd (omega (arith, lt));
+    } in
     record {
       settled = settled;
       run = stays start (Stands job text) (files_at job text 0 0 0) settled (record { planned = 0; committed = 0; written = 0; reached = reached; exactly = refl });
       reached = reached;
-      lines = sym (append-nil first) ∙ ap (λ t. first ++ t) (sym (told_none job))
+      lines = sym (append-nil first) ∙ ap (λ t. first ++ t) (sym (told_none job));
     }
 
 pub round_goes_on : (job : Job) (text : List ℕ) (start now new : History) (first told told' : List ℕ) (n rows from end : ℕ)
@@ -110,7 +121,7 @@ round_goes_on job text start now new first told told' n rows from end so_far beg
       run = joined (Stands job text) start now new so_far.run (weaker (IsDuring job text n) (Stands job text) now new during (λ f is. during_stands job text n f so_far.reached line' inside' is));
       reached = reach_committed job n so_far.reached line' inside' done.good;
       lines = added ∙ ap (λ t. t ++ epoch_line n (end - from) rows) so_far.lines ∙ append_assoc first (told_before job n) (epoch_line n (end - from) rows)
-        ∙ ap (λ t. first ++ (told_before job n ++ t)) text_is ∙ ap (λ t. first ++ t) (sym (told_next job n))
+          ∙ ap (λ t. first ++ (told_before job n ++ t)) text_is ∙ ap (λ t. first ++ t) (sym (told_next job n));
     }
 
 -- an epoch stopped
@@ -126,9 +137,12 @@ pub round_untold : (job : Job) (text : List ℕ) (start now new : History) (firs
     → IsRoundStop job text seen new first told' NoMemory
 round_untold job text start now new first told told' n seen rows so_far unfinished done same =
     record {
-      epochs = n; reached = so_far.reached; unfinished = unfinished; lines = same ∙ so_far.lines;
+      epochs = n;
+      reached = so_far.reached;
+      unfinished = unfinished;
+      lines = same ∙ so_far.lines;
       present = record { each = λ image is. committed ((settled_image new (files_at job text (n + 1) (n + 1) (n + 1)) done.settled).each image is) done.good };
-      cause = tt
+      cause = tt;
     }
 
 -- at each moment of an epoch that does not end the round

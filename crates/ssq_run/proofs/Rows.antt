@@ -36,13 +36,13 @@ goes_on query lines old now from at end rows row after so_far same inside shows 
     let good_line : is_faulty query is.line ≡ false = sym (faulty-take query is.line) ∙ ap (is_faulty query) (sym is.cut) ∙ shows.good in
     let row_is : shown query (fed query (is.line ∷ [])) ≡ row = sym (shown-take query is.line) ∙ ap (λ l. shown query (fed query (l ∷ []))) (sym is.cut) ∙ shows.gives in
     let more : shown query (fed query (lines_between at end lines)) ≡ row ++ shown query (fed query (lines_between (at + 1) end lines)) =
-      ap (λ ls. shown query (fed query ls)) front ∙ shown-append query (is.line ∷ []) (lines_between (at + 1) end lines) ∙ ap (λ r. r ++ shown query (fed query (lines_between (at + 1) end lines))) row_is in
+    ap (λ ls. shown query (fed query ls)) front ∙ shown-append query (is.line ∷ []) (lines_between (at + 1) end lines) ∙ ap (λ r. r ++ shown query (fed query (lines_between (at + 1) end lines))) row_is in
     let passed : position_from (is_faulty query) at (lines_between at end lines) ≡ position_from (is_faulty query) (at + 1) (lines_between (at + 1) end lines) =
-      ap (position_from (is_faulty query) at) front ∙ rw good_line refl in
+    ap (position_from (is_faulty query) at) front ∙ rw good_line refl in
     record {
       same = kept;
       left = ap (λ r. r ++ shown query (fed query (lines_between (at + 1) end lines))) added ∙ append_assoc rows row (shown query (fed query (lines_between (at + 1) end lines))) ∙ ap (λ r. rows ++ r) (sym more) ∙ so_far.left;
-      unfaulty = sym passed ∙ so_far.unfaulty
+      unfaulty = sym passed ∙ so_far.unfaulty;
     }
 
 -- a line that is a fault
@@ -64,6 +64,7 @@ none_left at end lines le = let e : end - at ≡ 0 = omega (arith, le) in rw e r
 pub ends : (query : Query) (lines now : List Line) (from at end : ℕ) (rows : List Values) → SoFar query lines now from at end rows → end ≤ at
     → (rows ≡ shown query (fed query (lines_between from end lines))) × (position_from (is_faulty query) from (lines_between from end lines) ≡ None)
 ends query lines now from at end rows so_far le =
-    let over : lines_between at end lines ≡ [] = none_left at end lines le in
-    (sym (append-nil rows) ∙ ap (λ ls. rows ++ shown query (fed query ls)) (sym over) ∙ so_far.left,
-     sym so_far.unfaulty ∙ ap (position_from (is_faulty query) at) over)
+    let over : lines_between at end lines ≡ [] = none_left at end lines le in (
+      sym (append-nil rows) ∙ ap (λ ls. rows ++ shown query (fed query ls)) (sym over) ∙ so_far.left,
+      sym so_far.unfaulty ∙ ap (position_from (is_faulty query) at) over,
+    )

@@ -8,9 +8,11 @@ use Rattle.ssq_run.specs.Settled.{IsSettledAs, IsEither}
 
 -- a settled disk has one image
 pub settled_image : (h : History) (files : Files) → IsSettledAs h files → LeavesNow h (λ image. image ≡ files)
-settled_image h files settled = record { each = λ image is.
-    let M : Had → Type 0 = λ had. IsImage had image in
-    image_settled files image (subst M settled.is is) }
+settled_image h files settled = record {
+  each = λ image is.
+      let M : Had → Type 0 = λ had. IsImage had image in
+      image_settled files image (subst M settled.is is);
+}
 
 pub settled_files : (h : History) (files : Files) → IsSettledAs h files → files_now h ≡ files
 settled_files h files settled = ap files_of settled.is

@@ -43,14 +43,14 @@ pub plan_step : (job : Job) (text : List ℕ) (n k m : ℕ)
     → published (name.Plan n) (plan_text (plan_of n (job.cuts (n + 1)))) (files_at job text n k m) ≡ files_at job text (n + 1) k m
 plan_step job text n k m =
     let at : (q : Name) → published (name.Plan n) (plan_text (plan_of n (job.cuts (n + 1)))) (files_at job text n k m) q ≡ files_at job text (n + 1) k m q =
-      elim [
-        name.Meta ↦ refl
+    elim [
+      | name.Meta ↦ refl
       | name.Plan e ↦ one_more n e (λ e. plan_text (plan_of e (job.cuts (e + 1))))
       | name.Commit e ↦ refl
       | name.Out e ↦ refl
       | name.Delta p v ↦ refl
       | name.Snapshot p v ↦ refl
-      ] in
+    ] in
     λ i q. at q i
 
 -- the rows are published
@@ -58,14 +58,14 @@ pub write_step : (job : Job) (text : List ℕ) (n k m : ℕ)
     → published (name.Out m) (epoch_rows job m) (files_at job text n k m) ≡ files_at job text n k (m + 1)
 write_step job text n k m =
     let at : (q : Name) → published (name.Out m) (epoch_rows job m) (files_at job text n k m) q ≡ files_at job text n k (m + 1) q =
-      elim [
-        name.Meta ↦ refl
+    elim [
+      | name.Meta ↦ refl
       | name.Plan e ↦ refl
       | name.Commit e ↦ refl
       | name.Out e ↦ one_more m e (epoch_rows job)
       | name.Delta p v ↦ refl
       | name.Snapshot p v ↦ refl
-      ] in
+    ] in
     λ i q. at q i
 
 -- the commit is published
@@ -73,28 +73,28 @@ pub commit_step : (job : Job) (text : List ℕ) (n k m : ℕ)
     → published (name.Commit k) (commit_text (commit_of k)) (files_at job text n k m) ≡ files_at job text n (k + 1) m
 commit_step job text n k m =
     let at : (q : Name) → published (name.Commit k) (commit_text (commit_of k)) (files_at job text n k m) q ≡ files_at job text n (k + 1) m q =
-      elim [
-        name.Meta ↦ refl
+    elim [
+      | name.Meta ↦ refl
       | name.Plan e ↦ refl
       | name.Commit e ↦ one_more k e (λ e. commit_text (commit_of e))
       | name.Out e ↦ refl
       | name.Delta p v ↦ refl
       | name.Snapshot p v ↦ refl
-      ] in
+    ] in
     λ i q. at q i
 
 -- the job's record is published on an empty disk
 pub meta_step : (job : Job) (text : List ℕ) (files : Files) → IsEmpty files → published name.Meta (meta_text (meta_of text)) files ≡ files_at job text 0 0 0
 meta_step job text files empty =
     let at : (q : Name) → published name.Meta (meta_text (meta_of text)) files q ≡ files_at job text 0 0 0 q =
-      elim [
-        name.Meta ↦ refl
+    elim [
+      | name.Meta ↦ refl
       | name.Plan e ↦ empty (name.Plan e) ∙ sym (none_yet (λ e. plan_text (plan_of e (job.cuts (e + 1)))) e)
       | name.Commit e ↦ empty (name.Commit e) ∙ sym (none_yet (λ e. commit_text (commit_of e)) e)
       | name.Out e ↦ empty (name.Out e) ∙ sym (none_yet (epoch_rows job) e)
       | name.Delta p v ↦ empty (name.Delta p v)
       | name.Snapshot p v ↦ empty (name.Snapshot p v)
-      ] in
+    ] in
     λ i q. at q i
 
 -- nothing is done to a settled disk

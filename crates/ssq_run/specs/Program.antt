@@ -53,7 +53,7 @@ pub data ProgramEnd (given : Given) (start now : History) (told_old told : List 
   no_file : (file : List ℕ) (most : Option ℕ) → IsAsked given.words file most → IsOutside stop → IsIdle start now told_old told → ProgramEnd given start now told_old told stop
   no_query : (file : List ℕ) (most : Option ℕ) → IsAsked given.words file most → IsNoQuery (read_of given.held file) → stop ≡ Some Query → IsIdle start now told_old told → ProgramEnd given start now told_old told stop
   query_run : (file : List ℕ) (most : Option ℕ) (query : Asking) → IsAsked given.words file most → IsWritten (read_of given.held file) query
-    → SourceEnd given.held given.shown query most start now told_old told stop → ProgramEnd given start now told_old told stop
+      → SourceEnd given.held given.shown query most start now told_old told stop → ProgramEnd given start now told_old told stop
 
 -- the words are no command; or they are one, and there is another cause
 abbrev pub WordsCause : List (List ℕ) → Stop → Type 0

@@ -13,7 +13,6 @@ use crate::settle::settle;
 use ssq_outside::{Disk, DiskError, Name};
 use ssq_plans::{Listed, Meta, write_meta};
 use ssq_value::Text;
-
 use std::alloc::{AllocError, Global};
 
 /// Whether a disk has no file, once its names are settled.

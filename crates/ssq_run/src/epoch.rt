@@ -21,7 +21,6 @@ use ssq_plans::{Commit, Listed, Plan, write_commit, write_plan};
 use ssq_query::Query;
 use ssq_sink::epoch_text;
 use ssq_value::{Row, Schema};
-
 use std::alloc::{AllocError, Global};
 
 /// An epoch that is to run: its number, and its lines, from one offset up to another.

@@ -12,9 +12,8 @@ use ssq_meaning::{LineFault, show_line};
 use ssq_outside::{LineError, Log};
 use ssq_query::Query;
 use ssq_value::{Row, Schema};
-use thiserror::Error;
-
 use std::alloc::{AllocError, Global};
+use thiserror::Error;
 
 /// Why an epoch's lines gave no rows.
 #[derive(Clone, Copy, Debug, PartialEq, Eq, Error)]

@@ -16,7 +16,6 @@ use ssq_meaning::schema_of;
 use ssq_outside::Inputs;
 use ssq_query::{Item, Query, read_query};
 use ssq_value::{ColType, Column, Schema, Text};
-
 use std::alloc::{AllocError, Global};
 
 /// More bytes than a query's file may have.

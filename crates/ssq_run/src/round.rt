@@ -15,7 +15,6 @@ use crate::epoch::{Epoch, Prepared, run_epoch};
 use crate::stop::Stop;
 use ssq_meaning::next_end;
 use ssq_outside::{Disk, Log};
-
 use std::alloc::{AllocError, Global};
 
 /// Adds the line of an epoch that is done. After an `Err` the text is as before.
@@ -61,7 +60,7 @@ pub fn run_round<D: Disk, L: Log>(
         IsSettledAs (D.history disk.old) (files_at (round_of prepared.now.query (L.lines log.old) sight.most sight.seen) text 0 0 0) →
         sight.seen ≤ L.shown log.old → sight.seen ≤ length (L.lines log.old) →
         IfOk result (IsRoundDone (round_of prepared.now.query (L.lines log.old) sight.most sight.seen) text sight.seen
-            (D.history disk.new) (string_bytes told.old) (string_bytes told.new)) }
+        (D.history disk.new) (string_bytes told.old) (string_bytes told.new)) }
     ensures any_moment { D.tells → L.tells → (text : List ℕ) →
         IsSettledAs (D.history disk.old) (files_at (round_of prepared.now.query (L.lines log.old) sight.most sight.seen) text 0 0 0) →
         sight.seen ≤ L.shown log.old → sight.seen ≤ length (L.lines log.old) →
@@ -70,7 +69,7 @@ pub fn run_round<D: Disk, L: Log>(
         IsSettledAs (D.history disk.old) (files_at (round_of prepared.now.query (L.lines log.old) sight.most sight.seen) text 0 0 0) →
         sight.seen ≤ L.shown log.old → sight.seen ≤ length (L.lines log.old) →
         IfErr result (IsRoundStop (round_of prepared.now.query (L.lines log.old) sight.most sight.seen) text sight.seen
-            (D.history disk.new) (string_bytes told.old) (string_bytes told.new)) }
+        (D.history disk.new) (string_bytes told.old) (string_bytes told.new)) }
     ensures only { IfErr result IsRunStop }
     ensures same { L.tells → L.lines log.new ≡ L.lines log.old }
     ensures grown { L.tells → L.shown log.old ≤ L.shown log.new }

@@ -20,7 +20,6 @@ use crate::round::{Sight, run_round};
 use crate::stop::Stop;
 use ssq_outside::{Disk, Log};
 use ssq_value::Text;
-
 use std::alloc::{AllocError, Global};
 
 /// The most lines of a log that is run yet.

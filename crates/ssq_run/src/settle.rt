@@ -7,7 +7,6 @@ ghost use Rattle.ssq_outside.specs.History.{LeavesOnly};
 ghost use Rattle.ssq_run.specs.Settled.{IsSettledAs, IsEither};
 
 use ssq_outside::{Disk, DiskError, Name, Stage};
-
 use std::alloc::Global;
 
 /// Writes a file aside and seals it.
@@ -41,7 +40,12 @@ fn seal<D: Disk>(
 /// Publishes these bytes under a name and settles them: when this is done no crash can take them away.
 ///
 /// On a settled disk a crash at any moment of the call leaves the files as they were, or with this one.
-pub fn settle<D: Disk>(alloc: Global, disk: &mut D, name: Name, bytes: &[u8]) -> Result<(), DiskError>
+pub fn settle<D: Disk>(
+    alloc: Global,
+    disk: &mut D,
+    name: Name,
+    bytes: &[u8],
+) -> Result<(), DiskError>
     ensures done { D.tells → (files : Files) → IsSettledAs (D.history disk.old) files → OnOk result (IsSettledAs (D.history disk.new) (published name bytes.now files)) }
     ensures any_moment { D.tells → (files : Files) → IsSettledAs (D.history disk.old) files →
         LeavesOnly (D.history disk.old) (D.history disk.new) (IsEither files (published name bytes.now files)) }

@@ -14,7 +14,6 @@ use crate::run::run_log;
 use crate::stop::Stop;
 use ssq_outside::{Disk, Inputs};
 use ssq_value::Text;
-
 use std::alloc::Global;
 
 /// Opens the one part of a query's source, runs the query over it, and gives the log back.

@@ -14,7 +14,6 @@ use crate::tell::tell;
 use crate::words::ask;
 use ssq_outside::{Disk, Gate, Inputs, Output};
 use ssq_query::text;
-
 use std::alloc::Global;
 use std::sync::Wait;
 use std::thread::Threads;

@@ -5,7 +5,6 @@ ghost use Rattle.ssq_run.specs.Program.{status_of, stop_line, stop_in, Wrote, Is
 
 use crate::stop::Stop;
 use ssq_outside::{OutError, Output};
-
 use std::alloc::{AllocError, Global};
 
 fn status(stop: &Stop) -> u8

@@ -15,4 +15,4 @@ returns-clause-done g c = λ tells job files empty settled.
 pub returns-clause-any_moment : goal.returns-clause-any_moment
 returns-clause-any_moment g c = λ tells job files empty settled.
     either_gives (IsFirst job c.args.text) _ _ _ _ _ (c.settle.ensures.any_moment tells files settled)
-      (meta_published job c.args.text _ files empty (c.as_slice.ensures.value ∙ c.in_ok-bytes.ensures)) (inl empty) (inr refl)
+    (meta_published job c.args.text _ files empty (c.as_slice.ensures.value ∙ c.in_ok-bytes.ensures)) (inl empty) (inr refl)

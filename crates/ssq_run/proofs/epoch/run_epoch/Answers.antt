@@ -25,8 +25,8 @@ returns-in_err-write_rows-clause-any_moment g c = λ tells told job text epoch s
     let planned = c.in_ok-plan_epoch.ensures.done tells job text epoch.ends settled in
     let names = c.requires.shown ∙ ap output_names (sym epoch.same_query) in
     joined (IsDuring job text c.args.epoch.number) _ _ _
-      (c.plan_epoch.ensures.any_moment tells job text epoch.ends settled)
-      (c.write_rows.ensures.any_moment tells job text names (c.in_ok-rows.ensures.rows told job epoch) (c.in_ok-rows.ensures.good told job epoch) planned)
+    (c.plan_epoch.ensures.any_moment tells job text epoch.ends settled)
+    (c.write_rows.ensures.any_moment tells job text names (c.in_ok-rows.ensures.rows told job epoch) (c.in_ok-rows.ensures.good told job epoch) planned)
 
 pub returns-in_err-commit_epoch-clause-any_moment : goal.returns-in_err-commit_epoch-clause-any_moment
 returns-in_err-commit_epoch-clause-any_moment g c = λ tells told job text epoch settled.
@@ -36,10 +36,10 @@ returns-in_err-commit_epoch-clause-any_moment g c = λ tells told job text epoch
     let good = c.in_ok-rows.ensures.good told job epoch in
     let written = c.in_ok-write_rows.ensures.done tells job text names rows planned in
     joined (IsDuring job text c.args.epoch.number) _ _ _
-      (joined (IsDuring job text c.args.epoch.number) _ _ _
-        (c.plan_epoch.ensures.any_moment tells job text epoch.ends settled)
-        (c.write_rows.ensures.any_moment tells job text names rows good planned))
-      (c.commit_epoch.ensures.any_moment tells job text good written)
+    (joined (IsDuring job text c.args.epoch.number) _ _ _
+    (c.plan_epoch.ensures.any_moment tells job text epoch.ends settled)
+    (c.write_rows.ensures.any_moment tells job text names rows good planned))
+    (c.commit_epoch.ensures.any_moment tells job text good written)
 
 pub returns-clause-any_moment : goal.returns-clause-any_moment
 returns-clause-any_moment g c = λ tells told job text epoch settled.
@@ -49,10 +49,10 @@ returns-clause-any_moment g c = λ tells told job text epoch settled.
     let good = c.in_ok-rows.ensures.good told job epoch in
     let written = c.in_ok-write_rows.ensures.done tells job text names rows planned in
     joined (IsDuring job text c.args.epoch.number) _ _ _
-      (joined (IsDuring job text c.args.epoch.number) _ _ _
-        (c.plan_epoch.ensures.any_moment tells job text epoch.ends settled)
-        (c.write_rows.ensures.any_moment tells job text names rows good planned))
-      (c.commit_epoch.ensures.any_moment tells job text good written)
+    (joined (IsDuring job text c.args.epoch.number) _ _ _
+    (c.plan_epoch.ensures.any_moment tells job text epoch.ends settled)
+    (c.write_rows.ensures.any_moment tells job text names rows good planned))
+    (c.commit_epoch.ensures.any_moment tells job text good written)
 
 pub returns-clause-done : goal.returns-clause-done
 returns-clause-done g c = λ tells told job text epoch settled.
@@ -64,5 +64,5 @@ returns-clause-done g c = λ tells told job text epoch settled.
     record {
       settled = c.in_ok-commit_epoch.ensures.done tells job text written;
       good = good;
-      count = ap length (c.as_slice-count.ensures.value ∙ rows)
+      count = ap length (c.as_slice-count.ensures.value ∙ rows);
     }

@@ -9,7 +9,7 @@ loop-at-preserved g c = record {
   so_far = λ tells. goes_on _ _ _ _ _ _ _ _ _ _ (c.loop-at.invariant.so_far tells) (c.row_at.ensures.same tells) c.loop-at-test.true (c.in_ok-row.ensures.shows tells) c.in_ok-add.ensures.items;
   years = c.in_ok-add.ensures.years c.loop-at.invariant.years c.in_ok-row.ensures.years;
   grown = λ tells. omega (arith, c.loop-at.invariant.grown tells, c.row_at.ensures.grown tells);
-  counted = omega (arith, c.loop-at.invariant.counted, c.row_at.ensures.counted)
+  counted = omega (arith, c.loop-at.invariant.counted, c.row_at.ensures.counted);
 }
 
 pub returns-in_err-row-clause-line : goal.returns-in_err-row-clause-line

@@ -10,5 +10,5 @@ invariant-loop-at g l = record {
   so_far : g.L.Log.tells → SoFar l.query (g.L.Log.lines l.initial.log) (g.L.Log.lines l.log) l.from l.at l.end l.rows.items;
   years : All (All (IfTime IsStampTime)) l.rows.items;
   grown : g.L.Log.tells → g.L.Log.shown l.initial.log ≤ g.L.Log.shown l.log;
-  counted : g.L.Log.faults l.initial.log ≤ g.L.Log.faults l.log
+  counted : g.L.Log.faults l.initial.log ≤ g.L.Log.faults l.log;
 }

@@ -11,11 +11,11 @@ loop-from-init g c = record {
   small = omega arith;
   inside = omega arith;
   so_far = λ tells told text settled shown inside.
-    round_begins (round_of c.args.prepared.now.query (g.L.Log.lines c.args.log.now) c.args.sight.most c.args.sight.seen) text _ _ (cuts_first c.args.sight.most c.args.sight.seen) settled;
+      round_begins (round_of c.args.prepared.now.query (g.L.Log.lines c.args.log.now) c.args.sight.most c.args.sight.seen) text _ _ (cuts_first c.args.sight.most c.args.sight.seen) settled;
   same = λ told. refl;
   grown = λ told. omega arith;
   disk_counted = omega arith;
-  log_counted = omega arith
+  log_counted = omega arith;
 }
 
 pub returns-in_err-rows-clause-any_moment : goal.returns-in_err-rows-clause-any_moment
@@ -25,7 +25,7 @@ returns-in_err-rows-clause-any_moment g c = λ tells told text settled shown ins
     let so_far = c.loop-from.invariant.so_far tells told text settled shown inside in
     let ends : job.cuts (c.loop-from.number + 1) ≡ c.next_end-end.result = cuts_next c.args.sight.most c.args.sight.seen _ _ c.loop-from.invariant.cut ∙ sym c.next_end-end.ensures in
     let epoch : IsEpochOf job c.args.prepared.now.query (g.L.Log.lines c.loop-from.log) c.loop-from.number c.loop-from.from c.next_end-end.result =
-      record { same_query = refl; same_lines = sym (c.loop-from.invariant.same told); begins = c.loop-from.invariant.cut; ends = ends } in
+    record { same_query = refl; same_lines = sym (c.loop-from.invariant.same told); begins = c.loop-from.invariant.cut; ends = ends } in
     let line : c.loop-from.from < c.next_end-end.result = omega (arith, bounds.0, c.next_end-end.ensures) in
     let whole : c.next_end-end.result ≤ length (g.L.Log.lines c.args.log.now) = omega (arith, bounds.1, c.next_end-end.ensures, inside) in
     let during = c.run_epoch.ensures.any_moment tells told job text epoch so_far.settled in
@@ -38,7 +38,7 @@ returns-in_err-rows-clause-stop g c = λ tells told text settled shown inside.
     let so_far = c.loop-from.invariant.so_far tells told text settled shown inside in
     let ends : job.cuts (c.loop-from.number + 1) ≡ c.next_end-end.result = cuts_next c.args.sight.most c.args.sight.seen _ _ c.loop-from.invariant.cut ∙ sym c.next_end-end.ensures in
     let epoch : IsEpochOf job c.args.prepared.now.query (g.L.Log.lines c.loop-from.log) c.loop-from.number c.loop-from.from c.next_end-end.result =
-      record { same_query = refl; same_lines = sym (c.loop-from.invariant.same told); begins = c.loop-from.invariant.cut; ends = ends } in
+    record { same_query = refl; same_lines = sym (c.loop-from.invariant.same told); begins = c.loop-from.invariant.cut; ends = ends } in
     let there : c.next_end-end.result ≤ g.L.Log.shown c.loop-from.log = omega (arith, bounds.1, c.next_end-end.ensures, shown, c.loop-from.invariant.grown told) in
     let unfinished : job.cuts c.loop-from.number < c.args.sight.seen = omega (arith, c.loop-from.invariant.cut, c.loop-from-test.true) in
     let during = c.run_epoch.ensures.any_moment tells told job text epoch so_far.settled in
@@ -52,7 +52,7 @@ returns-in_err-tell_epoch-clause-any_moment g c = λ tells told text settled sho
     let so_far = c.loop-from.invariant.so_far tells told text settled shown inside in
     let ends : job.cuts (c.loop-from.number + 1) ≡ c.next_end-end.result = cuts_next c.args.sight.most c.args.sight.seen _ _ c.loop-from.invariant.cut ∙ sym c.next_end-end.ensures in
     let epoch : IsEpochOf job c.args.prepared.now.query (g.L.Log.lines c.loop-from.log) c.loop-from.number c.loop-from.from c.next_end-end.result =
-      record { same_query = refl; same_lines = sym (c.loop-from.invariant.same told); begins = c.loop-from.invariant.cut; ends = ends } in
+    record { same_query = refl; same_lines = sym (c.loop-from.invariant.same told); begins = c.loop-from.invariant.cut; ends = ends } in
     let line : c.loop-from.from < c.next_end-end.result = omega (arith, bounds.0, c.next_end-end.ensures) in
     let whole : c.next_end-end.result ≤ length (g.L.Log.lines c.args.log.now) = omega (arith, bounds.1, c.next_end-end.ensures, inside) in
     let during = c.run_epoch.ensures.any_moment tells told job text epoch so_far.settled in
@@ -64,7 +64,7 @@ returns-in_err-tell_epoch-clause-stop g c = λ tells told text settled shown ins
     let so_far = c.loop-from.invariant.so_far tells told text settled shown inside in
     let ends : job.cuts (c.loop-from.number + 1) ≡ c.next_end-end.result = cuts_next c.args.sight.most c.args.sight.seen _ _ c.loop-from.invariant.cut ∙ sym c.next_end-end.ensures in
     let epoch : IsEpochOf job c.args.prepared.now.query (g.L.Log.lines c.loop-from.log) c.loop-from.number c.loop-from.from c.next_end-end.result =
-      record { same_query = refl; same_lines = sym (c.loop-from.invariant.same told); begins = c.loop-from.invariant.cut; ends = ends } in
+    record { same_query = refl; same_lines = sym (c.loop-from.invariant.same told); begins = c.loop-from.invariant.cut; ends = ends } in
     let unfinished : job.cuts c.loop-from.number < c.args.sight.seen = omega (arith, c.loop-from.invariant.cut, c.loop-from-test.true) in
     let p = err_from_is_err_and c.from_residual-in_err-tell_epoch.result c.from_residual-in_err-tell_epoch.ensures.1 in
     rw (p.1, p.2) (round_untold job text _ _ _ _ _ _ _ _ _ so_far unfinished (c.in_ok-rows.ensures.done tells told job text epoch so_far.settled) c.in_err-tell_epoch.ensures.err)
@@ -77,19 +77,19 @@ loop-from-preserved g c =
       small = omega (arith, bounds.0, c.next_end-end.ensures, c.loop-from.invariant.small);
       inside = omega (arith, bounds.1, c.next_end-end.ensures);
       so_far = λ tells told text settled shown inside.
-        let job = round_of c.args.prepared.now.query (g.L.Log.lines c.args.log.now) c.args.sight.most c.args.sight.seen in
-        let so_far = c.loop-from.invariant.so_far tells told text settled shown inside in
-        let ends : job.cuts (c.loop-from.number + 1) ≡ c.next_end-end.result = cuts_next c.args.sight.most c.args.sight.seen _ _ c.loop-from.invariant.cut ∙ sym c.next_end-end.ensures in
-        let epoch : IsEpochOf job c.args.prepared.now.query (g.L.Log.lines c.loop-from.log) c.loop-from.number c.loop-from.from c.next_end-end.result =
-      record { same_query = refl; same_lines = sym (c.loop-from.invariant.same told); begins = c.loop-from.invariant.cut; ends = ends } in
-        let line : c.loop-from.from < c.next_end-end.result = omega (arith, bounds.0, c.next_end-end.ensures) in
-        let whole : c.next_end-end.result ≤ length (g.L.Log.lines c.args.log.now) = omega (arith, bounds.1, c.next_end-end.ensures, inside) in
-        let during = c.run_epoch.ensures.any_moment tells told job text epoch so_far.settled in
-        round_goes_on job text _ _ _ _ _ _ _ _ _ _ so_far c.loop-from.invariant.cut ends line whole during (c.in_ok-rows.ensures.done tells told job text epoch so_far.settled) c.in_ok-tell_epoch.ensures.ok;
+          let job = round_of c.args.prepared.now.query (g.L.Log.lines c.args.log.now) c.args.sight.most c.args.sight.seen in
+          let so_far = c.loop-from.invariant.so_far tells told text settled shown inside in
+          let ends : job.cuts (c.loop-from.number + 1) ≡ c.next_end-end.result = cuts_next c.args.sight.most c.args.sight.seen _ _ c.loop-from.invariant.cut ∙ sym c.next_end-end.ensures in
+          let epoch : IsEpochOf job c.args.prepared.now.query (g.L.Log.lines c.loop-from.log) c.loop-from.number c.loop-from.from c.next_end-end.result =
+          record { same_query = refl; same_lines = sym (c.loop-from.invariant.same told); begins = c.loop-from.invariant.cut; ends = ends } in
+          let line : c.loop-from.from < c.next_end-end.result = omega (arith, bounds.0, c.next_end-end.ensures) in
+          let whole : c.next_end-end.result ≤ length (g.L.Log.lines c.args.log.now) = omega (arith, bounds.1, c.next_end-end.ensures, inside) in
+          let during = c.run_epoch.ensures.any_moment tells told job text epoch so_far.settled in
+          round_goes_on job text _ _ _ _ _ _ _ _ _ _ so_far c.loop-from.invariant.cut ends line whole during (c.in_ok-rows.ensures.done tells told job text epoch so_far.settled) c.in_ok-tell_epoch.ensures.ok;
       same = λ told. c.run_epoch.ensures.same told ∙ c.loop-from.invariant.same told;
       grown = λ told. omega (arith, c.loop-from.invariant.grown told, c.run_epoch.ensures.grown told);
       disk_counted = omega (arith, c.loop-from.invariant.disk_counted, c.run_epoch.ensures.disk_counted);
-      log_counted = omega (arith, c.loop-from.invariant.log_counted, c.run_epoch.ensures.log_counted)
+      log_counted = omega (arith, c.loop-from.invariant.log_counted, c.run_epoch.ensures.log_counted);
     }
 
 pub returns-clause-done : goal.returns-clause-done

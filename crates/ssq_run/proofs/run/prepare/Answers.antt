@@ -16,14 +16,14 @@ returns-then-not-empty-clause-any_moment g c = λ tells job now. weaker IsEmpty 
 pub returns-in_err-begin-clause-any_moment : goal.returns-in_err-begin-clause-any_moment
 returns-in_err-begin-clause-any_moment g c = λ tells job now.
     joined (IsFirst job c.args.text) _ _ _
-      (weaker IsEmpty (IsFirst job c.args.text) _ _ (c.is_empty.ensures.moments tells now) (λ f e. inl e))
-      (c.begin.ensures.any_moment tells job (files_now (g.D.Disk.history c.args.disk.now)) (now.each _ (files_are_image _)) (c.in_ok-empty.ensures.settled tells))
+    (weaker IsEmpty (IsFirst job c.args.text) _ _ (c.is_empty.ensures.moments tells now) (λ f e. inl e))
+    (c.begin.ensures.any_moment tells job (files_now (g.D.Disk.history c.args.disk.now)) (now.each _ (files_are_image _)) (c.in_ok-empty.ensures.settled tells))
 
 pub returns-clause-any_moment : goal.returns-clause-any_moment
 returns-clause-any_moment g c = λ tells job now.
     joined (IsFirst job c.args.text) _ _ _
-      (weaker IsEmpty (IsFirst job c.args.text) _ _ (c.is_empty.ensures.moments tells now) (λ f e. inl e))
-      (c.begin.ensures.any_moment tells job (files_now (g.D.Disk.history c.args.disk.now)) (now.each _ (files_are_image _)) (c.in_ok-empty.ensures.settled tells))
+    (weaker IsEmpty (IsFirst job c.args.text) _ _ (c.is_empty.ensures.moments tells now) (λ f e. inl e))
+    (c.begin.ensures.any_moment tells job (files_now (g.D.Disk.history c.args.disk.now)) (now.each _ (files_are_image _)) (c.in_ok-empty.ensures.settled tells))
 
 pub returns-clause-settled : goal.returns-clause-settled
 returns-clause-settled g c = λ tells job.

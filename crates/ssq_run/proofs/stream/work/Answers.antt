@@ -31,13 +31,13 @@ pub returns-clause-done : goal.returns-clause-done
 returns-clause-done g c = λ tells told.
     let given : Given = record { words = map string_bytes c.args.words.now; held = g.I.Inputs.held c.args.inputs.now; shown = g.I.Inputs.shown c.args.inputs.now } in
     on_ok c.run_source.result (c.run_source.ensures.done tells told) (λ end.
-      ran_query given _ _ c.in_ok-query.query _ _ _ _ _ _ _ _ c.in-Some.ensures.taken (c.in_ok-query.ensures.written told) c.in_ok-prepared.ensures.query (c.read_file.ensures.same told) (c.read_file.ensures.grown told) end)
+    ran_query given _ _ c.in_ok-query.query _ _ _ _ _ _ _ _ c.in-Some.ensures.taken (c.in_ok-query.ensures.written told) c.in_ok-prepared.ensures.query (c.read_file.ensures.same told) (c.read_file.ensures.grown told) end)
 
 pub returns-clause-stop : goal.returns-clause-stop
 returns-clause-stop g c = λ tells told.
     let given : Given = record { words = map string_bytes c.args.words.now; held = g.I.Inputs.held c.args.inputs.now; shown = g.I.Inputs.shown c.args.inputs.now } in
     if_err c.run_source.result (c.run_source.ensures.stop tells told) (λ stop end.
-      ran_query given _ _ c.in_ok-query.query _ _ _ _ _ _ _ _ c.in-Some.ensures.taken (c.in_ok-query.ensures.written told) c.in_ok-prepared.ensures.query (c.read_file.ensures.same told) (c.read_file.ensures.grown told) end)
+    ran_query given _ _ c.in_ok-query.query _ _ _ _ _ _ _ _ c.in-Some.ensures.taken (c.in_ok-query.ensures.written told) c.in_ok-prepared.ensures.query (c.read_file.ensures.same told) (c.read_file.ensures.grown told) end)
 
 pub returns-clause-words : goal.returns-clause-words
 returns-clause-words g c = if_err c.run_source.result c.run_source.ensures.only (λ stop is. words_taken _ _ _ stop c.in-Some.ensures.taken (run_past_words stop is))
