@@ -1,5 +1,5 @@
 -- The words of a file, by what its reader found.
-use Rattle.std.proofs.Common.{◌≡◌, ℕ, ◌<◌, ◌≤◌, Bool, true, false, sym, ap, ◌∙◌, arith, List, [], ◌∷◌, length, map, Option, Some, None, Result, Ok, Err, refl, IsUtf8, cond}
+use Rattle.std.proofs.Common.{◌≡◌, ℕ, ◌<◌, ◌≤◌, true, false, ap, ◌∙◌, arith, List, [], ◌∷◌, length, map, Some, None, Ok, Err, refl, IsUtf8}
 use Rattle.std.specs.Prelude.{nat_lt, if◌then◌else◌}
 use Rattle.std.specs.Str.{is_utf8}
 use Rattle.std.proofs.lemmas.Bool.{false_from_ne_true}
@@ -9,7 +9,7 @@ use Rattle.ssq_lex.specs.declared.fault.LexFault.{LexFault}
 use Rattle.ssq_lex.specs.declared.fault.LexFault.TheVariants.{Refused, NoMemory}
 use Rattle.ssq_lex.specs.declared.token.Token.{Token}
 use Rattle.ssq_lex.specs.Answer.{Gives}
-use Rattle.ssq_lex.specs.Cut.{Tokens, Refusal, tokens_of}
+use Rattle.ssq_lex.specs.Cut.{tokens_of}
 use Rattle.ssq_lex.specs.Lexeme.{lexeme, lexed}
 use Rattle.ssq_query.specs.Fault.{query_fault}
 use Rattle.ssq_query.specs.File.{said_by, words_of, HasWords}

@@ -1,7 +1,7 @@
 -- What is read is written so, and what is written so is read: words, operands and lists.
-use Rattle.std.proofs.Common.{◌≡◌, ◌≢◌, ℕ, zero, suc, ◌+◌, ◌<◌, ◌≤◌, Bool, true, false, not, cond, sym, ap, ◌∙◌, subst, arith, rules, List, [], ◌∷◌, ◌++◌, length, drop, map, get_or, Option, Some, None, refl, append_assoc, append-nil}
-use Rattle.std.specs.Prelude.{is_some, ◌&&◌, ◌||◌, if◌then◌else◌, position, nat_lt}
-use Rattle.std.specs.List.{AllByRecursion, flat_map, list_any, prefix_len, position_or_len}
+use Rattle.std.proofs.Common.{◌≡◌, ℕ, zero, suc, ◌+◌, ◌<◌, Bool, true, false, not, cond, sym, ap, ◌∙◌, subst, arith, rules, List, [], ◌∷◌, length, drop, get_or, Option, Some, None, refl}
+use Rattle.std.specs.Prelude.{◌&&◌, ◌||◌, if◌then◌else◌, nat_lt}
+use Rattle.std.specs.List.{list_any, prefix_len}
 use Rattle.std.specs.Option.{option_map}
 use Rattle.std.specs.Str.{bytes_eq}
 use Rattle.std.proofs.lemmas.Bool.{false_from_ne_true}
@@ -13,17 +13,12 @@ use Rattle.ssq_lex.specs.contracts.keyword.Keyword.{the_type as keyword_type}
 use Rattle.ssq_lex.specs.contracts.symbol.Symbol.{the_type as symbol_type}
 use Rattle.ssq_lex.specs.declared.keyword.Keyword.{Keyword}
 use Rattle.ssq_lex.specs.declared.symbol.Symbol.{Symbol}
-use Rattle.ssq_lex.specs.declared.symbol.Symbol.TheVariants as mark
-use Rattle.ssq_lex.specs.Lexeme.{Lexeme, keyword, name, number, quoted, symbol}
-use Rattle.ssq_query.specs.declared.query.Op.{Op}
-use Rattle.ssq_query.specs.declared.query.Op.TheVariants as op
-use Rattle.ssq_query.specs.declared.query.Step.{Step}
-use Rattle.ssq_query.specs.declared.query.Sum.{Sum}
+use Rattle.ssq_lex.specs.Lexeme.{keyword, name, number, quoted, symbol}
 use Rattle.ssq_query.specs.declared.query.Term.{Term}
 use Rattle.ssq_query.specs.declared.query.Term.TheVariants as term
-use Rattle.ssq_query.specs.Spelling.{Words, comma, separated, term_word, op_symbol, step_words, sum_words}
-use Rattle.ssq_query.specs.Taken.{are_distinct, IsTerm, IsSum}
-use Rattle.ssq_query.specs.Reading.{Read, ◌>>=◌, same_keyword, same_symbol, is_keyword, is_symbol, expected, keyword_at, symbol_at, name_at, quoted_at, column_of, term_at, op_of, first_op, in_front, step_then, steps_at, sum_at, list_at, list_then}
+use Rattle.ssq_query.specs.Spelling.{Words, term_word}
+use Rattle.ssq_query.specs.Taken.{are_distinct, IsTerm}
+use Rattle.ssq_query.specs.Reading.{Read, ◌>>=◌, same_keyword, same_symbol, is_keyword, is_symbol, expected, keyword_at, symbol_at, name_at, quoted_at, column_of, term_at}
 
 -- ---- the tools
 

@@ -1,10 +1,8 @@
 -- Lists with commas are read as they are written.
-use Rattle.std.proofs.Common.{◌≡◌, ℕ, zero, suc, ◌+◌, ◌<◌, ◌≤◌, Bool, true, false, sym, ap, ◌∙◌, subst, arith, List, [], ◌∷◌, ◌++◌, length, drop, map, Option, Some, None, refl, append_assoc}
+use Rattle.std.proofs.Common.{◌≡◌, ℕ, zero, suc, ◌<◌, ◌≤◌, Bool, true, false, sym, ap, ◌∙◌, subst, arith, List, [], ◌∷◌, ◌++◌, length, drop, map, Some, refl, append_assoc}
 use Rattle.std.specs.Prelude.{if◌then◌else◌}
 use Rattle.std.specs.List.{AllByRecursion}
-use Rattle.std.specs.Option.{option_map}
 use Rattle.ssq_lex.specs.declared.symbol.Symbol.TheVariants as mark
-use Rattle.ssq_lex.specs.Lexeme.{symbol}
 use Rattle.ssq_query.specs.Spelling.{Words, comma, separated}
 use Rattle.ssq_query.specs.Reading.{Read, ◌>>=◌, is_symbol, in_front, list_at, list_then}
 use Rattle.ssq_query.proofs.Laws.{bind_some, map_some, some_same, is_symbol-found, symbol_is}

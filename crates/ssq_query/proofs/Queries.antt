@@ -1,6 +1,6 @@
 -- Queries are read as they are written.
-use Rattle.std.proofs.Common.{◌≡◌, ℕ, zero, suc, ◌+◌, ◌<◌, ◌≤◌, max, Bool, true, false, sym, ap, ◌∙◌, subst, arith, List, [], ◌∷◌, ◌++◌, length, drop, map, get_or, Option, Some, None, refl, append_assoc, append-nil}
-use Rattle.std.specs.Prelude.{if◌then◌else◌, ◌&&◌, IfSome, slice_index_or}
+use Rattle.std.proofs.Common.{◌≡◌, ℕ, Bool, true, false, sym, ap, ◌∙◌, subst, arith, List, [], ◌∷◌, ◌++◌, length, drop, map, Option, Some, None, refl, append_assoc, append-nil}
+use Rattle.std.specs.Prelude.{if◌then◌else◌, ◌&&◌, IfSome}
 use Rattle.std.specs.List.{AllByRecursion, flat_map}
 use Rattle.std.specs.Option.{option_map}
 use Rattle.std.specs.Str.{bytes_eq}
@@ -22,9 +22,9 @@ use Rattle.ssq_query.specs.declared.query.Sum.{Sum}
 use Rattle.ssq_query.specs.declared.query.Term.{Term}
 use Rattle.ssq_query.specs.declared.query.Term.TheVariants as term
 use Rattle.ssq_query.specs.Names.{output_names, bare_of}
-use Rattle.ssq_query.specs.Spelling.{Words, comma, separated, term_word, step_words, sum_words, item_words, comparison_symbol, filter_words, column_words, declaration_words, selection_words, spelling}
-use Rattle.ssq_query.specs.Taken.{are_distinct, IsListed, IsTerm, IsSum, sum_height, filter_height, IsItem, IsFilter, IsTaken}
-use Rattle.ssq_query.specs.Reading.{Read, ◌>>=◌, is_empty, is_keyword, is_symbol, keyword_at, symbol_at, name_at, quoted_at, first_op, sum_at, list_at, column_at, bare, label_at, item_at, comparison_of, comparison_at, condition_at, filter_at, declaration_at, output_at, selection_at, query_of, agrees, query_at}
+use Rattle.ssq_query.specs.Spelling.{Words, separated, term_word, step_words, sum_words, item_words, comparison_symbol, filter_words, column_words, declaration_words, selection_words, spelling}
+use Rattle.ssq_query.specs.Taken.{are_distinct, IsListed, IsTerm, IsItem, IsFilter, IsTaken}
+use Rattle.ssq_query.specs.Reading.{Read, ◌>>=◌, is_empty, is_keyword, keyword_at, symbol_at, name_at, quoted_at, first_op, sum_at, list_at, column_at, bare, label_at, item_at, comparison_of, comparison_at, condition_at, filter_at, declaration_at, output_at, selection_at, query_of, agrees, query_at}
 use Rattle.ssq_query.proofs.Laws.{bind_some, map_some, if_some, some_same, is_keyword-found, keyword_is, keyword_sound, keyword_complete, symbol_sound, symbol_complete, name_sound, name_complete, quoted_sound, quoted_complete, and_true}
 use Rattle.ssq_query.proofs.Lists.{list_sound, list_complete}
 use Rattle.ssq_query.proofs.Sums.{SumIs, sum_sound, sum_complete}

@@ -1,8 +1,7 @@
 -- Sums are read as they are written.
-use Rattle.std.proofs.Common.{◌≡◌, ℕ, zero, suc, ◌+◌, ◌<◌, ◌≤◌, Bool, true, false, sym, ap, ◌∙◌, subst, arith, List, [], ◌∷◌, ◌++◌, length, drop, Option, Some, None, refl, append_assoc}
+use Rattle.std.proofs.Common.{◌≡◌, ℕ, zero, suc, ◌≤◌, true, ap, ◌∙◌, subst, arith, List, [], ◌∷◌, ◌++◌, length, drop, Option, Some, None, refl}
 use Rattle.std.specs.Prelude.{is_some, if◌then◌else◌}
 use Rattle.std.specs.List.{AllByRecursion, flat_map}
-use Rattle.std.specs.Option.{option_map}
 use Rattle.ssq_lex.specs.declared.symbol.Symbol.{Symbol}
 use Rattle.ssq_lex.specs.declared.symbol.Symbol.TheVariants as mark
 use Rattle.ssq_lex.specs.Lexeme.{keyword, name, number, quoted, symbol}
@@ -10,10 +9,9 @@ use Rattle.ssq_query.specs.declared.query.Op.{Op}
 use Rattle.ssq_query.specs.declared.query.Op.TheVariants as op
 use Rattle.ssq_query.specs.declared.query.Step.{Step}
 use Rattle.ssq_query.specs.declared.query.Sum.{Sum}
-use Rattle.ssq_query.specs.declared.query.Term.{Term}
 use Rattle.ssq_query.specs.Spelling.{Words, term_word, op_symbol, step_words, sum_words}
 use Rattle.ssq_query.specs.Taken.{are_distinct, IsTerm, IsSum}
-use Rattle.ssq_query.specs.Reading.{Read, ◌>>=◌, term_at, op_of, first_op, in_front, step_then, steps_at, sum_at}
+use Rattle.ssq_query.specs.Reading.{◌>>=◌, term_at, op_of, first_op, in_front, step_then, steps_at, sum_at}
 use Rattle.ssq_query.proofs.Laws.{bind_some, map_some, if_none, some_same, term_sound, term_complete}
 
 op_found : (s : Symbol) (o : Op) → op_of s ≡ Some o → s ≡ op_symbol o

@@ -1,5 +1,5 @@
 -- One turn of a loop reads one more.
-use Rattle.std.proofs.Common.{◌≡◌, ℕ, suc, ◌+◌, ◌-◌, ◌<◌, ◌≤◌, Bool, true, false, sym, ap, ◌∙◌, arith, List, [], ◌∷◌, ◌++◌, drop, Option, Some, None, Result, Ok, Err, refl, append_assoc, append-nil}
+use Rattle.std.proofs.Common.{◌≡◌, ℕ, suc, ◌+◌, ◌-◌, ◌<◌, ◌≤◌, true, false, sym, ap, ◌∙◌, arith, List, [], ◌∷◌, ◌++◌, drop, Option, Some, None, Err, refl, append_assoc, append-nil}
 use Rattle.std.specs.Option.{option_map}
 use Rattle.std.specs.Prelude.{if◌then◌else◌, is_some}
 use Rattle.ssq_lex.specs.declared.symbol.Symbol.TheVariants as mark

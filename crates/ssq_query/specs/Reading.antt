@@ -1,5 +1,5 @@
 -- How the code reads words, from the left: a value and the words behind it, or none.
-use Rattle.std.specs.Prelude.{◌≡◌, ℕ, zero, suc, ◌-◌, Bool, true, false, ◌&&◌, if◌then◌else◌, List, [], ◌∷◌, ◌++◌, length, drop, map, position, Option, Some, None, Result, Ok, Err, is_some}
+use Rattle.std.specs.Prelude.{◌≡◌, ℕ, zero, suc, Bool, true, false, ◌&&◌, if◌then◌else◌, List, [], ◌∷◌, drop, position, Option, Some, None, Result, Ok, Err, is_some}
 use Rattle.std.specs.Option.{option_map}
 use Rattle.std.specs.Str.{bytes_eq}
 use denote.Enum.Bare.{sameb}
@@ -9,7 +9,7 @@ use Rattle.ssq_lex.specs.declared.keyword.Keyword.{Keyword}
 use Rattle.ssq_lex.specs.declared.keyword.Keyword.TheVariants.{Create, Stream, Bigint, From, Select, As, Where, Output, Append}
 use Rattle.ssq_lex.specs.declared.symbol.Symbol.{Symbol}
 use Rattle.ssq_lex.specs.declared.symbol.Symbol.TheVariants as mark
-use Rattle.ssq_lex.specs.Lexeme.{Lexeme, keyword, name, number, quoted, symbol}
+use Rattle.ssq_lex.specs.Lexeme.{keyword, name, number, quoted, symbol}
 use Rattle.ssq_query.specs.declared.fault.QueryFault.{QueryFault}
 use Rattle.ssq_query.specs.declared.fault.QueryFault.TheVariants.{NotYet, NoMemory}
 use Rattle.ssq_query.specs.declared.parse.Declaration.{Declaration}

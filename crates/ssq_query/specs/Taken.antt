@@ -6,7 +6,6 @@ use Rattle.ssq_query.specs.declared.query.Filter.{Filter}
 use Rattle.ssq_query.specs.declared.query.Item.{Item}
 use Rattle.ssq_query.specs.declared.query.Item.TheVariants as item
 use Rattle.ssq_query.specs.declared.query.Query.{Query}
-use Rattle.ssq_query.specs.declared.query.Step.{Step}
 use Rattle.ssq_query.specs.declared.query.Sum.{Sum}
 use Rattle.ssq_query.specs.declared.query.Term.{Term}
 use Rattle.ssq_query.specs.declared.query.Term.TheVariants as term

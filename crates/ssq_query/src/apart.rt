@@ -1,4 +1,4 @@
-//! Whether names are given twice.
+//! The names of columns and outputs, and whether one is given twice.
 
 ghost use Rattle.std.specs.Prelude.{◌≡◌, [], map, slice_index_or};
 ghost use Rattle.ssq_query.specs.Names.{output_name, output_names};
@@ -39,8 +39,8 @@ pub(crate) fn column_name(columns: &[Text], at: usize) -> &str
     }
 }
 
-/// The name under which SELECT gives an item.
-pub(crate) fn output_name<'q>(columns: &'q [Text], item: &'q Item) -> &'q str
+/// The name under which SELECT gives an item, over the names of the declared columns.
+pub fn output_name<'q>(columns: &'q [Text], item: &'q Item) -> &'q str
     ensures { result.now ≡ output_name columns.now item.now }
 {
     match item {

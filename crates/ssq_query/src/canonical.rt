@@ -1,6 +1,5 @@
-ghost use Rattle.std.specs.Prelude.{◌≡◌, [], ◌∷◌, ◌++◌, map, OnOk, IfOk, IsTrue};
+ghost use Rattle.std.specs.Prelude.{◌≡◌, ◌∷◌, map, OnOk, IfOk};
 ghost use Rattle.std.specs.List.{flat_map};
-ghost use Rattle.ssq_lex.specs.Lexeme.{symbol};
 ghost use Rattle.ssq_query.specs.Canonical.{with_word, with_words, plain_item, plain_query, canonical, is_plain};
 ghost use Rattle.ssq_query.specs.Spelling as spec;
 

@@ -20,6 +20,7 @@ mod read;
 mod reader;
 mod sequence;
 
+pub use apart::output_name;
 pub use canonical::text;
 pub use fault::QueryFault;
 pub use query::{Comparison, Filter, Item, Op, Query, Step, Sum, Term};

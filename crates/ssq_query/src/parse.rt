@@ -1,10 +1,9 @@
 //! Reads a query from its words.
 
-ghost use Rattle.std.specs.Prelude.{◌≡◌, ◌<◌, OnOk};
+ghost use Rattle.std.specs.Prelude.{◌≡◌};
 ghost use Rattle.ssq_query.specs.Names as names;
 ghost use Rattle.ssq_query.specs.Reading as spec;
 ghost use Rattle.ssq_query.specs.Reading.{Reads};
-ghost use Rattle.ssq_query.specs.Taken as taken;
 
 use crate::Sequence;
 use crate::fault::QueryFault;

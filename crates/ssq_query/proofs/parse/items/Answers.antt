@@ -1,4 +1,4 @@
-use Rattle.std.proofs.Common.{arith, sym, ◌∙◌}
+use Rattle.std.proofs.Common.{arith, sym}
 use Rattle.std.proofs.lemmas.Result.{err_from_is_err_and}
 use Rattle.ssq_query.specs.Reading.{item_at}
 use Rattle.ssq_query.proofs.Turns.{after_front-nil, list_fails, list_stops, list_goes_on, list_ends}

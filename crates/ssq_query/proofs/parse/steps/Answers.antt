@@ -1,7 +1,7 @@
 use Rattle.std.proofs.Common.{◌≡◌, ◌-◌, ◌∙◌, ap, sym, arith}
 use Rattle.std.proofs.lemmas.Result.{err_from_is_err_and}
 use Rattle.ssq_query.specs.Reading.{steps_at, behind}
-use Rattle.ssq_query.proofs.Turns.{after_front, after_front-nil, steps_fail, steps_stop, steps_go_on, steps_too_many, steps_end}
+use Rattle.ssq_query.proofs.Turns.{after_front-nil, steps_fail, steps_stop, steps_go_on, steps_too_many, steps_end}
 use Rattle.ssq_query.proofs.parse.steps.Goals as goal
 
 pub loop-turn-init : goal.loop-turn-init

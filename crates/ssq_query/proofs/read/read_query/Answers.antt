@@ -1,4 +1,4 @@
-use Rattle.std.proofs.Common.{◌≡◌, ◌∙◌, sym, ap, ℕ, List, map, Option, Some, Result, Ok, Err, IfOk, arith, rules}
+use Rattle.std.proofs.Common.{◌≡◌, ◌∙◌, sym, ap, ℕ, List, map, Some, Result, Ok, Err, IfOk}
 use Rattle.std.specs.Prelude.{IsErrOf}
 use Rattle.ssq_lex.specs.Lexeme.{lexeme}
 use Rattle.ssq_query.specs.declared.fault.QueryFault.{QueryFault}

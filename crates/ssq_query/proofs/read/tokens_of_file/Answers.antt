@@ -1,4 +1,4 @@
-use Rattle.std.proofs.Common.{◌∙◌, ap, sym, subst, IsUtf8, Ok, arith}
+use Rattle.std.proofs.Common.{◌∙◌, ap, sym, arith}
 use Rattle.std.proofs.lemmas.Result.{err_from_is_err_and}
 use Rattle.ssq_lex.specs.Cut.{tokens_of}
 use Rattle.ssq_query.proofs.Files.{none_too_long, none_not_utf8, words_cut, words_fault}
