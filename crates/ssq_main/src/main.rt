@@ -4,12 +4,10 @@
 use ssq_files::{FolderDisk, FolderInputs, StandardOutput};
 use ssq_outside::{Gate, TaskId};
 use ssq_run::stream_main;
-
 use std::alloc::Global;
-use std::env;
-use std::io;
 use std::process::ExitCode;
 use std::rt::Env;
+use std::{env, io};
 
 /// A gate that nobody watches.
 struct Open;

@@ -1,9 +1,9 @@
 -- An empty disk, seen by its names.
-use Rattle.std.proofs.Common.{◌≡◌, ◌⊎◌, ◌==◌, ◌<◌, inl, inr, ℕ, List, [], ◌∷◌, Option, Some, None, Bool, true, false, refl, ap, sym, ◌∙◌, subst, arith, length, rules}
-use Rattle.std.specs.Prelude.{Contains, IsSome, IsTrue, is_some}
+use Rattle.std.proofs.Common.{◌≡◌, ◌⊎◌, ◌==◌, inl, inr, ℕ, List, [], ◌∷◌, Option, Some, None, true, refl, sym, ◌∙◌, subst, arith, length}
+use Rattle.std.specs.Prelude.{Contains, IsSome}
 use Rattle.std.proofs.lemmas.Bool.{eqb-true}
 use Rattle.ssq_outside.specs.declared.name.Name.{Name}
-use Rattle.ssq_outside.specs.Files.{Files, Had, files_of, IsEmpty, AreNames, IsSyncStep, IsImage}
+use Rattle.ssq_outside.specs.Files.{Files, IsEmpty, AreNames, IsSyncStep}
 use Rattle.ssq_outside.specs.History.{History, had_now, files_now, Elapses, LeavesNow, LeavesOnly}
 use Rattle.ssq_outside.specs.declared.disk.DiskError.{DiskError}
 use Rattle.ssq_outside.specs.declared.disk.DiskError.TheVariants as disk

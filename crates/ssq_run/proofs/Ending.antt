@@ -6,12 +6,11 @@ use Rattle.ssq_outside.specs.Files.{Files, IsEmpty, IsImage}
 use Rattle.ssq_outside.specs.History.{History, had_now, files_now, LeavesNow, LeavesOnly}
 use Rattle.ssq_outside.proofs.Steps.{weaker, joined, files_are_image}
 use Rattle.ssq_query.specs.declared.query.Query.{Query as Asking}
-use Rattle.ssq_meaning.specs.Meaning.{Line as LogLine, next_end, next_cuts}
+use Rattle.ssq_meaning.specs.Meaning.{Line as LogLine, next_end}
 use Rattle.ssq_run.specs.declared.stop.Stop.{Stop}
 use Rattle.ssq_run.specs.declared.stop.Stop.TheVariants.{Usage, Query, Line, NotYet, LogFault, DiskFault, NoMemory}
 use Rattle.ssq_run.specs.Beginning.{IsFirst, BeginCause}
-use Rattle.ssq_run.specs.Ending.{FilesLeft, untouched, standing, RunCause, RunLeaves, most_lines, last_told}
-use Rattle.ssq_run.specs.Settled.{IsSettledAs}
+use Rattle.ssq_run.specs.Ending.{FilesLeft, untouched, standing, RunCause, RunLeaves, most_lines}
 use Rattle.ssq_run.specs.Standing.{Job, files_at, IsReached, Stands, IsDuring, before, planned, written, committed}
 use Rattle.ssq_run.specs.Stopping.{IsEpochStop, IsRoundStop, IsRoundDone}
 use Rattle.ssq_run.specs.Told.{told_before, done_line, round_of}

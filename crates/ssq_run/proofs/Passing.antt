@@ -9,7 +9,7 @@ use Rattle.ssq_meaning.specs.Meaning.{Line as LogLine}
 use Rattle.ssq_run.specs.declared.stop.Stop.{Stop}
 use Rattle.ssq_run.specs.Ending.{RunLeaves}
 use Rattle.std.specs.Option.{ForSome}
-use Rattle.ssq_query.specs.File.{IsWritten, IsNoQuery}
+use Rattle.ssq_query.specs.File.{IsWritten}
 use Rattle.ssq_run.specs.declared.stop.Stop.TheVariants.{Usage, Query, Line, NotYet, LogFault, DiskFault, NoMemory}
 use Rattle.ssq_run.specs.Stopping.{IsPastWords, IsRunStop}
 use Rattle.ssq_run.specs.Words.{IsAsked}

@@ -1,19 +1,18 @@
 -- A round, epoch after epoch.
-use Rattle.std.proofs.Common.{◌≡◌, ◌⊎◌, ◌+◌, ◌-◌, ◌<◌, ◌≤◌, ◌++◌, [], ℕ, zero, suc, List, Option, Some, None, refl, ap, sym, ◌∙◌, subst, inl, inr, arith, add-one, length, min, append_assoc}
+use Rattle.std.proofs.Common.{◌≡◌, ◌+◌, ◌-◌, ◌<◌, ◌≤◌, ◌++◌, [], ℕ, List, Option, Some, None, refl, ap, sym, ◌∙◌, subst, inl, inr, arith, add-one, length, append_assoc}
 use Rattle.std.specs.Option.{ForSome}
 use Rattle.std.proofs.lemmas.List.{append-nil}
 use Rattle.std.proofs.lemmas.Bool.{cases_lt}
-use Rattle.ssq_outside.specs.Files.{Files, Had, IsImage}
-use Rattle.ssq_outside.specs.History.{History, had_now, LeavesNow, LeavesOnly}
+use Rattle.ssq_outside.specs.Files.{Files}
+use Rattle.ssq_outside.specs.History.{History, LeavesNow, LeavesOnly}
 use Rattle.ssq_outside.proofs.Steps.{weaker, joined}
-use Rattle.ssq_query.specs.declared.query.Query.{Query}
-use Rattle.ssq_meaning.specs.Meaning.{Line, fault, out, next_end, next_cuts, AreProper}
+use Rattle.ssq_meaning.specs.Meaning.{fault, next_end, next_cuts}
 use Rattle.ssq_run.specs.declared.stop.Stop.{Stop}
 use Rattle.ssq_run.specs.declared.stop.Stop.TheVariants.{NoMemory}
 use Rattle.ssq_run.specs.Settled.{IsSettledAs}
-use Rattle.ssq_run.specs.Standing.{Job, files_at, IsReached, Stands, IsDuring, before, planned, written, committed, IsEpochOf}
+use Rattle.ssq_run.specs.Standing.{Job, files_at, IsReached, Stands, IsDuring, before, planned, written, committed}
 use Rattle.ssq_run.specs.Stopping.{IsEpochDone, IsEpochStop, IsRoundStop, IsRoundDone}
-use Rattle.ssq_run.specs.Told.{epoch_line, told_of, told_before, round_of}
+use Rattle.ssq_run.specs.Told.{epoch_line, told_of, told_before}
 use Rattle.ssq_run.proofs.Settling.{settled_image}
 use Rattle.ssq_run.proofs.Standing.{stays}
 

@@ -1,12 +1,12 @@
 -- The rows of an epoch's lines, one line after the other.
-use Rattle.std.proofs.Common.{◌≡◌, ◌<◌, ◌≤◌, ◌+◌, ◌-◌, ◌++◌, [], ◌∷◌, ℕ, List, Bool, true, false, refl, ap, sym, ◌∙◌, subst, arith, length, take, drop, append_assoc}
-use Rattle.std.specs.Prelude.{filter, Option, Some, None, slice_get, option_to_list, option_and_then}
-use Rattle.std.specs.List.{filter_map, position_from, cons_option}
+use Rattle.std.proofs.Common.{◌≡◌, ◌<◌, ◌≤◌, ◌+◌, ◌-◌, ◌++◌, [], ◌∷◌, ℕ, List, true, false, refl, ap, sym, ◌∙◌, arith, take, append_assoc}
+use Rattle.std.specs.Prelude.{filter, Some, None, slice_get, option_and_then}
+use Rattle.std.specs.List.{position_from, cons_option}
 use Rattle.std.specs.Result.{result_ok}
 use Rattle.std.proofs.lemmas.List.{append-nil}
 use Rattle.ssq_query.specs.declared.query.Query.{Query}
-use Rattle.ssq_meaning.specs.Meaning.{Line, Values, read_as, row_in, is_fed, fed, shown, lines_between, is_faulty, is_faulty_row}
-use Rattle.ssq_run.specs.Feeding.{IsRead, Shows, IsFaultyAt}
+use Rattle.ssq_meaning.specs.Meaning.{Line, Values, is_fed, fed, shown, lines_between, is_faulty, is_faulty_row}
+use Rattle.ssq_run.specs.Feeding.{Shows, IsFaultyAt}
 use Rattle.ssq_meaning.proofs.Epochs.{shown-append, lines_between-front, read_as-take}
 
 -- Up to an offset: what the lines from there on show is what is left to show, and the first fault is not before it.

@@ -1,9 +1,9 @@
 -- A settled step: what each of its device calls leaves.
-use Rattle.std.proofs.Common.{◌≡◌, ◌⊎◌, ℕ, List, refl, ap, sym, ◌∙◌, subst, inl, inr}
+use Rattle.std.proofs.Common.{◌≡◌, ℕ, List, ap, sym, ◌∙◌, subst, inl, inr}
 use Rattle.ssq_outside.specs.declared.name.Name.{Name}
 use Rattle.ssq_outside.specs.Files.{Files, Had, files_of, added, settled_at, published, IsImage, IsSyncStep}
 use Rattle.ssq_outside.specs.History.{History, had_now, files_now, Elapses, LeavesNow, LeavesOnly, Run}
-use Rattle.ssq_outside.proofs.Steps.{begins, publishes, syncs, synced, published_now, image_settled, files_are_image}
+use Rattle.ssq_outside.proofs.Steps.{begins, publishes, syncs, published_now, image_settled}
 use Rattle.ssq_run.specs.Settled.{IsSettledAs, IsEither}
 
 -- a settled disk has one image

@@ -1,5 +1,5 @@
 -- Numbers of the command line.
-use Rattle.std.proofs.Common.{◌≡◌, ◌≢◌, ◌<◌, ◌≤◌, ◌++◌, ◌∙◌, [], ℕ, List, Option, Some, None, refl, ap, sym, arith, length, get_or, map, ◌∷◌}
+use Rattle.std.proofs.Common.{◌≡◌, ◌<◌, ◌≤◌, ◌∙◌, [], ℕ, List, Option, Some, None, ap, sym, arith, length, get_or, map, ◌∷◌}
 use Rattle.std.specs.Prelude.{decimal}
 use Rattle.std.proofs.lemmas.List.{append-nil}
 use Rattle.ssq_field.specs.Field.{FindsEach, Fits64}

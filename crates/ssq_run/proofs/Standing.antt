@@ -1,12 +1,12 @@
 -- Each settled step of an epoch leads from files of the job to the next.
-use Rattle.std.proofs.Common.{◌≡◌, ◌⊎◌, ◌+◌, ◌<◌, ◌≤◌, ◌==◌, ℕ, List, Bool, true, false, Option, Some, None, refl, ap, sym, ◌∙◌, subst, inl, inr, arith, rules, add-one}
+use Rattle.std.proofs.Common.{◌≡◌, ◌+◌, ◌==◌, ℕ, List, Bool, true, false, Some, None, refl, ap, sym, ◌∙◌, subst, inl, inr, arith}
 use Rattle.std.specs.Prelude.{nat_lt, if◌then◌else◌}
 use Rattle.std.proofs.Common.{eq-eqb}
 use Rattle.std.proofs.lemmas.Bool.{eqb-true, ltb-true, ltb-false}
 use Rattle.std.proofs.lemmas.Bool.Decides.{nat_tests}
 use Rattle.ssq_outside.specs.declared.name.Name.{Name}
 use Rattle.ssq_outside.specs.declared.name.Name.TheVariants as name
-use Rattle.ssq_outside.specs.Files.{Content, Files, IsEmpty, published, same_name}
+use Rattle.ssq_outside.specs.Files.{Files, IsEmpty, published}
 use Rattle.ssq_value.specs.declared.column.Column.{Column}
 use Rattle.ssq_value.specs.declared.value.Value.{Value}
 use Rattle.ssq_json.specs.RowText.{names_of}

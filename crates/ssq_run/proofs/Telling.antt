@@ -1,12 +1,12 @@
 -- What was written.
-use Rattle.std.proofs.Common.{◌≡◌, ◌≢◌, ◌⊎◌, ◌++◌, ◌≤◌, ◌∙◌, [], arith, ℕ, List, Option, Some, None, Result, Ok, Err, refl, ap, sym, inl, inr, length, take, append_assoc}
+use Rattle.std.proofs.Common.{◌≡◌, ◌++◌, ◌≤◌, ◌∙◌, arith, ℕ, List, Option, Some, None, Result, Ok, Err, refl, ap, sym, inl, inr, length, take}
 use Rattle.std.specs.Prelude.{OnOk, OnErr, codes}
 use Rattle.std.proofs.Math.Seq.{take-length}
 use Rattle.std.proofs.lemmas.List.{append-nil}
 use Rattle.ssq_outside.specs.Faults.{Rises}
 use Rattle.ssq_run.specs.declared.stop.Stop.{Stop}
 use Rattle.ssq_run.specs.declared.stop.Stop.TheVariants.{Usage, Query, Line, NotYet, LogFault, DiskFault, NoMemory}
-use Rattle.ssq_run.specs.Program.{status_of, status_in, line_in, Wrote, whole, cut, cut_done, starved, IsStatus, HasEnded}
+use Rattle.ssq_run.specs.Program.{status_of, Wrote, whole, cut, cut_done, starved, HasEnded}
 
 -- a front was written, all of it or less
 pub said : {E : Type 0} (result : Result (Unit {0}) E) (old new line : List ℕ) → OnOk result (new ≡ old ++ line) → OnErr result ((n : ℕ) × (new ≡ old ++ take n line)) → (n : ℕ) × (new ≡ old ++ take n line)

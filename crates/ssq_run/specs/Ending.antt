@@ -1,5 +1,5 @@
 -- How a run of a query over a log ends: what it tells, what it leaves on the disk, and why.
-use Rattle.std.specs.Prelude.{◌≡◌, ◌⊎◌, ◌<◌, ◌≤◌, ◌+◌, ◌++◌, ℕ, List, [], length, Option, Some, None, ⊤}
+use Rattle.std.specs.Prelude.{◌≡◌, ◌⊎◌, ◌<◌, ◌≤◌, ◌+◌, ◌++◌, ℕ, List, [], Option, Some, None, ⊤}
 use Rattle.ssq_outside.specs.Files.{Files, IsEmpty}
 use Rattle.ssq_outside.specs.History.{History, files_now, LeavesNow, LeavesOnly}
 use Rattle.ssq_query.specs.declared.query.Query.{Query as Asking}

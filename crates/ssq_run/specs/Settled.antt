@@ -1,5 +1,5 @@
 -- A disk whose names are settled, and what one settled step does.
-use Rattle.std.specs.Prelude.{◌≡◌, ◌⊎◌, List, ℕ}
+use Rattle.std.specs.Prelude.{◌≡◌, ◌⊎◌}
 use Rattle.ssq_outside.specs.Files.{Files, settled_at}
 use Rattle.ssq_outside.specs.History.{History, had_now}
 

@@ -1,8 +1,7 @@
 -- The files of a checkpoint: what they hold for a job, and when they stand for it.
-use Rattle.std.specs.Prelude.{◌≡◌, ◌<◌, ◌≤◌, ◌+◌, nat_lt, ℕ, List, [], ◌∷◌, length, Option, Some, None, if◌then◌else◌}
-use Rattle.ssq_outside.specs.declared.name.Name.{Name}
+use Rattle.std.specs.Prelude.{◌≡◌, ◌<◌, ◌≤◌, ◌+◌, nat_lt, ℕ, List, [], ◌∷◌, length, Some, None, if◌then◌else◌}
 use Rattle.ssq_outside.specs.declared.name.Name.TheVariants as name
-use Rattle.ssq_outside.specs.Files.{Content, Files, IsEmpty}
+use Rattle.ssq_outside.specs.Files.{Content, Files}
 use Rattle.ssq_query.specs.declared.query.Query.{Query}
 use Rattle.ssq_query.specs.Names.{output_names}
 use Rattle.ssq_meaning.specs.Meaning.{Line, Cuts, out, fault, AreProper}

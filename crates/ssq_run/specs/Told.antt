@@ -1,5 +1,5 @@
 -- What a run writes.
-use Rattle.std.specs.Prelude.{◌+◌, ◌-◌, ℕ, zero, suc, List, [], ◌∷◌, ◌++◌, length, codes, decimal, Option}
+use Rattle.std.specs.Prelude.{◌+◌, ◌-◌, ℕ, zero, suc, List, [], ◌++◌, length, codes, decimal, Option}
 use Rattle.ssq_query.specs.declared.query.Query.{Query}
 use Rattle.ssq_meaning.specs.Meaning.{Line, out, next_cuts}
 use Rattle.ssq_run.specs.Standing.{Job}

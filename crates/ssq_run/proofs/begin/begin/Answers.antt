@@ -1,9 +1,7 @@
-use Rattle.std.proofs.Common.{◌≡◌, ◌∙◌, refl, subst, OnOk, inl, inr}
+use Rattle.std.proofs.Common.{◌∙◌, refl, subst, OnOk, inl, inr}
 use Rattle.ssq_outside.specs.Files.{Files}
-use Rattle.ssq_plans.specs.Records.{meta_text}
 use Rattle.ssq_run.specs.Beginning.{IsFirst}
 use Rattle.ssq_run.specs.Settled.{IsSettledAs}
-use Rattle.ssq_run.specs.Standing.{meta_of}
 use Rattle.ssq_run.proofs.Standing.{meta_published, either_gives}
 use Rattle.ssq_run.proofs.begin.begin.Goals as goal
 

@@ -1,4 +1,4 @@
-use Rattle.std.proofs.Common.{◌≡◌, ◌==◌, ◌∙◌, [], List, sym, ap, length, subst, refl}
+use Rattle.std.proofs.Common.{◌≡◌, ◌==◌, ◌∙◌, [], List, sym, ap, length, subst}
 use Rattle.ssq_outside.specs.declared.name.Name.{Name}
 use Rattle.ssq_outside.specs.Files.{Files, IsEmpty, AreNames, files_of}
 use Rattle.ssq_run.proofs.Beginning.{none_listed, empty_listed, no_items, synced_leaves, same_leaves}

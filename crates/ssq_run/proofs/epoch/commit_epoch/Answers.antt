@@ -1,8 +1,8 @@
-use Rattle.std.proofs.Common.{◌≡◌, ◌+◌, ◌∙◌, List, ℕ, ap, sym, refl, subst, OnOk}
+use Rattle.std.proofs.Common.{◌≡◌, ◌∙◌, refl, subst, OnOk}
 use Rattle.ssq_outside.specs.Files.{Files}
 use Rattle.ssq_plans.specs.Records.{commit_text}
 use Rattle.ssq_run.specs.Settled.{IsSettledAs}
-use Rattle.ssq_run.specs.Standing.{Job, commit_of, files_at, IsDuring, written, committed}
+use Rattle.ssq_run.specs.Standing.{commit_of, IsDuring, written, committed}
 use Rattle.ssq_run.proofs.Standing.{commit_published, either_gives, stays}
 use Rattle.ssq_run.proofs.epoch.commit_epoch.Goals as goal
 

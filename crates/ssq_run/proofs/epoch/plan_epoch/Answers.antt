@@ -1,8 +1,8 @@
-use Rattle.std.proofs.Common.{◌≡◌, ◌+◌, ◌∙◌, List, ℕ, ap, sym, refl, subst, OnOk}
+use Rattle.std.proofs.Common.{◌≡◌, ◌∙◌, refl, subst, OnOk}
 use Rattle.ssq_outside.specs.Files.{Files}
 use Rattle.ssq_plans.specs.Records.{plan_text}
 use Rattle.ssq_run.specs.Settled.{IsSettledAs}
-use Rattle.ssq_run.specs.Standing.{Job, plan_of, files_at, IsDuring, before, planned}
+use Rattle.ssq_run.specs.Standing.{plan_of, IsDuring, before, planned}
 use Rattle.ssq_run.proofs.Standing.{plan_published, either_gives}
 use Rattle.ssq_run.proofs.epoch.plan_epoch.Goals as goal
 

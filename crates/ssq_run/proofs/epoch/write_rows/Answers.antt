@@ -1,8 +1,8 @@
-use Rattle.std.proofs.Common.{◌≡◌, ◌+◌, ◌∙◌, List, ℕ, ap, sym, refl, subst, OnOk}
+use Rattle.std.proofs.Common.{◌≡◌, ◌∙◌, refl, subst, OnOk}
 use Rattle.ssq_outside.specs.Files.{Files}
 use Rattle.ssq_run.specs.Settled.{IsSettledAs}
-use Rattle.ssq_run.specs.Standing.{Job, epoch_rows, files_at, IsDuring, planned, written}
-use Rattle.ssq_run.proofs.Standing.{rows_published, rows_spelled, either_gives, stays}
+use Rattle.ssq_run.specs.Standing.{epoch_rows, IsDuring, planned, written}
+use Rattle.ssq_run.proofs.Standing.{rows_published, rows_spelled, either_gives}
 use Rattle.ssq_run.proofs.epoch.write_rows.Goals as goal
 
 pub returns-clause-done : goal.returns-clause-done

@@ -1,7 +1,7 @@
 use Rattle.std.proofs.Common.{◌≡◌, ◌∙◌, ap, sym, Some, Err, arith}
 use Rattle.std.proofs.lemmas.Result.{err_from_is_err_and}
 use Rattle.ssq_run.specs.declared.feed.FeedFault.TheVariants as fault
-use Rattle.ssq_run.proofs.Rows.{begun, goes_on, stops, ends}
+use Rattle.ssq_run.proofs.Rows.{goes_on, stops}
 use Rattle.ssq_run.proofs.feed.feed.Goals as goal
 
 pub loop-at-preserved : goal.loop-at-preserved

@@ -1,4 +1,4 @@
-use Rattle.std.proofs.Common.{◌≡◌, ◌≤◌}
+use Rattle.std.proofs.Common.{◌≤◌}
 use Rattle.std.specs.Prelude.{All}
 use Rattle.ssq_time.specs.Time.{IsStampTime}
 use Rattle.ssq_json.specs.Fits.{IfTime}

@@ -1,4 +1,4 @@
-use Rattle.std.proofs.Common.{◌≡◌, List, ℕ, sym, subst, refl}
+use Rattle.std.proofs.Common.{List, ℕ, sym, subst, refl}
 use Rattle.ssq_run.specs.Feeding.{IsRead}
 use Rattle.ssq_run.proofs.feed.row_at.Goals as goal
 

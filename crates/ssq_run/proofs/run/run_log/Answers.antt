@@ -1,4 +1,4 @@
-use Rattle.std.proofs.Common.{◌≡◌, ◌≤◌, ◌<◌, ◌∙◌, sym, ap, refl, arith, length}
+use Rattle.std.proofs.Common.{◌≤◌, arith}
 use Rattle.std.proofs.lemmas.Result.{err_from_is_err_and}
 use Rattle.ssq_run.specs.Told.{round_of}
 use Rattle.ssq_run.proofs.Ending.{uncounted, too_many, not_begun, round_stopped, round_told, round_not_told}

@@ -1,5 +1,3 @@
-use Rattle.std.proofs.Common.{◌≡◌, ◌≤◌, ◌∙◌, ℕ, List, sym, ap, arith}
-use Rattle.ssq_outside.specs.Logs.{Held}
 use Rattle.ssq_run.proofs.Passing.{on_ok, if_err, source_ran}
 use Rattle.ssq_run.proofs.source.run_source.Goals as goal
 

@@ -1,7 +1,7 @@
-use Rattle.std.proofs.Common.{◌≡◌, ◌∙◌, sym, refl, map, string_bytes}
+use Rattle.std.proofs.Common.{map, string_bytes}
 use Rattle.std.proofs.lemmas.Result.{err_from_is_err_and}
 use Rattle.ssq_run.specs.Program.{Given}
-use Rattle.ssq_run.proofs.Passing.{on_ok, if_err, not_read, not_prepared, words_taken, run_past_words, cap_some, ran_query}
+use Rattle.ssq_run.proofs.Passing.{on_ok, if_err, not_read, not_prepared, words_taken, run_past_words, ran_query}
 use Rattle.ssq_run.proofs.stream.work.Goals as goal
 
 pub returns-in_err-query-clause-stop : goal.returns-in_err-query-clause-stop
