@@ -1,0 +1,6 @@
+//! Worked runs of the whole engine: over the outside in memory, with its faults, and in a real folder. It holds tests alone, so
+//! that the crates below are not proved a second time for them.
+#![tactic(auto)]
+
+#[cfg(test)]
+mod tests;
