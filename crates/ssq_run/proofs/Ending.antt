@@ -1,12 +1,13 @@
 -- How a run ends, from what each of its parts left.
-use Rattle.std.proofs.Common.{◌≡◌, ◌⊎◌, ◌+◌, ◌<◌, ◌≤◌, ◌++◌, [], ℕ, List, Option, Some, None, refl, ap, sym, ◌∙◌, subst, inl, inr, arith, length}
+use Rattle.std.proofs.Common.{◌≡◌, ◌⊎◌, ◌+◌, ◌<◌, ◌≤◌, ◌++◌, [], ℕ, zero, suc, List, Option, Some, None, refl, ap, sym, ◌∙◌, subst, inl, inr, arith, length}
 use Rattle.std.specs.Option.{ForSome}
 use Rattle.std.proofs.lemmas.List.{append-nil}
 use Rattle.ssq_outside.specs.Files.{Files, IsEmpty, IsImage}
 use Rattle.ssq_outside.specs.History.{History, had_now, files_now, LeavesNow, LeavesOnly}
 use Rattle.ssq_outside.proofs.Steps.{weaker, joined, files_are_image}
 use Rattle.ssq_query.specs.declared.query.Query.{Query as Asking}
-use Rattle.ssq_meaning.specs.Meaning.{Line as LogLine, next_end}
+use Rattle.ssq_meaning.specs.Meaning.{Line as LogLine, next_end, next_cuts, given, meaning}
+use Rattle.ssq_meaning.proofs.Epochs.{given-meaning}
 use Rattle.ssq_run.specs.declared.stop.Stop.{Stop}
 use Rattle.ssq_run.specs.declared.stop.Stop.TheVariants.{Usage, Query, Line, NotYet, LogFault, DiskFault, NoMemory}
 use Rattle.ssq_run.specs.Beginning.{IsFirst, BeginCause}
@@ -15,7 +16,7 @@ use Rattle.ssq_run.specs.Standing.{Job, files_at, IsReached, Stands, IsDuring, b
 use Rattle.ssq_run.specs.Stopping.{IsEpochStop, IsRoundStop, IsRoundDone}
 use Rattle.ssq_run.specs.Told.{told_before, done_line, round_of}
 use Rattle.ssq_run.proofs.Rounds.{cuts_first, cuts_next, next_end_bounds, reach_planned, reach_written, reach_committed, told_none}
-use Rattle.ssq_run.proofs.Settling.{settled_files}
+use Rattle.ssq_run.proofs.Settling.{settled_files, settled_image}
 
 -- each image is empty, or stands for the job
 abbrev pub IsEmptyOrStands : Job → List ℕ → Files → Type 0
@@ -52,6 +53,23 @@ idle_moments job text h now = record {
       inl (now.each image (subst M at is));
 }
 
+next_cuts-le : (most : Option ℕ) (seen n : ℕ) → next_cuts most seen n ≤ seen
+unfolding next_cuts
+next_cuts-le most seen zero = omega arith
+next_cuts-le None seen (suc n) = omega arith
+next_cuts-le (Some m) seen (suc n) = omega arith
+
+next_end-ge : (most : Option ℕ) (seen from : ℕ) → from ≤ seen → from ≤ next_end most seen from
+next_end-ge None seen from le = le
+next_end-ge (Some m) seen from le = omega (arith, le)
+
+-- what the epochs of a round give is the meaning on their lines
+cut_sums : (query : Asking) (log : List LogLine) (most : Option ℕ) (seen n : ℕ) → given query log (next_cuts most seen) n ≡ meaning query log (next_cuts most seen) n
+cut_sums query log most seen n = given-meaning query log (next_cuts most seen) n (cuts_first most seen) (λ e.
+    let rises : next_cuts most seen e ≤ next_end most seen (next_cuts most seen e) = next_end-ge most seen (next_cuts most seen e) (next_cuts-le most seen e) in
+    let next : next_cuts most seen (e + 1) ≡ next_end most seen (next_cuts most seen e) = cuts_next most seen e (next_cuts most seen e) refl in
+    omega (arith, rises, next))
+
 -- the log could not be counted
 pub uncounted : (query : Asking) (text : List ℕ) (log : List LogLine) (shown : ℕ) (most : Option ℕ) (h : History) (told : List ℕ)
     → RunLeaves query text log shown most h h told told (Some LogFault)
@@ -60,6 +78,8 @@ uncounted query text log shown most h told = record {
   epochs = 0;
   saw = omega arith;
   lines = sym (untold (round_of query log most shown) told);
+  sums = cut_sums query log most shown 0;
+  kept = λ some. absurd (omega (arith, some));
   files = untouched refl refl;
   cause = tt;
   moments = idle_moments (round_of query log most shown) text h;
@@ -73,6 +93,8 @@ too_many query text log shown most h told seen saw many = record {
   epochs = 0;
   saw = saw;
   lines = sym (untold (round_of query log most seen) told);
+  sums = cut_sums query log most seen 0;
+  kept = λ some. absurd (omega (arith, some));
   files = untouched refl refl;
   cause = inl many;
   moments = idle_moments (round_of query log most seen) text h;
@@ -112,6 +134,8 @@ not_begun query text log shown most start now told seen stop saw few cause momen
       epochs = 0;
       saw = saw;
       lines = sym (untold job told);
+      sums = cut_sums query log most seen 0;
+      kept = λ some. absurd (omega (arith, some));
       files = begin_left job text (files_now start) (files_now now) stop (cuts_first most seen) cause;
       cause = begin_cause job text seen (files_now start) (files_now now) stop few cause;
       moments = λ empty. weaker (IsFirst job text) (IsEmptyOrStands job text) start now (moments empty) (λ f is. first_stands job text f (cuts_first most seen) is);
@@ -162,6 +186,8 @@ round_stopped query text log shown most start begun now first told seen stop som
       epochs = n;
       saw = saw;
       lines = round.lines ∙ sym (append-nil (first ++ told_before job n));
+      sums = cut_sums query log most seen n;
+      kept = λ some. record { each = λ image is. during_left job text n (files_now start) image empty round.reached line whole (round.present.each image is) };
       files = during_left job text n (files_now start) (files_now now) empty round.reached line whole (round.present.each (files_now now) (files_are_image (had_now now)));
       cause = round_cause job text seen n (files_now start) now stop few round.unfinished round.cause;
       moments = run_moments job text start begun now (cuts_first most seen) earlier later_on;
@@ -170,6 +196,13 @@ round_stopped query text log shown most start begun now first told seen stop som
 done_left : (job : Job) (text : List ℕ) (n seen : ℕ) (old : Files) (now : History) (first told : List ℕ) → IsEmpty old → IsRoundDone job text seen now first told n → FilesLeft job text n old (files_now now)
 done_left job text n seen old now first told empty round =
     standing empty (record { planned = n; committed = n; written = n; reached = round.reached; exactly = settled_files now (files_at job text n n n) round.settled }) (omega arith) (omega arith)
+
+-- each image of a crash has it
+done_kept : (job : Job) (text : List ℕ) (n seen : ℕ) (old : Files) (now : History) (first told : List ℕ) → IsEmpty old → IsRoundDone job text seen now first told n → LeavesNow now (FilesLeft job text n old)
+done_kept job text n seen old now first told empty round = record {
+  each = λ image is.
+      standing empty (record { planned = n; committed = n; written = n; reached = round.reached; exactly = (settled_image now (files_at job text n n n) round.settled).each image is }) (omega arith) (omega arith);
+}
 
 -- the round is done, and told
 pub round_told : (query : Asking) (text : List ℕ) (log : List LogLine) (shown : ℕ) (most : Option ℕ) (start begun now : History) (first told told' : List ℕ) (seen n : ℕ)
@@ -184,6 +217,8 @@ round_told query text log shown most start begun now first told told' seen n saw
       epochs = n;
       saw = saw;
       lines = added ∙ ap (λ t. t ++ done_line n) round.lines;
+      sums = cut_sums query log most seen n;
+      kept = λ some. done_kept job text n seen (files_now start) now first told empty round;
       files = done_left job text n seen (files_now start) now first told empty round;
       cause = (few, round.covered, settled_files now (files_at job text n n n) round.settled);
       moments = run_moments job text start begun now (cuts_first most seen) earlier later_on;
@@ -202,6 +237,8 @@ round_not_told query text log shown most start begun now first told told' seen n
       epochs = n;
       saw = saw;
       lines = same ∙ round.lines ∙ sym (append-nil (first ++ told_before job n));
+      sums = cut_sums query log most seen n;
+      kept = λ some. done_kept job text n seen (files_now start) now first told empty round;
       files = done_left job text n seen (files_now start) now first told empty round;
       cause = tt;
       moments = run_moments job text start begun now (cuts_first most seen) earlier later_on;

@@ -28,7 +28,7 @@ pub known_less : (query : Asking) (text text' : List ℕ) (log log' : List LogLi
     → log ≡ log' → text ≡ text' → shown' ≤ shown → RunLeaves query text log shown most start now told_old told stop → RunLeaves query text' log' shown' most start now told_old told stop
 known_less query text text' log log' shown shown' most start now told_old told stop same spelled less left =
     let less_known : RunLeaves query text log shown' most start now told_old told stop =
-    record { seen = left.seen; epochs = left.epochs; saw = omega (arith, left.saw, less); lines = left.lines; files = left.files; cause = left.cause; moments = left.moments } in
+    record { seen = left.seen; epochs = left.epochs; saw = omega (arith, left.saw, less); lines = left.lines; files = left.files; sums = left.sums; kept = left.kept; cause = left.cause; moments = left.moments } in
     let P : List LogLine → Type 0 = λ log. RunLeaves query text log shown' most start now told_old told stop in
     let Q : List ℕ → Type 0 = λ text. RunLeaves query text log' shown' most start now told_old told stop in
     subst Q spelled (subst P same less_known)

@@ -3,7 +3,7 @@ use Rattle.std.specs.Prelude.{◌≡◌, ◌⊎◌, ◌<◌, ◌≤◌, ◌+◌,
 use Rattle.ssq_outside.specs.Files.{Files, IsEmpty}
 use Rattle.ssq_outside.specs.History.{History, files_now, LeavesNow, LeavesOnly}
 use Rattle.ssq_query.specs.declared.query.Query.{Query as Asking}
-use Rattle.ssq_meaning.specs.Meaning.{Line as LogLine, fault}
+use Rattle.ssq_meaning.specs.Meaning.{Line as LogLine, fault, next_cuts, given, meaning}
 use Rattle.ssq_run.specs.declared.stop.Stop.{Stop}
 use Rattle.ssq_run.specs.declared.stop.Stop.TheVariants.{Usage, Query, Line, NotYet, LogFault, DiskFault, NoMemory}
 use Rattle.ssq_run.specs.Standing.{Job, files_at, Stands}
@@ -48,5 +48,9 @@ pub record RunLeaves (query : Asking) (text : List ℕ) (log : List LogLine) (sh
   pub lines : told ≡ told_old ++ told_before (round_of query log most seen) epochs ++ last_told stop epochs
   pub files : FilesLeft (round_of query log most seen) text epochs (files_now start) (files_now now)
   pub cause : RunCause (round_of query log most seen) text seen epochs (files_now start) (files_now now) stop
+  -- what the epochs that were told gave, one after the other, is what the query means on their lines
+  pub sums : given query log (next_cuts most seen) epochs ≡ meaning query log (next_cuts most seen) epochs
+  -- where an epoch was told, no crash can take it back: each image that one now may leave has it
+  pub kept : 0 < epochs → LeavesNow now (FilesLeft (round_of query log most seen) text epochs (files_now start))
   -- from a disk that is empty whatever a crash leaves: at each moment it is still empty, or stands for the job
   pub moments : LeavesNow start IsEmpty → LeavesOnly start now (λ files. IsEmpty files ⊎ Stands (round_of query log most seen) text files)
