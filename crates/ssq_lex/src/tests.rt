@@ -79,11 +79,43 @@ fn cuts_texts(rt: HostRuntime) -> Result<(), Fail> {
 }
 
 #[test]
+fn keeps_tokens_before_a_fault(rt: HostRuntime) -> Result<(), Fail> {
+    let found = tokens_to_fault(rt.alloc(), "a + ?")?;
+    assert_eq!(rt; found.tokens.len(), 2);
+    let cause = LexCause::BadChar;
+    assert_eq!(rt; found.fault, Some(Refusal { at: 4, cause }));
+    Ok(())
+}
+
+#[test]
 fn quotes_and_unquotes(rt: HostRuntime) -> Result<(), Fail> {
     let text = unquoted(rt.alloc(), "it''s")?;
     assert_eq!(rt; text.as_str(), "it's");
     let mut out = String::from_str(rt.alloc(), "FROM ")?;
     push_quoted(&mut out, text.as_str())?;
     assert_eq!(rt; out.as_str(), "FROM 'it''s'");
+    Ok(())
+}
+
+#[test]
+fn prints_words(rt: HostRuntime) -> Result<(), Fail> {
+    let mut printer = Printer::new(rt.alloc());
+    printer.keyword(Keyword::Sum)?;
+    printer.symbol(Symbol::LeftParen)?;
+    printer.name("s")?;
+    printer.symbol(Symbol::Dot)?;
+    printer.name("v")?;
+    printer.symbol(Symbol::RightParen)?;
+    printer.symbol(Symbol::Star)?;
+    printer.symbol(Symbol::LeftParen)?;
+    printer.symbol(Symbol::Minus)?;
+    printer.number(5)?;
+    printer.symbol(Symbol::RightParen)?;
+    printer.symbol(Symbol::Comma)?;
+    printer.keyword(Keyword::Interval)?;
+    printer.quoted("it's")?;
+    printer.symbol(Symbol::Semicolon)?;
+    let text = printer.into_string();
+    assert_eq!(rt; text.as_str(), "SUM(s.v) * (- 5), INTERVAL 'it''s';");
     Ok(())
 }
