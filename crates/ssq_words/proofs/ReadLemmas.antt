@@ -1,0 +1,27 @@
+-- What the typed getters give of matches that are whole.
+use Rattle.std.proofs.Common.{◌≡◌, ◌∙◌, ◌<◌, ◌^◌, ℕ, List, ap, refl, arith, Option, Some, None, Result, Ok, Err}
+use Rattle.std.specs.Prelude.{option_map}
+use Rattle.std.specs.Str.Parse.{ParsesUnsigned}
+use Rattle.clap.specs.Values.{IsUnsignedIn}
+use Rattle.clap.specs.Walk.{rows_of}
+use Rattle.clap.specs.Words.{Text, ReadsOne, first_of, one_text}
+use Rattle.clap.specs.declared.parser.matches.Found.{Found}
+use Rattle.clap.proofs.WalkLemmas.{one_text-rows}
+use Rattle.ssq_words.specs.Asking.{number_given, number_of}
+use Rattle.ssq_words.specs.Reading.{HasNumberIn}
+
+-- a text with a number in bounds that fit the type is read as that number
+number_in : {E : Type 0} (G : Text → Result ℕ E → Type 0) (k low high : ℕ) → high < 2 ^ k → ((u : Text) (x : Result ℕ E) → G u x → ParsesUnsigned k 10 u x)
+    → (t : Text) (r : Option ℕ) → ReadsOne G t r → IsUnsignedIn low high t → r ≡ Some (number_of t)
+number_in G k low high fits only t (Some v) read passed = ap Some (only t (Ok v) read).1
+number_in G k low high fits only t None read passed = absurd (only t (Err read.0) read.1 (passed.0, omega (arith, passed.3, fits)))
+
+-- what `get_one` gives of an option
+pub number_read : {E : Type 0} (G : Text → Result ℕ E → Type 0) (k low high : ℕ) → high < 2 ^ k → ((u : Text) (x : Result ℕ E) → G u x → ParsesUnsigned k 10 u x)
+    → (f : Found) (id : Text) (r : Option ℕ) → HasNumberIn low high id (rows_of f) → (one_text f id ≡ None → r ≡ None)
+    → ((t : Text) → one_text f id ≡ Some t → ReadsOne G t r) → r ≡ number_given id (rows_of f)
+number_read G k low high fits only f id r has absent read = go (first_of id (rows_of f)) refl
+  where
+    go : (o : Option Text) → first_of id (rows_of f) ≡ o → r ≡ option_map number_of o
+    go None e = absent (one_text-rows f id ∙ has.written ∙ e)
+    go (Some t) e = number_in G k low high fits only t r (read t (one_text-rows f id ∙ has.written ∙ e)) (rw e at has.number)

@@ -1,0 +1,307 @@
+-- Words in which clap finds no fault name a subcommand that has what it needs.
+use Rattle.std.proofs.Common.{◌≡◌, ◌⊎◌, ◌∙◌, ℕ, Bool, true, false, cond, refl, sym, ap, subst, List, [], ◌∷◌, length, not, ◌&&◌, ◌||◌, Option, Some, None, is_some, inl, inr, true≢false, codes, arith}
+use Rattle.std.proofs.lemmas.Bool.{ne_eqb}
+use Rattle.std.specs.List.{All, find}
+use Rattle.std.proofs.lemmas.List.Elements.{All-cons, All-head, All-nil, All-tail}
+use Rattle.std.specs.Option.{IfSome, option_map, option_map_or}
+use Rattle.std.specs.Prelude.{if◌then◌else◌, option_and_then, slice_get}
+use Rattle.std.specs.Str.{bytes_eq}
+use Rattle.clap.specs.Values.{IsUnsignedIn, refused_kind}
+use Rattle.clap.specs.ValueTests.{accepts}
+use Rattle.clap.specs.Facts.{explicit_source, parser_of_value}
+use Rattle.clap.specs.Kinds.{IsAmong, Kinds, check_kinds, value_kinds}
+use Rattle.clap.specs.Faults.{check_fault, entered_fault, level_fault}
+use Rattle.clap.specs.Walk.{Row, Rule, Text, answers_to, is_empty, nothing_held, row_text, rows_after, stop_after}
+use Rattle.clap.specs.Simple.{Shape, argument_words, built, entered, filled, is_simple, label_of, names_of, rows_at, with_index}
+use Rattle.clap.specs.Takes.{is_given}
+use Rattle.clap.specs.Words.{fault_of, first_of, one_of, subcommand_of}
+use Rattle.clap.specs.Faults.{is_simple_and_free}
+use Rattle.clap.proofs.OnLiterals.{clap_on_literals}
+use Rattle.clap.proofs.ValueTestLemmas.{accepts-Accepts}
+use Rattle.clap.specs.declared.builder.value_parser.ValueParser.{ValueParser}
+use Rattle.clap.specs.declared.builder.value_parser.ValueParser.TheVariants.{Unsigned}
+use Rattle.ssq_words.specs.Program.{max_lines_rule, program, query_rule, rounds_rule, run_app, status_app, top_app}
+use Rattle.clap.specs.declared.error.ErrorKind.{ErrorKind}
+use Rattle.ssq_words.specs.declared.error.AskError.{AskError}
+use Rattle.ssq_words.specs.declared.error.AskError.TheVariants.{Usage, NoMemory}
+use Rattle.ssq_words.specs.Asking.{Asked, IsCause, asked, run_asked, status_asked, subcommand_asked}
+use Rattle.ssq_words.specs.Reading.{HasNumberIn, HasQuery, IsRun, IsWhole}
+use Rattle.ssq_words.proofs.WalkLemmas.{IsGiven, IsOne, found_by, given, level_good, some_kind}
+
+-- ---- the command as it is built
+
+abbrev query_built : Rule
+query_built = with_index 1 (filled query_rule)
+
+abbrev lines_built : Rule
+lines_built = with_index 2 (filled max_lines_rule)
+
+abbrev rounds_built : Rule
+rounds_built = with_index 2 (filled rounds_rule)
+
+unfoldable run_built : Shape
+unfolding run_app
+run_built = record run_app.top {
+  rules = query_built ∷ lines_built ∷ rounds_built ∷ [];
+  disable_help_flag = true;
+  disable_help_subcommand = true;
+  is_built = true;
+}
+
+unfoldable status_built : Shape
+unfolding status_app
+status_built = record status_app.top {
+  rules = query_built ∷ [];
+  disable_help_flag = true;
+  disable_help_subcommand = true;
+  is_built = true;
+}
+
+subs_built : (built program).subs ≡ run_built ∷ status_built ∷ []
+unfolding program run_app status_app top_app run_built status_built
+subs_built = refl
+
+pub program_is_free : is_simple_and_free program ≡ true
+unfolding program run_app status_app top_app
+program_is_free = refl
+
+pub program_is_simple : is_simple program ≡ true
+unfolding program run_app status_app top_app
+program_is_simple = refl
+
+-- ---- what good rows hold
+
+found_row : {X : Type 0} (Q : X → Type 0) (p : X → Bool) (xs : List X) → All Q xs → IfSome (find p xs) (λ x. Q x × (p x ≡ true))
+found_row Q p [] all = tt
+found_row Q p (x ∷ xs) all = go (p x) refl (found_row Q p xs (All-tail Q x xs all))
+  where
+    go : (b : Bool) → p x ≡ b → IfSome (find p xs) (λ x. Q x × (p x ≡ true)) → IfSome (cond b (Some x) (find p xs)) (λ x. Q x × (p x ≡ true))
+    go true e rest = (All-head Q x xs all, e)
+    go false e rest = rest
+
+-- a value that the parser of numbers in these bounds takes
+in_bounds : (ignore_case : Bool) (low high : ℕ) (v : Text) → value_kinds ignore_case (Unsigned low high) v ≡ [] → IsUnsignedIn low high v
+in_bounds ignore_case low high v e = accepts-Accepts ignore_case (Unsigned low high) v (go (accepts ignore_case (Unsigned low high) v) e)
+  where
+    go : (b : Bool) → (if b then [] else refused_kind (Unsigned low high) ∷ []) ≡ [] → b ≡ true
+    go true e = refl
+    go false e = absurd (some_kind _ _ e)
+
+module _ (P : Rule → Type 0) (rows : List Row) (all : All (IsGiven P) rows) where
+  row_of_id : (id : Text) → IfSome (find (λ r. bytes_eq r.id id) rows) (λ r. IsGiven P r × (bytes_eq r.id id ≡ true))
+  row_of_id id = found_row (IsGiven P) (λ r. bytes_eq r.id id) rows all
+
+  has_query : is_given (codes "query") rows ≡ true → HasQuery rows
+  has_query e = go (find (λ r. bytes_eq r.id (codes "query")) rows) (row_of_id (codes "query")) e
+    where
+      go : (o : Option Row) → IfSome o (λ r. IsGiven P r × (bytes_eq r.id (codes "query") ≡ true)) → option_map_or (λ r. explicit_source r.source) o false ≡ true
+          → is_some (option_and_then (λ r. slice_get r.values 0) o) ≡ true
+      go None g e = absurd (true≢false (sym e))
+      go (Some r) g e = subst (λ (x : Row). is_some (slice_get x.values 0) ≡ true) (sym g.0.4) refl
+
+  module _ (low high : ℕ) (id : Text) (bounds : (a : Rule) → P a → bytes_eq a.id id ≡ true → parser_of_value a.parser ≡ Unsigned low high) where
+    number_of_row : (r : Row) → IsGiven P r → bytes_eq r.id id ≡ true → IfSome (slice_get r.values 0) (IsUnsignedIn low high)
+    number_of_row r g same =
+        let key : bytes_eq g.0.id id ≡ true = subst (λ (x : Row). bytes_eq x.id id ≡ true) g.4 same in
+        let taken : value_kinds g.0.ignore_case (Unsigned low high) g.2 ≡ [] = subst (λ (q : ValueParser). value_kinds g.0.ignore_case q g.2 ≡ []) (bounds g.0 g.1 key) g.3 in
+        subst (λ (x : Row). IfSome (slice_get x.values 0) (IsUnsignedIn low high)) (sym g.4) (in_bounds g.0.ignore_case low high g.2 taken)
+
+    has_number : HasNumberIn low high id rows
+    has_number = record {
+      number = number (find (λ r. bytes_eq r.id id) rows) (row_of_id id);
+      written = written (find (λ r. bytes_eq r.id id) rows) (row_of_id id);
+    }
+      where
+        number : (o : Option Row) → IfSome o (λ r. IsGiven P r × (bytes_eq r.id id ≡ true)) → IfSome (option_and_then (λ r. slice_get r.values 0) o) (IsUnsignedIn low high)
+        number None g = tt
+        number (Some r) g = number_of_row r g.0 g.1
+
+        written : (o : Option Row) → IfSome o (λ r. IsGiven P r × (bytes_eq r.id id ≡ true)) → option_and_then row_text o ≡ option_and_then (λ r. slice_get r.values 0) o
+        written None g = refl
+        written (Some r) g = subst (λ (x : Row). row_text x ≡ slice_get x.values 0) (sym g.0.4) refl
+
+-- ---- the arguments of the subcommands
+
+query_one : IsOne query_built
+query_one = record { action = refl; range = refl; reading = refl; defaults = refl }
+
+lines_one : IsOne lines_built
+lines_one = record { action = refl; range = refl; reading = refl; defaults = refl }
+
+rounds_one : IsOne rounds_built
+rounds_one = record { action = refl; range = refl; reading = refl; defaults = refl }
+
+abbrev IsRunRule : Rule → Type 0
+IsRunRule a = (a ≡ query_built) ⊎ ((a ≡ lines_built) ⊎ (a ≡ rounds_built))
+
+abbrev IsStatusRule : Rule → Type 0
+IsStatusRule a = a ≡ query_built
+
+run_one : (a : Rule) → IsRunRule a → IsOne a
+run_one a (inl e) = subst IsOne (sym e) query_one
+run_one a (inr (inl e)) = subst IsOne (sym e) lines_one
+run_one a (inr (inr e)) = subst IsOne (sym e) rounds_one
+
+status_one : (a : Rule) → IsStatusRule a → IsOne a
+status_one a e = subst IsOne (sym e) query_one
+
+run_all : All IsRunRule run_built.rules
+unfolding run_built
+run_all =
+    All-cons IsRunRule query_built (lines_built ∷ rounds_built ∷ []) (inl refl)
+    (All-cons IsRunRule lines_built (rounds_built ∷ []) (inr (inl refl)) (All-cons IsRunRule rounds_built [] (inr (inr refl)) (All-nil IsRunRule)))
+
+status_all : All IsStatusRule status_built.rules
+unfolding status_built
+status_all = All-cons IsStatusRule query_built [] refl (All-nil IsStatusRule)
+
+run_once : run_built.args_override_self ≡ false
+unfolding run_built run_app
+run_once = refl
+
+status_once : status_built.args_override_self ≡ false
+unfolding status_built status_app
+status_once = refl
+
+-- a rule of another id
+other_id : {A : Type 0} (a b : Rule) (id : Text) → a ≡ b → bytes_eq b.id id ≡ false → bytes_eq a.id id ≡ true → A
+other_id a b id e not same = absurd (true≢false (sym same ∙ ap (λ (x : Rule). bytes_eq x.id id) e ∙ not))
+
+lines_bounds : (a : Rule) → IsRunRule a → bytes_eq a.id (codes "max-lines") ≡ true → parser_of_value a.parser ≡ Unsigned 1 1099511627776
+lines_bounds a (inl e) same = other_id a query_built (codes "max-lines") e refl same
+lines_bounds a (inr (inl e)) same = ap (λ (x : Rule). parser_of_value x.parser) e
+lines_bounds a (inr (inr e)) same = other_id a rounds_built (codes "max-lines") e refl same
+
+rounds_bounds : (a : Rule) → IsRunRule a → bytes_eq a.id (codes "rounds") ≡ true → parser_of_value a.parser ≡ Unsigned 1 1000000
+rounds_bounds a (inl e) same = other_id a query_built (codes "rounds") e refl same
+rounds_bounds a (inr (inl e)) same = other_id a lines_built (codes "rounds") e refl same
+rounds_bounds a (inr (inr e)) same = ap (λ (x : Rule). parser_of_value x.parser) e
+
+-- ---- the subcommands
+
+needed : (g : Bool) → check_kinds false false (not g || false) ≡ [] → g ≡ true
+needed true e = refl
+needed false e = absurd (some_kind _ _ e)
+
+run_needs : (rows : List Row) → check_fault run_built rows false ≡ [] → is_given (codes "query") rows ≡ true
+unfolding run_built run_app
+run_needs rows e = needed (is_given (codes "query") rows) e
+
+status_needs : (rows : List Row) → check_fault status_built rows false ≡ [] → is_given (codes "query") rows ≡ true
+unfolding status_built status_app
+status_needs rows e = needed (is_given (codes "query") rows) e
+
+run_name : run_built.name ≡ codes "run"
+unfolding run_built run_app
+run_name = refl
+
+status_name : status_built.name ≡ codes "status"
+unfolding status_built status_app
+status_name = refl
+
+run_whole : (words : List Text) → level_fault run_built [] nothing_held words false [] ≡ [] → IsWhole (Some (rows_at run_built words))
+run_whole words e =
+    let level = level_good run_built IsRunRule run_all run_one run_once [] words false [] e in
+    let rows = rows_after run_built.rules [] words in
+    inl (
+      run_name,
+      record {
+        query = has_query IsRunRule rows level.0 (run_needs rows level.1);
+        max_lines = has_number IsRunRule rows level.0 1 1099511627776 (codes "max-lines") lines_bounds;
+        rounds = has_number IsRunRule rows level.0 1 1000000 (codes "rounds") rounds_bounds;
+      },
+    )
+
+status_whole : (words : List Text) → level_fault status_built [] nothing_held words false [] ≡ [] → IsWhole (Some (rows_at status_built words))
+status_whole words e =
+    let level = level_good status_built IsStatusRule status_all status_one status_once [] words false [] e in
+    let rows = rows_after status_built.rules [] words in
+    inr (status_name, has_query IsStatusRule rows level.0 (status_needs rows level.1))
+
+-- ---- the whole command
+
+abbrev IsSub : Shape → Type 0
+IsSub s = (s ≡ run_built) ⊎ (s ≡ status_built)
+
+sub_whole : (s : Shape) (words : List Text) → IsSub s → level_fault s [] nothing_held words false [] ≡ [] → IsWhole (Some (rows_at s words))
+sub_whole s words (inl e) fault = subst (λ (x : Shape). level_fault x [] nothing_held words false [] ≡ [] → IsWhole (Some (rows_at x words))) (sym e) (run_whole words) fault
+sub_whole s words (inr e) fault = subst (λ (x : Shape). level_fault x [] nothing_held words false [] ≡ [] → IsWhole (Some (rows_at x words))) (sym e) (status_whole words) fault
+
+met_whole : (o : Option Shape) (words : List Text) → IfSome o IsSub → option_map_or (λ s. level_fault s [] nothing_held words false []) o [] ≡ []
+    → is_some (option_map (λ s. rows_at s words) o) ≡ true → IsWhole (option_map (λ s. rows_at s words) o)
+met_whole None words sub fault some = absurd (true≢false (sym some))
+met_whole (Some s) words sub fault some = sub_whole s words sub fault
+
+subs : All IsSub (built program).subs
+subs = subst (All IsSub) (sym subs_built) (All-cons IsSub run_built (status_built ∷ []) (inl refl) (All-cons IsSub status_built [] (inr refl) (All-nil IsSub)))
+
+entered_whole : (stop : Option (Text × List Text)) → entered_fault (built program) stop ≡ [] → is_some (entered (built program) stop) ≡ true → IsWhole (entered (built program) stop)
+entered_whole None fault some = absurd (true≢false (sym some))
+entered_whole (Some p) fault some =
+    met_whole (find (λ s. answers_to p.0 (label_of s)) (built program).subs) p.1 (found_by IsSub (λ s. answers_to p.0 (label_of s)) (built program).subs subs) fault some
+
+-- ---- the program
+
+abbrev IsTopRule : Rule → Type 0
+IsTopRule a = ⊥
+
+top_rules : (built program).top.rules ≡ []
+unfolding program run_app status_app top_app
+top_rules = refl
+
+top_once : (built program).top.args_override_self ≡ false
+unfolding program run_app status_app top_app
+top_once = refl
+
+wanted : (has : Bool) → check_kinds (not has && false) (not has && true) false ≡ [] → has ≡ true
+wanted true e = refl
+wanted false e = absurd (some_kind _ _ e)
+
+-- a subcommand is required
+top_needs : (rows : List Row) (has : Bool) → check_fault (built program).top rows has ≡ [] → has ≡ true
+unfolding program run_app status_app top_app
+top_needs rows has e = wanted has e
+
+pub taken_whole : (words : List Text) → fault_of program words ≡ [] → IsWhole (subcommand_of program words)
+taken_whole words e =
+    let stop = stop_after (built program).top.rules (names_of (built program)) (argument_words program words) in
+    let level = level_good (built program).top IsTopRule (subst (All IsTopRule) (sym top_rules) (All-nil IsTopRule)) (λ a p. absurd p) top_once
+    (names_of (built program)) (argument_words program words) (is_some (entered (built program) stop)) (entered_fault (built program) stop) e in
+    entered_whole stop level.2
+    (top_needs (rows_after (built program).top.rules (names_of (built program)) (argument_words program words)) (is_some (entered (built program) stop)) level.1)
+
+-- ---- what is asked
+
+pub asked_free : (words : List Text) → fault_of program words ≡ [] → asked words ≡ option_and_then (λ p. subcommand_asked p.0 p.1) (subcommand_of program words)
+unfolding asked
+asked_free words e =
+    ap (λ (ks : Kinds). if is_empty ks then option_and_then (λ p. subcommand_asked p.0 p.1) (subcommand_of program words) else None) e
+
+pub asked_faulty : (words : List Text) (k : ErrorKind) → IsAmong k (fault_of program words) → asked words ≡ None
+unfolding asked
+asked_faulty words k among = go (fault_of program words) among
+  where
+    go : (ks : Kinds) → IsAmong k ks
+        → (if is_empty ks then option_and_then (λ p. subcommand_asked p.0 p.1) (subcommand_of program words) else None) ≡ None
+    go [] h = absurd h
+    go (x ∷ xs) h =
+        let some : is_empty (x ∷ xs) ≡ false = ne_eqb _ _ (λ e. omega arith) in
+        ap (λ (b : Bool). if b then option_and_then (λ p. subcommand_asked p.0 p.1) (subcommand_of program words) else None) some
+
+mapped : {X Y : Type 0} (f : X → Y) (o : Option X) → is_some o ≡ true → is_some (option_map f o) ≡ true
+mapped f None e = e
+mapped f (Some x) e = refl
+
+whole_asks : (o : Option (Text × List Row)) → IsWhole o → is_some (option_and_then (λ p. subcommand_asked p.0 p.1) o) ≡ true
+unfolding subcommand_asked run_asked status_asked
+whole_asks None whole = absurd whole
+whole_asks (Some p) (inl run) = subst (λ (name : Text). is_some (subcommand_asked name p.1) ≡ true) (sym run.0) (mapped _ (first_of (codes "query") p.1) run.1.query)
+whole_asks (Some p) (inr status) = subst (λ (name : Text). is_some (subcommand_asked name p.1) ≡ true) (sym status.0) (mapped _ (first_of (codes "query") p.1) status.1)
+
+pub free_asks : (words : List Text) → fault_of program words ≡ [] → is_some (asked words) ≡ true
+free_asks words e =
+    subst (λ (o : Option Asked). is_some o ≡ true) (sym (asked_free words e)) (whole_asks (subcommand_of program words) (taken_whole words e))
+
+pub cause : (words : List Text) (e : AskError) → (e ≡ Usage → asked words ≡ None) → IsCause words e
+cause words Usage h = h refl
+cause words NoMemory h = tt

@@ -1,0 +1,55 @@
+-- What the words ask for, by clap's reading of the program's one command.
+use Rattle.std.specs.Prelude.{◌≡◌, ℕ, ⊤, List, Option, Some, None, codes, if◌then◌else◌, option_map, option_and_then, unwrap_or}
+use Rattle.std.specs.Str.{bytes_eq}
+use Rattle.std.specs.Str.Parse.{digits_value, without_leading_plus}
+use Rattle.clap.specs.Walk.{is_empty}
+use Rattle.clap.specs.Words.{Row, Text, fault_of, first_of, subcommand_of}
+use Rattle.ssq_words.specs.Program.{program}
+use Rattle.ssq_words.specs.declared.Command.{Command}
+use Rattle.ssq_words.specs.declared.error.AskError.{AskError}
+use Rattle.ssq_words.specs.declared.error.AskError.TheVariants.{Usage, NoMemory}
+use Rattle.ssq_words.specs.declared.Command.TheVariants.{Run, Status}
+
+-- a command: the query's file, for a run the most lines of an epoch, if there is a cap, and the number of rounds
+pub data Asked : Type 0 where
+  asks_run : Text → Option ℕ → ℕ → Asked
+  asks_status : Text → Asked
+
+-- the command that a value of the program's type holds
+abbrev pub shown : Command → Asked
+shown (Run query most_lines rounds) = asks_run query.now most_lines rounds
+shown (Status query) = asks_status query.now
+
+-- the number that digits spell; a first `+` and leading zeros say nothing
+abbrev pub number_of : Text → ℕ
+number_of text = digits_value 10 (without_leading_plus text)
+
+-- the number that an option was given
+abbrev pub number_given : Text → List Row → Option ℕ
+number_given id rows = option_map number_of (first_of id rows)
+
+-- a run takes one round where nothing else is said
+unfoldable pub run_asked : List Row → Option Asked
+run_asked rows = option_map
+    (λ query. asks_run query (number_given (codes "max-lines") rows) (unwrap_or (number_given (codes "rounds") rows) 1))
+    (first_of (codes "query") rows)
+
+unfoldable pub status_asked : List Row → Option Asked
+status_asked rows = option_map asks_status (first_of (codes "query") rows)
+
+-- what a subcommand asks for with these matches
+unfoldable pub subcommand_asked : Text → List Row → Option Asked
+subcommand_asked name rows =
+    if bytes_eq name (codes "run") then run_asked rows
+    else (if bytes_eq name (codes "status") then status_asked rows else None)
+
+-- The words are taken exactly where clap finds no fault in them; then its matches say what they ask for.
+unfoldable pub asked : List Text → Option Asked
+asked words =
+    if is_empty (fault_of program words) then option_and_then (λ p. subcommand_asked p.0 p.1) (subcommand_of program words)
+    else None
+
+-- when words are refused: as no command exactly where they are none; memory may run out at any time
+abbrev pub IsCause : List Text → AskError → Type 0
+IsCause words Usage = asked words ≡ None
+IsCause words NoMemory = ⊤

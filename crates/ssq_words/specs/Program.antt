@@ -1,0 +1,37 @@
+-- The one command of the command line. A subcommand is one `App` and one line in `program`.
+use Rattle.std.specs.Prelude.{◌∷◌, [], List, Some, true, codes}
+use Rattle.clap.specs.Words.{App, Rule, new_app, new_rule, with_rule, with_subcommand}
+use Rattle.clap.specs.Simple.{on_top}
+use Rattle.clap.specs.declared.builder.value_parser.ValueParser.TheVariants.{Unsigned}
+
+-- the query's file, a required positional
+abbrev pub query_rule : Rule
+query_rule = record (new_rule (codes "query")) { required = true }
+
+-- `--max-lines`: the most lines of a part in an epoch
+abbrev pub max_lines_rule : Rule
+max_lines_rule =
+    record (new_rule (codes "max-lines")) { long = Some (codes "max-lines"); parser = Some (Unsigned 1 1099511627776) }
+
+-- `--rounds`: how often new lines are looked for
+abbrev pub rounds_rule : Rule
+rounds_rule = record (new_rule (codes "rounds")) { long = Some (codes "rounds"); parser = Some (Unsigned 1 1000000) }
+
+-- `run QUERY [--max-lines 1..1099511627776] [--rounds 1..1000000]`
+unfoldable pub run_app : App
+run_app = with_rule (with_rule (with_rule (new_app (codes "run")) query_rule) max_lines_rule) rounds_rule
+
+-- `status QUERY`
+unfoldable pub status_app : App
+status_app = with_rule (new_app (codes "status")) query_rule
+
+-- the program itself: it has no help of its own, and needs a subcommand
+unfoldable pub top_app : App
+top_app = on_top (λ s. record s {
+  disable_help_flag = true;
+  disable_help_subcommand = true;
+  subcommand_required = true;
+}) (new_app (codes "ssq"))
+
+unfoldable pub program : App
+program = with_subcommand (with_subcommand top_app run_app.top) status_app.top

@@ -1,0 +1,78 @@
+//! What clap's matches ask for.
+ghost use Rattle.std.specs.Prelude.{◌≡◌, Some, codes, option_and_then, unwrap_or};
+ghost use Rattle.clap.specs.Walk.{rows_of, first_of};
+ghost use Rattle.clap.specs.Words.{found_of, subcommand_rows_of};
+ghost use Rattle.ssq_words.specs.Asking.{number_given, run_asked, shown, status_asked, subcommand_asked};
+ghost use Rattle.ssq_words.specs.Reading.{HasNumberIn, HasQuery, IsRun, IsWhole};
+
+use crate::Command;
+use clap::ArgMatches;
+
+/// The rounds of a run, where nothing else is said.
+const ROUNDS: u32 = 1;
+
+fn query<'a>(matches: &ArgMatches<'a>) -> &'a str
+    requires { HasQuery (rows_of (found_of matches.now)) }
+    ensures { first_of (codes "query") (rows_of (found_of matches.now)) ≡ Some result.now }
+{
+    matches.get_str("query").unwrap()
+}
+
+fn most_lines(matches: &ArgMatches<'_>) -> Option<u64>
+    requires { HasNumberIn 1 1099511627776 (codes "max-lines") (rows_of (found_of matches.now)) }
+    ensures { result ≡ number_given (codes "max-lines") (rows_of (found_of matches.now)) }
+{
+    matches.get_one::<u64>("max-lines")
+}
+
+fn rounds(matches: &ArgMatches<'_>) -> u32
+    requires { HasNumberIn 1 1000000 (codes "rounds") (rows_of (found_of matches.now)) }
+    ensures { result ≡ unwrap_or (number_given (codes "rounds") (rows_of (found_of matches.now))) 1 }
+{
+    matches.get_one::<u32>("rounds").unwrap_or(ROUNDS)
+}
+
+#[tactic(auto, unfolding(crate::specs::Asking::run_asked))]
+fn run_of<'a>(matches: &ArgMatches<'a>) -> Command<'a>
+    requires { IsRun (rows_of (found_of matches.now)) }
+    ensures { run_asked (rows_of (found_of matches.now)) ≡ Some (shown result) }
+{
+    let query = query(matches);
+    let most_lines = most_lines(matches);
+    let rounds = rounds(matches);
+    Command::Run {
+        query,
+        most_lines,
+        rounds,
+    }
+}
+
+#[tactic(auto, unfolding(crate::specs::Asking::status_asked))]
+fn status_of<'a>(matches: &ArgMatches<'a>) -> Command<'a>
+    requires { HasQuery (rows_of (found_of matches.now)) }
+    ensures { status_asked (rows_of (found_of matches.now)) ≡ Some (shown result) }
+{
+    let query = query(matches);
+    Command::Status { query }
+}
+
+/// The subcommand that was met, with its own matches.
+fn met<'m, 'a>(matches: &'m ArgMatches<'a>) -> (&'a str, &'m ArgMatches<'a>)
+    requires { IsWhole (subcommand_rows_of matches.now) }
+    ensures { subcommand_rows_of matches.entry.now ≡ Some (result.0.now, rows_of (found_of result.1.now)) }
+{
+    matches.subcommand().unwrap()
+}
+
+/// What the matches of words that clap takes ask for.
+#[tactic(auto, unfolding(crate::specs::Asking::subcommand_asked))]
+pub(crate) fn command_of<'a>(matches: &ArgMatches<'a>) -> Command<'a>
+    requires { IsWhole (subcommand_rows_of matches.now) }
+    ensures { option_and_then (λ p. subcommand_asked p.0 p.1) (subcommand_rows_of matches.now) ≡ Some (shown result) }
+{
+    let (name, inner) = met(matches);
+    match name {
+        "run" => run_of(inner),
+        _ => status_of(inner),
+    }
+}

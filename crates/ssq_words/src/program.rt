@@ -1,0 +1,79 @@
+//! The one command of the command line, built as `specs/Program.antt` has it.
+ghost use Rattle.std.specs.Prelude.{◌≡◌, IfOk, false};
+ghost use Rattle.clap.specs.Words.{app_of, rule_of};
+ghost use Rattle.clap.specs.declared.builder.command.Command.TheViews.{out-Command};
+ghost use Rattle.ssq_words.specs.Program.{max_lines_rule, program, query_rule, rounds_rule, run_app, status_app, top_app};
+
+use clap::builder::ValueParser;
+use clap::{Arg, Command};
+use std::alloc::{AllocError, Global};
+
+/// The most lines that `--max-lines` takes.
+const MOST_LINES: u64 = 1_099_511_627_776;
+
+/// The most rounds that `--rounds` takes.
+const MOST_ROUNDS: u64 = 1_000_000;
+
+fn query<'a>(alloc: Global) -> Arg<'a>
+    ensures rule { rule_of result ≡ query_rule }
+    ensures local { result.global ≡ false }
+{
+    Arg::new(alloc, "query").required(true)
+}
+
+fn max_lines<'a>(alloc: Global) -> Arg<'a>
+    ensures rule { rule_of result ≡ max_lines_rule }
+    ensures local { result.global ≡ false }
+{
+    Arg::new(alloc, "max-lines")
+        .long("max-lines")
+        .value_parser(ValueParser::unsigned(1, MOST_LINES))
+}
+
+fn rounds<'a>(alloc: Global) -> Arg<'a>
+    ensures rule { rule_of result ≡ rounds_rule }
+    ensures local { result.global ≡ false }
+{
+    Arg::new(alloc, "rounds")
+        .long("rounds")
+        .value_parser(ValueParser::unsigned(1, MOST_ROUNDS))
+}
+
+#[tactic(auto, unfolding(crate::specs::Program::run_app))]
+fn run<'a>(alloc: Global) -> Result<Command<'a>, AllocError>
+    ensures app { IfOk result (λ c. app_of c ≡ run_app) }
+    ensures local { IfOk result (λ c. (out-Command c).has_globals ≡ false) }
+{
+    Command::new(alloc, "run")
+        .arg(query(alloc))?
+        .arg(max_lines(alloc))?
+        .arg(rounds(alloc))
+}
+
+#[tactic(auto, unfolding(crate::specs::Program::status_app))]
+fn status<'a>(alloc: Global) -> Result<Command<'a>, AllocError>
+    ensures app { IfOk result (λ c. app_of c ≡ status_app) }
+    ensures local { IfOk result (λ c. (out-Command c).has_globals ≡ false) }
+{
+    Command::new(alloc, "status").arg(query(alloc))
+}
+
+#[tactic(auto, unfolding(crate::specs::Program::top_app))]
+fn top<'a>(alloc: Global) -> Command<'a>
+    ensures { app_of result ≡ top_app }
+{
+    Command::new(alloc, "ssq")
+        .disable_help_flag(true)
+        .disable_help_subcommand(true)
+        .subcommand_required(true)
+}
+
+/// The command with all its subcommands.
+#[tactic(auto, unfolding(crate::specs::Program::program))]
+pub(crate) fn program<'a>(alloc: Global) -> Result<Command<'a>, AllocError>
+    ensures { IfOk result (λ c. app_of c ≡ program) }
+{
+    top(alloc)
+        .subcommand(run(alloc)?)?
+        .subcommand(status(alloc)?)
+}
