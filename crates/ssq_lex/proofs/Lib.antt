@@ -4,5 +4,7 @@ pub mod Heads
 pub mod Keywords
 pub mod Quotes
 pub mod Reread
+pub mod Sound
 pub mod Steps
+pub mod Texts
 pub mod Utf8

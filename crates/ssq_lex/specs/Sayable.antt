@@ -44,3 +44,8 @@ PrintedIsText = (words : List Lexeme) → All IsSayable words → IsUtf8 (printe
 abbrev pub StandInOrder : ℕ → ℕ → List Lexed → Type 0
 StandInOrder from len [] = Unit {0}
 StandInOrder from len (token ∷ tokens) = (from ≤ token.start) × (token.start < token.end) × (token.end ≤ len) × StandInOrder token.end len tokens
+
+-- the tokens of a text stand in it in order, and each says a word that can be said
+pub record AreTokensOf (text : List ℕ) (tokens : List Lexed) : Type 0 where
+  pub order : StandInOrder 0 (length text) tokens
+  pub said : All IsSayable (map (λ token. token.said) tokens)
