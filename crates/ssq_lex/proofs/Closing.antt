@@ -8,7 +8,7 @@ use Rattle.ssq_lex.specs.Cut.{closing}
 unfoldable pub closing_from : ℕ → List ℕ → Option ℕ
 closing_from at bytes = option_map (λ further. at + further) (closing (drop at bytes))
 
-closing-other : (b : ℕ) (bs : List ℕ) → b ≢ 39 → closing (b ∷ bs) ≡ option_map (λ at. 1 + at) (closing bs)
+pub closing-other : (b : ℕ) (bs : List ℕ) → b ≢ 39 → closing (b ∷ bs) ≡ option_map (λ at. 1 + at) (closing bs)
 closing-other b [] other = grind (arith, nat_tests)
 closing-other b (c ∷ bs) other = grind (arith, nat_tests)
 
@@ -31,7 +31,7 @@ closing_from-other bytes at within other =
     ∙ ap (option_map (λ x. at + x)) (closing-other _ (drop (at + 1) bytes) other)
     ∙ option_map-add (closing (drop (at + 1) bytes)) at 1 (at + 1) refl)
 
-closing-pair : (b c : ℕ) (bs : List ℕ) → b ≡ 39 → c ≡ 39 → closing (b ∷ c ∷ bs) ≡ option_map (λ at. 2 + at) (closing bs)
+pub closing-pair : (b c : ℕ) (bs : List ℕ) → b ≡ 39 → c ≡ 39 → closing (b ∷ c ∷ bs) ≡ option_map (λ at. 2 + at) (closing bs)
 closing-pair b c bs is_quote is_second = grind (arith, nat_tests)
 
 pub closing_from-pair : (bytes : List ℕ) (at : ℕ) → at + 1 < length bytes → get_or bytes at 0 ≡ 39 → get_or bytes (at + 1) 0 ≡ 39 → closing_from (at + 2) bytes ≡ closing_from at bytes
@@ -43,7 +43,7 @@ closing_from-pair bytes at within is_quote is_second =
     ∙ option_map-add (closing (drop (at + 1 + 1) bytes)) at 2 (at + 2) refl
     ∙ ap (λ n. option_map (λ x. at + 2 + x) (closing (drop n bytes))) two)
 
-closing-here : (b : ℕ) (bs : List ℕ) → b ≡ 39 → (0 < length bs → get_or bs 0 0 ≢ 39) → closing (b ∷ bs) ≡ Some 0
+pub closing-here : (b : ℕ) (bs : List ℕ) → b ≡ 39 → (0 < length bs → get_or bs 0 0 ≢ 39) → closing (b ∷ bs) ≡ Some 0
 closing-here b [] is_quote alone = grind (arith, nat_tests)
 closing-here b (c ∷ bs) is_quote alone = let second = alone (omega arith) in grind (arith, nat_tests)
 

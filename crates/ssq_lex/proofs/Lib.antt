@@ -1,4 +1,10 @@
 pub mod Boundaries
 pub mod Closing
+pub mod Heads
+pub mod Keywords
 pub mod Quotes
+pub mod Reread
+pub mod Sound
 pub mod Steps
+pub mod Texts
+pub mod Utf8

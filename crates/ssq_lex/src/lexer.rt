@@ -3,6 +3,7 @@ ghost use Rattle.std.specs.Option.{option_map};
 ghost use Rattle.ssq_lex.specs.Answer.{Gives, cut_by};
 ghost use Rattle.ssq_lex.specs.Cut.{cut_of, tokens_of, token_at};
 ghost use Rattle.ssq_lex.specs.Lexeme.{lexeme, lexed};
+ghost use Rattle.ssq_lex.specs.Sayable.{AreTokensOf};
 
 use crate::fault::{LexFault, Refusal};
 use crate::front::{Front, front_of};
@@ -39,7 +40,8 @@ pub struct Lexical<'a> {
 /// Blanks are space, tab, CR and LF. A comment goes from `--` up to a line feed. The longest symbol is taken.
 /// Places are counted in bytes.
 pub fn tokens_to_fault(alloc: Global, text: &str) -> Result<Lexical<'_>, AllocError>
-    ensures { IfOk result (λ found. cut_by found ≡ cut_of text.now) }
+    ensures cut { IfOk result (λ found. cut_by found ≡ cut_of text.now) }
+    ensures sound { IfOk result (λ found. AreTokensOf text.now (map lexed found.tokens.items)) }
 {
     let mut tokens = Vec::new(alloc);
     let mut at = 0;
@@ -66,7 +68,8 @@ pub fn tokens_to_fault(alloc: Global, text: &str) -> Result<Lexical<'_>, AllocEr
 /// All tokens of a text in order, or its first fault, as [`tokens_to_fault`] cuts it.
 #[tactic(auto, unfolding(crate::specs::Cut::tokens_of))]
 pub fn tokens(alloc: Global, text: &str) -> Result<Vec<Token<'_>>, LexFault>
-    ensures { Gives result (tokens_of text.now) }
+    ensures answer { Gives result (tokens_of text.now) }
+    ensures sound { IfOk result (λ tokens. AreTokensOf text.now (map lexed tokens.items)) }
 {
     let found = tokens_to_fault(alloc, text)?;
     match found.fault {

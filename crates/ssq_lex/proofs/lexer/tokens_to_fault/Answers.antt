@@ -1,7 +1,7 @@
 use Rattle.std.proofs.Common.{map, arith, false-eqb}
 use Rattle.ssq_lex.specs.Answer.{head}
 use Rattle.ssq_lex.specs.Lexeme.{lexed}
-use Rattle.ssq_lex.proofs.Steps.{reads_none, reads_more, reads_fault}
+use Rattle.ssq_lex.proofs.Steps.{reads_none, reads_more, reads_fault, reads_sound}
 use Rattle.ssq_lex.proofs.lexer.tokens_to_fault.Goals as goal
 
 pub loop-rest-init : goal.loop-rest-init
@@ -13,4 +13,10 @@ loop-rest-preserved c =
     reads_more c.args.text.now (map lexed c.loop-rest.tokens.items) _ c.loop-rest.at c.loop-rest.rest.now _ (head c.in-Ok.front) c.loop-rest.invariant c.in-Ok.ensures.0 cut.some cut.within c.in_ok-add-in-Ok.ensures cut.rest cut.utf8
 
 pub returns-in-Err : goal.returns-in-Err
-returns-in-Err c = reads_fault c.args.text.now (map lexed c.loop-rest.tokens.items) c.loop-rest.at c.loop-rest.rest.now _ c.loop-rest.invariant (omega (arith, false-eqb _ 0 c.loop-rest-test.ensures)) c.in-Err.ensures
+returns-in-Err c = record {
+  cut = reads_fault c.args.text.now (map lexed c.loop-rest.tokens.items) c.loop-rest.at c.loop-rest.rest.now _ c.loop-rest.invariant (omega (arith, false-eqb _ 0 c.loop-rest-test.ensures)) c.in-Err.ensures;
+  sound = reads_sound c.args.text.now (map lexed c.loop-rest.tokens.items) c.loop-rest.at c.loop-rest.rest.now c.loop-rest.invariant;
+}
+
+pub returns-clause-sound : goal.returns-clause-sound
+returns-clause-sound c = reads_sound c.args.text.now (map lexed c.loop-rest.tokens.items) c.loop-rest.at c.loop-rest.rest.now c.loop-rest.invariant

@@ -13,7 +13,7 @@ returns-in_default c = none_not_utf8 c.args.file.now (omega arith) c.in_default.
 pub returns-in_err-tokens : goal.returns-in_err-tokens
 returns-in_err-tokens c =
     let p = err_from_is_err_and c.from_residual.result c.from_residual.ensures.1 in
-    rw (p.1, p.2) (words_fault c.args.file.now _ (omega arith) c.in-Ok.ensures.cases.1 (rw c.in-Ok.ensures.cases.0 at c.in_err-tokens.ensures))
+    rw (p.1, p.2) (words_fault c.args.file.now _ (omega arith) c.in-Ok.ensures.cases.1 (rw c.in-Ok.ensures.cases.0 at c.in_err-tokens.ensures.answer))
 
 pub returns : goal.returns
-returns c = words_cut c.args.file.now _ (omega arith) c.in-Ok.ensures.cases.1 (ap tokens_of (sym c.in-Ok.ensures.cases.0) ∙ c.in_ok-tokens.ensures)
+returns c = words_cut c.args.file.now _ (omega arith) c.in-Ok.ensures.cases.1 (ap tokens_of (sym c.in-Ok.ensures.cases.0) ∙ c.in_ok-tokens.ensures.answer)
