@@ -1,6 +1,6 @@
 //! What a query that keeps nothing does with a row.
 
-ghost use Rattle.std.specs.Prelude.{◌≡◌, All, IfOk};
+ghost use Rattle.std.specs.Prelude.{All, IfOk};
 ghost use Rattle.ssq_time.specs.Time.{IsStampTime};
 ghost use Rattle.ssq_shape.specs.Evaluation.{IfTime};
 ghost use Rattle.ssq_shape.specs.Plain.{passes, projected};
