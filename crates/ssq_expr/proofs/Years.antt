@@ -1,0 +1,42 @@
+-- Where each time of a row can be printed, so can each time that is made of it.
+use Rattle.std.proofs.Common.{◌≡◌, ℤ, ◌≤ℤ◌, int_le, true, List, [], ◌∷◌, Result, Ok, Err, arith, subst}
+use Rattle.std.specs.Prelude.{All, IfOk}
+use Rattle.std.proofs.lemmas.Int.{ints}
+use Rattle.std.proofs.lemmas.Bool.{and_parts}
+use Rattle.std.proofs.lemmas.List.Elements.{All-nil, All-cons}
+use Rattle.ssq_time.specs.Time.{IsStampTime}
+use Rattle.ssq_value.specs.declared.value.Value.{Value}
+use Rattle.ssq_shape.specs.Evaluation.{Overflow, Evaluated, and_then, is_printable, IfTime, evaluated}
+use Rattle.ssq_shape.specs.Plain.{projected}
+use Rattle.ssq_shape.specs.Laws.{value_timed}
+use Rattle.ssq_shape.specs.declared.typed.Typed.{Typed}
+use Rattle.ssq_shape.specs.declared.bound.Output.{Output}
+use Rattle.ssq_expr.specs.declared.fault.EvalFault.{EvalFault}
+use Rattle.ssq_expr.specs.declared.fault.EvalFault.TheVariants as fault
+use Rattle.ssq_expr.specs.Answers.{Answers, itself}
+
+at_most : (a b : ℤ) → int_le a b ≡ true → a ≤ℤ b
+at_most a b is = grind (arith, ints)
+
+printable : (t : ℤ) → is_printable t ≡ true → IsStampTime t
+printable t is =
+    let parts = and_parts _ _ is in
+    (at_most _ t parts.0, at_most t _ parts.1)
+
+-- what holds of each value that is meant holds of each that is answered
+pub told : {A : Type 0} (P : A → Type 0) (result : Result A EvalFault) (meant : Result A Overflow) → Answers itself result meant → IfOk meant P → IfOk result P
+told P (Ok value) meant is holds = subst (λ r. IfOk r P) is holds
+told P (Err fault.Overflow) meant is holds = tt
+told P (Err fault.NoMemory) meant is holds = tt
+
+pub value_years : (row : List Value) (x : Typed) → All (IfTime IsStampTime) row → IfOk (evaluated x row) (IfTime IsStampTime)
+value_years row x all = value_timed IsStampTime printable row all x
+
+pub values_years : (row : List Value) (outputs : List Output) → All (IfTime IsStampTime) row → IfOk (projected outputs row) (All (IfTime IsStampTime))
+unfolding projected
+values_years row [] all = All-nil (IfTime IsStampTime)
+values_years row (output ∷ outputs) all = step (evaluated output.value row) (projected outputs row) (value_years row output.value all) (values_years row outputs all) where
+  step : (first : Evaluated) (others : Result (List Value) Overflow) → IfOk first (IfTime IsStampTime) → IfOk others (All (IfTime IsStampTime)) → IfOk (and_then first (λ value. and_then others (λ values. Ok (value ∷ values)))) (All (IfTime IsStampTime))
+  step (Err e) others one more = tt
+  step (Ok value) (Err e) one more = tt
+  step (Ok value) (Ok values) one more = All-cons (IfTime IsStampTime) value values one more

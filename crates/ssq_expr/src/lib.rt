@@ -1,0 +1,17 @@
+//! Evaluation of typed expressions on rows.
+//!
+//! What an expression is on a row is defined by `ssq_shape`. Values are borrowed from the row and from the query until
+//! an operator makes a new one, so that a condition copies no text.
+#![tactic(auto)]
+
+mod evaluate;
+mod fault;
+mod operators;
+mod plain;
+
+pub use evaluate::eval;
+pub use fault::EvalFault;
+pub use plain::{passes, project};
+
+#[cfg(test)]
+mod tests;

@@ -1,0 +1,47 @@
+//! What a query that keeps nothing does with a row.
+
+ghost use Rattle.std.specs.Prelude.{All, IfOk};
+ghost use Rattle.ssq_time.specs.Time.{IsStampTime};
+ghost use Rattle.ssq_shape.specs.Evaluation.{IfTime};
+ghost use Rattle.ssq_shape.specs.Plain.{passes, projected};
+ghost use Rattle.ssq_expr.specs.Answers.{Answers, itself};
+
+use crate::evaluate::{eval, evaluate};
+use crate::fault::EvalFault;
+use crate::operators::truth_in;
+use ssq_shape::{Output, Typed};
+use ssq_value::{Row, Value};
+use std::alloc::{AllocError, Global};
+
+/// Whether WHERE is TRUE on a row; without a WHERE each row passes.
+pub fn passes(alloc: Global, filter: &Option<Typed>, row: &[Value]) -> Result<bool, EvalFault>
+    ensures { Answers itself result (passes filter.now row.now) }
+{
+    let Some(condition) = filter else {
+        return Ok(true);
+    };
+    let truth = truth_in(evaluate(alloc, condition, row)?);
+    Ok(truth == Some(true))
+}
+
+#[tactic(auto, unfolding(ssq_shape::specs::Plain::projected))]
+fn values_of(alloc: Global, outputs: &[Output], row: &[Value]) -> Result<Vec<Value>, EvalFault>
+    ensures { Answers (λ values. values.items) result (projected outputs.now row.now) }
+{
+    let mut values = Vec::with_capacity(alloc, outputs.len())?;
+    for output in outputs {
+        let value = eval(alloc, &output.value, row)?;
+        values.push(value).map_err(AllocError::from)?;
+    }
+    Ok(values)
+}
+
+/// The row that SELECT shows for a row. Its items are evaluated from the left.
+pub fn project(alloc: Global, outputs: &[Output], row: &[Value]) -> Result<Row, EvalFault>
+    ensures row { Answers itself result (projected outputs.now row.now) }
+    // Its times are ones that can be printed, where each time of the row is.
+    ensures years { All (IfTime IsStampTime) row.now → IfOk result (All (IfTime IsStampTime)) }
+{
+    let values = values_of(alloc, outputs, row)?;
+    Ok(Row::from_vec(values))
+}

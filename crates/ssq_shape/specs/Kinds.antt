@@ -1,0 +1,53 @@
+-- When an expression is well typed, and its type.
+use Rattle.std.specs.Prelude.{Bool, true, false, ◌&&◌, if◌then◌else◌, List, [], ◌∷◌, slice_get, Option, Some, None}
+use Rattle.ssq_value.specs.declared.column.ColType.{ColType}
+use Rattle.ssq_value.specs.declared.column.ColType.TheVariants as kind
+use Rattle.ssq_value.specs.declared.value.Value.{Value}
+use Rattle.ssq_value.specs.Kind.{kind_of, IsHeldBy}
+use Rattle.ssq_shape.specs.declared.typed.Typed.{Typed}
+use Rattle.ssq_shape.specs.declared.typed.Typed.TheVariants.{Column, Constant, Negated', Not', IsNull', Arithmetic', Shifted', Joined', Compared', Between', And', Or'}
+
+-- whether this is the type
+abbrev pub is_kind : ColType → Option ColType → Bool
+is_kind kind.Bigint (Some kind.Bigint) = true
+is_kind kind.Str (Some kind.Str) = true
+is_kind kind.Timestamp (Some kind.Timestamp) = true
+is_kind kind.Bool (Some kind.Bool) = true
+is_kind _ _ = false
+
+-- whether there are two types, and they are equal
+abbrev pub are_alike : Option ColType → Option ColType → Bool
+are_alike None right = false
+are_alike (Some left) right = is_kind left right
+
+abbrev pub is_typed : Option ColType → Bool
+is_typed None = false
+is_typed (Some kind) = true
+
+-- the type of an operator's value, where its operands are as they must be
+abbrev pub gives : ColType → Bool → Option ColType
+gives kind right = if right then Some kind else None
+
+-- The type of an expression over columns of these types; None where a rule of types is broken in it. Arithmetic is
+-- of numbers, `||` of texts, AND, OR and NOT of truth values; a span shifts a time; any two values of one type are
+-- compared; and of any value it is told whether it is NULL.
+unfoldable pub kind_in : List ColType → Typed → Option ColType
+kind_in kinds (Column at) = slice_get kinds at
+kind_in kinds (Constant value) = kind_of value
+kind_in kinds (Negated' p x) = gives kind.Bigint (is_kind kind.Bigint (kind_in kinds x))
+kind_in kinds (Not' p x) = gives kind.Bool (is_kind kind.Bool (kind_in kinds x))
+kind_in kinds (IsNull' p x) = gives kind.Bool (is_typed (kind_in kinds x))
+kind_in kinds (Arithmetic' op p a q b) = gives kind.Bigint (is_kind kind.Bigint (kind_in kinds a) && is_kind kind.Bigint (kind_in kinds b))
+kind_in kinds (Shifted' p x by) = gives kind.Timestamp (is_kind kind.Timestamp (kind_in kinds x))
+kind_in kinds (Joined' p a q b) = gives kind.Str (is_kind kind.Str (kind_in kinds a) && is_kind kind.Str (kind_in kinds b))
+kind_in kinds (Compared' comparison p a q b) = gives kind.Bool (are_alike (kind_in kinds a) (kind_in kinds b))
+kind_in kinds (Between' p a q b r c) = gives kind.Bool (are_alike (kind_in kinds a) (kind_in kinds b) && are_alike (kind_in kinds a) (kind_in kinds c))
+kind_in kinds (And' p a q b) = gives kind.Bool (is_kind kind.Bool (kind_in kinds a) && is_kind kind.Bool (kind_in kinds b))
+kind_in kinds (Or' p a q b) = gives kind.Bool (is_kind kind.Bool (kind_in kinds a) && is_kind kind.Bool (kind_in kinds b))
+
+-- the row has one value for each type, from the left: NULL, or a value of the type
+abbrev pub AreHeldBy : List ColType → List Value → Type 0
+AreHeldBy [] [] = Unit {0}
+AreHeldBy [] (value ∷ values) = ⊥
+AreHeldBy (kind ∷ kinds) [] = ⊥
+AreHeldBy (kind ∷ kinds) (value ∷ values) = IsHeldBy kind value × AreHeldBy kinds values

@@ -1,0 +1,142 @@
+-- The value of an expression has the expression's type, and its times are of the years 0001 to 9999.
+use Rattle.std.proofs.Common.{◌≡◌, ℕ, zero, suc, ℤ, pos, neg_ℤ, ◌+ℤ◌, ◌-ℤ◌, ◌*ℤ◌, Bool, true, false, List, [], ◌∷◌, ◌++◌, Option, Some, None, Result, Ok, Err, refl, subst}
+use Rattle.std.specs.Prelude.{All, IfOk, if◌then◌else◌, slice_get, int_div, int_rem}
+use Rattle.std.specs.List.{AllByRecursion}
+use Rattle.std.specs.Ordering.{int_eq}
+use Rattle.std.proofs.lemmas.List.Elements.{recursion_from_All}
+use Rattle.ssq_value.specs.declared.column.ColType.{ColType}
+use Rattle.ssq_value.specs.declared.column.ColType.TheVariants as kind
+use Rattle.ssq_value.specs.declared.value.Value.{Value}
+use Rattle.ssq_value.specs.declared.value.Value.TheVariants.{Null, Int, Text, Time, Truth}
+use Rattle.ssq_value.specs.Kind.{kind_of, IsHeldBy}
+use Rattle.ssq_shape.specs.declared.typed.Arithmetic.{Arithmetic}
+use Rattle.ssq_shape.specs.declared.typed.Arithmetic.TheVariants.{Plus, Minus, Times, Quotient, Remainder}
+use Rattle.ssq_shape.specs.declared.typed.Comparison.TheVariants.{AtMost, AtLeast}
+use Rattle.ssq_shape.specs.declared.typed.Typed.{Typed}
+use Rattle.ssq_shape.specs.declared.typed.Typed.TheVariants.{Column, Constant, Negated', Not', IsNull', Arithmetic', Shifted', Joined', Compared', Between', And', Or'}
+use Rattle.ssq_shape.specs.Evaluation.{Overflow, overflow, Evaluated, and_then, IfTime, is_printable, bigint, cell_at, constant, negated, calculated, arithmetic, shifted, joined, compared, number_in, time_in, text_in, truth_in, truth_value, truth_of, negation, both, either, conjunction, disjunction, evaluated}
+use Rattle.ssq_shape.specs.Kinds.{gives, kind_in, AreHeldBy}
+
+-- ---- what holds of each value that an operator can give
+
+if_fits : (P : Value → Type 0) (fits : Bool) (value : Value) → (fits ≡ true → P value) → IfOk (if fits then Ok value else Err overflow) P
+if_fits P true value holds = holds refl
+if_fits P false value holds = tt
+
+if_either : (P : Value → Type 0) (test : Bool) (a b : Evaluated) → IfOk a P → IfOk b P → IfOk (if test then a else b) P
+if_either P true a b left right = left
+if_either P false a b left right = right
+
+then_ok : {A : Type 0} (P : Value → Type 0) (r : Result A Overflow) (f : A → Evaluated) → ((a : A) → IfOk (f a) P) → IfOk (and_then r f) P
+then_ok P (Ok a) f holds = holds a
+then_ok P (Err e) f holds = tt
+
+bigint_ok : (P : Value → Type 0) → ((n : ℤ) → P (Int n)) → (z : ℤ) → IfOk (bigint z) P
+bigint_ok P int z = if_fits P _ (Int z) (λ _. int z)
+
+negated_ok : (P : Value → Type 0) → P Null → ((n : ℤ) → P (Int n)) → (o : Option ℤ) → IfOk (negated o) P
+negated_ok P null int None = null
+negated_ok P null int (Some n) = bigint_ok P int (neg_ℤ n)
+
+calculated_ok : (P : Value → Type 0) → P Null → ((n : ℤ) → P (Int n)) → (op : Arithmetic) (a b : ℤ) → IfOk (calculated op a b) P
+calculated_ok P null int Plus a b = bigint_ok P int (a +ℤ b)
+calculated_ok P null int Minus a b = bigint_ok P int (a -ℤ b)
+calculated_ok P null int Times a b = bigint_ok P int (a *ℤ b)
+calculated_ok P null int Quotient a b = if_either P (int_eq b (pos 0)) (Ok Null) (bigint (int_div a b)) null (bigint_ok P int (int_div a b))
+calculated_ok P null int Remainder a b = if_either P (int_eq b (pos 0)) (Ok Null) (bigint (int_rem a b)) null (bigint_ok P int (int_rem a b))
+
+arithmetic_ok : (P : Value → Type 0) → P Null → ((n : ℤ) → P (Int n)) → (op : Arithmetic) (a b : Option ℤ) → IfOk (arithmetic op a b) P
+arithmetic_ok P null int op None b = null
+arithmetic_ok P null int op (Some a) None = null
+arithmetic_ok P null int op (Some a) (Some b) = calculated_ok P null int op a b
+
+shifted_ok : (P : Value → Type 0) → P Null → ((t : ℤ) → is_printable t ≡ true → P (Time t)) → (o : Option ℤ) (by : ℤ) → IfOk (shifted o by) P
+shifted_ok P null time None by = null
+shifted_ok P null time (Some t) by = if_fits P _ (Time (t +ℤ by)) (λ fits. time (t +ℤ by) fits)
+
+joined_ok : (P : Value → Type 0) → P Null → ((t : List ℕ) → P (Text t)) → (a b : Option (List ℕ)) → IfOk (joined a b) P
+joined_ok P null text None b = null
+joined_ok P null text (Some a) None = null
+joined_ok P null text (Some a) (Some b) = if_fits P _ (Text (a ++ b)) (λ _. text _)
+
+truth_ok : (P : Value → Type 0) → P Null → ((t : Bool) → P (Truth t)) → (o : Option Bool) → P (truth_value o)
+truth_ok P null truth None = null
+truth_ok P null truth (Some t) = truth t
+
+conjunction_ok : (P : Value → Type 0) → P Null → ((t : Bool) → P (Truth t)) → (o : Option Bool) (right : Result (Option Bool) Overflow) → IfOk (conjunction o right) P
+conjunction_ok P null truth (Some false) right = truth false
+conjunction_ok P null truth (Some true) right = then_ok P right _ (λ side. truth_ok P null truth (both (Some true) side))
+conjunction_ok P null truth None right = then_ok P right _ (λ side. truth_ok P null truth (both None side))
+
+disjunction_ok : (P : Value → Type 0) → P Null → ((t : Bool) → P (Truth t)) → (o : Option Bool) (right : Result (Option Bool) Overflow) → IfOk (disjunction o right) P
+disjunction_ok P null truth (Some true) right = truth true
+disjunction_ok P null truth (Some false) right = then_ok P right _ (λ side. truth_ok P null truth (either (Some false) side))
+disjunction_ok P null truth None right = then_ok P right _ (λ side. truth_ok P null truth (either None side))
+
+-- ---- the type
+
+cell_held : (kinds : List ColType) (row : List Value) (at : ℕ) (kind : ColType) → AreHeldBy kinds row → slice_get kinds at ≡ Some kind → IsHeldBy kind (cell_at row at)
+cell_held [] row at kind held there = absurd cc
+cell_held (own ∷ kinds) [] at kind held there = absurd held
+cell_held (own ∷ kinds) (value ∷ row) zero kind held there =
+    let same : own ≡ kind = cc in
+    subst (λ k. IsHeldBy k value) same held.0
+cell_held (own ∷ kinds) (value ∷ row) (suc at) kind held there = cell_held kinds row at kind held.1 there
+
+constant_held : (value : Value) (kind : ColType) → kind_of value ≡ Some kind → IfOk (constant value) (IsHeldBy kind)
+constant_held Null kind is = absurd cc
+constant_held (Int n) kind is = cc
+constant_held (Text text) kind is = cc
+constant_held (Time t) kind is = if_fits (IsHeldBy kind) _ (Time t) (λ _. cc)
+constant_held (Truth truth) kind is = cc
+
+by_kind : (own kind : ColType) (right : Bool) (r : Evaluated) → gives own right ≡ Some kind → IfOk r (IsHeldBy own) → IfOk r (IsHeldBy kind)
+by_kind own kind false r is held = absurd cc
+by_kind own kind true r is held =
+    let same : own ≡ kind = cc in
+    subst (λ k. IfOk r (IsHeldBy k)) same held
+
+pub value_held : (kinds : List ColType) (row : List Value) (x : Typed) (own : ColType) → AreHeldBy kinds row → kind_in kinds x ≡ Some own → IfOk (evaluated x row) (IsHeldBy own)
+unfolding evaluated kind_in
+value_held kinds row (Column at) own held is = cell_held kinds row at own held is
+value_held kinds row (Constant value) own held is = constant_held value own is
+value_held kinds row (Negated' p x) own held is = by_kind kind.Bigint own _ _ is (then_ok (IsHeldBy kind.Bigint) (evaluated x row) _ (λ value. negated_ok (IsHeldBy kind.Bigint) tt (λ _. refl) (number_in value)))
+value_held kinds row (Not' p x) own held is = by_kind kind.Bool own _ _ is (then_ok (IsHeldBy kind.Bool) (evaluated x row) _ (λ value. truth_ok (IsHeldBy kind.Bool) tt (λ _. refl) (negation (truth_in value))))
+value_held kinds row (IsNull' p x) own held is = by_kind kind.Bool own _ _ is (then_ok (IsHeldBy kind.Bool) (evaluated x row) _ (λ _. refl))
+value_held kinds row (Arithmetic' op p a q b) own held is = by_kind kind.Bigint own _ _ is (then_ok (IsHeldBy kind.Bigint) (evaluated a row) _ (λ left. then_ok (IsHeldBy kind.Bigint) (evaluated b row) _ (λ right. arithmetic_ok (IsHeldBy kind.Bigint) tt (λ _. refl) op (number_in left) (number_in right))))
+value_held kinds row (Shifted' p x by) own held is = by_kind kind.Timestamp own _ _ is (then_ok (IsHeldBy kind.Timestamp) (evaluated x row) _ (λ value. shifted_ok (IsHeldBy kind.Timestamp) tt (λ _ _. refl) (time_in value) by))
+value_held kinds row (Joined' p a q b) own held is = by_kind kind.Str own _ _ is (then_ok (IsHeldBy kind.Str) (evaluated a row) _ (λ left. then_ok (IsHeldBy kind.Str) (evaluated b row) _ (λ right. joined_ok (IsHeldBy kind.Str) tt (λ _. refl) (text_in left) (text_in right))))
+value_held kinds row (Compared' comparison p a q b) own held is = by_kind kind.Bool own _ _ is (then_ok (IsHeldBy kind.Bool) (evaluated a row) _ (λ left. then_ok (IsHeldBy kind.Bool) (evaluated b row) _ (λ right. truth_ok (IsHeldBy kind.Bool) tt (λ _. refl) (compared comparison left right))))
+value_held kinds row (Between' p a q b r c) own held is = by_kind kind.Bool own _ _ is (then_ok (IsHeldBy kind.Bool) (evaluated a row) _ (λ value. then_ok (IsHeldBy kind.Bool) (evaluated b row) _ (λ least. conjunction_ok (IsHeldBy kind.Bool) tt (λ _. refl) (compared AtLeast value least) (and_then (evaluated c row) (λ most. Ok (compared AtMost value most))))))
+value_held kinds row (And' p a q b) own held is = by_kind kind.Bool own _ _ is (then_ok (IsHeldBy kind.Bool) (evaluated a row) _ (λ left. conjunction_ok (IsHeldBy kind.Bool) tt (λ _. refl) (truth_in left) (truth_of (evaluated b row))))
+value_held kinds row (Or' p a q b) own held is = by_kind kind.Bool own _ _ is (then_ok (IsHeldBy kind.Bool) (evaluated a row) _ (λ left. disjunction_ok (IsHeldBy kind.Bool) tt (λ _. refl) (truth_in left) (truth_of (evaluated b row))))
+
+-- ---- times
+
+cell_timed : (Q : ℤ → Type 0) (row : List Value) (at : ℕ) → AllByRecursion (IfTime Q) row → IfTime Q (cell_at row at)
+cell_timed Q [] at all = tt
+cell_timed Q (value ∷ row) zero all = all.0
+cell_timed Q (value ∷ row) (suc at) all = cell_timed Q row at all.1
+
+constant_timed : (Q : ℤ → Type 0) → ((t : ℤ) → is_printable t ≡ true → Q t) → (value : Value) → IfOk (constant value) (IfTime Q)
+constant_timed Q printable Null = tt
+constant_timed Q printable (Int n) = tt
+constant_timed Q printable (Text text) = tt
+constant_timed Q printable (Time t) = if_fits (IfTime Q) _ (Time t) (λ fits. printable t fits)
+constant_timed Q printable (Truth truth) = tt
+
+-- what holds of each time of the years 0001 to 9999, and of each time of the row, holds of the value where it is a time
+pub value_timed : (Q : ℤ → Type 0) → ((t : ℤ) → is_printable t ≡ true → Q t) → (row : List Value) → All (IfTime Q) row → (x : Typed) → IfOk (evaluated x row) (IfTime Q)
+unfolding evaluated
+value_timed Q printable row all (Column at) = cell_timed Q row at (recursion_from_All (IfTime Q) row all)
+value_timed Q printable row all (Constant value) = constant_timed Q printable value
+value_timed Q printable row all (Negated' p x) = then_ok (IfTime Q) (evaluated x row) _ (λ value. negated_ok (IfTime Q) tt (λ _. tt) (number_in value))
+value_timed Q printable row all (Not' p x) = then_ok (IfTime Q) (evaluated x row) _ (λ value. truth_ok (IfTime Q) tt (λ _. tt) (negation (truth_in value)))
+value_timed Q printable row all (IsNull' p x) = then_ok (IfTime Q) (evaluated x row) _ (λ _. tt)
+value_timed Q printable row all (Arithmetic' op p a q b) = then_ok (IfTime Q) (evaluated a row) _ (λ left. then_ok (IfTime Q) (evaluated b row) _ (λ right. arithmetic_ok (IfTime Q) tt (λ _. tt) op (number_in left) (number_in right)))
+value_timed Q printable row all (Shifted' p x by) = then_ok (IfTime Q) (evaluated x row) _ (λ value. shifted_ok (IfTime Q) tt printable (time_in value) by)
+value_timed Q printable row all (Joined' p a q b) = then_ok (IfTime Q) (evaluated a row) _ (λ left. then_ok (IfTime Q) (evaluated b row) _ (λ right. joined_ok (IfTime Q) tt (λ _. tt) (text_in left) (text_in right)))
+value_timed Q printable row all (Compared' comparison p a q b) = then_ok (IfTime Q) (evaluated a row) _ (λ left. then_ok (IfTime Q) (evaluated b row) _ (λ right. truth_ok (IfTime Q) tt (λ _. tt) (compared comparison left right)))
+value_timed Q printable row all (Between' p a q b r c) = then_ok (IfTime Q) (evaluated a row) _ (λ value. then_ok (IfTime Q) (evaluated b row) _ (λ least. conjunction_ok (IfTime Q) tt (λ _. tt) (compared AtLeast value least) (and_then (evaluated c row) (λ most. Ok (compared AtMost value most)))))
+value_timed Q printable row all (And' p a q b) = then_ok (IfTime Q) (evaluated a row) _ (λ left. conjunction_ok (IfTime Q) tt (λ _. tt) (truth_in left) (truth_of (evaluated b row)))
+value_timed Q printable row all (Or' p a q b) = then_ok (IfTime Q) (evaluated a row) _ (λ left. disjunction_ok (IfTime Q) tt (λ _. tt) (truth_in left) (truth_of (evaluated b row)))

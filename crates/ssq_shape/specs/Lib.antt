@@ -1,0 +1,4 @@
+pub mod Evaluation
+pub mod Kinds
+pub mod Plain
+pub mod Laws
