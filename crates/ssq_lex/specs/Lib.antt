@@ -1,4 +1,5 @@
 pub mod Answer
 pub mod Cut
 pub mod Lexeme
+pub mod Printing
 pub mod Spelling

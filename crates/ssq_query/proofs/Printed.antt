@@ -2,7 +2,7 @@
 use Rattle.std.proofs.Common.{◌≡◌, sym, ap, ◌∙◌, refl, List, [], ◌∷◌, ◌++◌, map, append-nil}
 use Rattle.std.specs.List.{flat_map}
 use Rattle.std.proofs.lemmas.List.Sums.{fold-append}
-use Rattle.ssq_query.specs.Canonical.{Printed, with_word, with_words}
+use Rattle.ssq_lex.specs.Printing.{Printed, with_word, with_words}
 use Rattle.ssq_query.specs.Spelling.{Words, comma, separated}
 
 pub with_words-append : (printed : Printed) (xs ys : Words) → with_words printed (xs ++ ys) ≡ with_words (with_words printed xs) ys

@@ -1,13 +1,13 @@
 ghost use Rattle.std.specs.Prelude.{◌≡◌, ◌∷◌, map, OnOk, IfOk};
 ghost use Rattle.std.specs.List.{flat_map};
-ghost use Rattle.ssq_query.specs.Canonical.{with_word, with_words, plain_item, plain_query, canonical, is_plain};
+ghost use Rattle.ssq_lex.specs.Printing.{with_word, with_words};
+ghost use Rattle.ssq_query.specs.Canonical.{plain_item, plain_query, canonical, is_plain};
 ghost use Rattle.ssq_query.specs.Spelling as spec;
 
 use crate::apart::{column_name, output_name};
 use crate::parse::bare;
-use crate::printer::Printer;
 use crate::query::{Comparison, Filter, Item, Op, Query, Step, Sum, Term};
-use ssq_lex::{Keyword, Symbol};
+use ssq_lex::{Keyword, Printer, Symbol};
 use ssq_value::Text;
 use std::alloc::{AllocError, Global};
 

@@ -14,7 +14,6 @@ mod apart;
 mod canonical;
 mod fault;
 mod parse;
-mod printer;
 mod query;
 mod read;
 mod reader;

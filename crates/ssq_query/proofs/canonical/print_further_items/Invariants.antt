@@ -1,6 +1,7 @@
 use Rattle.std.proofs.Common.{◌≡◌, ◌∷◌, drop}
 use Rattle.std.specs.List.{flat_map}
-use Rattle.ssq_query.specs.Canonical.{with_words, plain_item}
+use Rattle.ssq_lex.specs.Printing.{with_words}
+use Rattle.ssq_query.specs.Canonical.{plain_item}
 use Rattle.ssq_query.specs.Spelling.{comma, item_words}
 use Rattle.ssq_query.proofs.canonical.print_further_items.Given as goal
 

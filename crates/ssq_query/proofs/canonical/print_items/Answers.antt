@@ -1,5 +1,6 @@
 use Rattle.std.proofs.Common.{◌∙◌, ap, sym}
-use Rattle.ssq_query.specs.Canonical.{with_words, plain_item}
+use Rattle.ssq_lex.specs.Printing.{with_words}
+use Rattle.ssq_query.specs.Canonical.{plain_item}
 use Rattle.ssq_query.specs.Spelling.{separated, item_words}
 use Rattle.ssq_query.proofs.Printed.{list_printed, map_written}
 use Rattle.ssq_query.proofs.canonical.print_items.Goals as goal

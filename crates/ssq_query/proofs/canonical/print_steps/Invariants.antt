@@ -1,6 +1,6 @@
 use Rattle.std.proofs.Common.{◌≡◌, drop}
 use Rattle.std.specs.List.{flat_map}
-use Rattle.ssq_query.specs.Canonical.{with_words}
+use Rattle.ssq_lex.specs.Printing.{with_words}
 use Rattle.ssq_query.specs.Spelling.{step_words}
 use Rattle.ssq_query.proofs.canonical.print_steps.Given as goal
 

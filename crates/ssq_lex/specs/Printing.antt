@@ -1,0 +1,89 @@
+-- How words are printed, one after the other.
+use Rattle.std.specs.Prelude.{ℕ, Bool, true, false, ◌||◌, if◌then◌else◌, List, [], ◌∷◌, ◌++◌, fold}
+use Rattle.std.specs.Fmt.{signed_decimal}
+use Rattle.ssq_lex.specs.declared.keyword.Keyword.{Keyword}
+use Rattle.ssq_lex.specs.declared.keyword.Keyword.TheVariants.{Window, Count, Sum, Min, Max}
+use Rattle.ssq_lex.specs.declared.printer.End.{End}
+use Rattle.ssq_lex.specs.declared.printer.End.TheVariants as end
+use Rattle.ssq_lex.specs.declared.symbol.Symbol.{Symbol}
+use Rattle.ssq_lex.specs.declared.symbol.Symbol.TheVariants as mark
+use Rattle.ssq_lex.specs.Lexeme.{Lexeme, keyword, name, number, quoted, symbol, doubled}
+use Rattle.ssq_lex.specs.Spelling.{keyword_spelling, symbol_spelling}
+
+-- keywords in capitals, numbers by their value, texts between quotes with each quote in them twice
+abbrev pub word_text : Lexeme → List ℕ
+word_text (keyword k) = keyword_spelling k
+word_text (name text) = text
+word_text (number n) = signed_decimal n
+word_text (quoted text) = 39 ∷ doubled text ++ 39 ∷ []
+word_text (symbol s) = symbol_spelling s
+
+-- these stand without a space before the `(` of what they are applied to
+abbrev pub keyword_end : Keyword → End
+keyword_end Window = end.Applied
+keyword_end Count = end.Applied
+keyword_end Sum = end.Applied
+keyword_end Min = end.Applied
+keyword_end Max = end.Applied
+keyword_end other = end.Apart
+
+-- no space stands behind `(` and `.`
+abbrev pub symbol_end : Symbol → End
+symbol_end mark.LeftParen = end.Joined
+symbol_end mark.Dot = end.Joined
+symbol_end other = end.Apart
+
+-- how a word stands to the next one
+abbrev pub word_end : Lexeme → End
+word_end (keyword k) = keyword_end k
+word_end (symbol s) = symbol_end s
+word_end other = end.Apart
+
+-- no space stands before `)`, `,`, `;` and `.`
+abbrev pub closes : Symbol → Bool
+closes mark.RightParen = true
+closes mark.Comma = true
+closes mark.Semicolon = true
+closes mark.Dot = true
+closes other = false
+
+abbrev pub is_left_paren : Symbol → Bool
+is_left_paren mark.LeftParen = true
+is_left_paren other = false
+
+abbrev pub is_joined : End → Bool
+is_joined end.Joined = true
+is_joined other = false
+
+abbrev pub symbol_touches : End → Symbol → Bool
+symbol_touches end.Joined s = true
+symbol_touches end.Applied s = is_left_paren s || closes s
+symbol_touches end.Apart s = closes s
+
+-- the next word stands at once behind the last
+abbrev pub touches : End → Lexeme → Bool
+touches last (symbol s) = symbol_touches last s
+touches last other = is_joined last
+
+-- one space between two words, but where none stands
+abbrev pub lead : End → Lexeme → List ℕ
+lead last word = if touches last word then [] else 32 ∷ []
+
+-- the text so far, and how its last word stands to the next one
+pub record Printed : Type 0 where
+  pub text : List ℕ
+  pub last : End
+
+-- no space stands at the start
+abbrev pub blank : Printed
+blank = record { text = []; last = end.Joined }
+
+unfoldable pub with_word : Printed → Lexeme → Printed
+with_word printed word = record { text = printed.text ++ lead printed.last word ++ word_text word; last = word_end word }
+
+abbrev pub with_words : Printed → List Lexeme → Printed
+with_words printed words = fold with_word printed words
+
+-- the text of these words
+abbrev pub printed : List Lexeme → List ℕ
+printed words = (with_words blank words).text
