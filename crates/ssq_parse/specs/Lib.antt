@@ -1,0 +1,6 @@
+pub mod Expressions
+pub mod Nests
+pub mod Operators
+pub mod Queries
+pub mod Reading
+pub mod Trees
