@@ -1,5 +1,5 @@
 -- Operators that stand before an operand: the last is the innermost.
-use Rattle.std.proofs.Common.{◌≡◌, ℕ, zero, suc, ◌+◌, ◌-◌, ◌<◌, ◌≤◌, true, false, Bool, sym, ap, ◌∙◌, arith, List, [], ◌∷◌, map, take, drop, length, get_or, refl, Ok, Err}
+use Rattle.std.proofs.Common.{◌≡◌, ℕ, zero, suc, ◌+◌, ◌-◌, ◌<◌, ◌≤◌, Bool, sym, ap, ◌∙◌, arith, List, [], ◌∷◌, map, take, drop, length, get_or, refl, Ok, Err}
 use Rattle.std.specs.Prelude.{if◌then◌else◌}
 use Rattle.std.specs.List.{prefix_len}
 use Rattle.std.proofs.lemmas.List.{take-map, drop-map, take_all}

@@ -1,5 +1,5 @@
 -- How expressions are read, one definition for each line of the grammar.
-use Rattle.std.specs.Prelude.{ℕ, zero, suc, ◌==◌, Bool, true, false, if◌then◌else◌, List, [], ◌∷◌, take, drop, Option, Some, None, is_some, Ok, Err}
+use Rattle.std.specs.Prelude.{ℕ, zero, suc, ◌==◌, true, false, if◌then◌else◌, [], ◌∷◌, take, drop, Option, Some, None, Ok}
 use Rattle.std.specs.List.{prefix_len}
 use Rattle.ssq_ast.specs.declared.expr.BinaryOp.{BinaryOp}
 use Rattle.ssq_ast.specs.declared.expr.Expr.TheVariants as e
@@ -20,7 +20,7 @@ use Rattle.ssq_parse.specs.declared.operators.Level.{Level}
 use Rattle.ssq_parse.specs.declared.operators.Level.TheVariants as level
 use Rattle.ssq_parse.specs.declared.tree.Tree.{Tree}
 use Rattle.ssq_parse.specs.Operators.{prefixes}
-use Rattle.ssq_parse.specs.Reading.{Ahead, Made, Read, ◌>>=◌, before, refused, expected, stop_at, behind, seen, is_keyword, is_symbol, keyword_at, symbol_at, first_operator, name_at, span_at, moment_at}
+use Rattle.ssq_parse.specs.Reading.{Ahead, Read, ◌>>=◌, before, refused, expected, stop_at, behind, seen, is_keyword, is_symbol, keyword_at, symbol_at, first_operator, name_at, span_at, moment_at}
 use Rattle.ssq_parse.specs.Trees.{tree_of, leaf, binary, null_test, between, wrapped}
 
 abbrev pub Reader : Type 0

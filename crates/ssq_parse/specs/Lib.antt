@@ -1,4 +1,5 @@
 pub mod Expressions
+pub mod File
 pub mod Nests
 pub mod Operators
 pub mod Queries

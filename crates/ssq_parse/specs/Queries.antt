@@ -1,5 +1,5 @@
 -- How queries are read, one definition for each line of the grammar.
-use Rattle.std.specs.Prelude.{ℕ, zero, suc, Bool, true, false, if◌then◌else◌, List, [], ◌∷◌, ◌++◌, length, drop, Option, Some, None, is_some, Result, Ok, Err}
+use Rattle.std.specs.Prelude.{ℕ, zero, suc, Bool, true, false, List, [], ◌∷◌, ◌++◌, length, drop, Option, Some, None, Result, Ok, Err}
 use Rattle.ssq_ast.specs.declared.expr.Expr.{Expr}
 use Rattle.ssq_ast.specs.declared.expr.Expr.TheVariants as expr
 use Rattle.ssq_ast.specs.declared.expr.Ident.{Ident}
@@ -30,13 +30,12 @@ use Rattle.ssq_ast.specs.Statement as statement
 use Rattle.ssq_lex.specs.declared.keyword.Keyword.{Keyword}
 use Rattle.ssq_lex.specs.declared.keyword.Keyword.TheVariants as key
 use Rattle.ssq_lex.specs.declared.symbol.Symbol.TheVariants as mark
-use Rattle.ssq_lex.specs.Lexeme.{Lexeme, name}
 use Rattle.ssq_value.specs.declared.column.ColType.{ColType}
 use Rattle.ssq_value.specs.declared.column.ColType.TheVariants as kind
 use Rattle.ssq_parse.specs.declared.fault.Stop.{Stop}
 use Rattle.ssq_parse.specs.declared.tree.Tree.{Tree}
 use Rattle.ssq_parse.specs.Expressions.{whole_at}
-use Rattle.ssq_parse.specs.Reading.{Ahead, Made, Read, ◌>>=◌, before, place, expected, behind, seen, sees, is_keyword, is_symbol, is_name, keyword_at, symbol_at, name_at, quoted_at, number_at, span_at}
+use Rattle.ssq_parse.specs.Reading.{Ahead, Made, Read, ◌>>=◌, place, expected, behind, seen, sees, is_keyword, is_symbol, is_name, keyword_at, symbol_at, name_at, quoted_at, number_at, span_at}
 
 -- ---- lists with commas. Each turn takes a token, so as many turns as there are tokens are enough.
 

@@ -9,7 +9,7 @@ use Rattle.ssq_ast.specs.declared.expr.UnaryOp.{UnaryOp}
 use Rattle.ssq_lex.specs.Lexeme.{Lexed}
 use Rattle.ssq_parse.specs.declared.fault.ParseCause.TheVariants.{TooDeep}
 use Rattle.ssq_parse.specs.declared.tree.Tree.{Tree}
-use Rattle.ssq_parse.specs.Reading.{Ahead, Made, Read, refused, before, ◌>>=◌}
+use Rattle.ssq_parse.specs.Reading.{Made, refused}
 
 -- what is made of what was made
 infixl 10 ◌and_then◌
