@@ -3,7 +3,10 @@
 //! The grammar stands in `specs/`, as trees of what is written, each with its words.
 #![tactic(auto)]
 
+mod canonical;
 mod expr;
+mod part;
+mod print;
 mod query;
 mod sequence;
 
