@@ -1,5 +1,5 @@
 -- Words that are printed one part after the other.
-use Rattle.std.proofs.Common.{◌≡◌, ℕ, sym, ap, ◌∙◌, refl, List, [], ◌∷◌, ◌++◌, map, append-nil}
+use Rattle.std.proofs.Common.{◌≡◌, ℕ, Bool, true, false, ◌==◌, length, sym, ap, ◌∙◌, refl, List, [], ◌∷◌, ◌++◌, map, append-nil}
 use Rattle.std.specs.List.{flat_map}
 use Rattle.std.proofs.lemmas.List.Sums.{fold-append}
 use Rattle.ssq_lex.specs.Printing.{Printed, with_word, with_words}
@@ -14,8 +14,10 @@ use Rattle.ssq_ast.specs.declared.expr.Function.{Function}
 use Rattle.ssq_ast.specs.declared.expr.NullTest.{NullTest}
 use Rattle.ssq_ast.specs.declared.expr.UnaryOp.{UnaryOp}
 use Rattle.ssq_ast.specs.Expression.{Words, words, plain, within, function_key, unary_word, binary_word, test_words, unary_level, left_level, right_level}
+use Rattle.ssq_ast.specs.declared.query.OrderBy.{OrderBy}
+use Rattle.ssq_ast.specs.Canonical.{plain_order}
 use Rattle.ssq_ast.proofs.Boxes.{aggregate_is, unary_is, is_null_is, binary_is, between_is}
-use Rattle.ssq_ast.specs.Statement.{comma, separated}
+use Rattle.ssq_ast.specs.Statement.{comma, separated, order_words, order_item_words}
 
 pub with_words-append : (printed : Printed) (xs ys : Words) → with_words printed (xs ++ ys) ≡ with_words (with_words printed xs) ys
 with_words-append printed xs ys = fold-append with_word printed xs ys
@@ -26,6 +28,20 @@ separated-led written x [] = sym (append-nil (written x))
 separated-led written x (y ∷ xs) = ap (λ ws. written x ++ comma ∷ ws) (separated-led written y xs)
 
 pub ruleset printing = (with_words-append, separated-led)
+
+-- parts that are made before they are written
+pub map_written : {A B : Type 0} (written : B → Words) (f : A → B) (xs : List A) → map written (map f xs) ≡ map (λ x. written (f x)) xs
+map_written written f [] = refl
+map_written written f (x ∷ xs) = ap (λ ws. written (f x) ∷ ws) (map_written written f xs)
+
+pub flat_map-map : {A B : Type 0} (written : B → Words) (made : A → B) (xs : List A) → flat_map written (map made xs) ≡ flat_map (λ x. written (made x)) xs
+flat_map-map written made [] = refl
+flat_map-map written made (x ∷ xs) = ap (λ ws. written (made x) ++ ws) (flat_map-map written made xs)
+
+-- ORDER BY stands where there is an order
+pub order_words_filled : (orders : List OrderBy) → (length orders == 0) ≡ false → order_words (map plain_order orders) ≡ keyword key.Order ∷ keyword key.By ∷ separated (map order_item_words (map plain_order orders))
+order_words_filled [] h = cc
+order_words_filled (order ∷ orders) h = refl
 
 -- Expressions, by what was printed before their last part.
 

@@ -3,8 +3,10 @@ use Rattle.std.specs.Prelude.{ℕ, Bool, true, false, bytes_eq, if◌then◌else
 use Rattle.std.specs.Option.{option_map}
 use Rattle.ssq_lex.specs.Printing.{printed}
 use Rattle.ssq_ast.specs.declared.query.ColumnDecl.{ColumnDecl}
+use Rattle.ssq_ast.specs.declared.query.Deduplicate.{Deduplicate}
 use Rattle.ssq_ast.specs.declared.query.Group.{Group}
 use Rattle.ssq_ast.specs.declared.query.Group.TheVariants as group
+use Rattle.ssq_ast.specs.declared.query.GroupBy.{GroupBy}
 use Rattle.ssq_ast.specs.declared.query.Item.{Item}
 use Rattle.ssq_ast.specs.declared.query.Item.TheVariants as item
 use Rattle.ssq_ast.specs.declared.query.Join.{Join}
@@ -44,12 +46,18 @@ plain_item (item.Named value at label) = named_item (plain value) label.text
 abbrev pub plain_join : Join → WrittenJoin
 plain_join join = record { kind = join.kind; has_word = false; stream = join.stream.text; on = plain join.on.value }
 
+abbrev pub plain_deduplicate : Deduplicate → List (List ℕ)
+plain_deduplicate deduplicate = map (λ column. column.text) deduplicate.columns
+
 abbrev pub plain_window : Window → WrittenWindow
 plain_window window = record { column = window.column.text; size = window.size; slide = window.slide }
 
 abbrev pub plain_group : Group → WrittenGroup
 plain_group (group.Column column) = column_group column.text
 plain_group (group.Window window) = window_group (plain_window window)
+
+abbrev pub plain_group_by : GroupBy → List WrittenGroup
+plain_group_by by = map plain_group by.items
 
 -- no ASC
 abbrev pub plain_order : OrderBy → WrittenOrder
@@ -62,8 +70,8 @@ plain_select select = record {
   from = select.from.text;
   join = option_map plain_join select.join;
   filter = option_map (λ condition. plain condition.value) select.filter;
-  deduplicate = option_map (λ deduplicate. map (λ column. column.text) deduplicate.columns) select.deduplicate;
-  group = option_map (λ by. map plain_group by.items) select.group;
+  deduplicate = option_map plain_deduplicate select.deduplicate;
+  group = option_map plain_group_by select.group;
   having = option_map (λ condition. plain condition.value) select.having;
   order = map plain_order select.order;
   limit = option_map (λ limit. limit.most) select.limit;

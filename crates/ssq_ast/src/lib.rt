@@ -10,6 +10,7 @@ mod print;
 mod query;
 mod sequence;
 
+pub use canonical::text;
 pub use expr::{BinaryOp, ColumnRef, Expr, Function, Ident, Moment, NullTest, Span, UnaryOp};
 pub use query::{
     ColumnDecl, Condition, Deduplicate, Direction, Group, GroupBy, Item, Join, JoinKind, Limit,

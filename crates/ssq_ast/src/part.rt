@@ -19,6 +19,7 @@ pub(crate) trait Part {
         ensures { OnOk result (printer.new ≡ with_words printer.old (written self.now)) };
 }
 
+#[tactic(auto, using(crate::proofs::Printed::printing))]
 fn print_further<P: Part>(printer: &mut Printer, parts: &[P]) -> Result<(), AllocError>
     ensures { OnOk result (printer.new
         ≡ with_words printer.old (flat_map (λ part. comma ∷ P.written part) parts.now)) }
@@ -30,6 +31,7 @@ fn print_further<P: Part>(printer: &mut Printer, parts: &[P]) -> Result<(), Allo
     Ok(())
 }
 
+#[tactic(auto, using(crate::proofs::Printed::printing))]
 pub(crate) fn print_separated<P: Part>(printer: &mut Printer, parts: &[P]) -> Result<(), AllocError>
     ensures { OnOk result (printer.new
         ≡ with_words printer.old (separated (map P.written parts.now))) }
@@ -44,6 +46,7 @@ pub(crate) fn print_separated<P: Part>(printer: &mut Printer, parts: &[P]) -> Re
     }
 }
 
+#[tactic(auto, using(crate::proofs::Printed::printing))]
 pub(crate) fn print_each<P: Part>(printer: &mut Printer, parts: &[P]) -> Result<(), AllocError>
     ensures { OnOk result (printer.new ≡ with_words printer.old (flat_map P.written parts.now)) }
 {
