@@ -8,7 +8,6 @@ mod expr;
 mod part;
 mod print;
 mod query;
-mod sequence;
 
 pub use canonical::text;
 pub use expr::{BinaryOp, ColumnRef, Expr, Function, Ident, Moment, NullTest, Span, UnaryOp};
@@ -16,4 +15,3 @@ pub use query::{
     ColumnDecl, Condition, Deduplicate, Direction, Group, GroupBy, Item, Join, JoinKind, Limit,
     Mode, OrderBy, Query, Select, Stream, Watermark, Window,
 };
-pub use sequence::Sequence;
