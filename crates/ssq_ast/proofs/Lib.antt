@@ -1,1 +1,4 @@
+pub mod Boxes
+pub mod Levels
+pub mod Printed
 pub mod Worked

@@ -208,14 +208,21 @@ abbrev pub limit_words : Option ℤ → Words
 limit_words None = []
 limit_words (Some most) = keyword key.Limit ∷ number most ∷ []
 
-abbrev pub select_words : WrittenSelect → Words
-select_words select =
+-- up to WHERE
+abbrev pub front_words : WrittenSelect → Words
+front_words select =
     keyword key.Select ∷ distinct_words select.distinct ++ separated (map item_words select.items)
-    ++ keyword key.From ∷ name select.from ∷ join_words select.join
-    ++ condition_words key.Where select.filter ++ deduplicate_words select.deduplicate
-    ++ group_words select.group ++ condition_words key.Having select.having
+    ++ keyword key.From ∷ name select.from ∷ join_words select.join ++ condition_words key.Where select.filter
+
+-- and from there on
+abbrev pub back_words : WrittenSelect → Words
+back_words select =
+    deduplicate_words select.deduplicate ++ group_words select.group ++ condition_words key.Having select.having
     ++ order_words select.order ++ limit_words select.limit
     ++ keyword key.Output ∷ keyword (mode_key select.mode) ∷ symbol mark.Semicolon ∷ []
+
+abbrev pub select_words : WrittenSelect → Words
+select_words select = front_words select ++ back_words select
 
 -- how a query is written
 abbrev pub query_words : WrittenQuery → Words

@@ -3,13 +3,15 @@
 //! The grammar stands in `specs/`, as trees of what is written, each with its words.
 #![tactic(auto)]
 
+mod canonical;
 mod expr;
+mod part;
+mod print;
 mod query;
-mod sequence;
 
+pub use canonical::text;
 pub use expr::{BinaryOp, ColumnRef, Expr, Function, Ident, Moment, NullTest, Span, UnaryOp};
 pub use query::{
     ColumnDecl, Condition, Deduplicate, Direction, Group, GroupBy, Item, Join, JoinKind, Limit,
     Mode, OrderBy, Query, Select, Stream, Watermark, Window,
 };
-pub use sequence::Sequence;

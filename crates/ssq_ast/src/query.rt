@@ -1,6 +1,5 @@
-use crate::Sequence;
 use crate::expr::{ColumnRef, Expr, Ident, Span};
-use ssq_value::{ColType, Text};
+use ssq_value::{ColType, Sequence, Text};
 
 /// A query file. Every `at` in it is the place of a token in the file: of its first byte, counted from 0.
 #[derive(Debug, Drop)]
