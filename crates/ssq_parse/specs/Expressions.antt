@@ -107,8 +107,8 @@ module _ (depth : ℕ) (inner : Reader) where
   abbrev rows_by : ℕ → ℕ → Option ℕ → Reader
   rows_by at bracket None tokens = argument_at function.Count at bracket tokens
   rows_by at bracket (Some star) tokens =
-    if depth == 0 then refused (Some bracket) TooDeep
-    else (symbol_at mark.RightParen (drop 1 tokens) >>= (λ closed. Ok (leaf at (e.CountRows at), closed.1)))
+      if depth == 0 then refused (Some bracket) TooDeep
+      else (symbol_at mark.RightParen (drop 1 tokens) >>= (λ closed. Ok (leaf at (e.CountRows at), closed.1)))
 
   -- COUNT, of rows or of an argument
   unfoldable pub count_at : ℕ → Reader

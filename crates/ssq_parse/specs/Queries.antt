@@ -282,19 +282,22 @@ select_at tokens = do
   limited ← limit_at ordered.1
   shown ← mode_at limited.1
   ended ← symbol_at mark.Semicolon shown.1
-  Ok (record {
-    distinct = seen (is_keyword key.Distinct) word.1;
-    items = items.0;
-    from = stream.0;
-    join = joined.0;
-    filter = filter.0;
-    deduplicate = deduplicated.0;
-    group = grouped.0;
-    having = having.0;
-    order = ordered.0;
-    limit = limited.0;
-    mode = shown.0;
-  }, ended.1)
+  Ok (
+    record {
+      distinct = seen (is_keyword key.Distinct) word.1;
+      items = items.0;
+      from = stream.0;
+      join = joined.0;
+      filter = filter.0;
+      deduplicate = deduplicated.0;
+      group = grouped.0;
+      having = having.0;
+      order = ordered.0;
+      limit = limited.0;
+      mode = shown.0;
+    },
+    ended.1,
+  )
 
 -- nothing stands behind a query
 abbrev pub alone : Query → Option ℕ → Ahead → Made Query

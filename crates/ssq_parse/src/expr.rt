@@ -49,12 +49,7 @@ fn too_deep(at: usize) -> Stop
 }
 
 /// The tree of an operand behind the operators that stand before it.
-fn wrapped(
-    alloc: Global,
-    op: UnaryOp,
-    tokens: &[Token<'_>],
-    operand: Tree,
-) -> Result<Tree, Stop>
+fn wrapped(alloc: Global, op: UnaryOp, tokens: &[Token<'_>], operand: Tree) -> Result<Tree, Stop>
     ensures { Makes (wrapped op (map lexed tokens.now) operand) result }
 {
     let mut tree = operand;
@@ -76,9 +71,12 @@ fn column(alloc: Global, reader: &mut Reader<'_>, name: Ident) -> Result<Tree, S
         None => (None, name),
         Some(_dot) => (Some(name), reader.name(alloc)?),
     };
-    Ok(leaf(at, Expr::Column {
-        value: ColumnRef { stream, column },
-    }))
+    Ok(leaf(
+        at,
+        Expr::Column {
+            value: ColumnRef { stream, column },
+        },
+    ))
 }
 
 #[tactic(auto, unfolding(crate::specs::Expressions::timestamp_at))]
@@ -181,12 +179,7 @@ impl<F: Fn(Global, &mut Reader<'_>, usize) -> Result<Tree, Stop>> Grammar<F> {
 
     /// An operand that begins with a keyword.
     #[tactic(auto, unfolding(crate::specs::Expressions::worded_at))]
-    fn worded(
-        &self,
-        reader: &mut Reader<'_>,
-        keyword: Keyword,
-        at: usize,
-    ) -> Result<Tree, Stop>
+    fn worded(&self, reader: &mut Reader<'_>, keyword: Keyword, at: usize) -> Result<Tree, Stop>
         requires { Nests self.now.depth (F.pre self.now.inner) (F.post self.now.inner) }
         ensures { Reads (spec.worded_at self.now.depth (spec.expr_at self.now.depth) keyword at reader.old) result reader.new }
     {
@@ -209,7 +202,14 @@ impl<F: Fn(Global, &mut Reader<'_>, usize) -> Result<Tree, Stop>> Grammar<F> {
         ensures { Reads (spec.primary_at self.now.depth (spec.expr_at self.now.depth) reader.old) result reader.new }
     {
         let expected = reader.expected();
-        let Some(Token { start: at, kind, .. }) = reader.next() else {
+        let Some(
+            Token {
+                start: at,
+                kind,
+                ..
+            },
+        ) = reader.next()
+        else {
             return Err(expected);
         };
         match kind {

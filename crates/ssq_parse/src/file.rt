@@ -52,7 +52,12 @@ fn judged(
     ensures { spec.Judges len fault found result }
 {
     match found {
-        Err(Stop::Refused { at: Some(at), cause }) => Err(ParseFault::Refused { at, cause }),
+        Err(
+            Stop::Refused {
+                at: Some(at),
+                cause,
+            },
+        ) => Err(ParseFault::Refused { at, cause }),
         Err(Stop::Refused { at: None, .. }) => Err(ended(len, fault)),
         Err(Stop::NoMemory) => Err(ParseFault::NoMemory),
         Ok(query) => match fault {

@@ -8,11 +8,11 @@ use crate::expr::expr;
 use crate::fault::Stop;
 use crate::reader::Reader;
 use ssq_ast::{
-    ColumnDecl, ColumnRef, Condition, Deduplicate, Direction, Expr, Group, GroupBy, Ident, Item, Join, JoinKind,
-    Limit, Mode, OrderBy, Query, Select, Sequence, Span, Stream, Watermark, Window,
+    ColumnDecl, ColumnRef, Condition, Deduplicate, Direction, Expr, Group, GroupBy, Ident, Item,
+    Join, JoinKind, Limit, Mode, OrderBy, Query, Select, Span, Stream, Watermark, Window,
 };
 use ssq_lex::{Keyword, Symbol};
-use ssq_value::ColType;
+use ssq_value::{ColType, Sequence};
 use std::alloc::Global;
 
 /// What stands in lists with commas.

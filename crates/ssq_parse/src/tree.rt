@@ -46,12 +46,7 @@ fn risen(at: usize, height: usize) -> Result<usize, Stop>
 }
 
 #[tactic(auto, unfolding(crate::specs::Trees::unary))]
-pub(crate) fn unary(
-    alloc: Global,
-    op: UnaryOp,
-    at: usize,
-    operand: Tree,
-) -> Result<Tree, Stop>
+pub(crate) fn unary(alloc: Global, op: UnaryOp, at: usize, operand: Tree) -> Result<Tree, Stop>
     ensures { Makes (spec.unary op at operand) result }
 {
     let height = risen(at, operand.height)?;
