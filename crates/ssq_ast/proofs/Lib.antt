@@ -1,0 +1,5 @@
+pub mod Boxes
+pub mod Levels
+pub mod Plain
+pub mod Printed
+pub mod Worked

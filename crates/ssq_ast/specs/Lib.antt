@@ -1,0 +1,4 @@
+pub mod Canonical
+pub mod Expression
+pub mod Places
+pub mod Statement

@@ -1,0 +1,17 @@
+//! Queries as they are written: their tree, their grammar and their canonical text.
+//!
+//! The grammar stands in `specs/`, as trees of what is written, each with its words.
+#![tactic(auto)]
+
+mod canonical;
+mod expr;
+mod part;
+mod print;
+mod query;
+
+pub use canonical::text;
+pub use expr::{BinaryOp, ColumnRef, Expr, Function, Ident, Moment, NullTest, Span, UnaryOp};
+pub use query::{
+    ColumnDecl, Condition, Deduplicate, Direction, Group, GroupBy, Item, Join, JoinKind, Limit,
+    Mode, OrderBy, Query, Select, Stream, Watermark, Window,
+};

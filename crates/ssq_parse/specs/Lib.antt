@@ -1,0 +1,7 @@
+pub mod Expressions
+pub mod File
+pub mod Nests
+pub mod Operators
+pub mod Queries
+pub mod Reading
+pub mod Trees
