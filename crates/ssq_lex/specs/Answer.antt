@@ -8,10 +8,11 @@ use Rattle.ssq_lex.specs.declared.fault.LexCause.TheVariants.{BadChar}
 use Rattle.ssq_lex.specs.declared.fault.LexFault.{LexFault}
 use Rattle.ssq_lex.specs.declared.fault.LexFault.TheVariants.{Refused, NoMemory}
 use Rattle.ssq_lex.specs.declared.front.Front.{Front}
+use Rattle.ssq_lex.specs.declared.lexer.Lexical.{Lexical}
 use Rattle.ssq_lex.specs.declared.token.Token.{Token}
 use Rattle.ssq_lex.specs.declared.symbol.Symbol.{Symbol}
 use Rattle.ssq_lex.specs.Lexeme.{symbol, lexeme, lexed}
-use Rattle.ssq_lex.specs.Cut.{Head, Tokens}
+use Rattle.ssq_lex.specs.Cut.{Head, Cut, Tokens}
 
 -- a front of the code, as what it says and how long it is
 abbrev pub head : Front → Head
@@ -40,6 +41,10 @@ pub record Cuts (f : Front) (bytes : List ℕ) : Type 0 where
 abbrev pub Finds : Result Front LexCause → List ℕ → Result Head LexCause → Type 0
 Finds (Ok f) bytes front = (front ≡ Ok (head f)) × Cuts f bytes
 Finds (Err cause) bytes front = front ≡ Err cause
+
+-- how the code cut a text
+abbrev pub cut_by : Lexical → Cut
+cut_by found = record { tokens = map lexed found.tokens.items; fault = found.fault }
 
 -- the call answered these tokens or this refusal, unless memory ran out
 abbrev pub Gives : Result (Vec Token) LexFault → Tokens → Type 0

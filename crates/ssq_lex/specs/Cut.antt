@@ -6,6 +6,7 @@ use Rattle.std.specs.Option.{option_map}
 use Rattle.std.specs.Str.Parse.{digits_value}
 use Rattle.ssq_lex.specs.declared.fault.LexCause.{LexCause}
 use Rattle.ssq_lex.specs.declared.fault.LexCause.TheVariants.{BadChar, BadNumber, Unclosed}
+use Rattle.ssq_lex.specs.declared.fault.Refusal.{Refusal}
 use Rattle.ssq_lex.specs.declared.keyword.Keyword.{Keyword}
 use Rattle.ssq_lex.specs.declared.symbol.Symbol.{Symbol}
 use Rattle.ssq_lex.specs.Lexeme.{Lexeme, keyword, name, number, quoted, symbol, undoubled, Lexed}
@@ -92,13 +93,10 @@ front bytes =
     else (if b == 39 then text_at bytes
     else symbol_at bytes))))
 
--- the first place, from the left, at which a text has no token, and what is wrong there
-pub record Refusal : Type 0 where
-  pub at : ℕ
-  pub cause : LexCause
-
-abbrev pub Tokens : Type 0
-Tokens = Result (List Lexed) Refusal
+-- the tokens in front of the first fault, or all of them, and that fault
+pub record Cut : Type 0 where
+  pub tokens : List Lexed
+  pub fault : Option Refusal
 
 -- the token that a front at this place is, if it is one
 abbrev pub token_at : ℕ → ℕ → Option Lexeme → List Lexed
@@ -106,22 +104,33 @@ token_at at len None = []
 token_at at len (Some lexeme) = record { start = at; end = at + len; said = lexeme } ∷ []
 
 -- tokens, and then those of the rest
-abbrev pub followed : List Lexed → Tokens → Tokens
-followed front (Ok rest) = Ok (front ++ rest)
-followed front (Err refusal) = Err refusal
+abbrev pub followed : List Lexed → Cut → Cut
+followed front rest = record { tokens = front ++ rest.tokens; fault = rest.fault }
 
 -- A front at a place, and then what stands behind it. The rest is asked by how many bytes of it the front takes,
 -- beside its first.
-abbrev pub and_rest : ℕ → Result Head LexCause → (ℕ → Tokens) → Tokens
-and_rest at (Err cause) rest = Err (record { at = at; cause = cause })
+abbrev pub and_rest : ℕ → Result Head LexCause → (ℕ → Cut) → Cut
+and_rest at (Err cause) rest = record { tokens = []; fault = Some (record { at = at; cause = cause }) }
 and_rest at (Ok head) rest = followed (token_at at head.len head.said) (rest (head.len - 1))
 
--- the tokens from a place on, where the first bytes belong to what stands before
-abbrev pub tokens_from : ℕ → ℕ → List ℕ → Tokens
-tokens_from taken at [] = Ok []
-tokens_from (suc taken) at (b ∷ bytes) = tokens_from taken (at + 1) bytes
-tokens_from zero at (b ∷ bytes) = and_rest at (front (b ∷ bytes)) (λ taken. tokens_from taken (at + 1) bytes)
+-- how a text is cut from a place on, where the first bytes belong to what stands before
+abbrev pub cut_from : ℕ → ℕ → List ℕ → Cut
+cut_from taken at [] = record { tokens = []; fault = None }
+cut_from (suc taken) at (b ∷ bytes) = cut_from taken (at + 1) bytes
+cut_from zero at (b ∷ bytes) = and_rest at (front (b ∷ bytes)) (λ taken. cut_from taken (at + 1) bytes)
 
--- The tokens of a text, or its first fault: from the left, each front is a token, a blank or a comment.
+-- How a text is cut: from the left, each front is a token, a blank or a comment, up to the first fault.
+unfoldable pub cut_of : List ℕ → Cut
+cut_of = cut_from 0 0
+
+abbrev pub Tokens : Type 0
+Tokens = Result (List Lexed) Refusal
+
+-- all tokens, or the fault
+abbrev pub whole : List Lexed → Option Refusal → Tokens
+whole tokens None = Ok tokens
+whole tokens (Some refusal) = Err refusal
+
+-- the tokens of a text, or its first fault
 unfoldable pub tokens_of : List ℕ → Tokens
-tokens_of = tokens_from 0 0
+tokens_of bytes = whole (cut_of bytes).tokens (cut_of bytes).fault

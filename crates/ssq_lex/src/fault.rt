@@ -15,6 +15,13 @@ pub enum LexCause {
     Unclosed,
 }
 
+/// The first place, in bytes, at which a text has no token, and what is wrong there.
+#[derive(Clone, Copy, Debug, PartialEq, Eq)]
+pub struct Refusal {
+    pub at: usize,
+    pub cause: LexCause,
+}
+
 /// Why a text was not cut into tokens.
 #[derive(Debug, Drop, Error)]
 pub enum LexFault {

@@ -1,10 +1,10 @@
-ghost use Rattle.std.specs.Prelude.{◌≡◌, ◌+◌, ◌<◌, ◌^◌, ◌++◌, map, OnOk};
+ghost use Rattle.std.specs.Prelude.{◌≡◌, ◌+◌, ◌<◌, ◌^◌, ◌++◌, map, IfOk, OnOk};
 ghost use Rattle.std.specs.Option.{option_map};
-ghost use Rattle.ssq_lex.specs.Answer.{Gives};
-ghost use Rattle.ssq_lex.specs.Cut.{tokens_of, token_at};
+ghost use Rattle.ssq_lex.specs.Answer.{Gives, cut_by};
+ghost use Rattle.ssq_lex.specs.Cut.{cut_of, tokens_of, token_at};
 ghost use Rattle.ssq_lex.specs.Lexeme.{lexeme, lexed};
 
-use crate::fault::LexFault;
+use crate::fault::{LexFault, Refusal};
 use crate::front::{Front, front_of};
 use crate::token::Token;
 use std::alloc::{AllocError, Global};
@@ -25,25 +25,52 @@ fn add<'a>(found: &mut Vec<Token<'a>>, at: usize, front: &Front<'a>) -> Result<(
     Ok(())
 }
 
-/// The tokens of a text in order, or its first fault.
+/// The tokens of a text in order, up to its first fault.
+#[derive(Debug, Drop)]
+pub struct Lexical<'a> {
+    /// All tokens in front of the fault.
+    pub tokens: Vec<Token<'a>>,
+    /// None where the whole text is cut.
+    pub fault: Option<Refusal>,
+}
+
+/// The tokens of a text in order up to its first fault, and that fault.
 ///
 /// Blanks are space, tab, CR and LF. A comment goes from `--` up to a line feed. The longest symbol is taken.
 /// Places are counted in bytes.
-pub fn tokens(alloc: Global, text: &str) -> Result<Vec<Token<'_>>, LexFault>
-    ensures { Gives result (tokens_of text.now) }
+pub fn tokens_to_fault(alloc: Global, text: &str) -> Result<Lexical<'_>, AllocError>
+    ensures { IfOk result (λ found. cut_by found ≡ cut_of text.now) }
 {
-    let mut found = Vec::new(alloc);
+    let mut tokens = Vec::new(alloc);
     let mut at = 0;
     let mut rest = text;
     while !rest.is_empty() {
         match front_of(rest) {
             Ok(front) => {
-                add(&mut found, at, &front)?;
+                add(&mut tokens, at, &front)?;
                 at += front.len;
                 rest = front.rest;
             }
-            Err(cause) => return Err(LexFault::Refused { at, cause }),
+            Err(cause) => {
+                let fault = Some(Refusal { at, cause });
+                return Ok(Lexical { tokens, fault });
+            }
         }
     }
-    Ok(found)
+    Ok(Lexical {
+        tokens,
+        fault: None,
+    })
+}
+
+/// All tokens of a text in order, or its first fault, as [`tokens_to_fault`] cuts it.
+#[tactic(auto, unfolding(crate::specs::Cut::tokens_of))]
+pub fn tokens(alloc: Global, text: &str) -> Result<Vec<Token<'_>>, LexFault>
+    ensures { Gives result (tokens_of text.now) }
+{
+    let found = tokens_to_fault(alloc, text)?;
+    match found.fault {
+        Some(Refusal { at, cause }) => Err(LexFault::Refused { at, cause }),
+        None => Ok(found.tokens),
+    }
 }

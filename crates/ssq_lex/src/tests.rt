@@ -79,6 +79,15 @@ fn cuts_texts(rt: HostRuntime) -> Result<(), Fail> {
 }
 
 #[test]
+fn keeps_tokens_before_a_fault(rt: HostRuntime) -> Result<(), Fail> {
+    let found = tokens_to_fault(rt.alloc(), "a + ?")?;
+    assert_eq!(rt; found.tokens.len(), 2);
+    let cause = LexCause::BadChar;
+    assert_eq!(rt; found.fault, Some(Refusal { at: 4, cause }));
+    Ok(())
+}
+
+#[test]
 fn quotes_and_unquotes(rt: HostRuntime) -> Result<(), Fail> {
     let text = unquoted(rt.alloc(), "it''s")?;
     assert_eq!(rt; text.as_str(), "it's");
