@@ -1,7 +1,7 @@
 -- The definitions at worked queries.
 use Rattle.std.proofs.Common.{◌≡◌, ℕ, pos, refl, false, List, [], ◌∷◌, length, map, Some, None}
 use Rattle.std.specs.Prelude.{codes}
-use Rattle.ssq_lex.specs.Cut.{Tokens, tokens_of, front, word_at, symbol_at, text_at, number_at}
+use Rattle.ssq_lex.specs.Cut.{Tokens, tokens_of, cut_of, front, word_at, symbol_at, text_at, number_at}
 use Rattle.ssq_lex.specs.Lexeme.{Lexeme}
 use Rattle.ssq_lex.specs.Spelling.{keyword_of, keyword_spelling}
 use Rattle.std.specs.Prelude.{Ok, Err}
@@ -61,7 +61,7 @@ its_length = refl
 
 -- its tokens are this query's words
 its_words : said (tokens_of text) ≡ query_words written
-unfolding text tokens_of front word_at symbol_at text_at number_at keyword_of keyword_spelling
+unfolding text tokens_of cut_of front word_at symbol_at text_at number_at keyword_of keyword_spelling
 its_words = refl
 
 abbrev named : List ℕ → ℕ → Ident
@@ -100,5 +100,5 @@ its_tree : query_tree written (starts (tokens_of text)) ≡ record {
     mode = mode.Append;
   };
 }
-unfolding text tokens_of front word_at symbol_at text_at number_at keyword_of keyword_spelling
+unfolding text tokens_of cut_of front word_at symbol_at text_at number_at keyword_of keyword_spelling
 its_tree = refl

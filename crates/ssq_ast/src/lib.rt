@@ -15,3 +15,6 @@ pub use query::{
     ColumnDecl, Condition, Deduplicate, Direction, Group, GroupBy, Item, Join, JoinKind, Limit,
     Mode, OrderBy, Query, Select, Stream, Watermark, Window,
 };
+
+#[cfg(test)]
+mod tests;
