@@ -2,4 +2,5 @@ pub mod Boxes
 pub mod Levels
 pub mod Plain
 pub mod Printed
+pub mod Queries
 pub mod Worked
