@@ -1,5 +1,5 @@
 -- Words in which clap finds no fault name a subcommand that has what it needs.
-use Rattle.std.proofs.Common.{◌≡◌, ◌⊎◌, ◌∙◌, ℕ, Bool, true, false, cond, refl, sym, ap, subst, List, [], ◌∷◌, length, not, ◌&&◌, ◌||◌, Option, Some, None, is_some, inl, inr, true≢false, codes, arith}
+use Rattle.std.proofs.Common.{◌≡◌, ◌⊎◌, ◌∙◌, ℕ, Bool, true, false, cond, refl, sym, ap, subst, List, [], ◌∷◌, not, ◌&&◌, ◌||◌, Option, Some, None, is_some, inl, inr, true≢false, codes, arith}
 use Rattle.std.proofs.lemmas.Bool.{ne_eqb}
 use Rattle.std.specs.List.{All, find}
 use Rattle.std.proofs.lemmas.List.Elements.{All-cons, All-head, All-nil, All-tail}
@@ -14,9 +14,8 @@ use Rattle.clap.specs.Faults.{check_fault, entered_fault, level_fault}
 use Rattle.clap.specs.Walk.{Row, Rule, Text, answers_to, is_empty, nothing_held, row_text, rows_after, stop_after}
 use Rattle.clap.specs.Simple.{Shape, argument_words, built, entered, filled, is_simple, label_of, names_of, rows_at, with_index}
 use Rattle.clap.specs.Takes.{is_given}
-use Rattle.clap.specs.Words.{fault_of, first_of, one_of, subcommand_of}
+use Rattle.clap.specs.Words.{fault_of, first_of, subcommand_of}
 use Rattle.clap.specs.Faults.{is_simple_and_free}
-use Rattle.clap.proofs.OnLiterals.{clap_on_literals}
 use Rattle.clap.proofs.ValueTestLemmas.{accepts-Accepts}
 use Rattle.clap.specs.declared.builder.value_parser.ValueParser.{ValueParser}
 use Rattle.clap.specs.declared.builder.value_parser.ValueParser.TheVariants.{Unsigned}
@@ -25,8 +24,8 @@ use Rattle.clap.specs.declared.error.ErrorKind.{ErrorKind}
 use Rattle.ssq_words.specs.declared.error.AskError.{AskError}
 use Rattle.ssq_words.specs.declared.error.AskError.TheVariants.{Usage, NoMemory}
 use Rattle.ssq_words.specs.Asking.{Asked, IsCause, asked, run_asked, status_asked, subcommand_asked}
-use Rattle.ssq_words.specs.Reading.{HasNumberIn, HasQuery, IsRun, IsWhole}
-use Rattle.ssq_words.proofs.WalkLemmas.{IsGiven, IsOne, found_by, given, level_good, some_kind}
+use Rattle.ssq_words.specs.Reading.{HasNumberIn, HasQuery, IsWhole}
+use Rattle.ssq_words.proofs.WalkLemmas.{IsGiven, IsOne, found_by, level_good, some_kind}
 
 -- ---- the command as it is built
 

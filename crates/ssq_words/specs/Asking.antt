@@ -1,5 +1,5 @@
 -- What the words ask for, by clap's reading of the program's one command.
-use Rattle.std.specs.Prelude.{◌≡◌, ℕ, ⊤, List, Option, Some, None, codes, if◌then◌else◌, option_map, option_and_then, unwrap_or}
+use Rattle.std.specs.Prelude.{◌≡◌, ℕ, ⊤, List, Option, None, codes, if◌then◌else◌, option_map, option_and_then, unwrap_or}
 use Rattle.std.specs.Str.{bytes_eq}
 use Rattle.std.specs.Str.Parse.{digits_value, without_leading_plus}
 use Rattle.clap.specs.Walk.{is_empty}
@@ -16,9 +16,9 @@ pub data Asked : Type 0 where
   asks_status : Text → Asked
 
 -- the command that a value of the program's type holds
-abbrev pub shown : Command → Asked
-shown (Run query most_lines rounds) = asks_run query.now most_lines rounds
-shown (Status query) = asks_status query.now
+abbrev pub asked_of : Command → Asked
+asked_of (Run query most_lines rounds) = asks_run query.now most_lines rounds
+asked_of (Status query) = asks_status query.now
 
 -- the number that digits spell; a first `+` and leading zeros say nothing
 abbrev pub number_of : Text → ℕ
@@ -49,7 +49,7 @@ asked words =
     if is_empty (fault_of program words) then option_and_then (λ p. subcommand_asked p.0 p.1) (subcommand_of program words)
     else None
 
--- when words are refused: as no command exactly where they are none; memory may run out at any time
+-- why words are refused: they are no command; memory may run out at any time
 abbrev pub IsCause : List Text → AskError → Type 0
 IsCause words Usage = asked words ≡ None
 IsCause words NoMemory = ⊤

@@ -1,5 +1,5 @@
 -- The one command of the command line. A subcommand is one `App` and one line in `program`.
-use Rattle.std.specs.Prelude.{◌∷◌, [], List, Some, true, codes}
+use Rattle.std.specs.Prelude.{Some, true, codes}
 use Rattle.clap.specs.Words.{App, Rule, new_app, new_rule, with_rule, with_subcommand}
 use Rattle.clap.specs.Simple.{on_top}
 use Rattle.clap.specs.declared.builder.value_parser.ValueParser.TheVariants.{Unsigned}

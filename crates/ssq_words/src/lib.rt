@@ -6,7 +6,7 @@
 
 ghost use Rattle.std.specs.Prelude.{◌≡◌, IfErr, IfOk, Some, [], true, is_some, map, string_bytes};
 ghost use Rattle.clap.specs.Words.{fault_of};
-ghost use Rattle.ssq_words.specs.Asking.{IsCause, asked, shown};
+ghost use Rattle.ssq_words.specs.Asking.{IsCause, asked, asked_of};
 ghost use Rattle.ssq_words.specs.Program.{program};
 
 mod error;
@@ -40,10 +40,14 @@ pub enum Command<'a> {
     },
 }
 
-/// What the words ask for. They begin with the program's name.
+/// What the words ask for. They begin with the program's name, and are `run QUERY [--max-lines N] [--rounds N]` or
+/// `status QUERY`, in the forms that clap takes: a value follows its option as a word or after `=`, numbers may have a `+`
+/// and leading zeros, and after `--` a word that begins with `-` is a query too.
+///
+/// `Usage` comes exactly where clap takes the words for none of these, unless memory runs out, which is `NoMemory`.
 #[tactic(auto, using(crate::proofs::TakenLemmas::free_asks))]
 pub fn ask<'a>(alloc: Global, words: &'a [String]) -> Result<Command<'a>, AskError>
-    ensures taken { IfOk result (λ command. asked (map string_bytes words.entry.now) ≡ Some (shown command)) }
+    ensures taken { IfOk result (λ command. asked (map string_bytes words.entry.now) ≡ Some (asked_of command)) }
     ensures refused { IfErr result (IsCause (map string_bytes words.entry.now)) }
 
     // Words in which clap finds no fault are always a command.

@@ -2,7 +2,7 @@
 ghost use Rattle.std.specs.Prelude.{◌≡◌, Some, codes, option_and_then, unwrap_or};
 ghost use Rattle.clap.specs.Walk.{rows_of, first_of};
 ghost use Rattle.clap.specs.Words.{found_of, subcommand_rows_of};
-ghost use Rattle.ssq_words.specs.Asking.{number_given, run_asked, shown, status_asked, subcommand_asked};
+ghost use Rattle.ssq_words.specs.Asking.{number_given, run_asked, asked_of, status_asked, subcommand_asked};
 ghost use Rattle.ssq_words.specs.Reading.{HasNumberIn, HasQuery, IsRun, IsWhole};
 
 use crate::Command;
@@ -35,7 +35,7 @@ fn rounds(matches: &ArgMatches<'_>) -> u32
 #[tactic(auto, unfolding(crate::specs::Asking::run_asked))]
 fn run_of<'a>(matches: &ArgMatches<'a>) -> Command<'a>
     requires { IsRun (rows_of (found_of matches.now)) }
-    ensures { run_asked (rows_of (found_of matches.now)) ≡ Some (shown result) }
+    ensures { run_asked (rows_of (found_of matches.now)) ≡ Some (asked_of result) }
 {
     let query = query(matches);
     let most_lines = most_lines(matches);
@@ -50,7 +50,7 @@ fn run_of<'a>(matches: &ArgMatches<'a>) -> Command<'a>
 #[tactic(auto, unfolding(crate::specs::Asking::status_asked))]
 fn status_of<'a>(matches: &ArgMatches<'a>) -> Command<'a>
     requires { HasQuery (rows_of (found_of matches.now)) }
-    ensures { status_asked (rows_of (found_of matches.now)) ≡ Some (shown result) }
+    ensures { status_asked (rows_of (found_of matches.now)) ≡ Some (asked_of result) }
 {
     let query = query(matches);
     Command::Status { query }
@@ -68,7 +68,7 @@ fn met<'m, 'a>(matches: &'m ArgMatches<'a>) -> (&'a str, &'m ArgMatches<'a>)
 #[tactic(auto, unfolding(crate::specs::Asking::subcommand_asked))]
 pub(crate) fn command_of<'a>(matches: &ArgMatches<'a>) -> Command<'a>
     requires { IsWhole (subcommand_rows_of matches.now) }
-    ensures { option_and_then (λ p. subcommand_asked p.0 p.1) (subcommand_rows_of matches.now) ≡ Some (shown result) }
+    ensures { option_and_then (λ p. subcommand_asked p.0 p.1) (subcommand_rows_of matches.now) ≡ Some (asked_of result) }
 {
     let (name, inner) = met(matches);
     match name {

@@ -4,7 +4,7 @@ use Rattle.clap.specs.Words.{App, IsAmong, kind_of, app_of, fault_of, is_simple,
 use Rattle.ssq_words.specs.Program.{program}
 use Rattle.ssq_words.specs.Asking.{subcommand_asked}
 use Rattle.ssq_words.specs.Reading.{IsWhole}
-use Rattle.ssq_words.proofs.TakenLemmas.{asked_faulty, asked_free, cause, free_asks, program_is_free, program_is_simple, taken_whole}
+use Rattle.ssq_words.proofs.TakenLemmas.{asked_faulty, asked_free, cause, program_is_free, program_is_simple, taken_whole}
 use Rattle.ssq_words.proofs.ask.Goals as goal
 
 pub command_of-requires : goal.command_of-requires
