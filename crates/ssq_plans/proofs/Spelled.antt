@@ -1,5 +1,5 @@
 -- The texts of records and of their lines, part by part.
-use Rattle.std.proofs.Common.{◌≡◌, ◌≢◌, ℕ, ◌+◌, ◌<◌, ◌≤◌, ℤ, List, [], ◌∷◌, ◌++◌, length, get_or, codes, decimal, Option, refl, sym, ap, subst, ◌∙◌, append_assoc, arith}
+use Rattle.std.proofs.Common.{◌≡◌, ◌≢◌, ℕ, ℤ, List, ◌++◌, length, get_or, codes, decimal, Option, refl, sym, ap, subst, ◌∙◌, append_assoc, arith}
 use Rattle.std.specs.Option.{ForSome}
 use Rattle.std.proofs.Props.{props}
 use Rattle.ssq_time.specs.Time.{IsLineTime}

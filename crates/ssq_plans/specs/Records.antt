@@ -1,7 +1,6 @@
 -- The texts of records, line by line. Numbers are decimal without leading zeros, and a line feed ends each line.
 use Rattle.std.specs.Prelude.{ℕ, ◌+◌, ◌<◌, ◌≤◌, ◌^◌, ◌==◌, ℤ, List, [], ◌∷◌, ◌++◌, length, All, Option, Some, None, if◌then◌else◌, codes, decimal}
 use Rattle.std.specs.Option.{ForSome}
-use Rattle.std.specs.Str.{IsUtf8}
 use Rattle.ssq_time.specs.Time.{stamp_text, IsStampTime}
 use Rattle.ssq_plans.specs.declared.meta.Meta.{Meta}
 use Rattle.ssq_plans.specs.declared.plan.Plan.{Plan}

@@ -20,8 +20,14 @@ const SEEN: i64 = 1_704_111_360_000_000;
 static COMMITS: [(&[u8], bool); 17] = [
     (b"v1\ncommit 0\nend\n", true),
     (b"v1\ncommit 2\nseen 0 2024-01-01T12:16:00Z\nend\n", true),
-    (b"v1\ncommit 2\nseen 0 2024-01-01T12:16:00.000001Z\nend\n", true),
-    (b"v1\ncommit 4294967295\nseen 0 none\nseen 1 9000-12-31T23:59:59.999999Z\nend\n", true),
+    (
+        b"v1\ncommit 2\nseen 0 2024-01-01T12:16:00.000001Z\nend\n",
+        true,
+    ),
+    (
+        b"v1\ncommit 4294967295\nseen 0 none\nseen 1 9000-12-31T23:59:59.999999Z\nend\n",
+        true,
+    ),
     (b"", false),
     (b"v1\ncommit 0\nend", false),
     (b"v1\ncommit 0\nend\n\n", false),
@@ -32,25 +38,43 @@ static COMMITS: [(&[u8], bool); 17] = [
     (b"v1\ncommit 2\nseen 0 0999-12-31T23:59:59Z\nend\n", false),
     (b"v1\ncommit 2\nseen 0 9001-01-01T00:00:00Z\nend\n", false),
     (b"v1\ncommit 2\nseen 0 2024-01-01T12:16:00.5Z\nend\n", false),
-    (b"v1\ncommit 2\nseen 0 2024-01-01T12:16:00.000000Z\nend\n", false),
+    (
+        b"v1\ncommit 2\nseen 0 2024-01-01T12:16:00.000000Z\nend\n",
+        false,
+    ),
     (b"v1\ncommit 2\nseen 0  none\nend\n", false),
     (b"v2\ncommit 0\nend\n", false),
 ];
 
 static PLANS: [(&[u8], bool); 16] = [
     (b"v1\nplan 0\nwatermark none\npart 0 0 2\nend\n", true),
-    (b"v1\nplan 2\nwatermark 2024-01-01T12:06:00Z\npart 0 0 3\npart 0 1 1\nend\n", true),
+    (
+        b"v1\nplan 2\nwatermark 2024-01-01T12:06:00Z\npart 0 0 3\npart 0 1 1\nend\n",
+        true,
+    ),
     (b"v1\nplan 0\nwatermark 0001-01-01T00:00:00Z\nend\n", true),
-    (b"v1\nplan 0\nwatermark none\npart 4294967295 0 18446744073709551615\nend\n", true),
+    (
+        b"v1\nplan 0\nwatermark none\npart 4294967295 0 18446744073709551615\nend\n",
+        true,
+    ),
     (b"v1\nplan 0\nwatermark none\npart 0 0 2\nend", false),
     (b"v1\nplan 0\nwatermark none\npart 0 0 2\nend\nx", false),
     (b"v1\nplan 0\nwatermark none\npart 0 0 02\nend\n", false),
     (b"v1\nplan 0\nwatermark none\npart 0 0 2end\n", false),
     (b"v1\nplan 0\nwatermark none\npart 0 0\nend\n", false),
-    (b"v1\nplan 0\nwatermark none\npart 0 4294967296 2\nend\n", false),
-    (b"v1\nplan 0\nwatermark none\npart 0 0 18446744073709551616\nend\n", false),
+    (
+        b"v1\nplan 0\nwatermark none\npart 0 4294967296 2\nend\n",
+        false,
+    ),
+    (
+        b"v1\nplan 0\nwatermark none\npart 0 0 18446744073709551616\nend\n",
+        false,
+    ),
     (b"v1\nplan 0\npart 0 0 2\nend\n", false),
-    (b"v1\nplan 2\nwatermark 2024-01-01T12:06:00.50Z\nend\n", false),
+    (
+        b"v1\nplan 2\nwatermark 2024-01-01T12:06:00.50Z\nend\n",
+        false,
+    ),
     (b"v1\nplan 2\nwatermark 2024-01-01T12:06:0\nend\n", false),
     (b"v1\ncommit 0\nwatermark none\nend\n", false),
     (b"v1\nplan 4294967296\nwatermark none\nend\n", false),
@@ -58,7 +82,10 @@ static PLANS: [(&[u8], bool); 16] = [
 
 static METAS: [(&[u8], bool); 17] = [
     (METADATA, true),
-    (b"v1\npartitions 64\nparts 0 64\nparts 1 0\nquery 3\na\nb\nend\n", true),
+    (
+        b"v1\npartitions 64\nparts 0 64\nparts 1 0\nquery 3\na\nb\nend\n",
+        true,
+    ),
     (b"v1\npartitions 2\nquery 0\n\nend\n", true),
     (b"v1\npartitions 1\nquery 2\n\xc3\xa9\nend\n", true),
     (b"v1\npartitions 1\nquery 1\n\xc3\nend\n", false),
@@ -67,10 +94,16 @@ static METAS: [(&[u8], bool); 17] = [
     (b"v1\npartitions 01\nparts 0 1\nquery 1\na\nend\n", false),
     (b"v1\npartitions 1\nparts 0 65\nquery 1\na\nend\n", false),
     (b"v1\npartitions 1\nparts 1 1\nquery 1\na\nend\n", false),
-    (b"v1\npartitions 1\nparts 0 1\nparts 2 1\nquery 1\na\nend\n", false),
+    (
+        b"v1\npartitions 1\nparts 0 1\nparts 2 1\nquery 1\na\nend\n",
+        false,
+    ),
     (b"v1\npartitions 1\nparts 0 1\nquery 0\na\nend\n", false),
     (b"v1\npartitions 1\nparts 0 1\nquery 2\na\nend\n", false),
-    (b"v1\npartitions 1\nparts 0 1\nquery 18446744073709551615\na\nend\n", false),
+    (
+        b"v1\npartitions 1\nparts 0 1\nquery 18446744073709551615\na\nend\n",
+        false,
+    ),
     (b"v1\npartitions 1\nparts 0 1\nquery 1\na\nend", false),
     (b"v1\npartitions 1\nparts 0 1\nquery 1\na\nend\n ", false),
     (b"v1\r\npartitions 1\nparts 0 1\nquery 1\na\nend\n", false),
@@ -109,7 +142,12 @@ fn writes_records(rt: HostRuntime) -> Result<(), Fail> {
 
     let seen = Commit {
         epoch: 2,
-        seen: Sequence::from_vec(vec![in alloc; SeenBy { stream: 0, time: Some(SEEN) }]?),
+        seen: Sequence::from_vec(vec![in alloc;
+            SeenBy {
+                stream: 0,
+                time: Some(SEEN)
+            },
+        ]?),
     };
     assert_eq!(rt;
         write_commit(alloc, &seen)?.as_slice(),

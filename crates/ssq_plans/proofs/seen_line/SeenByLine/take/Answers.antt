@@ -40,8 +40,7 @@ returns-clause-each c item rest fits is =
     let stop = codes " " ++ (time_or_none item.time ++ line) in
     let first = c.in_ok-stream.ensures.each item.stream stop fits refl (is ∙ seen_split item rest) in
     let second = same_rest (codes " ") _ _ (time_or_none item.time ++ line) c.in_ok-text.ensures first.1 in
-    let third = c.in_ok-time.ensures.each item.time line (line_is_stamp item.time item.of_lines) second in
-    (
+    let third = c.in_ok-time.ensures.each item.time line (line_is_stamp item.time item.of_lines) second in (
       seen_is c.in_ok-seen.seen item (c.in_ok-seen.ensures.value.0 ∙ first.0) (c.in_ok-seen.ensures.value.1 ∙ third.0),
-      same_rest (codes "\n") _ _ rest c.in_ok-text-2.ensures third.1
+      same_rest (codes "\n") _ _ rest c.in_ok-text-2.ensures third.1,
     )
