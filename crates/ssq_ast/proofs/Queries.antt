@@ -1,5 +1,5 @@
 -- What is printed of a query: it is written by the grammar, and is the same query, places aside.
-use Rattle.std.proofs.Common.{◌≡◌, ℕ, ℤ, ◌≤◌, Bool, true, false, List, [], ◌∷◌, length, map, drop, Option, Some, None, IfSome, refl, sym, ap, ◌∙◌, subst, cond, arith}
+use Rattle.std.proofs.Common.{◌≡◌, ℕ, Bool, true, false, List, [], ◌∷◌, map, drop, Option, Some, None, IfSome, refl, ap, subst, cond, arith}
 use Rattle.std.specs.Prelude.{bytes_eq}
 use Rattle.std.specs.Option.{option_map}
 use Rattle.std.specs.List.{flat_map}
@@ -9,27 +9,21 @@ use Rattle.ssq_ast.specs.declared.expr.ColumnRef.{ColumnRef}
 use Rattle.ssq_ast.specs.declared.expr.Expr.{Expr}
 use Rattle.ssq_ast.specs.declared.expr.Expr.TheVariants as expr
 use Rattle.ssq_ast.specs.declared.expr.Ident.{Ident}
-use Rattle.ssq_ast.specs.declared.expr.Span.{Span}
-use Rattle.ssq_ast.specs.declared.query.ColumnDecl.{ColumnDecl}
 use Rattle.ssq_ast.specs.declared.query.Condition.{Condition}
 use Rattle.ssq_ast.specs.declared.query.Deduplicate.{Deduplicate}
 use Rattle.ssq_ast.specs.declared.query.Group.{Group}
 use Rattle.ssq_ast.specs.declared.query.Group.TheVariants as group
 use Rattle.ssq_ast.specs.declared.query.GroupBy.{GroupBy}
-use Rattle.ssq_ast.specs.declared.query.Item.{Item}
 use Rattle.ssq_ast.specs.declared.query.Item.TheVariants as item
 use Rattle.ssq_ast.specs.declared.query.Join.{Join}
-use Rattle.ssq_ast.specs.declared.query.Limit.{Limit}
-use Rattle.ssq_ast.specs.declared.query.OrderBy.{OrderBy}
 use Rattle.ssq_ast.specs.declared.query.Query.{Query}
 use Rattle.ssq_ast.specs.declared.query.Select.{Select}
 use Rattle.ssq_ast.specs.declared.query.Stream.{Stream}
-use Rattle.ssq_ast.specs.declared.query.Watermark.{Watermark}
 use Rattle.ssq_ast.specs.Again.{IsReadAgain}
 use Rattle.ssq_ast.specs.Canonical.{is_some, plain_decl, plain_watermark, plain_stream, plain_item, plain_join, plain_deduplicate, plain_group, plain_group_by, plain_order, plain_select, plain_query}
-use Rattle.ssq_ast.specs.Expression.{Words, Written, of_number, of_text, of_truth, of_moment, of_span, of_column, of_rows, of_function, bracketed, prefixed, null_tested, infixed, between, words, column_words, first, behind, ident, column_tree, tree, erased_ident, erased_column, erased_expr, plain, plain_column, only}
+use Rattle.ssq_ast.specs.Expression.{Words, Written, words, first, behind, ident, column_tree, tree, erased_ident, erased_column, erased_expr, plain, plain_column, only}
 use Rattle.ssq_ast.specs.Places.{erased_decl, erased_watermark, erased_stream, erased_item, erased_condition, erased_join, erased_deduplicate, erased_group_item, erased_group, erased_order, erased_limit, erased_select, erased}
-use Rattle.ssq_ast.specs.Statement.{WrittenDecl, WrittenWatermark, WrittenStream, WrittenItem, bare_item, named_item, WrittenJoin, WrittenWindow, WrittenGroup, column_group, window_group, WrittenOrder, WrittenSelect, WrittenQuery, decl_words, declared_words, item_words, name_words, separated, distinct_words, join_words, condition_words, deduplicate_words, group_words, order_words, group_item_words, order_item_words, each_tree, decl_tree, watermark_tree, declared_tree, item_of, item_tree, condition_tree, join_tree, deduplicate_tree, group_item_tree, group_tree, order_item_tree, limit_tree, distinct_tree, select_tree, query_tree, query_words, kind_words, IsFilled, Each, IsSpanText, IsFit, IsRegularStream, IsRegularItem, IsRegularGroup, IsRegularSelect, IsRegularQuery, IsWritten}
+use Rattle.ssq_ast.specs.Statement.{WrittenStream, WrittenItem, bare_item, named_item, WrittenGroup, column_group, window_group, WrittenSelect, WrittenQuery, decl_words, declared_words, item_words, name_words, separated, distinct_words, join_words, condition_words, deduplicate_words, group_words, order_words, group_item_words, order_item_words, each_tree, decl_tree, watermark_tree, declared_tree, item_of, item_tree, condition_tree, join_tree, deduplicate_tree, group_item_tree, group_tree, order_item_tree, limit_tree, distinct_tree, select_tree, query_tree, query_words, kind_words, IsFilled, Each, IsSpanText, IsFit, IsRegularStream, IsRegularItem, IsRegularGroup, IsRegularSelect, IsRegularQuery, IsWritten}
 use Rattle.ssq_ast.proofs.Plain.{regular_plain, narrow, tallest_plain, erased_tree, erased_column_tree}
 
 -- The grammar.
@@ -47,7 +41,7 @@ filled written made gap printed [] places h = absurd h
 filled written made gap printed (x ∷ xs) places h = tt
 
 -- and each is as it was
-each : {A B C : Type 0} (P : A → Type 0) (Q : C → Type 0) (written : A → Words) (made : A → List ℕ → B) (gap : ℕ) (printed : B → C) → ((x : A) (places : List ℕ) → P x → Q (printed (made x places))) → (xs : List A) (places : List ℕ) → Each P xs → Each Q (map printed (each_tree written made gap xs places))
+pub each : {A B C : Type 0} (P : A → Type 0) (Q : C → Type 0) (written : A → Words) (made : A → List ℕ → B) (gap : ℕ) (printed : B → C) → ((x : A) (places : List ℕ) → P x → Q (printed (made x places))) → (xs : List A) (places : List ℕ) → Each P xs → Each Q (map printed (each_tree written made gap xs places))
 each P Q written made gap printed one [] places h = tt
 each P Q written made gap printed one (x ∷ xs) places h =
     (one x places h.0, each P Q written made gap printed one xs (drop gap (behind (written x) places)) h.1)

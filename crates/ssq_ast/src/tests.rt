@@ -95,9 +95,7 @@ fn bare(alloc: Global, name: &str) -> Result<Item, AllocError> {
     })
 }
 
-#[test]
-fn prints_a_query(rt: HostRuntime) -> Result<(), Fail> {
-    let alloc = rt.alloc();
+fn first_streams(alloc: Global) -> Result<Sequence<Stream>, AllocError> {
     let mut columns = Sequence::new(alloc);
     columns.push(decl(alloc, "id")?)?;
     columns.push(decl(alloc, "v")?)?;
@@ -109,6 +107,10 @@ fn prints_a_query(rt: HostRuntime) -> Result<(), Fail> {
         source: Text::from_str(alloc, "s")?,
         watermark: None,
     })?;
+    Ok(streams)
+}
+
+fn first_items(alloc: Global) -> Result<Sequence<Item>, AllocError> {
     let mut items = Sequence::new(alloc);
     items.push(bare(alloc, "id")?)?;
     items.push(Item::Named {
@@ -116,10 +118,16 @@ fn prints_a_query(rt: HostRuntime) -> Result<(), Fail> {
         at: 0,
         name: ident(alloc, "w")?,
     })?;
+    Ok(items)
+}
+
+#[test]
+fn prints_a_query(rt: HostRuntime) -> Result<(), Fail> {
+    let alloc = rt.alloc();
     let filter = binary(alloc, column(alloc, "v")?, BinaryOp::Greater, number(10))?;
     let query = Query {
-        streams,
-        select: select(alloc, items, Some(filter))?,
+        streams: first_streams(alloc)?,
+        select: select(alloc, first_items(alloc)?, Some(filter))?,
     };
     let printed = text(alloc, &query)?;
     assert_eq!(rt;
@@ -137,14 +145,9 @@ fn span(alloc: Global, text: &str, micros: i64) -> Result<Span, AllocError> {
     })
 }
 
-#[test]
-fn prints_the_other_clauses(rt: HostRuntime) -> Result<(), Fail> {
-    let alloc = rt.alloc();
+fn watermarked(alloc: Global) -> Result<Sequence<Stream>, AllocError> {
     let mut columns = Sequence::new(alloc);
-    columns.push(ColumnDecl {
-        name: ident(alloc, "ts")?,
-        kind: ColType::Timestamp,
-    })?;
+    columns.push(decl(alloc, "ts")?)?;
     let mut streams = Sequence::new(alloc);
     streams.push(Stream {
         at: 0,
@@ -156,87 +159,112 @@ fn prints_the_other_clauses(rt: HostRuntime) -> Result<(), Fail> {
             delay: span(alloc, "10 minutes", 600_000_000)?,
         }),
     })?;
+    Ok(streams)
+}
+
+fn counted(alloc: Global) -> Result<Sequence<Item>, AllocError> {
     let mut items = Sequence::new(alloc);
     items.push(Item::Named {
         value: Expr::CountRows { at: 0 },
         at: 0,
         name: ident(alloc, "n")?,
     })?;
-    let mut groups = Sequence::new(alloc);
-    groups.push(Group::Window(Window {
+    Ok(items)
+}
+
+fn windowed(alloc: Global) -> Result<GroupBy, AllocError> {
+    let mut items = Sequence::new(alloc);
+    items.push(Group::Window(Window {
         at: 0,
         column: ident(alloc, "ts")?,
         size: span(alloc, "10 minutes", 600_000_000)?,
         slide: Some(span(alloc, "5 minutes", 300_000_000)?),
     }))?;
-    let mut order = Sequence::new(alloc);
-    order.push(OrderBy {
-        name: ident(alloc, "n")?,
-        direction: Direction::Descending,
-    })?;
-    order.push(OrderBy {
-        name: ident(alloc, "m")?,
-        direction: Direction::Ascending,
-    })?;
-    let mut wanted = select(alloc, items, None)?;
-    wanted.distinct = Some(0);
-    wanted.join = Some(Join {
+    Ok(GroupBy { at: 0, items })
+}
+
+fn qualified(alloc: Global) -> Result<Expr, AllocError> {
+    Ok(Expr::Column {
+        value: ColumnRef {
+            stream: Some(ident(alloc, "r")?),
+            column: ident(alloc, "t")?,
+        },
+    })
+}
+
+fn joined(alloc: Global) -> Result<Join, AllocError> {
+    let day = Expr::Interval {
+        value: span(alloc, "1 day", 86_400_000_000)?,
+        at: 0,
+    };
+    let before = binary(alloc, column(alloc, "ts")?, BinaryOp::Subtract, day)?;
+    Ok(Join {
         kind: JoinKind::Left,
         at: 0,
         stream: ident(alloc, "r")?,
         on: Condition {
             at: 0,
-            value: binary(
-                alloc,
-                Expr::Column {
-                    value: ColumnRef {
-                        stream: Some(ident(alloc, "r")?),
-                        column: ident(alloc, "t")?,
-                    },
-                },
-                BinaryOp::Less,
-                binary(
-                    alloc,
-                    column(alloc, "ts")?,
-                    BinaryOp::Subtract,
-                    Expr::Interval {
-                        value: span(alloc, "1 day", 86_400_000_000)?,
-                        at: 0,
-                    },
-                )?,
-            )?,
+            value: binary(alloc, qualified(alloc)?, BinaryOp::Less, before)?,
         },
-    });
-    wanted.group = Some(GroupBy {
+    })
+}
+
+fn having(alloc: Global) -> Result<Condition, AllocError> {
+    let most = Expr::Aggregate {
+        function: Function::Max,
         at: 0,
-        items: groups,
-    });
-    wanted.having = Some(Condition {
+        argument: Boxed::new(alloc, column(alloc, "v")?)?,
+    };
+    Ok(Condition {
         at: 0,
         value: Expr::IsNull {
-            operand: Boxed::new(
-                alloc,
-                Expr::Aggregate {
-                    function: Function::Max,
-                    at: 0,
-                    argument: Boxed::new(alloc, column(alloc, "v")?)?,
-                },
-            )?,
+            operand: Boxed::new(alloc, most)?,
             at: 0,
             test: NullTest::NotNull,
         },
-    });
-    wanted.order = order;
-    wanted.limit = Some(Limit { at: 0, most: 3 });
-    wanted.mode = Mode::Complete;
+    })
+}
+
+fn by(alloc: Global, name: &str, direction: Direction) -> Result<OrderBy, AllocError> {
+    Ok(OrderBy {
+        name: ident(alloc, name)?,
+        direction,
+    })
+}
+
+fn ordered(alloc: Global) -> Result<Sequence<OrderBy>, AllocError> {
+    let mut order = Sequence::new(alloc);
+    order.push(by(alloc, "n", Direction::Descending)?)?;
+    order.push(by(alloc, "m", Direction::Ascending)?)?;
+    Ok(order)
+}
+
+fn full(alloc: Global) -> Result<Select, AllocError> {
+    Ok(Select {
+        distinct: Some(0),
+        items: counted(alloc)?,
+        from: ident(alloc, "s")?,
+        join: Some(joined(alloc)?),
+        filter: None,
+        deduplicate: None,
+        group: Some(windowed(alloc)?),
+        having: Some(having(alloc)?),
+        order: ordered(alloc)?,
+        limit: Some(Limit { at: 0, most: 3 }),
+        mode: Mode::Complete,
+    })
+}
+
+#[test]
+fn prints_the_other_clauses(rt: HostRuntime) -> Result<(), Fail> {
     let query = Query {
-        streams,
-        select: wanted,
+        streams: watermarked(rt.alloc())?,
+        select: full(rt.alloc())?,
     };
-    let printed = text(alloc, &query)?;
+    let printed = text(rt.alloc(), &query)?;
     assert_eq!(rt;
         printed.as_str(),
-        "CREATE STREAM s (ts TIMESTAMP) FROM 'it''s' WATERMARK FOR ts DELAY '10 minutes'; \
+        "CREATE STREAM s (ts BIGINT) FROM 'it''s' WATERMARK FOR ts DELAY '10 minutes'; \
          SELECT DISTINCT COUNT(*) AS n FROM s LEFT JOIN r ON r.t < ts - INTERVAL '1 day' \
          GROUP BY WINDOW(ts, '10 minutes', '5 minutes') HAVING MAX(v) IS NOT NULL \
          ORDER BY n DESC, m LIMIT 3 OUTPUT COMPLETE;"
@@ -255,45 +283,65 @@ fn filtered(alloc: Global, value: Expr) -> Result<Text, AllocError> {
     text(alloc, &query)
 }
 
-#[test]
-fn prints_brackets_where_they_are_needed(rt: HostRuntime) -> Result<(), Fail> {
-    let alloc = rt.alloc();
+fn negated(alloc: Global) -> Result<Expr, AllocError> {
     let unequal = binary(alloc, column(alloc, "a")?, BinaryOp::NotEqual, number(1))?;
     let equal = binary(alloc, column(alloc, "b")?, BinaryOp::Equal, number(2))?;
     let both = binary(alloc, unequal, BinaryOp::And, equal)?;
-    let found = filtered(alloc, unary(alloc, UnaryOp::Not, both)?)?;
-    assert_eq!(rt;
-        found.as_str(),
-        "SELECT a FROM s WHERE NOT (a <> 1 AND b = 2) OUTPUT APPEND;"
-    );
+    unary(alloc, UnaryOp::Not, both)
+}
 
+fn to_the_right(alloc: Global) -> Result<Expr, AllocError> {
     let right = binary(alloc, number(2), BinaryOp::Subtract, number(3))?;
-    let found = filtered(alloc, binary(alloc, number(1), BinaryOp::Subtract, right)?)?;
-    assert_eq!(rt;
-        found.as_str(),
-        "SELECT a FROM s WHERE 1 - (2 - 3) OUTPUT APPEND;"
-    );
+    binary(alloc, number(1), BinaryOp::Subtract, right)
+}
 
+fn to_the_left(alloc: Global) -> Result<Expr, AllocError> {
     let left = binary(alloc, number(1), BinaryOp::Subtract, number(2))?;
-    let found = filtered(alloc, binary(alloc, left, BinaryOp::Subtract, number(3))?)?;
-    assert_eq!(rt;
-        found.as_str(),
-        "SELECT a FROM s WHERE 1 - 2 - 3 OUTPUT APPEND;"
-    );
+    binary(alloc, left, BinaryOp::Subtract, number(3))
+}
 
+fn twice_negative(alloc: Global) -> Result<Expr, AllocError> {
     let minus = unary(alloc, UnaryOp::Minus, number(1))?;
-    let found = filtered(alloc, unary(alloc, UnaryOp::Minus, minus)?)?;
-    assert_eq!(rt;
-        found.as_str(),
-        "SELECT a FROM s WHERE - - 1 OUTPUT APPEND;"
-    );
+    unary(alloc, UnaryOp::Minus, minus)
+}
 
+fn ranged(alloc: Global) -> Result<Expr, AllocError> {
     let range = between(alloc, number(1), number(2), number(3))?;
-    let truth = Expr::Truth { value: true, at: 0 };
-    let found = filtered(alloc, binary(alloc, range, BinaryOp::And, truth)?)?;
-    assert_eq!(rt;
-        found.as_str(),
-        "SELECT a FROM s WHERE 1 BETWEEN 2 AND 3 AND TRUE OUTPUT APPEND;"
-    );
+    binary(
+        alloc,
+        range,
+        BinaryOp::And,
+        Expr::Truth { value: true, at: 0 },
+    )
+}
+
+#[test]
+fn prints_brackets_where_they_are_needed(rt: HostRuntime) -> Result<(), Fail> {
+    let rows = [
+        (
+            negated(rt.alloc())?,
+            "SELECT a FROM s WHERE NOT (a <> 1 AND b = 2) OUTPUT APPEND;",
+        ),
+        (
+            to_the_right(rt.alloc())?,
+            "SELECT a FROM s WHERE 1 - (2 - 3) OUTPUT APPEND;",
+        ),
+        (
+            to_the_left(rt.alloc())?,
+            "SELECT a FROM s WHERE 1 - 2 - 3 OUTPUT APPEND;",
+        ),
+        (
+            twice_negative(rt.alloc())?,
+            "SELECT a FROM s WHERE - - 1 OUTPUT APPEND;",
+        ),
+        (
+            ranged(rt.alloc())?,
+            "SELECT a FROM s WHERE 1 BETWEEN 2 AND 3 AND TRUE OUTPUT APPEND;",
+        ),
+    ];
+    for (value, want) in rows {
+        let found = filtered(rt.alloc(), value)?;
+        assert_eq!(rt; found.as_str(), want);
+    }
     Ok(())
 }
