@@ -1,6 +1,6 @@
 -- What is printed with the least brackets: it stands by the grammar, opens no more brackets than any way to write the
 -- same expression, is as high, and is the same expression, places aside.
-use Rattle.std.proofs.Common.{◌≡◌, ℕ, ◌+◌, ◌<◌, ◌≤◌, max, Bool, true, false, cond, nat_lt, List, [], ◌∷◌, length, drop, Option, Some, None, refl, sym, ap, ◌∙◌, subst, arith}
+use Rattle.std.proofs.Common.{◌≡◌, ℕ, ◌+◌, ◌<◌, ◌≤◌, max, Bool, true, false, cond, nat_lt, List, drop, Option, Some, None, refl, ap, ◌∙◌, arith}
 use Rattle.std.proofs.lemmas.Bool.Decides.{nat_tests}
 use Rattle.std.specs.Option.{option_map}
 use Rattle.ssq_ast.specs.declared.expr.BinaryOp.{BinaryOp}
@@ -11,7 +11,7 @@ use Rattle.ssq_ast.specs.declared.expr.Expr.TheVariants as expr
 use Rattle.ssq_ast.specs.declared.expr.Ident.{Ident}
 use Rattle.ssq_ast.specs.declared.expr.UnaryOp.{UnaryOp}
 use Rattle.ssq_ast.specs.declared.expr.UnaryOp.TheVariants as unary_op
-use Rattle.ssq_ast.specs.Expression.{Written, WrittenColumn, of_number, of_text, of_truth, of_moment, of_span, of_column, of_rows, of_function, bracketed, prefixed, null_tested, infixed, between, words, stream_words, unary_level, binary_level, left_level, right_level, level, IsRegular, opens, height, tallest, only, first, behind, column_tree, tree, erased_ident, erased_column, erased_expr, within, plain_column, plain}
+use Rattle.ssq_ast.specs.Expression.{Written, of_number, of_text, of_truth, of_moment, of_span, of_column, of_rows, of_function, bracketed, prefixed, null_tested, infixed, between, words, unary_level, left_level, right_level, level, IsRegular, opens, height, tallest, only, first, behind, column_tree, tree, erased_ident, erased_column, erased_expr, within, plain_column, plain}
 
 -- an operand in its place stands in brackets, or binds tightly enough without
 within_by : (P : Written → Type 0) (asked : ℕ) (e : Written) (b : Bool) → nat_lt (level e) asked ≡ b → (level e < asked → P (bracketed e)) → (asked ≤ level e → P e) → P (cond b (bracketed e) e)

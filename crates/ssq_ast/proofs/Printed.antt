@@ -1,5 +1,5 @@
 -- Words that are printed one part after the other.
-use Rattle.std.proofs.Common.{◌≡◌, ℕ, Bool, true, false, ◌==◌, length, sym, ap, ◌∙◌, refl, List, [], ◌∷◌, ◌++◌, map, append-nil}
+use Rattle.std.proofs.Common.{◌≡◌, ℕ, false, ◌==◌, length, sym, ap, ◌∙◌, refl, List, [], ◌∷◌, ◌++◌, map, append-nil}
 use Rattle.std.specs.List.{flat_map}
 use Rattle.std.proofs.lemmas.List.Sums.{fold-append}
 use Rattle.ssq_lex.specs.Printing.{Printed, with_word, with_words}

@@ -1,7 +1,7 @@
 -- The definitions at worked queries.
 use Rattle.std.proofs.Common.{◌≡◌, ℕ, pos, refl, false, List, [], ◌∷◌, length, map, Some, None}
 use Rattle.std.specs.Prelude.{codes}
-use Rattle.ssq_lex.specs.Cut.{Tokens, cut_of, tokens_of, front, word_at, symbol_at, text_at, number_at}
+use Rattle.ssq_lex.specs.Cut.{Tokens, tokens_of, cut_of, front, word_at, symbol_at, text_at, number_at}
 use Rattle.ssq_lex.specs.Lexeme.{Lexeme}
 use Rattle.ssq_lex.specs.Spelling.{keyword_of, keyword_spelling}
 use Rattle.std.specs.Prelude.{Ok, Err}

@@ -1,5 +1,5 @@
 -- The one text of a query: no bracket and no word that could be left out, one space between two words.
-use Rattle.std.specs.Prelude.{ℕ, Bool, true, false, bytes_eq, if◌then◌else◌, List, map, Option, Some, None}
+use Rattle.std.specs.Prelude.{ℕ, Bool, true, false, List, map, Option, Some, None}
 use Rattle.std.specs.Option.{option_map}
 use Rattle.ssq_lex.specs.Printing.{printed}
 use Rattle.ssq_ast.specs.declared.query.ColumnDecl.{ColumnDecl}

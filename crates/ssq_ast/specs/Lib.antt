@@ -1,3 +1,4 @@
+pub mod Again
 pub mod Canonical
 pub mod Expression
 pub mod Places

@@ -1,5 +1,5 @@
 -- Queries, places aside: each place is 0.
-use Rattle.std.specs.Prelude.{ℕ, List, map, Option}
+use Rattle.std.specs.Prelude.{map}
 use Rattle.std.specs.Option.{option_map}
 use Rattle.ssq_ast.specs.declared.query.ColumnDecl.{ColumnDecl}
 use Rattle.ssq_ast.specs.declared.query.Condition.{Condition}

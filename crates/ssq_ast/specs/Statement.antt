@@ -1,8 +1,8 @@
 -- Query files as they are written, above their expressions: the grammar, the query that is written, and which tokens
 -- are written as which query.
-use Rattle.std.specs.Prelude.{◌≡◌, ℕ, ◌≤◌, ℤ, Bool, true, false, bytes_eq, if◌then◌else◌, List, [], ◌∷◌, ◌++◌, map, drop, All, Option, Some, None}
+use Rattle.std.specs.Prelude.{◌≡◌, ℕ, ◌≤◌, ℤ, Bool, true, false, bytes_eq, if◌then◌else◌, List, [], ◌∷◌, ◌++◌, map, drop, Option, Some, None, IfSome}
 use Rattle.std.specs.List.{flat_map}
-use Rattle.std.specs.Option.{option_map, option_to_list}
+use Rattle.std.specs.Option.{option_map}
 use Rattle.ssq_lex.specs.declared.keyword.Keyword.{Keyword}
 use Rattle.ssq_lex.specs.declared.keyword.Keyword.TheVariants as key
 use Rattle.ssq_lex.specs.declared.symbol.Symbol.TheVariants as mark
@@ -336,6 +336,11 @@ abbrev pub IsFilled : {A : Type 0} → List A → Type 0
 IsFilled [] = ⊥
 IsFilled (x ∷ xs) = Unit {0}
 
+-- P holds of each
+abbrev pub Each : {A : Type 0} → (A → Type 0) → List A → Type 0
+Each P [] = Unit {0}
+Each P (x ∷ xs) = P x × Each P xs
+
 -- the span is the value of its text
 abbrev pub IsSpanText : Span → Type 0
 IsSpanText span = span_of span.text ≡ Some span.micros
@@ -349,7 +354,7 @@ pub record IsFit (value : Written) : Type 0 where
 
 pub record IsRegularStream (stream : WrittenStream) : Type 0 where
   pub columns : IsFilled stream.columns
-  pub delay : All (λ watermark. IsSpanText watermark.delay) (option_to_list stream.watermark)
+  pub delay : IfSome stream.watermark (λ watermark. IsSpanText watermark.delay)
 
 abbrev pub IsRegularItem : WrittenItem → Type 0
 IsRegularItem (bare_item column) = Unit {0}
@@ -357,21 +362,21 @@ IsRegularItem (named_item value label) = IsFit value
 
 abbrev pub IsRegularGroup : WrittenGroup → Type 0
 IsRegularGroup (column_group column) = Unit {0}
-IsRegularGroup (window_group window) = IsSpanText window.size × All IsSpanText (option_to_list window.slide)
+IsRegularGroup (window_group window) = IsSpanText window.size × IfSome window.slide IsSpanText
 
 pub record IsRegularSelect (select : WrittenSelect) : Type 0 where
   pub some_items : IsFilled select.items
-  pub items : All IsRegularItem select.items
-  pub on : All (λ join. IsFit join.on) (option_to_list select.join)
-  pub filter : All IsFit (option_to_list select.filter)
-  pub deduplicate : All IsFilled (option_to_list select.deduplicate)
-  pub some_group : All IsFilled (option_to_list select.group)
-  pub group : All (All IsRegularGroup) (option_to_list select.group)
-  pub having : All IsFit (option_to_list select.having)
+  pub items : Each IsRegularItem select.items
+  pub on : IfSome select.join (λ join. IsFit join.on)
+  pub filter : IfSome select.filter IsFit
+  pub deduplicate : IfSome select.deduplicate IsFilled
+  pub some_group : IfSome select.group IsFilled
+  pub group : IfSome select.group (Each IsRegularGroup)
+  pub having : IfSome select.having IsFit
 
 -- lists have a part, spans and times are the values of their texts, and each expression is fit
 pub record IsRegularQuery (query : WrittenQuery) : Type 0 where
-  pub streams : All IsRegularStream query.streams
+  pub streams : Each IsRegularStream query.streams
   pub select : IsRegularSelect query.select
 
 -- The tokens of a file are a way to write this query, by the grammar, with its places.

@@ -5,6 +5,7 @@ ghost use Rattle.std.specs.List.{flat_map};
 ghost use Rattle.std.specs.Option.{option_map};
 ghost use Rattle.ssq_lex.specs.Printing.{with_words};
 ghost use Rattle.ssq_lex.specs.declared.keyword.Keyword.TheVariants as key;
+ghost use Rattle.ssq_ast.specs.Again.{IsReadAgain, IsSayableAgain};
 ghost use Rattle.ssq_ast.specs.Canonical as plain;
 ghost use Rattle.ssq_ast.specs.Canonical.{canonical};
 ghost use Rattle.ssq_ast.specs.Expression as expression;
@@ -363,3 +364,13 @@ pub fn text(alloc: Global, query: &Query) -> Result<Text, AllocError>
     print_back(&mut printer, &query.select)?;
     Ok(Text::from_string(printer.into_string()))
 }
+
+/// The words of a query's canonical text are a way to write that query, places aside.
+pub fn text_is_read_again()
+    ensures { IsReadAgain }
+{}
+
+/// The words of a query's canonical text can be said by a text, where those of the query's own text can.
+pub fn text_is_sayable()
+    ensures { IsSayableAgain }
+{}

@@ -9,9 +9,12 @@ mod part;
 mod print;
 mod query;
 
-pub use canonical::text;
+pub use canonical::{text, text_is_read_again, text_is_sayable};
 pub use expr::{BinaryOp, ColumnRef, Expr, Function, Ident, Moment, NullTest, Span, UnaryOp};
 pub use query::{
     ColumnDecl, Condition, Deduplicate, Direction, Group, GroupBy, Item, Join, JoinKind, Limit,
     Mode, OrderBy, Query, Select, Stream, Watermark, Window,
 };
+
+#[cfg(test)]
+mod tests;

@@ -8,7 +8,7 @@ use Rattle.ssq_lex.specs.Cut.{closing}
 unfoldable pub closing_from : ℕ → List ℕ → Option ℕ
 closing_from at bytes = option_map (λ further. at + further) (closing (drop at bytes))
 
-closing-other : (b : ℕ) (bs : List ℕ) → b ≢ 39 → closing (b ∷ bs) ≡ option_map (λ at. 1 + at) (closing bs)
+pub closing-other : (b : ℕ) (bs : List ℕ) → b ≢ 39 → closing (b ∷ bs) ≡ option_map (λ at. 1 + at) (closing bs)
 closing-other b [] other = grind (arith, nat_tests)
 closing-other b (c ∷ bs) other = grind (arith, nat_tests)
 

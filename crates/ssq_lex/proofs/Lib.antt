@@ -1,4 +1,8 @@
 pub mod Boundaries
 pub mod Closing
+pub mod Heads
+pub mod Keywords
 pub mod Quotes
+pub mod Reread
 pub mod Steps
+pub mod Utf8

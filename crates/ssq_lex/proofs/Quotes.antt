@@ -15,10 +15,10 @@ lacks-first b bs lacks = lacks.at 0 (omega arith)
 lacks-rest : (b : ℕ) (bs : List ℕ) → Lacks (b ∷ bs) → Lacks bs
 lacks-rest b bs lacks = record { at = λ i within. lacks.at (suc i) (omega arith) }
 
-doubled-other : (b : ℕ) (bs : List ℕ) → b ≢ 39 → doubled (b ∷ bs) ≡ b ∷ doubled bs
+pub doubled-other : (b : ℕ) (bs : List ℕ) → b ≢ 39 → doubled (b ∷ bs) ≡ b ∷ doubled bs
 doubled-other b bs other = grind (arith, nat_tests)
 
-undoubled-other : (b : ℕ) (bs : List ℕ) → b ≢ 39 → undoubled (b ∷ bs) ≡ b ∷ undoubled bs
+pub undoubled-other : (b : ℕ) (bs : List ℕ) → b ≢ 39 → undoubled (b ∷ bs) ≡ b ∷ undoubled bs
 undoubled-other b [] other = refl
 undoubled-other b (c ∷ bs) other = grind (arith, nat_tests)
 

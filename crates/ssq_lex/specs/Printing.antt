@@ -18,14 +18,17 @@ word_text (number n) = signed_decimal n
 word_text (quoted text) = 39 ∷ doubled text ++ 39 ∷ []
 word_text (symbol s) = symbol_spelling s
 
--- these stand without a space before the `(` of what they are applied to
+-- no space stands between these and the `(` of what they are applied to
+abbrev pub is_function : Keyword → Bool
+is_function Window = true
+is_function Count = true
+is_function Sum = true
+is_function Min = true
+is_function Max = true
+is_function other = false
+
 abbrev pub keyword_end : Keyword → End
-keyword_end Window = end.Applied
-keyword_end Count = end.Applied
-keyword_end Sum = end.Applied
-keyword_end Min = end.Applied
-keyword_end Max = end.Applied
-keyword_end other = end.Apart
+keyword_end k = if is_function k then end.Applied else end.Apart
 
 -- no space stands behind `(` and `.`
 abbrev pub symbol_end : Symbol → End

@@ -3,6 +3,7 @@
 ghost use Rattle.std.specs.Prelude.{◌≡◌, [], ◌∷◌, ◌++◌, OnOk, string_bytes, if◌then◌else◌};
 ghost use Rattle.ssq_lex.specs.Lexeme.{keyword, name, number, quoted, symbol};
 ghost use Rattle.ssq_lex.specs.Printing as spec;
+ghost use Rattle.ssq_lex.specs.Sayable.{PrintedIsRead, PrintedIsText};
 
 use crate::keyword::Keyword;
 use crate::quoting::push_quoted;
@@ -41,14 +42,22 @@ impl Model for Printer {
     ghost view = { λ p. record { text = string_bytes p.out; last = p.last } };
 }
 
+fn is_function(word: Keyword) -> bool
+    ensures { result ≡ spec.is_function word }
+{
+    match word {
+        Keyword::Window | Keyword::Count | Keyword::Sum | Keyword::Min | Keyword::Max => true,
+        _ => false,
+    }
+}
+
 fn keyword_end(word: Keyword) -> End
     ensures { result ≡ spec.keyword_end word }
 {
-    match word {
-        Keyword::Window | Keyword::Count | Keyword::Sum | Keyword::Min | Keyword::Max => {
-            End::Applied
-        }
-        _ => End::Apart,
+    if is_function(word) {
+        End::Applied
+    } else {
+        End::Apart
     }
 }
 
@@ -170,3 +179,9 @@ impl Printer {
         Ok(())
     }
 }
+
+/// What is printed is read again: the text of words that can be said is cut into just these words, and is UTF-8.
+pub fn printed_is_read()
+    ensures read { PrintedIsRead }
+    ensures utf8 { PrintedIsText }
+{}
