@@ -1,3 +1,10 @@
 pub mod Files
+pub mod Found
+pub mod Operands
+pub mod Prefixes
+pub mod Primary
+pub mod Sound
 pub mod Turns
+pub mod Whole
+pub mod Words
 pub mod Wrapped

@@ -104,7 +104,7 @@ module _ (depth : ℕ) (inner : Reader) where
     bracket ← symbol_at mark.LeftParen tokens
     argument_at f at bracket.0 bracket.1
 
-  abbrev rows_by : ℕ → ℕ → Option ℕ → Reader
+  abbrev pub rows_by : ℕ → ℕ → Option ℕ → Reader
   rows_by at bracket None tokens = argument_at function.Count at bracket tokens
   rows_by at bracket (Some star) tokens =
       if depth == 0 then refused (Some bracket) TooDeep
@@ -127,7 +127,7 @@ module _ (depth : ℕ) (inner : Reader) where
   worded_at key.Max at tokens = aggregate_at function.Max at tokens
   worded_at other at tokens = refused (Some at) Expected
 
-  abbrev primary_by : Lexeme → ℕ → Reader
+  abbrev pub primary_by : Lexeme → ℕ → Reader
   primary_by (number n) at tokens = Ok (leaf at (e.Number n at), tokens)
   primary_by (quoted text) at tokens = Ok (leaf at (e.Text text at), tokens)
   primary_by (name text) at tokens = column_at (record { text = text; at = at }) tokens
@@ -164,15 +164,15 @@ module _ (depth : ℕ) (inner : Reader) where
     high ← sum_at and.1
     before (between at left low.0 high.0) high.1
 
-  abbrev ranged : Option ℕ → Tree → Reader
+  abbrev pub ranged : Option ℕ → Tree → Reader
   ranged None left tokens = Ok (left, tokens)
   ranged (Some at) left tokens = between_at at left (drop 1 tokens)
 
-  abbrev tested : Option ℕ → Tree → Reader
+  abbrev pub tested : Option ℕ → Tree → Reader
   tested None left tokens = ranged (seen (is_keyword key.Between) tokens) left tokens
   tested (Some at) left tokens = null_test_at at left (drop 1 tokens)
 
-  abbrev compared : Option (BinaryOp × ℕ) → Tree → Reader
+  abbrev pub compared : Option (BinaryOp × ℕ) → Tree → Reader
   compared None left tokens = tested (seen (is_keyword key.Is) tokens) left tokens
   compared (Some op) left tokens = sum_at (drop 1 tokens) >>= (λ right. before (binary op.0 op.1 left right.0) right.1)
 

@@ -5,3 +5,4 @@ pub mod Operators
 pub mod Queries
 pub mod Reading
 pub mod Trees
+pub mod Written

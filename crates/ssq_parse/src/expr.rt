@@ -6,6 +6,7 @@ ghost use Rattle.ssq_parse.specs.Expressions as spec;
 ghost use Rattle.ssq_parse.specs.Nests.{Nests};
 ghost use Rattle.ssq_parse.specs.Reading.{Reads, Makes};
 ghost use Rattle.ssq_parse.specs.Trees.{wrapped};
+ghost use Rattle.ssq_parse.specs.Written.{EachIsWritten};
 
 use crate::fault::{ParseCause, Stop};
 use crate::operators::Level;
@@ -372,3 +373,8 @@ pub(crate) fn expr(alloc: Global, reader: &mut Reader<'_>) -> Result<Tree, Stop>
 {
     nested(alloc, reader, MOST_OPEN + 1)
 }
+
+/// Each expression that is read is one of the grammar, as it is written there, with its places.
+pub fn expressions_are_written()
+    ensures { EachIsWritten }
+{}

@@ -12,6 +12,7 @@ mod query;
 mod reader;
 mod tree;
 
+pub use expr::expressions_are_written;
 pub use fault::{ParseCause, ParseFault};
 pub use file::parse;
 
