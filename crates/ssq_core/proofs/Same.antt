@@ -1,13 +1,13 @@
 -- Files say how far they go, and what they spell.
-use Rattle.std.proofs.Common.{◌≡◌, ◌⊎◌, ◌+◌, ◌<◌, ◌≤◌, ℕ, List, Bool, true, false, Option, Some, None, refl, ap, sym, ◌∙◌, inl, inr, arith}
-use Rattle.std.specs.Prelude.{nat_lt, if◌then◌else◌, is_some}
+use Rattle.std.proofs.Common.{◌≡◌, ◌⊎◌, ◌<◌, ◌≤◌, ℕ, List, Bool, true, false, Some, None, refl, ap, sym, ◌∙◌, inl, inr, arith}
+use Rattle.std.specs.Prelude.{nat_lt, if◌then◌else◌}
 use Rattle.std.proofs.lemmas.Bool.{ltb-true, ltb-false, cases_lt}
 use Rattle.ssq_outside.specs.declared.name.Name.{Name}
 use Rattle.ssq_outside.specs.declared.name.Name.TheVariants as name
 use Rattle.ssq_outside.specs.Files.{Files}
 use Rattle.ssq_plans.specs.Records.{meta_text, plan_text, commit_text}
 use Rattle.ssq_core.specs.Course.{Course, plan_of, commit_of}
-use Rattle.ssq_core.specs.Standing.{upto, files_at, IsReached, Stands}
+use Rattle.ssq_core.specs.Standing.{upto, files_at, Stands}
 use Rattle.ssq_core.specs.Laws.{AreSame}
 
 some_same : (x y : List ℕ) → Some x ≡ Some y → x ≡ y

@@ -104,7 +104,7 @@ stands_through course n few = (
   stands_at course n n n (record { written_first = omega arith; planned_first = omega arith; one_ahead = omega arith; few = omega arith }),
   stands_at course (n + 1) n n (record { written_first = omega arith; planned_first = omega arith; one_ahead = omega arith; few = omega arith }),
   stands_at course (n + 1) n (n + 1) (record { written_first = omega arith; planned_first = omega arith; one_ahead = omega arith; few = omega arith }),
-  stands_at course (n + 1) (n + 1) (n + 1) (record { written_first = omega arith; planned_first = omega arith; one_ahead = omega arith; few = omega arith })
+  stands_at course (n + 1) (n + 1) (n + 1) (record { written_first = omega arith; planned_first = omega arith; one_ahead = omega arith; few = omega arith }),
 )
 
 -- the same contents up to there

@@ -5,7 +5,7 @@ use Rattle.ssq_outside.specs.declared.name.Name.TheVariants as name
 use Rattle.ssq_outside.specs.Files.{Files, IsEmpty, published}
 use Rattle.ssq_plans.specs.Records.{meta_text, plan_text, commit_text}
 use Rattle.ssq_core.specs.Course.{Course, plan_of, commit_of, AgreeUpTo}
-use Rattle.ssq_core.specs.Standing.{files_at, IsReached, Stands}
+use Rattle.ssq_core.specs.Standing.{files_at, Stands}
 
 -- the job's record is published where there is no file
 abbrev pub BeginsACourse : Type 0

@@ -1,5 +1,5 @@
 -- The files of a checkpoint: what they are for a course, and when they stand for it.
-use Rattle.std.specs.Prelude.{◌≡◌, ◌<◌, ◌≤◌, ◌+◌, nat_lt, ℕ, List, Some, None, if◌then◌else◌}
+use Rattle.std.specs.Prelude.{◌≡◌, ◌≤◌, ◌+◌, nat_lt, ℕ, List, Some, None, if◌then◌else◌}
 use Rattle.ssq_outside.specs.declared.name.Name.TheVariants as name
 use Rattle.ssq_outside.specs.Files.{Content, Files}
 use Rattle.ssq_plans.specs.Records.{meta_text, plan_text, commit_text}

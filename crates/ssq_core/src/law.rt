@@ -10,17 +10,14 @@ pub fn steps_lead_on()
     ensures writes { WritesTheNext }
     ensures commits { CommitsTheNext }
     ensures stands { StandsAtEachStep }
-{
-}
+{}
 
 /// The law of courses: what a course says of epochs that have no file changes no file, so that a course may be continued.
 pub fn courses_have_files()
     ensures { HasFilesUpTo }
-{
-}
+{}
 
 /// The law of files: files that stand say how many epochs are planned, committed and written, and what each of them holds.
 pub fn files_say_their_course()
     ensures { FilesSayTheirCourse }
-{
-}
+{}
