@@ -2,7 +2,7 @@
 use Rattle.std.specs.Prelude.{◌≡◌, ◌<◌, ◌+◌, ℕ, ℤ, List, Option}
 use Rattle.ssq_plans.specs.declared.meta.Meta.{Meta}
 use Rattle.ssq_plans.specs.declared.plan.Plan.{Plan}
-use Rattle.ssq_plans.specs.declared.plan.PartEnd.{PartEnd}
+use Rattle.ssq_plans.specs.declared.part.PartEnd.{PartEnd}
 use Rattle.ssq_plans.specs.declared.commit.Commit.{Commit}
 use Rattle.ssq_plans.specs.declared.seen.SeenBy.{SeenBy}
 
