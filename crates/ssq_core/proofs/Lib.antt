@@ -1,0 +1,4 @@
+pub mod Settling
+pub mod Standing
+pub mod Same
+pub mod Worked

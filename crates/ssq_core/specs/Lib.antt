@@ -1,0 +1,4 @@
+pub mod Course
+pub mod Standing
+pub mod Settled
+pub mod Laws

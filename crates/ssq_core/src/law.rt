@@ -1,0 +1,23 @@
+//! What holds of the files of courses.
+
+ghost use Rattle.ssq_core.specs.Laws.{BeginsACourse, PlansTheNext, WritesTheNext, CommitsTheNext, StandsAtEachStep, HasFilesUpTo, FilesSayTheirCourse};
+
+/// The law of steps: what each step of an epoch publishes leads from the files of a course to its next files, and these
+/// stand for it.
+pub fn steps_lead_on()
+    ensures begins { BeginsACourse }
+    ensures plans { PlansTheNext }
+    ensures writes { WritesTheNext }
+    ensures commits { CommitsTheNext }
+    ensures stands { StandsAtEachStep }
+{}
+
+/// The law of courses: what a course says of epochs that have no file changes no file, so that a course may be continued.
+pub fn courses_have_files()
+    ensures { HasFilesUpTo }
+{}
+
+/// The law of files: files that stand say how many epochs are planned, committed and written, and what each of them holds.
+pub fn files_say_their_course()
+    ensures { FilesSayTheirCourse }
+{}
