@@ -8,7 +8,7 @@ use std::marker::Model;
 
 /// Bytes in a buffer that grows.
 #[derive(Debug, Drop)]
-pub struct Bytes(Vec<u8>);
+pub struct Bytes(pub(crate) Vec<u8>);
 
 impl Model for Bytes {
     ghost use Rattle.std.specs.Prelude.{List, ℕ};

@@ -15,7 +15,15 @@ pub fn put_decimal(out: &mut Bytes, number: u64) -> Result<(), AllocError>
     ensures ok { OnOk result (out.new ≡ out.old ++ decimal number) }
     ensures err { OnErr result (out.new ≡ out.old) }
 {
-    out.extend(Buffer::new().format(number).as_bytes())
+    put_decimal_to(&mut out.0, number)
+}
+
+/// Appends the number's digits. An `Err` changes nothing.
+pub fn put_decimal_to(out: &mut Vec<u8>, number: u64) -> Result<(), AllocError>
+    ensures ok { OnOk result (out.new.items ≡ out.old.items ++ decimal number) }
+    ensures err { OnErr result (out.new.items ≡ out.old.items) }
+{
+    out.extend_from_slice(Buffer::new().format(number).as_bytes())
 }
 
 /// The number whose digits stand in front, and how many there are. None where no digit stands in front, where the

@@ -2,9 +2,10 @@
 ghost use Rattle.std.specs.Prelude.{◌≡◌, ◌++◌, IfOk, OnOk};
 ghost use Rattle.ssq_plans.specs.Records.{seen_line, seen_lines, commit_text};
 
-use crate::fields::{put_number, put_time_or_none};
-use crate::listed::Listed;
+use crate::fields::put_time_or_none;
 use crate::seen::SeenBy;
+use ssq_field::put_decimal_to;
+use ssq_value::Sequence;
 use std::alloc::{AllocError, Global};
 
 /// What was read by the end of an epoch.
@@ -12,7 +13,7 @@ use std::alloc::{AllocError, Global};
 pub struct Commit {
     pub epoch: u32,
     /// The watermarked streams in the query's order.
-    pub seen: Listed<SeenBy>,
+    pub seen: Sequence<SeenBy>,
 }
 
 /// Appends the line of a stream's greatest time.
@@ -21,7 +22,7 @@ fn put_seen_line(out: &mut Vec<u8>, seen: SeenBy) -> Result<(), AllocError>
     ensures { OnOk result (out.new.items ≡ out.old.items ++ seen_line seen) }
 {
     out.extend_from_slice(b"seen ")?;
-    put_number(out, seen.stream as u64)?;
+    put_decimal_to(out, seen.stream as u64)?;
     out.extend_from_slice(b" ")?;
     put_time_or_none(out, seen.time)?;
     out.extend_from_slice(b"\n")
@@ -44,7 +45,7 @@ pub fn write_commit(alloc: Global, commit: &Commit) -> Result<Vec<u8>, AllocErro
 {
     let mut out = Vec::new(alloc);
     out.extend_from_slice(b"v1\ncommit ")?;
-    put_number(&mut out, commit.epoch as u64)?;
+    put_decimal_to(&mut out, commit.epoch as u64)?;
     out.extend_from_slice(b"\n")?;
     put_seen_lines(&mut out, commit.seen.as_slice())?;
     out.extend_from_slice(b"end\n")?;

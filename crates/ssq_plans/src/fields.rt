@@ -1,19 +1,11 @@
 //! What the lines of records are made of.
-ghost use Rattle.std.specs.Prelude.{◌≡◌, ◌++◌, decimal, OnOk};
+ghost use Rattle.std.specs.Prelude.{◌≡◌, ◌++◌, OnOk};
 ghost use Rattle.std.specs.Option.{ForSome};
 ghost use Rattle.ssq_time.specs.Time.{IsStampTime};
 ghost use Rattle.ssq_plans.specs.Records.{time_or_none};
 
-use itoa::Buffer;
 use ssq_time::put_time;
 use std::alloc::AllocError;
-
-/// Appends a number in decimal.
-pub(crate) fn put_number(out: &mut Vec<u8>, number: u64) -> Result<(), AllocError>
-    ensures { OnOk result (out.new.items ≡ out.old.items ++ decimal number) }
-{
-    out.extend_from_slice(Buffer::new().format(number).as_bytes())
-}
 
 /// Appends a time, or `none` where there is none.
 pub(crate) fn put_time_or_none(out: &mut Vec<u8>, time: Option<i64>) -> Result<(), AllocError>

@@ -4,7 +4,6 @@
 mod commit;
 mod fields;
 mod law;
-mod listed;
 mod meta;
 mod names;
 mod plan;
@@ -14,7 +13,6 @@ mod tests;
 
 pub use commit::{Commit, write_commit};
 pub use law::names_are_apart;
-pub use listed::Listed;
 pub use meta::{Meta, write_meta};
 pub use names::{NameText, name_text, read_name};
 pub use plan::{Plan, next_epoch, write_plan};

@@ -2,8 +2,8 @@
 ghost use Rattle.std.specs.Prelude.{◌≡◌, ◌++◌, ◌≤◌, All, IfOk, OnOk};
 ghost use Rattle.ssq_plans.specs.Records.{IsMeta, meta_text, parts_line, parts_lines};
 
-use crate::fields::put_number;
-use crate::listed::Listed;
+use ssq_field::put_decimal_to;
+use ssq_value::{Sequence, Text};
 use std::alloc::{AllocError, Global};
 
 /// The job that a checkpoint is of.
@@ -12,9 +12,9 @@ pub struct Meta {
     /// How many partitions the state has: 1 to 64.
     pub partitions: u32,
     /// How many parts each stream of the query has, in the query's order: at most 64 each.
-    pub parts: Listed<u32>,
+    pub parts: Sequence<u32>,
     /// The query's canonical text.
-    pub query: Listed<u8>,
+    pub query: Text,
 }
 
 /// Appends the line of a stream's number of parts.
@@ -22,9 +22,9 @@ fn put_parts_line(out: &mut Vec<u8>, stream: u64, count: u64) -> Result<(), Allo
     ensures { OnOk result (out.new.items ≡ out.old.items ++ parts_line stream count) }
 {
     out.extend_from_slice(b"parts ")?;
-    put_number(out, stream)?;
+    put_decimal_to(out, stream)?;
     out.extend_from_slice(b" ")?;
-    put_number(out, count)?;
+    put_decimal_to(out, count)?;
     out.extend_from_slice(b"\n")
 }
 
@@ -46,13 +46,13 @@ pub fn write_meta(alloc: Global, meta: &Meta) -> Result<Vec<u8>, AllocError>
 {
     let mut out = Vec::new(alloc);
     out.extend_from_slice(b"v1\npartitions ")?;
-    put_number(&mut out, meta.partitions as u64)?;
+    put_decimal_to(&mut out, meta.partitions as u64)?;
     out.extend_from_slice(b"\n")?;
     put_parts_lines(&mut out, meta.parts.as_slice())?;
     out.extend_from_slice(b"query ")?;
-    put_number(&mut out, meta.query.len() as u64)?;
+    put_decimal_to(&mut out, meta.query.len() as u64)?;
     out.extend_from_slice(b"\n")?;
-    out.extend_from_slice(meta.query.as_slice())?;
+    out.extend_from_slice(meta.query.as_bytes())?;
     out.extend_from_slice(b"\nend\n")?;
     Ok(out)
 }

@@ -4,8 +4,9 @@ ghost use Rattle.std.specs.Option.{ForSome};
 ghost use Rattle.ssq_time.specs.Time.{IsStampTime};
 ghost use Rattle.ssq_plans.specs.Records.{part_line, part_lines, ends_lines, plan_text, epoch_after};
 
-use crate::fields::{put_number, put_time_or_none};
-use crate::listed::Listed;
+use crate::fields::put_time_or_none;
+use ssq_field::put_decimal_to;
+use ssq_value::Sequence;
 use std::alloc::{AllocError, Global};
 
 /// What an epoch is to read, from where the epoch before ended.
@@ -15,7 +16,7 @@ pub struct Plan {
     /// The watermark before the epoch, in microseconds since 1970-01-01T00:00:00Z.
     pub watermark: Option<i64>,
     /// For each stream in the query's order, the line behind the last of each of its parts.
-    pub ends: Listed<Listed<u64>>,
+    pub ends: Sequence<Sequence<u64>>,
 }
 
 /// Appends the line of a part's end.
@@ -23,11 +24,11 @@ fn put_part_line(out: &mut Vec<u8>, stream: u64, part: u64, end: u64) -> Result<
     ensures { OnOk result (out.new.items ≡ out.old.items ++ part_line stream part end) }
 {
     out.extend_from_slice(b"part ")?;
-    put_number(out, stream)?;
+    put_decimal_to(out, stream)?;
     out.extend_from_slice(b" ")?;
-    put_number(out, part)?;
+    put_decimal_to(out, part)?;
     out.extend_from_slice(b" ")?;
-    put_number(out, end)?;
+    put_decimal_to(out, end)?;
     out.extend_from_slice(b"\n")
 }
 
@@ -44,7 +45,7 @@ fn put_part_lines(out: &mut Vec<u8>, stream: u64, ends: &[u64]) -> Result<(), Al
 
 /// Appends those lines for all streams.
 #[tactic(auto, using(crate::proofs::Lines::line_steps))]
-fn put_ends_lines(out: &mut Vec<u8>, ends: &[Listed<u64>]) -> Result<(), AllocError>
+fn put_ends_lines(out: &mut Vec<u8>, ends: &[Sequence<u64>]) -> Result<(), AllocError>
     ensures { OnOk result (out.new.items ≡ out.old.items ++ ends_lines 0 ends.now) }
 {
     for (stream, parts) in ends.iter().enumerate() {
@@ -60,7 +61,7 @@ pub fn write_plan(alloc: Global, plan: &Plan) -> Result<Vec<u8>, AllocError>
 {
     let mut out = Vec::new(alloc);
     out.extend_from_slice(b"v1\nplan ")?;
-    put_number(&mut out, plan.epoch as u64)?;
+    put_decimal_to(&mut out, plan.epoch as u64)?;
     out.extend_from_slice(b"\nwatermark ")?;
     put_time_or_none(&mut out, plan.watermark)?;
     out.extend_from_slice(b"\n")?;

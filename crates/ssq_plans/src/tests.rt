@@ -1,9 +1,10 @@
 //! The records of two worked checkpoints.
-use super::{Commit, Listed, Meta, Plan, SeenBy, next_epoch, write_commit, write_meta, write_plan};
+use super::{Commit, Meta, Plan, SeenBy, next_epoch, write_commit, write_meta, write_plan};
+use ssq_value::{Sequence, Text};
 use std::test::Fail;
 
-const QUERY: &[u8] =
-    b"CREATE STREAM s (id BIGINT, v BIGINT) FROM 's'; SELECT id, v + 1 AS w FROM s WHERE v > 10 OUTPUT APPEND;";
+const QUERY: &str =
+    "CREATE STREAM s (id BIGINT, v BIGINT) FROM 's'; SELECT id, v + 1 AS w FROM s WHERE v > 10 OUTPUT APPEND;";
 
 const METADATA: &[u8] =
     b"v1\npartitions 1\nparts 0 1\nquery 104\nCREATE STREAM s (id BIGINT, v BIGINT) FROM 's'; SELECT id, v + 1 AS w FROM s WHERE v > 10 OUTPUT APPEND;\nend\n";
@@ -18,15 +19,15 @@ fn writes_records(rt: HostRuntime) -> Result<(), Fail> {
     let alloc = rt.alloc();
     let meta = Meta {
         partitions: 1,
-        parts: Listed::from_vec(vec![in alloc; 1]?),
-        query: Listed::from_vec(Vec::from_slice(alloc, QUERY)?),
+        parts: Sequence::from_vec(vec![in alloc; 1]?),
+        query: Text::from_str(alloc, QUERY)?,
     };
     assert_eq!(rt; write_meta(alloc, &meta)?.as_slice(), METADATA);
 
     let first = Plan {
         epoch: 0,
         watermark: None,
-        ends: Listed::from_vec(vec![in alloc; Listed::from_vec(vec![in alloc; 2]?)]?),
+        ends: Sequence::from_vec(vec![in alloc; Sequence::from_vec(vec![in alloc; 2]?)]?),
     };
     assert_eq!(rt;
         write_plan(alloc, &first)?.as_slice(),
@@ -36,7 +37,7 @@ fn writes_records(rt: HostRuntime) -> Result<(), Fail> {
     let third = Plan {
         epoch: 2,
         watermark: Some(WATERMARK),
-        ends: Listed::from_vec(vec![in alloc; Listed::from_vec(vec![in alloc; 3, 1]?)]?),
+        ends: Sequence::from_vec(vec![in alloc; Sequence::from_vec(vec![in alloc; 3, 1]?)]?),
     };
     assert_eq!(rt;
         write_plan(alloc, &third)?.as_slice(),
@@ -45,7 +46,7 @@ fn writes_records(rt: HostRuntime) -> Result<(), Fail> {
 
     let unseen = Commit {
         epoch: 0,
-        seen: Listed::new(alloc),
+        seen: Sequence::new(alloc),
     };
     assert_eq!(rt;
         write_commit(alloc, &unseen)?.as_slice(),
@@ -62,14 +63,14 @@ fn writes_records(rt: HostRuntime) -> Result<(), Fail> {
     };
     let seen = Commit {
         epoch: 2,
-        seen: Listed::from_vec(vec![in alloc; stream]?),
+        seen: Sequence::from_vec(vec![in alloc; stream]?),
     };
     assert_eq!(rt;
         write_commit(alloc, &seen)?.as_slice(),
         b"v1\ncommit 2\nseen 0 2024-01-01T12:16:00Z\nend\n".as_slice()
     );
 
-    let mut both = Listed::new(alloc);
+    let mut both = Sequence::new(alloc);
     both.push(stream)?;
     both.push(other)?;
     assert_eq!(rt; both.len(), 2);

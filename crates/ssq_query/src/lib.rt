@@ -18,14 +18,12 @@ mod printer;
 mod query;
 mod read;
 mod reader;
-mod sequence;
 
 pub use apart::output_name;
 pub use canonical::text;
 pub use fault::QueryFault;
 pub use query::{Comparison, Filter, Item, Op, Query, Step, Sum, Term};
 pub use read::{one_query, read_query};
-pub use sequence::Sequence;
 
 #[cfg(test)]
 mod tests;

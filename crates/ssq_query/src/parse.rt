@@ -5,12 +5,11 @@ ghost use Rattle.ssq_query.specs.Names as names;
 ghost use Rattle.ssq_query.specs.Reading as spec;
 ghost use Rattle.ssq_query.specs.Reading.{Reads};
 
-use crate::Sequence;
 use crate::fault::QueryFault;
 use crate::query::{Comparison, Filter, Item, Query, Step, Sum, Term};
 use crate::reader::Reader;
 use ssq_lex::{Keyword, Kind, Symbol};
-use ssq_value::Text;
+use ssq_value::{Sequence, Text};
 use std::alloc::Global;
 
 /// How many columns a stream, and how many items a query may have.

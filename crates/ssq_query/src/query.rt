@@ -1,5 +1,4 @@
-use crate::Sequence;
-use ssq_value::Text;
+use ssq_value::{Sequence, Text};
 
 /// An operand of a sum.
 #[derive(Clone, Copy, Debug, PartialEq, Eq)]

@@ -11,8 +11,8 @@ ghost use Rattle.ssq_run.specs.Standing.{Job, meta_of, files_at};
 
 use crate::settle::settle;
 use ssq_outside::{Disk, DiskError, Name};
-use ssq_plans::{Listed, Meta, write_meta};
-use ssq_value::Text;
+use ssq_plans::{Meta, write_meta};
+use ssq_value::{Sequence, Text};
 use std::alloc::{AllocError, Global};
 
 /// Whether a disk has no file, once its names are settled.
@@ -30,13 +30,12 @@ pub fn is_empty<D: Disk>(alloc: Global, disk: &mut D) -> Result<bool, DiskError>
     Ok(names.as_slice().is_empty())
 }
 
-fn meta_bytes(alloc: Global, text: Text) -> Result<Vec<u8>, AllocError>
-    ensures { IfOk result (λ bytes. bytes.items ≡ meta_text (meta_of text)) }
+fn meta_bytes(alloc: Global, query: Text) -> Result<Vec<u8>, AllocError>
+    ensures { IfOk result (λ bytes. bytes.items ≡ meta_text (meta_of query)) }
 {
-    let mut parts = Listed::new(alloc);
+    let mut parts = Sequence::new(alloc);
     parts.push(1)?;
     let partitions = 1;
-    let query = Listed::from_vec(text.into_string().into_bytes());
     write_meta(
         alloc,
         &Meta {

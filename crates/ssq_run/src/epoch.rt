@@ -17,10 +17,10 @@ use crate::feed::{FeedFault, feed};
 use crate::settle::settle;
 use crate::stop::Stop;
 use ssq_outside::{Disk, DiskError, Log, Name};
-use ssq_plans::{Commit, Listed, Plan, write_commit, write_plan};
+use ssq_plans::{Commit, Plan, write_commit, write_plan};
 use ssq_query::Query;
 use ssq_sink::epoch_text;
-use ssq_value::{Row, Schema};
+use ssq_value::{Row, Schema, Sequence};
 use std::alloc::{AllocError, Global};
 
 /// An epoch that is to run: its number, and its lines, from one offset up to another.
@@ -44,9 +44,9 @@ pub struct Prepared {
 fn plan_bytes(alloc: Global, epoch: u32, end: u64) -> Result<Vec<u8>, AllocError>
     ensures { IfOk result (λ bytes. bytes.items ≡ plan_text (plan_of epoch end)) }
 {
-    let mut part = Listed::new(alloc);
+    let mut part = Sequence::new(alloc);
     part.push(end)?;
-    let mut ends = Listed::new(alloc);
+    let mut ends = Sequence::new(alloc);
     ends.push(part)?;
     let watermark = None;
     write_plan(
@@ -62,7 +62,7 @@ fn plan_bytes(alloc: Global, epoch: u32, end: u64) -> Result<Vec<u8>, AllocError
 fn commit_bytes(alloc: Global, epoch: u32) -> Result<Vec<u8>, AllocError>
     ensures { IfOk result (λ bytes. bytes.items ≡ commit_text (commit_of epoch)) }
 {
-    let seen = Listed::new(alloc);
+    let seen = Sequence::new(alloc);
     write_commit(alloc, &Commit { epoch, seen })
 }
 

@@ -1,6 +1,7 @@
 //! Reads the texts of times.
-ghost use Rattle.std.specs.Prelude.{◌≡◌, ◌+◌, ◌<◌, ◌≤◌, pos, length, IfSome, Some, ℤ};
-ghost use Rattle.jiff_core.specs.Calendar.{IsEpochDay};
+ghost use Rattle.std.specs.Prelude.{◌≡◌, ◌+◌, ◌<◌, ◌≤◌, pos, length, min, IfSome, Some, ℤ};
+ghost use Rattle.std.specs.Int.{IsInRange};
+ghost use Rattle.jiff_core.specs.Calendar.{IsYear, IsEpochDay, days_in_month};
 ghost use Rattle.ssq_time.specs.Time.{day_number, day_at_head, second_number, second_behind_day, micros_written, micros_of, moment, IsLineTime, IsStampTime, time_of, stamp_text, six_micros_of, stamp_micros_of, stamp_of};
 
 use crate::digits::{decimal, two};
@@ -9,6 +10,22 @@ use jiff_core::civil::Date;
 const SECOND: i64 = 1_000_000;
 
 const DAY: i64 = 86_400 * SECOND;
+
+/// The day, or the last of its month where the month is shorter. Each month has 28 days, and most days are one of them.
+fn date_near(year: i16, month: u8, day: u8) -> Date
+    requires year_in { IsYear year }
+    requires month_in { IsInRange 1 12 month }
+    requires day_in { 1 ≤ day }
+    ensures year { result.year ≡ year }
+    ensures month { result.month ≡ month }
+    ensures day { result.day ≡ min day (days_in_month year month) }
+{
+    if day <= 28 {
+        Date { year, month, day }
+    } else {
+        Date::constrain(year, month, day)
+    }
+}
 
 /// The day's number from 1970-01-01, where the calendar has the day.
 #[tactic(auto, unfolding(crate::specs::Time::day_number))]
@@ -20,7 +37,7 @@ fn day_from(first: u16, last: u16, year: u16, month: u8, day: u8) -> Option<i32>
     if year < first || year > last || month < 1 || month > 12 || day < 1 {
         return None;
     }
-    let date = Date::constrain(year as i16, month, day);
+    let date = date_near(year as i16, month, day);
     if date.day != day {
         return None;
     }
@@ -111,6 +128,8 @@ fn micros_at(text: &[u8]) -> Option<u32>
     if text[text.len() - 1] == b'Z' {
         if text.len() == 20 {
             Some(0)
+        } else if text.len() == 27 {
+            micros_from(6, text)
         } else if 22 <= text.len() && text.len() <= 27 {
             micros_from(text.len() - 21, text)
         } else {

@@ -1,4 +1,4 @@
-//! The values of rows, their types, their order, and the bytes of keys.
+//! The values of rows, their types, their order, and the bytes of keys; and lists of anything.
 #![tactic(auto)]
 
 mod column;
@@ -6,6 +6,7 @@ mod compare;
 mod keys;
 mod row;
 mod schema;
+mod sequence;
 mod text;
 mod value;
 
@@ -14,6 +15,7 @@ pub use compare::{order, order_rows, orders_are_total};
 pub use keys::{key_bytes, keys_are_apart, put_key};
 pub use row::Row;
 pub use schema::Schema;
+pub use sequence::Sequence;
 pub use text::Text;
 pub use value::Value;
 

@@ -1,3 +1,5 @@
+//! Lists of anything, as contracts see them.
+
 ghost use Rattle.std.specs.Prelude.{◌≡◌, ◌==◌, [], ◌∷◌, ◌++◌, length, OnOk, OnErr};
 
 use std::alloc::{AllocError, Global};
@@ -33,6 +35,15 @@ impl<T> Sequence<T> {
         Sequence(items)
     }
 
+    /// Gives the elements back, without a copy.
+    pub fn into_vec(self) -> Vec<T>
+        ensures { result.items ≡ self }
+    {
+        let Sequence(items) = self;
+        items
+    }
+
+    /// The elements in order.
     pub fn as_slice(&self) -> &[T]
         ensures { result.now ≡ self.now }
     {
