@@ -1,5 +1,5 @@
 -- What a query shows of a log, on whole lists of lines.
-use Rattle.std.specs.Prelude.{◌≡◌, ⊤, ◌<◌, ℕ, zero, suc, ◌+◌, ◌-◌, Bool, false, List, [], ◌++◌, map, take, drop, filter, min, slice_get, Option, Some, None, is_some, Result, Ok, Err, option_and_then}
+use Rattle.std.specs.Prelude.{◌≡◌, ◌≢◌, ⊤, ◌<◌, ℕ, zero, suc, ◌+◌, ◌-◌, Bool, false, List, [], ◌++◌, map, take, drop, filter, min, slice_get, Option, Some, None, is_some, Result, Ok, Err, option_and_then}
 use Rattle.std.specs.List.{filter_map, position_from}
 use Rattle.std.specs.Result.{result_ok}
 use Rattle.ssq_value.specs.declared.column.ColType.TheVariants.{Bigint}
@@ -8,6 +8,7 @@ use Rattle.ssq_value.specs.declared.value.Value.{Value}
 use Rattle.ssq_value.specs.Layout.{Layout}
 use Rattle.ssq_json.specs.Line.{row_of}
 use Rattle.ssq_json.specs.declared.bad_row.BadRow.{BadRow}
+use Rattle.ssq_json.specs.declared.bad_row.BadRow.TheVariants as bad
 use Rattle.ssq_query.specs.declared.query.Query.{Query}
 use Rattle.ssq_meaning.specs.declared.evaluate.EvalFault.{EvalFault}
 use Rattle.ssq_meaning.specs.declared.line.LineFault.{LineFault}
@@ -61,7 +62,7 @@ overflow_in (Ok row) = None
 overflow_in (Err fault) = Some Overflow
 
 abbrev pub fault_of_row : Query → Result (Option Values) BadRow → Option LineFault
-fault_of_row query (Err bad) = Some (Bad bad)
+fault_of_row query (Err cause) = Some (Bad cause)
 fault_of_row query (Ok None) = None
 fault_of_row query (Ok (Some row)) = overflow_in (shown_row query row)
 
@@ -77,6 +78,12 @@ abbrev pub IsLineFault : Query → Line → LineFault → Type 0
 IsLineFault query line (Bad cause) = line_fault query line ≡ Some (Bad cause)
 IsLineFault query line Overflow = line_fault query line ≡ Some Overflow
 IsLineFault query line NoMemory = ⊤
+
+-- what is wrong with a line is never that memory ran out
+abbrev pub IsCause : LineFault → Type 0
+IsCause (Bad cause) = cause ≢ bad.NoMemory
+IsCause Overflow = ⊤
+IsCause NoMemory = ⊤
 
 -- A cutting of a log into epochs: how many lines the first n epochs cover.
 abbrev pub Cuts : Type 0

@@ -3,7 +3,7 @@
 ghost use Rattle.std.specs.Prelude.{◌≡◌, ◌≤◌, [], ◌∷◌, false, length, option_to_list, All, IfOk, IfErr, IfSome};
 ghost use Rattle.ssq_time.specs.Time.{IsStampTime};
 ghost use Rattle.ssq_json.specs.Fits.{IfTime};
-ghost use Rattle.ssq_meaning.specs.Meaning.{layout_of, fed, shown, is_faulty, IsLineFault};
+ghost use Rattle.ssq_meaning.specs.Meaning.{layout_of, fed, shown, is_faulty, IsLineFault, IsCause};
 
 use crate::evaluate::{EvalFault, shown_row};
 use ssq_json::{BadRow, read_row};
@@ -55,6 +55,7 @@ pub fn show_line(
     ensures years { IfOk result (λ row. IfSome row (All (IfTime IsStampTime))) }
     ensures good { IfOk result (λ _. is_faulty query.now line.now ≡ false) }
     ensures fault { IfErr result (IsLineFault query.now line.now) }
+    ensures cause { IfErr result IsCause }
 {
     match read_row(alloc, line, schema) {
         Ok(None) => Ok(None),

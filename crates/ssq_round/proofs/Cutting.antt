@@ -18,7 +18,7 @@ use Rattle.ssq_round.specs.declared.progress.Progress.{Progress}
 use Rattle.ssq_round.specs.Cutting.{continued, planned_in, planned_with}
 use Rattle.ssq_round.specs.Epochs.{IsReady}
 use Rattle.ssq_round.specs.Rounds.{GoesOn}
-use Rattle.ssq_round.specs.Standing.{Job, part_ends, course_of, Standing}
+use Rattle.ssq_round.specs.Standing.{Job, part_ends, course_of, Standing, StandsBetween}
 
 -- where the next epoch ends, once it is known whether it is planned
 next_by : (cuts : Cuts) (n : ℕ) (most : Option ℕ) (seen e : ℕ) (below : Bool) → nat_lt e n ≡ below
@@ -57,6 +57,7 @@ out_same query lines cuts other e from end = λ i. shown query (fed query (lines
 standing_same : (job : Job) (cuts other : Cuts) (n k w : ℕ) → ((e : ℕ) → e ≤ n → other e ≡ cuts e) → Standing job cuts n k w → Standing job other n k w
 standing_same job cuts other n k w same standing = record {
   reached = standing.reached;
+  starts = same 0 (omega arith) ∙ standing.starts;
   proper = λ e less. omega (arith, standing.proper e less, same e (omega (arith, less)), same (e + 1) (omega (arith, less)));
   inside = omega (arith, standing.inside, same n (omega arith));
   faultless = λ e less.
@@ -87,4 +88,20 @@ ready_continued job cuts written progress now most seen ready =
       covers = same progress.committed behind ∙ ready.covers;
       plans = same n (omega arith) ∙ ready.plans;
       settled = subst P (agree_files (course_of job cuts) (course_of job (continued cuts n most seen)) n progress.committed written (agree job cuts (continued cuts n most seen) n progress.committed written same reached.planned_first)) ready.settled;
+    }
+
+-- what stands for the cuts stands for those that go on
+pub stands_on : (job : Job) (cuts : Cuts) (least planned : ℕ) (most : Option ℕ) (seen : ℕ) (files : Files)
+    → StandsBetween job cuts least planned files → StandsBetween job (continued cuts planned most seen) least planned files
+stands_on job cuts least planned most seen files s =
+    let other : Cuts = continued cuts planned most seen in
+    let same : (e : ℕ) → e ≤ s.planned → other e ≡ cuts e = λ e le. continued_same cuts planned most seen e (omega (arith, le, s.no_more)) in
+    record {
+      planned = s.planned;
+      committed = s.committed;
+      written = s.written;
+      standing = standing_same job cuts other s.planned s.committed s.written same s.standing;
+      exactly = s.exactly ∙ agree_files (course_of job cuts) (course_of job other) s.planned s.committed s.written (agree job cuts other s.planned s.committed s.written same s.standing.reached.planned_first);
+      kept = s.kept;
+      no_more = s.no_more;
     }

@@ -21,7 +21,7 @@ disk_stops job cuts e now disk.Fault = tt
 disk_stops job cuts e now disk.NoMemory = tt
 
 pub read_only : (fault : RoundFault) → IsReadFault fault → IsRoundFault fault
-read_only (Bad offset cause) is = tt
+read_only (Bad offset cause) is = is
 read_only (Overflow offset) is = tt
 read_only LogFault is = tt
 read_only (LogShort logged found) is = is

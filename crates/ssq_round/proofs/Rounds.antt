@@ -42,7 +42,7 @@ pub record RoundSoFar (job : Job) (cuts : Cuts) (first planned seen : ℕ) (star
   pub epochs : ℕ
   pub at : progress.committed ≡ first + epochs
   pub lines : told ≡ before ++ told_from job cuts first epochs
-  pub moments : LeavesOnly start now (StandsBetween job cuts first (first + epochs + 1))
+  pub moments : LeavesOnly start now (StandsBetween job cuts first (planned_in progress))
   pub on : planned ≤ planned_in progress
   pub bound : planned_end progress ≤ seen
 
@@ -55,8 +55,8 @@ round_begins job cuts written seen start before progress ready enough = record {
   epochs = 0;
   at = omega arith;
   lines = sym (append-nil before) ∙ ap (λ t. before ++ t) (sym (told_none job cuts progress.committed));
-  moments = stays start (StandsBetween job cuts progress.committed (progress.committed + 0 + 1)) (files_at (course_of job cuts) (planned_in progress) progress.committed written) ready.settled
-      (between job cuts (planned_in progress) progress.committed written progress.committed (progress.committed + 0 + 1) ready.standing (omega arith) (omega arith));
+  moments = stays start (StandsBetween job cuts progress.committed (planned_in progress)) (files_at (course_of job cuts) (planned_in progress) progress.committed written) ready.settled
+      (between job cuts (planned_in progress) progress.committed written progress.committed (planned_in progress) ready.standing (omega arith) (omega arith));
   on = omega arith;
   bound = enough.all;
 }
@@ -123,7 +123,9 @@ round_goes_on job cuts first planned seen known most start now new before told t
     let n : ℕ = so_far.epochs in
     let Planned : Progress → Type 0 = λ q. planned ≤ planned_in q in
     let Bound : Progress → Type 0 = λ q. planned_end q ≤ seen in
-    let One : Files → Type 0 = StandsBetween job cuts first (first + (n + 1) + 1) in
+    let k : ℕ = progress.committed in
+    let One : Files → Type 0 = StandsBetween job cuts first (k + 1) in
+    let Reach : Progress → Type 0 = λ q. LeavesOnly start new (StandsBetween job cuts first (planned_in q)) in
     let At : Progress → Type 0 = λ q. q.committed ≡ first + (n + 1) in
     record {
       written = progress.committed + 1;
@@ -132,9 +134,9 @@ round_goes_on job cuts first planned seen known most start now new before told t
       at = subst At (sym moved) (omega (arith, so_far.at));
       lines = added ∙ ap (λ t. t ++ told_of job cuts progress.committed) so_far.lines ∙ append_assoc before (told_from job cuts first n) (told_of job cuts progress.committed)
           ∙ ap (λ e. before ++ (told_from job cuts first n ++ told_of job cuts e)) so_far.at ∙ ap (λ t. before ++ t) (sym (told_next job cuts first n));
-      moments = joined One start now new
-          (weaker (StandsBetween job cuts first (first + n + 1)) One start now so_far.moments (λ f is. wider job cuts first (first + n + 1) first (first + (n + 1) + 1) f (omega arith) (omega arith) is))
-          (weaker (StandsBetween job cuts progress.committed (progress.committed + 1)) One now new during (λ f is. wider job cuts progress.committed (progress.committed + 1) first (first + (n + 1) + 1) f (omega (arith, so_far.at)) (omega (arith, so_far.at)) is));
+      moments = subst Reach (sym moved) (joined One start now new
+          (weaker (StandsBetween job cuts first (planned_in progress)) One start now so_far.moments (λ f is. wider job cuts first (planned_in progress) first (k + 1) f (omega arith) so_far.ready.standing.reached.one_ahead is))
+          (weaker (StandsBetween job cuts k (k + 1)) One now new during (λ f is. wider job cuts k (k + 1) first (k + 1) f (omega (arith, so_far.at)) (omega arith) is)));
       on = subst Planned (sym moved) (omega (arith, so_far.on, so_far.ready.standing.reached.one_ahead));
       bound = subst Bound (sym moved) next.bound;
     }
@@ -169,14 +171,17 @@ round_ends job cuts first planned seen start now before told progress so_far beh
     let written_is : so_far.written ≡ progress.committed = omega (arith, planned_is, reached.written_first, reached.planned_first) in
     let settled : IsSettledAs now (files_at (course_of job cuts) done done done) = subst A so_far.at (subst W written_is (subst P planned_is so_far.ready.settled)) in
     let standing : Standing job cuts done done done = subst SA so_far.at (subst SW written_is (subst SP planned_is so_far.ready.standing)) in
-    let kept : LeavesNow now (StandsBetween job cuts done (done + 1)) =
-    settled_leaves (StandsBetween job cuts done (done + 1)) now (files_at (course_of job cuts) done done done) settled (between job cuts done done done done (done + 1) standing (omega arith) (omega arith)) in
+    let kept : LeavesNow now (StandsBetween job cuts done done) =
+    settled_leaves (StandsBetween job cuts done done) now (files_at (course_of job cuts) done done done) settled (between job cuts done done done done done standing (omega arith) (omega arith)) in
+    let R : ℕ → Type 0 = λ w. IsReady job cuts w progress now in
+    let M : ℕ → Type 0 = λ p. LeavesOnly start now (StandsBetween job cuts first p) in
     record {
       epochs = n;
-      did = record { lines = so_far.lines; moments = so_far.moments; kept = kept };
+      did = record { lines = so_far.lines; moments = subst M (planned_is ∙ so_far.at) so_far.moments; kept = kept };
       covered = record {
         covers = ap cuts (sym so_far.at) ∙ so_far.ready.covers ∙ end.over;
         settled = settled;
+        ready = subst R (written_is ∙ so_far.at) so_far.ready;
         committed = so_far.at;
         end = end.over;
         pending = end.none;
@@ -211,7 +216,8 @@ round_stops job cuts first planned seen known most start now new before told tol
       epochs = n;
       did = record {
         lines = same ∙ so_far.lines;
-        moments = joined One start now new so_far.moments
+        moments = joined One start now new
+            (weaker (StandsBetween job cuts first (planned_in progress)) One start now so_far.moments (λ f is. wider job cuts first (planned_in progress) first (first + n + 1) f (omega arith) (omega (arith, so_far.at, so_far.ready.standing.reached.one_ahead)) is))
             (weaker (StandsBetween job cuts (first + n) (first + n + 1)) One now new during' (λ f is. wider job cuts (first + n) (first + n + 1) first (first + n + 1) f (omega arith) (omega arith) is));
         kept = present_of (StandsBetween job cuts (first + n) (first + n + 1)) now new during';
       };

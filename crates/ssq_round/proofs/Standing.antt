@@ -69,6 +69,7 @@ no_fault job cuts query lines e from end of_job epoch good =
 pub plan_standing : (job : Job) (cuts : Cuts) (k w : ℕ) → Standing job cuts k k w → cuts k < cuts (k + 1) → cuts (k + 1) ≤ length job.lines → k < 4294967295 → Standing job cuts (k + 1) k w
 plan_standing job cuts k w standing line inside few = record {
   reached = record { written_first = standing.reached.written_first; planned_first = omega (arith, standing.reached.planned_first); one_ahead = omega arith; few = omega (arith, few) };
+  starts = standing.starts;
   proper = λ e lt. elim (cases_lt e k) [
     | inl old ↦ standing.proper e old
     | inr new ↦
@@ -83,6 +84,7 @@ plan_standing job cuts k w standing line inside few = record {
 pub write_standing : (job : Job) (cuts : Cuts) (e w : ℕ) → Standing job cuts (e + 1) e w → fault job.query job.lines cuts e ≡ None → Standing job cuts (e + 1) e (e + 1)
 write_standing job cuts e w standing good = record {
   reached = record { written_first = omega arith; planned_first = omega arith; one_ahead = omega arith; few = standing.reached.few };
+  starts = standing.starts;
   proper = standing.proper;
   inside = standing.inside;
   faultless = λ f lt. elim (cases_lt f e) [
@@ -97,12 +99,13 @@ write_standing job cuts e w standing good = record {
 pub commit_standing : (job : Job) (cuts : Cuts) (e : ℕ) → Standing job cuts (e + 1) e (e + 1) → Standing job cuts (e + 1) (e + 1) (e + 1)
 commit_standing job cuts e standing = record {
   reached = record { written_first = omega arith; planned_first = omega arith; one_ahead = omega arith; few = standing.reached.few };
+  starts = standing.starts;
   proper = standing.proper;
   inside = standing.inside;
   faultless = standing.faultless;
 }
 
-pub between : (job : Job) (cuts : Cuts) (n k w least most : ℕ) → Standing job cuts n k w → least ≤ k → k ≤ most → StandsBetween job cuts least most (files_at (course_of job cuts) n k w)
+pub between : (job : Job) (cuts : Cuts) (n k w least most : ℕ) → Standing job cuts n k w → least ≤ k → n ≤ most → StandsBetween job cuts least most (files_at (course_of job cuts) n k w)
 between job cuts n k w least most standing low high = record { planned = n; committed = k; written = w; standing = standing; exactly = refl; kept = low; no_more = high }
 
 pub wider : (job : Job) (cuts : Cuts) (least most least' most' : ℕ) (files : Files) → least' ≤ least → most ≤ most' → StandsBetween job cuts least most files → StandsBetween job cuts least' most' files

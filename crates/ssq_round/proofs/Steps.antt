@@ -120,7 +120,7 @@ pub ready_leaves : (job : Job) (cuts : Cuts) (written : ℕ) (progress : Progres
 ready_leaves job cuts written progress now ready =
     let k : ℕ = progress.committed in
     stays now (StandsBetween job cuts k (k + 1)) (files_at (course_of job cuts) (planned_in progress) k written) ready.settled
-    (between job cuts (planned_in progress) k written k (k + 1) ready.standing (omega arith) (omega arith))
+    (between job cuts (planned_in progress) k written k (k + 1) ready.standing (omega arith) ready.standing.reached.one_ahead)
 
 -- that no epoch comes next is said where as many are planned as can be, all of them committed
 pub full_settled : (job : Job) (cuts : Cuts) (written : ℕ) (progress : Progress) (now : History) → progress.committed ≡ 4294967295

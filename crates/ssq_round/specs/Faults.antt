@@ -1,8 +1,9 @@
 -- Why a round stops: how faults go up, and when each may come.
-use Rattle.std.specs.Prelude.{◌≡◌, ◌<◌, ℕ, ⊤}
+use Rattle.std.specs.Prelude.{◌≡◌, ◌≢◌, ◌<◌, ℕ, ⊤}
 use Rattle.ssq_outside.specs.Faults.{Rises}
 use Rattle.ssq_outside.specs.declared.disk.DiskError.{DiskError}
 use Rattle.ssq_outside.specs.declared.disk.DiskError.TheVariants as disk
+use Rattle.ssq_json.specs.declared.bad_row.BadRow.TheVariants as bad
 use Rattle.ssq_meaning.specs.declared.line.LineFault.{LineFault}
 use Rattle.ssq_meaning.specs.declared.line.LineFault.TheVariants as line
 use Rattle.ssq_round.specs.declared.fault.RoundFault.{RoundFault}
@@ -28,7 +29,7 @@ fault_at at line.NoMemory = NoMemory
 
 -- what reading an epoch's lines can bring about, whatever the log
 abbrev pub IsReadFault : RoundFault → Type 0
-IsReadFault (Bad offset cause) = ⊤
+IsReadFault (Bad offset cause) = cause ≢ bad.NoMemory
 IsReadFault (Overflow offset) = ⊤
 IsReadFault LogFault = ⊤
 IsReadFault (LogShort logged found) = found < logged
@@ -39,7 +40,7 @@ IsReadFault NoMemory = ⊤
 
 -- what a round can bring about, whatever it works on: its numbers are those that say why
 abbrev pub IsRoundFault : RoundFault → Type 0
-IsRoundFault (Bad offset cause) = ⊤
+IsRoundFault (Bad offset cause) = cause ≢ bad.NoMemory
 IsRoundFault (Overflow offset) = ⊤
 IsRoundFault LogFault = ⊤
 IsRoundFault (LogShort logged found) = found < logged

@@ -1,5 +1,6 @@
 -- How a round ends: what it tells, what it leaves on the disk, and why.
 use Rattle.std.specs.Prelude.{◌≡◌, ◌<◌, ◌≤◌, ◌+◌, ◌++◌, ℕ, List, Option, Some, None, length, ⊤}
+use Rattle.ssq_outside.specs.Files.{Files}
 use Rattle.ssq_outside.specs.History.{History, LeavesNow, LeavesOnly}
 use Rattle.ssq_meaning.specs.Meaning.{Cuts, next_end}
 use Rattle.ssq_core.specs.Settled.{IsSettledAs}
@@ -8,7 +9,7 @@ use Rattle.ssq_round.specs.declared.fault.RoundFault.{RoundFault}
 use Rattle.ssq_round.specs.declared.fault.RoundFault.TheVariants.{Bad, Overflow, LogFault, LogShort, FullLines, FullEpochs, DiskFault, NoMemory}
 use Rattle.ssq_round.specs.declared.progress.Progress.{Progress}
 use Rattle.ssq_round.specs.Cutting.{continued, planned_in, planned_end}
-use Rattle.ssq_round.specs.Epochs.{EpochCause}
+use Rattle.ssq_round.specs.Epochs.{EpochCause, IsReady}
 use Rattle.ssq_round.specs.Faults.{most_lines}
 use Rattle.ssq_round.specs.Standing.{Job, course_of, StandsBetween}
 use Rattle.ssq_round.specs.Told.{told_from}
@@ -34,10 +35,11 @@ pub record IsEnough (seen : ℕ) (job : Job) (progress : Progress) : Type 0 wher
 abbrev pub GoesOn : Cuts → ℕ → Option ℕ → ℕ → Type 0
 GoesOn cuts planned most seen = (e : ℕ) → planned ≤ e → cuts (e + 1) ≡ next_end most seen (cuts e)
 
--- Each line that was seen is covered by so many epochs, all of them settled, and the progress says so.
+-- Each line that was seen is covered by so many epochs, all of them settled; the progress says so, and is ready for the next round.
 pub record IsCovered (job : Job) (cuts : Cuts) (done seen : ℕ) (now : History) (progress : Progress) : Type 0 where
   pub covers : cuts done ≡ seen
   pub settled : IsSettledAs now (files_at (course_of job cuts) done done done)
+  pub ready : IsReady job cuts done progress now
   pub committed : progress.committed ≡ done
   pub end : progress.end ≡ seen
   pub pending : progress.pending ≡ None
@@ -54,22 +56,22 @@ StopCause job cuts done seen now DiskFault = ⊤
 StopCause job cuts done seen now NoMemory = ⊤
 
 -- Epochs that a round did from the first on: what it told, and what each crash leaves. At each moment of it the epochs that were
--- committed at its start are; now those that it told are too, and at most one more.
-pub record Did (job : Job) (cuts : Cuts) (first : ℕ) (start now : History) (before told : List ℕ) (epochs : ℕ) : Type 0 where
+-- committed at its start are; now those that it told are too. No more than so many are planned.
+pub record Did (job : Job) (cuts : Cuts) (first : ℕ) (start now : History) (before told : List ℕ) (epochs planned : ℕ) : Type 0 where
   pub lines : told ≡ before ++ told_from job cuts first epochs
-  pub moments : LeavesOnly start now (StandsBetween job cuts first (first + epochs + 1))
-  pub kept : LeavesNow now (StandsBetween job cuts (first + epochs) (first + epochs + 1))
+  pub moments : LeavesOnly start now (StandsBetween job cuts first planned)
+  pub kept : LeavesNow now (StandsBetween job cuts (first + epochs) planned)
 
 -- The round is done: so many epochs cover what was seen.
 pub record IsDone (job : Job) (cuts : Cuts) (first seen : ℕ) (start now : History) (before told : List ℕ) (progress : Progress) : Type 0 where
   pub epochs : ℕ
-  pub did : Did job cuts first start now before told epochs
+  pub did : Did job cuts first start now before told epochs (first + epochs)
   pub covered : IsCovered job cuts (first + epochs) seen now progress
 
--- The round stopped: at the epoch after so many.
+-- The round stopped: at the epoch after so many, which has begun at most.
 pub record IsStopped (job : Job) (cuts : Cuts) (first seen : ℕ) (start now : History) (before told : List ℕ) (fault : RoundFault) : Type 0 where
   pub epochs : ℕ
-  pub did : Did job cuts first start now before told epochs
+  pub did : Did job cuts first start now before told epochs (first + epochs + 1)
   pub cause : StopCause job cuts (first + epochs) seen now fault
 
 -- The round found its log too long, too short or failing: nothing was done.
@@ -94,3 +96,8 @@ pub data RoundStop (job : Job) (cuts : Cuts) (from : Progress) (most : Option �
       → RoundStop job cuts from most known known_now start now before told fault
   unseen : (seen : ℕ) → known ≤ seen → seen ≤ known_now → IsUnseen job cuts seen start now before told from fault
       → RoundStop job cuts from most known known_now start now before told fault
+
+-- Files that stand for a job's cuts stand for all cuts that go on from there: so what one round leaves stands for the next.
+abbrev pub StandsOn : Type 0
+StandsOn = (job : Job) (cuts : Cuts) (least planned : ℕ) (most : Option ℕ) (seen : ℕ) (files : Files)
+    → StandsBetween job cuts least planned files → StandsBetween job (continued cuts planned most seen) least planned files

@@ -46,15 +46,16 @@ epoch_text job cuts e = sink_text (output_names job.query) (out job.query job.li
 abbrev pub course_of : Job → Cuts → Course
 course_of job cuts = record { meta = meta_of job.text; ends = λ e. part_ends (cuts e); watermark = λ e. None; seen = λ e. []; rows = epoch_text job cuts }
 
--- So many epochs may be planned, committed and written: these numbers can be reached, each planned epoch has a line and is
--- covered by the log, and no epoch that is written has a fault.
+-- So many epochs may be planned, committed and written: these numbers can be reached, the first epoch begins at the first line,
+-- each planned epoch has a line and is covered by the log, and no epoch that is written has a fault.
 pub record Standing (job : Job) (cuts : Cuts) (planned committed written : ℕ) : Type 0 where
   pub reached : IsReached planned committed written
+  pub starts : cuts 0 ≡ 0
   pub proper : AreProper cuts planned
   pub inside : cuts planned ≤ length job.lines
   pub faultless : (e : ℕ) → e < written → fault job.query job.lines cuts e ≡ None
 
--- The files stand for the job, with so many epochs committed at least, and so many at most.
+-- The files stand for the job, with so many epochs committed at least, and so many planned at most.
 pub record StandsBetween (job : Job) (cuts : Cuts) (least most : ℕ) (files : Files) : Type 0 where
   pub planned : ℕ
   pub committed : ℕ
@@ -62,4 +63,4 @@ pub record StandsBetween (job : Job) (cuts : Cuts) (least most : ℕ) (files : F
   pub standing : Standing job cuts planned committed written
   pub exactly : files ≡ files_at (course_of job cuts) planned committed written
   pub kept : least ≤ committed
-  pub no_more : committed ≤ most
+  pub no_more : planned ≤ most

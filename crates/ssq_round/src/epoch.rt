@@ -22,9 +22,9 @@ use crate::feed::feed;
 use crate::prepare::Prepared;
 use ssq_core::settle;
 use ssq_outside::{Disk, DiskError, Log, Name};
-use ssq_plans::{Commit, Listed, Plan, write_commit, write_plan};
+use ssq_plans::{Commit, Plan, write_commit, write_plan};
 use ssq_sink::epoch_text;
-use ssq_value::{Row, Schema};
+use ssq_value::{Row, Schema, Sequence};
 use std::alloc::{AllocError, Global};
 
 /// An epoch that is to run: its number, and its lines, from one offset up to another.
@@ -38,9 +38,9 @@ pub struct Epoch {
 fn plan_bytes(alloc: Global, epoch: u32, end: u64) -> Result<Vec<u8>, AllocError>
     ensures { IfOk result (λ bytes. bytes.items ≡ plan_text (plan_at epoch end)) }
 {
-    let mut part = Listed::new(alloc);
+    let mut part = Sequence::new(alloc);
     part.push(end)?;
-    let mut ends = Listed::new(alloc);
+    let mut ends = Sequence::new(alloc);
     ends.push(part)?;
     let watermark = None;
     write_plan(
@@ -56,7 +56,7 @@ fn plan_bytes(alloc: Global, epoch: u32, end: u64) -> Result<Vec<u8>, AllocError
 fn commit_bytes(alloc: Global, epoch: u32) -> Result<Vec<u8>, AllocError>
     ensures { IfOk result (λ bytes. bytes.items ≡ commit_text (commit_at epoch)) }
 {
-    let seen = Listed::new(alloc);
+    let seen = Sequence::new(alloc);
     write_commit(alloc, &Commit { epoch, seen })
 }
 

@@ -16,12 +16,7 @@ use ssq_value::Row;
 use std::alloc::{AllocError, Global};
 
 /// Reads the line at an offset, of an epoch that ends at `end`, into the buffer.
-fn read_line<L: Log>(
-    log: &mut L,
-    at: u64,
-    end: u64,
-    line: &mut Vec<u8>,
-) -> Result<(), RoundFault>
+fn read_line<L: Log>(log: &mut L, at: u64, end: u64, line: &mut Vec<u8>) -> Result<(), RoundFault>
     requires { at < end }
     ensures read { L.tells → OnOk result (IsRead (L.lines log.new) at line.new.items) }
     ensures stop { L.tells → IfErr result (ReadCause end (L.shown log.old)) }

@@ -8,12 +8,17 @@
 mod epoch;
 mod fault;
 mod feed;
+mod law;
 mod prepare;
 mod progress;
 mod round;
 mod step;
 
 pub use fault::RoundFault;
+pub use law::rounds_go_on;
 pub use prepare::Prepared;
 pub use progress::Progress;
 pub use round::run_round;
+
+#[cfg(test)]
+mod tests;
