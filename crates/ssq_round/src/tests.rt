@@ -1,8 +1,11 @@
 //! Each row is a log, a checkpoint's files and how far it has come, with what a round tells, how it ends and the files that it
 //! leaves.
 
-ghost use Rattle.std.specs.Prelude.{◌≤◌};
+ghost use Rattle.std.specs.Prelude.{◌≡◌, ◌≤◌, IfOk};
 ghost use Rattle.std.specs.Option.{ForSome};
+ghost use Rattle.ssq_json.specs.RowText.{names_of};
+ghost use Rattle.ssq_meaning.specs.Meaning.{layout_of};
+ghost use Rattle.ssq_query.specs.Names.{output_names};
 
 use crate::{Prepared, Progress, run_round};
 use ssq_core::settle;
@@ -186,6 +189,15 @@ fn cap(most: u64) -> Option<u64>
     if most == 0 { None } else { Some(most) }
 }
 
+/// The query of all rows.
+fn filter(alloc: Global) -> Result<Prepared, Fail>
+    ensures stream { IfOk result (λ prepared. prepared.stream ≡ layout_of prepared.query) }
+    ensures shown { IfOk result (λ prepared. names_of prepared.shown.columns ≡ output_names prepared.query) }
+{
+    let query = read_query(alloc, FILTER)?;
+    Ok(Prepared::new(alloc, query)?)
+}
+
 /// A disk on which these files are settled.
 fn disk_of(alloc: Global, files: &[(Name, &[u8])]) -> Result<MemDisk, DiskError> {
     let mut disk = MemDisk::new(alloc);
@@ -215,7 +227,7 @@ fn holds<D: Disk>(alloc: Global, disk: &mut D, files: &[(Name, &[u8])]) -> bool 
 fn worked_rows(rt: HostRuntime) -> Result<(), Fail> {
     let alloc = rt.alloc();
     for row in &ROWS {
-        let prepared = Prepared::new(alloc, read_query(alloc, FILTER)?)?;
+        let prepared = filter(alloc)?;
         let mut disk = disk_of(alloc, row.before)?;
         let mut log = MemLog::torn(alloc, row.log)?;
         let mut progress = row.progress;
@@ -240,7 +252,7 @@ fn worked_rows(rt: HostRuntime) -> Result<(), Fail> {
 #[test]
 fn too_many_lines(rt: HostRuntime) -> Result<(), Fail> {
     let alloc = rt.alloc();
-    let prepared = Prepared::new(alloc, read_query(alloc, FILTER)?)?;
+    let prepared = filter(alloc)?;
     let mut disk = disk_of(alloc, &[META])?;
     let mut log = MemLog::repeat(alloc, b"{}", 1_099_511_627_777)?;
     let mut progress = NONE;
