@@ -1,8 +1,7 @@
 -- A cutting that goes on: what was planned stays.
-use Rattle.std.proofs.Common.{◌≡◌, ◌<◌, ◌≤◌, ◌+◌, ℕ, zero, suc, Option, Some, None, Bool, true, false, refl, ap, sym, ◌∙◌, subst, arith, add-one}
+use Rattle.std.proofs.Common.{◌≡◌, ◌<◌, ◌≤◌, ◌+◌, ℕ, zero, suc, Option, Bool, true, false, refl, ap, sym, ◌∙◌, subst, arith, add-one}
 use Rattle.std.specs.Prelude.{nat_lt, if◌then◌else◌, List}
 use Rattle.std.specs.List.{position_from}
-use Rattle.std.specs.Option.{ForSome}
 use Rattle.std.proofs.lemmas.Bool.{ltb-true, ltb-false}
 use Rattle.ssq_outside.specs.Files.{Files}
 use Rattle.ssq_outside.specs.History.{History}
@@ -12,10 +11,9 @@ use Rattle.ssq_meaning.specs.Meaning.{Line, Cuts, fed, shown, out, fault, is_fau
 use Rattle.ssq_sink.specs.Sink.{sink_text}
 use Rattle.ssq_core.specs.Course.{AgreeUpTo}
 use Rattle.ssq_core.specs.Settled.{IsSettledAs}
-use Rattle.ssq_core.specs.Standing.{files_at}
 use Rattle.ssq_core.proofs.Standing.{agree_files}
 use Rattle.ssq_round.specs.declared.progress.Progress.{Progress}
-use Rattle.ssq_round.specs.Cutting.{continued, planned_in, planned_with}
+use Rattle.ssq_round.specs.Cutting.{continued, planned_in}
 use Rattle.ssq_round.specs.Epochs.{IsReady}
 use Rattle.ssq_round.specs.Rounds.{GoesOn}
 use Rattle.ssq_round.specs.Standing.{Job, part_ends, course_of, Standing, StandsBetween}

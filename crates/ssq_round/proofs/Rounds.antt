@@ -1,5 +1,5 @@
 -- A round, epoch after epoch.
-use Rattle.std.proofs.Common.{◌≡◌, Result, Ok, Err, ◌+◌, ◌-◌, ◌^◌, ◌<◌, ◌≤◌, ◌++◌, [], ℕ, List, Option, Some, None, Bool, true, false, refl, ap, sym, ◌∙◌, subst, arith, add-one, length, append_assoc}
+use Rattle.std.proofs.Common.{◌≡◌, Result, Ok, Err, ◌+◌, ◌-◌, ◌^◌, ◌<◌, ◌≤◌, ◌++◌, [], ℕ, List, Option, Some, None, true, false, refl, ap, sym, ◌∙◌, subst, arith, add-one, length, append_assoc}
 use Rattle.std.specs.Prelude.{nat_lt, is_some, ◌||◌, OnOk}
 use Rattle.std.specs.Option.{ForSome}
 use Rattle.std.proofs.lemmas.List.{append-nil}
@@ -16,7 +16,7 @@ use Rattle.ssq_round.specs.declared.fault.RoundFault.TheVariants.{Bad, Overflow,
 use Rattle.ssq_round.specs.declared.progress.Progress.{Progress}
 use Rattle.ssq_round.specs.Cutting.{continued, planned_with, planned_in, end_with, planned_end, next_end_with, epoch_end, after_epoch, is_behind}
 use Rattle.ssq_round.specs.Epochs.{EpochCause, IsReady, IsNext}
-use Rattle.ssq_round.specs.Rounds.{SeeCause, IsEnough, GoesOn, IsCovered, StopCause, Did, IsDone, IsStopped, RoundDone, RoundStop, stopped, unseen}
+use Rattle.ssq_round.specs.Rounds.{SeeCause, IsEnough, GoesOn, StopCause, IsDone, IsStopped, RoundDone, RoundStop, stopped, unseen}
 use Rattle.ssq_round.specs.Faults.{most_lines}
 use Rattle.ssq_round.specs.Standing.{Job, course_of, Standing, StandsBetween}
 use Rattle.ssq_round.specs.Told.{told_of, told_from}

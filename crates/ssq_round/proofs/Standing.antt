@@ -8,7 +8,7 @@ use Rattle.ssq_value.specs.declared.column.Column.{Column}
 use Rattle.ssq_value.specs.declared.value.Value.{Value}
 use Rattle.ssq_json.specs.RowText.{names_of}
 use Rattle.ssq_query.specs.Names.{output_names}
-use Rattle.ssq_meaning.specs.Meaning.{Line, Values, Cuts, fed, shown, lines_between, out, fault, is_faulty}
+use Rattle.ssq_meaning.specs.Meaning.{Line, Cuts, fed, shown, lines_between, out, fault, is_faulty}
 use Rattle.std.specs.List.{position_from}
 use Rattle.ssq_query.specs.declared.query.Query.{Query}
 use Rattle.ssq_plans.specs.Records.{plan_text, commit_text}

@@ -1,8 +1,7 @@
 -- One epoch of a round: what the code has is what the cuts have.
-use Rattle.std.proofs.Common.{◌≡◌, ◌+◌, ◌-◌, ◌<◌, ◌≤◌, ◌==◌, ◌^◌, ℕ, List, Option, Some, None, Bool, true, false, refl, ap, sym, ◌∙◌, subst, inl, inr, arith, eq-eqb, length}
+use Rattle.std.proofs.Common.{◌≡◌, ◌+◌, ◌-◌, ◌<◌, ◌==◌, ◌^◌, ℕ, Some, None, Bool, true, false, refl, ap, sym, ◌∙◌, subst, inl, inr, arith, eq-eqb, length}
 use Rattle.std.specs.Prelude.{if◌then◌else◌}
 use Rattle.std.proofs.lemmas.Bool.{eqb-true, cases_lt}
-use Rattle.ssq_outside.specs.Files.{Files}
 use Rattle.ssq_outside.specs.History.{History, LeavesOnly}
 use Rattle.ssq_outside.proofs.Steps.{joined}
 use Rattle.ssq_meaning.specs.Meaning.{Cuts, out}
@@ -13,7 +12,7 @@ use Rattle.ssq_core.specs.Standing.{files_at}
 use Rattle.ssq_core.proofs.Standing.{stays}
 use Rattle.ssq_round.specs.declared.fault.RoundFault.{RoundFault}
 use Rattle.ssq_round.specs.declared.progress.Progress.{Progress}
-use Rattle.ssq_round.specs.Cutting.{planned_with, planned_in, end_with}
+use Rattle.ssq_round.specs.Cutting.{planned_with, planned_in}
 use Rattle.ssq_round.specs.Epochs.{IsEpochOf, IsPlanned, IsEpochDone, EpochCause, IsReady, IsNext}
 use Rattle.ssq_round.specs.Standing.{Job, plan_at, course_of, Standing, StandsBetween}
 use Rattle.ssq_round.specs.Told.{epoch_line, told_of}

@@ -1,6 +1,6 @@
 -- Worked cuts: three lines by two, and an epoch that was planned for the third before a fourth came.
-use Rattle.std.proofs.Common.{◌≡◌, ◌==◌, ℕ, Option, Some, None, refl, arith}
-use Rattle.std.specs.Prelude.{codes, if◌then◌else◌, nat_lt}
+use Rattle.std.proofs.Common.{◌≡◌, ◌==◌, Some, None, refl}
+use Rattle.std.specs.Prelude.{codes, if◌then◌else◌}
 use Rattle.std.specs.Fmt.{digits}
 use Rattle.ssq_meaning.specs.Meaning.{Cuts}
 use Rattle.ssq_plans.specs.Records.{plan_text, ends_lines, part_lines}

@@ -1,5 +1,5 @@
 -- One epoch: what its lines give, what stops it, and when it is done.
-use Rattle.std.specs.Prelude.{◌≡◌, ◌≤◌, ◌<◌, ◌+◌, ℕ, false, List, [], ◌∷◌, length, Some, None, take, slice_get, ⊤}
+use Rattle.std.specs.Prelude.{◌≡◌, ◌≤◌, ◌<◌, ◌+◌, ℕ, false, List, [], ◌∷◌, length, Some, take, slice_get, ⊤}
 use Rattle.ssq_outside.specs.History.{History}
 use Rattle.ssq_query.specs.declared.query.Query.{Query}
 use Rattle.ssq_meaning.specs.Meaning.{Line, Values, Cuts, fed, shown, out, is_faulty, line_fault, IsFirstFault, IsFaultOf}
@@ -10,7 +10,7 @@ use Rattle.ssq_core.specs.Standing.{files_at}
 use Rattle.ssq_round.specs.declared.fault.RoundFault.{RoundFault}
 use Rattle.ssq_round.specs.declared.fault.RoundFault.TheVariants.{Bad, Overflow, LogFault, LogShort, FullLines, FullEpochs, DiskFault, NoMemory}
 use Rattle.ssq_round.specs.declared.progress.Progress.{Progress}
-use Rattle.ssq_round.specs.Cutting.{planned_in, planned_end, epoch_end}
+use Rattle.ssq_round.specs.Cutting.{planned_in, planned_end}
 use Rattle.ssq_round.specs.Faults.{most_epochs}
 use Rattle.ssq_round.specs.Standing.{Job, course_of, Standing}
 

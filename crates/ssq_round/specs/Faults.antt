@@ -1,5 +1,5 @@
 -- Why a round stops: how faults go up, and when each may come.
-use Rattle.std.specs.Prelude.{◌≡◌, ◌≢◌, ◌<◌, ℕ, ⊤}
+use Rattle.std.specs.Prelude.{◌≢◌, ◌<◌, ℕ, ⊤}
 use Rattle.ssq_outside.specs.Faults.{Rises}
 use Rattle.ssq_outside.specs.declared.disk.DiskError.{DiskError}
 use Rattle.ssq_outside.specs.declared.disk.DiskError.TheVariants as disk

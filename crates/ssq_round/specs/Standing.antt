@@ -1,5 +1,5 @@
 -- A job over one log of one part: what its files hold, and when the files of a checkpoint stand for it.
-use Rattle.std.specs.Prelude.{◌≡◌, ◌<◌, ◌≤◌, ◌+◌, ℕ, List, [], ◌∷◌, length, None}
+use Rattle.std.specs.Prelude.{◌≡◌, ◌<◌, ◌≤◌, ℕ, List, [], ◌∷◌, length, None}
 use Rattle.ssq_outside.specs.Files.{Files}
 use Rattle.ssq_query.specs.declared.query.Query.{Query}
 use Rattle.ssq_query.specs.Names.{output_names}

@@ -1,4 +1,4 @@
-use Rattle.std.proofs.Common.{◌≡◌, ◌∙◌, arith}
+use Rattle.std.proofs.Common.{arith}
 use Rattle.std.proofs.lemmas.Result.{err_from_is_err_and}
 use Rattle.ssq_round.proofs.Rows.{goes_on, row_stops}
 use Rattle.ssq_round.proofs.feed.feed.Goals as goal

@@ -1,4 +1,4 @@
-use Rattle.std.proofs.Common.{◌≡◌, ◌-◌, ◌≤◌, ◌^◌, List, ℕ, Option, Some, None, string_bytes}
+use Rattle.std.proofs.Common.{◌≡◌, ◌≤◌, ℕ, string_bytes}
 use Rattle.ssq_meaning.specs.Meaning.{Cuts}
 use Rattle.ssq_round.specs.Cutting.{planned_in}
 use Rattle.ssq_round.specs.Epochs.{IsReady}

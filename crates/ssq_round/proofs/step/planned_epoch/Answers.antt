@@ -1,5 +1,4 @@
-use Rattle.std.proofs.Common.{◌≡◌, sym, ◌∙◌, ap, Some}
-use Rattle.ssq_meaning.specs.Meaning.{next_end}
+use Rattle.std.proofs.Common.{◌≡◌, sym, ◌∙◌, ap}
 use Rattle.ssq_round.specs.Cutting.{epoch_end, next_end_with}
 use Rattle.ssq_round.specs.Standing.{course_of}
 use Rattle.ssq_round.proofs.Steps.{IsNumber, number, plans_next, next_planned, next_leaves, ready_leaves}
