@@ -4,7 +4,7 @@ use Rattle.std.proofs.Common.{◌≡◌, ◌∷◌, [], ◌==◌, ℕ, List, Som
 use Rattle.std.specs.Prelude.{codes, if◌then◌else◌}
 use Rattle.std.specs.Fmt.{digits}
 use Rattle.ssq_outside.specs.declared.name.Name.TheVariants as name
-use Rattle.ssq_plans.specs.Records.{parts_lines, part_lines, ends_lines, seen_lines}
+use Rattle.ssq_plans.specs.Records.{lines}
 use Rattle.ssq_core.specs.Course.{Course}
 use Rattle.ssq_core.specs.Standing.{files_at, Stands}
 
@@ -14,33 +14,33 @@ query = codes "CREATE STREAM s (id BIGINT, v BIGINT) FROM 's'; SELECT id, v + 1 
 abbrev two_epochs : Course
 two_epochs = record {
   meta = record { partitions = 1; parts = 1 ∷ []; query = query };
-  ends = λ e. ((if e == 0 then 0 else (if e == 1 then 2 else 3)) ∷ []) ∷ [];
+  ends = λ e. record { stream = 0; part = 0; end = if e == 0 then 0 else (if e == 1 then 2 else 3) } ∷ [];
   watermark = λ e. None;
   seen = λ e. [];
   rows = λ e. if e == 0 then codes "{\"id\":1,\"w\":12}\n" else codes "{\"id\":3,\"w\":21}\n";
 }
 
 metadata : files_at two_epochs 2 2 2 name.Meta ≡ Some (codes "v1\npartitions 1\nparts 0 1\nquery 104\nCREATE STREAM s (id BIGINT, v BIGINT) FROM 's'; SELECT id, v + 1 AS w FROM s WHERE v > 10 OUTPUT APPEND;\nend\n")
-unfolding parts_lines digits
+unfolding lines digits
 metadata = refl
 
 first_plan : files_at two_epochs 2 2 2 (name.Plan 0) ≡ Some (codes "v1\nplan 0\nwatermark none\npart 0 0 2\nend\n")
-unfolding ends_lines part_lines digits
+unfolding lines digits
 first_plan = refl
 
 second_plan : files_at two_epochs 2 2 2 (name.Plan 1) ≡ Some (codes "v1\nplan 1\nwatermark none\npart 0 0 3\nend\n")
-unfolding ends_lines part_lines digits
+unfolding lines digits
 second_plan = refl
 
 no_third_plan : files_at two_epochs 2 2 2 (name.Plan 2) ≡ None
 no_third_plan = refl
 
 first_commit : files_at two_epochs 2 2 2 (name.Commit 0) ≡ Some (codes "v1\ncommit 0\nend\n")
-unfolding seen_lines digits
+unfolding lines digits
 first_commit = refl
 
 second_commit : files_at two_epochs 2 2 2 (name.Commit 1) ≡ Some (codes "v1\ncommit 1\nend\n")
-unfolding seen_lines digits
+unfolding lines digits
 second_commit = refl
 
 first_rows : files_at two_epochs 2 2 2 (name.Out 0) ≡ Some (codes "{\"id\":1,\"w\":12}\n")

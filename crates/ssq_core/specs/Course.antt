@@ -2,12 +2,13 @@
 use Rattle.std.specs.Prelude.{◌≡◌, ◌<◌, ◌+◌, ℕ, ℤ, List, Option}
 use Rattle.ssq_plans.specs.declared.meta.Meta.{Meta}
 use Rattle.ssq_plans.specs.declared.plan.Plan.{Plan}
+use Rattle.ssq_plans.specs.declared.part.PartEnd.{PartEnd}
 use Rattle.ssq_plans.specs.declared.commit.Commit.{Commit}
 use Rattle.ssq_plans.specs.declared.seen.SeenBy.{SeenBy}
 
 -- where the parts of the streams end, as a plan has it
 abbrev pub Ends : Type 0
-Ends = List (List ℕ)
+Ends = List PartEnd
 
 -- What the files of a job hold. Epochs count from 0; what is said of epochs that are not planned has no file.
 pub record Course : Type 0 where

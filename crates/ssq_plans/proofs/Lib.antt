@@ -1,2 +1,4 @@
-mod Lines
+mod Listing
 pub mod Texts
+mod Times
+mod Spelled

@@ -8,13 +8,17 @@ use Rattle.ssq_outside.specs.declared.name.Name.{Name}
 use Rattle.ssq_outside.specs.declared.name.Name.TheVariants.{Meta, Plan, Commit, Out, Delta, Snapshot}
 use Rattle.ssq_plans.specs.Names.{text_of, AreTextsApart}
 
--- a number that is all that follows the front
-pub follows : (front text rest : List ℕ) (n : ℕ) → text ≡ front ++ rest → text ≡ front ++ decimal n → rest ≡ decimal n ++ []
-follows front text rest n is of = append_cancel_left front rest (decimal n) (sym is ∙ of) ∙ sym (append-nil (decimal n))
+-- what follows the front is one
+pub same_rest : (front text rest other : List ℕ) → text ≡ front ++ rest → text ≡ front ++ other → rest ≡ other
+same_rest front text rest other is of = append_cancel_left front rest other (sym is ∙ of)
+
+-- a number that is all that follows the front has nothing behind it
+pub nothing_behind : (front text : List ℕ) (n : ℕ) → text ≡ front ++ decimal n → text ≡ front ++ (decimal n ++ [])
+nothing_behind front text n is = is ∙ ap (λ (digits : List ℕ). front ++ digits) (sym (append-nil (decimal n)))
 
 -- the text of a file of the state, from its parts
-pub state_text : (text numbers after slash after_slash tail : List ℕ) (p v : ℕ) → text ≡ codes "state/" ++ numbers → numbers ≡ decimal p ++ after → after ≡ codes "/" ++ slash → slash ≡ decimal v ++ after_slash → after_slash ≡ tail → text ≡ codes "state/" ++ decimal p ++ codes "/" ++ decimal v ++ tail
-state_text text numbers after slash after_slash tail p v h1 h2 h3 h4 h5 = rw (h1, h2, h3, h4, h5) (simp append_assoc)
+pub state_text : (text after after_slash tail : List ℕ) (p v : ℕ) → text ≡ codes "state/" ++ (decimal p ++ after) → after ≡ codes "/" ++ (decimal v ++ after_slash) → after_slash ≡ tail → text ≡ codes "state/" ++ decimal p ++ codes "/" ++ decimal v ++ tail
+state_text text after after_slash tail p v h1 h2 h3 = rw (h1, h2, h3) (simp append_assoc)
 
 -- ---- no two names have one text
 

@@ -1,10 +1,18 @@
 -- The texts of records, line by line. Numbers are decimal without leading zeros, and a line feed ends each line.
-use Rattle.std.specs.Prelude.{ℕ, ◌+◌, ◌≤◌, ◌==◌, ℤ, List, [], ◌∷◌, ◌++◌, length, All, Option, Some, None, if◌then◌else◌, codes, decimal}
-use Rattle.ssq_time.specs.Time.{stamp_text}
+use Rattle.std.specs.Prelude.{ℕ, ◌+◌, ◌<◌, ◌≤◌, ◌^◌, ◌==◌, ℤ, List, [], ◌∷◌, ◌++◌, length, All, Option, Some, None, if◌then◌else◌, codes, decimal}
+use Rattle.std.specs.Option.{ForSome}
+use Rattle.std.specs.Str.{IsUtf8}
+use Rattle.ssq_time.specs.Time.{stamp_text, IsStampTime}
 use Rattle.ssq_plans.specs.declared.meta.Meta.{Meta}
 use Rattle.ssq_plans.specs.declared.plan.Plan.{Plan}
+use Rattle.ssq_plans.specs.declared.part.PartEnd.{PartEnd}
 use Rattle.ssq_plans.specs.declared.commit.Commit.{Commit}
 use Rattle.ssq_plans.specs.declared.seen.SeenBy.{SeenBy}
+
+-- one line for each item, which are numbered from that number on
+unfoldable pub lines : {X : Type 0} → (ℕ → X → List ℕ) → ℕ → List X → List ℕ
+lines spelled at [] = []
+lines spelled at (x ∷ xs) = spelled at x ++ lines spelled (at + 1) xs
 
 -- a time, or `none` where there is none
 abbrev pub time_or_none : Option ℤ → List ℕ
@@ -15,39 +23,36 @@ time_or_none (Some t) = stamp_text t
 abbrev pub parts_line : ℕ → ℕ → List ℕ
 parts_line stream count = codes "parts " ++ decimal stream ++ codes " " ++ decimal count ++ codes "\n"
 
--- one such line for each stream, which are numbered from that number on
-unfoldable pub parts_lines : ℕ → List ℕ → List ℕ
-parts_lines stream [] = []
-parts_lines stream (count ∷ rest) = parts_line stream count ++ parts_lines (stream + 1) rest
+-- a stream has at most 64 parts
+abbrev pub IsCount : ℕ → Type 0
+IsCount count = count ≤ 64
 
 -- a job's record: 1 to 64 partitions, and at most 64 parts of each stream
 abbrev pub IsMeta : Meta → Type 0
-IsMeta m = (1 ≤ m.partitions) × (m.partitions ≤ 64) × All (λ count. count ≤ 64) m.parts
+IsMeta m = (1 ≤ m.partitions) × (m.partitions ≤ 64) × All IsCount m.parts
 
 -- the record of a job: partitions, the parts of each stream, and the query's length in bytes and text
 abbrev pub meta_text : Meta → List ℕ
 meta_text m =
     codes "v1\n"
     ++ codes "partitions " ++ decimal m.partitions ++ codes "\n"
-    ++ parts_lines 0 m.parts
+    ++ lines parts_line 0 m.parts
     ++ codes "query " ++ decimal (length m.query) ++ codes "\n"
     ++ m.query ++ codes "\n"
     ++ codes "end\n"
 
 -- `part STREAM PART END`
-abbrev pub part_line : ℕ → ℕ → ℕ → List ℕ
-part_line stream part end =
-    codes "part " ++ decimal stream ++ codes " " ++ decimal part ++ codes " " ++ decimal end ++ codes "\n"
+abbrev pub part_line : PartEnd → List ℕ
+part_line p =
+    codes "part " ++ decimal p.stream ++ codes " " ++ decimal p.part ++ codes " " ++ decimal p.end ++ codes "\n"
 
--- one such line for each part of a stream, which are numbered from that number on
-unfoldable pub part_lines : ℕ → ℕ → List ℕ → List ℕ
-part_lines stream part [] = []
-part_lines stream part (end ∷ rest) = part_line stream part end ++ part_lines stream (part + 1) rest
+-- its numbers have 32, 32 and 64 bits
+abbrev pub IsPart : PartEnd → Type 0
+IsPart p = (p.stream < 2 ^ 32) × (p.part < 2 ^ 32) × (p.end < 2 ^ 64)
 
--- those of each stream, which are numbered from that number on
-unfoldable pub ends_lines : ℕ → List (List ℕ) → List ℕ
-ends_lines stream [] = []
-ends_lines stream (ends ∷ rest) = part_lines stream 0 ends ++ ends_lines (stream + 1) rest
+-- a plan: its epoch has 32 bits, and its watermark is none or of the years 0001 to 9999
+abbrev pub IsPlan : Plan → Type 0
+IsPlan p = (p.epoch < 2 ^ 32) × ForSome p.watermark IsStampTime × All IsPart p.ends
 
 -- the record of a plan
 abbrev pub plan_text : Plan → List ℕ
@@ -55,21 +60,25 @@ plan_text p =
     codes "v1\n"
     ++ codes "plan " ++ decimal p.epoch ++ codes "\n"
     ++ codes "watermark " ++ time_or_none p.watermark ++ codes "\n"
-    ++ ends_lines 0 p.ends
+    ++ lines (λ at part. part_line part) 0 p.ends
     ++ codes "end\n"
 
 -- `seen STREAM TIME`
 abbrev pub seen_line : SeenBy → List ℕ
 seen_line s = codes "seen " ++ decimal s.stream ++ codes " " ++ time_or_none s.time ++ codes "\n"
 
--- one such line for each watermarked stream
-unfoldable pub seen_lines : List SeenBy → List ℕ
-seen_lines [] = []
-seen_lines (seen ∷ rest) = seen_line seen ++ seen_lines rest
+-- its stream has 32 bits
+abbrev pub IsSeen : SeenBy → Type 0
+IsSeen s = s.stream < 2 ^ 32
+
+-- a commit: its numbers have 32 bits
+abbrev pub IsCommit : Commit → Type 0
+IsCommit c = (c.epoch < 2 ^ 32) × All IsSeen c.seen
 
 -- the record of a commit
 abbrev pub commit_text : Commit → List ℕ
-commit_text c = codes "v1\n" ++ codes "commit " ++ decimal c.epoch ++ codes "\n" ++ seen_lines c.seen ++ codes "end\n"
+commit_text c =
+    codes "v1\n" ++ codes "commit " ++ decimal c.epoch ++ codes "\n" ++ lines (λ at seen. seen_line seen) 0 c.seen ++ codes "end\n"
 
 -- the epoch to plan after that many
 abbrev pub epoch_after : ℕ → Option ℕ

@@ -1,8 +1,10 @@
 //! The record of what was read by the end of an epoch.
-ghost use Rattle.std.specs.Prelude.{◌≡◌, ◌++◌, IfOk, OnOk};
-ghost use Rattle.ssq_plans.specs.Records.{seen_line, seen_lines, commit_text};
+ghost use Rattle.std.specs.Prelude.{◌≡◌, ◌++◌, IfOk, IfSome, Some};
+ghost use Rattle.ssq_plans.specs.declared.commit.Commit.{Commit as Record};
+ghost use Rattle.ssq_plans.specs.Records.{IsCommit, commit_text};
 
-use crate::fields::put_time_or_none;
+use crate::fields::{is_all, short_line_after};
+use crate::lines::{put_lines, take_lines};
 use crate::seen::SeenBy;
 use ssq_field::put_decimal_to;
 use ssq_value::Sequence;
@@ -16,29 +18,6 @@ pub struct Commit {
     pub seen: Sequence<SeenBy>,
 }
 
-/// Appends the line of a stream's greatest time.
-#[tactic(auto, using(crate::proofs::Lines::line_is_stamp))]
-fn put_seen_line(out: &mut Vec<u8>, seen: SeenBy) -> Result<(), AllocError>
-    ensures { OnOk result (out.new.items ≡ out.old.items ++ seen_line seen) }
-{
-    out.extend_from_slice(b"seen ")?;
-    put_decimal_to(out, seen.stream as u64)?;
-    out.extend_from_slice(b" ")?;
-    put_time_or_none(out, seen.time)?;
-    out.extend_from_slice(b"\n")
-}
-
-/// Appends those lines for all watermarked streams.
-#[tactic(auto, using(crate::proofs::Lines::line_steps))]
-fn put_seen_lines(out: &mut Vec<u8>, seen: &[SeenBy]) -> Result<(), AllocError>
-    ensures { OnOk result (out.new.items ≡ out.old.items ++ seen_lines seen.now) }
-{
-    for stream in seen {
-        put_seen_line(out, *stream)?;
-    }
-    Ok(())
-}
-
 /// The text of a commit.
 pub fn write_commit(alloc: Global, commit: &Commit) -> Result<Vec<u8>, AllocError>
     ensures { IfOk result (λ text. text.items ≡ commit_text commit.now) }
@@ -47,7 +26,25 @@ pub fn write_commit(alloc: Global, commit: &Commit) -> Result<Vec<u8>, AllocErro
     out.extend_from_slice(b"v1\ncommit ")?;
     put_decimal_to(&mut out, commit.epoch as u64)?;
     out.extend_from_slice(b"\n")?;
-    put_seen_lines(&mut out, commit.seen.as_slice())?;
+    put_lines(&mut out, commit.seen.as_slice())?;
     out.extend_from_slice(b"end\n")?;
     Ok(out)
+}
+
+/// The commit whose text these bytes are. `None` where they are no commit's.
+pub fn read_commit(alloc: Global, text: &[u8]) -> Result<Option<Commit>, AllocError>
+    ensures found { IfOk result (λ read. IfSome read (λ commit. text.now ≡ commit_text commit)) }
+    ensures in_range { IfOk result (λ read. IfSome read IsCommit) }
+    // So `None` comes only where no commit has this text.
+    ensures each { (commit : Record) → IsCommit commit → text.now ≡ commit_text commit → IfOk result (λ read. read ≡ Some commit) }
+{
+    let Some((epoch, rest)) = short_line_after(text, b"v1\ncommit ") else {
+        return Ok(None);
+    };
+    let (seen, rest) = take_lines(alloc, rest)?;
+    if is_all(rest, b"end\n") {
+        Ok(Some(Commit { epoch, seen }))
+    } else {
+        Ok(None)
+    }
 }

@@ -4,16 +4,20 @@
 mod commit;
 mod fields;
 mod law;
+mod lines;
 mod meta;
 mod names;
+mod part;
 mod plan;
 mod seen;
+mod seen_line;
 #[cfg(test)]
 mod tests;
 
-pub use commit::{Commit, write_commit};
+pub use commit::{Commit, read_commit, write_commit};
 pub use law::names_are_apart;
-pub use meta::{Meta, write_meta};
+pub use meta::{Meta, read_meta, write_meta};
 pub use names::{NameText, name_text, read_name};
-pub use plan::{Plan, next_epoch, write_plan};
+pub use part::PartEnd;
+pub use plan::{Plan, next_epoch, read_plan, write_plan};
 pub use seen::SeenBy;

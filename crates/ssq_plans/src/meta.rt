@@ -1,10 +1,15 @@
 //! The record of a checkpoint's job.
-ghost use Rattle.std.specs.Prelude.{◌≡◌, ◌++◌, ◌≤◌, All, IfOk, OnOk};
-ghost use Rattle.ssq_plans.specs.Records.{IsMeta, meta_text, parts_line, parts_lines};
+ghost use Rattle.std.specs.Prelude.{◌≡◌, ◌++◌, ◌<◌, ◌≤◌, List, ℕ, All, IfOk, IfSome, IsSomeAnd, OnOk, Some, codes, decimal, length};
+ghost use Rattle.std.specs.Str.{IsUtf8};
+ghost use Rattle.ssq_plans.specs.declared.meta.Meta.{Meta as Record};
+ghost use Rattle.ssq_plans.specs.Records.{IsCount, IsMeta, meta_text, parts_line};
 
+use crate::fields::{after, is_all, long_after, short_line_after, split};
+use crate::lines::{Line, put_lines, take_lines};
 use ssq_field::put_decimal_to;
 use ssq_value::{Sequence, Text};
 use std::alloc::{AllocError, Global};
+use std::str;
 
 /// The job that a checkpoint is of.
 #[derive(Debug, Drop)]
@@ -17,26 +22,29 @@ pub struct Meta {
     pub query: Text,
 }
 
-/// Appends the line of a stream's number of parts.
-fn put_parts_line(out: &mut Vec<u8>, stream: u64, count: u64) -> Result<(), AllocError>
-    ensures { OnOk result (out.new.items ≡ out.old.items ++ parts_line stream count) }
-{
-    out.extend_from_slice(b"parts ")?;
-    put_decimal_to(out, stream)?;
-    out.extend_from_slice(b" ")?;
-    put_decimal_to(out, count)?;
-    out.extend_from_slice(b"\n")
-}
+/// The line of a stream's number of parts, which tells the stream's place too.
+impl Line for u32 {
+    ghost spelled = { parts_line };
 
-/// Appends those lines for all streams.
-#[tactic(auto, using(crate::proofs::Lines::line_steps))]
-fn put_parts_lines(out: &mut Vec<u8>, parts: &[u32]) -> Result<(), AllocError>
-    ensures { OnOk result (out.new.items ≡ out.old.items ++ parts_lines 0 parts.now) }
-{
-    for (stream, count) in parts.iter().enumerate() {
-        put_parts_line(out, stream as u64, *count as u64)?;
+    ghost is_read = { IsCount };
+
+    fn put(&self, at: u64, out: &mut Vec<u8>) -> Result<(), AllocError> {
+        out.extend_from_slice(b"parts ")?;
+        put_decimal_to(out, at)?;
+        out.extend_from_slice(b" ")?;
+        put_decimal_to(out, *self as u64)?;
+        out.extend_from_slice(b"\n")
     }
-    Ok(())
+
+    fn take(at: u64, text: &[u8]) -> Option<(u32, &[u8])> {
+        let (stream, text) = long_after(text, b"parts ")?;
+        let (count, text) = short_line_after(text, b" ")?;
+        if stream == at && count <= 64 {
+            Some((count, text))
+        } else {
+            None
+        }
+    }
 }
 
 /// The text of a job's record.
@@ -48,11 +56,69 @@ pub fn write_meta(alloc: Global, meta: &Meta) -> Result<Vec<u8>, AllocError>
     out.extend_from_slice(b"v1\npartitions ")?;
     put_decimal_to(&mut out, meta.partitions as u64)?;
     out.extend_from_slice(b"\n")?;
-    put_parts_lines(&mut out, meta.parts.as_slice())?;
+    put_lines(&mut out, meta.parts.as_slice())?;
     out.extend_from_slice(b"query ")?;
     put_decimal_to(&mut out, meta.query.len() as u64)?;
     out.extend_from_slice(b"\n")?;
     out.extend_from_slice(meta.query.as_bytes())?;
     out.extend_from_slice(b"\nend\n")?;
     Ok(out)
+}
+
+/// The number of partitions in front, and what follows its line.
+fn partitions_and_rest(text: &[u8]) -> Option<(u32, &[u8])>
+    ensures found { IfSome result (λ parts. text.now ≡ codes "v1\npartitions " ++ (decimal parts.0 ++ (codes "\n" ++ parts.1.now))) }
+    ensures in_range { IfSome result (λ parts. (1 ≤ parts.0) × (parts.0 ≤ 64)) }
+    ensures each { (n : ℕ) (rest : List ℕ) → 1 ≤ n → n ≤ 64 →
+        text.now ≡ codes "v1\npartitions " ++ (decimal n ++ (codes "\n" ++ rest)) →
+        IsSomeAnd result (λ parts. (parts.0 ≡ n) × (parts.1.now ≡ rest)) }
+{
+    let (partitions, rest) = short_line_after(text, b"v1\npartitions ")?;
+    if partitions >= 1 && partitions <= 64 {
+        Some((partitions, rest))
+    } else {
+        None
+    }
+}
+
+/// The query, where its length and text and the record's end are all that is left.
+fn query_in(text: &[u8]) -> Option<&str>
+    ensures found { IfSome result (λ query. text.now ≡ codes "query " ++ (decimal (length query.now) ++ (codes "\n" ++ (query.now ++ codes "\nend\n")))) }
+    ensures each { (query : List ℕ) → IsUtf8 query →
+        text.now ≡ codes "query " ++ (decimal (length query) ++ (codes "\n" ++ (query ++ codes "\nend\n"))) →
+        IsSomeAnd result (λ found. found.now ≡ query) }
+{
+    let (len, behind) = long_after(text, b"query ")?;
+    let rest = after(behind, b"\n")?;
+    let (query, end) = split(rest, len as usize)?;
+    if is_all(end, b"\nend\n") {
+        match str::from_utf8(query) {
+            Ok(query) => Some(query),
+            Err(_) => None,
+        }
+    } else {
+        None
+    }
+}
+
+/// The job whose record these bytes are. `None` where they are no job's.
+pub fn read_meta(alloc: Global, text: &[u8]) -> Result<Option<Meta>, AllocError>
+    ensures found { IfOk result (λ read. IfSome read (λ meta. text.now ≡ meta_text meta)) }
+    ensures in_range { IfOk result (λ read. IfSome read IsMeta) }
+    // So `None` comes only where no job has this record.
+    ensures each { (meta : Record) → IsMeta meta → IsUtf8 meta.query → text.now ≡ meta_text meta → IfOk result (λ read. read ≡ Some meta) }
+{
+    let Some((partitions, rest)) = partitions_and_rest(text) else {
+        return Ok(None);
+    };
+    let (parts, rest) = take_lines(alloc, rest)?;
+    let Some(query) = query_in(rest) else {
+        return Ok(None);
+    };
+    let query = Text::from_str(alloc, query)?;
+    Ok(Some(Meta {
+        partitions,
+        parts,
+        query,
+    }))
 }

@@ -1,11 +1,11 @@
 //! The texts of names.
 
-ghost use Rattle.std.specs.Prelude.{◌≡◌, ◌≢◌, ◌<◌, ◌≤◌, ◌^◌, ◌++◌, ℕ, List, Option, Some, IfOk, IfSome, IsSomeAnd, MatchOption, codes, decimal, length};
-ghost use Rattle.ssq_field.specs.Decimal.{NoDigit};
+ghost use Rattle.std.specs.Prelude.{◌≡◌, ◌<◌, ◌≤◌, ◌^◌, ◌++◌, ℕ, List, Option, Some, IfOk, IfSome, codes, decimal, length};
 ghost use Rattle.ssq_outside.specs.declared.name.Name.{Name as NameOf};
 ghost use Rattle.ssq_plans.specs.Names.{text_of, IsInRange};
 
-use ssq_field::{Bytes, take_decimal};
+use crate::fields::short_after;
+use ssq_field::Bytes;
 use ssq_outside::Name;
 use std::alloc::{AllocError, Global};
 use std::fmt;
@@ -69,8 +69,8 @@ fn read_state(text: &[u8]) -> Option<Name>
     ensures each_delta { (p v : ℕ) → p < 2 ^ 32 → v < 2 ^ 32 → text.now ≡ text_of (Name.Delta p v) → result ≡ Some (Name.Delta p v) }
     ensures each_snapshot { (p v : ℕ) → p < 2 ^ 32 → v < 2 ^ 32 → text.now ≡ text_of (Name.Snapshot p v) → result ≡ Some (Name.Snapshot p v) }
 {
-    let (partition, text) = number_and_rest(after(text, b"state/")?)?;
-    let (version, text) = number_and_rest(after(text, b"/")?)?;
+    let (partition, text) = short_after(text, b"state/")?;
+    let (version, text) = short_after(text, b"/")?;
     if text == b".delta".as_slice() {
         Some(Name::Delta(partition, version))
     } else if text == b".snapshot".as_slice() {
@@ -85,29 +85,10 @@ fn number_after(text: &[u8], front: &[u8]) -> Option<u32>
     ensures found { IfSome result (λ n. text.now ≡ front.now ++ decimal n) }
     ensures each { (n : ℕ) → n < 2 ^ 32 → text.now ≡ front.now ++ decimal n → result ≡ Some n }
 {
-    match number_and_rest(after(text, front)?)? {
+    match short_after(text, front)? {
         (number, []) => Some(number),
         _ => None,
     }
-}
-
-/// The number in front, and what follows its digits.
-fn number_and_rest(text: &[u8]) -> Option<(u32, &[u8])>
-    ensures found { IfSome result (λ parts. text.now ≡ decimal parts.0 ++ parts.1.now) }
-    ensures each { (n : ℕ) (rest : List ℕ) → n < 2 ^ 32 → NoDigit rest → text.now ≡ decimal n ++ rest → IsSomeAnd result (λ parts. (parts.0 ≡ n) × (parts.1.now ≡ rest)) }
-{
-    let (number, taken) = take_decimal(text)?;
-    match u32::try_from(number) {
-        Ok(number) => Some((number, &text[taken..])),
-        Err(_) => None,
-    }
-}
-
-/// What follows these bytes in front.
-fn after<'a>(text: &'a [u8], front: &[u8]) -> Option<&'a [u8]>
-    ensures { MatchOption result ((rest : List ℕ) → text.now ≢ front.now ++ rest) (λ rest. text.now ≡ front.now ++ rest.now) }
-{
-    text.strip_prefix(front)
 }
 
 #[cfg(test)]

@@ -1,10 +1,15 @@
 //! The record of what an epoch is to read.
-ghost use Rattle.std.specs.Prelude.{◌≡◌, ◌++◌, IfOk, OnOk, Some, None, if◌then◌else◌, ◌==◌};
+ghost use Rattle.std.specs.Prelude.{◌≡◌, ◌++◌, ◌<◌, List, ℕ, IfOk, IfSome, IsSomeAnd, OnOk, Some, None, codes, decimal, length, if◌then◌else◌, ◌==◌, ◌^◌, ℤ, Option};
 ghost use Rattle.std.specs.Option.{ForSome};
 ghost use Rattle.ssq_time.specs.Time.{IsStampTime};
-ghost use Rattle.ssq_plans.specs.Records.{part_line, part_lines, ends_lines, plan_text, epoch_after};
+ghost use Rattle.ssq_plans.specs.declared.plan.Plan.{Plan as Record};
+ghost use Rattle.ssq_plans.specs.Records.{part_line, plan_text, time_or_none, epoch_after, IsPart, IsPlan};
 
-use crate::fields::put_time_or_none;
+use crate::fields::{
+    after, is_all, long_after, put_time_or_none, short_after, short_line_after, time_and_rest,
+};
+use crate::lines::{Line, put_lines, take_lines};
+use crate::part::PartEnd;
 use ssq_field::put_decimal_to;
 use ssq_value::Sequence;
 use std::alloc::{AllocError, Global};
@@ -15,43 +20,33 @@ pub struct Plan {
     pub epoch: u32,
     /// The watermark before the epoch, in microseconds since 1970-01-01T00:00:00Z.
     pub watermark: Option<i64>,
-    /// For each stream in the query's order, the line behind the last of each of its parts.
-    pub ends: Sequence<Sequence<u64>>,
+    /// The ends of the parts, in the order of the streams in the query and of the parts in their stream.
+    pub ends: Sequence<PartEnd>,
 }
 
-/// Appends the line of a part's end.
-fn put_part_line(out: &mut Vec<u8>, stream: u64, part: u64, end: u64) -> Result<(), AllocError>
-    ensures { OnOk result (out.new.items ≡ out.old.items ++ part_line stream part end) }
-{
-    out.extend_from_slice(b"part ")?;
-    put_decimal_to(out, stream)?;
-    out.extend_from_slice(b" ")?;
-    put_decimal_to(out, part)?;
-    out.extend_from_slice(b" ")?;
-    put_decimal_to(out, end)?;
-    out.extend_from_slice(b"\n")
-}
+/// The line of a part's end.
+impl Line for PartEnd {
+    ghost spelled = { λ at part. part_line part };
 
-/// Appends those lines for the parts of a stream.
-#[tactic(auto, using(crate::proofs::Lines::line_steps))]
-fn put_part_lines(out: &mut Vec<u8>, stream: u64, ends: &[u64]) -> Result<(), AllocError>
-    ensures { OnOk result (out.new.items ≡ out.old.items ++ part_lines stream 0 ends.now) }
-{
-    for (part, end) in ends.iter().enumerate() {
-        put_part_line(out, stream, part as u64, *end)?;
+    ghost is_read = { IsPart };
+
+    fn put(&self, at: u64, out: &mut Vec<u8>) -> Result<(), AllocError> {
+        out.extend_from_slice(b"part ")?;
+        put_decimal_to(out, self.stream as u64)?;
+        out.extend_from_slice(b" ")?;
+        put_decimal_to(out, self.part as u64)?;
+        out.extend_from_slice(b" ")?;
+        put_decimal_to(out, self.end)?;
+        out.extend_from_slice(b"\n")
     }
-    Ok(())
-}
 
-/// Appends those lines for all streams.
-#[tactic(auto, using(crate::proofs::Lines::line_steps))]
-fn put_ends_lines(out: &mut Vec<u8>, ends: &[Sequence<u64>]) -> Result<(), AllocError>
-    ensures { OnOk result (out.new.items ≡ out.old.items ++ ends_lines 0 ends.now) }
-{
-    for (stream, parts) in ends.iter().enumerate() {
-        put_part_lines(out, stream as u64, parts.as_slice())?;
+    fn take(at: u64, text: &[u8]) -> Option<(PartEnd, &[u8])> {
+        let (stream, text) = short_after(text, b"part ")?;
+        let (part, text) = short_after(text, b" ")?;
+        let (end, text) = long_after(text, b" ")?;
+        let text = after(text, b"\n")?;
+        Some((PartEnd { stream, part, end }, text))
     }
-    Ok(())
 }
 
 /// The text of a plan, whose watermark is none or of the years 0001 to 9999.
@@ -65,9 +60,48 @@ pub fn write_plan(alloc: Global, plan: &Plan) -> Result<Vec<u8>, AllocError>
     out.extend_from_slice(b"\nwatermark ")?;
     put_time_or_none(&mut out, plan.watermark)?;
     out.extend_from_slice(b"\n")?;
-    put_ends_lines(&mut out, plan.ends.as_slice())?;
+    put_lines(&mut out, plan.ends.as_slice())?;
     out.extend_from_slice(b"end\n")?;
     Ok(out)
+}
+
+/// The watermark that the line in front tells, and what follows that line.
+fn watermark_and_rest(text: &[u8]) -> Option<(Option<i64>, &[u8])>
+    ensures found { IfSome result (λ parts. text.now ≡ codes "watermark " ++ (time_or_none parts.0 ++ (codes "\n" ++ parts.1.now))) }
+    ensures in_range { IfSome result (λ parts. ForSome parts.0 IsStampTime) }
+    ensures each { (time : Option ℤ) (rest : List ℕ) → ForSome time IsStampTime →
+        text.now ≡ codes "watermark " ++ (time_or_none time ++ (codes "\n" ++ rest)) →
+        IsSomeAnd result (λ parts. (parts.0 ≡ time) × (parts.1.now ≡ rest)) }
+{
+    let text = after(text, b"watermark ")?;
+    let (time, text) = time_and_rest(text)?;
+    let text = after(text, b"\n")?;
+    Some((time, text))
+}
+
+/// The plan whose text these bytes are. `None` where they are no plan's.
+pub fn read_plan(alloc: Global, text: &[u8]) -> Result<Option<Plan>, AllocError>
+    ensures found { IfOk result (λ read. IfSome read (λ plan. text.now ≡ plan_text plan)) }
+    ensures in_range { IfOk result (λ read. IfSome read IsPlan) }
+    // So `None` comes only where no plan has this text.
+    ensures each { (plan : Record) → IsPlan plan → text.now ≡ plan_text plan → IfOk result (λ read. read ≡ Some plan) }
+{
+    let Some((epoch, rest)) = short_line_after(text, b"v1\nplan ") else {
+        return Ok(None);
+    };
+    let Some((watermark, rest)) = watermark_and_rest(rest) else {
+        return Ok(None);
+    };
+    let (ends, rest) = take_lines(alloc, rest)?;
+    if is_all(rest, b"end\n") {
+        Ok(Some(Plan {
+            epoch,
+            watermark,
+            ends,
+        }))
+    } else {
+        Ok(None)
+    }
 }
 
 /// The epoch to plan where that many epochs are planned: their number, as epochs count from 0.

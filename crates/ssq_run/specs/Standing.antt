@@ -23,7 +23,7 @@ meta_of text = record { partitions = 1; parts = 1 ∷ []; query = text }
 
 -- the plan of an epoch: its own number, no watermark, and where its one part ends
 abbrev pub plan_of : ℕ → ℕ → Plan
-plan_of epoch end = record { epoch = epoch; watermark = None; ends = (end ∷ []) ∷ [] }
+plan_of epoch end = record { epoch = epoch; watermark = None; ends = record { stream = 0; part = 0; end = end } ∷ [] }
 
 -- the record that an epoch is done: its own number, and no stream with a watermark
 abbrev pub commit_of : ℕ → Commit

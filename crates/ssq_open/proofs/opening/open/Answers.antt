@@ -1,0 +1,76 @@
+use Rattle.std.proofs.Common.{◌≡◌, ◌∙◌, List, [], refl, subst, sym, ap, IfErr, IfOk}
+use Rattle.ssq_outside.specs.declared.name.Name.{Name}
+use Rattle.ssq_outside.specs.Files.{Files, IsEmpty, AreNames, files_of}
+use Rattle.ssq_outside.specs.History.{History, had_now, files_now}
+use Rattle.ssq_open.specs.Sought.{Sought}
+use Rattle.ssq_open.specs.Opening.{IsImageOpening}
+use Rattle.ssq_open.proofs.Opens.{none_listed, empty_listed, no_items, some_item, settled_since, files_since, sync_leaves, begin_leaves, same_leaves, open_begun, refused_begun, open_kept, refused_kept}
+use Rattle.ssq_open.proofs.opening.open.Goals as goal
+
+pub returns-in_err-sync_names-clause-any_moment : goal.returns-in_err-sync_names-clause-any_moment
+returns-in_err-sync_names-clause-any_moment g c = λ tells. sync_leaves (record { query = c.args.wanted.now.query.now; partitions = c.args.wanted.now.partitions; parts = c.args.wanted.now.parts.now; found = c.args.wanted.now.found.now }) (g.D.Disk.history c.args.disk.now) (g.D.Disk.history c.sync_names.new.self) (g.D.Disk.history c.sync_names.new.self) (c.sync_names.ensures.steps tells) refl
+
+pub returns-in_err-names-clause-any_moment : goal.returns-in_err-names-clause-any_moment
+returns-in_err-names-clause-any_moment g c = λ tells. sync_leaves (record { query = c.args.wanted.now.query.now; partitions = c.args.wanted.now.partitions; parts = c.args.wanted.now.parts.now; found = c.args.wanted.now.found.now }) (g.D.Disk.history c.args.disk.now) (g.D.Disk.history c.sync_names.new.self) (g.D.Disk.history c.names.new.self) (c.sync_names.ensures.steps tells) (c.names.ensures.same tells)
+
+pub returns-then-is_empty-clause-opened : goal.returns-then-is_empty-clause-opened
+returns-then-is_empty-clause-opened g c = λ tells.
+    let s : Sought = record { query = c.args.wanted.now.query.now; partitions = c.args.wanted.now.partitions; parts = c.args.wanted.now.parts.now; found = c.args.wanted.now.found.now } in
+    let ok = c.in_ok-sync_names.ensures.ok tells in
+    let P : Files → Type 0 = λ files. AreNames files c.in_ok-names.names.items in
+    let are = subst P (ap files_of ok) (c.in_ok-names.ensures.found tells) in
+    let empty = none_listed (files_now (g.D.Disk.history c.args.disk.now)) _ are (sym c.as_slice.ensures.value ∙ no_items _ (sym c.is_empty.ensures ∙ c.if-is_empty.true)) in
+    let settled = settled_since (g.D.Disk.history c.args.disk.now) (g.D.Disk.history c.sync_names.new.self) (g.D.Disk.history c.names.new.self) ok (c.names.ensures.same tells) in
+    open_begun s (files_now (g.D.Disk.history c.args.disk.now)) (g.D.Disk.history c.begin.new.disk) c.begin.result empty c.begin.ensures.first (c.begin.ensures.settled tells (files_now (g.D.Disk.history c.args.disk.now)) empty settled)
+
+pub returns-then-is_empty-clause-refused : goal.returns-then-is_empty-clause-refused
+returns-then-is_empty-clause-refused g c = λ tells.
+    let s : Sought = record { query = c.args.wanted.now.query.now; partitions = c.args.wanted.now.partitions; parts = c.args.wanted.now.parts.now; found = c.args.wanted.now.found.now } in
+    let ok = c.in_ok-sync_names.ensures.ok tells in
+    let P : Files → Type 0 = λ files. AreNames files c.in_ok-names.names.items in
+    let are = subst P (ap files_of ok) (c.in_ok-names.ensures.found tells) in
+    let empty = none_listed (files_now (g.D.Disk.history c.args.disk.now)) _ are (sym c.as_slice.ensures.value ∙ no_items _ (sym c.is_empty.ensures ∙ c.if-is_empty.true)) in
+    let settled = settled_since (g.D.Disk.history c.args.disk.now) (g.D.Disk.history c.sync_names.new.self) (g.D.Disk.history c.names.new.self) ok (c.names.ensures.same tells) in
+    refused_begun s (files_now (g.D.Disk.history c.args.disk.now)) (g.D.Disk.history c.names.new.self) (g.D.Disk.history c.begin.new.disk) c.begin.result empty c.begin.ensures.outside (c.begin.ensures.any_moment tells (files_now (g.D.Disk.history c.args.disk.now)) empty settled)
+
+pub returns-then-is_empty-clause-any_moment : goal.returns-then-is_empty-clause-any_moment
+returns-then-is_empty-clause-any_moment g c = λ tells.
+    let s : Sought = record { query = c.args.wanted.now.query.now; partitions = c.args.wanted.now.partitions; parts = c.args.wanted.now.parts.now; found = c.args.wanted.now.found.now } in
+    let ok = c.in_ok-sync_names.ensures.ok tells in
+    let P : Files → Type 0 = λ files. AreNames files c.in_ok-names.names.items in
+    let are = subst P (ap files_of ok) (c.in_ok-names.ensures.found tells) in
+    let empty = none_listed (files_now (g.D.Disk.history c.args.disk.now)) _ are (sym c.as_slice.ensures.value ∙ no_items _ (sym c.is_empty.ensures ∙ c.if-is_empty.true)) in
+    let settled = settled_since (g.D.Disk.history c.args.disk.now) (g.D.Disk.history c.sync_names.new.self) (g.D.Disk.history c.names.new.self) ok (c.names.ensures.same tells) in
+    begin_leaves s (g.D.Disk.history c.args.disk.now) (g.D.Disk.history c.names.new.self) (g.D.Disk.history c.begin.new.disk) (sync_leaves s (g.D.Disk.history c.args.disk.now) (g.D.Disk.history c.sync_names.new.self) (g.D.Disk.history c.names.new.self) (c.sync_names.ensures.steps tells) (c.names.ensures.same tells)) empty (c.begin.ensures.any_moment tells (files_now (g.D.Disk.history c.args.disk.now)) empty settled)
+
+pub returns-clause-opened : goal.returns-clause-opened
+returns-clause-opened g c = λ tells.
+    let s : Sought = record { query = c.args.wanted.now.query.now; partitions = c.args.wanted.now.partitions; parts = c.args.wanted.now.parts.now; found = c.args.wanted.now.found.now } in
+    let ok = c.in_ok-sync_names.ensures.ok tells in
+    let since = files_since (g.D.Disk.history c.args.disk.now) (g.D.Disk.history c.sync_names.new.self) (g.D.Disk.history c.names.new.self) ok (c.names.ensures.same tells) in
+    let settled = settled_since (g.D.Disk.history c.args.disk.now) (g.D.Disk.history c.sync_names.new.self) (g.D.Disk.history c.names.new.self) ok (c.names.ensures.same tells) in
+    let P : Files → Type 0 = λ files. AreNames files c.as_slice-2.result.now in
+    let N : List Name → Type 0 = λ names. AreNames (files_now (g.D.Disk.history c.sync_names.new.self)) names in
+    let are = subst N (sym c.as_slice-2.ensures.value) (c.in_ok-names.ensures.found tells) in
+    let here = subst P (ap files_now (sym (c.names.ensures.same tells))) are in
+    open_kept s (files_now (g.D.Disk.history c.args.disk.now)) (files_now (g.D.Disk.history c.names.new.self)) (g.D.Disk.history c.names.new.self) (g.D.Disk.history c.kept.new.disk) c.kept.result since settled (c.kept.ensures.same tells) (c.kept.ensures.passes tells here)
+
+pub returns-clause-refused : goal.returns-clause-refused
+returns-clause-refused g c = λ tells.
+    let s : Sought = record { query = c.args.wanted.now.query.now; partitions = c.args.wanted.now.partitions; parts = c.args.wanted.now.parts.now; found = c.args.wanted.now.found.now } in
+    let ok = c.in_ok-sync_names.ensures.ok tells in
+    let since = files_since (g.D.Disk.history c.args.disk.now) (g.D.Disk.history c.sync_names.new.self) (g.D.Disk.history c.names.new.self) ok (c.names.ensures.same tells) in
+    let P : Files → Type 0 = λ files. AreNames files c.as_slice-2.result.now in
+    let N : List Name → Type 0 = λ names. AreNames (files_now (g.D.Disk.history c.sync_names.new.self)) names in
+    let are = subst N (sym c.as_slice-2.ensures.value) (c.in_ok-names.ensures.found tells) in
+    let here = subst P (ap files_now (sym (c.names.ensures.same tells))) are in
+    let Q : Files → Type 0 = λ files. AreNames files c.in_ok-names.names.items in
+    let first = subst Q (ap files_of ok) (c.in_ok-names.ensures.found tells) in
+    let some : IsEmpty (files_now (g.D.Disk.history c.args.disk.now)) → ⊥ =
+        λ empty. some_item c.as_slice.result.now (sym c.is_empty.ensures ∙ c.if-is_empty.false) (c.as_slice.ensures.value ∙ empty_listed _ _ first empty) in
+    refused_kept s (files_now (g.D.Disk.history c.args.disk.now)) (files_now (g.D.Disk.history c.names.new.self)) (files_now (g.D.Disk.history c.kept.new.disk)) c.kept.result since (ap files_now (c.kept.ensures.same tells) ∙ since) some (c.kept.ensures.refused tells here)
+
+pub returns-clause-any_moment : goal.returns-clause-any_moment
+returns-clause-any_moment g c = λ tells.
+    let s : Sought = record { query = c.args.wanted.now.query.now; partitions = c.args.wanted.now.partitions; parts = c.args.wanted.now.parts.now; found = c.args.wanted.now.found.now } in
+    same_leaves (IsImageOpening s (had_now (g.D.Disk.history c.args.disk.now))) (g.D.Disk.history c.args.disk.now) (g.D.Disk.history c.names.new.self) (g.D.Disk.history c.kept.new.disk) (sync_leaves s (g.D.Disk.history c.args.disk.now) (g.D.Disk.history c.sync_names.new.self) (g.D.Disk.history c.names.new.self) (c.sync_names.ensures.steps tells) (c.names.ensures.same tells)) (c.kept.ensures.same tells)

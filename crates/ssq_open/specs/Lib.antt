@@ -1,0 +1,9 @@
+pub mod Spelled
+pub mod Sought
+pub mod Epochs
+pub mod Listing
+pub mod Fault
+pub mod Refused
+pub mod Opening
+pub mod Lengths
+pub mod Laws

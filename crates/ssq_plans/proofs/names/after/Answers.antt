@@ -1,7 +1,0 @@
--- What `strip_prefix` compares by `==` are numbers.
-use Rattle.std.proofs.lemmas.Slice.Eq.{strip_prefix_is}
-use Rattle.std.proofs.lemmas.Bool.Decides.{Decides-eqb}
-use Rattle.ssq_plans.proofs.names.after.Goals as goal
-
-pub returns : goal.returns
-returns c = strip_prefix_is Decides-eqb c.args.text.now c.args.front.now c.strip_prefix.result c.strip_prefix.ensures.cases
