@@ -3,7 +3,7 @@ use Rattle.std.proofs.Common.{◌≡◌, ◌==◌, Some, None, refl}
 use Rattle.std.specs.Prelude.{codes, if◌then◌else◌}
 use Rattle.std.specs.Fmt.{digits}
 use Rattle.ssq_meaning.specs.Meaning.{Cuts}
-use Rattle.ssq_plans.specs.Records.{plan_text, ends_lines, part_lines}
+use Rattle.ssq_plans.specs.Records.{plan_text, lines}
 use Rattle.ssq_round.specs.Cutting.{continued}
 use Rattle.ssq_round.specs.Standing.{plan_at}
 use Rattle.ssq_round.specs.Told.{epoch_line}
@@ -36,7 +36,7 @@ unfolding continued
 later_end = refl
 
 its_plan : plan_text (plan_at 2 4) ≡ codes "v1\nplan 2\nwatermark none\npart 0 0 4\nend\n"
-unfolding ends_lines part_lines digits
+unfolding lines digits
 its_plan = refl
 
 its_line : epoch_line 2 1 1 ≡ codes "epoch 2 lines 1 watermark none rows 1\n"

@@ -28,7 +28,7 @@ meta_of text = record { partitions = 1; parts = 1 ∷ []; query = text }
 
 -- where the one part ends
 abbrev pub part_ends : ℕ → Ends
-part_ends end = (end ∷ []) ∷ []
+part_ends end = record { stream = 0; part = 0; end = end } ∷ []
 
 -- the plan of an epoch: its own number, no watermark, and where its one part ends
 abbrev pub plan_at : ℕ → ℕ → Plan

@@ -22,7 +22,7 @@ use crate::feed::feed;
 use crate::prepare::Prepared;
 use ssq_core::settle;
 use ssq_outside::{Disk, DiskError, Log, Name};
-use ssq_plans::{Commit, Plan, write_commit, write_plan};
+use ssq_plans::{Commit, PartEnd, Plan, write_commit, write_plan};
 use ssq_sink::epoch_text;
 use ssq_value::{Row, Schema, Sequence};
 use std::alloc::{AllocError, Global};
@@ -38,10 +38,9 @@ pub struct Epoch {
 fn plan_bytes(alloc: Global, epoch: u32, end: u64) -> Result<Vec<u8>, AllocError>
     ensures { IfOk result (λ bytes. bytes.items ≡ plan_text (plan_at epoch end)) }
 {
-    let mut part = Sequence::new(alloc);
-    part.push(end)?;
     let mut ends = Sequence::new(alloc);
-    ends.push(part)?;
+    let (stream, part) = (0, 0);
+    ends.push(PartEnd { stream, part, end })?;
     let watermark = None;
     write_plan(
         alloc,
