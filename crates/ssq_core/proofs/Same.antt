@@ -1,10 +1,10 @@
 -- Files say how far they go, and what they spell.
-use Rattle.std.proofs.Common.{◌≡◌, ◌⊎◌, ◌<◌, ◌≤◌, ℕ, List, Bool, true, false, Some, None, refl, ap, sym, ◌∙◌, inl, inr, arith}
+use Rattle.std.proofs.Common.{◌≡◌, ◌⊎◌, ◌<◌, ◌≤◌, ◌==◌, ℕ, List, Bool, true, false, Some, None, refl, ap, sym, ◌∙◌, inl, inr, arith}
 use Rattle.std.specs.Prelude.{nat_lt, if◌then◌else◌}
-use Rattle.std.proofs.lemmas.Bool.{ltb-true, ltb-false, cases_lt}
+use Rattle.std.proofs.lemmas.Bool.{eqb-true, ltb-true, ltb-false, cases_lt}
 use Rattle.ssq_outside.specs.declared.name.Name.{Name}
 use Rattle.ssq_outside.specs.declared.name.Name.TheVariants as name
-use Rattle.ssq_outside.specs.Files.{Files}
+use Rattle.ssq_outside.specs.Files.{Files, published}
 use Rattle.ssq_plans.specs.Records.{meta_text, plan_text, commit_text}
 use Rattle.ssq_core.specs.Course.{Course, plan_of, commit_of}
 use Rattle.ssq_core.specs.Standing.{upto, files_at, Stands}
@@ -65,3 +65,26 @@ say_same one other files s t =
       commits = λ e less. upto-text s.committed t.committed e (λ e. commit_text (commit_of one e)) (λ e. commit_text (commit_of other e)) (λ e. at (name.Commit e)) less (omega (arith, committed, less));
       rows = λ e less. upto-text s.written t.written e one.rows other.rows (λ e. at (name.Out e)) less (omega (arith, written, less));
     }
+
+again_by : (n e k : ℕ) (content : ℕ → List ℕ) (same : Bool) → (e == k) ≡ same → k < n
+    → (if same then Some (content k) else upto n content e) ≡ upto n content e
+again_by n e k content true is less =
+    let at : e ≡ k = eqb-true e k is in
+    let there : upto n content k ≡ Some (content k) = upto-there n k content less in
+    sym there ∙ ap (upto n content) (sym at)
+again_by n e k content false is less = refl
+
+-- rows that are written are published again
+pub write_again : (course : Course) (n k m e : ℕ) → e < m
+    → published (name.Out e) (course.rows e) (files_at course n k m) ≡ files_at course n k m
+write_again course n k m e less =
+    let at : (q : Name) → published (name.Out e) (course.rows e) (files_at course n k m) q ≡ files_at course n k m q =
+    elim [
+      | name.Meta ↦ refl
+      | name.Plan f ↦ refl
+      | name.Commit f ↦ refl
+      | name.Out f ↦ again_by m f e course.rows (f == e) refl less
+      | name.Delta p v ↦ refl
+      | name.Snapshot p v ↦ refl
+    ] in
+    λ i q. at q i

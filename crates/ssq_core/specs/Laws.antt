@@ -21,6 +21,11 @@ abbrev pub WritesTheNext : Type 0
 WritesTheNext = (course : Course) (planned committed written : ℕ)
     → published (name.Out written) (course.rows written) (files_at course planned committed written) ≡ files_at course planned committed (written + 1)
 
+-- rows that are written are published again
+abbrev pub WritesAgain : Type 0
+WritesAgain = (course : Course) (planned committed written e : ℕ) → e < written
+    → published (name.Out e) (course.rows e) (files_at course planned committed written) ≡ files_at course planned committed written
+
 -- the next commit is published
 abbrev pub CommitsTheNext : Type 0
 CommitsTheNext = (course : Course) (planned committed written : ℕ)

@@ -1,13 +1,14 @@
 //! What holds of the files of courses.
 
-ghost use Rattle.ssq_core.specs.Laws.{BeginsACourse, PlansTheNext, WritesTheNext, CommitsTheNext, StandsAtEachStep, HasFilesUpTo, FilesSayTheirCourse};
+ghost use Rattle.ssq_core.specs.Laws.{BeginsACourse, PlansTheNext, WritesTheNext, WritesAgain, CommitsTheNext, StandsAtEachStep, HasFilesUpTo, FilesSayTheirCourse};
 
 /// The law of steps: what each step of an epoch publishes leads from the files of a course to its next files, and these
-/// stand for it.
+/// stand for it. Rows that are written may be published again: that changes nothing.
 pub fn steps_lead_on()
     ensures begins { BeginsACourse }
     ensures plans { PlansTheNext }
     ensures writes { WritesTheNext }
+    ensures rewrites { WritesAgain }
     ensures commits { CommitsTheNext }
     ensures stands { StandsAtEachStep }
 {}

@@ -1,5 +1,5 @@
 -- What a query shows of a log, on whole lists of lines.
-use Rattle.std.specs.Prelude.{◌<◌, ℕ, zero, suc, ◌+◌, ◌-◌, Bool, true, false, List, [], ◌++◌, map, take, drop, filter, min, Option, Some, None, Result, Ok, Err, is_err, option_and_then}
+use Rattle.std.specs.Prelude.{◌≡◌, ◌≢◌, ⊤, ◌<◌, ℕ, zero, suc, ◌+◌, ◌-◌, Bool, false, List, [], ◌++◌, map, take, drop, filter, min, slice_get, Option, Some, None, is_some, Result, Ok, Err, option_and_then}
 use Rattle.std.specs.List.{filter_map, position_from}
 use Rattle.std.specs.Result.{result_ok}
 use Rattle.ssq_value.specs.declared.column.ColType.TheVariants.{Bigint}
@@ -8,8 +8,11 @@ use Rattle.ssq_value.specs.declared.value.Value.{Value}
 use Rattle.ssq_value.specs.Layout.{Layout}
 use Rattle.ssq_json.specs.Line.{row_of}
 use Rattle.ssq_json.specs.declared.bad_row.BadRow.{BadRow}
+use Rattle.ssq_json.specs.declared.bad_row.BadRow.TheVariants as bad
 use Rattle.ssq_query.specs.declared.query.Query.{Query}
 use Rattle.ssq_meaning.specs.declared.evaluate.EvalFault.{EvalFault}
+use Rattle.ssq_meaning.specs.declared.line.LineFault.{LineFault}
+use Rattle.ssq_meaning.specs.declared.line.LineFault.TheVariants.{Bad, Overflow, NoMemory}
 use Rattle.ssq_meaning.specs.Evaluation.{passes, projected, shown_row}
 
 -- a line of a log, without its end
@@ -52,14 +55,35 @@ fed query lines = filter (is_fed query) (filter_map (row_in query) lines)
 abbrev pub shown : Query → List Values → List Values
 shown query rows = filter_map (λ row. result_ok (projected row query.items)) rows
 
--- Whether a line is a fault of its epoch: it is bad, or WHERE, or where that is TRUE an item of SELECT, is outside 64 bits.
-abbrev pub is_faulty_row : Query → Result (Option Values) BadRow → Bool
-is_faulty_row query (Err bad) = true
-is_faulty_row query (Ok None) = false
-is_faulty_row query (Ok (Some row)) = is_err (shown_row query row)
+-- What is wrong with a line, if it is a fault of its epoch: it is bad, with the first cause; or WHERE, or where that is TRUE an
+-- item of SELECT, is outside 64 bits.
+abbrev pub overflow_in : Result (Option Values) EvalFault → Option LineFault
+overflow_in (Ok row) = None
+overflow_in (Err fault) = Some Overflow
 
+abbrev pub fault_of_row : Query → Result (Option Values) BadRow → Option LineFault
+fault_of_row query (Err cause) = Some (Bad cause)
+fault_of_row query (Ok None) = None
+fault_of_row query (Ok (Some row)) = overflow_in (shown_row query row)
+
+abbrev pub line_fault : Query → Line → Option LineFault
+line_fault query line = fault_of_row query (read_as query line)
+
+-- whether a line is a fault of its epoch
 abbrev pub is_faulty : Query → Line → Bool
-is_faulty query line = is_faulty_row query (read_as query line)
+is_faulty query line = is_some (line_fault query line)
+
+-- a call answers what is wrong with the line, or that memory ran out
+abbrev pub IsLineFault : Query → Line → LineFault → Type 0
+IsLineFault query line (Bad cause) = line_fault query line ≡ Some (Bad cause)
+IsLineFault query line Overflow = line_fault query line ≡ Some Overflow
+IsLineFault query line NoMemory = ⊤
+
+-- what is wrong with a line is never that memory ran out
+abbrev pub IsCause : LineFault → Type 0
+IsCause (Bad cause) = cause ≢ bad.NoMemory
+IsCause Overflow = ⊤
+IsCause NoMemory = ⊤
 
 -- A cutting of a log into epochs: how many lines the first n epochs cover.
 abbrev pub Cuts : Type 0
@@ -80,6 +104,18 @@ out query lines cuts e = shown query (fed query (lines_of lines cuts e))
 -- the offset of the first line of epoch e that is a fault
 abbrev pub fault : Query → List Line → Cuts → ℕ → Option ℕ
 fault query lines cuts e = position_from (is_faulty query) (cuts e) (lines_of lines cuts e)
+
+-- The first fault among the lines from one offset up to another: the first line that is a fault, by its offset, and what is wrong
+-- with that line.
+pub record IsFirstFault (query : Query) (lines : List Line) (from end at : ℕ) (what : LineFault) : Type 0 where
+  pub first : position_from (is_faulty query) from (lines_between from end lines) ≡ Some at
+  pub line : Line
+  pub there : slice_get lines at ≡ Some line
+  pub is : line_fault query line ≡ Some what
+
+-- the fault of epoch e, with what is wrong
+abbrev pub IsFaultOf : Query → List Line → Cuts → ℕ → ℕ → LineFault → Type 0
+IsFaultOf query lines cuts e at what = IsFirstFault query lines (cuts e) (cuts (e + 1)) at what
 
 -- What the query means on the lines of the first n epochs: the batch query on that prefix, however it was cut.
 abbrev pub meaning : Query → List Line → Cuts → ℕ → List Values

@@ -1,9 +1,9 @@
 //! What a query shows of one line of its log.
 
-ghost use Rattle.std.specs.Prelude.{◌≡◌, ◌≤◌, [], ◌∷◌, true, false, length, option_to_list, All, IfOk, IfSome, IsErrOf};
+ghost use Rattle.std.specs.Prelude.{◌≡◌, ◌≤◌, [], ◌∷◌, false, length, option_to_list, All, IfOk, IfErr, IfSome};
 ghost use Rattle.ssq_time.specs.Time.{IsStampTime};
 ghost use Rattle.ssq_json.specs.Fits.{IfTime};
-ghost use Rattle.ssq_meaning.specs.Meaning.{layout_of, fed, shown, is_faulty};
+ghost use Rattle.ssq_meaning.specs.Meaning.{layout_of, fed, shown, is_faulty, IsLineFault, IsCause};
 
 use crate::evaluate::{EvalFault, shown_row};
 use ssq_json::{BadRow, read_row};
@@ -13,11 +13,14 @@ use std::alloc::{AllocError, Global};
 use thiserror::Error;
 
 /// Why a line shows nothing.
-#[derive(Clone, Copy, Debug, PartialEq, Eq, Error)]
+#[derive(Debug, Drop, Error)]
 pub enum LineFault {
-    /// The line is bad, or a result on it is outside 64 bits.
-    #[error("the line is bad, or overflows")]
-    Faulty,
+    /// The line is bad, with the first cause; it is never that memory ran out.
+    #[error("the line is bad")]
+    Bad(BadRow),
+    /// WHERE, or where that is TRUE an item of SELECT, is outside 64 bits.
+    #[error("a result is outside 64 bits")]
+    Overflow,
     /// Memory ran out.
     #[error("out of memory")]
     NoMemory,
@@ -51,16 +54,17 @@ pub fn show_line(
     // It has no times that could not be printed.
     ensures years { IfOk result (λ row. IfSome row (All (IfTime IsStampTime))) }
     ensures good { IfOk result (λ _. is_faulty query.now line.now ≡ false) }
-    ensures faulty { IsErrOf result LineFault.Faulty → is_faulty query.now line.now ≡ true }
+    ensures fault { IfErr result (IsLineFault query.now line.now) }
+    ensures cause { IfErr result IsCause }
 {
     match read_row(alloc, line, schema) {
         Ok(None) => Ok(None),
         Ok(Some(row)) => match shown_row(alloc, query, row.as_slice()) {
             Ok(shown) => Ok(shown),
-            Err(EvalFault::Overflow) => Err(LineFault::Faulty),
+            Err(EvalFault::Overflow) => Err(LineFault::Overflow),
             Err(EvalFault::NoMemory) => Err(LineFault::NoMemory),
         },
         Err(BadRow::NoMemory) => Err(LineFault::NoMemory),
-        Err(_) => Err(LineFault::Faulty),
+        Err(bad) => Err(LineFault::Bad(bad)),
     }
 }

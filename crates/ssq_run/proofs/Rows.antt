@@ -1,11 +1,11 @@
 -- The rows of an epoch's lines, one line after the other.
 use Rattle.std.proofs.Common.{◌≡◌, ◌<◌, ◌≤◌, ◌+◌, ◌-◌, ◌++◌, [], ◌∷◌, ℕ, List, true, false, refl, ap, sym, ◌∙◌, arith, take, append_assoc}
-use Rattle.std.specs.Prelude.{filter, Some, None, slice_get, option_and_then}
+use Rattle.std.specs.Prelude.{filter, Some, None, is_some, slice_get, option_and_then}
 use Rattle.std.specs.List.{position_from, cons_option}
 use Rattle.std.specs.Result.{result_ok}
 use Rattle.std.proofs.lemmas.List.{append-nil}
 use Rattle.ssq_query.specs.declared.query.Query.{Query}
-use Rattle.ssq_meaning.specs.Meaning.{Line, Values, is_fed, fed, shown, lines_between, is_faulty, is_faulty_row}
+use Rattle.ssq_meaning.specs.Meaning.{Line, Values, is_fed, fed, shown, lines_between, is_faulty, fault_of_row}
 use Rattle.ssq_run.specs.Feeding.{Shows, IsFaultyAt}
 use Rattle.ssq_meaning.proofs.Epochs.{shown-append, lines_between-front, read_as-take}
 
@@ -19,7 +19,7 @@ pub begun : (query : Query) (lines : List Line) (from end : ℕ) → SoFar query
 begun query lines from end = record { same = refl; left = refl; unfaulty = refl }
 
 faulty-take : (query : Query) (line : Line) → is_faulty query (take 1048577 line) ≡ is_faulty query line
-faulty-take query line = ap (is_faulty_row query) (read_as-take query line)
+faulty-take query line = ap (λ read. is_some (fault_of_row query read)) (read_as-take query line)
 
 shown-take : (query : Query) (line : Line) → shown query (fed query (take 1048577 line ∷ [])) ≡ shown query (fed query (line ∷ []))
 shown-take query line = ap (λ read. shown query (filter (is_fed query) (cons_option (option_and_then (λ row. row) (result_ok read)) []))) (read_as-take query line)

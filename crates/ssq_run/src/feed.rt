@@ -85,7 +85,8 @@ fn row_at<L: Log>(
     read_line(log, at, line)?;
     match show_line(alloc, query, schema, line.as_slice()) {
         Ok(row) => Ok(row),
-        Err(LineFault::Faulty) => Err(FeedFault::Line { offset: at }),
+        Err(LineFault::Bad(_)) => Err(FeedFault::Line { offset: at }),
+        Err(LineFault::Overflow) => Err(FeedFault::Line { offset: at }),
         Err(LineFault::NoMemory) => Err(FeedFault::NoMemory),
     }
 }

@@ -1,3 +1,4 @@
+use Rattle.ssq_core.proofs.Same.{write_again}
 use Rattle.ssq_core.proofs.Standing.{plan_step, write_step, commit_step, meta_step, stands_through}
 use Rattle.ssq_core.proofs.law.steps_lead_on.Goals as goal
 
@@ -9,6 +10,9 @@ returns-clause-plans c = plan_step
 
 pub returns-clause-writes : goal.returns-clause-writes
 returns-clause-writes c = write_step
+
+pub returns-clause-rewrites : goal.returns-clause-rewrites
+returns-clause-rewrites c = write_again
 
 pub returns-clause-commits : goal.returns-clause-commits
 returns-clause-commits c = commit_step

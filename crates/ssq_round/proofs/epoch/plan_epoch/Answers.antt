@@ -1,0 +1,20 @@
+use Rattle.std.proofs.Common.{◌≡◌, ◌+◌, ◌∙◌, refl, subst, OnOk, inl, inr}
+use Rattle.ssq_outside.specs.Files.{Files}
+use Rattle.ssq_plans.specs.Records.{plan_text}
+use Rattle.ssq_core.specs.Settled.{IsSettledAs, IsEither}
+use Rattle.ssq_core.specs.Standing.{files_at}
+use Rattle.ssq_core.proofs.Standing.{either_gives}
+use Rattle.ssq_round.specs.Standing.{plan_at}
+use Rattle.ssq_round.proofs.Standing.{plan_published}
+use Rattle.ssq_round.proofs.epoch.plan_epoch.Goals as goal
+
+pub returns-clause-done : goal.returns-clause-done
+returns-clause-done g c = λ tells course k w is settled.
+    let spelled : c.as_slice.result.now ≡ plan_text (plan_at c.args.epoch.number c.args.epoch.end) = c.as_slice.ensures.value ∙ c.in_ok-bytes.ensures in
+    let P : Files → Type 0 = λ files. OnOk c.settle.result (IsSettledAs (g.D.Disk.history c.settle.new.disk) files) in
+    subst P (plan_published course _ _ _ _ _ is spelled) (c.settle.ensures.done tells _ settled)
+
+pub returns-clause-any_moment : goal.returns-clause-any_moment
+returns-clause-any_moment g c = λ tells course k w is settled.
+    let spelled : c.as_slice.result.now ≡ plan_text (plan_at c.args.epoch.number c.args.epoch.end) = c.as_slice.ensures.value ∙ c.in_ok-bytes.ensures in
+    either_gives (IsEither (files_at course c.args.epoch.number k w) (files_at course (c.args.epoch.number + 1) k w)) _ _ _ _ _ (c.settle.ensures.any_moment tells _ settled) (plan_published course _ _ _ _ _ is spelled) (inl refl) (inr refl)
