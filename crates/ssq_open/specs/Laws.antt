@@ -60,5 +60,5 @@ pub record IsOfCourse (course : Course) (planned committed : ℕ) (opened : Open
 
 -- a checkpoint that stands for a course of the job that is wanted passes, with what is the course's
 abbrev pub StandingPasses : Type 0
-StandingPasses = AreRecordsApart → (s : Sought) (course : Course) (files : Files) (stands : Stands course files) → IsCourseOf s course stands.planned
+StandingPasses = (s : Sought) (course : Course) (files : Files) (stands : Stands course files) → IsCourseOf s course stands.planned
     → (opened : Opened) → IsOfCourse course stands.planned stands.committed opened → Passes s files opened
