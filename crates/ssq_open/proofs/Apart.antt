@@ -1,10 +1,10 @@
 -- No two records of a kind have one text.
-use Rattle.std.proofs.Common.{◌≡◌, ◌≢◌, ◌⊎◌, ◌<◌, ◌≤◌, ◌+◌, ◌/◌, ◌%◌, ◌∙◌, ◌^◌, ◌==◌, ◌++◌, ◌∷◌, [], ℕ, ℤ, Bool, true, false, List, Option, Some, None, codes, decimal, length, take, drop, get_or, refl, sym, ap, subst, inl, inr, arith, append_assoc}
+use Rattle.std.proofs.Common.{◌≡◌, ◌≢◌, ◌⊎◌, ◌<◌, ◌≤◌, ◌+◌, ◌/◌, ◌%◌, ◌∙◌, ◌^◌, ◌==◌, ◌++◌, ◌∷◌, [], ℕ, ℤ, Bool, true, false, List, Option, Some, None, codes, decimal, length, take, get_or, refl, sym, ap, subst, inl, inr, arith, append_assoc}
 use Rattle.std.specs.Prelude.{All, nat_lt, if◌then◌else◌}
 use Rattle.std.specs.Option.{ForSome}
-use Rattle.std.proofs.lemmas.List.{append_cancel_left, append_cancel_right, length-append}
+use Rattle.std.proofs.lemmas.List.{append_cancel_left}
 use Rattle.std.proofs.lemmas.List.Elements.{All-head, All-tail}
-use Rattle.std.proofs.Math.Seq.{take-append_seam, drop-append_seam}
+use Rattle.std.proofs.Math.Seq.{take-append_seam}
 use Rattle.std.proofs.lemmas.Bool.{eqb-true, eqb-false}
 use Rattle.ssq_field.specs.Decimal.{NoDigit}
 use Rattle.ssq_field.proofs.Digits.{decimals_apart}
@@ -70,7 +70,6 @@ no_stamp (byte ∷ stamp) after rest t is found =
     let none : stamp_of (byte ∷ stamp) ≡ None = ap (λ b. stamp_of (b ∷ stamp)) n ∙ word_is_none stamp in
     absurd cc
 
-
 -- the times of lines are printed
 line_is_stamp : (time : Option ℤ) → ForSome time IsLineTime → ForSome time IsStampTime
 line_is_stamp time h = λ t e. (omega (arith, signed_arith, (h t e).0), omega (arith, signed_arith, (h t e).1))
@@ -133,7 +132,6 @@ seen_is : (a b : SeenBy) → a.stream ≡ b.stream → a.time ≡ b.time → a �
 seen_is a b s t =
     ap (λ (n : ℕ). let seen : SeenBy = record { stream = n; time = a.time; of_lines = a.of_lines } in seen) s
     ∙ same_time b.stream a.time b.time t a.of_lines b.of_lines
-
 
 -- two texts with fronts of one length
 fronts : (a b x y : List ℕ) → length a ≡ length b → a ++ x ≡ b ++ y → (a ≡ b) × (x ≡ y)

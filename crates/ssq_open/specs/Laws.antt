@@ -1,5 +1,5 @@
 -- What holds of checkpoints that pass, that are refused, and that stand.
-use Rattle.std.specs.Prelude.{◌≡◌, ◌<◌, ◌≤◌, ◌+◌, ℕ, List, [], Some, None, IsTrue}
+use Rattle.std.specs.Prelude.{◌≡◌, ◌<◌, ◌≤◌, ◌+◌, ℕ, [], Some, None, IsTrue}
 use Rattle.ssq_outside.specs.Files.{Files}
 use Rattle.ssq_plans.specs.declared.meta.Meta.{Meta}
 use Rattle.ssq_plans.specs.declared.plan.Plan.{Plan}
@@ -11,7 +11,7 @@ use Rattle.ssq_open.specs.declared.fault.OpenFault.{OpenFault}
 use Rattle.ssq_open.specs.declared.wanted.Opened.{Opened}
 use Rattle.ssq_open.specs.Sought.{Sought, IsJob}
 use Rattle.ssq_open.specs.Spelled.{IsMetaRecord}
-use Rattle.ssq_open.specs.Epochs.{starts, follows, IsPending}
+use Rattle.ssq_open.specs.Epochs.{starts, follows}
 use Rattle.ssq_open.specs.Opening.{Passes, Refuses, IsOutside, first_short}
 
 -- a checkpoint that passes is refused by a fault of the outside alone

@@ -154,10 +154,7 @@ fn is_changed(changes: &[(Name, Option<&[u8]>)], name: Name) -> bool {
 }
 
 /// A disk with the files, changed.
-fn disk_of(
-    alloc: Global,
-    changes: &[(Name, Option<&[u8]>)],
-) -> Result<MemDisk, DiskError> {
+fn disk_of(alloc: Global, changes: &[(Name, Option<&[u8]>)]) -> Result<MemDisk, DiskError> {
     let mut disk = MemDisk::new(alloc);
     for (name, bytes) in DONE {
         if !is_changed(changes, name) {
@@ -199,17 +196,21 @@ fn answer_of(opening: Result<Opened, OpenFault>) -> Answer {
         },
         Err(OpenFault::OtherQuery { .. }) => Answer::OtherQuery,
         Err(OpenFault::OtherPartitions { kept, asked }) => Answer::OtherPartitions(kept, asked),
-        Err(OpenFault::OtherParts {
-            stream,
-            kept,
-            found,
-        }) => Answer::OtherParts(stream, kept, found),
-        Err(OpenFault::LogShort {
-            stream,
-            part,
-            logged,
-            found,
-        }) => Answer::LogShort(stream, part, logged, found),
+        Err(
+            OpenFault::OtherParts {
+                stream,
+                kept,
+                found,
+            },
+        ) => Answer::OtherParts(stream, kept, found),
+        Err(
+            OpenFault::LogShort {
+                stream,
+                part,
+                logged,
+                found,
+            },
+        ) => Answer::LogShort(stream, part, logged, found),
         Err(OpenFault::Damaged { name }) => Answer::Damaged(name),
         Err(OpenFault::DiskFault) => Answer::DiskFault,
         Err(OpenFault::NoMemory) => Answer::NoMemory,
@@ -245,7 +246,10 @@ fn opens_or_names_the_file(rt: HostRuntime) -> Result<(), Fail> {
     let alloc = rt.alloc();
     for spoilt in &SPOILT {
         let mut disk = disk_of(alloc, spoilt.changes).expect(&rt, "memory");
-        assert_eq!(rt; opening(alloc, &mut disk, QUERY, None, &[1], &[part(0, 3)])?, spoilt.answer);
+        assert_eq!(rt;
+            opening(alloc, &mut disk, QUERY, None, &[1], &[part(0, 3)])?,
+            spoilt.answer
+        );
     }
     Ok(())
 }
@@ -254,10 +258,29 @@ fn opens_or_names_the_file(rt: HostRuntime) -> Result<(), Fail> {
 fn compares_the_job(rt: HostRuntime) -> Result<(), Fail> {
     let alloc = rt.alloc();
     let mut disk = disk_of(alloc, &[]).expect(&rt, "memory");
-    assert_eq!(rt; opening(alloc, &mut disk, "SELECT", None, &[1], &[part(0, 3)])?, Answer::OtherQuery);
-    assert_eq!(rt; opening(alloc, &mut disk, QUERY, Some(4), &[1], &[part(0, 3)])?, Answer::OtherPartitions(1, 4));
-    assert_eq!(rt; opening(alloc, &mut disk, QUERY, Some(1), &[2], &[part(0, 3), part(1, 3)])?, Answer::OtherParts(0, 1, 2));
-    assert_eq!(rt; opening(alloc, &mut disk, QUERY, None, &[1], &[part(0, 2)])?, Answer::LogShort(0, 0, 3, 2));
+    assert_eq!(rt;
+        opening(alloc, &mut disk, "SELECT", None, &[1], &[part(0, 3)])?,
+        Answer::OtherQuery
+    );
+    assert_eq!(rt;
+        opening(alloc, &mut disk, QUERY, Some(4), &[1], &[part(0, 3)])?,
+        Answer::OtherPartitions(1, 4)
+    );
+    assert_eq!(rt;
+        opening(
+            alloc,
+            &mut disk,
+            QUERY,
+            Some(1),
+            &[2],
+            &[part(0, 3), part(1, 3)]
+        )?,
+        Answer::OtherParts(0, 1, 2)
+    );
+    assert_eq!(rt;
+        opening(alloc, &mut disk, QUERY, None, &[1], &[part(0, 2)])?,
+        Answer::LogShort(0, 0, 3, 2)
+    );
     Ok(())
 }
 
@@ -270,11 +293,17 @@ fn begins_an_empty_checkpoint(rt: HostRuntime) -> Result<(), Fail> {
         end: 0,
         pending: None,
     };
-    assert_eq!(rt; opening(alloc, &mut disk, QUERY, None, &[1], &[part(0, 3)])?, begun);
+    assert_eq!(rt;
+        opening(alloc, &mut disk, QUERY, None, &[1], &[part(0, 3)])?,
+        begun
+    );
     let names = disk.names(alloc).expect(&rt, "memory");
     assert_eq!(rt; names.as_slice(), [Name::Meta].as_slice());
     let meta = disk.read(alloc, Name::Meta).expect(&rt, "memory");
     assert_eq!(rt; meta.expect(&rt, "it is there").as_slice(), META);
-    assert_eq!(rt; opening(alloc, &mut disk, QUERY, None, &[1], &[part(0, 3)])?, begun);
+    assert_eq!(rt;
+        opening(alloc, &mut disk, QUERY, None, &[1], &[part(0, 3)])?,
+        begun
+    );
     Ok(())
 }
