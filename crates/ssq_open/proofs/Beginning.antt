@@ -1,15 +1,11 @@
 -- The first files of a checkpoint.
-use Rattle.std.proofs.Common.{◌≡◌, ◌∙◌, ◌==◌, ℕ, List, [], ◌∷◌, Option, Some, None, refl, sym, ap, subst, inl, inr, arith, length, true}
-use Rattle.std.specs.Prelude.{Contains, IsSome}
-use Rattle.std.proofs.lemmas.Bool.{eqb-true}
-use Rattle.ssq_outside.specs.declared.name.Name.{Name}
+use Rattle.std.proofs.Common.{◌≡◌, ◌∙◌, ℕ, List, refl, ap, inl, inr}
 use Rattle.ssq_outside.specs.declared.name.Name.TheVariants as name
-use Rattle.ssq_outside.specs.Files.{Files, Had, IsEmpty, AreNames, IsSyncStep, IsImage, files_of, published, settled_at}
-use Rattle.ssq_outside.specs.History.{History, had_now, files_now, Elapses, LeavesNow, LeavesOnly}
-use Rattle.ssq_outside.proofs.Steps.{begins, syncs, files_are_image, weaker, joined}
+use Rattle.ssq_outside.specs.Files.{Files, IsEmpty, published}
+use Rattle.ssq_outside.specs.History.{History, LeavesOnly}
 use Rattle.ssq_plans.specs.declared.meta.Meta.{Meta}
 use Rattle.ssq_plans.specs.Records.{meta_text}
-use Rattle.ssq_core.specs.Settled.{IsSettledAs, IsEither}
+use Rattle.ssq_core.specs.Settled.{IsEither}
 use Rattle.ssq_core.proofs.Standing.{either_gives}
 use Rattle.ssq_open.specs.Opening.{no_files, only_meta}
 

@@ -1,16 +1,15 @@
 -- From the checks of single kinds of files to those of the epochs.
-use Rattle.std.proofs.Common.{◌≡◌, ◌⊎◌, ◌<◌, ◌≤◌, ◌+◌, ◌-◌, ◌∙◌, ℕ, List, Option, Some, None, refl, sym, ap, subst, inl, inr, arith}
-use Rattle.std.specs.Prelude.{Contains, IsTrue}
+use Rattle.std.proofs.Common.{◌≡◌, ◌⊎◌, ◌<◌, ◌≤◌, ◌+◌, ◌-◌, ℕ, List, sym, subst, inl, inr, arith}
+use Rattle.std.specs.Prelude.{Contains}
 use Rattle.std.proofs.lemmas.Bool.{cases_lt}
 use Rattle.ssq_outside.specs.declared.name.Name.{Name}
 use Rattle.ssq_outside.specs.declared.name.Name.TheVariants as name
 use Rattle.ssq_outside.specs.Files.{Files, AreNames}
-use Rattle.ssq_plans.specs.declared.plan.Plan.{Plan}
 use Rattle.ssq_plans.specs.declared.part.PartEnd.{PartEnd}
 use Rattle.ssq_open.specs.declared.fault.OpenFault.{OpenFault}
 use Rattle.ssq_open.specs.declared.fault.OpenFault.TheVariants.{OtherQuery, OtherPartitions, OtherParts, LogShort, Damaged, DiskFault, NoMemory}
-use Rattle.ssq_open.specs.Epochs.{IsThere, IsGoodPlan, IsGoodCommit, IsPlanRight, IsCommitRight, IsUnmarked, IsSinkRight, IsFirstBad, IsStateless, ArePlans, AreCommits, AreEndsAt}
-use Rattle.ssq_open.specs.Refused.{PlansRefuse, CommitsRefuse, CommitsPassed, MarkRefuses, SinksRefuse, StateRefuses, EpochsRefuse, IsDamage, in_plans, in_commits, in_watermarks, in_sinks, in_state}
+use Rattle.ssq_open.specs.Epochs.{IsThere, IsGoodPlan, IsGoodCommit, IsUnmarked, IsSinkRight, ArePlans, AreCommits}
+use Rattle.ssq_open.specs.Refused.{PlansRefuse, CommitsRefuse, CommitsPassed, MarkRefuses, SinksRefuse, StateRefuses, EpochsRefuse, in_plans, in_commits, in_watermarks, in_sinks, in_state}
 
 -- what the names say of how many epochs are planned, and how many of these are committed
 pub record AreCounted (names : List Name) (n k : ℕ) : Type 0 where
@@ -80,6 +79,7 @@ commits_passed files first names n k (Damaged at) are counted plans good passed 
       | inl planned ↦ not_pending files names n k f are counted from planned there
       | inr not_planned ↦ absurd (omega (arith, less, passed.4 f not_planned there))
     ]
+
     by_place : (f : ℕ) → f < passed.0 → (f + 1 < n) ⊎ IsThere files (name.Commit f) → (f < k) ⊎ (k ≤ f) → (f < n) × IsGoodCommit files f
     by_place f less some (inl below) = (omega (arith, below, counted.below), good f below)
     by_place f less some (inr from) = absurd (no_other f less from some)

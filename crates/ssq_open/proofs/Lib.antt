@@ -9,3 +9,4 @@ pub mod Beginning
 pub mod Opens
 pub mod Passing
 pub mod Standings
+pub mod Apart

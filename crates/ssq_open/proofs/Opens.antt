@@ -1,9 +1,9 @@
 -- How the opening of a checkpoint ends.
-use Rattle.std.proofs.Common.{◌≡◌, ◌⊎◌, ◌∙◌, ◌==◌, ℕ, List, [], ◌∷◌, Option, Some, None, Result, Ok, Err, true, false, refl, sym, ap, subst, inl, inr, arith, length}
+use Rattle.std.proofs.Common.{◌≡◌, ◌∙◌, ◌==◌, ℕ, List, [], ◌∷◌, Option, Some, None, Result, Ok, Err, true, false, refl, sym, ap, subst, inl, inr, arith, length}
 use Rattle.std.specs.Prelude.{Contains, IsSome, IfOk, IfErr, OnOk}
 use Rattle.std.proofs.lemmas.Bool.{eqb-true, eqb-false}
 use Rattle.ssq_outside.specs.declared.name.Name.{Name}
-use Rattle.ssq_outside.specs.Files.{Files, Had, IsEmpty, AreNames, IsSyncStep, IsImage, files_of, settled_at}
+use Rattle.ssq_outside.specs.Files.{Files, IsEmpty, AreNames, IsSyncStep, IsImage, files_of, settled_at}
 use Rattle.ssq_outside.specs.History.{History, had_now, files_now, Elapses, LeavesNow, LeavesOnly}
 use Rattle.ssq_outside.proofs.Steps.{begins, syncs, files_are_image, weaker, joined}
 use Rattle.ssq_plans.specs.declared.meta.Meta.{Meta}
@@ -15,7 +15,7 @@ use Rattle.ssq_open.specs.Sought.{Sought, IsJob}
 use Rattle.ssq_open.specs.Spelled.{IsTheMeta}
 use Rattle.ssq_open.specs.Epochs.{starts}
 use Rattle.ssq_open.specs.Refused.{EpochsRefuse}
-use Rattle.ssq_open.specs.Opening.{Passes, Refuses, IsOutside, IsFirst, IsOpen, kept, begun, IsRefused, unchanged, unfinished, IsImageOpening, only_meta, first_meta, IsDamaged, in_epochs}
+use Rattle.ssq_open.specs.Opening.{Passes, Refuses, IsOutside, IsFirst, IsOpen, kept, begun, IsRefused, unchanged, unfinished, IsImageOpening, only_meta, first_meta, in_epochs}
 
 -- where no name is listed there is no file
 pub none_listed : (files : Files) (names : List Name) → AreNames files names → names ≡ [] → IsEmpty files

@@ -1,5 +1,5 @@
 -- What the listing says of the files that are not read.
-use Rattle.std.proofs.Common.{◌≡◌, ◌⊎◌, ◌<◌, ◌≤◌, ◌+◌, ◌∙◌, ℕ, Bool, true, false, List, Some, None, refl, sym, ap, subst, inl, inr, arith}
+use Rattle.std.proofs.Common.{◌≡◌, ◌⊎◌, ◌<◌, ◌≤◌, ◌+◌, ℕ, true, List, Some, None, refl, inl, inr, arith}
 use Rattle.std.specs.Prelude.{Contains, IsTrue, nat_le}
 use Rattle.std.specs.List.{find}
 use Rattle.std.proofs.lemmas.Bool.{cases_lt}
@@ -38,9 +38,13 @@ IsFirstCommitFrom files n at = (e : ℕ) × (at ≡ name.Commit e) × (n ≤ e) 
 
 pub commit_passed : (files : Files) (names : List Name) (n : ℕ) (at : Name) → AreNames files names → find (is_commit_from n) names ≡ Some at → IsFirstCommitFrom files n at
 commit_passed files names n (name.Commit e) are found =
-    let has = found_contained (is_commit_from n) names (name.Commit e) found in
-    (e, refl, from_below n e has.1, are.there (name.Commit e) has.0,
-      λ f less there. commit_order e f (found_before (is_commit_from n) names (name.Commit e) (name.Commit f) are.in_order found (are.all (name.Commit f) there) (from_to n f less)))
+    let has = found_contained (is_commit_from n) names (name.Commit e) found in (
+      e,
+      refl,
+      from_below n e has.1,
+      are.there (name.Commit e) has.0,
+      λ f less there. commit_order e f (found_before (is_commit_from n) names (name.Commit e) (name.Commit f) are.in_order found (are.all (name.Commit f) there) (from_to n f less)),
+    )
 commit_passed files names n name.Meta are found = let no = (found_contained (is_commit_from n) names name.Meta found).1 in cc
 commit_passed files names n (name.Plan e) are found = let no = (found_contained (is_commit_from n) names (name.Plan e) found).1 in cc
 commit_passed files names n (name.Out e) are found = let no = (found_contained (is_commit_from n) names (name.Out e) found).1 in cc
@@ -90,17 +94,21 @@ pub sink_passed : (files : Files) (names : List Name) (n k w : ℕ) (at : Name) 
     → find (is_out_from n) names ≡ Some at → IsFirstSink files n k at
 sink_passed files names n k w (name.Out e) are there all below ahead found =
     let has = found_contained (is_out_from n) names (name.Out e) found in
-    let from : n ≤ e = from_below n e has.1 in
-    (e, refl, record {
-      before = λ f less. sink_right files names n k w f are there all below ahead (λ is. by_place f less is (cases_lt f n));
-      bad = λ right. too_late from (right.taken (are.there (name.Out e) has.0));
-    })
+    let from : n ≤ e = from_below n e has.1 in (
+      e,
+      refl,
+      record {
+        before = λ f less. sink_right files names n k w f are there all below ahead (λ is. by_place f less is (cases_lt f n));
+        bad = λ right. too_late from (right.taken (are.there (name.Out e) has.0));
+      },
+    )
   where
     by_place : (f : ℕ) → f < e → IsThere files (name.Out f) → (f < n) ⊎ (n ≤ f) → f < n
     by_place f less is (inl early) = early
     by_place f less is (inr late) =
         let above : e ≤ f = out_order e f (found_before (is_out_from n) names (name.Out e) (name.Out f) are.in_order found (are.all (name.Out f) is) (from_to n f late)) in
         absurd (omega (arith, above, less))
+
     too_late : n ≤ e → (e < k) ⊎ ((e ≡ k) × (k < n)) → ⊥
     too_late from (inl early) = absurd (omega (arith, early, from, below))
     too_late from (inr last) = absurd (omega (arith, last.0, last.1, from))

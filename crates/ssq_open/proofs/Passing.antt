@@ -1,6 +1,6 @@
 -- A checkpoint that passes is not refused, and its files say what is found.
-use Rattle.std.proofs.Common.{◌≡◌, ◌⊎◌, ◌<◌, ◌≤◌, ◌+◌, ◌∙◌, ℕ, List, Option, Some, None, refl, sym, ap, subst, inl, inr, arith}
-use Rattle.std.specs.Prelude.{IsTrue, IsSome, slice_index, length}
+use Rattle.std.proofs.Common.{◌≡◌, ◌⊎◌, ◌<◌, ◌≤◌, ◌+◌, ◌∙◌, ℕ, List, Option, Some, None, sym, ap, subst, inl, inr, arith}
+use Rattle.std.specs.Prelude.{IsSome, slice_index}
 use Rattle.std.proofs.lemmas.Bool.{cases_lt}
 use Rattle.ssq_outside.specs.declared.name.Name.{Name}
 use Rattle.ssq_outside.specs.declared.name.Name.TheVariants as name
@@ -12,10 +12,10 @@ use Rattle.ssq_plans.specs.Records.{plan_text, commit_text}
 use Rattle.ssq_open.specs.declared.fault.OpenFault.{OpenFault}
 use Rattle.ssq_open.specs.declared.fault.OpenFault.TheVariants.{OtherQuery, OtherPartitions, OtherParts, LogShort, Damaged, DiskFault, NoMemory}
 use Rattle.ssq_open.specs.declared.wanted.Opened.{Opened}
-use Rattle.ssq_open.specs.Sought.{Sought, IsOfQuery, IsOfPartitions, IsJob, DifferFirst}
-use Rattle.ssq_open.specs.Spelled.{IsTheMeta, IsThePlan, IsTheCommit}
-use Rattle.ssq_open.specs.Epochs.{starts, AreEndsAt, at_start, at_plan, IsThere, IsGoodPlan, IsGoodCommit, IsPlanRight, IsCommitRight, IsUnmarked, IsSinkRight, IsStateless, IsFirstBad, IsPending, all_done, one_left, ArePlans, AreCommits, AreEpochs}
-use Rattle.ssq_open.specs.Refused.{JobDiffers, RecordDiffers, IsDamage, in_plans, in_commits, in_watermarks, in_sinks, in_state, IsFirstState}
+use Rattle.ssq_open.specs.Sought.{Sought, IsJob}
+use Rattle.ssq_open.specs.Spelled.{IsTheMeta, IsThePlan}
+use Rattle.ssq_open.specs.Epochs.{starts, AreEndsAt, at_start, at_plan, IsThere, IsGoodPlan, IsGoodCommit, IsPlanRight, IsCommitRight, IsSinkRight, IsPending, all_done, one_left, ArePlans, AreCommits, AreEpochs}
+use Rattle.ssq_open.specs.Refused.{JobDiffers, RecordDiffers, IsDamage, in_plans, in_commits, in_watermarks, in_sinks, in_state}
 use Rattle.ssq_open.specs.Opening.{Passes, Refuses, IsOutside, IsShort, IsDamaged, no_record, other_streams, in_epochs, last_ends, first_short}
 use Rattle.ssq_open.specs.Laws.{AreAlike}
 
@@ -118,6 +118,7 @@ commit_right files n k e commits some = by_case some
   where
     committed : e < k → (e < n) × IsGoodCommit files e
     committed less = (omega (arith, less, commits.below), commits.good e less)
+
     by_case : (e + 1 < n) ⊎ IsThere files (name.Commit e) → (e < n) × IsGoodCommit files e
     by_case (inl earlier) = committed (omega (arith, earlier, commits.ahead))
     by_case (inr there) = committed (commits.all e there)

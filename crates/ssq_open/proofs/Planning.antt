@@ -1,5 +1,5 @@
 -- One epoch more, in a walk over plans and commits.
-use Rattle.std.proofs.Common.{◌≡◌, ◌⊎◌, ◌<◌, ◌≤◌, ◌+◌, ◌∙◌, ℕ, ℤ, List, Option, Some, None, refl, sym, ap, subst, inl, inr, arith}
+use Rattle.std.proofs.Common.{◌≡◌, ◌<◌, ◌≤◌, ◌+◌, ◌∙◌, ℕ, ℤ, List, Option, Some, None, refl, sym, ap, subst, inl, inr, arith}
 use Rattle.std.specs.Prelude.{IsTrue}
 use Rattle.std.proofs.lemmas.Bool.{cases_lt}
 use Rattle.ssq_outside.specs.Files.{Files}
@@ -8,7 +8,7 @@ use Rattle.ssq_plans.specs.declared.part.PartEnd.{PartEnd}
 use Rattle.ssq_open.specs.declared.fault.OpenFault.{OpenFault}
 use Rattle.ssq_open.specs.declared.fault.OpenFault.TheVariants.{OtherQuery, OtherPartitions, OtherParts, LogShort, Damaged, DiskFault, NoMemory}
 use Rattle.ssq_open.specs.Spelled.{IsThePlan}
-use Rattle.ssq_open.specs.Epochs.{AreEndsAt, at_plan, is_next, IsGoodPlan, ArePlanned, IsUnmarked, IsFirstBelow, all_good, first_bad, IsFirstBad, IsGoodCommit, IsPending, all_done, one_left}
+use Rattle.ssq_open.specs.Epochs.{at_plan, is_next, IsGoodPlan, ArePlanned, IsUnmarked, IsFirstBelow, all_good, first_bad, IsGoodCommit, IsPending, all_done, one_left}
 use Rattle.ssq_open.specs.Refused.{PlansRefuse, CommitRefuses, CommitsRefuse}
 
 -- what holds below n and at n holds below n + 1

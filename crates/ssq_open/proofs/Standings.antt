@@ -1,5 +1,5 @@
 -- A checkpoint that stands passes.
-use Rattle.std.proofs.Common.{◌≡◌, ◌⊎◌, ◌<◌, ◌≤◌, ◌+◌, ◌∙◌, ◌==◌, ◌&&◌, zero, suc, ℕ, Bool, true, false, List, [], Option, Some, None, refl, sym, ap, subst, inl, inr, arith, length, eq-eqb}
+use Rattle.std.proofs.Common.{◌≡◌, ◌⊎◌, ◌<◌, ◌≤◌, ◌+◌, ◌∙◌, ◌==◌, ◌&&◌, zero, suc, ℕ, Bool, true, List, [], Some, None, refl, sym, ap, subst, inl, inr, arith, length, eq-eqb}
 use Rattle.std.specs.Prelude.{IsTrue, IsSome, nat_lt}
 use Rattle.std.proofs.lemmas.Bool.{cases_lt}
 use Rattle.std.proofs.lemmas.Bool.Decides.{nat_tests}
@@ -9,7 +9,6 @@ use Rattle.ssq_outside.specs.Files.{Files, Content}
 use Rattle.ssq_plans.specs.declared.meta.Meta.{Meta}
 use Rattle.ssq_plans.specs.declared.plan.Plan.{Plan}
 use Rattle.ssq_plans.specs.declared.part.PartEnd.{PartEnd}
-use Rattle.ssq_plans.specs.declared.commit.Commit.{Commit}
 use Rattle.ssq_plans.specs.declared.seen.SeenBy.{SeenBy}
 use Rattle.ssq_plans.specs.Records.{meta_text, plan_text, commit_text}
 use Rattle.ssq_core.specs.Course.{Course, plan_of, commit_of}
@@ -18,8 +17,9 @@ use Rattle.ssq_core.proofs.Same.{upto-there, upto-absent}
 use Rattle.ssq_open.specs.declared.wanted.Opened.{Opened}
 use Rattle.ssq_open.specs.Sought.{Sought, IsJob}
 use Rattle.ssq_open.specs.Spelled.{IsTheMeta, IsThePlan, IsTheCommit}
-use Rattle.ssq_open.specs.Epochs.{starts, follows, AreEndsAt, at_start, at_plan, is_next, is_own, IsThere, IsGoodPlan, IsGoodCommit, IsUnmarked, IsSinkRight, is_state, IsStateless, IsPending, all_done, one_left, ArePlans, AreCommits, AreEpochs}
+use Rattle.ssq_open.specs.Epochs.{starts, follows, AreEndsAt, at_start, at_plan, IsThere, IsGoodPlan, IsGoodCommit, IsSinkRight, is_state, IsPending, all_done, one_left, AreEpochs}
 use Rattle.ssq_open.specs.Opening.{Passes, last_ends, first_short}
+use Rattle.ssq_open.proofs.Apart.{metas_apart, plans_apart, commits_apart}
 use Rattle.ssq_open.specs.Laws.{AreRecordsApart, IsCourseOf, IsOfCourse}
 
 some_same : (x y : List ℕ) → Some x ≡ Some y → x ≡ y
@@ -167,6 +167,9 @@ module _ (apart : AreRecordsApart) (s : Sought) (course : Course) (files : Files
       job_of : IsJob s opened.meta
       job_of = let P : Meta → Type 0 = IsJob s in subst P (sym is.meta) of.job
 
-pub standing_passes : (apart : AreRecordsApart) (s : Sought) (course : Course) (files : Files) (stands : Stands course files) → IsCourseOf s course stands.planned
+pub records_apart : AreRecordsApart
+records_apart = record { metas = metas_apart; plans = plans_apart; commits = commits_apart }
+
+pub standing_passes : (s : Sought) (course : Course) (files : Files) (stands : Stands course files) → IsCourseOf s course stands.planned
     → (opened : Opened) → IsOfCourse course stands.planned stands.committed opened → Passes s files opened
-standing_passes apart s course files stands of opened is = passes apart s course files stands of opened is
+standing_passes s course files stands of opened is = passes records_apart s course files stands of opened is

@@ -1,5 +1,5 @@
 -- Walks over the ends of parts.
-use Rattle.std.proofs.Common.{◌≡◌, ◌<◌, ◌≤◌, ◌+◌, ◌∙◌, ◌++◌, ◌∷◌, [], ◌==◌, ◌&&◌, ℕ, Bool, true, false, List, length, drop, get_or, add-one, drop-cons, append_assoc, None, refl, sym, ap, arith}
+use Rattle.std.proofs.Common.{◌≡◌, ◌<◌, ◌≤◌, ◌+◌, ◌∙◌, ◌++◌, ◌∷◌, [], ◌==◌, ◌&&◌, ℕ, Bool, true, false, List, length, drop, get_or, add-one, drop-cons, append_assoc, None, refl, sym, arith}
 use Rattle.std.specs.List.{list_all, zip}
 use Rattle.std.proofs.lemmas.List.{drop_all, append-nil}
 use Rattle.std.proofs.Common.{eq-eqb}
@@ -46,6 +46,7 @@ short-past at ends found past = let here = none_past at ends found past in let n
     no_pairs : (xs : List PartEnd) → first_short xs [] ≡ None
     no_pairs [] = refl
     no_pairs (x ∷ xs) = refl
+
     none_past : (at : ℕ) (ends found : List PartEnd) → length found ≤ at → first_short (drop at ends) (drop at found) ≡ None
     none_past at ends found past = rw (drop_all at found past) (no_pairs (drop at ends))
 

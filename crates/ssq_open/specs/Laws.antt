@@ -1,5 +1,5 @@
 -- What holds of checkpoints that pass, that are refused, and that stand.
-use Rattle.std.specs.Prelude.{◌≡◌, ◌<◌, ◌≤◌, ◌+◌, ℕ, List, [], Some, None, IsTrue}
+use Rattle.std.specs.Prelude.{◌≡◌, ◌<◌, ◌≤◌, ◌+◌, ℕ, [], Some, None, IsTrue}
 use Rattle.ssq_outside.specs.Files.{Files}
 use Rattle.ssq_plans.specs.declared.meta.Meta.{Meta}
 use Rattle.ssq_plans.specs.declared.plan.Plan.{Plan}
@@ -11,7 +11,7 @@ use Rattle.ssq_open.specs.declared.fault.OpenFault.{OpenFault}
 use Rattle.ssq_open.specs.declared.wanted.Opened.{Opened}
 use Rattle.ssq_open.specs.Sought.{Sought, IsJob}
 use Rattle.ssq_open.specs.Spelled.{IsMetaRecord}
-use Rattle.ssq_open.specs.Epochs.{starts, follows, IsPending}
+use Rattle.ssq_open.specs.Epochs.{starts, follows}
 use Rattle.ssq_open.specs.Opening.{Passes, Refuses, IsOutside, first_short}
 
 -- a checkpoint that passes is refused by a fault of the outside alone
@@ -60,5 +60,5 @@ pub record IsOfCourse (course : Course) (planned committed : ℕ) (opened : Open
 
 -- a checkpoint that stands for a course of the job that is wanted passes, with what is the course's
 abbrev pub StandingPasses : Type 0
-StandingPasses = AreRecordsApart → (s : Sought) (course : Course) (files : Files) (stands : Stands course files) → IsCourseOf s course stands.planned
+StandingPasses = (s : Sought) (course : Course) (files : Files) (stands : Stands course files) → IsCourseOf s course stands.planned
     → (opened : Opened) → IsOfCourse course stands.planned stands.committed opened → Passes s files opened

@@ -9,7 +9,7 @@ use Rattle.ssq_open.specs.declared.fault.OpenFault.TheVariants.{OtherQuery, Othe
 use Rattle.ssq_plans.specs.declared.meta.Meta.{Meta}
 use Rattle.ssq_open.specs.Sought.{Sought, IsOfQuery, IsOfPartitions, DifferFirst}
 use Rattle.ssq_open.specs.Spelled.{SpellsMeta, IsTheMeta}
-use Rattle.ssq_open.specs.Epochs.{IsGoodPlan, IsGoodCommit, IsFirstBad, IsThere, IsSinkRight, is_state, IsPlanRight, IsCommitRight, IsUnmarked, ArePlans, AreCommits, IsStateless}
+use Rattle.ssq_open.specs.Epochs.{IsGoodPlan, IsGoodCommit, IsFirstBad, IsThere, IsSinkRight, is_state, IsPlanRight, IsCommitRight, IsUnmarked, ArePlans, AreCommits}
 
 -- How a job's record differs from the job that is wanted: its query; how many streams it has; its partitions, where they are
 -- asked for; its parts. Each check comes where those before it are met.

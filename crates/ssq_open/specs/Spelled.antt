@@ -1,5 +1,5 @@
 -- What the files of a checkpoint spell. A file spells a record where its bytes are the record's text.
-use Rattle.std.specs.Prelude.{◌≡◌, ℕ, Some}
+use Rattle.std.specs.Prelude.{◌≡◌, ◌<◌, ◌^◌, ℕ, length, Some}
 use Rattle.std.specs.Str.{IsUtf8}
 use Rattle.ssq_outside.specs.declared.name.Name.TheVariants as name
 use Rattle.ssq_outside.specs.Files.{Files}
@@ -8,9 +8,9 @@ use Rattle.ssq_plans.specs.declared.plan.Plan.{Plan}
 use Rattle.ssq_plans.specs.declared.commit.Commit.{Commit}
 use Rattle.ssq_plans.specs.Records.{IsMeta, IsPlan, IsCommit, meta_text, plan_text, commit_text}
 
--- a job's record, whose query is a text
+-- a job's record, whose query is a text, with a length of 64 bits
 abbrev pub IsMetaRecord : Meta → Type 0
-IsMetaRecord m = IsMeta m × IsUtf8 m.query
+IsMetaRecord m = IsMeta m × IsUtf8 m.query × (length m.query < 2 ^ 64)
 
 -- the job's record is there
 pub record SpellsMeta (files : Files) (m : Meta) : Type 0 where

@@ -10,13 +10,22 @@ use thiserror::Error;
 pub enum OpenFault {
     /// It is of another query, with this text.
     #[error("the checkpoint is of another query")]
-    OtherQuery { kept: Text },
+    OtherQuery {
+        kept: Text,
+    },
     /// It has another number of partitions than is asked for.
     #[error("the checkpoint has {kept} partitions, and {asked} are asked for")]
-    OtherPartitions { kept: u32, asked: u32 },
+    OtherPartitions {
+        kept: u32,
+        asked: u32,
+    },
     /// A stream, by its place in the query's order from 0, had another number of parts. It is the first such stream.
     #[error("the stream {stream} had {kept} parts, and {found} are found")]
-    OtherParts { stream: usize, kept: u32, found: u32 },
+    OtherParts {
+        stream: usize,
+        kept: u32,
+        found: u32,
+    },
     /// A part has lost lines: fewer are found than the plans have logged. It is the first such part.
     #[error("of part {part} of the stream {stream} {logged} lines are logged, and {found} are found")]
     LogShort {
@@ -27,7 +36,9 @@ pub enum OpenFault {
     },
     /// The first file that is absent, too many, not canonical or against the files before it.
     #[error("a file of the checkpoint is damaged")]
-    Damaged { name: Name },
+    Damaged {
+        name: Name,
+    },
     /// The disk failed.
     #[error("the disk failed")]
     DiskFault,

@@ -14,10 +14,14 @@ mod opening;
 mod plans;
 mod read;
 mod records;
+#[cfg(test)]
+mod tests;
 mod unread;
 mod wanted;
 
 pub use fault::OpenFault;
-pub use law::{files_say_what_is_found, passing_is_not_refused, standing_passes};
+pub use law::{
+    files_say_what_is_found, passing_is_not_refused, records_are_apart, standing_passes,
+};
 pub use opening::open;
 pub use wanted::{Opened, Wanted};

@@ -46,7 +46,10 @@ fn is_commit_from(name: Name, from: u64) -> bool
 pub(crate) fn commit_from(names: &[Name], from: u64) -> Option<Name>
     ensures { result ≡ find (is_commit_from from) names.now }
 {
-    names.iter().copied().find(|name| is_commit_from(*name, from))
+    names
+        .iter()
+        .copied()
+        .find(|name| is_commit_from(*name, from))
 }
 
 fn is_out_from(name: Name, from: u64) -> bool

@@ -58,11 +58,7 @@ fn kept<D: Disk>(
 ///
 /// The query has no stream with a watermark and keeps no state. Each plan and commit is read once, in order, and no sink file
 /// and no log is read.
-pub fn open<D: Disk>(
-    alloc: Global,
-    disk: &mut D,
-    wanted: &Wanted<'_>,
-) -> Result<Opened, OpenFault>
+pub fn open<D: Disk>(alloc: Global, disk: &mut D, wanted: &Wanted<'_>) -> Result<Opened, OpenFault>
     requires { CanBeSought wanted.now.partitions wanted.now.parts.now }
 
     // What is found is settled, and no crash can leave anything else.

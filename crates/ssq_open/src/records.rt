@@ -15,7 +15,8 @@ pub(crate) fn meta_in(alloc: Global, text: &[u8]) -> Result<Option<Meta>, AllocE
 {
     match read_meta(alloc, text)? {
         Some(meta) => {
-            let _query = meta.query.as_bytes();
+            let _text = meta.query.as_bytes();
+            let _len = meta.query.len();
             Ok(Some(meta))
         }
         None => Ok(None),

@@ -1,7 +1,6 @@
-use Rattle.std.proofs.Common.{◌≡◌, ◌∙◌, refl, subst}
+use Rattle.std.proofs.Common.{◌∙◌, subst}
 use Rattle.ssq_outside.specs.Files.{Files}
 use Rattle.ssq_core.specs.Settled.{IsSettledAs}
-use Rattle.ssq_open.specs.Opening.{first_meta}
 use Rattle.ssq_open.proofs.Beginning.{only_meta-published, either_same}
 use Rattle.ssq_open.proofs.begin.begin.Goals as goal
 

@@ -1,7 +1,6 @@
-use Rattle.std.proofs.Common.{◌≡◌, ◌+◌, ◌<◌, ◌≤◌, refl, arith, subst, sym, ◌∙◌, ℕ}
+use Rattle.std.proofs.Common.{arith, subst, ◌∙◌}
 use Rattle.std.proofs.lemmas.Result.{err_from_is_err_and}
 use Rattle.ssq_outside.specs.History.{History, files_now}
-use Rattle.ssq_open.specs.declared.fault.OpenFault.{OpenFault}
 use Rattle.ssq_open.specs.Epochs.{IsGoodCommit}
 use Rattle.ssq_open.specs.Refused.{CommitRefuses}
 use Rattle.ssq_open.proofs.Planning.{below_next, commit_refused}

@@ -7,5 +7,5 @@ abbrev pub invariant-loop-epoch : goal.invariant-loop-epoch
 invariant-loop-epoch g l = record {
   good : g.D.Disk.tells → (e : ℕ) → e < l.epoch → IsGoodCommit (files_now (g.D.Disk.history l.initial.disk)) e;
   same : g.D.Disk.tells → g.D.Disk.history l.disk ≡ g.D.Disk.history l.initial.disk;
-  counted : g.D.Disk.faults l.initial.disk ≤ g.D.Disk.faults l.disk
+  counted : g.D.Disk.faults l.initial.disk ≤ g.D.Disk.faults l.disk;
 }

@@ -1,11 +1,11 @@
-use Rattle.std.proofs.Common.{◌≡◌, ◌<◌, ℕ, List, refl, subst, sym}
+use Rattle.std.proofs.Common.{◌<◌, ℕ, List, refl, subst, sym}
 use Rattle.std.proofs.lemmas.Result.{err_from_is_err_and}
 use Rattle.ssq_outside.specs.History.{History, files_now}
-use Rattle.ssq_outside.specs.Files.{Files, AreNames}
+use Rattle.ssq_outside.specs.Files.{Files}
 use Rattle.ssq_plans.specs.declared.part.PartEnd.{PartEnd}
-use Rattle.ssq_open.specs.Epochs.{starts, AreEndsAt, IsGoodCommit, IsUnmarked, IsPending}
+use Rattle.ssq_open.specs.Epochs.{starts, AreEndsAt, IsGoodCommit, IsPending}
 use Rattle.ssq_open.specs.Refused.{CommitsRefuse}
-use Rattle.ssq_open.proofs.Keeping.{AreCounted, counted_as, plans_all, plans_refused, commits_refused, commits_passed, commits_all, mark_refused, sinks_refused, state_refused}
+use Rattle.ssq_open.proofs.Keeping.{counted_as, plans_all, plans_refused, commits_refused, commits_passed, commits_all, mark_refused, sinks_refused, state_refused}
 use Rattle.ssq_open.proofs.kept.kept_epochs.Goals as goal
 
 pub returns-in_err-epochs-clause-refused : goal.returns-in_err-epochs-clause-refused
@@ -105,13 +105,15 @@ returns-clause-kept g c = λ tells are.
     let unmarked = c.in_ok-check_marked.ensures.ok files n (c.in_ok-epochs.ensures.marked tells) in
     let sinks = c.in_ok-check_sinks.ensures.ok files are in
     let E : ℕ → Type 0 = λ k. AreEndsAt files first k c.in_ok-epochs.epochs.ends in
-    let L : ℕ → Type 0 = λ k. IsPending files n k c.in_ok-epochs.epochs.pending in
-    (n, record {
-      plans = plans;
-      commits = commits;
-      unmarked = unmarked;
-      sinks = sinks;
-      stateless = c.in_ok-check_state.ensures.ok files are;
-      end = subst E (sym c.in_ok-epochs.ensures.count) (c.in_ok-epochs.ensures.end tells);
-      left = subst L (sym c.in_ok-epochs.ensures.count) (c.in_ok-epochs.ensures.pending tells);
-    })
+    let L : ℕ → Type 0 = λ k. IsPending files n k c.in_ok-epochs.epochs.pending in (
+      n,
+      record {
+        plans = plans;
+        commits = commits;
+        unmarked = unmarked;
+        sinks = sinks;
+        stateless = c.in_ok-check_state.ensures.ok files are;
+        end = subst E (sym c.in_ok-epochs.ensures.count) (c.in_ok-epochs.ensures.end tells);
+        left = subst L (sym c.in_ok-epochs.ensures.count) (c.in_ok-epochs.ensures.pending tells);
+      },
+    )

@@ -1,4 +1,4 @@
-use Rattle.std.proofs.Common.{◌≡◌, ◌<◌, ◌≤◌, ◌∙◌, length, get_or, arith}
+use Rattle.std.proofs.Common.{◌<◌, ◌∙◌, length, get_or, arith}
 use Rattle.ssq_open.proofs.Walks.{nowhere, short-next, short-past, long_enough}
 use Rattle.ssq_open.proofs.lengths.check_ends.Goals as goal
 use Rattle.ssq_open.proofs.lengths.check_ends.Goals.{else-at-found-via-then-at-found+else-found-at, else-at-found-via-else-at-found}

@@ -7,5 +7,5 @@ abbrev pub invariant-loop-name : goal.invariant-loop-name
 invariant-loop-name l = record {
   below : (e : ℕ) → IsAmong l.names l.name-index (name.Plan e) → e < l.planned;
   greatest : (e : ℕ) → l.planned ≡ e + 1 → Contains l.names (name.Plan e);
-  fits : l.planned ≤ 2 ^ 32
+  fits : l.planned ≤ 2 ^ 32;
 }

@@ -1,6 +1,6 @@
-use Rattle.std.proofs.Common.{◌≡◌, subst, sym}
+use Rattle.std.proofs.Common.{subst, sym}
 use Rattle.std.proofs.lemmas.Result.{err_from_is_err_and}
-use Rattle.ssq_outside.specs.Files.{Files, AreNames}
+use Rattle.ssq_outside.specs.Files.{AreNames}
 use Rattle.ssq_outside.specs.History.{History, files_now}
 use Rattle.ssq_open.specs.Sought.{Sought}
 use Rattle.ssq_open.specs.Epochs.{starts}

@@ -1,7 +1,7 @@
-use Rattle.std.proofs.Common.{◌≡◌, ◌∙◌, List, [], refl, subst, sym, ap, IfErr, IfOk}
+use Rattle.std.proofs.Common.{◌∙◌, List, refl, subst, sym, ap}
 use Rattle.ssq_outside.specs.declared.name.Name.{Name}
 use Rattle.ssq_outside.specs.Files.{Files, IsEmpty, AreNames, files_of}
-use Rattle.ssq_outside.specs.History.{History, had_now, files_now}
+use Rattle.ssq_outside.specs.History.{had_now, files_now}
 use Rattle.ssq_open.specs.Sought.{Sought}
 use Rattle.ssq_open.specs.Opening.{IsImageOpening}
 use Rattle.ssq_open.proofs.Opens.{none_listed, empty_listed, no_items, some_item, settled_since, files_since, sync_leaves, begin_leaves, same_leaves, open_begun, refused_begun, open_kept, refused_kept}
@@ -67,7 +67,7 @@ returns-clause-refused g c = λ tells.
     let Q : Files → Type 0 = λ files. AreNames files c.in_ok-names.names.items in
     let first = subst Q (ap files_of ok) (c.in_ok-names.ensures.found tells) in
     let some : IsEmpty (files_now (g.D.Disk.history c.args.disk.now)) → ⊥ =
-        λ empty. some_item c.as_slice.result.now (sym c.is_empty.ensures ∙ c.if-is_empty.false) (c.as_slice.ensures.value ∙ empty_listed _ _ first empty) in
+    λ empty. some_item c.as_slice.result.now (sym c.is_empty.ensures ∙ c.if-is_empty.false) (c.as_slice.ensures.value ∙ empty_listed _ _ first empty) in
     refused_kept s (files_now (g.D.Disk.history c.args.disk.now)) (files_now (g.D.Disk.history c.names.new.self)) (files_now (g.D.Disk.history c.kept.new.disk)) c.kept.result since (ap files_now (c.kept.ensures.same tells) ∙ since) some (c.kept.ensures.refused tells here)
 
 pub returns-clause-any_moment : goal.returns-clause-any_moment

@@ -1,7 +1,5 @@
 use Rattle.std.proofs.lemmas.Result.{err_from_is_err_and}
-use Rattle.std.proofs.Common.{subst, IsTrue}
 use Rattle.ssq_outside.specs.History.{files_now}
-use Rattle.ssq_open.specs.Epochs.{is_next}
 use Rattle.ssq_open.proofs.Planning.{planned_next}
 use Rattle.ssq_open.proofs.plans.advance.Goals as goal
 

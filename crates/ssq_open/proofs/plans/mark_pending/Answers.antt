@@ -1,4 +1,3 @@
-use Rattle.std.proofs.Common.{◌≡◌, None}
 use Rattle.ssq_open.proofs.Planning.{mark_left, mark_done}
 use Rattle.ssq_open.proofs.plans.mark_pending.Goals as goal
 

@@ -1,7 +1,6 @@
-use Rattle.std.proofs.Common.{◌≡◌, ◌+◌, ◌≤◌, refl, arith, subst, ℕ}
+use Rattle.std.proofs.Common.{◌≡◌, ◌+◌, ◌≤◌, refl, arith}
 use Rattle.std.proofs.lemmas.Result.{err_from_is_err_and}
-use Rattle.ssq_outside.specs.History.{files_now}
-use Rattle.ssq_open.specs.Epochs.{one_left, all_done, IsGoodPlan}
+use Rattle.ssq_open.specs.Epochs.{one_left}
 use Rattle.ssq_open.proofs.Planning.{planned_next, plans_refuse_more}
 use Rattle.ssq_open.proofs.plans.pending_plan.Goals as goal
 

@@ -1,7 +1,6 @@
-use Rattle.std.proofs.Common.{◌≡◌, ◌+◌, ◌<◌, ◌≤◌, refl, arith, subst, sym, ◌∙◌, ℕ, None}
+use Rattle.std.proofs.Common.{◌≡◌, ◌+◌, ◌<◌, ◌≤◌, arith, subst, sym, ◌∙◌, ℕ}
 use Rattle.std.proofs.lemmas.Result.{err_from_is_err_and}
 use Rattle.ssq_outside.specs.History.{History, files_now}
-use Rattle.ssq_plans.specs.declared.part.PartEnd.{PartEnd}
 use Rattle.ssq_open.specs.Epochs.{starts, ArePlanned, IsUnmarked, IsFirstBelow}
 use Rattle.ssq_open.specs.Refused.{PlansRefuse}
 use Rattle.ssq_open.proofs.Planning.{plans_refuse_more}

@@ -9,5 +9,5 @@ invariant-loop-epoch g l = record {
   marked : g.D.Disk.tells → IsFirstBelow (IsUnmarked (files_now (g.D.Disk.history l.initial.disk))) l.epoch l.planned.marked;
   few : l.epoch ≤ 4294967295;
   same : g.D.Disk.tells → g.D.Disk.history l.disk ≡ g.D.Disk.history l.initial.disk;
-  counted : g.D.Disk.faults l.initial.disk ≤ g.D.Disk.faults l.disk
+  counted : g.D.Disk.faults l.initial.disk ≤ g.D.Disk.faults l.disk;
 }

@@ -1,6 +1,3 @@
-use Rattle.std.proofs.Common.{◌≡◌, Some}
-use Rattle.ssq_outside.specs.declared.name.Name.TheVariants as name
-use Rattle.ssq_outside.specs.History.{files_now}
 use Rattle.ssq_open.proofs.Reading.{meta_found, meta_none}
 use Rattle.ssq_open.proofs.read.meta_of.Goals as goal
 

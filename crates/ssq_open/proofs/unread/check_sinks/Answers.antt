@@ -1,5 +1,5 @@
-use Rattle.std.proofs.Common.{sym, refl}
-use Rattle.ssq_open.proofs.Others.{sink_absent, sinks_right, sink_passed}
+use Rattle.std.proofs.Common.{sym}
+use Rattle.ssq_open.proofs.Others.{sinks_right, sink_passed}
 use Rattle.ssq_open.proofs.unread.check_sinks.Goals as goal
 
 pub returns-in-Some-clause-err : goal.returns-in-Some-clause-err
