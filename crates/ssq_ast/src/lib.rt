@@ -15,6 +15,3 @@ pub use query::{
     ColumnDecl, Condition, Deduplicate, Direction, Group, GroupBy, Item, Join, JoinKind, Limit,
     Mode, OrderBy, Query, Select, Stream, Watermark, Window,
 };
-
-#[cfg(test)]
-mod tests;
