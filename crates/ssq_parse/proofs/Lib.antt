@@ -1,6 +1,7 @@
 pub mod Files
 pub mod Found
 pub mod Operands
+pub mod Parts
 pub mod Prefixes
 pub mod Primary
 pub mod Sound
