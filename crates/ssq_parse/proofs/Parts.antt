@@ -41,7 +41,7 @@ pub record Part {W A : Type 0} (wrote : W → Words) (made : W → List ℕ → 
 abbrev pub Always : {W : Type 0} → W → Type 0
 Always w = Unit {0}
 
-keep : {X : Type 0} {P Q : X → Type 0} (made : Made X) → IfRead made P → ((x : X) → P x → Q x) → IfRead made Q
+pub keep : {X : Type 0} {P Q : X → Type 0} (made : Made X) → IfRead made P → ((x : X) → P x → Q x) → IfRead made Q
 keep (Ok x) holds more = more x holds
 keep (Err refusal) holds more = tt
 
@@ -71,9 +71,9 @@ module _ {W A : Type 0} (wrote : W → Words) (made : W → List ℕ → A) (goo
     took = took_more p.took (took_more sep f.took);
     each = (p.is_good, f.each);
     meant =
-      ap (λ from. made p.written (starts tokens) ∷ each_tree wrote made 1 (f.first ∷ f.others) (drop 1 from)) p.took.left
-      ∙ ap (λ from. made p.written (starts tokens) ∷ each_tree wrote made 1 (f.first ∷ f.others) from) sep.left
-      ∙ (λ i. p.meant i ∷ f.meant i);
+        ap (λ from. made p.written (starts tokens) ∷ each_tree wrote made 1 (f.first ∷ f.others) (drop 1 from)) p.took.left
+        ∙ ap (λ from. made p.written (starts tokens) ∷ each_tree wrote made 1 (f.first ∷ f.others) from) sep.left
+        ∙ (λ i. p.meant i ∷ f.meant i);
     whole = f.whole ∙ append_assoc found (x.0 ∷ []) f.list;
   }
 
@@ -84,7 +84,7 @@ module _ {W A : Type 0} (wrote : W → Words) (made : W → List ℕ → A) (goo
   mutual_then turns more found tokens x p c us same false is = rw (sym same) (one_read found tokens x p)
   mutual_then turns more found tokens x p c us same true is =
       keep (list_from part turns (found ++ x.0 ∷ []) us) (more (found ++ x.0 ∷ []) us)
-        (λ read f. more_read found tokens x p us (rw same (took_one c us comma (is refl))) read f)
+      (λ read f. more_read found tokens x p us (rw same (took_one c us comma (is refl))) read f)
 
   list_then_sound : (turns : ℕ) → ((found : List A) (tokens : Ahead) → IfRead (list_from part turns found tokens) (Further found tokens))
       → (found : List A) (tokens : Ahead) (x : A × Ahead) → Part wrote made good tokens x → (us : Ahead) → x.1 ≡ us
@@ -97,8 +97,8 @@ module _ {W A : Type 0} (wrote : W → Words) (made : W → List ℕ → A) (goo
   list_from_sound zero found tokens = tt
   list_from_sound (suc turns) found tokens =
       then_holds (Part wrote made good tokens) (Further found tokens) (part tokens)
-        (λ next. list_then (list_from part turns) (found ++ next.0 ∷ []) (seen (is_symbol mark.Comma) next.1) next.1) (sound tokens)
-        (λ next p. list_then_sound turns (list_from_sound turns) found tokens next p next.1 refl)
+      (λ next. list_then (list_from part turns) (found ++ next.0 ∷ []) (seen (is_symbol mark.Comma) next.1) next.1) (sound tokens)
+      (λ next p. list_then_sound turns (list_from_sound turns) found tokens next p next.1 refl)
 
   pub list_sound : (tokens : Ahead) → IfRead (list_at part tokens) (Further [] tokens)
   unfolding list_at
