@@ -1,8 +1,11 @@
+pub mod Clauses
 pub mod Files
 pub mod Found
 pub mod Operands
+pub mod Parts
 pub mod Prefixes
 pub mod Primary
+pub mod Selects
 pub mod Sound
 pub mod Turns
 pub mod Whole

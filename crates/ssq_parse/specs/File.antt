@@ -1,8 +1,9 @@
 -- What a file is: a query, or the first fault.
-use Rattle.std.specs.Prelude.{◌≡◌, ℕ, if◌then◌else◌, nat_lt, List, length, Option, Some, None, Result, Ok, Err}
-use Rattle.std.specs.Str.{is_utf8}
+use Rattle.std.specs.Prelude.{◌≡◌, ℕ, ◌≤◌, if◌then◌else◌, nat_lt, List, length, Option, Some, None, Result, Ok, Err}
+use Rattle.std.specs.Str.{is_utf8, IsUtf8}
 use Rattle.std.specs.Str.Lossy.{utf8_valid_len}
 use Rattle.ssq_ast.specs.declared.query.Query.{Query}
+use Rattle.ssq_ast.specs.Statement.{IsWritten}
 use Rattle.ssq_lex.specs.declared.fault.LexCause.{LexCause}
 use Rattle.ssq_lex.specs.declared.fault.LexCause.TheVariants as lex
 use Rattle.ssq_lex.specs.declared.fault.Refusal.{Refusal as LexRefusal}
@@ -63,3 +64,11 @@ fault_of fault = Refused fault.at fault.cause
 -- what the code makes of what was read of the tokens in front of a fault
 abbrev pub Judges : ℕ → Option LexRefusal → Result Query Stop → Result Query ParseFault → Type 0
 Judges len fault found result = (made : Made Query) → Makes made found → Answers (judged len fault made) result
+
+-- The file is this query: it is no longer than a query file may be, and a text that is tokens to its end, which are
+-- written as this query by the grammar, with its places.
+pub record IsQuery (file : List ℕ) (query : Query) : Type 0 where
+  pub short : length file ≤ 65536
+  pub text : IsUtf8 file
+  pub whole : (cut_of file).fault ≡ None
+  pub written : IsWritten (cut_of file).tokens query

@@ -1,6 +1,6 @@
 //! The query that a file is.
 
-ghost use Rattle.std.specs.Prelude.{◌≡◌, ◌≤◌, length, map};
+ghost use Rattle.std.specs.Prelude.{◌≡◌, ◌≤◌, length, map, IfOk};
 ghost use Rattle.std.specs.Str.{IsUtf8};
 ghost use Rattle.ssq_lex.specs.Cut.{cut_of};
 ghost use Rattle.ssq_lex.specs.Lexeme.{lexed};
@@ -85,7 +85,9 @@ fn parse_text(alloc: Global, text: &str) -> Result<Query, ParseFault>
 /// least place counts.
 #[tactic(auto, unfolding(crate::specs::File::query_of))]
 pub fn parse(alloc: Global, file: &[u8]) -> Result<Query, ParseFault>
-    ensures { Answers (spec.query_of file.now) result }
+    ensures answer { Answers (spec.query_of file.now) result }
+    // the query is written so in the file, by the grammar
+    ensures written { IfOk result (λ query. spec.IsQuery file.now query) }
 {
     if file.len() > MOST_BYTES {
         return Err(ParseFault::Refused {
