@@ -5,5 +5,5 @@ use Rattle.ssq_parse.proofs.file.parse_text.Goals as goal
 
 pub returns : goal.returns
 returns c =
-    cut_answers (length c.args.text.now) c.args.text.now c.in_ok-found.found _ c.judged.result c.in_ok-found.ensures
+    cut_answers (length c.args.text.now) c.args.text.now c.in_ok-found.found _ c.judged.result c.in_ok-found.ensures.cut
     (c.new.ensures ∙ ap (map lexed) c.as_slice.ensures.value) (c.judged.ensures _ c.query-read.ensures)
