@@ -8,7 +8,7 @@ use Rattle.ssq_parse.proofs.file.parse.Goals as goal
 pub returns-in-Ok : goal.returns-in-Ok
 returns-in-Ok c =
     let answer : Answers (query_of c.args.file.now) c.parse_text.result =
-      text_answers c.args.file.now _ c.parse_text.result (omega arith) c.in-Ok.ensures.cases.1 c.in-Ok.ensures.cases.0 c.parse_text.ensures in
+    text_answers c.args.file.now _ c.parse_text.result (omega arith) c.in-Ok.ensures.cases.1 c.in-Ok.ensures.cases.0 c.parse_text.ensures in
     record { answer = answer; written = parsed c.args.file.now c.parse_text.result answer }
 
 pub returns-in-Err-clause-answer : goal.returns-in-Err-clause-answer
