@@ -35,7 +35,7 @@ fn constant<'a>(value: &'a Value) -> Result<Cow<'a, Value>, EvalFault>
 }
 
 /// The value of an expression, which is borrowed where it stands in the row or in the query.
-#[tactic(auto, unfolding(ssq_shape::specs::Evaluation::evaluated))]
+#[tactic(auto, using(ssq_shape::specs::Boxes::boxes), unfolding(ssq_shape::specs::Evaluation::evaluated))]
 pub(crate) fn evaluate<'a>(
     alloc: Global,
     expression: &'a Typed,
@@ -47,61 +47,61 @@ pub(crate) fn evaluate<'a>(
         Typed::Column(at) => Ok(cell_at(row, *at)),
         Typed::Constant(value) => constant(value),
         Typed::Negated(a) => {
-            let number = number_in(evaluate(alloc, a, row)?);
+            let number = number_in(evaluate(alloc, a.get(), row)?);
             Ok(Cow::Owned(negated(number)?))
         }
         Typed::Not(a) => {
-            let truth = truth_in(evaluate(alloc, a, row)?);
+            let truth = truth_in(evaluate(alloc, a.get(), row)?);
             Ok(Cow::Owned(truth_value(negation(truth))))
         }
         Typed::IsNull(a) => {
-            let absent = is_null(evaluate(alloc, a, row)?);
+            let absent = is_null(evaluate(alloc, a.get(), row)?);
             Ok(Cow::Owned(Value::Truth(absent)))
         }
         Typed::Arithmetic(op, a, b) => {
-            let left = number_in(evaluate(alloc, a, row)?);
-            let right = number_in(evaluate(alloc, b, row)?);
+            let left = number_in(evaluate(alloc, a.get(), row)?);
+            let right = number_in(evaluate(alloc, b.get(), row)?);
             Ok(Cow::Owned(arithmetic(*op, left, right)?))
         }
         Typed::Shifted(a, by) => {
-            let time = time_in(evaluate(alloc, a, row)?);
+            let time = time_in(evaluate(alloc, a.get(), row)?);
             Ok(Cow::Owned(shifted(time, *by)?))
         }
         Typed::Joined(a, b) => {
-            let left = evaluate(alloc, a, row)?;
-            let right = evaluate(alloc, b, row)?;
+            let left = evaluate(alloc, a.get(), row)?;
+            let right = evaluate(alloc, b.get(), row)?;
             Ok(Cow::Owned(joined(alloc, left, right)?))
         }
         Typed::Compared(comparison, a, b) => {
-            let left = evaluate(alloc, a, row)?;
-            let right = evaluate(alloc, b, row)?;
+            let left = evaluate(alloc, a.get(), row)?;
+            let right = evaluate(alloc, b.get(), row)?;
             Ok(Cow::Owned(truth_value(compared(*comparison, &left, right))))
         }
         Typed::Between(a, b, c) => {
-            let value = evaluate(alloc, a, row)?;
-            let least = evaluate(alloc, b, row)?;
+            let value = evaluate(alloc, a.get(), row)?;
+            let least = evaluate(alloc, b.get(), row)?;
             let above = compared(Comparison::AtLeast, &value, least);
             if above == Some(false) {
                 return Ok(Cow::Owned(Value::Truth(false)));
             }
-            let most = evaluate(alloc, c, row)?;
+            let most = evaluate(alloc, c.get(), row)?;
             let below = compared(Comparison::AtMost, &value, most);
             Ok(Cow::Owned(truth_value(both(above, below))))
         }
         Typed::And(a, b) => {
-            let left = truth_in(evaluate(alloc, a, row)?);
+            let left = truth_in(evaluate(alloc, a.get(), row)?);
             if left == Some(false) {
                 return Ok(Cow::Owned(Value::Truth(false)));
             }
-            let right = truth_in(evaluate(alloc, b, row)?);
+            let right = truth_in(evaluate(alloc, b.get(), row)?);
             Ok(Cow::Owned(truth_value(both(left, right))))
         }
         Typed::Or(a, b) => {
-            let left = truth_in(evaluate(alloc, a, row)?);
+            let left = truth_in(evaluate(alloc, a.get(), row)?);
             if left == Some(true) {
                 return Ok(Cow::Owned(Value::Truth(true)));
             }
-            let right = truth_in(evaluate(alloc, b, row)?);
+            let right = truth_in(evaluate(alloc, b.get(), row)?);
             Ok(Cow::Owned(truth_value(either(left, right))))
         }
     }

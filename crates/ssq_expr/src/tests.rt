@@ -1,4 +1,5 @@
 use super::{EvalFault, eval, passes, project};
+use sqlite_items::Boxed;
 use ssq_shape::{Arithmetic, Comparison, Output, Typed};
 use ssq_value::{ColType, Text, Value};
 use std::alloc::Global;
@@ -9,21 +10,21 @@ const FIRST_TIME: i64 = -62_135_596_800_000_000;
 
 const LAST_TIME: i64 = 253_402_300_799_999_999;
 
-fn column(alloc: Global, at: usize) -> Result<Box<Typed>, Fail> {
-    Ok(Box::new(alloc, Typed::Column(at))?)
+fn column(alloc: Global, at: usize) -> Result<Boxed<Typed>, Fail> {
+    Ok(Boxed::new(alloc, Typed::Column(at))?)
 }
 
-fn constant(alloc: Global, number: i64) -> Result<Box<Typed>, Fail> {
-    Ok(Box::new(alloc, Typed::Constant(Value::Int(number)))?)
+fn constant(alloc: Global, number: i64) -> Result<Boxed<Typed>, Fail> {
+    Ok(Boxed::new(alloc, Typed::Constant(Value::Int(number)))?)
 }
 
 /// `9223372036854775807 + 1 > 0`
-fn overflowing(alloc: Global) -> Result<Box<Typed>, Fail> {
+fn overflowing(alloc: Global) -> Result<Boxed<Typed>, Fail> {
     let greatest = constant(alloc, i64::MAX)?;
     let sum = Typed::Arithmetic(Arithmetic::Plus, greatest, constant(alloc, 1)?);
-    let sum = Box::new(alloc, sum)?;
+    let sum = Boxed::new(alloc, sum)?;
     let comparison = Typed::Compared(Comparison::Greater, sum, constant(alloc, 0)?);
-    Ok(Box::new(alloc, comparison)?)
+    Ok(Boxed::new(alloc, comparison)?)
 }
 
 fn number(number: Option<i64>) -> Value {
@@ -173,7 +174,7 @@ fn between_has_both_ends(rt: HostRuntime) -> Result<(), Fail> {
         constant(alloc, i64::MAX)?,
         constant(alloc, 1)?,
     );
-    let most = Box::new(alloc, sum)?;
+    let most = Boxed::new(alloc, sum)?;
     let between = Typed::Between(column(alloc, 0)?, constant(alloc, 1)?, most);
     let found = eval(alloc, &between, &[Value::Int(0)]);
     assert_eq!(rt; found, Ok(Value::Truth(false)));

@@ -176,10 +176,11 @@ term_sound columns [] x is = absurd (cc)
 term_sound columns (keyword k ∷ rest) x is = absurd (cc)
 term_sound columns (name text ∷ rest) x is = column_sound columns text rest x is
 term_sound columns (number n ∷ rest) x is = subst (TermIs columns (number n ∷ rest)) (some_same (term.Number n, rest) x is) (refl, tt)
-term_sound columns (quoted text ∷ rest) x is = absurd (cc)
+term_sound columns (quoted text ∷ rest) x is = subst (TermIs columns (quoted text ∷ rest)) (some_same (term.Text text, rest) x is) (refl, tt)
 term_sound columns (symbol s ∷ rest) x is = absurd (cc)
 
 pub term_complete : (columns : List (List ℕ)) (t : Term) (rest : Words) → are_distinct columns ≡ true → IsTerm (length columns) t → term_at columns (term_word columns t ∷ rest) ≡ Some (t, rest)
 unfolding term_at
 term_complete columns (term.Column at) rest apart within = ap (option_map (λ k. (term.Column k, rest))) (column_complete columns at apart within)
 term_complete columns (term.Number n) rest apart within = refl
+term_complete columns (term.Text text) rest apart within = refl

@@ -4,15 +4,19 @@ use Rattle.std.specs.Prelude.{if◌then◌else◌, ◌&&◌, IfSome}
 use Rattle.std.specs.List.{AllByRecursion, flat_map}
 use Rattle.std.specs.Option.{option_map}
 use Rattle.std.specs.Str.{bytes_eq}
+use Rattle.std.proofs.lemmas.List.{length-map}
 use Rattle.std.proofs.lemmas.Slice.Eq.{bytes_eq-Decides}
-use Rattle.ssq_lex.specs.declared.keyword.Keyword.TheVariants.{Create, Stream, Bigint, From, Select, As, Where, Output, Append}
+use Rattle.ssq_lex.specs.declared.keyword.Keyword.TheVariants.{Create, Stream, Bigint, String, Timestamp, Boolean, From, Select, As, Where, Output, Append}
 use Rattle.ssq_lex.specs.declared.symbol.Symbol.{Symbol}
 use Rattle.ssq_lex.specs.declared.symbol.Symbol.TheVariants as mark
 use Rattle.ssq_lex.specs.Lexeme.{keyword, name, number, quoted, symbol}
+use Rattle.ssq_shape.specs.declared.typed.Comparison.{Comparison}
+use Rattle.ssq_shape.specs.declared.typed.Comparison.TheVariants as comparison
+use Rattle.ssq_value.specs.declared.column.ColType.{ColType}
+use Rattle.ssq_value.specs.declared.column.ColType.TheVariants as type
+use Rattle.ssq_value.specs.declared.column.Column.{Column}
 use Rattle.ssq_query.specs.declared.parse.Declaration.{Declaration}
 use Rattle.ssq_query.specs.declared.parse.Selection.{Selection}
-use Rattle.ssq_query.specs.declared.query.Comparison.{Comparison}
-use Rattle.ssq_query.specs.declared.query.Comparison.TheVariants as comparison
 use Rattle.ssq_query.specs.declared.query.Filter.{Filter}
 use Rattle.ssq_query.specs.declared.query.Item.{Item}
 use Rattle.ssq_query.specs.declared.query.Item.TheVariants as item
@@ -21,31 +25,55 @@ use Rattle.ssq_query.specs.declared.query.Step.{Step}
 use Rattle.ssq_query.specs.declared.query.Sum.{Sum}
 use Rattle.ssq_query.specs.declared.query.Term.{Term}
 use Rattle.ssq_query.specs.declared.query.Term.TheVariants as term
-use Rattle.ssq_query.specs.Names.{output_names, bare_of}
-use Rattle.ssq_query.specs.Spelling.{Words, separated, term_word, step_words, sum_words, item_words, comparison_symbol, filter_words, column_words, declaration_words, selection_words, spelling}
+use Rattle.ssq_query.specs.Names.{column_names, output_names, bare_of}
+use Rattle.ssq_query.specs.Typing.{is_well_typed}
+use Rattle.ssq_query.specs.Spelling.{Words, separated, term_word, step_words, sum_words, item_words, comparison_symbol, filter_words, kind_keyword, column_words, declaration_words, selection_words, spelling}
 use Rattle.ssq_query.specs.Taken.{are_distinct, IsListed, IsTerm, IsItem, IsFilter, IsTaken}
-use Rattle.ssq_query.specs.Reading.{Read, ◌>>=◌, is_empty, is_keyword, keyword_at, symbol_at, name_at, quoted_at, first_op, sum_at, list_at, column_at, bare, label_at, item_at, comparison_of, comparison_at, condition_at, filter_at, declaration_at, output_at, selection_at, query_of, agrees, query_at}
+use Rattle.ssq_query.specs.Reading.{Read, ◌>>=◌, is_empty, is_keyword, keyword_at, symbol_at, name_at, quoted_at, first_op, sum_at, list_at, kind_at, column_at, bare, label_at, item_at, comparison_of, comparison_at, condition_at, filter_at, declaration_at, output_at, selection_at, query_of, agrees, query_at}
 use Rattle.ssq_query.proofs.Laws.{bind_some, map_some, if_some, some_same, is_keyword-found, keyword_is, keyword_sound, keyword_complete, symbol_sound, symbol_complete, name_sound, name_complete, quoted_sound, quoted_complete, and_true}
 use Rattle.ssq_query.proofs.Lists.{list_sound, list_complete}
 use Rattle.ssq_query.proofs.Sums.{SumIs, sum_sound, sum_complete}
 
 -- ---- columns
 
-column_sound : (words : Words) (x : List ℕ × Words) → column_at words ≡ Some x → (words ≡ column_words x.0 ++ x.1) × Unit {0}
+-- a type that is read, where this keyword stands or none of those before it does
+abbrev KindIs : Words → ColType × Words → Type 0
+KindIs words x = words ≡ keyword (kind_keyword x.0) ∷ x.1
+
+kind_found : (kind : ColType) (words : Words) (found : Bool) (others : Read ColType) (x : ColType × Words) → is_keyword (kind_keyword kind) words ≡ found → (others ≡ Some x → KindIs words x) → (if found then Some (kind, drop 1 words) else others) ≡ Some x → KindIs words x
+kind_found kind words true others x next more is = subst (KindIs words) (some_same (kind, drop 1 words) x is) (is_keyword-found (kind_keyword kind) words next)
+kind_found kind words false others x next more is = more is
+
+kind_sound : (words : Words) (x : ColType × Words) → kind_at words ≡ Some x → KindIs words x
+unfolding kind_at
+kind_sound words x is =
+    kind_found type.Bigint words (is_keyword Bigint words) _ x refl (
+    kind_found type.Str words (is_keyword String words) _ x refl (
+    kind_found type.Timestamp words (is_keyword Timestamp words) _ x refl (
+    kind_found type.Bool words (is_keyword Boolean words) None x refl (λ none. absurd (cc))))) is
+
+kind_complete : (kind : ColType) (rest : Words) → kind_at (keyword (kind_keyword kind) ∷ rest) ≡ Some (kind, rest)
+unfolding kind_at
+kind_complete type.Bigint rest = refl
+kind_complete type.Str rest = refl
+kind_complete type.Timestamp rest = refl
+kind_complete type.Bool rest = refl
+
+column_sound : (words : Words) (x : Column × Words) → column_at words ≡ Some x → (words ≡ column_words x.0 ++ x.1) × Unit {0}
 unfolding column_at
 column_sound words x is =
     let n = bind_some (name_at words) _ x is in
-    let b = bind_some (keyword_at Bigint n.0.1) _ x n.2 in
-    subst (λ (y : List ℕ × Words). (words ≡ column_words y.0 ++ y.1) × Unit {0}) (some_same (n.0.0, b.0.1) x b.2)
-    (name_sound words n.0 n.1 ∙ ap (λ ws. name n.0.0 ∷ ws) (keyword_sound Bigint n.0.1 b.0 b.1), tt)
+    let k = bind_some (kind_at n.0.1) _ x n.2 in
+    subst (λ (y : Column × Words). (words ≡ column_words y.0 ++ y.1) × Unit {0}) (some_same (record { name = n.0.0; kind = k.0.0 }, k.0.1) x k.2)
+    (name_sound words n.0 n.1 ∙ ap (λ ws. name n.0.0 ∷ ws) (kind_sound n.0.1 k.0 k.1), tt)
 
-column_complete : (column : List ℕ) (rest : Words) → Unit {0} → Unit {0} → column_at (column_words column ++ rest) ≡ Some (column, rest)
+column_complete : (column : Column) (rest : Words) → Unit {0} → Unit {0} → column_at (column_words column ++ rest) ≡ Some (column, rest)
 unfolding column_at
 column_complete column rest allowed follows =
-    ap (λ r. r >>= (λ found. keyword_at Bigint found.1 >>= (λ bigint. Some (found.0, bigint.1)))) (name_complete column (keyword Bigint ∷ rest))
-    ∙ ap (λ r. r >>= (λ bigint. Some (column, bigint.1))) (keyword_complete Bigint rest)
+    ap (λ r. r >>= (λ found. kind_at found.1 >>= (λ kind. Some (record { name = found.0; kind = kind.0 }, kind.1)))) (name_complete column.name (keyword (kind_keyword column.kind) ∷ rest))
+    ∙ ap (λ r. r >>= (λ kind. Some (record { name = column.name; kind = kind.0 }, kind.1))) (kind_complete column.kind rest)
 
-all_allowed : (columns : List (List ℕ)) → AllByRecursion (λ (c : List ℕ). Unit {0}) columns
+all_allowed : (columns : List Column) → AllByRecursion (λ (c : Column). Unit {0}) columns
 all_allowed [] = tt
 all_allowed (column ∷ columns) = (tt, all_allowed columns)
 
@@ -58,6 +86,7 @@ bare_sound : (columns : List (List ℕ)) (words rest : Words) (first : Term) (st
 bare_sound columns words rest (term.Column at) [] x written within is = subst (λ i. ItemIs columns words (i, rest)) (some_same (item.Column at) x is) (written, within)
 bare_sound columns words rest (term.Column at) (step ∷ steps) x written within is = absurd (cc)
 bare_sound columns words rest (term.Number n) steps x written within is = absurd (cc)
+bare_sound columns words rest (term.Text text) steps x written within is = absurd (cc)
 
 item_rest_sound : (columns : List (List ℕ)) (words : Words) (sum : Sum × Words) (labelled : Bool) (x : Item × Words) → is_keyword As sum.1 ≡ labelled → SumIs columns 63 words sum → (if labelled then label_at sum.0 (drop 1 sum.1) else bare sum.0 sum.1) ≡ Some x → ItemIs columns words x
 unfolding label_at
@@ -363,28 +392,32 @@ pub query_sound : (words : Words) (query : Query) → query_at words ≡ Some qu
 unfolding query_at spelling
 query_sound words query is =
     let d = bind_some (declaration_at words) _ query is in
-    let s = bind_some (selection_at d.0.0.columns d.0.1) _ query d.2 in
+    let columns = column_names d.0.0.columns in
+    let s = bind_some (selection_at columns d.0.1) _ query d.2 in
     let q : Query = query_of d.0.0 s.0.0 in
     let test = if_some (is_empty s.0.1 && agrees q s.0.0.stream) q query s.2 in
     let ended = and_true (is_empty s.0.1) (agrees q s.0.0.stream) test.0 in
-    let outputs = and_true (bytes_eq d.0.0.stream s.0.0.stream && are_distinct d.0.0.columns) (are_distinct (output_names q)) ended.1 in
-    let names = and_true (bytes_eq d.0.0.stream s.0.0.stream) (are_distinct d.0.0.columns) outputs.0 in
+    let typed = and_true (bytes_eq d.0.0.stream s.0.0.stream && are_distinct columns && are_distinct (output_names q)) (is_well_typed q) ended.1 in
+    let outputs = and_true (bytes_eq d.0.0.stream s.0.0.stream && are_distinct columns) (are_distinct (output_names q)) typed.0 in
+    let names = and_true (bytes_eq d.0.0.stream s.0.0.stream) (are_distinct columns) outputs.0 in
     let same = (bytes_eq-Decides d.0.0.stream s.0.0.stream).0 names.0 in
     let declared = declaration_sound words d.0 d.1 in
-    let selected = selection_sound d.0.0.columns d.0.1 s.0 s.1 in
+    let selected = selection_sound columns d.0.1 s.0 s.1 in
+    let count : length columns ≡ length d.0.0.columns = length-map d.0.0.columns _ in
     subst (λ (found : Query). (words ≡ declaration_words found ++ selection_words found) × IsTaken found) test.1 (
       declared.0
           ∙ ap (λ ws. declared_words d.0.0 ++ ws) (selected.0
-          ∙ ap (λ ws. selected_words d.0.0.columns s.0.0 ++ ws) (empty_is s.0.1 ended.0)
-          ∙ append-nil (selected_words d.0.0.columns s.0.0)
-          ∙ ap (λ stream. selected_words d.0.0.columns (record { items = s.0.0.items; stream = stream; filter = s.0.0.filter })) (sym same)),
+          ∙ ap (λ ws. selected_words columns s.0.0 ++ ws) (empty_is s.0.1 ended.0)
+          ∙ append-nil (selected_words columns s.0.0)
+          ∙ ap (λ stream. selected_words columns (record { items = s.0.0.items; stream = stream; filter = s.0.0.filter })) (sym same)),
       record {
         columns = declared.1;
         columns_apart = names.1;
         items = selected.1.items;
         outputs_apart = outputs.1;
-        each_item = selected.1.each_item;
-        condition = selected.1.condition;
+        each_item = subst (λ n. AllByRecursion (IsItem n) s.0.0.items) count selected.1.each_item;
+        condition = subst (λ n. IfSome s.0.0.filter (IsFilter n)) count selected.1.condition;
+        typed = typed.1;
       },
     )
 
@@ -393,11 +426,17 @@ unfolding query_at spelling
 query_complete query taken =
     let d : Declaration = record { stream = query.stream; columns = query.columns; source = query.source } in
     let s : Selection = record { items = query.items; stream = query.stream; filter = query.filter } in
-    let selected : IsSelected query.columns s = record { items = taken.items; each_item = taken.each_item; condition = taken.condition } in
-    let own : agrees query query.stream ≡ true = rw ((bytes_eq-Decides query.stream query.stream).1 refl, taken.columns_apart, taken.outputs_apart) refl in
-    ap (λ r. r >>= (λ declared. selection_at declared.0.columns declared.1 >>= (λ selected. if is_empty selected.1 && agrees (query_of declared.0 selected.0) selected.0.stream then Some (query_of declared.0 selected.0) else None))) (declaration_complete d (selection_words query) taken.columns)
-    ∙ ap (λ ws. selection_at query.columns ws >>= (λ selected. if is_empty selected.1 && agrees (query_of d selected.0) selected.0.stream then Some (query_of d selected.0) else None)) (sym (append-nil (selection_words query)))
-    ∙ ap (λ r. r >>= (λ selected. if is_empty selected.1 && agrees (query_of d selected.0) selected.0.stream then Some (query_of d selected.0) else None)) (selection_complete query.columns s [] taken.columns_apart selected)
+    let columns = column_names query.columns in
+    let count : length query.columns ≡ length columns = sym (length-map query.columns _) in
+    let selected : IsSelected columns s = record {
+      items = taken.items;
+      each_item = subst (λ n. AllByRecursion (IsItem n) query.items) count taken.each_item;
+      condition = subst (λ n. IfSome query.filter (IsFilter n)) count taken.condition;
+    } in
+    let own : agrees query query.stream ≡ true = rw ((bytes_eq-Decides query.stream query.stream).1 refl, taken.columns_apart, taken.outputs_apart, taken.typed) refl in
+    ap (λ r. r >>= (λ declared. selection_at (column_names declared.0.columns) declared.1 >>= (λ selected. if is_empty selected.1 && agrees (query_of declared.0 selected.0) selected.0.stream then Some (query_of declared.0 selected.0) else None))) (declaration_complete d (selection_words query) taken.columns)
+    ∙ ap (λ ws. selection_at columns ws >>= (λ selected. if is_empty selected.1 && agrees (query_of d selected.0) selected.0.stream then Some (query_of d selected.0) else None)) (sym (append-nil (selection_words query)))
+    ∙ ap (λ r. r >>= (λ selected. if is_empty selected.1 && agrees (query_of d selected.0) selected.0.stream then Some (query_of d selected.0) else None)) (selection_complete columns s [] taken.columns_apart selected)
     ∙ ap (λ b. if b then Some query else None) own
 
 -- words are those of one query at most

@@ -8,7 +8,7 @@ use Rattle.ssq_query.specs.declared.query.Query.{Query}
 use Rattle.ssq_query.specs.declared.query.Sum.{Sum}
 use Rattle.ssq_query.specs.declared.query.Term.{Term}
 use Rattle.ssq_query.specs.declared.query.Term.TheVariants as term
-use Rattle.ssq_query.specs.Names.{output_name, bare_of}
+use Rattle.ssq_query.specs.Names.{column_names, output_name, bare_of}
 use Rattle.ssq_query.specs.Spelling.{spelling}
 
 -- the sum is a column alone, and the label is that column's name
@@ -23,6 +23,7 @@ is_plain columns sum label = is_bare columns (bare_of sum.first sum.steps) label
 abbrev pub column_alone : Term → Item → Item
 column_alone (term.Column at) other = item.Column at
 column_alone (term.Number n) other = other
+column_alone (term.Text text) other = other
 
 -- `v AS v` is the column v alone
 abbrev pub plain_item : List (List ℕ) → Item → Item
@@ -31,7 +32,7 @@ plain_item columns (item.Named sum label) =
     if is_plain columns sum label then column_alone sum.first (item.Named sum label) else item.Named sum label
 
 abbrev pub plain_query : Query → Query
-plain_query query = record query { items = map (plain_item query.columns) query.items }
+plain_query query = record query { items = map (plain_item (column_names query.columns)) query.items }
 
 -- The words of the query in order, with no AS where the item is the bare column of that name.
 unfoldable pub canonical : Query → List ℕ

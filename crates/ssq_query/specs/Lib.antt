@@ -5,3 +5,4 @@ pub mod Names
 pub mod Reading
 pub mod Spelling
 pub mod Taken
+pub mod Typing

@@ -6,16 +6,19 @@ use denote.Enum.Bare.{sameb}
 use Rattle.ssq_lex.specs.contracts.keyword.Keyword.{the_type as keyword_type}
 use Rattle.ssq_lex.specs.contracts.symbol.Symbol.{the_type as symbol_type}
 use Rattle.ssq_lex.specs.declared.keyword.Keyword.{Keyword}
-use Rattle.ssq_lex.specs.declared.keyword.Keyword.TheVariants.{Create, Stream, Bigint, From, Select, As, Where, Output, Append}
+use Rattle.ssq_lex.specs.declared.keyword.Keyword.TheVariants.{Create, Stream, Bigint, String, Timestamp, Boolean, From, Select, As, Where, Output, Append}
 use Rattle.ssq_lex.specs.declared.symbol.Symbol.{Symbol}
 use Rattle.ssq_lex.specs.declared.symbol.Symbol.TheVariants as mark
 use Rattle.ssq_lex.specs.Lexeme.{keyword, name, number, quoted, symbol}
+use Rattle.ssq_shape.specs.declared.typed.Comparison.{Comparison}
+use Rattle.ssq_shape.specs.declared.typed.Comparison.TheVariants as comparison
+use Rattle.ssq_value.specs.declared.column.ColType.{ColType}
+use Rattle.ssq_value.specs.declared.column.ColType.TheVariants as type
+use Rattle.ssq_value.specs.declared.column.Column.{Column}
 use Rattle.ssq_query.specs.declared.fault.QueryFault.{QueryFault}
 use Rattle.ssq_query.specs.declared.fault.QueryFault.TheVariants.{NotYet, NoMemory}
 use Rattle.ssq_query.specs.declared.parse.Declaration.{Declaration}
 use Rattle.ssq_query.specs.declared.parse.Selection.{Selection}
-use Rattle.ssq_query.specs.declared.query.Comparison.{Comparison}
-use Rattle.ssq_query.specs.declared.query.Comparison.TheVariants as comparison
 use Rattle.ssq_query.specs.declared.query.Filter.{Filter}
 use Rattle.ssq_query.specs.declared.query.Item.{Item}
 use Rattle.ssq_query.specs.declared.query.Item.TheVariants as item
@@ -26,9 +29,10 @@ use Rattle.ssq_query.specs.declared.query.Step.{Step}
 use Rattle.ssq_query.specs.declared.query.Sum.{Sum}
 use Rattle.ssq_query.specs.declared.query.Term.{Term}
 use Rattle.ssq_query.specs.declared.query.Term.TheVariants as term
-use Rattle.ssq_query.specs.Names.{output_names, bare_of}
+use Rattle.ssq_query.specs.Names.{column_names, output_names, bare_of}
 use Rattle.ssq_query.specs.Spelling.{Words}
 use Rattle.ssq_query.specs.Taken.{are_distinct}
+use Rattle.ssq_query.specs.Typing.{is_well_typed}
 
 abbrev pub Read : Type 0 → Type 0
 Read A = Option (A × Words)
@@ -100,6 +104,7 @@ column_of text columns = position (λ column. bytes_eq column text) columns
 unfoldable pub term_at : List (List ℕ) → Words → Read Term
 term_at columns (name text ∷ rest) = option_map (λ at. (term.Column at, rest)) (column_of text columns)
 term_at columns (number n ∷ rest) = Some (term.Number n, rest)
+term_at columns (quoted text ∷ rest) = Some (term.Text text, rest)
 term_at columns other = None
 
 abbrev pub op_of : Symbol → Option Op
@@ -145,11 +150,18 @@ list_at one (suc most) words = one words >>= list_then (list_at one most)
 
 -- ---- queries
 
-unfoldable pub column_at : Words → Read (List ℕ)
+unfoldable pub kind_at : Words → Read ColType
+kind_at words =
+    if is_keyword Bigint words then Some (type.Bigint, drop 1 words) else (
+    if is_keyword String words then Some (type.Str, drop 1 words) else (
+    if is_keyword Timestamp words then Some (type.Timestamp, drop 1 words) else (
+    if is_keyword Boolean words then Some (type.Bool, drop 1 words) else None)))
+
+unfoldable pub column_at : Words → Read Column
 column_at words = do
   found ← name_at words
-  bigint ← keyword_at Bigint found.1
-  Some (found.0, bigint.1)
+  kind ← kind_at found.1
+  Some (record { name = found.0; kind = kind.0 }, kind.1)
 
 -- an item without a label is a column alone
 abbrev pub bare : Sum → Words → Read Item
@@ -223,13 +235,14 @@ abbrev pub query_of : Declaration → Selection → Query
 query_of declared selected =
     record { stream = declared.stream; source = declared.source; columns = declared.columns; items = selected.items; filter = selected.filter }
 
--- the stream that is read is the one that is declared, and no name is given twice
+-- the stream that is read is the one that is declared, no name is given twice, and the query is well typed
 abbrev pub agrees : Query → List ℕ → Bool
-agrees query stream = bytes_eq query.stream stream && are_distinct query.columns && are_distinct (output_names query)
+agrees query stream =
+    bytes_eq query.stream stream && are_distinct (column_names query.columns) && are_distinct (output_names query) && is_well_typed query
 
 -- a query, and no words behind it
 unfoldable pub query_at : Words → Option Query
 query_at words = do
   declared ← declaration_at words
-  selected ← selection_at declared.0.columns declared.1
+  selected ← selection_at (column_names declared.0.columns) declared.1
   if is_empty selected.1 && agrees (query_of declared.0 selected.0) selected.0.stream then Some (query_of declared.0 selected.0) else None

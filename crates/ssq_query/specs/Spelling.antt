@@ -1,12 +1,16 @@
 -- How a query is written: the tokens that stand for it, whatever stands between them.
 use Rattle.std.specs.Prelude.{ℕ, List, [], ◌∷◌, ◌++◌, map, slice_index_or, Option, Some, None}
 use Rattle.std.specs.List.{flat_map}
-use Rattle.ssq_lex.specs.declared.keyword.Keyword.TheVariants.{Create, Stream, Bigint, From, Select, As, Where, Output, Append}
+use Rattle.ssq_lex.specs.declared.keyword.Keyword.{Keyword}
+use Rattle.ssq_lex.specs.declared.keyword.Keyword.TheVariants.{Create, Stream, Bigint, String, Timestamp, Boolean, From, Select, As, Where, Output, Append}
 use Rattle.ssq_lex.specs.declared.symbol.Symbol.{Symbol}
 use Rattle.ssq_lex.specs.declared.symbol.Symbol.TheVariants as mark
 use Rattle.ssq_lex.specs.Lexeme.{Lexeme, keyword, name, number, quoted, symbol}
-use Rattle.ssq_query.specs.declared.query.Comparison.{Comparison}
-use Rattle.ssq_query.specs.declared.query.Comparison.TheVariants as comparison
+use Rattle.ssq_shape.specs.declared.typed.Comparison.{Comparison}
+use Rattle.ssq_shape.specs.declared.typed.Comparison.TheVariants as comparison
+use Rattle.ssq_value.specs.declared.column.ColType.{ColType}
+use Rattle.ssq_value.specs.declared.column.ColType.TheVariants as type
+use Rattle.ssq_value.specs.declared.column.Column.{Column}
 use Rattle.ssq_query.specs.declared.query.Filter.{Filter}
 use Rattle.ssq_query.specs.declared.query.Item.{Item}
 use Rattle.ssq_query.specs.declared.query.Item.TheVariants as item
@@ -17,6 +21,7 @@ use Rattle.ssq_query.specs.declared.query.Step.{Step}
 use Rattle.ssq_query.specs.declared.query.Sum.{Sum}
 use Rattle.ssq_query.specs.declared.query.Term.{Term}
 use Rattle.ssq_query.specs.declared.query.Term.TheVariants as term
+use Rattle.ssq_query.specs.Names.{column_names}
 
 abbrev pub Words : Type 0
 Words = List Lexeme
@@ -34,6 +39,7 @@ separated (part ∷ next ∷ parts) = part ++ comma ∷ separated (next ∷ part
 abbrev pub term_word : List (List ℕ) → Term → Lexeme
 term_word columns (term.Column at) = name (slice_index_or columns at [])
 term_word columns (term.Number n) = number n
+term_word columns (term.Text text) = quoted text
 
 abbrev pub op_symbol : Op → Symbol
 op_symbol op.Plus = mark.Plus
@@ -62,8 +68,14 @@ filter_words columns None = []
 filter_words columns (Some filter) =
     keyword Where ∷ sum_words columns filter.left ++ symbol (comparison_symbol filter.comparison) ∷ sum_words columns filter.right
 
-abbrev pub column_words : List ℕ → Words
-column_words column = name column ∷ keyword Bigint ∷ []
+abbrev pub kind_keyword : ColType → Keyword
+kind_keyword type.Bigint = Bigint
+kind_keyword type.Str = String
+kind_keyword type.Timestamp = Timestamp
+kind_keyword type.Bool = Boolean
+
+abbrev pub column_words : Column → Words
+column_words column = name column.name ∷ keyword (kind_keyword column.kind) ∷ []
 
 -- CREATE STREAM s (v BIGINT, ..) FROM 's';
 abbrev pub declaration_words : Query → Words
@@ -74,8 +86,8 @@ declaration_words query =
 -- SELECT v + 1 AS w, .. FROM s WHERE v > 10 OUTPUT APPEND;
 abbrev pub selection_words : Query → Words
 selection_words query =
-    keyword Select ∷ separated (map (item_words query.columns) query.items)
-    ++ keyword From ∷ name query.stream ∷ filter_words query.columns query.filter
+    keyword Select ∷ separated (map (item_words (column_names query.columns)) query.items)
+    ++ keyword From ∷ name query.stream ∷ filter_words (column_names query.columns) query.filter
     ++ keyword Output ∷ keyword Append ∷ symbol mark.Semicolon ∷ []
 
 unfoldable pub spelling : Query → Words

@@ -9,7 +9,8 @@ use Rattle.ssq_query.specs.declared.query.Query.{Query}
 use Rattle.ssq_query.specs.declared.query.Sum.{Sum}
 use Rattle.ssq_query.specs.declared.query.Term.{Term}
 use Rattle.ssq_query.specs.declared.query.Term.TheVariants as term
-use Rattle.ssq_query.specs.Names.{output_names}
+use Rattle.ssq_query.specs.Names.{column_names, output_names}
+use Rattle.ssq_query.specs.Typing.{is_well_typed}
 
 -- one of the names is this one
 abbrev pub has_name : List ℕ → List (List ℕ) → Bool
@@ -24,10 +25,11 @@ are_distinct (name ∷ names) = not (has_name name names) && are_distinct names
 abbrev pub IsListed : {A : Type 0} → List A → Type 0
 IsListed xs = (0 < length xs) × (length xs ≤ 64)
 
--- a column of the declaration, of so many, or a number
+-- a column of the declaration, of so many, or a number or a text
 abbrev pub IsTerm : ℕ → Term → Type 0
 IsTerm columns (term.Column at) = at < columns
 IsTerm columns (term.Number n) = Unit {0}
+IsTerm columns (term.Text text) = Unit {0}
 
 -- An operand has height 1, and an operator is one higher than its highest operand. Operators group to the left.
 abbrev pub sum_height : Sum → ℕ
@@ -51,8 +53,9 @@ pub record IsFilter (columns : ℕ) (filter : Filter) : Type 0 where
 
 pub record IsTaken (query : Query) : Type 0 where
   pub columns : IsListed query.columns
-  pub columns_apart : are_distinct query.columns ≡ true
+  pub columns_apart : are_distinct (column_names query.columns) ≡ true
   pub items : IsListed query.items
   pub outputs_apart : are_distinct (output_names query) ≡ true
   pub each_item : AllByRecursion (IsItem (length query.columns)) query.items
   pub condition : IfSome query.filter (IsFilter (length query.columns))
+  pub typed : is_well_typed query ≡ true

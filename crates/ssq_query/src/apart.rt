@@ -1,27 +1,29 @@
 //! The names of columns and outputs, and whether one is given twice.
 
 ghost use Rattle.std.specs.Prelude.{◌≡◌, [], map, slice_index_or};
-ghost use Rattle.ssq_query.specs.Names.{output_name, output_names};
+ghost use Rattle.ssq_query.specs.Names.{column_names, output_name};
 ghost use Rattle.ssq_query.specs.Reading.{agrees};
 ghost use Rattle.std.specs.List.{list_any};
 ghost use Rattle.std.specs.Str.{bytes_eq};
-ghost use Rattle.ssq_query.specs.Taken.{has_name, are_distinct};
+ghost use Rattle.ssq_query.specs.Taken.{are_distinct};
 
 use crate::query::{Item, Query};
-use ssq_value::Text;
+use crate::typing::is_well_typed;
+use ssq_value::Column;
 
-fn has_name(names: &[Text], name: &str) -> bool
-    ensures { result ≡ has_name name.now names.now }
+fn has_column(columns: &[Column], name: &str) -> bool
+    ensures { result ≡ list_any (λ column. bytes_eq column.name name.now) columns.now }
 {
-    names.iter().any(|other| other.as_str() == name)
+    columns.iter().any(|column| column.name.as_str() == name)
 }
 
-fn columns_apart(columns: &[Text]) -> bool
-    ensures { result ≡ are_distinct columns.now }
+#[tactic(auto, using(crate::proofs::OutputNames::any_map))]
+fn columns_apart(columns: &[Column]) -> bool
+    ensures { result ≡ are_distinct (column_names columns.now) }
 {
     let mut rest = columns;
     while let Some((column, others)) = rest.split_first() {
-        if has_name(others, column.as_str()) {
+        if has_column(others, column.name.as_str()) {
             return false;
         }
         rest = others;
@@ -30,18 +32,18 @@ fn columns_apart(columns: &[Text]) -> bool
 }
 
 /// The name of a declared column.
-pub(crate) fn column_name(columns: &[Text], at: usize) -> &str
-    ensures { result.now ≡ slice_index_or columns.now at [] }
+pub(crate) fn column_name(columns: &[Column], at: usize) -> &str
+    ensures { result.now ≡ slice_index_or (column_names columns.now) at [] }
 {
     match columns.get(at) {
-        Some(column) => column.as_str(),
+        Some(column) => column.name.as_str(),
         None => "",
     }
 }
 
-/// The name under which SELECT gives an item, over the names of the declared columns.
-pub fn output_name<'q>(columns: &'q [Text], item: &'q Item) -> &'q str
-    ensures { result.now ≡ output_name columns.now item.now }
+/// The name under which SELECT gives an item, over the declared columns.
+pub fn output_name<'q>(columns: &'q [Column], item: &'q Item) -> &'q str
+    ensures { result.now ≡ output_name (column_names columns.now) item.now }
 {
     match item {
         Item::Column(at) => column_name(columns, *at),
@@ -49,8 +51,8 @@ pub fn output_name<'q>(columns: &'q [Text], item: &'q Item) -> &'q str
     }
 }
 
-fn has_output(columns: &[Text], items: &[Item], name: &str) -> bool
-    ensures { result ≡ list_any (λ item. bytes_eq (output_name columns.now item) name.now) items.now }
+fn has_output(columns: &[Column], items: &[Item], name: &str) -> bool
+    ensures { result ≡ list_any (λ item. bytes_eq (output_name (column_names columns.now) item) name.now) items.now }
 {
     items
         .iter()
@@ -58,8 +60,8 @@ fn has_output(columns: &[Text], items: &[Item], name: &str) -> bool
 }
 
 #[tactic(auto, using(crate::proofs::OutputNames::any_map))]
-fn outputs_apart(columns: &[Text], items: &[Item]) -> bool
-    ensures { result ≡ are_distinct (map (output_name columns.now) items.now) }
+fn outputs_apart(columns: &[Column], items: &[Item]) -> bool
+    ensures { result ≡ are_distinct (map (output_name (column_names columns.now)) items.now) }
 {
     let mut rest = items;
     while let Some((item, others)) = rest.split_first() {
@@ -71,7 +73,7 @@ fn outputs_apart(columns: &[Text], items: &[Item]) -> bool
     true
 }
 
-/// Whether SELECT reads the stream that is declared, and no name is given twice.
+/// Whether SELECT reads the stream that is declared, no name is given twice, and the query is well typed.
 pub(crate) fn agrees(query: &Query, stream: &str) -> bool
     ensures { result ≡ agrees query.now stream.now }
 {
@@ -79,4 +81,5 @@ pub(crate) fn agrees(query: &Query, stream: &str) -> bool
     query.stream.as_str() == stream
         && columns_apart(columns)
         && outputs_apart(columns, query.items.as_slice())
+        && is_well_typed(query)
 }

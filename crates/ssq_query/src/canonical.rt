@@ -2,13 +2,15 @@ ghost use Rattle.std.specs.Prelude.{◌≡◌, ◌∷◌, map, OnOk, IfOk};
 ghost use Rattle.std.specs.List.{flat_map};
 ghost use Rattle.ssq_lex.specs.Printing.{with_word, with_words};
 ghost use Rattle.ssq_query.specs.Canonical.{plain_item, plain_query, canonical, is_plain};
+ghost use Rattle.ssq_query.specs.Names.{column_names};
 ghost use Rattle.ssq_query.specs.Spelling as spec;
 
 use crate::apart::{column_name, output_name};
 use crate::parse::bare;
-use crate::query::{Comparison, Filter, Item, Op, Query, Step, Sum, Term};
+use crate::query::{Filter, Item, Op, Query, Step, Sum, Term};
 use ssq_lex::{Keyword, Printer, Symbol};
-use ssq_value::Text;
+use ssq_shape::Comparison;
+use ssq_value::{ColType, Column, Text};
 use std::alloc::{AllocError, Global};
 
 fn op_symbol(op: Op) -> Symbol
@@ -33,35 +35,36 @@ fn comparison_symbol(comparison: Comparison) -> Symbol
     }
 }
 
-fn print_term(printer: &mut Printer, columns: &[Text], term: Term) -> Result<(), AllocError>
-    ensures { OnOk result (printer.new ≡ with_word printer.old (spec.term_word columns.now term)) }
+fn print_term(printer: &mut Printer, columns: &[Column], term: &Term) -> Result<(), AllocError>
+    ensures { OnOk result (printer.new ≡ with_word printer.old (spec.term_word (column_names columns.now) term.now)) }
 {
     match term {
-        Term::Column(at) => printer.name(column_name(columns, at)),
-        Term::Number(number) => printer.number(number),
+        Term::Column(at) => printer.name(column_name(columns, *at)),
+        Term::Number(number) => printer.number(*number),
+        Term::Text(text) => printer.quoted(text.as_str()),
     }
 }
 
-fn print_steps(printer: &mut Printer, columns: &[Text], steps: &[Step]) -> Result<(), AllocError>
-    ensures { OnOk result (printer.new ≡ with_words printer.old (flat_map (spec.step_words columns.now) steps.now)) }
+fn print_steps(printer: &mut Printer, columns: &[Column], steps: &[Step]) -> Result<(), AllocError>
+    ensures { OnOk result (printer.new ≡ with_words printer.old (flat_map (spec.step_words (column_names columns.now)) steps.now)) }
 {
     for step in steps {
         printer.symbol(op_symbol(step.op))?;
-        print_term(printer, columns, step.term)?;
+        print_term(printer, columns, &step.term)?;
     }
     Ok(())
 }
 
-fn print_sum(printer: &mut Printer, columns: &[Text], sum: &Sum) -> Result<(), AllocError>
-    ensures { OnOk result (printer.new ≡ with_words printer.old (spec.sum_words columns.now sum.now)) }
+fn print_sum(printer: &mut Printer, columns: &[Column], sum: &Sum) -> Result<(), AllocError>
+    ensures { OnOk result (printer.new ≡ with_words printer.old (spec.sum_words (column_names columns.now) sum.now)) }
 {
-    print_term(printer, columns, sum.first)?;
+    print_term(printer, columns, &sum.first)?;
     print_steps(printer, columns, sum.steps.as_slice())
 }
 
 /// Whether an item's label is the name of the column that stands alone before it.
-fn is_plain(columns: &[Text], sum: &Sum, label: &str) -> bool
-    ensures { result ≡ is_plain columns.now sum.now label.now }
+fn is_plain(columns: &[Column], sum: &Sum, label: &str) -> bool
+    ensures { result ≡ is_plain (column_names columns.now) sum.now label.now }
 {
     match bare(sum) {
         Some(column) => output_name(columns, &column) == label,
@@ -69,9 +72,9 @@ fn is_plain(columns: &[Text], sum: &Sum, label: &str) -> bool
     }
 }
 
-fn print_item(printer: &mut Printer, columns: &[Text], item: &Item) -> Result<(), AllocError>
+fn print_item(printer: &mut Printer, columns: &[Column], item: &Item) -> Result<(), AllocError>
     ensures { OnOk result (printer.new
-        ≡ with_words printer.old (spec.item_words columns.now (plain_item columns.now item.now))) }
+        ≡ with_words printer.old (spec.item_words (column_names columns.now) (plain_item (column_names columns.now) item.now))) }
 {
     match item {
         Item::Column(at) => printer.name(column_name(columns, *at)),
@@ -86,14 +89,25 @@ fn print_item(printer: &mut Printer, columns: &[Text], item: &Item) -> Result<()
     }
 }
 
-fn print_column(printer: &mut Printer, column: &Text) -> Result<(), AllocError>
-    ensures { OnOk result (printer.new ≡ with_words printer.old (spec.column_words column.now)) }
+fn kind_keyword(kind: ColType) -> Keyword
+    ensures { result ≡ spec.kind_keyword kind }
 {
-    printer.name(column.as_str())?;
-    printer.keyword(Keyword::Bigint)
+    match kind {
+        ColType::Bigint => Keyword::Bigint,
+        ColType::Str => Keyword::String,
+        ColType::Timestamp => Keyword::Timestamp,
+        ColType::Bool => Keyword::Boolean,
+    }
 }
 
-fn print_further_columns(printer: &mut Printer, columns: &[Text]) -> Result<(), AllocError>
+fn print_column(printer: &mut Printer, column: &Column) -> Result<(), AllocError>
+    ensures { OnOk result (printer.new ≡ with_words printer.old (spec.column_words column.now)) }
+{
+    printer.name(column.name.as_str())?;
+    printer.keyword(kind_keyword(column.kind))
+}
+
+fn print_further_columns(printer: &mut Printer, columns: &[Column]) -> Result<(), AllocError>
     ensures { OnOk result (printer.new
         ≡ with_words printer.old (flat_map (λ column. spec.comma ∷ spec.column_words column) columns.now)) }
 {
@@ -104,7 +118,7 @@ fn print_further_columns(printer: &mut Printer, columns: &[Text]) -> Result<(), 
     Ok(())
 }
 
-fn print_columns(printer: &mut Printer, columns: &[Text]) -> Result<(), AllocError>
+fn print_columns(printer: &mut Printer, columns: &[Column]) -> Result<(), AllocError>
     ensures { OnOk result (printer.new
         ≡ with_words printer.old (spec.separated (map spec.column_words columns.now))) }
 {
@@ -120,11 +134,11 @@ fn print_columns(printer: &mut Printer, columns: &[Text]) -> Result<(), AllocErr
 
 fn print_further_items(
     printer: &mut Printer,
-    columns: &[Text],
+    columns: &[Column],
     items: &[Item],
 ) -> Result<(), AllocError>
     ensures { OnOk result (printer.new ≡ with_words printer.old
-        (flat_map (λ item. spec.comma ∷ spec.item_words columns.now (plain_item columns.now item)) items.now)) }
+        (flat_map (λ item. spec.comma ∷ spec.item_words (column_names columns.now) (plain_item (column_names columns.now) item)) items.now)) }
 {
     for item in items {
         printer.symbol(Symbol::Comma)?;
@@ -133,9 +147,9 @@ fn print_further_items(
     Ok(())
 }
 
-fn print_items(printer: &mut Printer, columns: &[Text], items: &[Item]) -> Result<(), AllocError>
+fn print_items(printer: &mut Printer, columns: &[Column], items: &[Item]) -> Result<(), AllocError>
     ensures { OnOk result (printer.new ≡ with_words printer.old
-        (spec.separated (map (spec.item_words columns.now) (map (plain_item columns.now) items.now)))) }
+        (spec.separated (map (spec.item_words (column_names columns.now)) (map (plain_item (column_names columns.now)) items.now)))) }
 {
     match items.split_first() {
         Some((first, others)) => {
@@ -150,10 +164,10 @@ fn print_items(printer: &mut Printer, columns: &[Text], items: &[Item]) -> Resul
 #[tactic(auto, using(crate::proofs::Printed::printing))]
 fn print_filter(
     printer: &mut Printer,
-    columns: &[Text],
+    columns: &[Column],
     filter: &Option<Filter>,
 ) -> Result<(), AllocError>
-    ensures { OnOk result (printer.new ≡ with_words printer.old (spec.filter_words columns.now filter.now)) }
+    ensures { OnOk result (printer.new ≡ with_words printer.old (spec.filter_words (column_names columns.now) filter.now)) }
 {
     match filter {
         Some(filter) => {

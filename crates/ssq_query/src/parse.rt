@@ -2,14 +2,16 @@
 
 ghost use Rattle.std.specs.Prelude.{◌≡◌};
 ghost use Rattle.ssq_query.specs.Names as names;
+ghost use Rattle.ssq_query.specs.Names.{column_names};
 ghost use Rattle.ssq_query.specs.Reading as spec;
 ghost use Rattle.ssq_query.specs.Reading.{Reads};
 
 use crate::fault::QueryFault;
-use crate::query::{Comparison, Filter, Item, Query, Step, Sum, Term};
+use crate::query::{Filter, Item, Step, Sum, Term};
 use crate::reader::Reader;
-use ssq_lex::{Keyword, Kind, Symbol};
-use ssq_value::{Sequence, Text};
+use ssq_lex::{Keyword, Kind, Symbol, unquoted};
+use ssq_shape::Comparison;
+use ssq_value::{ColType, Column, Sequence, Text};
 use std::alloc::Global;
 
 /// How many columns a stream, and how many items a query may have.
@@ -22,7 +24,7 @@ const MOST_STEPS: usize = 63;
 #[derive(Drop)]
 pub(crate) struct Declaration {
     pub stream: Text,
-    pub columns: Sequence<Text>,
+    pub columns: Sequence<Column>,
     pub source: Text,
 }
 
@@ -35,15 +37,17 @@ pub(crate) struct Selection {
 }
 
 /// The place of a column in the declaration.
-fn column_of(columns: &[Text], name: &str) -> Option<usize>
-    ensures { result ≡ spec.column_of name.now columns.now }
+fn column_of(columns: &[Column], name: &str) -> Option<usize>
+    ensures { result ≡ spec.column_of name.now (column_names columns.now) }
 {
-    columns.iter().position(|column| column.as_str() == name)
+    columns
+        .iter()
+        .position(|column| column.name.as_str() == name)
 }
 
 #[tactic(auto, unfolding(crate::specs::Reading::term_at))]
-fn term(reader: &mut Reader<'_>, columns: &[Text]) -> Result<Term, QueryFault>
-    ensures { Reads (λ x. x) (spec.term_at columns.now reader.old) result reader.new }
+fn term(alloc: Global, reader: &mut Reader<'_>, columns: &[Column]) -> Result<Term, QueryFault>
+    ensures { Reads (λ x. x) (spec.term_at (column_names columns.now) reader.old) result reader.new }
 {
     match reader.next() {
         Some(Kind::Name(name)) => match column_of(columns, name) {
@@ -51,6 +55,7 @@ fn term(reader: &mut Reader<'_>, columns: &[Text]) -> Result<Term, QueryFault>
             None => Err(QueryFault::NotYet),
         },
         Some(Kind::Number(number)) => Ok(Term::Number(number)),
+        Some(Kind::Text(content)) => Ok(Term::Text(Text::from_string(unquoted(alloc, content)?))),
         _ => Err(QueryFault::NotYet),
     }
 }
@@ -59,17 +64,17 @@ fn term(reader: &mut Reader<'_>, columns: &[Text]) -> Result<Term, QueryFault>
 fn steps(
     alloc: Global,
     reader: &mut Reader<'_>,
-    columns: &[Text],
+    columns: &[Column],
     most: usize,
 ) -> Result<Sequence<Step>, QueryFault>
-    ensures { Reads (λ x. x) (spec.steps_at columns.now most reader.old) result reader.new }
+    ensures { Reads (λ x. x) (spec.steps_at (column_names columns.now) most reader.old) result reader.new }
 {
     let mut steps = Sequence::new(alloc);
     for _turn in 0..most {
         let Some(op) = reader.eat_op() else {
             return Ok(steps);
         };
-        let term = term(reader, columns)?;
+        let term = term(alloc, reader, columns)?;
         steps.push(Step { op, term })?;
     }
     if reader.eat_op().is_some() {
@@ -82,26 +87,44 @@ fn steps(
 fn sum(
     alloc: Global,
     reader: &mut Reader<'_>,
-    columns: &[Text],
+    columns: &[Column],
     most: usize,
 ) -> Result<Sum, QueryFault>
-    ensures { Reads (λ x. x) (spec.sum_at columns.now most reader.old) result reader.new }
+    ensures { Reads (λ x. x) (spec.sum_at (column_names columns.now) most reader.old) result reader.new }
 {
-    let first = term(reader, columns)?;
+    let first = term(alloc, reader, columns)?;
     let steps = steps(alloc, reader, columns, most)?;
     Ok(Sum { first, steps })
 }
 
+#[tactic(auto, unfolding(crate::specs::Reading::kind_at))]
+fn kind(reader: &mut Reader<'_>) -> Result<ColType, QueryFault>
+    ensures { Reads (λ x. x) (spec.kind_at reader.old) result reader.new }
+{
+    if reader.eat_keyword(Keyword::Bigint) {
+        Ok(ColType::Bigint)
+    } else if reader.eat_keyword(Keyword::String) {
+        Ok(ColType::Str)
+    } else if reader.eat_keyword(Keyword::Timestamp) {
+        Ok(ColType::Timestamp)
+    } else if reader.eat_keyword(Keyword::Boolean) {
+        Ok(ColType::Bool)
+    } else {
+        Err(QueryFault::NotYet)
+    }
+}
+
 #[tactic(auto, unfolding(crate::specs::Reading::column_at))]
-fn column(alloc: Global, reader: &mut Reader<'_>) -> Result<Text, QueryFault>
+fn column(alloc: Global, reader: &mut Reader<'_>) -> Result<Column, QueryFault>
     ensures { Reads (λ x. x) (spec.column_at reader.old) result reader.new }
 {
     let name = reader.name()?;
-    reader.keyword(Keyword::Bigint)?;
-    Ok(Text::from_str(alloc, name)?)
+    let kind = kind(reader)?;
+    let name = Text::from_str(alloc, name)?;
+    Ok(Column { name, kind })
 }
 
-fn columns(alloc: Global, reader: &mut Reader<'_>) -> Result<Sequence<Text>, QueryFault>
+fn columns(alloc: Global, reader: &mut Reader<'_>) -> Result<Sequence<Column>, QueryFault>
     ensures { Reads (λ x. x) (spec.list_at spec.column_at 64 reader.old) result reader.new }
 {
     let mut columns = Sequence::new(alloc);
@@ -118,8 +141,8 @@ fn columns(alloc: Global, reader: &mut Reader<'_>) -> Result<Sequence<Text>, Que
 pub(crate) fn bare(sum: &Sum) -> Option<Item>
     ensures { result ≡ names.bare_of sum.now.first sum.now.steps }
 {
-    match (sum.first, sum.steps.as_slice()) {
-        (Term::Column(at), []) => Some(Item::Column(at)),
+    match (&sum.first, sum.steps.as_slice()) {
+        (Term::Column(at), []) => Some(Item::Column(*at)),
         _ => None,
     }
 }
@@ -133,8 +156,8 @@ fn label(alloc: Global, reader: &mut Reader<'_>, sum: Sum) -> Result<Item, Query
 }
 
 #[tactic(auto, unfolding(crate::specs::Reading::item_at))]
-fn item(alloc: Global, reader: &mut Reader<'_>, columns: &[Text]) -> Result<Item, QueryFault>
-    ensures { Reads (λ x. x) (spec.item_at columns.now reader.old) result reader.new }
+fn item(alloc: Global, reader: &mut Reader<'_>, columns: &[Column]) -> Result<Item, QueryFault>
+    ensures { Reads (λ x. x) (spec.item_at (column_names columns.now) reader.old) result reader.new }
 {
     let sum = sum(alloc, reader, columns, MOST_STEPS)?;
     if reader.eat_keyword(Keyword::As) {
@@ -149,9 +172,9 @@ fn item(alloc: Global, reader: &mut Reader<'_>, columns: &[Text]) -> Result<Item
 fn items(
     alloc: Global,
     reader: &mut Reader<'_>,
-    columns: &[Text],
+    columns: &[Column],
 ) -> Result<Sequence<Item>, QueryFault>
-    ensures { Reads (λ x. x) (spec.list_at (spec.item_at columns.now) 64 reader.old) result reader.new }
+    ensures { Reads (λ x. x) (spec.list_at (spec.item_at (column_names columns.now)) 64 reader.old) result reader.new }
 {
     let mut items = Sequence::new(alloc);
     for _turn in 0..MOST_LISTED {
@@ -179,8 +202,8 @@ fn comparison(reader: &mut Reader<'_>) -> Result<Comparison, QueryFault>
 }
 
 #[tactic(auto, unfolding(crate::specs::Reading::condition_at))]
-fn condition(alloc: Global, reader: &mut Reader<'_>, columns: &[Text]) -> Result<Filter, QueryFault>
-    ensures { Reads (λ x. x) (spec.condition_at columns.now reader.old) result reader.new }
+fn condition(alloc: Global, reader: &mut Reader<'_>, columns: &[Column]) -> Result<Filter, QueryFault>
+    ensures { Reads (λ x. x) (spec.condition_at (column_names columns.now) reader.old) result reader.new }
 {
     let left = sum(alloc, reader, columns, MOST_STEPS - 1)?;
     let comparison = comparison(reader)?;
@@ -196,9 +219,9 @@ fn condition(alloc: Global, reader: &mut Reader<'_>, columns: &[Text]) -> Result
 fn filter(
     alloc: Global,
     reader: &mut Reader<'_>,
-    columns: &[Text],
+    columns: &[Column],
 ) -> Result<Option<Filter>, QueryFault>
-    ensures { Reads (λ x. x) (spec.filter_at columns.now reader.old) result reader.new }
+    ensures { Reads (λ x. x) (spec.filter_at (column_names columns.now) reader.old) result reader.new }
 {
     if reader.eat_keyword(Keyword::Where) {
         Ok(Some(condition(alloc, reader, columns)?))
@@ -243,9 +266,9 @@ fn output(reader: &mut Reader<'_>) -> Result<(), QueryFault>
 pub(crate) fn read_selection(
     alloc: Global,
     reader: &mut Reader<'_>,
-    columns: &[Text],
+    columns: &[Column],
 ) -> Result<Selection, QueryFault>
-    ensures { Reads (λ x. x) (spec.selection_at columns.now reader.old) result reader.new }
+    ensures { Reads (λ x. x) (spec.selection_at (column_names columns.now) reader.old) result reader.new }
 {
     reader.keyword(Keyword::Select)?;
     let items = items(alloc, reader, columns)?;

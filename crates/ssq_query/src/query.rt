@@ -1,12 +1,15 @@
-use ssq_value::{Sequence, Text};
+use ssq_shape::Comparison;
+use ssq_value::{Column, Sequence, Text};
 
 /// An operand of a sum.
-#[derive(Clone, Copy, Debug, PartialEq, Eq)]
+#[derive(Debug, Drop)]
 pub enum Term {
     /// The column of this index in the declaration.
     Column(usize),
     /// A number from 0 to 9223372036854775807.
     Number(i64),
+    /// A text, without its quotes.
+    Text(Text),
 }
 
 /// An operator of a sum.
@@ -17,13 +20,13 @@ pub enum Op {
 }
 
 /// A further operand of a sum, which stands right of its operator.
-#[derive(Clone, Copy, Debug, PartialEq, Eq)]
+#[derive(Debug, Drop)]
 pub struct Step {
     pub op: Op,
     pub term: Term,
 }
 
-/// A sum: its operands are added and subtracted from left to right.
+/// A sum: its operands are added and subtracted from left to right. One operand alone may be of any type.
 #[derive(Debug, Drop)]
 pub struct Sum {
     pub first: Term,
@@ -37,17 +40,6 @@ pub enum Item {
     Column(usize),
     /// `v + 1 AS w`: a sum under a name; `v AS v` is one too.
     Named { sum: Sum, name: Text },
-}
-
-/// How two sums are compared.
-#[derive(Clone, Copy, Debug, PartialEq, Eq)]
-pub enum Comparison {
-    Equal,
-    NotEqual,
-    Less,
-    AtMost,
-    Greater,
-    AtLeast,
 }
 
 /// The condition of WHERE.
@@ -65,8 +57,8 @@ pub struct Query {
     pub stream: Text,
     /// The source's name, without its quotes.
     pub source: Text,
-    /// The names of the declared columns, from the left. Each is a BIGINT.
-    pub columns: Sequence<Text>,
+    /// The declared columns, from the left.
+    pub columns: Sequence<Column>,
     pub items: Sequence<Item>,
     pub filter: Option<Filter>,
 }

@@ -13,6 +13,7 @@ use Rattle.ssq_shape.specs.declared.typed.Arithmetic.TheVariants.{Plus, Minus, T
 use Rattle.ssq_shape.specs.declared.typed.Comparison.{Comparison}
 use Rattle.ssq_shape.specs.declared.typed.Comparison.TheVariants.{Equal, NotEqual, Less, AtMost, Greater, AtLeast}
 use Rattle.ssq_shape.specs.declared.typed.Typed.{Typed}
+use Rattle.ssq_shape.specs.Boxes.{only}
 use Rattle.ssq_shape.specs.declared.typed.Typed.TheVariants.{Column, Constant, Negated', Not', IsNull', Arithmetic', Shifted', Joined', Compared', Between', And', Or'}
 
 -- The one fault: a number outside 64 bits, a time outside the years 0001 to 9999, or a text that `||` made too long.
@@ -164,16 +165,16 @@ truth_of side = and_then side (λ value. Ok (truth_in value))
 unfoldable pub evaluated : Typed → List Value → Evaluated
 evaluated (Column at) row = Ok (cell_at row at)
 evaluated (Constant value) row = constant value
-evaluated (Negated' p x) row = and_then (evaluated x row) (λ value. negated (number_in value))
-evaluated (Not' p x) row = and_then (evaluated x row) (λ value. Ok (truth_value (negation (truth_in value))))
-evaluated (IsNull' p x) row = and_then (evaluated x row) (λ value. Ok (Truth (is_null value)))
-evaluated (Arithmetic' op p a q b) row = and_then (evaluated a row) (λ left. and_then (evaluated b row) (λ right. arithmetic op (number_in left) (number_in right)))
-evaluated (Shifted' p x by) row = and_then (evaluated x row) (λ value. shifted (time_in value) by)
-evaluated (Joined' p a q b) row = and_then (evaluated a row) (λ left. and_then (evaluated b row) (λ right. joined (text_in left) (text_in right)))
-evaluated (Compared' comparison p a q b) row = and_then (evaluated a row) (λ left. and_then (evaluated b row) (λ right. Ok (truth_value (compared comparison left right))))
-evaluated (And' p a q b) row = and_then (evaluated a row) (λ left. conjunction (truth_in left) (truth_of (evaluated b row)))
-evaluated (Or' p a q b) row = and_then (evaluated a row) (λ left. disjunction (truth_in left) (truth_of (evaluated b row)))
+evaluated (Negated' p (only x)) row = and_then (evaluated x row) (λ value. negated (number_in value))
+evaluated (Not' p (only x)) row = and_then (evaluated x row) (λ value. Ok (truth_value (negation (truth_in value))))
+evaluated (IsNull' p (only x)) row = and_then (evaluated x row) (λ value. Ok (Truth (is_null value)))
+evaluated (Arithmetic' op p (only a) q (only b)) row = and_then (evaluated a row) (λ left. and_then (evaluated b row) (λ right. arithmetic op (number_in left) (number_in right)))
+evaluated (Shifted' p (only x) by) row = and_then (evaluated x row) (λ value. shifted (time_in value) by)
+evaluated (Joined' p (only a) q (only b)) row = and_then (evaluated a row) (λ left. and_then (evaluated b row) (λ right. joined (text_in left) (text_in right)))
+evaluated (Compared' comparison p (only a) q (only b)) row = and_then (evaluated a row) (λ left. and_then (evaluated b row) (λ right. Ok (truth_value (compared comparison left right))))
+evaluated (And' p (only a) q (only b)) row = and_then (evaluated a row) (λ left. conjunction (truth_in left) (truth_of (evaluated b row)))
+evaluated (Or' p (only a) q (only b)) row = and_then (evaluated a row) (λ left. disjunction (truth_in left) (truth_of (evaluated b row)))
 -- `a BETWEEN b AND c` is `a >= b AND a <= c`, with a evaluated once
-evaluated (Between' p a q b r c) row =
+evaluated (Between' p (only a) q (only b) r (only c)) row =
     and_then (evaluated a row) (λ value. and_then (evaluated b row) (λ least.
     conjunction (compared AtLeast value least) (and_then (evaluated c row) (λ most. Ok (compared AtMost value most)))))

@@ -5,6 +5,7 @@ use Rattle.ssq_value.specs.declared.column.ColType.TheVariants as kind
 use Rattle.ssq_value.specs.declared.value.Value.{Value}
 use Rattle.ssq_value.specs.Kind.{kind_of, IsHeldBy}
 use Rattle.ssq_shape.specs.declared.typed.Typed.{Typed}
+use Rattle.ssq_shape.specs.Boxes.{only}
 use Rattle.ssq_shape.specs.declared.typed.Typed.TheVariants.{Column, Constant, Negated', Not', IsNull', Arithmetic', Shifted', Joined', Compared', Between', And', Or'}
 
 -- whether this is the type
@@ -34,16 +35,16 @@ gives kind right = if right then Some kind else None
 unfoldable pub kind_in : List ColType → Typed → Option ColType
 kind_in kinds (Column at) = slice_get kinds at
 kind_in kinds (Constant value) = kind_of value
-kind_in kinds (Negated' p x) = gives kind.Bigint (is_kind kind.Bigint (kind_in kinds x))
-kind_in kinds (Not' p x) = gives kind.Bool (is_kind kind.Bool (kind_in kinds x))
-kind_in kinds (IsNull' p x) = gives kind.Bool (is_typed (kind_in kinds x))
-kind_in kinds (Arithmetic' op p a q b) = gives kind.Bigint (is_kind kind.Bigint (kind_in kinds a) && is_kind kind.Bigint (kind_in kinds b))
-kind_in kinds (Shifted' p x by) = gives kind.Timestamp (is_kind kind.Timestamp (kind_in kinds x))
-kind_in kinds (Joined' p a q b) = gives kind.Str (is_kind kind.Str (kind_in kinds a) && is_kind kind.Str (kind_in kinds b))
-kind_in kinds (Compared' comparison p a q b) = gives kind.Bool (are_alike (kind_in kinds a) (kind_in kinds b))
-kind_in kinds (Between' p a q b r c) = gives kind.Bool (are_alike (kind_in kinds a) (kind_in kinds b) && are_alike (kind_in kinds a) (kind_in kinds c))
-kind_in kinds (And' p a q b) = gives kind.Bool (is_kind kind.Bool (kind_in kinds a) && is_kind kind.Bool (kind_in kinds b))
-kind_in kinds (Or' p a q b) = gives kind.Bool (is_kind kind.Bool (kind_in kinds a) && is_kind kind.Bool (kind_in kinds b))
+kind_in kinds (Negated' p (only x)) = gives kind.Bigint (is_kind kind.Bigint (kind_in kinds x))
+kind_in kinds (Not' p (only x)) = gives kind.Bool (is_kind kind.Bool (kind_in kinds x))
+kind_in kinds (IsNull' p (only x)) = gives kind.Bool (is_typed (kind_in kinds x))
+kind_in kinds (Arithmetic' op p (only a) q (only b)) = gives kind.Bigint (is_kind kind.Bigint (kind_in kinds a) && is_kind kind.Bigint (kind_in kinds b))
+kind_in kinds (Shifted' p (only x) by) = gives kind.Timestamp (is_kind kind.Timestamp (kind_in kinds x))
+kind_in kinds (Joined' p (only a) q (only b)) = gives kind.Str (is_kind kind.Str (kind_in kinds a) && is_kind kind.Str (kind_in kinds b))
+kind_in kinds (Compared' comparison p (only a) q (only b)) = gives kind.Bool (are_alike (kind_in kinds a) (kind_in kinds b))
+kind_in kinds (Between' p (only a) q (only b) r (only c)) = gives kind.Bool (are_alike (kind_in kinds a) (kind_in kinds b) && are_alike (kind_in kinds a) (kind_in kinds c))
+kind_in kinds (And' p (only a) q (only b)) = gives kind.Bool (is_kind kind.Bool (kind_in kinds a) && is_kind kind.Bool (kind_in kinds b))
+kind_in kinds (Or' p (only a) q (only b)) = gives kind.Bool (is_kind kind.Bool (kind_in kinds a) && is_kind kind.Bool (kind_in kinds b))
 
 -- the row has one value for each type, from the left: NULL, or a value of the type
 abbrev pub AreHeldBy : List ColType → List Value → Type 0

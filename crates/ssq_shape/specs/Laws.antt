@@ -13,6 +13,7 @@ use Rattle.ssq_shape.specs.declared.typed.Arithmetic.{Arithmetic}
 use Rattle.ssq_shape.specs.declared.typed.Arithmetic.TheVariants.{Plus, Minus, Times, Quotient, Remainder}
 use Rattle.ssq_shape.specs.declared.typed.Comparison.TheVariants.{AtMost, AtLeast}
 use Rattle.ssq_shape.specs.declared.typed.Typed.{Typed}
+use Rattle.ssq_shape.specs.Boxes.{only}
 use Rattle.ssq_shape.specs.declared.typed.Typed.TheVariants.{Column, Constant, Negated', Not', IsNull', Arithmetic', Shifted', Joined', Compared', Between', And', Or'}
 use Rattle.ssq_shape.specs.Evaluation.{Overflow, overflow, Evaluated, and_then, IfTime, is_printable, bigint, cell_at, constant, negated, calculated, arithmetic, shifted, joined, compared, number_in, time_in, text_in, truth_in, truth_value, truth_of, negation, both, either, conjunction, disjunction, evaluated}
 use Rattle.ssq_shape.specs.Kinds.{gives, kind_in, AreHeldBy}
@@ -100,16 +101,16 @@ pub value_held : (kinds : List ColType) (row : List Value) (x : Typed) (own : Co
 unfolding evaluated kind_in
 value_held kinds row (Column at) own held is = cell_held kinds row at own held is
 value_held kinds row (Constant value) own held is = constant_held value own is
-value_held kinds row (Negated' p x) own held is = by_kind kind.Bigint own _ _ is (then_ok (IsHeldBy kind.Bigint) (evaluated x row) _ (λ value. negated_ok (IsHeldBy kind.Bigint) tt (λ _. refl) (number_in value)))
-value_held kinds row (Not' p x) own held is = by_kind kind.Bool own _ _ is (then_ok (IsHeldBy kind.Bool) (evaluated x row) _ (λ value. truth_ok (IsHeldBy kind.Bool) tt (λ _. refl) (negation (truth_in value))))
-value_held kinds row (IsNull' p x) own held is = by_kind kind.Bool own _ _ is (then_ok (IsHeldBy kind.Bool) (evaluated x row) _ (λ _. refl))
-value_held kinds row (Arithmetic' op p a q b) own held is = by_kind kind.Bigint own _ _ is (then_ok (IsHeldBy kind.Bigint) (evaluated a row) _ (λ left. then_ok (IsHeldBy kind.Bigint) (evaluated b row) _ (λ right. arithmetic_ok (IsHeldBy kind.Bigint) tt (λ _. refl) op (number_in left) (number_in right))))
-value_held kinds row (Shifted' p x by) own held is = by_kind kind.Timestamp own _ _ is (then_ok (IsHeldBy kind.Timestamp) (evaluated x row) _ (λ value. shifted_ok (IsHeldBy kind.Timestamp) tt (λ _ _. refl) (time_in value) by))
-value_held kinds row (Joined' p a q b) own held is = by_kind kind.Str own _ _ is (then_ok (IsHeldBy kind.Str) (evaluated a row) _ (λ left. then_ok (IsHeldBy kind.Str) (evaluated b row) _ (λ right. joined_ok (IsHeldBy kind.Str) tt (λ _. refl) (text_in left) (text_in right))))
-value_held kinds row (Compared' comparison p a q b) own held is = by_kind kind.Bool own _ _ is (then_ok (IsHeldBy kind.Bool) (evaluated a row) _ (λ left. then_ok (IsHeldBy kind.Bool) (evaluated b row) _ (λ right. truth_ok (IsHeldBy kind.Bool) tt (λ _. refl) (compared comparison left right))))
-value_held kinds row (Between' p a q b r c) own held is = by_kind kind.Bool own _ _ is (then_ok (IsHeldBy kind.Bool) (evaluated a row) _ (λ value. then_ok (IsHeldBy kind.Bool) (evaluated b row) _ (λ least. conjunction_ok (IsHeldBy kind.Bool) tt (λ _. refl) (compared AtLeast value least) (and_then (evaluated c row) (λ most. Ok (compared AtMost value most))))))
-value_held kinds row (And' p a q b) own held is = by_kind kind.Bool own _ _ is (then_ok (IsHeldBy kind.Bool) (evaluated a row) _ (λ left. conjunction_ok (IsHeldBy kind.Bool) tt (λ _. refl) (truth_in left) (truth_of (evaluated b row))))
-value_held kinds row (Or' p a q b) own held is = by_kind kind.Bool own _ _ is (then_ok (IsHeldBy kind.Bool) (evaluated a row) _ (λ left. disjunction_ok (IsHeldBy kind.Bool) tt (λ _. refl) (truth_in left) (truth_of (evaluated b row))))
+value_held kinds row (Negated' p (only x)) own held is = by_kind kind.Bigint own _ _ is (then_ok (IsHeldBy kind.Bigint) (evaluated x row) _ (λ value. negated_ok (IsHeldBy kind.Bigint) tt (λ _. refl) (number_in value)))
+value_held kinds row (Not' p (only x)) own held is = by_kind kind.Bool own _ _ is (then_ok (IsHeldBy kind.Bool) (evaluated x row) _ (λ value. truth_ok (IsHeldBy kind.Bool) tt (λ _. refl) (negation (truth_in value))))
+value_held kinds row (IsNull' p (only x)) own held is = by_kind kind.Bool own _ _ is (then_ok (IsHeldBy kind.Bool) (evaluated x row) _ (λ _. refl))
+value_held kinds row (Arithmetic' op p (only a) q (only b)) own held is = by_kind kind.Bigint own _ _ is (then_ok (IsHeldBy kind.Bigint) (evaluated a row) _ (λ left. then_ok (IsHeldBy kind.Bigint) (evaluated b row) _ (λ right. arithmetic_ok (IsHeldBy kind.Bigint) tt (λ _. refl) op (number_in left) (number_in right))))
+value_held kinds row (Shifted' p (only x) by) own held is = by_kind kind.Timestamp own _ _ is (then_ok (IsHeldBy kind.Timestamp) (evaluated x row) _ (λ value. shifted_ok (IsHeldBy kind.Timestamp) tt (λ _ _. refl) (time_in value) by))
+value_held kinds row (Joined' p (only a) q (only b)) own held is = by_kind kind.Str own _ _ is (then_ok (IsHeldBy kind.Str) (evaluated a row) _ (λ left. then_ok (IsHeldBy kind.Str) (evaluated b row) _ (λ right. joined_ok (IsHeldBy kind.Str) tt (λ _. refl) (text_in left) (text_in right))))
+value_held kinds row (Compared' comparison p (only a) q (only b)) own held is = by_kind kind.Bool own _ _ is (then_ok (IsHeldBy kind.Bool) (evaluated a row) _ (λ left. then_ok (IsHeldBy kind.Bool) (evaluated b row) _ (λ right. truth_ok (IsHeldBy kind.Bool) tt (λ _. refl) (compared comparison left right))))
+value_held kinds row (Between' p (only a) q (only b) r (only c)) own held is = by_kind kind.Bool own _ _ is (then_ok (IsHeldBy kind.Bool) (evaluated a row) _ (λ value. then_ok (IsHeldBy kind.Bool) (evaluated b row) _ (λ least. conjunction_ok (IsHeldBy kind.Bool) tt (λ _. refl) (compared AtLeast value least) (and_then (evaluated c row) (λ most. Ok (compared AtMost value most))))))
+value_held kinds row (And' p (only a) q (only b)) own held is = by_kind kind.Bool own _ _ is (then_ok (IsHeldBy kind.Bool) (evaluated a row) _ (λ left. conjunction_ok (IsHeldBy kind.Bool) tt (λ _. refl) (truth_in left) (truth_of (evaluated b row))))
+value_held kinds row (Or' p (only a) q (only b)) own held is = by_kind kind.Bool own _ _ is (then_ok (IsHeldBy kind.Bool) (evaluated a row) _ (λ left. disjunction_ok (IsHeldBy kind.Bool) tt (λ _. refl) (truth_in left) (truth_of (evaluated b row))))
 
 -- ---- times
 
@@ -130,13 +131,13 @@ pub value_timed : (Q : ℤ → Type 0) → ((t : ℤ) → is_printable t ≡ tru
 unfolding evaluated
 value_timed Q printable row all (Column at) = cell_timed Q row at (recursion_from_All (IfTime Q) row all)
 value_timed Q printable row all (Constant value) = constant_timed Q printable value
-value_timed Q printable row all (Negated' p x) = then_ok (IfTime Q) (evaluated x row) _ (λ value. negated_ok (IfTime Q) tt (λ _. tt) (number_in value))
-value_timed Q printable row all (Not' p x) = then_ok (IfTime Q) (evaluated x row) _ (λ value. truth_ok (IfTime Q) tt (λ _. tt) (negation (truth_in value)))
-value_timed Q printable row all (IsNull' p x) = then_ok (IfTime Q) (evaluated x row) _ (λ _. tt)
-value_timed Q printable row all (Arithmetic' op p a q b) = then_ok (IfTime Q) (evaluated a row) _ (λ left. then_ok (IfTime Q) (evaluated b row) _ (λ right. arithmetic_ok (IfTime Q) tt (λ _. tt) op (number_in left) (number_in right)))
-value_timed Q printable row all (Shifted' p x by) = then_ok (IfTime Q) (evaluated x row) _ (λ value. shifted_ok (IfTime Q) tt printable (time_in value) by)
-value_timed Q printable row all (Joined' p a q b) = then_ok (IfTime Q) (evaluated a row) _ (λ left. then_ok (IfTime Q) (evaluated b row) _ (λ right. joined_ok (IfTime Q) tt (λ _. tt) (text_in left) (text_in right)))
-value_timed Q printable row all (Compared' comparison p a q b) = then_ok (IfTime Q) (evaluated a row) _ (λ left. then_ok (IfTime Q) (evaluated b row) _ (λ right. truth_ok (IfTime Q) tt (λ _. tt) (compared comparison left right)))
-value_timed Q printable row all (Between' p a q b r c) = then_ok (IfTime Q) (evaluated a row) _ (λ value. then_ok (IfTime Q) (evaluated b row) _ (λ least. conjunction_ok (IfTime Q) tt (λ _. tt) (compared AtLeast value least) (and_then (evaluated c row) (λ most. Ok (compared AtMost value most)))))
-value_timed Q printable row all (And' p a q b) = then_ok (IfTime Q) (evaluated a row) _ (λ left. conjunction_ok (IfTime Q) tt (λ _. tt) (truth_in left) (truth_of (evaluated b row)))
-value_timed Q printable row all (Or' p a q b) = then_ok (IfTime Q) (evaluated a row) _ (λ left. disjunction_ok (IfTime Q) tt (λ _. tt) (truth_in left) (truth_of (evaluated b row)))
+value_timed Q printable row all (Negated' p (only x)) = then_ok (IfTime Q) (evaluated x row) _ (λ value. negated_ok (IfTime Q) tt (λ _. tt) (number_in value))
+value_timed Q printable row all (Not' p (only x)) = then_ok (IfTime Q) (evaluated x row) _ (λ value. truth_ok (IfTime Q) tt (λ _. tt) (negation (truth_in value)))
+value_timed Q printable row all (IsNull' p (only x)) = then_ok (IfTime Q) (evaluated x row) _ (λ _. tt)
+value_timed Q printable row all (Arithmetic' op p (only a) q (only b)) = then_ok (IfTime Q) (evaluated a row) _ (λ left. then_ok (IfTime Q) (evaluated b row) _ (λ right. arithmetic_ok (IfTime Q) tt (λ _. tt) op (number_in left) (number_in right)))
+value_timed Q printable row all (Shifted' p (only x) by) = then_ok (IfTime Q) (evaluated x row) _ (λ value. shifted_ok (IfTime Q) tt printable (time_in value) by)
+value_timed Q printable row all (Joined' p (only a) q (only b)) = then_ok (IfTime Q) (evaluated a row) _ (λ left. then_ok (IfTime Q) (evaluated b row) _ (λ right. joined_ok (IfTime Q) tt (λ _. tt) (text_in left) (text_in right)))
+value_timed Q printable row all (Compared' comparison p (only a) q (only b)) = then_ok (IfTime Q) (evaluated a row) _ (λ left. then_ok (IfTime Q) (evaluated b row) _ (λ right. truth_ok (IfTime Q) tt (λ _. tt) (compared comparison left right)))
+value_timed Q printable row all (Between' p (only a) q (only b) r (only c)) = then_ok (IfTime Q) (evaluated a row) _ (λ value. then_ok (IfTime Q) (evaluated b row) _ (λ least. conjunction_ok (IfTime Q) tt (λ _. tt) (compared AtLeast value least) (and_then (evaluated c row) (λ most. Ok (compared AtMost value most)))))
+value_timed Q printable row all (And' p (only a) q (only b)) = then_ok (IfTime Q) (evaluated a row) _ (λ left. conjunction_ok (IfTime Q) tt (λ _. tt) (truth_in left) (truth_of (evaluated b row)))
+value_timed Q printable row all (Or' p (only a) q (only b)) = then_ok (IfTime Q) (evaluated a row) _ (λ left. disjunction_ok (IfTime Q) tt (λ _. tt) (truth_in left) (truth_of (evaluated b row)))

@@ -2,3 +2,4 @@ pub mod Evaluation
 pub mod Kinds
 pub mod Plain
 pub mod Laws
+pub mod Boxes

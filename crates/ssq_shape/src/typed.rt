@@ -1,5 +1,6 @@
 //! Typed expressions.
 
+use sqlite_items::Boxed;
 use ssq_value::Value;
 
 /// An operator on two whole numbers.
@@ -33,19 +34,19 @@ pub enum Typed {
     /// A number, text, time or truth value. The language has no constant that is NULL.
     Constant(Value),
     /// `-` before a number.
-    Negated(Box<Typed>),
+    Negated(Boxed<Typed>),
     /// `NOT`.
-    Not(Box<Typed>),
+    Not(Boxed<Typed>),
     /// `IS NULL`; `IS NOT NULL` is `NOT` of it.
-    IsNull(Box<Typed>),
-    Arithmetic(Arithmetic, Box<Typed>, Box<Typed>),
+    IsNull(Boxed<Typed>),
+    Arithmetic(Arithmetic, Boxed<Typed>, Boxed<Typed>),
     /// A time plus a span in microseconds, which is negative where the span is taken from the time.
-    Shifted(Box<Typed>, i64),
+    Shifted(Boxed<Typed>, i64),
     /// `||`: the two texts, one behind the other.
-    Joined(Box<Typed>, Box<Typed>),
-    Compared(Comparison, Box<Typed>, Box<Typed>),
+    Joined(Boxed<Typed>, Boxed<Typed>),
+    Compared(Comparison, Boxed<Typed>, Boxed<Typed>),
     /// `a BETWEEN b AND c`.
-    Between(Box<Typed>, Box<Typed>, Box<Typed>),
-    And(Box<Typed>, Box<Typed>),
-    Or(Box<Typed>, Box<Typed>),
+    Between(Boxed<Typed>, Boxed<Typed>, Boxed<Typed>),
+    And(Boxed<Typed>, Boxed<Typed>),
+    Or(Boxed<Typed>, Boxed<Typed>),
 }
