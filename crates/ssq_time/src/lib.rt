@@ -7,9 +7,11 @@ mod digits;
 mod printer;
 mod reader;
 mod span;
+mod stamp;
 #[cfg(test)]
 mod tests;
 
 pub use printer::{put_time, time_text};
 pub use reader::{read_stamp, read_time};
 pub use span::read_span;
+pub use stamp::is_stamp_time;

@@ -1,5 +1,5 @@
 //! Times and spans with the values that Python's `datetime` gives for them.
-use super::{read_span, read_stamp, read_time, time_text};
+use super::{is_stamp_time, read_span, read_stamp, read_time, time_text};
 use std::test::Fail;
 
 static TIMES: [(&str, Option<i64>); 81] = [
@@ -190,7 +190,7 @@ fn reads_times(rt: HostRuntime) {
 #[test]
 fn prints_and_reads_stamps(rt: HostRuntime) -> Result<(), Fail> {
     for (time, text) in &STAMPS {
-        assert!(rt; -62_135_596_800_000_000 <= *time && *time <= 253_402_300_799_999_999);
+        assert!(rt; is_stamp_time(*time));
         assert_eq!(rt;
             time_text(rt.alloc(), *time)?.as_slice(),
             text.as_bytes(),
@@ -202,6 +202,21 @@ fn prints_and_reads_stamps(rt: HostRuntime) -> Result<(), Fail> {
         assert_eq!(rt; read_stamp(text.as_bytes()), None, "{text}");
     }
     Ok(())
+}
+
+/// The first and the last microsecond of the years 0001 to 9999, and those beside them.
+static EDGES: [(i64, bool); 4] = [
+    (-62_135_596_800_000_001, false),
+    (-62_135_596_800_000_000, true),
+    (253_402_300_799_999_999, true),
+    (253_402_300_800_000_000, false),
+];
+
+#[test]
+fn tells_stamp_times(rt: HostRuntime) {
+    for (time, printed) in &EDGES {
+        assert_eq!(rt; is_stamp_time(*time), *printed);
+    }
 }
 
 #[test]
