@@ -7,11 +7,11 @@ mod digits;
 mod printer;
 mod reader;
 mod span;
-mod stamp;
 #[cfg(test)]
 mod tests;
+mod years;
 
 pub use printer::{put_time, time_text};
 pub use reader::{read_stamp, read_time};
 pub use span::read_span;
-pub use stamp::is_stamp_time;
+pub use years::{is_line_time, is_stamp_time};

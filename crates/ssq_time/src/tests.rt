@@ -1,5 +1,5 @@
 //! Times and spans with the values that Python's `datetime` gives for them.
-use super::{is_stamp_time, read_span, read_stamp, read_time, time_text};
+use super::{is_line_time, is_stamp_time, read_span, read_stamp, read_time, time_text};
 use std::test::Fail;
 
 static TIMES: [(&str, Option<i64>); 81] = [
@@ -204,18 +204,23 @@ fn prints_and_reads_stamps(rt: HostRuntime) -> Result<(), Fail> {
     Ok(())
 }
 
-/// The first and the last microsecond of the years 0001 to 9999, and those beside them.
-static EDGES: [(i64, bool); 4] = [
-    (-62_135_596_800_000_001, false),
-    (-62_135_596_800_000_000, true),
-    (253_402_300_799_999_999, true),
-    (253_402_300_800_000_000, false),
+/// The edges of the years 0001 to 9999 and 1000 to 9000: whether a time of a line is there, and whether one is printed.
+static EDGES: [(i64, bool, bool); 8] = [
+    (-62_135_596_800_000_001, false, false),
+    (-62_135_596_800_000_000, false, true),
+    (-30_610_224_000_000_001, false, true),
+    (-30_610_224_000_000_000, true, true),
+    (221_876_927_999_999_999, true, true),
+    (221_876_928_000_000_000, false, true),
+    (253_402_300_799_999_999, false, true),
+    (253_402_300_800_000_000, false, false),
 ];
 
 #[test]
-fn tells_stamp_times(rt: HostRuntime) {
-    for (time, printed) in &EDGES {
-        assert_eq!(rt; is_stamp_time(*time), *printed);
+fn tells_years(rt: HostRuntime) {
+    for (time, read, printed) in &EDGES {
+        assert_eq!(rt; is_line_time(*time), *read, "{time}");
+        assert_eq!(rt; is_stamp_time(*time), *printed, "{time}");
     }
 }
 
