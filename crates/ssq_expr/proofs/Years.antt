@@ -4,9 +4,10 @@ use Rattle.std.specs.Prelude.{All, IfOk}
 use Rattle.std.proofs.lemmas.Int.{ints}
 use Rattle.std.proofs.lemmas.Bool.{and_parts}
 use Rattle.std.proofs.lemmas.List.Elements.{All-nil, All-cons}
-use Rattle.ssq_time.specs.Time.{IsStampTime}
+use Rattle.ssq_time.specs.Time.{IsStampTime, is_stamp_time}
 use Rattle.ssq_value.specs.declared.value.Value.{Value}
-use Rattle.ssq_shape.specs.Evaluation.{Overflow, Evaluated, and_then, is_printable, IfTime, evaluated}
+use Rattle.ssq_value.specs.Kind.{IfTime}
+use Rattle.ssq_shape.specs.Evaluation.{Overflow, Evaluated, and_then, evaluated}
 use Rattle.ssq_shape.specs.Plain.{projected}
 use Rattle.ssq_shape.specs.Laws.{value_timed}
 use Rattle.ssq_shape.specs.declared.typed.Typed.{Typed}
@@ -18,7 +19,7 @@ use Rattle.ssq_expr.specs.Answers.{Answers, itself}
 at_most : (a b : ℤ) → int_le a b ≡ true → a ≤ℤ b
 at_most a b is = grind (arith, ints)
 
-printable : (t : ℤ) → is_printable t ≡ true → IsStampTime t
+printable : (t : ℤ) → is_stamp_time t ≡ true → IsStampTime t
 printable t is =
     let parts = and_parts _ _ is in
     (at_most _ t parts.0, at_most t _ parts.1)

@@ -3,7 +3,8 @@
 ghost use Rattle.std.specs.Prelude.{◌≡◌, All, IfOk};
 ghost use Rattle.std.specs.Cow.{cow_value};
 ghost use Rattle.ssq_time.specs.Time.{IsStampTime};
-ghost use Rattle.ssq_shape.specs.Evaluation.{cell_at, constant, IfTime, evaluated};
+ghost use Rattle.ssq_value.specs.Kind.{IfTime};
+ghost use Rattle.ssq_shape.specs.Evaluation.{cell_at, constant, evaluated};
 ghost use Rattle.ssq_expr.specs.Answers.{Answers, itself};
 
 use crate::fault::EvalFault;

@@ -7,15 +7,11 @@ ghost use Rattle.ssq_expr.specs.Answers.{Answers, itself};
 
 use crate::fault::EvalFault;
 use ssq_shape::{Arithmetic, Comparison};
+use ssq_time::is_stamp_time;
 use ssq_value::{Text, Value, order};
 use std::alloc::Global;
 use std::borrow::Cow;
 use std::cmp::Ordering;
-
-/// The first and the last microsecond of the years 0001 to 9999.
-const FIRST: i64 = -62_135_596_800_000_000;
-
-const LAST: i64 = 253_402_300_799_999_999;
 
 /// The most bytes of a text that `||` makes.
 const LONGEST: usize = 1_048_576;
@@ -90,7 +86,7 @@ pub(crate) fn is_null(value: Cow<Value>) -> bool
 pub(crate) fn timestamp(time: i64) -> Result<Value, EvalFault>
     ensures { Answers itself result (timestamp time) }
 {
-    if FIRST <= time && time <= LAST {
+    if is_stamp_time(time) {
         Ok(Value::Time(time))
     } else {
         Err(EvalFault::Overflow)

@@ -2,7 +2,7 @@
 
 ghost use Rattle.std.specs.Prelude.{All, IfOk};
 ghost use Rattle.ssq_time.specs.Time.{IsStampTime};
-ghost use Rattle.ssq_shape.specs.Evaluation.{IfTime};
+ghost use Rattle.ssq_value.specs.Kind.{IfTime};
 ghost use Rattle.ssq_shape.specs.Plain.{passes, projected};
 ghost use Rattle.ssq_expr.specs.Answers.{Answers, itself};
 

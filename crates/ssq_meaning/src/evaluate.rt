@@ -2,7 +2,7 @@
 
 ghost use Rattle.std.specs.Prelude.{◌≡◌, ◌+ℤ◌, ◌-ℤ◌, All, IfOk, IfSome};
 ghost use Rattle.ssq_time.specs.Time.{IsStampTime};
-ghost use Rattle.ssq_json.specs.Fits.{IfTime};
+ghost use Rattle.ssq_value.specs.Kind.{IfTime};
 ghost use Rattle.ssq_meaning.specs.Evaluation.{term_value, applied, sum_value, compares, is_true, passes, item_value, value_of, projected, shown_row, Answers};
 
 use ssq_query::{Comparison, Filter, Item, Op, Query, Sum, Term};

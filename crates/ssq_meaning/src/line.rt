@@ -2,7 +2,7 @@
 
 ghost use Rattle.std.specs.Prelude.{◌≡◌, ◌≤◌, [], ◌∷◌, false, length, option_to_list, All, IfOk, IfErr, IfSome};
 ghost use Rattle.ssq_time.specs.Time.{IsStampTime};
-ghost use Rattle.ssq_json.specs.Fits.{IfTime};
+ghost use Rattle.ssq_value.specs.Kind.{IfTime};
 ghost use Rattle.ssq_meaning.specs.Meaning.{layout_of, fed, shown, is_faulty, IsLineFault, IsCause};
 
 use crate::evaluate::{EvalFault, shown_row};

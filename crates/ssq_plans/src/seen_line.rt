@@ -8,13 +8,8 @@ use crate::fields::{after, put_time_or_none, short_after, time_and_rest};
 use crate::lines::Line;
 use crate::seen::SeenBy;
 use ssq_field::put_decimal_to;
+use ssq_time::is_line_time;
 use std::alloc::AllocError;
-
-/// The first microsecond of the year 1000.
-const FIRST: i64 = -30_610_224_000_000_000;
-
-/// The last microsecond of the year 9000.
-const LAST: i64 = 221_876_927_999_999_999;
 
 /// The greatest time of a stream, where it is none or of the years 1000 to 9000.
 fn seen_by(stream: u32, time: Option<i64>) -> Option<SeenBy>
@@ -24,7 +19,7 @@ fn seen_by(stream: u32, time: Option<i64>) -> Option<SeenBy>
     match time {
         None => Some(SeenBy { stream, time: None }),
         Some(at) => {
-            if FIRST <= at && at <= LAST {
+            if is_line_time(at) {
                 Some(SeenBy {
                     stream,
                     time: Some(at),

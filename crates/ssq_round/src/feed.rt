@@ -3,7 +3,7 @@
 ghost use Rattle.std.specs.Prelude.{◌≡◌, ◌<◌, ◌≤◌, ℕ, ◌++◌, List, [], ◌∷◌, None, false, option_to_list, All, IfOk, IfErr, IfSome, OnOk};
 ghost use Rattle.std.specs.List.{position_from};
 ghost use Rattle.ssq_time.specs.Time.{IsStampTime};
-ghost use Rattle.ssq_json.specs.Fits.{IfTime};
+ghost use Rattle.ssq_value.specs.Kind.{IfTime};
 ghost use Rattle.ssq_meaning.specs.Meaning.{layout_of, lines_between, fed, shown, is_faulty};
 ghost use Rattle.ssq_round.specs.Epochs.{IsRead, Shows, ShowCause, ReadCause, RowCause, FeedCause};
 ghost use Rattle.ssq_round.specs.Faults.{IsReadFault, LogRises, DiskRises};

@@ -2,7 +2,7 @@
 
 ghost use Rattle.std.specs.Prelude.{◌≡◌, ◌+◌, ◌<◌, ◌≤◌, List, ℕ, None, All, length, IfOk, IfErr, OnOk, IsErrOf};
 ghost use Rattle.ssq_time.specs.Time.{IsStampTime};
-ghost use Rattle.ssq_json.specs.Fits.{IfTime};
+ghost use Rattle.ssq_value.specs.Kind.{IfTime};
 ghost use Rattle.ssq_json.specs.RowText.{names_of};
 ghost use Rattle.ssq_query.specs.Names.{output_names};
 ghost use Rattle.ssq_meaning.specs.Meaning.{layout_of, fault, out};

@@ -3,7 +3,7 @@
 ghost use Rattle.std.specs.Prelude.{◌≡◌, ◌<◌, ◌≤◌, ◌≢◌, ℕ, ◌++◌, Some, None, length, option_to_list, All, IfOk, IfSome, OnOk, IsErrOf};
 ghost use Rattle.std.specs.List.{position_from};
 ghost use Rattle.ssq_time.specs.Time.{IsStampTime};
-ghost use Rattle.ssq_json.specs.Fits.{IfTime};
+ghost use Rattle.ssq_value.specs.Kind.{IfTime};
 ghost use Rattle.ssq_meaning.specs.Meaning.{layout_of, lines_between, fed, shown, is_faulty};
 ghost use Rattle.ssq_outside.specs.Faults.{Rises};
 ghost use Rattle.ssq_run.specs.Feeding.{IsRead, Shows, IsFaultyAt};

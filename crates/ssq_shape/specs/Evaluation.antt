@@ -8,6 +8,7 @@ use Rattle.std.specs.Ordering.{is_eq, is_ne, is_lt, is_le, is_gt, is_ge}
 use Rattle.ssq_value.specs.declared.value.Value.{Value}
 use Rattle.ssq_value.specs.declared.value.Value.TheVariants.{Null, Int, Text, Time, Truth}
 use Rattle.ssq_value.specs.Order.{value_cmp}
+use Rattle.ssq_time.specs.Time.{is_stamp_time}
 use Rattle.ssq_shape.specs.declared.typed.Arithmetic.{Arithmetic}
 use Rattle.ssq_shape.specs.declared.typed.Arithmetic.TheVariants.{Plus, Minus, Times, Quotient, Remainder}
 use Rattle.ssq_shape.specs.declared.typed.Comparison.{Comparison}
@@ -60,10 +61,6 @@ abbrev pub is_true : Value → Bool
 is_true (Truth truth) = truth
 is_true _ = false
 
--- P of the time, if the value is one
-abbrev pub IfTime : (ℤ → Type 0) → Value → Type 0
-IfTime P value = IfSome (time_in value) P
-
 -- a number is of 64 bits: from -2^63 to 2^63 - 1
 abbrev pub is_bigint : ℤ → Bool
 is_bigint z = int_le (negsuc (2 ^ 63 - 1)) z && int_le z (pos (2 ^ 63 - 1))
@@ -72,11 +69,8 @@ abbrev pub bigint : ℤ → Evaluated
 bigint z = if is_bigint z then Ok (Int z) else Err overflow
 
 -- a time is of the years 0001 to 9999, in microseconds since 1970-01-01T00:00:00Z
-abbrev pub is_printable : ℤ → Bool
-is_printable t = int_le (neg_ℤ (pos 62_135_596_800_000_000)) t && int_le t (pos 253_402_300_799_999_999)
-
 abbrev pub timestamp : ℤ → Evaluated
-timestamp t = if is_printable t then Ok (Time t) else Err overflow
+timestamp t = if is_stamp_time t then Ok (Time t) else Err overflow
 
 -- the most bytes that `||` makes
 abbrev pub longest : ℕ

@@ -8,14 +8,15 @@ use Rattle.ssq_value.specs.declared.column.ColType.{ColType}
 use Rattle.ssq_value.specs.declared.column.ColType.TheVariants as kind
 use Rattle.ssq_value.specs.declared.value.Value.{Value}
 use Rattle.ssq_value.specs.declared.value.Value.TheVariants.{Null, Int, Text, Time, Truth}
-use Rattle.ssq_value.specs.Kind.{kind_of, IsHeldBy}
+use Rattle.ssq_value.specs.Kind.{kind_of, IsHeldBy, IfTime}
+use Rattle.ssq_time.specs.Time.{is_stamp_time}
 use Rattle.ssq_shape.specs.declared.typed.Arithmetic.{Arithmetic}
 use Rattle.ssq_shape.specs.declared.typed.Arithmetic.TheVariants.{Plus, Minus, Times, Quotient, Remainder}
 use Rattle.ssq_shape.specs.declared.typed.Comparison.TheVariants.{AtMost, AtLeast}
 use Rattle.ssq_shape.specs.declared.typed.Typed.{Typed}
 use Rattle.ssq_shape.specs.Boxes.{only}
 use Rattle.ssq_shape.specs.declared.typed.Typed.TheVariants.{Column, Constant, Negated', Not', IsNull', Arithmetic', Shifted', Joined', Compared', Between', And', Or'}
-use Rattle.ssq_shape.specs.Evaluation.{Overflow, overflow, Evaluated, and_then, IfTime, is_printable, bigint, cell_at, constant, negated, calculated, arithmetic, shifted, joined, compared, number_in, time_in, text_in, truth_in, truth_value, truth_of, negation, both, either, conjunction, disjunction, evaluated}
+use Rattle.ssq_shape.specs.Evaluation.{Overflow, overflow, Evaluated, and_then, bigint, cell_at, constant, negated, calculated, arithmetic, shifted, joined, compared, number_in, time_in, text_in, truth_in, truth_value, truth_of, negation, both, either, conjunction, disjunction, evaluated}
 use Rattle.ssq_shape.specs.Kinds.{gives, kind_in, AreHeldBy}
 
 -- ---- what holds of each value that an operator can give
@@ -51,7 +52,7 @@ arithmetic_ok P null int op None b = null
 arithmetic_ok P null int op (Some a) None = null
 arithmetic_ok P null int op (Some a) (Some b) = calculated_ok P null int op a b
 
-shifted_ok : (P : Value → Type 0) → P Null → ((t : ℤ) → is_printable t ≡ true → P (Time t)) → (o : Option ℤ) (by : ℤ) → IfOk (shifted o by) P
+shifted_ok : (P : Value → Type 0) → P Null → ((t : ℤ) → is_stamp_time t ≡ true → P (Time t)) → (o : Option ℤ) (by : ℤ) → IfOk (shifted o by) P
 shifted_ok P null time None by = null
 shifted_ok P null time (Some t) by = if_fits P _ (Time (t +ℤ by)) (λ fits. time (t +ℤ by) fits)
 
@@ -119,7 +120,7 @@ cell_timed Q [] at all = tt
 cell_timed Q (value ∷ row) zero all = all.0
 cell_timed Q (value ∷ row) (suc at) all = cell_timed Q row at all.1
 
-constant_timed : (Q : ℤ → Type 0) → ((t : ℤ) → is_printable t ≡ true → Q t) → (value : Value) → IfOk (constant value) (IfTime Q)
+constant_timed : (Q : ℤ → Type 0) → ((t : ℤ) → is_stamp_time t ≡ true → Q t) → (value : Value) → IfOk (constant value) (IfTime Q)
 constant_timed Q printable Null = tt
 constant_timed Q printable (Int n) = tt
 constant_timed Q printable (Text text) = tt
@@ -127,7 +128,7 @@ constant_timed Q printable (Time t) = if_fits (IfTime Q) _ (Time t) (λ fits. pr
 constant_timed Q printable (Truth truth) = tt
 
 -- what holds of each time of the years 0001 to 9999, and of each time of the row, holds of the value where it is a time
-pub value_timed : (Q : ℤ → Type 0) → ((t : ℤ) → is_printable t ≡ true → Q t) → (row : List Value) → All (IfTime Q) row → (x : Typed) → IfOk (evaluated x row) (IfTime Q)
+pub value_timed : (Q : ℤ → Type 0) → ((t : ℤ) → is_stamp_time t ≡ true → Q t) → (row : List Value) → All (IfTime Q) row → (x : Typed) → IfOk (evaluated x row) (IfTime Q)
 unfolding evaluated
 value_timed Q printable row all (Column at) = cell_timed Q row at (recursion_from_All (IfTime Q) row all)
 value_timed Q printable row all (Constant value) = constant_timed Q printable value

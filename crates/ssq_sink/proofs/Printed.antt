@@ -5,7 +5,8 @@ use Rattle.std.proofs.lemmas.List.Elements.{All-append, All-cons, All-nil}
 use Rattle.ssq_time.specs.Time.{IsStampTime}
 use Rattle.ssq_value.specs.declared.value.Value.{Value}
 use Rattle.ssq_value.specs.Layout.{Layout}
-use Rattle.ssq_json.specs.Fits.{FitsSchema, IfTime}
+use Rattle.ssq_value.specs.Kind.{IfTime}
+use Rattle.ssq_json.specs.Fits.{FitsSchema}
 use Rattle.ssq_json.proofs.Fitting.{prints}
 
 -- one more row that was read

@@ -3,7 +3,7 @@
 ghost use Rattle.std.specs.Prelude.{IfOk};
 ghost use Rattle.std.specs.List.{All};
 ghost use Rattle.ssq_time.specs.Time.{IsStampTime};
-ghost use Rattle.ssq_json.specs.Fits.{IfTime};
+ghost use Rattle.ssq_value.specs.Kind.{IfTime};
 
 use super::*;
 use ssq_json::read_row;

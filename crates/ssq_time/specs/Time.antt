@@ -1,7 +1,7 @@
 -- The texts of times and spans. A time is a number of microseconds since 1970-01-01T00:00:00Z, by the proleptic
 -- Gregorian calendar, without leap seconds. Bytes are numbers: 32 is a space, 45 `-`, 46 `.`, 48 `0`, 57 `9`, 58 `:`,
 -- 84 `T` and 90 `Z`.
-use Rattle.std.specs.Prelude.{ℕ, zero, suc, ◌+◌, ◌-◌, ◌*◌, ◌/◌, ◌%◌, ◌==◌, ◌&&◌, ◌||◌, take, drop, position, codes, bytes_eq, nat_lt, nat_le, ℤ, pos, neg_ℤ, ◌+ℤ◌, ◌-ℤ◌, ◌*ℤ◌, ◌≤ℤ◌, int_le, unsigned_abs, List, [], ◌∷◌, ◌++◌, length, slice_index, Option, Some, None, option_and_then, if◌then◌else◌}
+use Rattle.std.specs.Prelude.{Bool, ℕ, zero, suc, ◌+◌, ◌-◌, ◌*◌, ◌/◌, ◌%◌, ◌==◌, ◌&&◌, ◌||◌, take, drop, position, codes, bytes_eq, nat_lt, nat_le, ℤ, pos, neg_ℤ, ◌+ℤ◌, ◌-ℤ◌, ◌*ℤ◌, ◌≤ℤ◌, int_le, unsigned_abs, List, [], ◌∷◌, ◌++◌, length, slice_index, Option, Some, None, option_and_then, if◌then◌else◌}
 use Rattle.std.specs.Int.{int_div_euclid, int_rem_euclid}
 use Rattle.jiff_core.specs.Calendar.{days_from_civil, days_in_month}
 
@@ -96,9 +96,20 @@ time_of text =
 abbrev pub IsLineTime : ℤ → Type 0
 IsLineTime t = (neg_ℤ (pos 30_610_224_000_000_000) ≤ℤ t) × (t ≤ℤ pos 221_876_927_999_999_999)
 
+-- the first and the last time of the years 0001 to 9999
+abbrev pub first_stamp : ℤ
+first_stamp = neg_ℤ (pos 62_135_596_800_000_000)
+
+abbrev pub last_stamp : ℤ
+last_stamp = pos 253_402_300_799_999_999
+
 -- a time of the years 0001 to 9999, which alone are printed
 abbrev pub IsStampTime : ℤ → Type 0
-IsStampTime t = (neg_ℤ (pos 62_135_596_800_000_000) ≤ℤ t) × (t ≤ℤ pos 253_402_300_799_999_999)
+IsStampTime t = (first_stamp ≤ℤ t) × (t ≤ℤ last_stamp)
+
+-- whether it is one
+abbrev pub is_stamp_time : ℤ → Bool
+is_stamp_time t = int_le first_stamp t && int_le t last_stamp
 
 -- a point and six digits that are not all 0
 unfoldable pub six_micros_of : List ℕ → Option ℕ

@@ -9,7 +9,9 @@ mod reader;
 mod span;
 #[cfg(test)]
 mod tests;
+mod years;
 
 pub use printer::{put_time, time_text};
 pub use reader::{read_stamp, read_time};
 pub use span::read_span;
+pub use years::{is_line_time, is_stamp_time};

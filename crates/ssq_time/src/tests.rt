@@ -1,5 +1,5 @@
 //! Times and spans with the values that Python's `datetime` gives for them.
-use super::{read_span, read_stamp, read_time, time_text};
+use super::{is_line_time, is_stamp_time, read_span, read_stamp, read_time, time_text};
 use std::test::Fail;
 
 static TIMES: [(&str, Option<i64>); 81] = [
@@ -190,7 +190,7 @@ fn reads_times(rt: HostRuntime) {
 #[test]
 fn prints_and_reads_stamps(rt: HostRuntime) -> Result<(), Fail> {
     for (time, text) in &STAMPS {
-        assert!(rt; -62_135_596_800_000_000 <= *time && *time <= 253_402_300_799_999_999);
+        assert!(rt; is_stamp_time(*time));
         assert_eq!(rt;
             time_text(rt.alloc(), *time)?.as_slice(),
             text.as_bytes(),
@@ -202,6 +202,26 @@ fn prints_and_reads_stamps(rt: HostRuntime) -> Result<(), Fail> {
         assert_eq!(rt; read_stamp(text.as_bytes()), None, "{text}");
     }
     Ok(())
+}
+
+/// The edges of the years 0001 to 9999 and 1000 to 9000: whether a time of a line is there, and whether one is printed.
+static EDGES: [(i64, bool, bool); 8] = [
+    (-62_135_596_800_000_001, false, false),
+    (-62_135_596_800_000_000, false, true),
+    (-30_610_224_000_000_001, false, true),
+    (-30_610_224_000_000_000, true, true),
+    (221_876_927_999_999_999, true, true),
+    (221_876_928_000_000_000, false, true),
+    (253_402_300_799_999_999, false, true),
+    (253_402_300_800_000_000, false, false),
+];
+
+#[test]
+fn tells_years(rt: HostRuntime) {
+    for (time, read, printed) in &EDGES {
+        assert_eq!(rt; is_line_time(*time), *read, "{time}");
+        assert_eq!(rt; is_stamp_time(*time), *printed, "{time}");
+    }
 }
 
 #[test]

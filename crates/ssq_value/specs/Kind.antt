@@ -1,5 +1,5 @@
 -- The types of values.
-use Rattle.std.specs.Prelude.{◌≡◌, List, [], ◌∷◌, Option, Some, None, IfSome}
+use Rattle.std.specs.Prelude.{◌≡◌, ℤ, List, [], ◌∷◌, Option, Some, None, IfSome}
 use Rattle.ssq_value.specs.declared.column.ColType.{ColType}
 use Rattle.ssq_value.specs.declared.column.ColType.TheVariants.{Bigint, Str, Timestamp, Bool}
 use Rattle.ssq_value.specs.declared.column.Column.{Column}
@@ -24,3 +24,11 @@ IsRowOf [] [] = Unit {0}
 IsRowOf [] (value ∷ values) = ⊥
 IsRowOf (column ∷ columns) [] = ⊥
 IsRowOf (column ∷ columns) (value ∷ values) = IsHeldBy column.kind value × IsRowOf columns values
+
+-- P of the time, if the value is one
+abbrev pub IfTime : (ℤ → Type 0) → Value → Type 0
+IfTime P Null = Unit {0}
+IfTime P (Int number) = Unit {0}
+IfTime P (Text text) = Unit {0}
+IfTime P (Time time) = P time
+IfTime P (Truth truth) = Unit {0}

@@ -2,7 +2,8 @@ use Rattle.std.proofs.Common.{◌≡◌, Ok, inl, inr}
 use Rattle.std.specs.Cow.{cow_value}
 use Rattle.ssq_value.specs.declared.value.Value.{Value}
 use Rattle.ssq_time.specs.Time.{IsStampTime}
-use Rattle.ssq_shape.specs.Evaluation.{IfTime, evaluated}
+use Rattle.ssq_value.specs.Kind.{IfTime}
+use Rattle.ssq_shape.specs.Evaluation.{evaluated}
 use Rattle.ssq_expr.proofs.Years.{value_years, told}
 use Rattle.ssq_expr.proofs.evaluate.eval.Goals as goal
 

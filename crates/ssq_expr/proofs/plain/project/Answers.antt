@@ -2,7 +2,7 @@ use Rattle.std.proofs.Common.{List, Ok}
 use Rattle.std.specs.Prelude.{All}
 use Rattle.ssq_value.specs.declared.value.Value.{Value}
 use Rattle.ssq_time.specs.Time.{IsStampTime}
-use Rattle.ssq_shape.specs.Evaluation.{IfTime}
+use Rattle.ssq_value.specs.Kind.{IfTime}
 use Rattle.ssq_shape.specs.Plain.{projected}
 use Rattle.ssq_expr.proofs.Years.{values_years, told}
 use Rattle.ssq_expr.proofs.plain.project.Goals as goal

@@ -1,7 +1,7 @@
 use Rattle.std.proofs.Common.{◌≡◌, ◌++◌, drop, Ok}
 use Rattle.std.specs.Prelude.{All}
 use Rattle.ssq_time.specs.Time.{IsStampTime}
-use Rattle.ssq_json.specs.Fits.{IfTime}
+use Rattle.ssq_value.specs.Kind.{IfTime}
 use Rattle.ssq_meaning.specs.Evaluation.{and_then, projected}
 use Rattle.ssq_meaning.proofs.evaluate.projected.Given as goal
 

@@ -1,7 +1,7 @@
 use Rattle.std.proofs.Common.{◌≤◌}
 use Rattle.std.specs.Prelude.{All}
 use Rattle.ssq_time.specs.Time.{IsStampTime}
-use Rattle.ssq_json.specs.Fits.{IfTime}
+use Rattle.ssq_value.specs.Kind.{IfTime}
 use Rattle.ssq_round.proofs.Rows.{SoFar}
 use Rattle.ssq_round.proofs.feed.feed.Given as goal
 

@@ -2,7 +2,7 @@ use Rattle.std.proofs.Common.{ap, ◌∙◌}
 use Rattle.std.specs.List.{All}
 use Rattle.std.proofs.lemmas.List.Sorted.{All-permutation}
 use Rattle.ssq_time.specs.Time.{IsStampTime}
-use Rattle.ssq_json.specs.Fits.{IfTime}
+use Rattle.ssq_value.specs.Kind.{IfTime}
 use Rattle.ssq_json.specs.RowText.{heads_of, names_of}
 use Rattle.ssq_sink.proofs.Rows.{lines-sink_text}
 use Rattle.ssq_sink.proofs.epoch.epoch_text.Goals as goal

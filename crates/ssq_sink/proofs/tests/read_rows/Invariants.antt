@@ -1,6 +1,6 @@
 use Rattle.std.specs.List.{All}
 use Rattle.ssq_time.specs.Time.{IsStampTime}
-use Rattle.ssq_json.specs.Fits.{IfTime}
+use Rattle.ssq_value.specs.Kind.{IfTime}
 use Rattle.ssq_sink.proofs.tests.read_rows.Given as goal
 
 -- each row so far has a text
