@@ -11,7 +11,7 @@ mod plain;
 
 pub use evaluate::eval;
 pub use fault::EvalFault;
-pub use plain::{passes, project};
+pub use plain::{passes, project, show};
 
 #[cfg(test)]
 mod tests;

@@ -1,15 +1,15 @@
 //! What a query that keeps nothing does with a row.
 
-ghost use Rattle.std.specs.Prelude.{All, IfOk};
+ghost use Rattle.std.specs.Prelude.{All, IfOk, IfSome};
 ghost use Rattle.ssq_time.specs.Time.{IsStampTime};
 ghost use Rattle.ssq_value.specs.Kind.{IfTime};
-ghost use Rattle.ssq_shape.specs.Plain.{passes, projected};
+ghost use Rattle.ssq_shape.specs.Plain.{passes, projected, shown};
 ghost use Rattle.ssq_expr.specs.Answers.{Answers, itself};
 
 use crate::evaluate::{eval, evaluate};
 use crate::fault::EvalFault;
 use crate::operators::truth_in;
-use ssq_shape::{Output, Typed};
+use ssq_shape::{Bound, Output, Typed};
 use ssq_value::{Row, Value};
 use std::alloc::{AllocError, Global};
 
@@ -44,4 +44,17 @@ pub fn project(alloc: Global, outputs: &[Output], row: &[Value]) -> Result<Row, 
 {
     let values = values_of(alloc, outputs, row)?;
     Ok(Row::from_vec(values))
+}
+
+/// The row that a query shows for a row of its stream: none where WHERE is not TRUE on it.
+pub fn show(alloc: Global, bound: &Bound, row: &[Value]) -> Result<Option<Row>, EvalFault>
+    ensures row { Answers itself result (shown bound.now row.now) }
+    // Its times are ones that can be printed, where each time of the row is.
+    ensures years { All (IfTime IsStampTime) row.now → IfOk result (λ shown. IfSome shown (All (IfTime IsStampTime))) }
+{
+    if !passes(alloc, &bound.filter, row)? {
+        return Ok(None);
+    }
+    let row = project(alloc, bound.outputs.as_slice(), row)?;
+    Ok(Some(row))
 }

@@ -1,10 +1,14 @@
 -- What a query that keeps nothing shows for a row.
-use Rattle.std.specs.Prelude.{Bool, true, if◌then◌else◌, List, [], ◌∷◌, Option, Some, None, Result, Ok}
+use Rattle.std.specs.Prelude.{Bool, true, if◌then◌else◌, ℕ, List, [], ◌∷◌, map, Option, Some, None, Result, Ok}
 use Rattle.ssq_value.specs.declared.value.Value.{Value}
 use Rattle.ssq_shape.specs.declared.typed.Typed.{Typed}
 use Rattle.ssq_shape.specs.declared.bound.Output.{Output}
 use Rattle.ssq_shape.specs.declared.bound.Bound.{Bound}
 use Rattle.ssq_shape.specs.Evaluation.{Overflow, and_then, evaluated, is_true}
+
+-- the names of the columns of the result, in the order of SELECT
+abbrev pub output_names : Bound → List (List ℕ)
+output_names bound = map (λ output. output.name) bound.outputs
 
 -- a row passes WHERE exactly where it is TRUE on it; each row passes where there is no WHERE
 abbrev pub passes : Option Typed → List Value → Result Bool Overflow
