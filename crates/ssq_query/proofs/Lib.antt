@@ -1,3 +1,4 @@
+pub mod Boxed
 pub mod Files
 pub mod Laws
 pub mod Lists

@@ -285,9 +285,9 @@ declaration_complete d rest listed =
     let w2 = name d.stream ∷ w3 in
     let w1 = keyword Stream ∷ w2 in
     let after_source : List ℕ × Words → Read Declaration = λ source. symbol_at mark.Semicolon source.1 >>= (λ ended. Some (record { stream = d.stream; columns = d.columns; source = source.0 }, ended.1)) in
-    let after_columns : List (List ℕ) × Words → Read Declaration = λ columns. symbol_at mark.RightParen columns.1 >>= (λ closed. keyword_at From closed.1 >>= (λ from. quoted_at from.1 >>= (λ source. symbol_at mark.Semicolon source.1 >>= (λ ended. Some (record { stream = d.stream; columns = columns.0; source = source.0 }, ended.1))))) in
+    let after_columns : List Column × Words → Read Declaration = λ columns. symbol_at mark.RightParen columns.1 >>= (λ closed. keyword_at From closed.1 >>= (λ from. quoted_at from.1 >>= (λ source. symbol_at mark.Semicolon source.1 >>= (λ ended. Some (record { stream = d.stream; columns = columns.0; source = source.0 }, ended.1))))) in
     let after_stream : List ℕ × Words → Read Declaration = λ stream. symbol_at mark.LeftParen stream.1 >>= (λ opened. list_at column_at 64 opened.1 >>= (λ columns. symbol_at mark.RightParen columns.1 >>= (λ closed. keyword_at From closed.1 >>= (λ from. quoted_at from.1 >>= (λ source. symbol_at mark.Semicolon source.1 >>= (λ ended. Some (record { stream = stream.0; columns = columns.0; source = source.0 }, ended.1))))))) in
-    let each : AllByRecursion (λ (c : List ℕ). Unit {0}) d.columns = all_allowed d.columns in
+    let each : AllByRecursion (λ (c : Column). Unit {0}) d.columns = all_allowed d.columns in
     ap (λ ws. declaration_at (keyword Create ∷ keyword Stream ∷ name d.stream ∷ symbol mark.LeftParen ∷ ws)) (append_assoc columns (symbol mark.RightParen ∷ keyword From ∷ quoted d.source ∷ symbol mark.Semicolon ∷ []) rest)
     ∙ ap (λ r. r >>= (λ create. keyword_at Stream create.1 >>= (λ declared. name_at declared.1 >>= after_stream))) (keyword_complete Create w1)
     ∙ ap (λ r. r >>= (λ declared. name_at declared.1 >>= after_stream)) (keyword_complete Stream w2)

@@ -1,3 +1,4 @@
+pub mod Binding
 pub mod Canonical
 pub mod Fault
 pub mod File

@@ -14,6 +14,7 @@
 #![tactic(auto)]
 
 mod apart;
+mod binding;
 mod canonical;
 mod fault;
 mod parse;
@@ -23,10 +24,12 @@ mod reader;
 mod typing;
 
 pub use apart::output_name;
+pub use binding::bind;
 pub use canonical::text;
 pub use fault::QueryFault;
 pub use query::{Filter, Item, Op, Query, Step, Sum, Term};
 pub use read::{one_query, read_query};
+pub use typing::item_kind;
 
 #[cfg(test)]
 mod tests;

@@ -1,6 +1,7 @@
 //! Reads a query from its words.
 
-ghost use Rattle.std.specs.Prelude.{◌≡◌};
+ghost use Rattle.std.specs.Prelude.{◌≡◌, position};
+ghost use Rattle.std.specs.Str.{bytes_eq};
 ghost use Rattle.ssq_query.specs.Names as names;
 ghost use Rattle.ssq_query.specs.Names.{column_names};
 ghost use Rattle.ssq_query.specs.Reading as spec;
@@ -36,13 +37,19 @@ pub(crate) struct Selection {
     pub filter: Option<Filter>,
 }
 
-/// The place of a column in the declaration.
-fn column_of(columns: &[Column], name: &str) -> Option<usize>
-    ensures { result ≡ spec.column_of name.now (column_names columns.now) }
+fn first_named(columns: &[Column], name: &str) -> Option<usize>
+    ensures { result ≡ position (λ column. bytes_eq column.name name.now) columns.now }
 {
     columns
         .iter()
         .position(|column| column.name.as_str() == name)
+}
+
+/// The place of a column in the declaration.
+fn column_of(columns: &[Column], name: &str) -> Option<usize>
+    ensures { result ≡ spec.column_of name.now (column_names columns.now) }
+{
+    first_named(columns, name)
 }
 
 #[tactic(auto, unfolding(crate::specs::Reading::term_at))]

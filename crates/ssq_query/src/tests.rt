@@ -31,6 +31,44 @@ fn reads_files(rt: HostRuntime) -> Result<(), Fail> {
             "CREATE STREAM a (v BIGINT) FROM ''; SELECT v + 0 AS v FROM a OUTPUT APPEND;",
             "CREATE STREAM a (v BIGINT) FROM ''; SELECT v + 0 AS v FROM a OUTPUT APPEND;",
         ),
+        // Columns of all types, and texts.
+        (
+            "create stream s (k string, v bigint, t timestamp, b boolean) from 's'; SELECT k, v + 1 AS w, t, b AS c, 'it''s' AS x FROM s WHERE k='a' OUTPUT APPEND;",
+            "CREATE STREAM s (k STRING, v BIGINT, t TIMESTAMP, b BOOLEAN) FROM 's'; SELECT k, v + 1 AS w, t, b AS c, 'it''s' AS x FROM s WHERE k = 'a' OUTPUT APPEND;",
+        ),
+        (
+            "CREATE STREAM s (t TIMESTAMP, u TIMESTAMP) FROM 's'; SELECT t FROM s WHERE t <= u OUTPUT APPEND;",
+            "CREATE STREAM s (t TIMESTAMP, u TIMESTAMP) FROM 's'; SELECT t FROM s WHERE t <= u OUTPUT APPEND;",
+        ),
+        (
+            "CREATE STREAM s (b BOOLEAN, c BOOLEAN) FROM 's'; SELECT b FROM s WHERE b <> c OUTPUT APPEND;",
+            "CREATE STREAM s (b BOOLEAN, c BOOLEAN) FROM 's'; SELECT b FROM s WHERE b <> c OUTPUT APPEND;",
+        ),
+        // Not well typed.
+        (
+            "CREATE STREAM s (k STRING) FROM 's'; SELECT k + 1 AS w FROM s OUTPUT APPEND;",
+            "not yet",
+        ),
+        (
+            "CREATE STREAM s (k STRING) FROM 's'; SELECT 'a' + 'b' AS w FROM s OUTPUT APPEND;",
+            "not yet",
+        ),
+        (
+            "CREATE STREAM s (v BIGINT, t TIMESTAMP) FROM 's'; SELECT v - t AS w FROM s OUTPUT APPEND;",
+            "not yet",
+        ),
+        (
+            "CREATE STREAM s (k STRING, v BIGINT) FROM 's'; SELECT k FROM s WHERE k = v OUTPUT APPEND;",
+            "not yet",
+        ),
+        (
+            "CREATE STREAM s (t TIMESTAMP) FROM 's'; SELECT t FROM s WHERE t > '2024-01-01T00:00:00Z' OUTPUT APPEND;",
+            "not yet",
+        ),
+        (
+            "CREATE STREAM s (b BOOLEAN) FROM 's'; SELECT b FROM s WHERE b = 1 OUTPUT APPEND;",
+            "not yet",
+        ),
         // Not of the grammar.
         ("", "not yet"),
         ("CREATE STREAM a (v BIGINT) FROM 'a';", "not yet"),
@@ -39,7 +77,11 @@ fn reads_files(rt: HostRuntime) -> Result<(), Fail> {
             "not yet",
         ),
         (
-            "CREATE STREAM a (v STRING) FROM 'a'; SELECT v FROM a OUTPUT APPEND;",
+            "CREATE STREAM a (v FLOAT) FROM 'a'; SELECT v FROM a OUTPUT APPEND;",
+            "not yet",
+        ),
+        (
+            "CREATE STREAM a (v BIGINT) FROM 'a'; SELECT 'a' FROM a OUTPUT APPEND;",
             "not yet",
         ),
         (

@@ -1,7 +1,8 @@
 //! Whether a query is well typed.
 
 ghost use Rattle.std.specs.Prelude.{◌≡◌};
-ghost use Rattle.ssq_shape.specs.Kinds.{are_alike};
+ghost use Rattle.std.specs.List.{list_all};
+ghost use Rattle.ssq_shape.specs.Kinds.{are_alike, is_typed};
 ghost use Rattle.ssq_query.specs.Typing.{column_kind, term_kind, added_kind, sum_kind, item_kind, is_condition, is_well_typed};
 
 use crate::query::{Filter, Item, Query, Sum, Term};
@@ -55,6 +56,12 @@ pub fn item_kind(columns: &[Column], item: &Item) -> Option<ColType>
     }
 }
 
+fn is_typed(kind: Option<ColType>) -> bool
+    ensures { result ≡ is_typed kind }
+{
+    kind.is_some()
+}
+
 /// Whether there are two types, and they are equal.
 fn are_alike(left: Option<ColType>, right: Option<ColType>) -> bool
     ensures { result ≡ are_alike left right }
@@ -77,15 +84,16 @@ fn is_condition(columns: &[Column], filter: &Option<Filter>) -> bool
     }
 }
 
+fn have_types(columns: &[Column], items: &[Item]) -> bool
+    ensures { result ≡ list_all (λ item. is_typed (item_kind columns.now item)) items.now }
+{
+    items.iter().all(|item| is_typed(item_kind(columns, item)))
+}
+
 /// Whether each item has a type, and WHERE compares two values of one type.
 pub(crate) fn is_well_typed(query: &Query) -> bool
     ensures { result ≡ is_well_typed query.now }
 {
     let columns = query.columns.as_slice();
-    query
-        .items
-        .as_slice()
-        .iter()
-        .all(|item| item_kind(columns, item).is_some())
-        && is_condition(columns, &query.filter)
+    have_types(columns, query.items.as_slice()) && is_condition(columns, &query.filter)
 }
