@@ -8,18 +8,18 @@ use Rattle.std.proofs.lemmas.List.{drop_more, take_all, length-take-le}
 use Rattle.std.proofs.lemmas.Option.{slice_get_within, get_or_from_slice_get}
 use Rattle.std.proofs.lemmas.Bool.{cases_lt, lt-ltb}
 use Rattle.std.proofs.lemmas.List.Elements.{filter_map-append, filter-append}
-use Rattle.ssq_query.specs.declared.query.Query.{Query}
+use Rattle.ssq_shape.specs.declared.bound.Bound.{Bound}
 use Rattle.ssq_json.specs.Line.{row_of, longest}
 use Rattle.ssq_json.specs.declared.bad_row.BadRow.TheVariants.{TooLong}
-use Rattle.ssq_meaning.specs.Evaluation.{projected}
+use Rattle.ssq_shape.specs.Plain.{projected}
 use Rattle.ssq_meaning.specs.Meaning.{Line, Cuts, row_in, read_as, is_fed, fed, shown, lines_between, lines_of, given, meaning}
 
 -- rows are shown line by line
-pub shown-append : (query : Query) (xs ys : List Line) → shown query (fed query (xs ++ ys)) ≡ shown query (fed query xs) ++ shown query (fed query ys)
+pub shown-append : (query : Bound) (xs ys : List Line) → shown query (fed query (xs ++ ys)) ≡ shown query (fed query xs) ++ shown query (fed query ys)
 shown-append query xs ys =
     ap (λ rows. shown query (filter (is_fed query) rows)) (filter_map-append (row_in query) xs ys)
     ∙ ap (shown query) (filter-append (is_fed query) (filter_map (row_in query) xs) (filter_map (row_in query) ys))
-    ∙ filter_map-append (λ row. result_ok (projected row query.items)) (fed query xs) (fed query ys)
+    ∙ filter_map-append (λ row. result_ok (projected query.outputs row)) (fed query xs) (fed query ys)
 
 -- a longer front is a front and what follows it
 pub take-more : {X : Type 0} (a b : ℕ) (xs : List X) → a ≤ b → take b xs ≡ take a xs ++ take (b - a) (drop a xs)
@@ -31,7 +31,7 @@ take-more (suc a) (suc b) (x ∷ xs) le =
     let e : suc b - suc a ≡ b - a = omega arith in
     rw e (ap (λ rest. x ∷ rest) (take-more a b xs shorter))
 
-pub given-meaning : (query : Query) (lines : List Line) (cuts : Cuts) (n : ℕ) → cuts 0 ≡ 0 → ((e : ℕ) → cuts e ≤ cuts (e + 1)) → given query lines cuts n ≡ meaning query lines cuts n
+pub given-meaning : (query : Bound) (lines : List Line) (cuts : Cuts) (n : ℕ) → cuts 0 ≡ 0 → ((e : ℕ) → cuts e ≤ cuts (e + 1)) → given query lines cuts n ≡ meaning query lines cuts n
 unfolding given
 given-meaning query lines cuts zero starts rises = rw starts refl
 given-meaning query lines cuts (suc n) starts rises =
@@ -52,12 +52,12 @@ lines_between-front at end lines line inside there =
 pub lines_between-none : (at : ℕ) (lines : List Line) → lines_between at at lines ≡ []
 lines_between-none at lines = let e : at - at ≡ 0 = omega arith in rw e refl
 
-too_long : (query : Query) (line : Line) → nat_lt longest (length line) ≡ true → read_as query line ≡ Err TooLong
+too_long : (query : Bound) (line : Line) → nat_lt longest (length line) ≡ true → read_as query line ≡ Err TooLong
 unfolding row_of
 too_long query line long = rw long refl
 
 -- a line that is cut behind its first 1,048,577 bytes is read the same
-pub read_as-take : (query : Query) (line : Line) → read_as query (take 1048577 line) ≡ read_as query line
+pub read_as-take : (query : Bound) (line : Line) → read_as query (take 1048577 line) ≡ read_as query line
 read_as-take query line =
     elim (cases_lt 1048577 (length line)) [
       | inl long ↦

@@ -1,7 +1,7 @@
 //! How a log is cut into epochs, and that the cutting does not matter.
 
 ghost use Rattle.std.specs.Prelude.{◌≡◌, ◌≤◌, ◌+◌, ℕ, List};
-ghost use Rattle.ssq_query.specs.declared.query.Query.{Query};
+ghost use Rattle.ssq_shape.specs.declared.bound.Bound.{Bound as Bound};
 ghost use Rattle.ssq_meaning.specs.Meaning.{Line, Cuts, next_end, given, meaning};
 
 /// Where the next epoch ends: at what was seen, or earlier where an epoch has at most so many lines.
@@ -17,6 +17,6 @@ pub fn next_end(most: Option<u64>, seen: u64, from: u64) -> u64
 /// The law of epochs: what the first n epochs give, one after the other, is what the query means on their lines,
 /// however these were cut.
 pub fn epochs_add_up()
-    ensures { (query : Query) (lines : List Line) (cuts : Cuts) (n : ℕ) → cuts 0 ≡ 0 → ((e : ℕ) → cuts e ≤ cuts (e + 1)) →
+    ensures { (query : Bound) (lines : List Line) (cuts : Cuts) (n : ℕ) → cuts 0 ≡ 0 → ((e : ℕ) → cuts e ≤ cuts (e + 1)) →
         given query lines cuts n ≡ meaning query lines cuts n }
 {}

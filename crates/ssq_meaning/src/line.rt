@@ -1,14 +1,14 @@
 //! What a query shows of one line of its log.
 
-ghost use Rattle.std.specs.Prelude.{◌≡◌, ◌≤◌, [], ◌∷◌, false, length, option_to_list, All, IfOk, IfErr, IfSome};
+ghost use Rattle.std.specs.Prelude.{◌≡◌, [], ◌∷◌, false, option_to_list, All, IfOk, IfErr, IfSome};
 ghost use Rattle.ssq_time.specs.Time.{IsStampTime};
 ghost use Rattle.ssq_value.specs.Kind.{IfTime};
 ghost use Rattle.ssq_meaning.specs.Meaning.{layout_of, fed, shown, is_faulty, IsLineFault, IsCause};
 
-use crate::evaluate::{EvalFault, shown_row};
+use ssq_expr::{EvalFault, show};
 use ssq_json::{BadRow, read_row};
-use ssq_query::Query;
-use ssq_value::{ColType, Column, Row, Schema};
+use ssq_shape::{Bound, copied_schema};
+use ssq_value::{Row, Schema};
 use std::alloc::{AllocError, Global};
 use thiserror::Error;
 
@@ -18,8 +18,8 @@ pub enum LineFault {
     /// The line is bad, with the first cause; it is never that memory ran out.
     #[error("the line is bad")]
     Bad(BadRow),
-    /// WHERE, or where that is TRUE an item of SELECT, is outside 64 bits.
-    #[error("a result is outside 64 bits")]
+    /// WHERE, or where that is TRUE an item of SELECT, is outside of its type's range.
+    #[error("a result is outside of its type's range")]
     Overflow,
     /// Memory ran out.
     #[error("out of memory")]
@@ -27,25 +27,20 @@ pub enum LineFault {
 }
 
 /// The schema of a query's stream.
-pub fn schema_of(alloc: Global, query: &Query) -> Result<Schema, AllocError>
-    requires { length query.now.columns ≤ 64 }
+pub fn schema_of(alloc: Global, query: &Bound) -> Result<Schema, AllocError>
     ensures { IfOk result (λ schema. schema ≡ layout_of query.now) }
 {
-    let names = query.columns.as_slice();
-    let mut columns = Vec::with_capacity(alloc, names.len())?;
-    for name in names {
-        columns.push(Column {
-            name: name.clone()?,
-            kind: ColType::Bigint,
-        })?;
+    match query.streams.as_slice().first() {
+        Some(stream) => copied_schema(alloc, &stream.schema),
+        None => Ok(Schema::new(Vec::new(alloc), None)),
     }
-    Ok(Schema::new(columns, None))
 }
 
 /// The row that a query shows for a line, if it shows one.
+#[tactic(auto, using(crate::proofs::Years::years))]
 pub fn show_line(
     alloc: Global,
-    query: &Query,
+    query: &Bound,
     schema: &Schema,
     line: &[u8],
 ) -> Result<Option<Row>, LineFault>
@@ -59,7 +54,7 @@ pub fn show_line(
 {
     match read_row(alloc, line, schema) {
         Ok(None) => Ok(None),
-        Ok(Some(row)) => match shown_row(alloc, query, row.as_slice()) {
+        Ok(Some(row)) => match show(alloc, query, row.as_slice()) {
             Ok(shown) => Ok(shown),
             Err(EvalFault::Overflow) => Err(LineFault::Overflow),
             Err(EvalFault::NoMemory) => Err(LineFault::NoMemory),

@@ -5,8 +5,8 @@ use Rattle.std.specs.List.{position_from}
 use Rattle.std.proofs.lemmas.Bool.{ltb-true, ltb-false}
 use Rattle.ssq_outside.specs.Files.{Files}
 use Rattle.ssq_outside.specs.History.{History}
-use Rattle.ssq_query.specs.declared.query.Query.{Query}
-use Rattle.ssq_query.specs.Names.{output_names}
+use Rattle.ssq_shape.specs.declared.bound.Bound.{Bound}
+use Rattle.ssq_shape.specs.Plain.{output_names}
 use Rattle.ssq_meaning.specs.Meaning.{Line, Cuts, fed, shown, out, fault, is_faulty, lines_between, next_end}
 use Rattle.ssq_sink.specs.Sink.{sink_text}
 use Rattle.ssq_core.specs.Course.{AgreeUpTo}
@@ -44,11 +44,11 @@ continued_same cuts n most seen (suc e) le = same_by cuts n most seen e (nat_lt 
 pub continued_next : (cuts : Cuts) (n : ℕ) (most : Option ℕ) (seen : ℕ) → GoesOn (continued cuts n most seen) n most seen
 continued_next cuts n most seen e le = ap (continued cuts n most seen) (add-one e) ∙ more_by cuts n most seen e (nat_lt e n) refl le
 
-fault_same : (query : Query) (lines : List Line) (cuts other : Cuts) (e : ℕ) → other e ≡ cuts e → other (e + 1) ≡ cuts (e + 1)
+fault_same : (query : Bound) (lines : List Line) (cuts other : Cuts) (e : ℕ) → other e ≡ cuts e → other (e + 1) ≡ cuts (e + 1)
     → fault query lines other e ≡ fault query lines cuts e
 fault_same query lines cuts other e from end = λ i. position_from (is_faulty query) (from i) (lines_between (from i) (end i) lines)
 
-out_same : (query : Query) (lines : List Line) (cuts other : Cuts) (e : ℕ) → other e ≡ cuts e → other (e + 1) ≡ cuts (e + 1)
+out_same : (query : Bound) (lines : List Line) (cuts other : Cuts) (e : ℕ) → other e ≡ cuts e → other (e + 1) ≡ cuts (e + 1)
     → out query lines other e ≡ out query lines cuts e
 out_same query lines cuts other e from end = λ i. shown query (fed query (lines_between (from i) (end i) lines))
 
@@ -60,7 +60,7 @@ standing_same job cuts other n k w same standing = record {
   inside = omega (arith, standing.inside, same n (omega arith));
   faultless = λ e less.
       let below : e < n = omega (arith, less, standing.reached.planned_first) in
-      fault_same job.query job.lines cuts other e (same e (omega (arith, below))) (same (e + 1) (omega (arith, below))) ∙ standing.faultless e less;
+      fault_same job.bound job.lines cuts other e (same e (omega (arith, below))) (same (e + 1) (omega (arith, below))) ∙ standing.faultless e less;
 }
 
 agree : (job : Job) (cuts other : Cuts) (n k w : ℕ) → ((e : ℕ) → e ≤ n → other e ≡ cuts e) → w ≤ n → AgreeUpTo (course_of job cuts) (course_of job other) n k w
@@ -69,7 +69,7 @@ agree job cuts other n k w same le = record {
   ends = λ e less. ap part_ends (sym (same (e + 1) (omega (arith, less))));
   watermark = λ e less. refl;
   seen = λ e less. refl;
-  rows = λ e less. ap (sink_text (output_names job.query)) (sym (out_same job.query job.lines cuts other e (same e (omega (arith, less, le))) (same (e + 1) (omega (arith, less, le)))));
+  rows = λ e less. ap (sink_text (output_names job.bound)) (sym (out_same job.bound job.lines cuts other e (same e (omega (arith, less, le))) (same (e + 1) (omega (arith, less, le)))));
 }
 
 -- what is ready is ready for the round's cuts

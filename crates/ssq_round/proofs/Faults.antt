@@ -4,7 +4,7 @@ use Rattle.std.proofs.lemmas.Bool.{cases_lt}
 use Rattle.ssq_outside.specs.declared.disk.DiskError.{DiskError}
 use Rattle.ssq_outside.specs.declared.disk.DiskError.TheVariants as disk
 use Rattle.ssq_outside.specs.History.{History}
-use Rattle.ssq_query.specs.declared.query.Query.{Query}
+use Rattle.ssq_shape.specs.declared.bound.Bound.{Bound}
 use Rattle.ssq_meaning.specs.Meaning.{Line, Cuts, fault, IsFirstFault, IsFaultOf}
 use Rattle.ssq_meaning.specs.declared.line.LineFault.{LineFault}
 use Rattle.ssq_meaning.specs.declared.line.LineFault.TheVariants as line
@@ -31,20 +31,20 @@ read_only DiskFault is = tt
 read_only NoMemory is = tt
 
 -- the first fault, as the job's cuts have it
-fault_of_job : (job : Job) (cuts : Cuts) (query : Query) (lines : List Line) (e from end at : ℕ) (what : LineFault)
-    → IsJobOf job query lines → IsEpochOf cuts e from end → IsFirstFault query lines from end at what → IsFaultOf job.query job.lines cuts e at what
+fault_of_job : (job : Job) (cuts : Cuts) (query : Bound) (lines : List Line) (e from end at : ℕ) (what : LineFault)
+    → IsJobOf job query lines → IsEpochOf cuts e from end → IsFirstFault query lines from end at what → IsFaultOf job.bound job.lines cuts e at what
 fault_of_job job cuts query lines e from end at what of_job epoch is =
-    let A : Query → Type 0 = λ q. IsFirstFault q lines from end at what in
-    let B : List Line → Type 0 = λ ls. IsFirstFault job.query ls from end at what in
-    let C : ℕ → Type 0 = λ f. IsFirstFault job.query job.lines f end at what in
-    let D : ℕ → Type 0 = λ t. IsFirstFault job.query job.lines (cuts e) t at what in
+    let A : Bound → Type 0 = λ q. IsFirstFault q lines from end at what in
+    let B : List Line → Type 0 = λ ls. IsFirstFault job.bound ls from end at what in
+    let C : ℕ → Type 0 = λ f. IsFirstFault job.bound job.lines f end at what in
+    let D : ℕ → Type 0 = λ t. IsFirstFault job.bound job.lines (cuts e) t at what in
     subst D (sym epoch.ends) (subst C (sym epoch.begins) (subst B (sym of_job.same_lines) (subst A (sym of_job.same_query) is)))
 
 some_none : (at : ℕ) → Some at ≡ None → ⊥
 some_none at e = cc
 
 -- an epoch with a fault is not written
-faulty_settled : (job : Job) (cuts : Cuts) (e w at : ℕ) (now : History) → IsPlanned job cuts e w now → fault job.query job.lines cuts e ≡ Some at
+faulty_settled : (job : Job) (cuts : Cuts) (e w at : ℕ) (now : History) → IsPlanned job cuts e w now → fault job.bound job.lines cuts e ≡ Some at
     → IsSettledAs now (files_at (course_of job cuts) (e + 1) e e)
 faulty_settled job cuts e w at now planned is = elim (cases_lt e w) [
   | inl there ↦ absurd (some_none at (sym is ∙ planned.standing.faultless e there))
@@ -54,7 +54,7 @@ faulty_settled job cuts e w at now planned is = elim (cases_lt e w) [
 ]
 
 -- what stops the reading of an epoch's lines stops the epoch, which is planned
-pub feed_stops : (job : Job) (cuts : Cuts) (query : Query) (lines : List Line) (e from end known w : ℕ) (now : History) (fault : RoundFault)
+pub feed_stops : (job : Job) (cuts : Cuts) (query : Bound) (lines : List Line) (e from end known w : ℕ) (now : History) (fault : RoundFault)
     → IsJobOf job query lines → IsEpochOf cuts e from end → IsPlanned job cuts e w now → end ≤ known
     → IsReadFault fault → FeedCause query lines from end known fault → EpochCause job cuts e now fault
 feed_stops job cuts query lines e from end known w now (Bad offset cause) of_job epoch planned there only is =

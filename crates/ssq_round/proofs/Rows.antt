@@ -4,7 +4,7 @@ use Rattle.std.specs.Prelude.{IfOk, IfErr, filter, Some, None, is_some, slice_ge
 use Rattle.std.specs.List.{position_from, cons_option}
 use Rattle.std.specs.Result.{result_ok}
 use Rattle.std.proofs.lemmas.List.{append-nil}
-use Rattle.ssq_query.specs.declared.query.Query.{Query}
+use Rattle.ssq_shape.specs.declared.bound.Bound.{Bound}
 use Rattle.ssq_meaning.specs.Meaning.{Line, Values, is_fed, fed, shown, lines_between, is_faulty, fault_of_row, line_fault, IsFirstFault}
 use Rattle.ssq_meaning.specs.declared.line.LineFault.{LineFault}
 use Rattle.ssq_meaning.specs.declared.line.LineFault.TheVariants as line
@@ -22,22 +22,22 @@ if_err (Ok x) p f = p
 if_err (Err e) p f = f e p
 
 -- Up to an offset: what the lines from there on show is what is left to show, and the first fault is not before it.
-pub record SoFar (query : Query) (lines now : List Line) (from at end : ℕ) (rows : List Values) : Type 0 where
+pub record SoFar (query : Bound) (lines now : List Line) (from at end : ℕ) (rows : List Values) : Type 0 where
   pub same : now ≡ lines
   pub left : rows ++ shown query (fed query (lines_between at end lines)) ≡ shown query (fed query (lines_between from end lines))
   pub unfaulty : position_from (is_faulty query) at (lines_between at end lines) ≡ position_from (is_faulty query) from (lines_between from end lines)
 
-pub begun : (query : Query) (lines : List Line) (from end : ℕ) → SoFar query lines lines from from end []
+pub begun : (query : Bound) (lines : List Line) (from end : ℕ) → SoFar query lines lines from from end []
 begun query lines from end = record { same = refl; left = refl; unfaulty = refl }
 
-fault-take : (query : Query) (line : Line) → line_fault query (take 1048577 line) ≡ line_fault query line
+fault-take : (query : Bound) (line : Line) → line_fault query (take 1048577 line) ≡ line_fault query line
 fault-take query line = ap (fault_of_row query) (read_as-take query line)
 
-shown-take : (query : Query) (line : Line) → shown query (fed query (take 1048577 line ∷ [])) ≡ shown query (fed query (line ∷ []))
+shown-take : (query : Bound) (line : Line) → shown query (fed query (take 1048577 line ∷ [])) ≡ shown query (fed query (line ∷ []))
 shown-take query line = ap (λ read. shown query (filter (is_fed query) (cons_option (option_and_then (λ row. row) (result_ok read)) []))) (read_as-take query line)
 
 -- one line more
-pub goes_on : (query : Query) (lines old now : List Line) (from at end : ℕ) (rows row after : List Values)
+pub goes_on : (query : Bound) (lines old now : List Line) (from at end : ℕ) (rows row after : List Values)
     → SoFar query lines old from at end rows → now ≡ old → at < end → Shows query now at row → after ≡ rows ++ row
     → SoFar query lines now from (at + 1) end after
 goes_on query lines old now from at end rows row after so_far same inside shows added =
@@ -58,7 +58,7 @@ goes_on query lines old now from at end rows row after so_far same inside shows 
     }
 
 -- a line that is a fault is the first one
-pub wrong_stops : (query : Query) (lines old now : List Line) (from at end : ℕ) (rows : List Values) (what : LineFault)
+pub wrong_stops : (query : Bound) (lines old now : List Line) (from at end : ℕ) (rows : List Values) (what : LineFault)
     → SoFar query lines old from at end rows → now ≡ old → at < end → IsWrongAt query now at what
     → IsFirstFault query lines from end at what
 wrong_stops query lines old now from at end rows what so_far same inside wrong =
@@ -76,7 +76,7 @@ wrong_stops query lines old now from at end rows what so_far same inside wrong =
     }
 
 -- the causes on their way up
-pub show_stops : (query : Query) (lines : List Line) (at end known : ℕ) (bytes : List ℕ) (fault : RoundFault)
+pub show_stops : (query : Bound) (lines : List Line) (at end known : ℕ) (bytes : List ℕ) (fault : RoundFault)
     → IsRead lines at bytes → ShowCause query bytes at fault → RowCause query lines at end known fault
 show_stops query lines at end known bytes (Bad offset cause) read is = (is.0, record { bytes = bytes; read = read; wrong = is.1 })
 show_stops query lines at end known bytes (Overflow offset) read is = (is.0, record { bytes = bytes; read = read; wrong = is.1 })
@@ -87,7 +87,7 @@ show_stops query lines at end known bytes (FullLines all) read is = absurd is
 show_stops query lines at end known bytes FullEpochs read is = absurd is
 show_stops query lines at end known bytes DiskFault read is = absurd is
 
-pub read_stops : (query : Query) (lines : List Line) (at end known : ℕ) (fault : RoundFault)
+pub read_stops : (query : Bound) (lines : List Line) (at end known : ℕ) (fault : RoundFault)
     → ReadCause end known fault → RowCause query lines at end known fault
 read_stops query lines at end known (Bad offset cause) is = absurd is
 read_stops query lines at end known (Overflow offset) is = absurd is
@@ -98,7 +98,7 @@ read_stops query lines at end known (FullLines all) is = absurd is
 read_stops query lines at end known FullEpochs is = absurd is
 read_stops query lines at end known DiskFault is = absurd is
 
-pub row_stops : (query : Query) (lines old now : List Line) (from at end known later : ℕ) (rows : List Values) (fault : RoundFault)
+pub row_stops : (query : Bound) (lines old now : List Line) (from at end known later : ℕ) (rows : List Values) (fault : RoundFault)
     → SoFar query lines old from at end rows → now ≡ old → at < end → known ≤ later → RowCause query now at end later fault
     → FeedCause query lines from end known fault
 row_stops query lines old now from at end known later rows (Bad offset cause) so_far same inside less is =
@@ -118,7 +118,7 @@ none_left : (at end : ℕ) (lines : List Line) → end ≤ at → lines_between 
 none_left at end lines le = let e : end - at ≡ 0 = omega (arith, le) in rw e refl
 
 -- the last line is read
-pub ends : (query : Query) (lines now : List Line) (from at end : ℕ) (rows : List Values) → SoFar query lines now from at end rows → end ≤ at
+pub ends : (query : Bound) (lines now : List Line) (from at end : ℕ) (rows : List Values) → SoFar query lines now from at end rows → end ≤ at
     → (rows ≡ shown query (fed query (lines_between from end lines))) × (position_from (is_faulty query) from (lines_between from end lines) ≡ None)
 ends query lines now from at end rows so_far le =
     let over : lines_between at end lines ≡ [] = none_left at end lines le in (

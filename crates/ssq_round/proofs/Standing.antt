@@ -7,10 +7,10 @@ use Rattle.ssq_outside.specs.History.{History, LeavesNow, LeavesOnly}
 use Rattle.ssq_value.specs.declared.column.Column.{Column}
 use Rattle.ssq_value.specs.declared.value.Value.{Value}
 use Rattle.ssq_json.specs.RowText.{names_of}
-use Rattle.ssq_query.specs.Names.{output_names}
+use Rattle.ssq_shape.specs.Plain.{output_names}
 use Rattle.ssq_meaning.specs.Meaning.{Line, Cuts, fed, shown, lines_between, out, fault, is_faulty}
 use Rattle.std.specs.List.{position_from}
-use Rattle.ssq_query.specs.declared.query.Query.{Query}
+use Rattle.ssq_shape.specs.declared.bound.Bound.{Bound}
 use Rattle.ssq_plans.specs.Records.{plan_text, commit_text}
 use Rattle.ssq_sink.specs.Sink.{sink_text}
 use Rattle.ssq_core.specs.Course.{Course, plan_of, commit_of}
@@ -47,21 +47,21 @@ pub rows_published : (course : Course) (n k w e : ℕ) (bytes : List ℕ) → by
 rows_published course n k w e bytes spelled low high = ap (λ b. published (name.Out e) b (files_at course n k w)) spelled ∙ rows_step course n k w e low high
 
 -- what an epoch of a job gave, as the code has it
-pub rows_given : (job : Job) (cuts : Cuts) (query : Query) (lines : List Line) (e from end : ℕ)
+pub rows_given : (job : Job) (cuts : Cuts) (query : Bound) (lines : List Line) (e from end : ℕ)
     → IsJobOf job query lines → IsEpochOf cuts e from end
-    → out job.query job.lines cuts e ≡ shown query (fed query (lines_between from end lines))
+    → out job.bound job.lines cuts e ≡ shown query (fed query (lines_between from end lines))
 rows_given job cuts query lines e from end of_job epoch = λ i. shown (of_job.same_query i) (fed (of_job.same_query i) (lines_between (epoch.begins i) (epoch.ends i) (of_job.same_lines i)))
 
-pub rows_spelled : (job : Job) (cuts : Cuts) (query : Query) (lines : List Line) (e from end : ℕ) (columns : List Column) (rows : List (List Value))
+pub rows_spelled : (job : Job) (cuts : Cuts) (query : Bound) (lines : List Line) (e from end : ℕ) (columns : List Column) (rows : List (List Value))
     → IsJobOf job query lines → IsEpochOf cuts e from end → names_of columns ≡ output_names query
     → rows ≡ shown query (fed query (lines_between from end lines)) → sink_text (names_of columns) rows ≡ epoch_text job cuts e
 rows_spelled job cuts query lines e from end columns rows of_job epoch names is =
-    let given : rows ≡ out job.query job.lines cuts e = is ∙ sym (rows_given job cuts query lines e from end of_job epoch) in
-    ap (λ n. sink_text n rows) (names ∙ ap output_names (sym of_job.same_query)) ∙ ap (sink_text (output_names job.query)) given
+    let given : rows ≡ out job.bound job.lines cuts e = is ∙ sym (rows_given job cuts query lines e from end of_job epoch) in
+    ap (λ n. sink_text n rows) (names ∙ ap output_names (sym of_job.same_query)) ∙ ap (sink_text (output_names job.bound)) given
 
-pub no_fault : (job : Job) (cuts : Cuts) (query : Query) (lines : List Line) (e from end : ℕ)
+pub no_fault : (job : Job) (cuts : Cuts) (query : Bound) (lines : List Line) (e from end : ℕ)
     → IsJobOf job query lines → IsEpochOf cuts e from end → position_from (is_faulty query) from (lines_between from end lines) ≡ None
-    → fault job.query job.lines cuts e ≡ None
+    → fault job.bound job.lines cuts e ≡ None
 no_fault job cuts query lines e from end of_job epoch good =
     (λ i. position_from (is_faulty (of_job.same_query i)) (epoch.begins i) (lines_between (epoch.begins i) (epoch.ends i) (of_job.same_lines i))) ∙ good
 
@@ -81,7 +81,7 @@ plan_standing job cuts k w standing line inside few = record {
 }
 
 -- it is written, where it has no fault
-pub write_standing : (job : Job) (cuts : Cuts) (e w : ℕ) → Standing job cuts (e + 1) e w → fault job.query job.lines cuts e ≡ None → Standing job cuts (e + 1) e (e + 1)
+pub write_standing : (job : Job) (cuts : Cuts) (e w : ℕ) → Standing job cuts (e + 1) e w → fault job.bound job.lines cuts e ≡ None → Standing job cuts (e + 1) e (e + 1)
 write_standing job cuts e w standing good = record {
   reached = record { written_first = omega arith; planned_first = omega arith; one_ahead = omega arith; few = standing.reached.few };
   starts = standing.starts;
@@ -91,7 +91,7 @@ write_standing job cuts e w standing good = record {
     | inl old ↦ standing.faultless f (omega (arith, old, standing.reached.written_first))
     | inr new ↦
         let same : e ≡ f = omega (arith, lt, new) in
-        let P : ℕ → Type 0 = λ f. fault job.query job.lines cuts f ≡ None in subst P same good
+        let P : ℕ → Type 0 = λ f. fault job.bound job.lines cuts f ≡ None in subst P same good
   ];
 }
 

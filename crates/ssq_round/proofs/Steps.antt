@@ -177,6 +177,6 @@ pub epoch_told : (job : Job) (cuts : Cuts) (written known end number from end' l
     → IsEpochDone job cuts number new rows → epoch_line number lines rows ≡ told_of job cuts progress.committed
 epoch_told job cuts written known end number from end' lines rows progress now new is from_is end_is lines_is ready next done =
     let k : ℕ = progress.committed in
-    let count : rows ≡ length (out job.query job.lines cuts k) = done.count ∙ ap (λ n. length (out job.query job.lines cuts n)) is in
+    let count : rows ≡ length (out job.bound job.lines cuts k) = done.count ∙ ap (λ n. length (out job.bound job.lines cuts n)) is in
     let size : lines ≡ cuts (k + 1) - cuts k = omega (arith, lines_is, from_is, end_is, next.next, ready.covers) in
     λ i. epoch_line (is i) (size i) (count i)

@@ -1,7 +1,7 @@
 -- One epoch: what its lines give, what stops it, and when it is done.
 use Rattle.std.specs.Prelude.{◌≡◌, ◌≤◌, ◌<◌, ◌+◌, ℕ, false, List, [], ◌∷◌, length, Some, take, slice_get, ⊤}
 use Rattle.ssq_outside.specs.History.{History}
-use Rattle.ssq_query.specs.declared.query.Query.{Query}
+use Rattle.ssq_shape.specs.declared.bound.Bound.{Bound}
 use Rattle.ssq_meaning.specs.Meaning.{Line, Values, Cuts, fed, shown, out, is_faulty, line_fault, IsFirstFault, IsFaultOf}
 use Rattle.ssq_meaning.specs.declared.line.LineFault.{LineFault}
 use Rattle.ssq_meaning.specs.declared.line.LineFault.TheVariants as line
@@ -21,20 +21,20 @@ pub record IsRead (lines : List Line) (at : ℕ) (bytes : List ℕ) : Type 0 whe
   pub cut : bytes ≡ take 1048577 line
 
 -- the line at an offset is no fault, and shows these rows
-pub record Shows (query : Query) (lines : List Line) (at : ℕ) (rows : List Values) : Type 0 where
+pub record Shows (query : Bound) (lines : List Line) (at : ℕ) (rows : List Values) : Type 0 where
   pub bytes : List ℕ
   pub read : IsRead lines at bytes
   pub good : is_faulty query bytes ≡ false
   pub gives : shown query (fed query (bytes ∷ [])) ≡ rows
 
 -- this is wrong with the line at an offset
-pub record IsWrongAt (query : Query) (lines : List Line) (at : ℕ) (what : LineFault) : Type 0 where
+pub record IsWrongAt (query : Bound) (lines : List Line) (at : ℕ) (what : LineFault) : Type 0 where
   pub bytes : List ℕ
   pub read : IsRead lines at bytes
   pub wrong : line_fault query bytes ≡ Some what
 
 -- Why these bytes of the line at an offset show nothing: what is wrong with them, or want of memory.
-abbrev pub ShowCause : Query → List ℕ → ℕ → RoundFault → Type 0
+abbrev pub ShowCause : Bound → List ℕ → ℕ → RoundFault → Type 0
 ShowCause query bytes at (Bad offset cause) = (offset ≡ at) × (line_fault query bytes ≡ Some (line.Bad cause))
 ShowCause query bytes at (Overflow offset) = (offset ≡ at) × (line_fault query bytes ≡ Some line.Overflow)
 ShowCause query bytes at NoMemory = ⊤
@@ -56,7 +56,7 @@ ReadCause end known FullEpochs = ⊥
 ReadCause end known DiskFault = ⊥
 
 -- Either of the two, for a line of a log.
-abbrev pub RowCause : Query → List Line → ℕ → ℕ → ℕ → RoundFault → Type 0
+abbrev pub RowCause : Bound → List Line → ℕ → ℕ → ℕ → RoundFault → Type 0
 RowCause query lines at end known (Bad offset cause) = (offset ≡ at) × IsWrongAt query lines at (line.Bad cause)
 RowCause query lines at end known (Overflow offset) = (offset ≡ at) × IsWrongAt query lines at line.Overflow
 RowCause query lines at end known NoMemory = ⊤
@@ -67,7 +67,7 @@ RowCause query lines at end known FullEpochs = ⊥
 RowCause query lines at end known DiskFault = ⊥
 
 -- Why the lines from one offset up to another gave no rows: the first fault among them, with what is wrong, or the log.
-abbrev pub FeedCause : Query → List Line → ℕ → ℕ → ℕ → RoundFault → Type 0
+abbrev pub FeedCause : Bound → List Line → ℕ → ℕ → ℕ → RoundFault → Type 0
 FeedCause query lines from end known (Bad offset cause) = IsFirstFault query lines from end offset (line.Bad cause)
 FeedCause query lines from end known (Overflow offset) = IsFirstFault query lines from end offset line.Overflow
 FeedCause query lines from end known NoMemory = ⊤
@@ -91,15 +91,15 @@ pub record IsPlanned (job : Job) (cuts : Cuts) (e written : ℕ) (now : History)
 pub record IsEpochDone (job : Job) (cuts : Cuts) (e : ℕ) (now : History) (rows : ℕ) : Type 0 where
   pub standing : Standing job cuts (e + 1) (e + 1) (e + 1)
   pub settled : IsSettledAs now (files_at (course_of job cuts) (e + 1) (e + 1) (e + 1))
-  pub count : rows ≡ length (out job.query job.lines cuts e)
+  pub count : rows ≡ length (out job.bound job.lines cuts e)
 
 -- What stops epoch e: its first faulty line with what is wrong, where it is planned and nothing more, or a fault of the outside.
 -- That there are too many epochs is said where it would be planned, and then nothing is done.
 abbrev pub EpochCause : Job → Cuts → ℕ → History → RoundFault → Type 0
 EpochCause job cuts e now (Bad offset cause) =
-    IsFaultOf job.query job.lines cuts e offset (line.Bad cause) × IsSettledAs now (files_at (course_of job cuts) (e + 1) e e)
+    IsFaultOf job.bound job.lines cuts e offset (line.Bad cause) × IsSettledAs now (files_at (course_of job cuts) (e + 1) e e)
 EpochCause job cuts e now (Overflow offset) =
-    IsFaultOf job.query job.lines cuts e offset line.Overflow × IsSettledAs now (files_at (course_of job cuts) (e + 1) e e)
+    IsFaultOf job.bound job.lines cuts e offset line.Overflow × IsSettledAs now (files_at (course_of job cuts) (e + 1) e e)
 EpochCause job cuts e now LogFault = ⊤
 EpochCause job cuts e now (LogShort logged found) = ⊥
 EpochCause job cuts e now (FullLines lines) = ⊥

@@ -1,8 +1,8 @@
 -- A job over one log of one part: what its files hold, and when the files of a checkpoint stand for it.
 use Rattle.std.specs.Prelude.{◌≡◌, ◌<◌, ◌≤◌, ℕ, List, [], ◌∷◌, length, None}
 use Rattle.ssq_outside.specs.Files.{Files}
-use Rattle.ssq_query.specs.declared.query.Query.{Query}
-use Rattle.ssq_query.specs.Names.{output_names}
+use Rattle.ssq_shape.specs.declared.bound.Bound.{Bound}
+use Rattle.ssq_shape.specs.Plain.{output_names}
 use Rattle.ssq_meaning.specs.Meaning.{Line, Cuts, out, fault, AreProper}
 use Rattle.ssq_plans.specs.declared.meta.Meta.{Meta}
 use Rattle.ssq_plans.specs.declared.plan.Plan.{Plan}
@@ -11,15 +11,15 @@ use Rattle.ssq_sink.specs.Sink.{sink_text}
 use Rattle.ssq_core.specs.Course.{Course, Ends}
 use Rattle.ssq_core.specs.Standing.{files_at, IsReached}
 
--- A query, its canonical text, and all lines that its one log will come to hold.
+-- A bound query, its canonical text, and all lines that its one log will come to hold.
 pub record Job : Type 0 where
-  pub query : Query
+  pub bound : Bound
   pub text : List ℕ
   pub lines : List Line
 
 -- a job of this query over these lines
-pub record IsJobOf (job : Job) (query : Query) (lines : List Line) : Type 0 where
-  pub same_query : job.query ≡ query
+pub record IsJobOf (job : Job) (query : Bound) (lines : List Line) : Type 0 where
+  pub same_query : job.bound ≡ query
   pub same_lines : job.lines ≡ lines
 
 -- the job's record: one partition, and one part of the one stream
@@ -40,7 +40,7 @@ commit_at epoch = record { epoch = epoch; seen = [] }
 
 -- the rows of an epoch, sorted, one line each
 abbrev pub epoch_text : Job → Cuts → ℕ → List ℕ
-epoch_text job cuts e = sink_text (output_names job.query) (out job.query job.lines cuts e)
+epoch_text job cuts e = sink_text (output_names job.bound) (out job.bound job.lines cuts e)
 
 -- what the files of a job hold where its log is cut like this
 abbrev pub course_of : Job → Cuts → Course
@@ -53,7 +53,7 @@ pub record Standing (job : Job) (cuts : Cuts) (planned committed written : ℕ) 
   pub starts : cuts 0 ≡ 0
   pub proper : AreProper cuts planned
   pub inside : cuts planned ≤ length job.lines
-  pub faultless : (e : ℕ) → e < written → fault job.query job.lines cuts e ≡ None
+  pub faultless : (e : ℕ) → e < written → fault job.bound job.lines cuts e ≡ None
 
 -- The files stand for the job, with so many epochs committed at least, and so many planned at most.
 pub record StandsBetween (job : Job) (cuts : Cuts) (least most : ℕ) (files : Files) : Type 0 where

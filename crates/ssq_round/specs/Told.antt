@@ -10,7 +10,7 @@ epoch_line number lines rows =
 
 -- the line of epoch e of a job
 abbrev pub told_of : Job → Cuts → ℕ → List ℕ
-told_of job cuts e = epoch_line e (cuts (e + 1) - cuts e) (length (out job.query job.lines cuts e))
+told_of job cuts e = epoch_line e (cuts (e + 1) - cuts e) (length (out job.bound job.lines cuts e))
 
 -- the lines of so many epochs from the first on
 unfoldable pub told_from : Job → Cuts → ℕ → ℕ → List ℕ

@@ -4,7 +4,7 @@ ghost use Rattle.std.specs.Prelude.{◌≡◌, ◌+◌, ◌≤◌, List, ℕ, Al
 ghost use Rattle.ssq_time.specs.Time.{IsStampTime};
 ghost use Rattle.ssq_value.specs.Kind.{IfTime};
 ghost use Rattle.ssq_json.specs.RowText.{names_of};
-ghost use Rattle.ssq_query.specs.Names.{output_names};
+ghost use Rattle.ssq_shape.specs.Plain.{output_names};
 ghost use Rattle.ssq_meaning.specs.Meaning.{layout_of, Cuts};
 ghost use Rattle.ssq_outside.specs.Faults.{Rises};
 ghost use Rattle.ssq_outside.specs.History.{LeavesOnly};
@@ -118,17 +118,17 @@ pub fn run_planned<D: Disk, L: Log>(
     prepared: &Prepared,
     epoch: Epoch,
 ) -> Result<usize, RoundFault>
-    requires stream { prepared.now.stream ≡ layout_of prepared.now.query }
-    requires shown { names_of prepared.now.shown.columns ≡ output_names prepared.now.query }
+    requires stream { prepared.now.stream ≡ layout_of prepared.now.bound }
+    requires shown { names_of prepared.now.shown.columns ≡ output_names prepared.now.bound }
 
-    ensures done { D.tells → L.tells → (job : Job) (cuts : Cuts) (written : ℕ) → IsJobOf job prepared.now.query (L.lines log.old) →
+    ensures done { D.tells → L.tells → (job : Job) (cuts : Cuts) (written : ℕ) → IsJobOf job prepared.now.bound (L.lines log.old) →
         IsEpochOf cuts epoch.number epoch.from epoch.end → IsPlanned job cuts epoch.number written (D.history disk.old) →
         IfOk result (IsEpochDone job cuts epoch.number (D.history disk.new)) }
     // A crash at any moment leaves the epoch planned, written or committed.
-    ensures any_moment { D.tells → L.tells → (job : Job) (cuts : Cuts) (written : ℕ) → IsJobOf job prepared.now.query (L.lines log.old) →
+    ensures any_moment { D.tells → L.tells → (job : Job) (cuts : Cuts) (written : ℕ) → IsJobOf job prepared.now.bound (L.lines log.old) →
         IsEpochOf cuts epoch.number epoch.from epoch.end → IsPlanned job cuts epoch.number written (D.history disk.old) →
         LeavesOnly (D.history disk.old) (D.history disk.new) (StandsBetween job cuts epoch.number (epoch.number + 1)) }
-    ensures stop { D.tells → L.tells → (job : Job) (cuts : Cuts) (written : ℕ) → IsJobOf job prepared.now.query (L.lines log.old) →
+    ensures stop { D.tells → L.tells → (job : Job) (cuts : Cuts) (written : ℕ) → IsJobOf job prepared.now.bound (L.lines log.old) →
         IsEpochOf cuts epoch.number epoch.from epoch.end → IsPlanned job cuts epoch.number written (D.history disk.old) →
         epoch.end ≤ L.shown log.old → IfErr result (EpochCause job cuts epoch.number (D.history disk.new)) }
     ensures only { IfErr result IsRoundFault }

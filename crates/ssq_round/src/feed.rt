@@ -42,16 +42,16 @@ fn show_at(
     at: u64,
     line: &[u8],
 ) -> Result<Option<Row>, RoundFault>
-    requires { prepared.now.stream ≡ layout_of prepared.now.query }
-    ensures row { IfOk result (λ row. shown prepared.now.query (fed prepared.now.query (line.now ∷ [])) ≡ option_to_list row) }
+    requires { prepared.now.stream ≡ layout_of prepared.now.bound }
+    ensures row { IfOk result (λ row. shown prepared.now.bound (fed prepared.now.bound (line.now ∷ [])) ≡ option_to_list row) }
     ensures years { IfOk result (λ row. IfSome row (All (IfTime IsStampTime))) }
-    ensures good { IfOk result (λ _. is_faulty prepared.now.query line.now ≡ false) }
-    ensures stop { IfErr result (ShowCause prepared.now.query line.now at) }
+    ensures good { IfOk result (λ _. is_faulty prepared.now.bound line.now ≡ false) }
+    ensures stop { IfErr result (ShowCause prepared.now.bound line.now at) }
     ensures only { IfErr result IsReadFault }
     ensures not_the_log { (before now : ℕ) → IfErr result (LogRises before now) }
     ensures not_the_disk { (before now : ℕ) → IfErr result (DiskRises before now) }
 {
-    match show_line(alloc, &prepared.query, &prepared.stream, line) {
+    match show_line(alloc, &prepared.bound, &prepared.stream, line) {
         Ok(row) => Ok(row),
         Err(fault) => Err(fault_at(at, fault)),
     }
@@ -66,11 +66,11 @@ fn row_at<L: Log>(
     end: u64,
     line: &mut Vec<u8>,
 ) -> Result<Option<Row>, RoundFault>
-    requires stream { prepared.now.stream ≡ layout_of prepared.now.query }
+    requires stream { prepared.now.stream ≡ layout_of prepared.now.bound }
     requires inside { at < end }
-    ensures shows { L.tells → IfOk result (λ row. Shows prepared.now.query (L.lines log.new) at (option_to_list row)) }
+    ensures shows { L.tells → IfOk result (λ row. Shows prepared.now.bound (L.lines log.new) at (option_to_list row)) }
     ensures years { IfOk result (λ row. IfSome row (All (IfTime IsStampTime))) }
-    ensures stop { L.tells → IfErr result (RowCause prepared.now.query (L.lines log.new) at end (L.shown log.old)) }
+    ensures stop { L.tells → IfErr result (RowCause prepared.now.bound (L.lines log.new) at end (L.shown log.old)) }
     ensures only { IfErr result IsReadFault }
     ensures same { L.tells → L.lines log.new ≡ L.lines log.old }
     ensures grown { L.tells → L.shown log.old ≤ L.shown log.new }
@@ -101,12 +101,12 @@ pub fn feed<L: Log>(
     from: u64,
     end: u64,
 ) -> Result<Vec<Row>, RoundFault>
-    requires { prepared.now.stream ≡ layout_of prepared.now.query }
-    ensures rows { L.tells → IfOk result (λ rows. rows.items ≡ shown prepared.now.query (fed prepared.now.query (lines_between from end (L.lines log.old)))) }
+    requires { prepared.now.stream ≡ layout_of prepared.now.bound }
+    ensures rows { L.tells → IfOk result (λ rows. rows.items ≡ shown prepared.now.bound (fed prepared.now.bound (lines_between from end (L.lines log.old)))) }
     // No time among them could not be printed.
     ensures years { IfOk result (λ rows. All (All (IfTime IsStampTime)) rows.items) }
-    ensures good { L.tells → OnOk result (position_from (is_faulty prepared.now.query) from (lines_between from end (L.lines log.old)) ≡ None) }
-    ensures stop { L.tells → IfErr result (FeedCause prepared.now.query (L.lines log.old) from end (L.shown log.old)) }
+    ensures good { L.tells → OnOk result (position_from (is_faulty prepared.now.bound) from (lines_between from end (L.lines log.old)) ≡ None) }
+    ensures stop { L.tells → IfErr result (FeedCause prepared.now.bound (L.lines log.old) from end (L.shown log.old)) }
     ensures only { IfErr result IsReadFault }
     ensures same { L.tells → L.lines log.new ≡ L.lines log.old }
     ensures grown { L.tells → L.shown log.old ≤ L.shown log.new }

@@ -3,7 +3,7 @@
 ghost use Rattle.std.specs.Prelude.{◌≡◌, ◌<◌, ◌≤◌, ℕ, string_bytes, length, IfOk, IfErr, OnOk};
 ghost use Rattle.std.specs.Option.{ForSome};
 ghost use Rattle.ssq_json.specs.RowText.{names_of};
-ghost use Rattle.ssq_query.specs.Names.{output_names};
+ghost use Rattle.ssq_shape.specs.Plain.{output_names};
 ghost use Rattle.ssq_meaning.specs.Meaning.{layout_of, Cuts};
 ghost use Rattle.ssq_round.specs.Cutting.{planned_in};
 ghost use Rattle.ssq_round.specs.Epochs.{IsReady};
@@ -55,15 +55,15 @@ fn cover<D: Disk, L: Log>(
     progress: &mut Progress,
     told: &mut String,
 ) -> Result<(), RoundFault>
-    requires stream { prepared.now.stream ≡ layout_of prepared.now.query }
-    requires shown { names_of prepared.now.shown.columns ≡ output_names prepared.now.query }
+    requires stream { prepared.now.stream ≡ layout_of prepared.now.bound }
+    requires shown { names_of prepared.now.shown.columns ≡ output_names prepared.now.bound }
     requires some { ForSome sight.most (λ most. 1 ≤ most) }
 
-    ensures done { D.tells → L.tells → (job : Job) (cuts : Cuts) (written : ℕ) → IsJobOf job prepared.now.query (L.lines log.old) →
+    ensures done { D.tells → L.tells → (job : Job) (cuts : Cuts) (written : ℕ) → IsJobOf job prepared.now.bound (L.lines log.old) →
         IsReady job cuts written progress.old (D.history disk.old) → GoesOn cuts (planned_in progress.old) sight.most sight.seen →
         IsEnough sight.seen job progress.old → sight.seen ≤ L.shown log.old →
         OnOk result (IsDone job cuts progress.old.committed sight.seen (D.history disk.old) (D.history disk.new) (string_bytes told.old) (string_bytes told.new) progress.new) }
-    ensures stop { D.tells → L.tells → (job : Job) (cuts : Cuts) (written : ℕ) → IsJobOf job prepared.now.query (L.lines log.old) →
+    ensures stop { D.tells → L.tells → (job : Job) (cuts : Cuts) (written : ℕ) → IsJobOf job prepared.now.bound (L.lines log.old) →
         IsReady job cuts written progress.old (D.history disk.old) → GoesOn cuts (planned_in progress.old) sight.most sight.seen →
         IsEnough sight.seen job progress.old → sight.seen ≤ L.shown log.old →
         IfErr result (IsStopped job cuts progress.old.committed sight.seen (D.history disk.old) (D.history disk.new) (string_bytes told.old) (string_bytes told.new)) }
@@ -96,17 +96,17 @@ pub fn run_round<D: Disk, L: Log>(
     progress: &mut Progress,
     told: &mut String,
 ) -> Result<(), RoundFault>
-    requires stream { prepared.now.stream ≡ layout_of prepared.now.query }
-    requires shown { names_of prepared.now.shown.columns ≡ output_names prepared.now.query }
+    requires stream { prepared.now.stream ≡ layout_of prepared.now.bound }
+    requires shown { names_of prepared.now.shown.columns ≡ output_names prepared.now.bound }
     requires some { ForSome most (λ most. 1 ≤ most) }
 
     // Where each line that was seen is covered: what was told, what each crash leaves, and how far it has come.
-    ensures done { D.tells → L.tells → (job : Job) (cuts : Cuts) (written : ℕ) → IsJobOf job prepared.now.query (L.lines log.old) →
+    ensures done { D.tells → L.tells → (job : Job) (cuts : Cuts) (written : ℕ) → IsJobOf job prepared.now.bound (L.lines log.old) →
         IsReady job cuts written progress.old (D.history disk.old) →
         OnOk result (RoundDone job cuts progress.old most (L.shown log.old) (L.shown log.new)
         (D.history disk.old) (D.history disk.new) (string_bytes told.old) (string_bytes told.new) progress.new) }
     // Where it stopped: why, what was told, and what each crash leaves.
-    ensures stop { D.tells → L.tells → (job : Job) (cuts : Cuts) (written : ℕ) → IsJobOf job prepared.now.query (L.lines log.old) →
+    ensures stop { D.tells → L.tells → (job : Job) (cuts : Cuts) (written : ℕ) → IsJobOf job prepared.now.bound (L.lines log.old) →
         IsReady job cuts written progress.old (D.history disk.old) →
         IfErr result (RoundStop job cuts progress.old most (L.shown log.old) (L.shown log.new)
         (D.history disk.old) (D.history disk.new) (string_bytes told.old) (string_bytes told.new)) }

@@ -2,7 +2,7 @@
 
 ghost use Rattle.std.specs.Prelude.{◌≡◌, ◌+◌, ◌-◌, ◌<◌, ◌≤◌, ◌++◌, ℕ, string_bytes, IfOk, IfErr, OnOk, OnErr};
 ghost use Rattle.ssq_json.specs.RowText.{names_of};
-ghost use Rattle.ssq_query.specs.Names.{output_names};
+ghost use Rattle.ssq_shape.specs.Plain.{output_names};
 ghost use Rattle.ssq_meaning.specs.Meaning.{layout_of, Cuts};
 ghost use Rattle.ssq_outside.specs.History.{LeavesOnly};
 ghost use Rattle.ssq_round.specs.Cutting.{epoch_end, after_epoch};
@@ -94,24 +94,24 @@ pub fn step<D: Disk, L: Log>(
     progress: &mut Progress,
     told: &mut String,
 ) -> Result<(), RoundFault>
-    requires stream { prepared.now.stream ≡ layout_of prepared.now.query }
-    requires shown { names_of prepared.now.shown.columns ≡ output_names prepared.now.query }
+    requires stream { prepared.now.stream ≡ layout_of prepared.now.bound }
+    requires shown { names_of prepared.now.shown.columns ≡ output_names prepared.now.bound }
 
     ensures moved { OnOk result (progress.new ≡ after_epoch sight.most sight.seen progress.old) }
-    ensures done { D.tells → L.tells → (job : Job) (cuts : Cuts) (written : ℕ) → IsJobOf job prepared.now.query (L.lines log.old) →
+    ensures done { D.tells → L.tells → (job : Job) (cuts : Cuts) (written : ℕ) → IsJobOf job prepared.now.bound (L.lines log.old) →
         IsReady job cuts written progress.old (D.history disk.old) →
         IsNext job cuts (epoch_end sight.most sight.seen progress.old) (L.shown log.old) progress.old →
         OnOk result (IsReady job cuts (progress.old.committed + 1) progress.new (D.history disk.new)) }
-    ensures told { D.tells → L.tells → (job : Job) (cuts : Cuts) (written : ℕ) → IsJobOf job prepared.now.query (L.lines log.old) →
+    ensures told { D.tells → L.tells → (job : Job) (cuts : Cuts) (written : ℕ) → IsJobOf job prepared.now.bound (L.lines log.old) →
         IsReady job cuts written progress.old (D.history disk.old) →
         IsNext job cuts (epoch_end sight.most sight.seen progress.old) (L.shown log.old) progress.old →
         OnOk result (string_bytes told.new ≡ string_bytes told.old ++ told_of job cuts progress.old.committed) }
     ensures untold { OnErr result (string_bytes told.new ≡ string_bytes told.old) }
-    ensures any_moment { D.tells → L.tells → (job : Job) (cuts : Cuts) (written : ℕ) → IsJobOf job prepared.now.query (L.lines log.old) →
+    ensures any_moment { D.tells → L.tells → (job : Job) (cuts : Cuts) (written : ℕ) → IsJobOf job prepared.now.bound (L.lines log.old) →
         IsReady job cuts written progress.old (D.history disk.old) →
         IsNext job cuts (epoch_end sight.most sight.seen progress.old) (L.shown log.old) progress.old →
         LeavesOnly (D.history disk.old) (D.history disk.new) (StandsBetween job cuts progress.old.committed (progress.old.committed + 1)) }
-    ensures stop { D.tells → L.tells → (job : Job) (cuts : Cuts) (written : ℕ) → IsJobOf job prepared.now.query (L.lines log.old) →
+    ensures stop { D.tells → L.tells → (job : Job) (cuts : Cuts) (written : ℕ) → IsJobOf job prepared.now.bound (L.lines log.old) →
         IsReady job cuts written progress.old (D.history disk.old) →
         IsNext job cuts (epoch_end sight.most sight.seen progress.old) (L.shown log.old) progress.old →
         IfErr result (EpochCause job cuts progress.old.committed (D.history disk.new)) }

@@ -5,13 +5,13 @@ ghost use Rattle.std.specs.Prelude.{◌≡◌, ◌≤◌, IfOk};
 ghost use Rattle.std.specs.Option.{ForSome};
 ghost use Rattle.ssq_json.specs.RowText.{names_of};
 ghost use Rattle.ssq_meaning.specs.Meaning.{layout_of};
-ghost use Rattle.ssq_query.specs.Names.{output_names};
+ghost use Rattle.ssq_shape.specs.Plain.{output_names};
 
 use crate::{Prepared, Progress, run_round};
 use ssq_core::settle;
 use ssq_fakes::{MemDisk, MemLog};
 use ssq_outside::{Disk, DiskError, Name};
-use ssq_query::read_query;
+use ssq_query::{bind, read_query};
 use std::alloc::Global;
 use std::test::Fail;
 
@@ -189,13 +189,13 @@ fn cap(most: u64) -> Option<u64>
     if most == 0 { None } else { Some(most) }
 }
 
-/// The query of all rows.
-fn filter(alloc: Global) -> Result<Prepared, Fail>
-    ensures stream { IfOk result (λ prepared. prepared.stream ≡ layout_of prepared.query) }
-    ensures shown { IfOk result (λ prepared. names_of prepared.shown.columns ≡ output_names prepared.query) }
+fn prepared(alloc: Global, file: &[u8]) -> Result<Prepared, Fail>
+    ensures stream { IfOk result (λ prepared. prepared.stream ≡ layout_of prepared.bound) }
+    ensures shown { IfOk result (λ prepared. names_of prepared.shown.columns ≡ output_names prepared.bound) }
 {
-    let query = read_query(alloc, FILTER)?;
-    Ok(Prepared::new(alloc, query)?)
+    let query = read_query(alloc, file)?;
+    let bound = bind(alloc, &query)?;
+    Ok(Prepared::new(alloc, bound)?)
 }
 
 /// A disk on which these files are settled.
@@ -227,7 +227,7 @@ fn holds<D: Disk>(alloc: Global, disk: &mut D, files: &[(Name, &[u8])]) -> bool 
 fn worked_rows(rt: HostRuntime) -> Result<(), Fail> {
     let alloc = rt.alloc();
     for row in &ROWS {
-        let prepared = filter(alloc)?;
+        let prepared = prepared(alloc, FILTER)?;
         let mut disk = disk_of(alloc, row.before)?;
         let mut log = MemLog::torn(alloc, row.log)?;
         let mut progress = row.progress;
@@ -252,7 +252,7 @@ fn worked_rows(rt: HostRuntime) -> Result<(), Fail> {
 #[test]
 fn too_many_lines(rt: HostRuntime) -> Result<(), Fail> {
     let alloc = rt.alloc();
-    let prepared = filter(alloc)?;
+    let prepared = prepared(alloc, FILTER)?;
     let mut disk = disk_of(alloc, &[META])?;
     let mut log = MemLog::repeat(alloc, b"{}", 1_099_511_627_777)?;
     let mut progress = NONE;
@@ -269,5 +269,74 @@ fn too_many_lines(rt: HostRuntime) -> Result<(), Fail> {
     let end = format!(in alloc; "{end:?}")?;
     assert_eq!(rt; end.as_str(), "Err(FullLines { lines: 1099511627777 })");
     assert!(rt; holds(alloc, &mut disk, &[META]));
+    Ok(())
+}
+
+/// A query, a log, and the sink file of the epoch that has its lines.
+static SHOWN: [(&[u8], &[u8], &[u8]); 6] = [
+    (
+        b"CREATE STREAM s (k STRING, v BIGINT) FROM 's'; SELECT k, v + 1 AS w FROM s WHERE k = 'a' OUTPUT APPEND;",
+        b"{\"k\":\"a\",\"v\":1}\n{\"k\":\"b\",\"v\":2}\n{\"v\":3}\n{\"k\":\"a\"}\n",
+        b"{\"k\":\"a\",\"w\":null}\n{\"k\":\"a\",\"w\":2}\n",
+    ),
+    // Texts are compared by their bytes, and NULL with none of them.
+    (
+        b"CREATE STREAM s (k STRING) FROM 's'; SELECT k FROM s WHERE k > 'b' OUTPUT APPEND;",
+        b"{\"k\":\"B\"}\n{\"k\":\"b\"}\n{\"k\":\"\xc3\xa9\"}\n{\"k\":\"b0\"}\n{\"k\":null}\n",
+        b"{\"k\":\"b0\"}\n{\"k\":\"\xc3\xa9\"}\n",
+    ),
+    // Times are compared by what they say.
+    (
+        b"CREATE STREAM s (t TIMESTAMP, u TIMESTAMP) FROM 's'; SELECT t FROM s WHERE t < u OUTPUT APPEND;",
+        b"{\"t\":\"2024-01-01T00:00:00Z\",\"u\":\"2024-01-01T00:00:00.0Z\"}\n{\"t\":\"2024-01-01T00:00:00.5Z\",\"u\":\"2024-01-01T00:00:01Z\"}\n{\"t\":\"2024-01-01T00:00:00Z\"}\n",
+        b"{\"t\":\"2024-01-01T00:00:00.500000Z\"}\n",
+    ),
+    // FALSE is below TRUE.
+    (
+        b"CREATE STREAM s (b BOOLEAN, c BOOLEAN) FROM 's'; SELECT b, c FROM s WHERE b < c OUTPUT APPEND;",
+        b"{\"b\":false,\"c\":true}\n{\"b\":true,\"c\":false}\n{\"b\":true,\"c\":true}\n{\"b\":null,\"c\":true}\n",
+        b"{\"b\":false,\"c\":true}\n",
+    ),
+    (
+        b"CREATE STREAM s (b BOOLEAN) FROM 's'; SELECT 'it''s' AS x, 7 AS n, b AS c FROM s OUTPUT APPEND;",
+        b"{\"b\":true}\n{}\n",
+        b"{\"x\":\"it's\",\"n\":7,\"c\":null}\n{\"x\":\"it's\",\"n\":7,\"c\":true}\n",
+    ),
+    (
+        b"CREATE STREAM s (k STRING) FROM 's'; SELECT k FROM s WHERE 'a' <> 'a' OUTPUT APPEND;",
+        b"{\"k\":\"a\"}\n",
+        b"",
+    ),
+];
+
+/// Whether the sink file of the first epoch has these bytes.
+fn shows<D: Disk>(alloc: Global, disk: &mut D, rows: &[u8]) -> bool {
+    match disk.read(alloc, Name::Out(0)) {
+        Ok(Some(read)) => read.as_slice() == rows,
+        _ => false,
+    }
+}
+
+#[test]
+fn columns_of_all_types(rt: HostRuntime) -> Result<(), Fail> {
+    let alloc = rt.alloc();
+    for (file, lines, rows) in &SHOWN {
+        let prepared = prepared(alloc, file)?;
+        let mut disk = disk_of(alloc, &[])?;
+        let mut log = MemLog::torn(alloc, lines)?;
+        let mut progress = NONE;
+        let mut told = String::new(alloc);
+        let end = run_round(
+            alloc,
+            &mut disk,
+            &mut log,
+            &prepared,
+            None,
+            &mut progress,
+            &mut told,
+        );
+        assert!(rt; end.is_ok());
+        assert!(rt; shows(alloc, &mut disk, rows), "{lines:?}");
+    }
     Ok(())
 }

@@ -7,7 +7,7 @@ use Rattle.ssq_round.proofs.feed.feed.Given as goal
 
 abbrev pub invariant-loop-at : goal.invariant-loop-at
 invariant-loop-at g l = record {
-  so_far : g.L.Log.tells → SoFar l.prepared.query (g.L.Log.lines l.initial.log) (g.L.Log.lines l.log) l.from l.at l.end l.rows.items;
+  so_far : g.L.Log.tells → SoFar l.prepared.bound (g.L.Log.lines l.initial.log) (g.L.Log.lines l.log) l.from l.at l.end l.rows.items;
   years : All (All (IfTime IsStampTime)) l.rows.items;
   grown : g.L.Log.tells → g.L.Log.shown l.initial.log ≤ g.L.Log.shown l.log;
   counted : g.L.Log.faults l.initial.log ≤ g.L.Log.faults l.log;

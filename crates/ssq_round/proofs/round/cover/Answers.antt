@@ -19,7 +19,7 @@ loop-alloc-preserved g c = record {
   so_far = λ tells told job cuts written of_job ready goes enough there.
       let so_far = c.loop-alloc.invariant.so_far tells told job cuts written of_job ready goes enough there in
       let behind : is_behind c.loop-alloc.progress c.args.sight.seen ≡ true = sym c.is_behind.ensures ∙ c.loop-alloc-test.true in
-      let of_job' : IsJobOf job c.args.prepared.now.query (g.L.Log.lines c.loop-alloc.log) = record { same_query = of_job.same_query; same_lines = of_job.same_lines ∙ sym (c.loop-alloc.invariant.same told) } in
+      let of_job' : IsJobOf job c.args.prepared.now.bound (g.L.Log.lines c.loop-alloc.log) = record { same_query = of_job.same_query; same_lines = of_job.same_lines ∙ sym (c.loop-alloc.invariant.same told) } in
       let there' : c.args.sight.seen ≤ g.L.Log.shown c.loop-alloc.log = omega (arith, there, c.loop-alloc.invariant.grown told) in
       let next = round_next job cuts c.args.progress.now.committed (planned_in c.args.progress.now) c.args.sight.seen (g.L.Log.shown c.loop-alloc.log) c.args.sight.most _ _ _ _ c.loop-alloc.progress so_far goes c.requires.some behind enough.inside there' in
       round_goes_on job cuts c.args.progress.now.committed (planned_in c.args.progress.now) c.args.sight.seen (g.L.Log.shown c.loop-alloc.log) c.args.sight.most _ _ _ _ _ _ c.loop-alloc.progress c.step.new.progress so_far goes c.requires.some behind enough.inside there'
@@ -35,7 +35,7 @@ pub returns-in_err-step-clause-stop : goal.returns-in_err-step-clause-stop
 returns-in_err-step-clause-stop g c = λ tells told job cuts written of_job ready goes enough there.
     let so_far = c.loop-alloc.invariant.so_far tells told job cuts written of_job ready goes enough there in
     let behind : is_behind c.loop-alloc.progress c.args.sight.seen ≡ true = sym c.is_behind.ensures ∙ c.loop-alloc-test.true in
-    let of_job' : IsJobOf job c.args.prepared.now.query (g.L.Log.lines c.loop-alloc.log) = record { same_query = of_job.same_query; same_lines = of_job.same_lines ∙ sym (c.loop-alloc.invariant.same told) } in
+    let of_job' : IsJobOf job c.args.prepared.now.bound (g.L.Log.lines c.loop-alloc.log) = record { same_query = of_job.same_query; same_lines = of_job.same_lines ∙ sym (c.loop-alloc.invariant.same told) } in
     let there' : c.args.sight.seen ≤ g.L.Log.shown c.loop-alloc.log = omega (arith, there, c.loop-alloc.invariant.grown told) in
     let next = round_next job cuts c.args.progress.now.committed (planned_in c.args.progress.now) c.args.sight.seen (g.L.Log.shown c.loop-alloc.log) c.args.sight.most _ _ _ _ c.loop-alloc.progress so_far goes c.requires.some behind enough.inside there' in
     let p = err_from_is_err_and c.from_residual.result c.from_residual.ensures.1 in

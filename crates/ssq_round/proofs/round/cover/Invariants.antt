@@ -9,7 +9,7 @@ use Rattle.ssq_round.proofs.round.cover.Given as goal
 
 abbrev pub invariant-loop-alloc : goal.invariant-loop-alloc
 invariant-loop-alloc g l = record {
-  so_far : g.D.Disk.tells → g.L.Log.tells → (job : Job) (cuts : Cuts) (written : ℕ) → IsJobOf job l.prepared.query (g.L.Log.lines l.initial.log)
+  so_far : g.D.Disk.tells → g.L.Log.tells → (job : Job) (cuts : Cuts) (written : ℕ) → IsJobOf job l.prepared.bound (g.L.Log.lines l.initial.log)
       → IsReady job cuts written l.initial.progress (g.D.Disk.history l.initial.disk) → GoesOn cuts (planned_in l.initial.progress) l.sight.most l.sight.seen
       → IsEnough l.sight.seen job l.initial.progress → l.sight.seen ≤ g.L.Log.shown l.initial.log
       → RoundSoFar job cuts l.initial.progress.committed (planned_in l.initial.progress) l.sight.seen (g.D.Disk.history l.initial.disk) (g.D.Disk.history l.disk) (string_bytes l.initial.told) (string_bytes l.told) l.progress;
