@@ -1,6 +1,14 @@
 pub mod Clauses
 pub mod Files
 pub mod Found
+pub mod Laid
+pub mod LaidClauses
+pub mod LaidExpressions
+pub mod LaidHeads
+pub mod LaidOperands
+pub mod LaidOperators
+pub mod LaidParts
+pub mod LaidQueries
 pub mod Operands
 pub mod Parts
 pub mod Prefixes

@@ -2,6 +2,7 @@
 
 ghost use Rattle.std.specs.Prelude.{◌≡◌, ◌≤◌, length, map, IfOk};
 ghost use Rattle.std.specs.Str.{IsUtf8};
+ghost use Rattle.ssq_ast.specs.declared.query.Query.{Query};
 ghost use Rattle.ssq_lex.specs.Cut.{cut_of};
 ghost use Rattle.ssq_lex.specs.Lexeme.{lexed};
 ghost use Rattle.ssq_parse.specs.File as spec;
@@ -88,6 +89,8 @@ pub fn parse(alloc: Global, file: &[u8]) -> Result<Query, ParseFault>
     ensures answer { Answers (spec.query_of file.now) result }
     // the query is written so in the file, by the grammar
     ensures written { IfOk result (λ query. spec.IsQuery file.now query) }
+    // and each query that is written so is found: a file that is refused is written as none
+    ensures each { (query : Query) → spec.IsQuery file.now query → spec.Finds query result }
 {
     if file.len() > MOST_BYTES {
         return Err(ParseFault::Refused {
