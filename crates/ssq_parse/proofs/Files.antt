@@ -56,7 +56,7 @@ cut_answers len text found tokens result is same answer =
 judged_whole : (len : ℕ) (found : Cut) (query : Query) → found.fault ≡ None → query_at found.tokens ≡ Ok query → judged_cut len found ≡ Ok query
 judged_whole len found query whole is = ap (λ fault. judged len fault (query_at found.tokens)) whole ∙ ap (judged len None) is
 
-written_is : (file : List ℕ) (query : Query) → IsQuery file query → query_of file ≡ Ok query
+pub written_is : (file : List ℕ) (query : Query) → IsQuery file query → query_of file ≡ Ok query
 written_is file query q = text_query file q.short q.text ∙ judged_whole (length file) (cut_of file) query q.whole (query_reads (cut_of file).tokens query q.written)
 
 finds : (found : Result Query Fault) (result : Result Query ParseFault) (query : Query) → Answers found result → found ≡ Ok query → Finds query result

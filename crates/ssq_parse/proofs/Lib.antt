@@ -15,6 +15,7 @@ pub mod Prefixes
 pub mod Primary
 pub mod Selects
 pub mod Sound
+pub mod Texts
 pub mod Turns
 pub mod Whole
 pub mod Words
