@@ -1,5 +1,5 @@
 -- What a file is, by what its reader found.
-use Rattle.std.proofs.Common.{◌≡◌, ℕ, ◌≤◌, false, ap, sym, ◌∙◌, arith, List, length, map, Result, Err, IsUtf8}
+use Rattle.std.proofs.Common.{◌≡◌, ℕ, ◌≤◌, false, ap, sym, ◌∙◌, arith, List, length, map, None, Result, Ok, Err, IsUtf8}
 use Rattle.std.specs.Prelude.{nat_lt, if◌then◌else◌}
 use Rattle.std.specs.Str.{is_utf8}
 use Rattle.std.specs.Str.Lossy.{utf8_valid_len}
@@ -9,13 +9,15 @@ use Rattle.std.proofs.lemmas.Str.{IsUtf8-from_is_utf8, is_utf8-from_IsUtf8}
 use Rattle.ssq_ast.specs.declared.query.Query.{Query}
 use Rattle.ssq_lex.specs.declared.lexer.Lexical.{Lexical}
 use Rattle.ssq_lex.specs.Answer.{cut_by}
-use Rattle.ssq_lex.specs.Cut.{cut_of}
+use Rattle.ssq_lex.specs.Cut.{Cut, cut_of}
 use Rattle.ssq_lex.specs.Lexeme.{lexed}
 use Rattle.ssq_parse.specs.declared.fault.ParseCause.TheVariants as cause
 use Rattle.ssq_parse.specs.declared.fault.ParseFault.{ParseFault}
-use Rattle.ssq_parse.specs.File.{Fault, Answers, judged, judged_cut, query_of}
+use Rattle.ssq_parse.specs.declared.fault.ParseFault.TheVariants.{Refused, NoMemory}
+use Rattle.ssq_parse.specs.File.{Fault, Answers, Finds, IsQuery, judged, judged_cut, query_of}
 use Rattle.ssq_parse.specs.Queries.{query_at}
 use Rattle.ssq_parse.specs.Reading.{Ahead}
+use Rattle.ssq_parse.proofs.LaidQueries.{query_reads}
 
 abbrev too_long : Result Query Fault
 too_long = Err (record { at = 65536; cause = cause.TooLong })
@@ -48,3 +50,19 @@ pub cut_answers : (len : ℕ) (text : List ℕ) (found : Lexical) (tokens : Ahea
     → Answers (judged len found.fault (query_at tokens)) result → Answers (judged_cut len (cut_of text)) result
 cut_answers len text found tokens result is same answer =
     rw (ap (judged_cut len) (sym is) ∙ ap (λ t. judged len found.fault (query_at t)) (sym same)) answer
+
+-- ---- each query that is written is found
+
+judged_whole : (len : ℕ) (found : Cut) (query : Query) → found.fault ≡ None → query_at found.tokens ≡ Ok query → judged_cut len found ≡ Ok query
+judged_whole len found query whole is = ap (λ fault. judged len fault (query_at found.tokens)) whole ∙ ap (judged len None) is
+
+pub written_is : (file : List ℕ) (query : Query) → IsQuery file query → query_of file ≡ Ok query
+written_is file query q = text_query file q.short q.text ∙ judged_whole (length file) (cut_of file) query q.whole (query_reads (cut_of file).tokens query q.written)
+
+finds : (found : Result Query Fault) (result : Result Query ParseFault) (query : Query) → Answers found result → found ≡ Ok query → Finds query result
+finds found (Ok other) query answer is = cc
+finds found (Err (Refused at cause)) query answer is = absurd (cc)
+finds found (Err NoMemory) query answer is = tt
+
+pub each_found : (file : List ℕ) (result : Result Query ParseFault) → Answers (query_of file) result → (query : Query) → IsQuery file query → Finds query result
+each_found file result answer query q = finds (query_of file) result query answer (written_is file query q)

@@ -65,7 +65,7 @@ in_brackets {depth} t ts word found (k, is, sp) closed took =
       at = refl;
     }
 
-aggregate_is : (f : Function) (at : ℕ) (a : Expr) → e.Aggregate f at a ≡ e.Aggregate' f at tt (only a)
+pub aggregate_is : (f : Function) (at : ℕ) (a : Expr) → e.Aggregate f at a ≡ e.Aggregate' f at tt (only a)
 unfolding Rattle.ssq_ast.specs.declared.expr.Expr.TheBlock.shape-the_row-Expr-0 Rattle.ssq_ast.specs.declared.expr.Expr.TheBlock.hidden-the_row-Expr-0 denote.Hole.Carrier.hidden
 aggregate_is f at a = refl
 

@@ -35,11 +35,11 @@ looser_read asked tight depth tokens below (Err refusal) none = tt
 pub looser_reader : (asked tight depth : ℕ) (reader : Reader) → asked ≤ tight → Sound tight depth reader → Sound asked depth reader
 looser_reader asked tight depth reader below sound tokens = looser_read asked tight depth tokens below (reader tokens) (sound tokens)
 
-is_null_is : (a : Expr) (at : ℕ) (t : NullTest) → e.IsNull a at t ≡ e.IsNull' tt (only a) at t
+pub is_null_is : (a : Expr) (at : ℕ) (t : NullTest) → e.IsNull a at t ≡ e.IsNull' tt (only a) at t
 unfolding Rattle.ssq_ast.specs.declared.expr.Expr.TheBlock.shape-the_row-Expr-0 Rattle.ssq_ast.specs.declared.expr.Expr.TheBlock.hidden-the_row-Expr-0 denote.Hole.Carrier.hidden
 is_null_is a at t = refl
 
-between_is : (a : Expr) (at : ℕ) (b c : Expr) → e.Between a at b c ≡ e.Between' tt (only a) at tt (only b) tt (only c)
+pub between_is : (a : Expr) (at : ℕ) (b c : Expr) → e.Between a at b c ≡ e.Between' tt (only a) at tt (only b) tt (only c)
 unfolding Rattle.ssq_ast.specs.declared.expr.Expr.TheBlock.shape-the_row-Expr-0 Rattle.ssq_ast.specs.declared.expr.Expr.TheBlock.hidden-the_row-Expr-0 denote.Hole.Carrier.hidden
 between_is a at b c = refl
 

@@ -21,7 +21,7 @@ drop_nil zero none is = refl
 drop_nil (suc n) [] is = refl
 drop_nil (suc n) (x ∷ xs) is = absurd (cc)
 
-drop_of_drop : (u v : Words) (xs : List ℕ) → drop (length (u ++ v)) xs ≡ drop (length v) (drop (length u) xs)
+pub drop_of_drop : (u v : Words) (xs : List ℕ) → drop (length (u ++ v)) xs ≡ drop (length v) (drop (length u) xs)
 drop_of_drop [] v xs = refl
 drop_of_drop (w ∷ u) v [] = sym (drop_nil (length v) [] refl)
 drop_of_drop (w ∷ u) v (x ∷ xs) = drop_of_drop u v xs

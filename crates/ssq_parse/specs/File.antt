@@ -57,6 +57,12 @@ Answers found (Ok query) = found ≡ Ok query
 Answers found (Err (Refused at cause)) = found ≡ Err (record { at = at; cause = cause })
 Answers found (Err NoMemory) = Unit {0}
 
+-- the call answers this query, unless memory ran out
+abbrev pub Finds : Query → Result Query ParseFault → Type 0
+Finds query (Ok found) = found ≡ query
+Finds query (Err (Refused at cause)) = ⊥
+Finds query (Err NoMemory) = Unit {0}
+
 -- the same of a part of it
 abbrev pub fault_of : Fault → ParseFault
 fault_of fault = Refused fault.at fault.cause

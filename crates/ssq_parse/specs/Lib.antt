@@ -1,3 +1,4 @@
+pub mod Again
 pub mod Expressions
 pub mod File
 pub mod Nests

@@ -2,16 +2,18 @@
 
 ghost use Rattle.std.specs.Prelude.{◌≡◌, ◌≤◌, length, map, IfOk};
 ghost use Rattle.std.specs.Str.{IsUtf8};
+ghost use Rattle.ssq_ast.specs.declared.query.Query.{Query};
 ghost use Rattle.ssq_lex.specs.Cut.{cut_of};
 ghost use Rattle.ssq_lex.specs.Lexeme.{lexed};
+ghost use Rattle.ssq_parse.specs.Again.{SaysWords, IsTextRead, TextIsParsed};
 ghost use Rattle.ssq_parse.specs.File as spec;
 ghost use Rattle.ssq_parse.specs.File.{Answers};
 
 use crate::fault::{ParseCause, ParseFault, Stop};
 use crate::query::query;
 use crate::reader::Reader;
-use ssq_ast::Query;
-use ssq_lex::{LexCause, Refusal, tokens_to_fault};
+use ssq_ast::{Query, text_is_read_again, text_is_sayable};
+use ssq_lex::{LexCause, Refusal, printed_is_read, tokens_to_fault};
 use std::alloc::Global;
 
 /// A query file has at most so many bytes.
@@ -69,11 +71,22 @@ fn judged(
 
 /// The query that a text is.
 fn parse_text(alloc: Global, text: &str) -> Result<Query, ParseFault>
-    ensures { Answers (spec.judged_cut (length text.now) (cut_of text.now)) result }
+    ensures answer { Answers (spec.judged_cut (length text.now) (cut_of text.now)) result }
+    ensures said { IfOk result (λ query. SaysWords text.now) }
 {
     let found = tokens_to_fault(alloc, text)?;
     let read = query(alloc, &mut Reader::new(found.tokens.as_slice()));
     judged(text.len(), found.fault, read)
+}
+
+/// The canonical text of a query that a file is, is read as the same query, places aside, if it has at most 65,536
+/// bytes.
+pub fn text_is_parsed()
+    ensures { TextIsParsed }
+{
+    printed_is_read();
+    text_is_read_again();
+    text_is_sayable();
 }
 
 /// Reads a query file, as it is written: a query and the places of its parts in the file.
@@ -88,6 +101,10 @@ pub fn parse(alloc: Global, file: &[u8]) -> Result<Query, ParseFault>
     ensures answer { Answers (spec.query_of file.now) result }
     // the query is written so in the file, by the grammar
     ensures written { IfOk result (λ query. spec.IsQuery file.now query) }
+    // and each query that is written so is found: a file that is refused is written as none
+    ensures each { (query : Query) → spec.IsQuery file.now query → spec.Finds query result }
+    // and its text is read as the same query, places aside, where a file may have so many bytes
+    ensures again { IfOk result IsTextRead }
 {
     if file.len() > MOST_BYTES {
         return Err(ParseFault::Refused {
@@ -95,6 +112,7 @@ pub fn parse(alloc: Global, file: &[u8]) -> Result<Query, ParseFault>
             cause: ParseCause::TooLong,
         });
     }
+    text_is_parsed();
     match str::from_utf8(file) {
         Ok(text) => parse_text(alloc, text),
         Err(error) => Err(ParseFault::Refused {
