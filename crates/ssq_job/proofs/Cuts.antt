@@ -45,11 +45,23 @@ continued_le cuts n most seen below (suc e) = elim (cases_lt e n) [
       omega (arith, is, next_end_le most seen (continued cuts n most seen e))
 ]
 
+next_end_ge : (most : Option ℕ) (seen from : ℕ) → from ≤ seen → from ≤ next_end most seen from
+next_end_ge None seen from le = le
+next_end_ge (Some m) seen from le = omega (arith, le)
+
+continued_rises : (cuts : Cuts) (n : ℕ) (most : Option ℕ) (seen : ℕ) → ((e : ℕ) → e < n → cuts e ≤ cuts (e + 1)) → ((e : ℕ) → e ≤ n → cuts e ≤ seen)
+    → (e : ℕ) → continued cuts n most seen e ≤ continued cuts n most seen (e + 1)
+continued_rises cuts n most seen rises below e = elim (cases_lt e n) [
+  | inl old ↦ omega (arith, continued_same cuts n most seen e (omega (arith, old)), continued_same cuts n most seen (e + 1) (omega (arith, old)), rises e old)
+  | inr new ↦ omega (arith, continued_next cuts n most seen e new, next_end_ge most seen (continued cuts n most seen e) (continued_le cuts n most seen below e))
+]
+
 -- Cuts that go on from where so many epochs are planned, by a round that saw so many lines.
 pub record GoOn (job : Job) (cuts : Cuts) (planned seen : ℕ) (next : Cuts) : Type 0 where
   pub same : (e : ℕ) → e ≤ planned → next e ≡ cuts e
   pub stands : (least : ℕ) (files : Files) → StandsBetween job cuts least planned files → StandsBetween job next least planned files
   pub below : ((e : ℕ) → e ≤ planned → cuts e ≤ seen) → (e : ℕ) → next e ≤ seen
+  pub rises : ((e : ℕ) → e < planned → cuts e ≤ cuts (e + 1)) → ((e : ℕ) → e ≤ planned → cuts e ≤ seen) → (e : ℕ) → next e ≤ next (e + 1)
 
 pub go_on : (job : Job) (cuts : Cuts) (planned : ℕ) (most : Option ℕ) (seen : ℕ) (next : Cuts) → next ≡ continued cuts planned most seen → GoOn job cuts planned seen next
 go_on job cuts planned most seen next is =
@@ -58,6 +70,7 @@ go_on job cuts planned most seen next is =
       same = continued_same cuts planned most seen;
       stands = λ least files s. stands_on job cuts least planned most seen files s;
       below = continued_le cuts planned most seen;
+      rises = continued_rises cuts planned most seen;
     })
 
 told_of_same : (job : Job) (cuts other : Cuts) (e : ℕ) → other e ≡ cuts e → other (e + 1) ≡ cuts (e + 1) → told_of job other e ≡ told_of job cuts e

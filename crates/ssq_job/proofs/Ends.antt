@@ -87,11 +87,11 @@ left_always : (given : Given) (entry : Entry) (cuts : Cuts) (told planned : ℕ)
 left_always given entry cuts told planned now left = always_run given.job cuts entry.committed planned given.start now left.small left.moments
 
 rounds_always : (given : Given) (entry : Entry) (found known : ℕ) (now : History) (T : Type 0) (w told : List ℕ) (end : Option JobFault) → RoundsEnd given entry found known now T w told end → AlwaysStands given.job given.start now
-rounds_always given entry found known now T w told end (finished rounds epochs all done wrote last is) = left_always given entry _ _ _ now done.left
-rounds_always given entry found known now T w told end (unsaid rounds epochs all done wrote last is) = left_always given entry _ _ _ now done.left
+rounds_always given entry found known now T w told end (finished rounds epochs all shown done wrote last is) = left_always given entry _ _ _ now done.left
+rounds_always given entry found known now T w told end (unsaid rounds epochs all shown done wrote last is) = left_always given entry _ _ _ now done.left
 rounds_always given entry found known now T w told end (stopped rounds put seen epochs cuts why some saw there few next left wrote lines cause is) = left_always given entry _ _ _ now left
 rounds_always given entry found known now T w told end (unseen rounds put seen why some saw there left wrote empty cause is) = left_always given entry _ _ _ now left
-rounds_always given entry found known now T w told end (unput round rounds put epochs why before some done wrote un is) = left_always given entry _ _ _ now done.left
+rounds_always given entry found known now T w told end (unput round rounds put epochs why before some shown done wrote un is) = left_always given entry _ _ _ now done.left
 
 read_now : (job : Job) (start : History) → LeavesNow start (IsEmptyOrStands job) → (entry : Entry) × Reads job entry (files_now start)
 read_now job start before = elim (before.each (files_now start) (files_are_image (had_now start))) [
@@ -164,12 +164,12 @@ same_fault : (one other : JobFault) → Some one ≡ Some other → one ≡ othe
 same_fault one other is = cc
 
 pub rounds_pass : (given : Given) (entry : Entry) (found known : ℕ) (now : History) (T : Type 0) (w told : List ℕ) (why : JobFault) → RoundsEnd given entry found known now T w told (Some why) → IsNoRefusal why
-rounds_pass given entry found known now T w told why (finished rounds epochs all done wrote last is) = cc
-rounds_pass given entry found known now T w told why (unsaid rounds epochs all done wrote last is) = subst IsNoRefusal (sym (same_fault why fault.NoMemory is)) tt
+rounds_pass given entry found known now T w told why (finished rounds epochs all shown done wrote last is) = cc
+rounds_pass given entry found known now T w told why (unsaid rounds epochs all shown done wrote last is) = subst IsNoRefusal (sym (same_fault why fault.NoMemory is)) tt
 rounds_pass given entry found known now T w told why (stopped rounds put seen epochs cuts cause some saw there few next left wrote lines stop is) =
     subst IsNoRefusal (sym (same_fault why (fault_of_round cause) is)) (stop_passes given.job cuts _ seen now cause stop)
 rounds_pass given entry found known now T w told why (unseen rounds put seen cause some saw there left wrote empty stop is) = subst IsNoRefusal (sym (same_fault why cause is)) (untaken_passes seen cause stop)
-rounds_pass given entry found known now T w told why (unput round rounds put epochs cause before some done wrote un is) = subst IsNoRefusal (sym (same_fault why cause is)) (unput_passes T _ _ _ _ cause un)
+rounds_pass given entry found known now T w told why (unput round rounds put epochs cause before some shown done wrote un is) = subst IsNoRefusal (sym (same_fault why cause is)) (unput_passes T _ _ _ _ cause un)
 
 -- a fault of the outside is no refusal
 pub outside_passes : (why : OpenFault) → IsOutside why → IsNoRefusal (fault_of_open why)

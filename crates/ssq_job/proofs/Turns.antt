@@ -27,6 +27,7 @@ use Rattle.ssq_job.specs.Faults.{fault_of_round}
 use Rattle.ssq_job.specs.Rounds.{Round, seen_after, epochs_after, cuts_after, IsRound, AreRounds}
 use Rattle.ssq_job.specs.Ending.{Given, Wrote, StandsYet, Left, AreDone, AreSome, IsUnput, IsUntaken, RoundsEnd, finished, unsaid, stopped, unseen, unput}
 use Rattle.ssq_job.specs.Going.{SoFar, IsNextRound}
+use Rattle.ssq_job.proofs.Sums.{sums_upto}
 use Rattle.ssq_job.proofs.Cuts.{cuts_more, proper_le, GoOn, go_on, told_same, told_split}
 
 -- more than were planned are done, where what was seen is covered
@@ -74,11 +75,13 @@ turn_left given entry found rounds put from mid now T w seen epochs most next so
     let K : ℕ → Type 0 = λ k. LeavesNow now (StandsBetween given.job next k most) in
     let at : from.committed + epochs ≡ entry.committed + (put + epochs) = omega (arith, so.all) in
     let below = planned_below given.job (cuts_after given.most entry rounds) so.sinks from mid seen so.ready all in
+    let standing = so.ready.standing in
     record {
       keeps = λ e low. goes.same e (omega (arith, low, so.on)) ∙ so.keeps e low;
       small = λ e low. omega (arith, goes.below below e, few);
       moments = turn_moments given.job (cuts_after given.most entry rounds) next (planned_in from) seen entry.committed from.committed most given.start mid now goes le (omega (arith, so.all)) so.moments in_round;
       kept = subst K at kept;
+      sums = sums_upto given.job next most (goes.same 0 (omega arith) ∙ standing.starts) (λ e low. goes.rises (λ e low. omega (arith, standing.proper e low)) below e);
     }
 
 -- what was put before a round is what is told of its cuts
@@ -185,7 +188,7 @@ pub turn_unput : (given : Given) (entry : Entry) (found known : ℕ) (rounds : L
     → RoundsEnd given entry found known now T w' told' (Some fault)
 turn_unput given entry found known rounds put from progress mid now T w w' told told' fault so fewer turn is =
     let L : List ℕ → Type 0 = λ lines. IsUnput T w w' lines told' fault in
-    unput turn.round rounds put turn.epochs fault w (turn_some given entry found rounds put from mid T w so fewer) turn.done turn.before (subst L turn.lines is) refl
+    unput turn.round rounds put turn.epochs fault w (turn_some given entry found rounds put from mid T w so fewer) turn.there turn.done turn.before (subst L turn.lines is) refl
 
 -- it stopped at an epoch
 turn_stopped : (given : Given) (entry : Entry) (found known known_now : ℕ) (rounds : List Round) (put : ℕ) (from : Progress) (mid : History) (T : Type 0) (w told : List ℕ) (now : History) (fault : RoundFault) (seen : ℕ)
@@ -238,6 +241,7 @@ turn_unseen given entry found known known_now rounds put from mid T w told now f
       small = λ e le. omega (arith, below e le, so.few);
       moments = so.moments;
       kept = settled_leaves Kept mid (files_at (course_of given.job cuts) n from.committed so.sinks) so.ready.settled (between given.job cuts n from.committed so.sinks (entry.committed + put) n so.ready.standing (omega (arith, so.all)) (omega arith));
+      sums = sums_upto given.job cuts n so.ready.standing.starts (λ e low. omega (arith, so.ready.standing.proper e low));
     } in
     unseen rounds put seen (fault_of_round fault) (turn_some given entry found rounds put from mid T w so fewer) (omega (arith, shown, saw)) there
     (subst Now (sym un.idle) (subst To (sym so.planned) left_at)) so.wrote un.untold
@@ -305,10 +309,10 @@ pub rounds_finish : (given : Given) (entry : Entry) (found count known : ℕ) (p
     → count ≡ given.rounds → 1 ≤ count → told ≡ done_line progress.committed → RoundsEnd given entry found known now T w told None
 rounds_finish given entry found count known progress now T w told so_far all some last =
     let so = so_far.so in
-    finished so_far.rounds so_far.put (so_far.number ∙ all) (so.done (omega (arith, so_far.number, some))) so.wrote (last ∙ ap done_line (sym so.all)) refl
+    finished so_far.rounds so_far.put (so_far.number ∙ all) so_far.shown (so.done (omega (arith, so_far.number, some))) so.wrote (last ∙ ap done_line (sym so.all)) refl
 
 pub rounds_unsaid : (given : Given) (entry : Entry) (found count known : ℕ) (progress : Progress) (now : History) (T : Type 0) (w told : List ℕ) → RoundsSoFar given entry found count known progress now T w
     → count ≡ given.rounds → 1 ≤ count → told ≡ [] → RoundsEnd given entry found known now T w told (Some NoMemory)
 rounds_unsaid given entry found count known progress now T w told so_far all some empty =
     let so = so_far.so in
-    unsaid so_far.rounds so_far.put (so_far.number ∙ all) (so.done (omega (arith, so_far.number, some))) so.wrote empty refl
+    unsaid so_far.rounds so_far.put (so_far.number ∙ all) so_far.shown (so.done (omega (arith, so_far.number, some))) so.wrote empty refl

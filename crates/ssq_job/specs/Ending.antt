@@ -2,7 +2,7 @@
 use Rattle.std.specs.Prelude.{◌≡◌, ◌⊎◌, ◌<◌, ◌≤◌, ◌+◌, ◌^◌, ◌++◌, ℕ, List, [], ◌∷◌, length, take, Option, Some, None, ⊤}
 use Rattle.ssq_outside.specs.Files.{Files, IsEmpty}
 use Rattle.ssq_outside.specs.History.{History, files_now, LeavesNow}
-use Rattle.ssq_meaning.specs.Meaning.{Cuts}
+use Rattle.ssq_meaning.specs.Meaning.{Cuts, given as given_by, meaning}
 use Rattle.ssq_core.specs.Settled.{IsSettledAs}
 use Rattle.ssq_core.specs.Standing.{files_at}
 use Rattle.ssq_open.specs.declared.fault.OpenFault.{OpenFault}
@@ -42,12 +42,14 @@ StandsYet job cuts least most old files = StandsBetween job cuts least most file
 
 -- What rounds left that told so many epochs, from the first on that was not committed. The planned epochs keep their ends. From the
 -- first sync of names on, each image of each moment stands for these cuts, with each epoch that was committed before; now each
--- image has each epoch that was told, too. No more than so many are planned.
+-- image has each epoch that was told, too. No more than so many are planned. What any first epochs give, one after the other, is
+-- what the query means on their lines.
 pub record Left (given : Given) (entry : Entry) (cuts : Cuts) (told planned : ℕ) (now : History) : Type 0 where
   pub keeps : (e : ℕ) → e ≤ entry.planned → cuts e ≡ entry.cuts e
   pub small : (e : ℕ) → e ≤ planned → cuts e < 2 ^ 64
   pub moments : SyncedSince given.start now (StandsYet given.job cuts entry.committed planned (files_now given.start))
   pub kept : LeavesNow now (StandsBetween given.job cuts (entry.committed + told) planned)
+  pub sums : (n : ℕ) → n ≤ planned → given_by given.job.query given.job.lines cuts n ≡ meaning given.job.query given.job.lines cuts n
 
 -- These rounds are done, the latest of which comes first, and so many epochs were told: all that were not committed before. Each
 -- line that was seen is covered, and that is settled.
@@ -87,12 +89,13 @@ IsUntaken seen NoMemory = ⊥
 
 -- How rounds end over a log in which so many lines were found, and what they wrote and have yet to write. All that were asked for
 -- are done and put, and then it is told how many epochs there are, or memory ran out for that. Or one stopped, at the epoch after
--- those that it did. Or the log was not taken for one, and it did nothing. Or one is done, and its lines were not put.
+-- those that it did. Or the log was not taken for one, and it did nothing. Or one is done, and its lines were not put. No round
+-- saw more lines than are known to be there now.
 pub data RoundsEnd (given : Given) (entry : Entry) (found known : ℕ) (now : History) (OutTells : Type 0) (written told : List ℕ) (end : Option JobFault) : Type 0 where
-  finished : (rounds : List Round) (epochs : ℕ) → length rounds ≡ given.rounds → AreDone given entry found rounds epochs now
+  finished : (rounds : List Round) (epochs : ℕ) → length rounds ≡ given.rounds → seen_after found rounds ≤ known → AreDone given entry found rounds epochs now
       → Wrote OutTells given.written written (told_from given.job (cuts_after given.most entry rounds) entry.committed epochs)
       → told ≡ done_line (entry.committed + epochs) → end ≡ None → RoundsEnd given entry found known now OutTells written told end
-  unsaid : (rounds : List Round) (epochs : ℕ) → length rounds ≡ given.rounds → AreDone given entry found rounds epochs now
+  unsaid : (rounds : List Round) (epochs : ℕ) → length rounds ≡ given.rounds → seen_after found rounds ≤ known → AreDone given entry found rounds epochs now
       → Wrote OutTells given.written written (told_from given.job (cuts_after given.most entry rounds) entry.committed epochs)
       → told ≡ [] → end ≡ Some NoMemory → RoundsEnd given entry found known now OutTells written told end
   stopped : (rounds : List Round) (put seen epochs : ℕ) (cuts : Cuts) (why : RoundFault) → AreSome given entry found rounds put
@@ -109,7 +112,7 @@ pub data RoundsEnd (given : Given) (entry : Entry) (found known : ℕ) (now : Hi
       → Wrote OutTells given.written written (told_from given.job (cuts_after given.most entry rounds) entry.committed put)
       → told ≡ [] → IsUntaken seen fault → end ≡ Some fault → RoundsEnd given entry found known now OutTells written told end
   unput : (round : Round) (rounds : List Round) (put epochs : ℕ) (fault : JobFault) (before : List ℕ) → AreSome given entry found rounds put
-      → AreDone given entry found (round ∷ rounds) (put + epochs) now
+      → round.seen ≤ known → AreDone given entry found (round ∷ rounds) (put + epochs) now
       → Wrote OutTells given.written before (told_from given.job (cuts_after given.most entry (round ∷ rounds)) entry.committed put)
       → IsUnput OutTells before written (told_from given.job (cuts_after given.most entry (round ∷ rounds)) (entry.committed + put) epochs) told fault
       → end ≡ Some fault → RoundsEnd given entry found known now OutTells written told end
