@@ -1,0 +1,6 @@
+pub mod Always
+pub mod Cuts
+pub mod Sums
+pub mod Entries
+pub mod Turns
+pub mod Ends

@@ -1,0 +1,6 @@
+pub mod Entry
+pub mod Faults
+pub mod Rounds
+pub mod Told
+pub mod Ending
+pub mod Going
