@@ -74,7 +74,7 @@ go_on job cuts planned most seen next is =
     })
 
 told_of_same : (job : Job) (cuts other : Cuts) (e : ℕ) → other e ≡ cuts e → other (e + 1) ≡ cuts (e + 1) → told_of job other e ≡ told_of job cuts e
-told_of_same job cuts other e from end = λ i. epoch_line e (end i - from i) (length (shown job.query (fed job.query (lines_between (from i) (end i) job.lines))))
+told_of_same job cuts other e from end = λ i. epoch_line e (end i - from i) (length (shown job.bound (fed job.bound (lines_between (from i) (end i) job.lines))))
 
 -- what is told of planned epochs stays
 pub told_same : (job : Job) (cuts other : Cuts) (first n : ℕ) → ((e : ℕ) → e ≤ first + n → other e ≡ cuts e) → told_from job other first n ≡ told_from job cuts first n

@@ -24,18 +24,18 @@ flat_rises cuts n rises e = elim (cases_lt e n) [
       omega (arith, ap cuts here, ap cuts there)
 ]
 
-given_same : (job : Job) (cuts other : Cuts) (n : ℕ) → ((e : ℕ) → e ≤ n → other e ≡ cuts e) → given job.query job.lines other n ≡ given job.query job.lines cuts n
+given_same : (job : Job) (cuts other : Cuts) (n : ℕ) → ((e : ℕ) → e ≤ n → other e ≡ cuts e) → given job.bound job.lines other n ≡ given job.bound job.lines cuts n
 unfolding given
 given_same job cuts other zero same = refl
 given_same job cuts other (suc n) same =
     let before = given_same job cuts other n (λ e le. same e (omega (arith, le))) in
     let from = same n (omega arith) in
     let end = same (n + 1) (omega arith) in
-    λ i. before i ++ shown job.query (fed job.query (lines_between (from i) (end i) job.lines))
+    λ i. before i ++ shown job.bound (fed job.bound (lines_between (from i) (end i) job.lines))
 
 pub sums_upto : (job : Job) (cuts : Cuts) (planned : ℕ) → cuts 0 ≡ 0 → ((e : ℕ) → e < planned → cuts e ≤ cuts (e + 1))
-    → (n : ℕ) → n ≤ planned → given job.query job.lines cuts n ≡ meaning job.query job.lines cuts n
+    → (n : ℕ) → n ≤ planned → given job.bound job.lines cuts n ≡ meaning job.bound job.lines cuts n
 sums_upto job cuts planned starts rises n le =
     sym (given_same job cuts (flat cuts planned) n (λ e below. flat_same cuts planned e (omega (arith, below, le))))
-    ∙ given-meaning job.query job.lines (flat cuts planned) n (flat_same cuts planned 0 (omega arith) ∙ starts) (flat_rises cuts planned rises)
-    ∙ ap (λ c. shown job.query (fed job.query (take c job.lines))) (flat_same cuts planned n le)
+    ∙ given-meaning job.bound job.lines (flat cuts planned) n (flat_same cuts planned 0 (omega arith) ∙ starts) (flat_rises cuts planned rises)
+    ∙ ap (λ c. shown job.bound (fed job.bound (take c job.lines))) (flat_same cuts planned n le)

@@ -49,7 +49,7 @@ pub record Left (given : Given) (entry : Entry) (cuts : Cuts) (told planned : �
   pub small : (e : ℕ) → e ≤ planned → cuts e < 2 ^ 64
   pub moments : SyncedSince given.start now (StandsYet given.job cuts entry.committed planned (files_now given.start))
   pub kept : LeavesNow now (StandsBetween given.job cuts (entry.committed + told) planned)
-  pub sums : (n : ℕ) → n ≤ planned → given_by given.job.query given.job.lines cuts n ≡ meaning given.job.query given.job.lines cuts n
+  pub sums : (n : ℕ) → n ≤ planned → given_by given.job.bound given.job.lines cuts n ≡ meaning given.job.bound given.job.lines cuts n
 
 -- These rounds are done, the latest of which comes first, and so many epochs were told: all that were not committed before. Each
 -- line that was seen is covered, and that is settled.

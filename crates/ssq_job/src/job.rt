@@ -5,7 +5,7 @@ ghost use Rattle.std.specs.Option.{ForSome};
 ghost use Rattle.ssq_json.specs.RowText.{names_of};
 ghost use Rattle.ssq_meaning.specs.Meaning.{layout_of};
 ghost use Rattle.ssq_outside.specs.History.{files_now};
-ghost use Rattle.ssq_query.specs.Names.{output_names};
+ghost use Rattle.ssq_shape.specs.Plain.{output_names};
 ghost use Rattle.ssq_round.specs.Standing.{Job, IsJobOf};
 ghost use Rattle.ssq_job.specs.Ending.{Given, JobEnd};
 ghost use Rattle.ssq_job.specs.Entry.{Entry, Reads, AlwaysStands};
@@ -41,26 +41,26 @@ pub fn run_job<D: Disk, L: Log, O: Output>(
     ask: Ask,
     told: &mut String,
 ) -> Result<(), JobFault>
-    requires stream { prepared.now.stream ≡ layout_of prepared.now.query }
-    requires shown { names_of prepared.now.shown.columns ≡ output_names prepared.now.query }
+    requires stream { prepared.now.stream ≡ layout_of prepared.now.bound }
+    requires shown { names_of prepared.now.shown.columns ≡ output_names prepared.now.bound }
     requires some { ForSome ask.most (λ most. 1 ≤ most) }
     requires rounds { 1 ≤ ask.rounds }
     requires untold { string_bytes told.old ≡ [] }
 
     // How it ends: what is left on the disk, what was told and written, and why.
-    ensures done { D.tells → L.tells → (job : Job) → IsJobOf job prepared.now.query (L.lines log.old) → job.text ≡ text.now →
+    ensures done { D.tells → L.tells → (job : Job) → IsJobOf job prepared.now.bound (L.lines log.old) → job.text ≡ text.now →
         OnOk result (JobEnd (record { job = job; most = ask.most; rounds = ask.rounds; known = L.shown log.old; start = D.history disk.old; written = O.content out.old })
         (L.shown log.new) (D.history disk.new) O.tells (O.content out.new) (string_bytes told.new) None) }
-    ensures stop { D.tells → L.tells → (job : Job) → IsJobOf job prepared.now.query (L.lines log.old) → job.text ≡ text.now →
+    ensures stop { D.tells → L.tells → (job : Job) → IsJobOf job prepared.now.bound (L.lines log.old) → job.text ≡ text.now →
         IfErr result (λ fault. JobEnd (record { job = job; most = ask.most; rounds = ask.rounds; known = L.shown log.old; start = D.history disk.old; written = O.content out.old })
         (L.shown log.new) (D.history disk.new) O.tells (O.content out.new) (string_bytes told.new) (Some fault)) }
 
     // After any crash: where each image was empty or stood for the job, each image of each moment is empty still, or stands for it.
-    ensures always { D.tells → L.tells → (job : Job) → IsJobOf job prepared.now.query (L.lines log.old) → job.text ≡ text.now →
+    ensures always { D.tells → L.tells → (job : Job) → IsJobOf job prepared.now.bound (L.lines log.old) → job.text ≡ text.now →
         AlwaysStands job (D.history disk.old) (D.history disk.new) }
 
     // A checkpoint that stands for the job is not refused, where its log has lost no line.
-    ensures goes_on { D.tells → L.tells → (job : Job) → IsJobOf job prepared.now.query (L.lines log.old) → job.text ≡ text.now →
+    ensures goes_on { D.tells → L.tells → (job : Job) → IsJobOf job prepared.now.bound (L.lines log.old) → job.text ≡ text.now →
         (entry : Entry) → Reads job entry (files_now (D.history disk.old)) → entry.cuts entry.planned ≤ L.shown log.old → IfErr result IsNoRefusal }
 
     // A fault of the outside is answered only where it was counted, and each refusal shows by its numbers why it came.

@@ -4,7 +4,7 @@ ghost use Rattle.std.specs.Prelude.{◌≡◌, ◌<◌, ◌≤◌, ◌++◌, ℕ
 ghost use Rattle.std.specs.Option.{ForSome};
 ghost use Rattle.ssq_json.specs.RowText.{names_of};
 ghost use Rattle.ssq_meaning.specs.Meaning.{layout_of};
-ghost use Rattle.ssq_query.specs.Names.{output_names};
+ghost use Rattle.ssq_shape.specs.Plain.{output_names};
 ghost use Rattle.ssq_round.specs.Standing.{IsJobOf};
 ghost use Rattle.ssq_job.specs.Ending.{Given, IsUnput, RoundsEnd};
 ghost use Rattle.ssq_job.specs.Entry.{Entry};
@@ -56,15 +56,15 @@ fn next_round<D: Disk, L: Log, O: Output>(
     progress: &mut Progress,
     told: &mut String,
 ) -> Result<(), JobFault>
-    requires stream { prepared.now.stream ≡ layout_of prepared.now.query }
-    requires shown { names_of prepared.now.shown.columns ≡ output_names prepared.now.query }
+    requires stream { prepared.now.stream ≡ layout_of prepared.now.bound }
+    requires shown { names_of prepared.now.shown.columns ≡ output_names prepared.now.bound }
     requires some { ForSome most (λ most. 1 ≤ most) }
 
-    ensures done { D.tells → L.tells → (given : Given) (entry : Entry) (found put : ℕ) (rounds : List Round) → IsJobOf given.job prepared.now.query (L.lines log.old) →
+    ensures done { D.tells → L.tells → (given : Given) (entry : Entry) (found put : ℕ) (rounds : List Round) → IsJobOf given.job prepared.now.bound (L.lines log.old) →
         given.most ≡ most → length rounds < given.rounds → string_bytes told.old ≡ [] → seen_after found rounds ≤ L.shown log.old →
         SoFar given entry found rounds put progress.old (D.history disk.old) O.tells (O.content out.old) →
         OnOk result (IsNextRound given entry found (L.shown log.new) rounds progress.new (D.history disk.new) O.tells (O.content out.new)) }
-    ensures stop { D.tells → L.tells → (given : Given) (entry : Entry) (found put : ℕ) (rounds : List Round) → IsJobOf given.job prepared.now.query (L.lines log.old) →
+    ensures stop { D.tells → L.tells → (given : Given) (entry : Entry) (found put : ℕ) (rounds : List Round) → IsJobOf given.job prepared.now.bound (L.lines log.old) →
         given.most ≡ most → length rounds < given.rounds → string_bytes told.old ≡ [] → seen_after found rounds ≤ L.shown log.old →
         SoFar given entry found rounds put progress.old (D.history disk.old) O.tells (O.content out.old) →
         IfErr result (λ fault. RoundsEnd given entry found (L.shown log.new) (D.history disk.new) O.tells (O.content out.new) (string_bytes told.new) (Some fault)) }
@@ -104,16 +104,16 @@ pub(crate) fn run_rounds<D: Disk, L: Log, O: Output>(
     progress: Progress,
     told: &mut String,
 ) -> Result<(), JobFault>
-    requires stream { prepared.now.stream ≡ layout_of prepared.now.query }
-    requires shown { names_of prepared.now.shown.columns ≡ output_names prepared.now.query }
+    requires stream { prepared.now.stream ≡ layout_of prepared.now.bound }
+    requires shown { names_of prepared.now.shown.columns ≡ output_names prepared.now.bound }
     requires some { ForSome ask.most (λ most. 1 ≤ most) }
     requires rounds { 1 ≤ ask.rounds }
 
-    ensures done { D.tells → L.tells → (given : Given) (entry : Entry) (found : ℕ) → IsJobOf given.job prepared.now.query (L.lines log.old) →
+    ensures done { D.tells → L.tells → (given : Given) (entry : Entry) (found : ℕ) → IsJobOf given.job prepared.now.bound (L.lines log.old) →
         given.most ≡ ask.most → given.rounds ≡ ask.rounds → string_bytes told.old ≡ [] → found ≤ L.shown log.old →
         SoFar given entry found [] 0 progress (D.history disk.old) O.tells (O.content out.old) →
         OnOk result (RoundsEnd given entry found (L.shown log.new) (D.history disk.new) O.tells (O.content out.new) (string_bytes told.new) None) }
-    ensures stop { D.tells → L.tells → (given : Given) (entry : Entry) (found : ℕ) → IsJobOf given.job prepared.now.query (L.lines log.old) →
+    ensures stop { D.tells → L.tells → (given : Given) (entry : Entry) (found : ℕ) → IsJobOf given.job prepared.now.bound (L.lines log.old) →
         given.most ≡ ask.most → given.rounds ≡ ask.rounds → string_bytes told.old ≡ [] → found ≤ L.shown log.old →
         SoFar given entry found [] 0 progress (D.history disk.old) O.tells (O.content out.old) →
         IfErr result (λ fault. RoundsEnd given entry found (L.shown log.new) (D.history disk.new) O.tells (O.content out.new) (string_bytes told.new) (Some fault)) }

@@ -56,7 +56,7 @@ returns-clause-done g c = λ tells told job of_job text.
     let given : Given = record { job = job; most = c.args.ask.most; rounds = c.args.ask.rounds; known = g.L.Log.shown c.args.log.now; start = g.D.Disk.history c.args.disk.now; written = g.O.Output.content c.args.out.now } in
     let found = c.in_ok-found.found in
     let is = c.in_ok-found.ensures.found told in
-    let of_job' : IsJobOf job c.args.prepared.now.query (g.L.Log.lines c.see_lines.new.log) = record { same_query = of_job.same_query; same_lines = of_job.same_lines ∙ sym (c.see_lines.ensures.same told) } in
+    let of_job' : IsJobOf job c.args.prepared.now.bound (g.L.Log.lines c.see_lines.new.log) = record { same_query = of_job.same_query; same_lines = of_job.same_lines ∙ sym (c.see_lines.ensures.same told) } in
     let there : found ≤ g.L.Log.shown c.see_lines.new.log = omega (arith, is.0) in
     run_done c.run_rounds.result given _ _ found _ _ _ _ c.args.text.now (c.see_lines.ensures.grown told) is.0 (c.run_rounds.ensures.grown told) c.in_ok-found.ensures.few text (c.in_ok-progress.ensures.opened tells)
     (λ entry reads. c.run_rounds.ensures.done tells told given entry found of_job' refl refl c.requires.untold there
@@ -67,7 +67,7 @@ returns-clause-stop g c = λ tells told job of_job text.
     let given : Given = record { job = job; most = c.args.ask.most; rounds = c.args.ask.rounds; known = g.L.Log.shown c.args.log.now; start = g.D.Disk.history c.args.disk.now; written = g.O.Output.content c.args.out.now } in
     let found = c.in_ok-found.found in
     let is = c.in_ok-found.ensures.found told in
-    let of_job' : IsJobOf job c.args.prepared.now.query (g.L.Log.lines c.see_lines.new.log) = record { same_query = of_job.same_query; same_lines = of_job.same_lines ∙ sym (c.see_lines.ensures.same told) } in
+    let of_job' : IsJobOf job c.args.prepared.now.bound (g.L.Log.lines c.see_lines.new.log) = record { same_query = of_job.same_query; same_lines = of_job.same_lines ∙ sym (c.see_lines.ensures.same told) } in
     let there : found ≤ g.L.Log.shown c.see_lines.new.log = omega (arith, is.0) in
     run_stop c.run_rounds.result given _ _ found _ _ _ _ c.args.text.now (c.see_lines.ensures.grown told) is.0 (c.run_rounds.ensures.grown told) c.in_ok-found.ensures.few text (c.in_ok-progress.ensures.opened tells)
     (λ entry reads. c.run_rounds.ensures.stop tells told given entry found of_job' refl refl c.requires.untold there
@@ -78,7 +78,7 @@ returns-clause-always g c = λ tells told job of_job text.
     let given : Given = record { job = job; most = c.args.ask.most; rounds = c.args.ask.rounds; known = g.L.Log.shown c.args.log.now; start = g.D.Disk.history c.args.disk.now; written = g.O.Output.content c.args.out.now } in
     let found = c.in_ok-found.found in
     let is = c.in_ok-found.ensures.found told in
-    let of_job' : IsJobOf job c.args.prepared.now.query (g.L.Log.lines c.see_lines.new.log) = record { same_query = of_job.same_query; same_lines = of_job.same_lines ∙ sym (c.see_lines.ensures.same told) } in
+    let of_job' : IsJobOf job c.args.prepared.now.bound (g.L.Log.lines c.see_lines.new.log) = record { same_query = of_job.same_query; same_lines = of_job.same_lines ∙ sym (c.see_lines.ensures.same told) } in
     let there : found ≤ g.L.Log.shown c.see_lines.new.log = omega (arith, is.0) in
     let done =
     run_done c.run_rounds.result given _ _ found _ _ _ _ c.args.text.now (c.see_lines.ensures.grown told) is.0 (c.run_rounds.ensures.grown told) c.in_ok-found.ensures.few text (c.in_ok-progress.ensures.opened tells)
@@ -95,7 +95,7 @@ returns-clause-goes_on g c = λ tells told job of_job text entry reads long.
     let given : Given = record { job = job; most = c.args.ask.most; rounds = c.args.ask.rounds; known = g.L.Log.shown c.args.log.now; start = g.D.Disk.history c.args.disk.now; written = g.O.Output.content c.args.out.now } in
     let found = c.in_ok-found.found in
     let is = c.in_ok-found.ensures.found told in
-    let of_job' : IsJobOf job c.args.prepared.now.query (g.L.Log.lines c.see_lines.new.log) = record { same_query = of_job.same_query; same_lines = of_job.same_lines ∙ sym (c.see_lines.ensures.same told) } in
+    let of_job' : IsJobOf job c.args.prepared.now.bound (g.L.Log.lines c.see_lines.new.log) = record { same_query = of_job.same_query; same_lines = of_job.same_lines ∙ sym (c.see_lines.ensures.same told) } in
     let there : found ≤ g.L.Log.shown c.see_lines.new.log = omega (arith, is.0) in
     rounds_pass_by c.run_rounds.result given entry found _ _ _ _ _ (c.run_rounds.ensures.stop tells told given entry found of_job' refl refl c.requires.untold there
     (so_begins_at given entry found c.in_ok-progress.progress _ g.O.Output.tells c.args.text.now reads c.in_ok-found.ensures.few (c.in_ok-progress.ensures.ready tells job text entry reads) text (c.in_ok-progress.ensures.synced tells)))

@@ -20,7 +20,7 @@ pub loop-preserved : goal.loop-preserved
 loop-preserved g c = record {
   so_far = λ tells told given entry found of_job most rounds empty le so.
       let so_far = c.loop.invariant.so_far tells told given entry found of_job most rounds empty le so in
-      let of_job' : IsJobOf given.job c.args.prepared.now.query (g.L.Log.lines c.loop.log) = record { same_query = of_job.same_query; same_lines = of_job.same_lines ∙ sym (c.loop.invariant.same told) } in
+      let of_job' : IsJobOf given.job c.args.prepared.now.bound (g.L.Log.lines c.loop.log) = record { same_query = of_job.same_query; same_lines = of_job.same_lines ∙ sym (c.loop.invariant.same told) } in
       let fewer : length so_far.rounds < given.rounds = omega (arith, so_far.number, rounds, c.loop-test.true) in
       rounds_go_on given entry found c.loop.counter _ so_far.rounds _ _ _ _ so_far.number
       (c.in_ok-next_round.ensures.done tells told given entry found so_far.put so_far.rounds of_job' most fewer (c.loop.invariant.empty empty) so_far.shown so_far.so);
@@ -35,7 +35,7 @@ loop-preserved g c = record {
 pub returns-in_err-next_round-clause-stop : goal.returns-in_err-next_round-clause-stop
 returns-in_err-next_round-clause-stop g c = λ tells told given entry found of_job most rounds empty le so.
     let so_far = c.loop.invariant.so_far tells told given entry found of_job most rounds empty le so in
-    let of_job' : IsJobOf given.job c.args.prepared.now.query (g.L.Log.lines c.loop.log) = record { same_query = of_job.same_query; same_lines = of_job.same_lines ∙ sym (c.loop.invariant.same told) } in
+    let of_job' : IsJobOf given.job c.args.prepared.now.bound (g.L.Log.lines c.loop.log) = record { same_query = of_job.same_query; same_lines = of_job.same_lines ∙ sym (c.loop.invariant.same told) } in
     let fewer : length so_far.rounds < given.rounds = omega (arith, so_far.number, rounds, c.loop-test.true) in
     let p = err_from_is_err_and c.from_residual.result c.from_residual.ensures.1 in
     rw (p.1, p.2) (c.in_err-next_round.ensures.stop tells told given entry found so_far.put so_far.rounds of_job' most fewer (c.loop.invariant.empty empty) so_far.shown so_far.so)

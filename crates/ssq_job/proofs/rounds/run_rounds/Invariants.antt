@@ -8,7 +8,7 @@ use Rattle.ssq_job.proofs.rounds.run_rounds.Given as goal
 
 abbrev pub invariant-loop : goal.invariant-loop
 invariant-loop g l = record {
-  so_far : g.D.Disk.tells → g.L.Log.tells → (given : Given) (entry : Entry) (found : ℕ) → IsJobOf given.job l.prepared.query (g.L.Log.lines l.initial.log)
+  so_far : g.D.Disk.tells → g.L.Log.tells → (given : Given) (entry : Entry) (found : ℕ) → IsJobOf given.job l.prepared.bound (g.L.Log.lines l.initial.log)
       → given.most ≡ l.ask.most → given.rounds ≡ l.ask.rounds → string_bytes l.initial.told ≡ [] → found ≤ g.L.Log.shown l.initial.log
       → SoFar given entry found [] 0 l.initial.progress (g.D.Disk.history l.initial.disk) g.O.Output.tells (g.O.Output.content l.initial.out)
       → RoundsSoFar given entry found l.counter (g.L.Log.shown l.log) l.progress (g.D.Disk.history l.disk) g.O.Output.tells (g.O.Output.content l.out);
