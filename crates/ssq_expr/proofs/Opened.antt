@@ -1,5 +1,5 @@
 -- What an expression is on a row, by what stands in its boxes.
-use Rattle.std.proofs.Common.{◌≡◌, ◌∙◌, sym, ap, ℤ, List, Ok, refl}
+use Rattle.std.proofs.Common.{◌≡◌, ℤ, List, Ok, refl}
 use Rattle.ssq_value.specs.declared.value.Value.{Value}
 use Rattle.ssq_value.specs.declared.value.Value.TheVariants.{Truth}
 use Rattle.ssq_shape.specs.declared.typed.Arithmetic.{Arithmetic}

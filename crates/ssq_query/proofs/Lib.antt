@@ -7,3 +7,4 @@ pub mod Printed
 pub mod Queries
 pub mod Sums
 pub mod Turns
+pub mod Typed

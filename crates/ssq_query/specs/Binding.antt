@@ -1,10 +1,12 @@
 -- The bound query that a query is.
-use Rattle.std.specs.Prelude.{◌≡◌, ℕ, List, [], ◌∷◌, map, Option, Some, None, option_map}
+use Rattle.std.specs.Prelude.{◌≡◌, List, [], ◌∷◌, map, Option, Some, None, IfSome, option_map}
+use Rattle.std.specs.List.{AllByRecursion}
 use Rattle.ssq_value.specs.declared.column.ColType.{ColType}
 use Rattle.ssq_value.specs.declared.column.ColType.TheVariants as type
 use Rattle.ssq_value.specs.declared.column.Column.{Column}
 use Rattle.ssq_value.specs.declared.value.Value.TheVariants as value
 use Rattle.ssq_shape.specs.Boxes.{only}
+use Rattle.ssq_shape.specs.Kinds.{kind_in}
 use Rattle.ssq_shape.specs.declared.bound.Bound.{Bound}
 use Rattle.ssq_shape.specs.declared.bound.Mode.TheVariants.{Append}
 use Rattle.ssq_shape.specs.declared.bound.Output.{Output}
@@ -26,6 +28,7 @@ use Rattle.ssq_query.specs.declared.query.Term.{Term}
 use Rattle.ssq_query.specs.declared.query.Term.TheVariants as term
 use Rattle.ssq_query.specs.Canonical.{canonical}
 use Rattle.ssq_query.specs.Names.{column_names, output_name}
+use Rattle.ssq_query.specs.Taken.{IsTaken}
 use Rattle.ssq_query.specs.Typing.{item_kind}
 
 abbrev pub typed_term : Term → Typed
@@ -87,3 +90,20 @@ bound_of query = record {
   filter = option_map typed_filter query.filter;
   outputs = map (output_of query.columns) query.items;
 }
+
+abbrev pub column_kinds : List Column → List ColType
+column_kinds columns = map (λ column. column.kind) columns
+
+-- the types of the columns of the first stream
+abbrev pub stream_kinds : List Stream → List ColType
+stream_kinds [] = []
+stream_kinds (stream ∷ streams) = column_kinds stream.schema.columns
+
+-- what each item gives is of its column's type, and the condition is a BOOLEAN
+pub record IsWellTyped (bound : Bound) : Type 0 where
+  pub items : AllByRecursion (λ output. kind_in (stream_kinds bound.streams) output.value ≡ Some output.kind) bound.outputs
+  pub condition : IfSome bound.filter (λ x. kind_in (stream_kinds bound.streams) x ≡ Some type.Bool)
+
+-- so is each query that is taken, once it is bound
+abbrev pub AreWellTyped : Type 0
+AreWellTyped = (query : Query) → IsTaken query → IsWellTyped (bound_of query)

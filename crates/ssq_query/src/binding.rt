@@ -1,7 +1,7 @@
 //! The bound query that a query is.
 
 ghost use Rattle.std.specs.Prelude.{◌≡◌, ◌≤◌, length, map, option_map, IfOk};
-ghost use Rattle.ssq_query.specs.Binding.{typed_term, typed_op, typed_step, typed_sum, typed_item, typed_filter, kind_or_bigint, output_of, stream_of, bound_of};
+ghost use Rattle.ssq_query.specs.Binding.{typed_term, typed_op, typed_step, typed_sum, typed_item, typed_filter, kind_or_bigint, output_of, stream_of, bound_of, AreWellTyped};
 ghost use Rattle.ssq_query.specs.Taken.{IsTaken};
 
 use crate::apart::output_name;
@@ -99,7 +99,11 @@ fn output(alloc: Global, columns: &[Column], item: &Item) -> Result<Output, Allo
     Ok(Output { name, kind, value })
 }
 
-fn outputs(alloc: Global, columns: &[Column], items: &[Item]) -> Result<Sequence<Output>, AllocError>
+fn outputs(
+    alloc: Global,
+    columns: &[Column],
+    items: &[Item],
+) -> Result<Sequence<Output>, AllocError>
     ensures { IfOk result (λ outputs. outputs ≡ map (output_of columns.now) items.now) }
 {
     let mut outputs = Sequence::new(alloc);
@@ -141,3 +145,8 @@ pub fn bind(alloc: Global, query: &Query) -> Result<Bound, AllocError>
         outputs: outputs(alloc, query.columns.as_slice(), query.items.as_slice())?,
     })
 }
+
+/// The law of types: a query that is taken is well typed once it is bound.
+pub fn bound_queries_are_typed()
+    ensures { AreWellTyped }
+{}

@@ -24,7 +24,7 @@ mod reader;
 mod typing;
 
 pub use apart::output_name;
-pub use binding::bind;
+pub use binding::{bind, bound_queries_are_typed};
 pub use canonical::text;
 pub use fault::QueryFault;
 pub use query::{Filter, Item, Op, Query, Step, Sum, Term};

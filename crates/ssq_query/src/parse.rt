@@ -209,7 +209,11 @@ fn comparison(reader: &mut Reader<'_>) -> Result<Comparison, QueryFault>
 }
 
 #[tactic(auto, unfolding(crate::specs::Reading::condition_at))]
-fn condition(alloc: Global, reader: &mut Reader<'_>, columns: &[Column]) -> Result<Filter, QueryFault>
+fn condition(
+    alloc: Global,
+    reader: &mut Reader<'_>,
+    columns: &[Column],
+) -> Result<Filter, QueryFault>
     ensures { Reads (λ x. x) (spec.condition_at (column_names columns.now) reader.old) result reader.new }
 {
     let left = sum(alloc, reader, columns, MOST_STEPS - 1)?;

@@ -15,135 +15,137 @@ fn shown(alloc: Global, file: &[u8]) -> Result<Text, Fail> {
 const FIRST: &str =
     "CREATE STREAM s (id BIGINT, v BIGINT) FROM 's'; SELECT id, v + 1 AS w FROM s WHERE v > 10 OUTPUT APPEND;";
 
+/// A file, and its canonical text, or `not yet`.
+static FILES: [(&str, &str); 32] = [
+    (FIRST, FIRST),
+    (
+        "create Stream s(id bigint,v BIGINT)from 's';\r\n\tSELECT id,v+001 As w -- the sum\nFROM s WHERE v>10 OUTPUT APPEND ;",
+        FIRST,
+    ),
+    (
+        "CREATE STREAM a (v BIGINT) FROM 'it''s'; SELECT v AS v, v - 1 + v AS w, 7 AS x FROM a WHERE 1 != v + v OUTPUT APPEND;",
+        "CREATE STREAM a (v BIGINT) FROM 'it''s'; SELECT v, v - 1 + v AS w, 7 AS x FROM a WHERE 1 <> v + v OUTPUT APPEND;",
+    ),
+    (
+        "CREATE STREAM a (v BIGINT) FROM ''; SELECT v + 0 AS v FROM a OUTPUT APPEND;",
+        "CREATE STREAM a (v BIGINT) FROM ''; SELECT v + 0 AS v FROM a OUTPUT APPEND;",
+    ),
+    // Columns of all types, and texts.
+    (
+        "create stream s (k string, v bigint, t timestamp, b boolean) from 's'; SELECT k, v + 1 AS w, t, b AS c, 'it''s' AS x FROM s WHERE k='a' OUTPUT APPEND;",
+        "CREATE STREAM s (k STRING, v BIGINT, t TIMESTAMP, b BOOLEAN) FROM 's'; SELECT k, v + 1 AS w, t, b AS c, 'it''s' AS x FROM s WHERE k = 'a' OUTPUT APPEND;",
+    ),
+    (
+        "CREATE STREAM s (t TIMESTAMP, u TIMESTAMP) FROM 's'; SELECT t FROM s WHERE t <= u OUTPUT APPEND;",
+        "CREATE STREAM s (t TIMESTAMP, u TIMESTAMP) FROM 's'; SELECT t FROM s WHERE t <= u OUTPUT APPEND;",
+    ),
+    (
+        "CREATE STREAM s (b BOOLEAN, c BOOLEAN) FROM 's'; SELECT b FROM s WHERE b <> c OUTPUT APPEND;",
+        "CREATE STREAM s (b BOOLEAN, c BOOLEAN) FROM 's'; SELECT b FROM s WHERE b <> c OUTPUT APPEND;",
+    ),
+    // Not well typed.
+    (
+        "CREATE STREAM s (k STRING) FROM 's'; SELECT k + 1 AS w FROM s OUTPUT APPEND;",
+        "not yet",
+    ),
+    (
+        "CREATE STREAM s (k STRING) FROM 's'; SELECT 'a' + 'b' AS w FROM s OUTPUT APPEND;",
+        "not yet",
+    ),
+    (
+        "CREATE STREAM s (v BIGINT, t TIMESTAMP) FROM 's'; SELECT v - t AS w FROM s OUTPUT APPEND;",
+        "not yet",
+    ),
+    (
+        "CREATE STREAM s (k STRING, v BIGINT) FROM 's'; SELECT k FROM s WHERE k = v OUTPUT APPEND;",
+        "not yet",
+    ),
+    (
+        "CREATE STREAM s (t TIMESTAMP) FROM 's'; SELECT t FROM s WHERE t > '2024-01-01T00:00:00Z' OUTPUT APPEND;",
+        "not yet",
+    ),
+    (
+        "CREATE STREAM s (b BOOLEAN) FROM 's'; SELECT b FROM s WHERE b = 1 OUTPUT APPEND;",
+        "not yet",
+    ),
+    // Not of the grammar.
+    ("", "not yet"),
+    ("CREATE STREAM a (v BIGINT) FROM 'a';", "not yet"),
+    (
+        "CREATE STREAM a () FROM 'a'; SELECT 1 AS x FROM a OUTPUT APPEND;",
+        "not yet",
+    ),
+    (
+        "CREATE STREAM a (v FLOAT) FROM 'a'; SELECT v FROM a OUTPUT APPEND;",
+        "not yet",
+    ),
+    (
+        "CREATE STREAM a (v BIGINT) FROM 'a'; SELECT 'a' FROM a OUTPUT APPEND;",
+        "not yet",
+    ),
+    (
+        "CREATE STREAM a (v BIGINT) FROM 'a'; SELECT v FROM a OUTPUT APPEND",
+        "not yet",
+    ),
+    (
+        "CREATE STREAM a (v BIGINT) FROM 'a'; SELECT v FROM a OUTPUT UPDATE;",
+        "not yet",
+    ),
+    (
+        "CREATE STREAM a (v BIGINT) FROM 'a'; SELECT v FROM a OUTPUT APPEND; ;",
+        "not yet",
+    ),
+    (
+        "CREATE STREAM a (v BIGINT) FROM 'a'; SELECT v + 1 FROM a OUTPUT APPEND;",
+        "not yet",
+    ),
+    (
+        "CREATE STREAM a (v BIGINT) FROM 'a'; SELECT v + AS w FROM a OUTPUT APPEND;",
+        "not yet",
+    ),
+    (
+        "CREATE STREAM a (v BIGINT) FROM 'a'; SELECT (v) AS w FROM a OUTPUT APPEND;",
+        "not yet",
+    ),
+    (
+        "CREATE STREAM a (v BIGINT) FROM 'a'; SELECT v AS count FROM a OUTPUT APPEND;",
+        "not yet",
+    ),
+    (
+        "CREATE STREAM a (v BIGINT) FROM 'a'; SELECT v FROM a WHERE v BETWEEN 1 AND 2 OUTPUT APPEND;",
+        "not yet",
+    ),
+    // Not of the tokens.
+    (
+        "CREATE STREAM a (v BIGINT) FROM 'a; SELECT v FROM a OUTPUT APPEND;",
+        "not yet",
+    ),
+    (
+        "CREATE STREAM a (v BIGINT) FROM 'a'; SELECT v FROM a WHERE v = 9223372036854775808 OUTPUT APPEND;",
+        "not yet",
+    ),
+    // Names that are unknown or given twice.
+    (
+        "CREATE STREAM a (v BIGINT) FROM 'a'; SELECT w FROM a OUTPUT APPEND;",
+        "not yet",
+    ),
+    (
+        "CREATE STREAM a (v BIGINT) FROM 'a'; SELECT v FROM b OUTPUT APPEND;",
+        "not yet",
+    ),
+    (
+        "CREATE STREAM a (v BIGINT, v BIGINT) FROM 'a'; SELECT 1 AS x FROM a OUTPUT APPEND;",
+        "not yet",
+    ),
+    (
+        "CREATE STREAM a (v BIGINT) FROM 'a'; SELECT v, 1 AS v FROM a OUTPUT APPEND;",
+        "not yet",
+    ),
+];
+
 #[test]
 fn reads_files(rt: HostRuntime) -> Result<(), Fail> {
-    let rows = [
-        (FIRST, FIRST),
-        (
-            "create Stream s(id bigint,v BIGINT)from 's';\r\n\tSELECT id,v+001 As w -- the sum\nFROM s WHERE v>10 OUTPUT APPEND ;",
-            FIRST,
-        ),
-        (
-            "CREATE STREAM a (v BIGINT) FROM 'it''s'; SELECT v AS v, v - 1 + v AS w, 7 AS x FROM a WHERE 1 != v + v OUTPUT APPEND;",
-            "CREATE STREAM a (v BIGINT) FROM 'it''s'; SELECT v, v - 1 + v AS w, 7 AS x FROM a WHERE 1 <> v + v OUTPUT APPEND;",
-        ),
-        (
-            "CREATE STREAM a (v BIGINT) FROM ''; SELECT v + 0 AS v FROM a OUTPUT APPEND;",
-            "CREATE STREAM a (v BIGINT) FROM ''; SELECT v + 0 AS v FROM a OUTPUT APPEND;",
-        ),
-        // Columns of all types, and texts.
-        (
-            "create stream s (k string, v bigint, t timestamp, b boolean) from 's'; SELECT k, v + 1 AS w, t, b AS c, 'it''s' AS x FROM s WHERE k='a' OUTPUT APPEND;",
-            "CREATE STREAM s (k STRING, v BIGINT, t TIMESTAMP, b BOOLEAN) FROM 's'; SELECT k, v + 1 AS w, t, b AS c, 'it''s' AS x FROM s WHERE k = 'a' OUTPUT APPEND;",
-        ),
-        (
-            "CREATE STREAM s (t TIMESTAMP, u TIMESTAMP) FROM 's'; SELECT t FROM s WHERE t <= u OUTPUT APPEND;",
-            "CREATE STREAM s (t TIMESTAMP, u TIMESTAMP) FROM 's'; SELECT t FROM s WHERE t <= u OUTPUT APPEND;",
-        ),
-        (
-            "CREATE STREAM s (b BOOLEAN, c BOOLEAN) FROM 's'; SELECT b FROM s WHERE b <> c OUTPUT APPEND;",
-            "CREATE STREAM s (b BOOLEAN, c BOOLEAN) FROM 's'; SELECT b FROM s WHERE b <> c OUTPUT APPEND;",
-        ),
-        // Not well typed.
-        (
-            "CREATE STREAM s (k STRING) FROM 's'; SELECT k + 1 AS w FROM s OUTPUT APPEND;",
-            "not yet",
-        ),
-        (
-            "CREATE STREAM s (k STRING) FROM 's'; SELECT 'a' + 'b' AS w FROM s OUTPUT APPEND;",
-            "not yet",
-        ),
-        (
-            "CREATE STREAM s (v BIGINT, t TIMESTAMP) FROM 's'; SELECT v - t AS w FROM s OUTPUT APPEND;",
-            "not yet",
-        ),
-        (
-            "CREATE STREAM s (k STRING, v BIGINT) FROM 's'; SELECT k FROM s WHERE k = v OUTPUT APPEND;",
-            "not yet",
-        ),
-        (
-            "CREATE STREAM s (t TIMESTAMP) FROM 's'; SELECT t FROM s WHERE t > '2024-01-01T00:00:00Z' OUTPUT APPEND;",
-            "not yet",
-        ),
-        (
-            "CREATE STREAM s (b BOOLEAN) FROM 's'; SELECT b FROM s WHERE b = 1 OUTPUT APPEND;",
-            "not yet",
-        ),
-        // Not of the grammar.
-        ("", "not yet"),
-        ("CREATE STREAM a (v BIGINT) FROM 'a';", "not yet"),
-        (
-            "CREATE STREAM a () FROM 'a'; SELECT 1 AS x FROM a OUTPUT APPEND;",
-            "not yet",
-        ),
-        (
-            "CREATE STREAM a (v FLOAT) FROM 'a'; SELECT v FROM a OUTPUT APPEND;",
-            "not yet",
-        ),
-        (
-            "CREATE STREAM a (v BIGINT) FROM 'a'; SELECT 'a' FROM a OUTPUT APPEND;",
-            "not yet",
-        ),
-        (
-            "CREATE STREAM a (v BIGINT) FROM 'a'; SELECT v FROM a OUTPUT APPEND",
-            "not yet",
-        ),
-        (
-            "CREATE STREAM a (v BIGINT) FROM 'a'; SELECT v FROM a OUTPUT UPDATE;",
-            "not yet",
-        ),
-        (
-            "CREATE STREAM a (v BIGINT) FROM 'a'; SELECT v FROM a OUTPUT APPEND; ;",
-            "not yet",
-        ),
-        (
-            "CREATE STREAM a (v BIGINT) FROM 'a'; SELECT v + 1 FROM a OUTPUT APPEND;",
-            "not yet",
-        ),
-        (
-            "CREATE STREAM a (v BIGINT) FROM 'a'; SELECT v + AS w FROM a OUTPUT APPEND;",
-            "not yet",
-        ),
-        (
-            "CREATE STREAM a (v BIGINT) FROM 'a'; SELECT (v) AS w FROM a OUTPUT APPEND;",
-            "not yet",
-        ),
-        (
-            "CREATE STREAM a (v BIGINT) FROM 'a'; SELECT v AS count FROM a OUTPUT APPEND;",
-            "not yet",
-        ),
-        (
-            "CREATE STREAM a (v BIGINT) FROM 'a'; SELECT v FROM a WHERE v BETWEEN 1 AND 2 OUTPUT APPEND;",
-            "not yet",
-        ),
-        // Not of the tokens.
-        (
-            "CREATE STREAM a (v BIGINT) FROM 'a; SELECT v FROM a OUTPUT APPEND;",
-            "not yet",
-        ),
-        (
-            "CREATE STREAM a (v BIGINT) FROM 'a'; SELECT v FROM a WHERE v = 9223372036854775808 OUTPUT APPEND;",
-            "not yet",
-        ),
-        // Names that are unknown or given twice.
-        (
-            "CREATE STREAM a (v BIGINT) FROM 'a'; SELECT w FROM a OUTPUT APPEND;",
-            "not yet",
-        ),
-        (
-            "CREATE STREAM a (v BIGINT) FROM 'a'; SELECT v FROM b OUTPUT APPEND;",
-            "not yet",
-        ),
-        (
-            "CREATE STREAM a (v BIGINT, v BIGINT) FROM 'a'; SELECT 1 AS x FROM a OUTPUT APPEND;",
-            "not yet",
-        ),
-        (
-            "CREATE STREAM a (v BIGINT) FROM 'a'; SELECT v, 1 AS v FROM a OUTPUT APPEND;",
-            "not yet",
-        ),
-    ];
-    for (file, want) in rows {
+    for &(file, want) in &FILES {
         let found = shown(rt.alloc(), file.as_bytes())?;
         assert_eq!(rt; found.as_str(), want, "at {file}");
     }
