@@ -10,3 +10,4 @@ pub mod Opens
 pub mod Passing
 pub mod Standings
 pub mod Apart
+pub mod Looks

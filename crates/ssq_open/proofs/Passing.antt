@@ -80,18 +80,27 @@ one_pending files n m k l p q same equal (one_left a last is the) (one_left b la
     let P : ℕ → Type 0 = λ e. IsThePlan files e b in
     is ∙ ap Some (one_plan files k a b the (subst P (sym equal) the')) ∙ sym is'
 
+-- epochs that are right are the same, whoever found them
+pub record AreOne (k l : ℕ) (ends others : List PartEnd) (p q : Option Plan) : Type 0 where
+  pub committed : k ≡ l
+  pub ends_there : ends ≡ others
+  pub left : p ≡ q
+
+pub one_finding : (files : Files) (first : List PartEnd) (n m k l : ℕ) (ends others : List PartEnd) (p q : Option Plan) → AreEpochs files first n k ends p → AreEpochs files first m l others q → AreOne k l ends others p q
+one_finding files first n m k l ends others p q one other =
+    let planned = one_count files first n m one.plans other.plans in
+    let same = one_commits files n m k l one.commits other.commits in
+    let P : ℕ → Type 0 = λ k. AreEndsAt files first k others in
+    record {
+      committed = same;
+      ends_there = one_end files first k ends others one.end (subst P (sym same) other.end);
+      left = one_pending files n m k l p q planned same one.left other.left;
+    }
+
 pub say_what_is_found : (s : Sought) (files : Files) (one other : Opened) → Passes s files one → Passes s files other → AreAlike one other
 say_what_is_found s files one other p q =
-    let n = one_count files (starts s.found) p.planned q.planned p.epochs.plans q.epochs.plans in
-    let k = one_commits files p.planned q.planned one.committed other.committed p.epochs.commits q.epochs.commits in
-    let P : ℕ → Type 0 = λ k. AreEndsAt files (starts s.found) k other.ends in
-    record {
-      meta = q.meta.only one.meta p.meta.spells;
-      committed = k;
-      ends = one_end files (starts s.found) one.committed one.ends other.ends p.epochs.end (subst P (sym k) q.epochs.end);
-      pending = one_pending files p.planned q.planned one.committed other.committed one.pending other.pending n k p.epochs.left q.epochs.left;
-      seen = p.seen ∙ sym q.seen;
-    }
+    let same = one_finding files (starts s.found) p.planned q.planned one.committed other.committed one.ends other.ends one.pending other.pending p.epochs q.epochs in
+    record { meta = q.meta.only one.meta p.meta.spells; committed = same.committed; ends = same.ends_there; pending = same.left; seen = p.seen ∙ sym q.seen }
 
 -- a record that differs is not that of the job
 no_difference : (s : Sought) (m : Meta) (fault : OpenFault) → IsJob s m → JobDiffers s m fault → ⊥
@@ -123,7 +132,7 @@ commit_right files n k e commits some = by_case some
     by_case (inl earlier) = committed (omega (arith, earlier, commits.ahead))
     by_case (inr there) = committed (commits.all e there)
 
-no_damage : (files : Files) (first : List PartEnd) (n k : ℕ) (ends : List PartEnd) (pending : Option Plan) (at : Name) → AreEpochs files first n k ends pending → IsDamage files first at → ⊥
+pub no_damage : (files : Files) (first : List PartEnd) (n k : ℕ) (ends : List PartEnd) (pending : Option Plan) (at : Name) → AreEpochs files first n k ends pending → IsDamage files first at → ⊥
 no_damage files first n k ends pending at are (in_plans e is bad) = bad.bad (plan_right files first n e are.plans)
 no_damage files first n k ends pending at are (in_commits n' e plans is bad) =
     let P : ℕ → Type 0 = λ n. IsCommitRight files n e in
@@ -143,11 +152,9 @@ not_damaged s files opened at passes (in_epochs m is job damage) = no_damage fil
 
 not_short : (s : Sought) (files : Files) (opened : Opened) (stream part logged found : ℕ) → Passes s files opened → IsShort s files stream part logged found → ⊥
 not_short s files opened stream part logged found passes short =
-    let n = one_count files (starts s.found) passes.planned short.planned passes.epochs.plans short.epochs.plans in
-    let k = one_commits files passes.planned short.planned opened.committed short.committed passes.epochs.commits short.epochs.commits in
-    let P : ℕ → Type 0 = λ k. AreEndsAt files (starts s.found) k short.ends in
-    let ends = one_end files (starts s.found) opened.committed opened.ends short.ends passes.epochs.end (subst P (sym k) short.epochs.end) in
-    let pending = one_pending files passes.planned short.planned opened.committed short.committed opened.pending short.pending n k passes.epochs.left short.epochs.left in
+    let same = one_finding files (starts s.found) passes.planned short.planned opened.committed short.committed opened.ends short.ends opened.pending short.pending passes.epochs short.epochs in
+    let ends = same.ends_there in
+    let pending = same.left in
     let last : last_ends opened.ends opened.pending ≡ last_ends short.ends short.pending = λ i. last_ends (ends i) (pending i) in
     none_some (record { stream = stream; part = part; end = logged }, short.at) (sym passes.long ∙ ap (λ (l : List PartEnd). first_short l s.found) last ∙ short.short)
 

@@ -20,7 +20,8 @@ use Rattle.ssq_open.specs.Spelled.{IsTheMeta, IsThePlan, IsTheCommit}
 use Rattle.ssq_open.specs.Epochs.{starts, follows, AreEndsAt, at_start, at_plan, IsThere, IsGoodPlan, IsGoodCommit, IsSinkRight, is_state, IsPending, all_done, one_left, AreEpochs}
 use Rattle.ssq_open.specs.Opening.{Passes, last_ends, first_short}
 use Rattle.ssq_open.proofs.Apart.{metas_apart, plans_apart, commits_apart}
-use Rattle.ssq_open.specs.Laws.{AreRecordsApart, IsCourseOf, IsOfCourse}
+use Rattle.ssq_open.specs.Looking.{begins, IsOf, Holds}
+use Rattle.ssq_open.specs.Laws.{AreRecordsApart, IsCourseOf, IsCourseFrom, IsOfCourse}
 
 some_same : (x y : List ℕ) → Some x ≡ Some y → x ≡ y
 some_same x y e = cc
@@ -47,7 +48,11 @@ next_is e n follow less is = let same : (e == e) ≡ true = eq-eqb e e refl in l
 own_is : (e : ℕ) (seen : List SeenBy) → seen ≡ [] → (e == e && length seen == 0) ≡ true
 own_is e seen none = let same : (e == e) ≡ true = eq-eqb e e refl in rw (same, none) refl
 
-module _ (apart : AreRecordsApart) (s : Sought) (course : Course) (files : Files) (stands : Stands course files) (of : IsCourseOf s course stands.planned) where
+-- a course of the job that is wanted begins where the parts that were found do
+course_from : (s : Sought) (course : Course) (planned : ℕ) → IsCourseOf s course planned → IsCourseFrom (starts s.found) course planned
+course_from s course planned of = record { record_is = of.record_is; start = of.start; plans = of.plans; follow = of.follow; unmarked = of.unmarked; commits = of.commits; unseen = of.unseen }
+
+module _ (apart : AreRecordsApart) (first : List PartEnd) (course : Course) (files : Files) (stands : Stands course files) (of : IsCourseFrom first course stands.planned) where
   at : (q : Name) → files q ≡ files_at course stands.planned stands.committed stands.written q
   at q = ap (λ (f : Files). f q) stands.exactly
 
@@ -79,13 +84,13 @@ module _ (apart : AreRecordsApart) (s : Sought) (course : Course) (files : Files
         (some_same (commit_text other) (commit_text (commit_of course e)) (sym spells.text ∙ commit_at e less));
   }
 
-  ends_at : (e : ℕ) → e ≤ stands.planned → AreEndsAt files (starts s.found) e (course.ends e)
+  ends_at : (e : ℕ) → e ≤ stands.planned → AreEndsAt files first e (course.ends e)
   ends_at zero less = at_start refl of.start
   ends_at (suc e) less =
       let next : suc e ≡ e + 1 = omega arith in
       at_plan e (plan_of course e) next (the_plan e (omega (arith, less))) (ap course.ends next)
 
-  good_plan : (e : ℕ) → e < stands.planned → IsGoodPlan files (starts s.found) e
+  good_plan : (e : ℕ) → e < stands.planned → IsGoodPlan files first e
   good_plan e less = record {
     before = course.ends e;
     plan = plan_of course e;
@@ -134,7 +139,7 @@ module _ (apart : AreRecordsApart) (s : Sought) (course : Course) (files : Files
       let done : stands.committed ≡ stands.planned = omega (arith, more, stands.reached.written_first, stands.reached.planned_first) in
       ap (last_ends opened.ends) (is.done done) ∙ is.ends ∙ ap course.ends done
 
-  epochs_of : (opened : Opened) → IsOfCourse course stands.planned stands.committed opened → AreEpochs files (starts s.found) stands.planned stands.committed (course.ends stands.committed) opened.pending
+  epochs_of : (opened : Opened) → IsOfCourse course stands.planned stands.committed opened → AreEpochs files first stands.planned stands.committed (course.ends stands.committed) opened.pending
   epochs_of opened is = record {
     plans = record { all = λ e there. there_below stands.planned e (λ e. plan_text (plan_of course e)) (files (name.Plan e)) (at (name.Plan e)) there; good = good_plan };
     commits = record {
@@ -150,26 +155,47 @@ module _ (apart : AreRecordsApart) (s : Sought) (course : Course) (files : Files
     left = left_of opened is (cases_lt stands.committed stands.planned);
   }
 
-  passes : (opened : Opened) → IsOfCourse course stands.planned stands.committed opened → Passes s files opened
-  passes opened is =
-      let M : Meta → Type 0 = IsTheMeta files in
-      let J : ℕ → Type 0 = λ k. AreEpochs files (starts s.found) stands.planned k opened.ends opened.pending in
-      let E : List PartEnd → Type 0 = λ ends. AreEpochs files (starts s.found) stands.planned stands.committed ends opened.pending in
-      record {
-        meta = subst M (sym is.meta) the_meta;
-        job = job_of;
-        planned = stands.planned;
-        epochs = subst J (sym is.count) (subst E (sym is.ends) (epochs_of opened is));
-        long = ap (λ (ends : List PartEnd). first_short ends s.found) (last_of opened is (cases_lt stands.committed stands.planned)) ∙ of.long;
-        seen = is.seen ∙ of.unseen stands.committed (omega (arith, stands.reached.written_first, stands.reached.planned_first));
-      }
-    where
-      job_of : IsJob s opened.meta
-      job_of = let P : Meta → Type 0 = IsJob s in subst P (sym is.meta) of.job
+  the_epochs : (opened : Opened) → IsOfCourse course stands.planned stands.committed opened → AreEpochs files first stands.planned opened.committed opened.ends opened.pending
+  the_epochs opened is =
+      let J : ℕ → Type 0 = λ k. AreEpochs files first stands.planned k opened.ends opened.pending in
+      let E : List PartEnd → Type 0 = λ ends. AreEpochs files first stands.planned stands.committed ends opened.pending in
+      subst J (sym is.count) (subst E (sym is.ends) (epochs_of opened is))
+
+  the_opened : (opened : Opened) → IsOfCourse course stands.planned stands.committed opened → IsTheMeta files opened.meta
+  the_opened opened is = let M : Meta → Type 0 = IsTheMeta files in subst M (sym is.meta) the_meta
+
+  none_seen : (opened : Opened) → IsOfCourse course stands.planned stands.committed opened → opened.seen ≡ []
+  none_seen opened is = is.seen ∙ of.unseen stands.committed (omega (arith, stands.reached.written_first, stands.reached.planned_first))
 
 pub records_apart : AreRecordsApart
 records_apart = record { metas = metas_apart; plans = plans_apart; commits = commits_apart }
 
 pub standing_passes : (s : Sought) (course : Course) (files : Files) (stands : Stands course files) → IsCourseOf s course stands.planned
     → (opened : Opened) → IsOfCourse course stands.planned stands.committed opened → Passes s files opened
-standing_passes s course files stands of opened is = passes records_apart s course files stands of opened is
+standing_passes s course files stands of opened is =
+    let from = course_from s course stands.planned of in
+    let J : Meta → Type 0 = IsJob s in
+    record {
+      meta = the_opened records_apart (starts s.found) course files stands from opened is;
+      job = subst J (sym is.meta) of.job;
+      planned = stands.planned;
+      epochs = the_epochs records_apart (starts s.found) course files stands from opened is;
+      long = ap (λ (ends : List PartEnd). first_short ends s.found)
+          (last_of records_apart (starts s.found) course files stands from opened is (cases_lt stands.committed stands.planned)) ∙ of.long;
+      seen = none_seen records_apart (starts s.found) course files stands from opened is;
+    }
+
+pub standing_holds : (asked : List ℕ) (streams : ℕ) (course : Course) (files : Files) (stands : Stands course files)
+    → IsCourseFrom (begins course.meta.parts) course stands.planned → IsOf asked streams course.meta
+    → (opened : Opened) → IsOfCourse course stands.planned stands.committed opened → Holds asked streams files opened
+standing_holds asked streams course files stands of ours opened is =
+    let first : List PartEnd = begins course.meta.parts in
+    let O : Meta → Type 0 = IsOf asked streams in
+    let E : List PartEnd → Type 0 = λ from. AreEpochs files from stands.planned opened.committed opened.ends opened.pending in
+    record {
+      meta = the_opened records_apart first course files stands of opened is;
+      ours = subst O (sym is.meta) ours;
+      planned = stands.planned;
+      epochs = subst E (ap (λ (m : Meta). begins m.parts) (sym is.meta)) (the_epochs records_apart first course files stands of opened is);
+      seen = none_seen records_apart first course files stands of opened is;
+    }

@@ -1,11 +1,11 @@
 -- What holds of checkpoints that pass, that are refused, and that stand.
-use Rattle.std.specs.Prelude.{◌≡◌, ◌<◌, ◌≤◌, ◌+◌, ℕ, [], Some, None, IsTrue}
+use Rattle.std.specs.Prelude.{◌≡◌, ◌<◌, ◌≤◌, ◌+◌, ℕ, List, [], Some, None, IsTrue}
 use Rattle.ssq_outside.specs.Files.{Files}
 use Rattle.ssq_plans.specs.declared.meta.Meta.{Meta}
 use Rattle.ssq_plans.specs.declared.plan.Plan.{Plan}
 use Rattle.ssq_plans.specs.declared.commit.Commit.{Commit}
 use Rattle.ssq_plans.specs.Records.{IsPlan, IsCommit, meta_text, plan_text, commit_text}
-use Rattle.ssq_core.specs.Course.{Course, plan_of, commit_of}
+use Rattle.ssq_core.specs.Course.{Course, Ends, plan_of, commit_of}
 use Rattle.ssq_core.specs.Standing.{Stands}
 use Rattle.ssq_open.specs.declared.fault.OpenFault.{OpenFault}
 use Rattle.ssq_open.specs.declared.wanted.Opened.{Opened}
@@ -13,6 +13,7 @@ use Rattle.ssq_open.specs.Sought.{Sought, IsJob}
 use Rattle.ssq_open.specs.Spelled.{IsMetaRecord}
 use Rattle.ssq_open.specs.Epochs.{starts, follows}
 use Rattle.ssq_open.specs.Opening.{Passes, Refuses, IsOutside, first_short}
+use Rattle.ssq_open.specs.Looking.{begins, IsOf, Holds, Denies}
 
 -- a checkpoint that passes is refused by a fault of the outside alone
 abbrev pub PassesOrIsRefused : Type 0
@@ -62,3 +63,28 @@ pub record IsOfCourse (course : Course) (planned committed : ℕ) (opened : Open
 abbrev pub StandingPasses : Type 0
 StandingPasses = (s : Sought) (course : Course) (files : Files) (stands : Stands course files) → IsCourseOf s course stands.planned
     → (opened : Opened) → IsOfCourse course stands.planned stands.committed opened → Passes s files opened
+
+-- a checkpoint that a look finds right is denied by a fault of the outside alone
+abbrev pub HoldsOrIsDenied : Type 0
+HoldsOrIsDenied = (asked : List ℕ) (streams : ℕ) (files : Files) (opened : Opened) (fault : OpenFault) → Holds asked streams files opened → Denies asked streams files fault → IsOutside fault
+
+-- what a look finds in a checkpoint is determined by its files
+abbrev pub FilesSayWhatIsHeld : Type 0
+FilesSayWhatIsHeld = (asked : List ℕ) (streams : ℕ) (files : Files) (one other : Opened) → Holds asked streams files one → Holds asked streams files other → AreAlike one other
+
+-- The course is one of parts that begin there, up to so many planned epochs: its record, plans and commits can be written, its
+-- epochs do not fall, and no stream has a watermark.
+pub record IsCourseFrom (first : Ends) (course : Course) (planned : ℕ) : Type 0 where
+  pub record_is : IsMetaRecord course.meta
+  pub start : course.ends 0 ≡ first
+  pub plans : (e : ℕ) → e < planned → IsPlan (plan_of course e)
+  pub follow : (e : ℕ) → e < planned → IsTrue (follows (course.ends e) (course.ends (e + 1)))
+  pub unmarked : (e : ℕ) → e < planned → course.watermark e ≡ None
+  pub commits : (e : ℕ) → e < planned → IsCommit (commit_of course e)
+  pub unseen : (e : ℕ) → e ≤ planned → course.seen e ≡ []
+
+-- a look at a checkpoint that stands for a course of this query finds what is the course's
+abbrev pub StandingHolds : Type 0
+StandingHolds = (asked : List ℕ) (streams : ℕ) (course : Course) (files : Files) (stands : Stands course files)
+    → IsCourseFrom (begins course.meta.parts) course stands.planned → IsOf asked streams course.meta
+    → (opened : Opened) → IsOfCourse course stands.planned stands.committed opened → Holds asked streams files opened

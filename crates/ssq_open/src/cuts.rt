@@ -1,7 +1,8 @@
 //! Where epochs end.
 
-ghost use Rattle.std.specs.Prelude.{◌≡◌, IfOk};
+ghost use Rattle.std.specs.Prelude.{◌≡◌, ◌≤◌, ◌^◌, ◌++◌, length, IfOk, OnOk};
 ghost use Rattle.ssq_open.specs.Epochs.{start_of, starts, keeps_up, follows, is_next};
+ghost use Rattle.ssq_open.specs.Looking.{parts_of, begins};
 
 use ssq_plans::{PartEnd, Plan};
 use ssq_value::Sequence;
@@ -24,6 +25,32 @@ pub(crate) fn starts(alloc: Global, found: &[PartEnd]) -> Result<Sequence<PartEn
     let mut ends = Sequence::new(alloc);
     for part in found {
         ends.push(start_of(*part))?;
+    }
+    Ok(ends)
+}
+
+/// Adds the first parts of a stream, where they begin.
+fn push_parts(ends: &mut Sequence<PartEnd>, stream: u32, count: u32) -> Result<(), AllocError>
+    ensures { OnOk result (ends.new ≡ ends.old ++ parts_of stream count) }
+{
+    for part in 0..count {
+        ends.push(PartEnd {
+            stream,
+            part,
+            end: 0,
+        })?;
+    }
+    Ok(())
+}
+
+/// Where the parts of all streams begin, each of which has so many.
+pub(crate) fn begins(alloc: Global, parts: &[u32]) -> Result<Sequence<PartEnd>, AllocError>
+    requires { length parts.now ≤ 2 ^ 32 }
+    ensures { IfOk result (λ ends. ends ≡ begins parts.now) }
+{
+    let mut ends = Sequence::new(alloc);
+    for (stream, count) in parts.iter().enumerate() {
+        push_parts(&mut ends, stream as u32, *count)?;
     }
     Ok(ends)
 }

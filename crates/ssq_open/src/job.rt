@@ -5,6 +5,7 @@ ghost use Rattle.ssq_outside.specs.History.{files_now};
 ghost use Rattle.ssq_open.specs.Fault.{DiskRises};
 ghost use Rattle.ssq_open.specs.Sought.{Sought, IsJob};
 ghost use Rattle.ssq_open.specs.Spelled.{IsTheMeta};
+ghost use Rattle.ssq_open.specs.Looking.{IsOf, QueryDiffers, MetaRefuses};
 ghost use Rattle.ssq_open.specs.Refused.{JobDiffers, JobRefuses};
 
 use crate::fault::OpenFault;
@@ -37,19 +38,49 @@ fn first_other(kept: &[u32], found: &[u32]) -> Option<usize>
     None
 }
 
-/// The record of the job, where it is of the job that is wanted.
+/// The record of the job, where it is of this query, which has so many streams.
+fn same_query(meta: Meta, query: &Text, streams: usize) -> Result<Meta, OpenFault>
+    ensures same { IfOk result (λ kept. kept ≡ meta) }
+    ensures ours { IfOk result (IsOf query.now streams) }
+    ensures differs { IfErr result (QueryDiffers query.now streams meta) }
+{
+    if !is_same(&meta.query, query) {
+        let Meta { query, .. } = meta;
+        return Err(OpenFault::OtherQuery { kept: query });
+    }
+    if meta.parts.len() != streams {
+        return Err(OpenFault::Damaged { name: Name::Meta });
+    }
+    Ok(meta)
+}
+
+/// The record of the job that a checkpoint is of, where it is of this query, which has so many streams.
+pub(crate) fn kept_query<D: Disk>(
+    alloc: Global,
+    disk: &mut D,
+    query: &Text,
+    streams: usize,
+) -> Result<Meta, OpenFault>
+    ensures kept { D.tells → IfOk result (IsTheMeta (files_now (D.history disk.old))) }
+    ensures ours { IfOk result (IsOf query.now streams) }
+    ensures refused { D.tells → IfErr result (MetaRefuses query.now streams (files_now (D.history disk.old))) }
+    ensures same { D.tells → D.history disk.new ≡ D.history disk.old }
+    ensures counted { D.faults disk.old ≤ D.faults disk.new }
+    ensures cause { IfErr result (λ fault. DiskRises fault (D.faults disk.old) (D.faults disk.new)) }
+{
+    match meta_of(alloc, disk)? {
+        Some(meta) => same_query(meta, query, streams),
+        None => Err(OpenFault::Damaged { name: Name::Meta }),
+    }
+}
+
+/// The record of the job, which is of the query that is wanted, where it is of the job that is wanted.
 fn same_job(meta: Meta, wanted: &Wanted<'_>) -> Result<Meta, OpenFault>
+    requires { IsOf wanted.now.query.now (length wanted.now.parts.now) meta }
     ensures same { IfOk result (λ kept. kept ≡ meta) }
     ensures job { IfOk result (IsJob (record { query = wanted.now.query.now; partitions = wanted.now.partitions; parts = wanted.now.parts.now; found = wanted.now.found.now })) }
     ensures differs { IfErr result (JobDiffers (record { query = wanted.now.query.now; partitions = wanted.now.partitions; parts = wanted.now.parts.now; found = wanted.now.found.now }) meta) }
 {
-    if !is_same(&meta.query, wanted.query) {
-        let Meta { query, .. } = meta;
-        return Err(OpenFault::OtherQuery { kept: query });
-    }
-    if meta.parts.len() != wanted.parts.len() {
-        return Err(OpenFault::Damaged { name: Name::Meta });
-    }
     if let Some(asked) = wanted.partitions {
         if asked != meta.partitions {
             return Err(OpenFault::OtherPartitions {
@@ -81,8 +112,6 @@ pub(crate) fn kept_job<D: Disk>(
     ensures counted { D.faults disk.old ≤ D.faults disk.new }
     ensures cause { IfErr result (λ fault. DiskRises fault (D.faults disk.old) (D.faults disk.new)) }
 {
-    match meta_of(alloc, disk)? {
-        Some(meta) => same_job(meta, wanted),
-        None => Err(OpenFault::Damaged { name: Name::Meta }),
-    }
+    let meta = kept_query(alloc, disk, wanted.query, wanted.parts.len())?;
+    same_job(meta, wanted)
 }

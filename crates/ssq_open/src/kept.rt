@@ -3,7 +3,7 @@
 ghost use Rattle.std.specs.Prelude.{◌≡◌, ◌≤◌, ℕ, IfOk, IfErr};
 ghost use Rattle.ssq_outside.specs.Files.{AreNames};
 ghost use Rattle.ssq_outside.specs.History.{files_now};
-ghost use Rattle.ssq_open.specs.Epochs.{starts, AreEpochs};
+ghost use Rattle.ssq_open.specs.Epochs.{AreEpochs};
 ghost use Rattle.ssq_open.specs.Fault.{DiskRises};
 ghost use Rattle.ssq_open.specs.Refused.{EpochsRefuse};
 
@@ -16,23 +16,23 @@ use ssq_outside::{Disk, Name};
 use ssq_plans::PartEnd;
 use std::alloc::Global;
 
-/// The epochs of a checkpoint whose files have these names.
+/// The epochs of a checkpoint whose files have these names, of parts that begin there.
 pub(crate) fn kept_epochs<D: Disk>(
     alloc: Global,
     disk: &mut D,
     names: &[Name],
-    found: &[PartEnd],
+    first: &[PartEnd],
 ) -> Result<Epochs, OpenFault>
     ensures kept { D.tells → AreNames (files_now (D.history disk.old)) names.now →
-        IfOk result (λ epochs. (planned : ℕ) × AreEpochs (files_now (D.history disk.old)) (starts found.now) planned epochs.committed epochs.ends epochs.pending) }
-    ensures refused { D.tells → AreNames (files_now (D.history disk.old)) names.now → IfErr result (EpochsRefuse (files_now (D.history disk.old)) (starts found.now)) }
+        IfOk result (λ epochs. (planned : ℕ) × AreEpochs (files_now (D.history disk.old)) first.now planned epochs.committed epochs.ends epochs.pending) }
+    ensures refused { D.tells → AreNames (files_now (D.history disk.old)) names.now → IfErr result (EpochsRefuse (files_now (D.history disk.old)) first.now) }
     ensures same { D.tells → D.history disk.new ≡ D.history disk.old }
     ensures counted { D.faults disk.old ≤ D.faults disk.new }
     ensures cause { IfErr result (λ fault. DiskRises fault (D.faults disk.old) (D.faults disk.new)) }
 {
     let planned = planned(names);
     let committed = committed(names, planned);
-    let epochs = planned_epochs(alloc, disk, found, planned, committed)?;
+    let epochs = planned_epochs(alloc, disk, first, planned, committed)?;
     check_commits(alloc, disk, epochs.committed)?;
     check_last_commit(names, planned)?;
     check_marked(epochs.marked)?;

@@ -1,4 +1,4 @@
-//! Opens a checkpoint: what it holds is found and checked, and where it is empty it is begun.
+//! Opens a checkpoint: what it holds is found and checked, and where it is empty it is begun. Or looks at it, which changes nothing.
 #![tactic(auto)]
 
 mod begin;
@@ -10,6 +10,7 @@ mod kept;
 mod law;
 mod lengths;
 mod listing;
+mod looking;
 mod opening;
 mod plans;
 mod read;
@@ -21,7 +22,9 @@ mod wanted;
 
 pub use fault::OpenFault;
 pub use law::{
-    files_say_what_is_found, passing_is_not_refused, records_are_apart, standing_passes,
+    files_say_what_is_found, files_say_what_is_held, holding_is_not_denied, passing_is_not_refused,
+    records_are_apart, standing_holds, standing_passes,
 };
+pub use looking::look;
 pub use opening::open;
 pub use wanted::{Opened, Wanted};

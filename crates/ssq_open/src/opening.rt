@@ -8,6 +8,7 @@ ghost use Rattle.ssq_open.specs.Opening.{CanBeSought, Passes, Refuses, IsOpen, I
 ghost use Rattle.ssq_open.specs.Sought.{Sought};
 
 use crate::begin::begin;
+use crate::cuts::starts;
 use crate::fault::OpenFault;
 use crate::job::kept_job;
 use crate::kept::kept_epochs;
@@ -33,7 +34,8 @@ fn kept<D: Disk>(
     ensures cause { IfErr result (λ fault. DiskRises fault (D.faults disk.old) (D.faults disk.new)) }
 {
     let meta = kept_job(alloc, disk, wanted)?;
-    let epochs = kept_epochs(alloc, disk, names, wanted.found)?;
+    let first = starts(alloc, wanted.found)?;
+    let epochs = kept_epochs(alloc, disk, names, first.as_slice())?;
     check_lengths(&epochs.ends, &epochs.pending, wanted.found)?;
     Ok(Opened {
         meta,

@@ -3,13 +3,13 @@
 ghost use Rattle.std.specs.Prelude.{◌≡◌, ◌<◌, ◌≤◌, ◌+◌, ◌^◌, ℕ, List, IfOk, IfErr, OnOk, IsTrue};
 ghost use Rattle.ssq_outside.specs.Files.{Files};
 ghost use Rattle.ssq_outside.specs.History.{files_now};
-ghost use Rattle.ssq_open.specs.Epochs.{starts, is_next, AreEndsAt, ArePlanned, IsThere, IsUnmarked, IsFirstBelow, IsGoodPlan, IsPending};
+ghost use Rattle.ssq_open.specs.Epochs.{is_next, AreEndsAt, ArePlanned, IsThere, IsUnmarked, IsFirstBelow, IsGoodPlan, IsPending};
 ghost use Rattle.ssq_open.specs.Spelled.{IsThePlan};
 ghost use Rattle.ssq_open.specs.Fault.{DiskRises};
 ghost use Rattle.ssq_open.specs.Refused.{PlansRefuse, MarkRefuses};
 ghost use Rattle.ssq_plans.specs.declared.part.PartEnd.{PartEnd as PartEndOf};
 
-use crate::cuts::{is_next, starts};
+use crate::cuts::is_next;
 use crate::fault::OpenFault;
 use crate::read::plan_of;
 use ssq_outside::{Disk, Name};
@@ -91,23 +91,23 @@ fn advance<D: Disk>(
     Ok(Planned { ends, marked })
 }
 
-/// The first epochs.
+/// The first epochs, of parts that begin there.
 pub(crate) fn plans_to<D: Disk>(
     alloc: Global,
     disk: &mut D,
-    found: &[PartEnd],
+    first: &[PartEnd],
     count: u64,
 ) -> Result<Planned, OpenFault>
     requires { count ≤ 2 ^ 32 }
-    ensures planned { D.tells → IfOk result (λ planned. ArePlanned (files_now (D.history disk.old)) (starts found.now) count planned.ends) }
+    ensures planned { D.tells → IfOk result (λ planned. ArePlanned (files_now (D.history disk.old)) first.now count planned.ends) }
     ensures marked { D.tells → IfOk result (λ planned. IsFirstBelow (IsUnmarked (files_now (D.history disk.old))) count planned.marked) }
     ensures few { OnOk result (count ≤ 4294967295) }
-    ensures refused { D.tells → IfErr result (PlansRefuse (files_now (D.history disk.old)) (starts found.now) count) }
+    ensures refused { D.tells → IfErr result (PlansRefuse (files_now (D.history disk.old)) first.now count) }
     ensures same { D.tells → D.history disk.new ≡ D.history disk.old }
     ensures counted { D.faults disk.old ≤ D.faults disk.new }
     ensures cause { IfErr result (λ fault. DiskRises fault (D.faults disk.old) (D.faults disk.new)) }
 {
-    let ends = starts(alloc, found)?;
+    let ends = Sequence::from_vec(Vec::from_slice(alloc, first)?);
     let mut planned = Planned { ends, marked: None };
     for epoch in 0..count {
         planned = advance(alloc, disk, planned, epoch as u32)?;
@@ -163,11 +163,11 @@ fn mark_pending(marked: Option<u32>, epoch: u32, pending: &Option<Plan>) -> Opti
     }
 }
 
-/// The planned epochs, of which so many are committed.
+/// The planned epochs, of which so many are committed, of parts that begin there.
 pub(crate) fn planned_epochs<D: Disk>(
     alloc: Global,
     disk: &mut D,
-    found: &[PartEnd],
+    first: &[PartEnd],
     planned: u64,
     committed: u64,
 ) -> Result<Epochs, OpenFault>
@@ -175,16 +175,16 @@ pub(crate) fn planned_epochs<D: Disk>(
     requires below { committed ≤ planned }
     requires ahead { planned ≤ committed + 1 }
     ensures count { IfOk result (λ epochs. epochs.committed ≡ committed) }
-    ensures good { D.tells → OnOk result ((e : ℕ) → e < planned → IsGoodPlan (files_now (D.history disk.old)) (starts found.now) e) }
-    ensures end { D.tells → IfOk result (λ epochs. AreEndsAt (files_now (D.history disk.old)) (starts found.now) committed epochs.ends) }
+    ensures good { D.tells → OnOk result ((e : ℕ) → e < planned → IsGoodPlan (files_now (D.history disk.old)) first.now e) }
+    ensures end { D.tells → IfOk result (λ epochs. AreEndsAt (files_now (D.history disk.old)) first.now committed epochs.ends) }
     ensures pending { D.tells → IfOk result (λ epochs. IsPending (files_now (D.history disk.old)) planned committed epochs.pending) }
     ensures marked { D.tells → IfOk result (λ epochs. IsFirstBelow (IsUnmarked (files_now (D.history disk.old))) planned epochs.marked) }
-    ensures refused { D.tells → IfErr result (PlansRefuse (files_now (D.history disk.old)) (starts found.now) planned) }
+    ensures refused { D.tells → IfErr result (PlansRefuse (files_now (D.history disk.old)) first.now planned) }
     ensures same { D.tells → D.history disk.new ≡ D.history disk.old }
     ensures counted { D.faults disk.old ≤ D.faults disk.new }
     ensures cause { IfErr result (λ fault. DiskRises fault (D.faults disk.old) (D.faults disk.new)) }
 {
-    let before = plans_to(alloc, disk, found, committed)?;
+    let before = plans_to(alloc, disk, first, committed)?;
     let committed = committed as u32;
     let pending = pending_plan(alloc, disk, before.ends.as_slice(), planned, committed)?;
     let marked = mark_pending(before.marked, committed, &pending);

@@ -2,7 +2,7 @@
 
 ghost use Rattle.ssq_open.specs.Opening.{CanBeSought};
 
-use crate::{OpenFault, Opened, Wanted, open};
+use crate::{OpenFault, Opened, Wanted, look, open};
 use ssq_core::settle;
 use ssq_fakes::MemDisk;
 use ssq_outside::{Disk, DiskError, Name};
@@ -239,6 +239,32 @@ fn opening(
             found,
         },
     )))
+}
+
+/// What a look finds, where there is a file.
+fn looking(alloc: Global, disk: &mut MemDisk, query: &str) -> Result<Option<Answer>, AllocError> {
+    let query = Text::from_str(alloc, query)?;
+    Ok(match look(alloc, disk, &query, 1) {
+        Ok(None) => None,
+        Ok(Some(opened)) => Some(answer_of(Ok(opened))),
+        Err(fault) => Some(answer_of(Err(fault))),
+    })
+}
+
+#[test]
+fn looks_or_names_the_file(rt: HostRuntime) -> Result<(), Fail> {
+    let alloc = rt.alloc();
+    for spoilt in &SPOILT {
+        let mut disk = disk_of(alloc, spoilt.changes).expect(&rt, "memory");
+        assert_eq!(rt; looking(alloc, &mut disk, QUERY)?, Some(spoilt.answer));
+    }
+    let mut disk = disk_of(alloc, &[]).expect(&rt, "memory");
+    assert_eq!(rt;
+        looking(alloc, &mut disk, "SELECT")?,
+        Some(Answer::OtherQuery)
+    );
+    assert_eq!(rt; looking(alloc, &mut MemDisk::new(alloc), QUERY)?, None);
+    Ok(())
 }
 
 #[test]

@@ -3,7 +3,7 @@ use Rattle.std.proofs.lemmas.Result.{err_from_is_err_and}
 use Rattle.ssq_outside.specs.History.{History, files_now}
 use Rattle.ssq_outside.specs.Files.{Files}
 use Rattle.ssq_plans.specs.declared.part.PartEnd.{PartEnd}
-use Rattle.ssq_open.specs.Epochs.{starts, AreEndsAt, IsGoodCommit, IsPending}
+use Rattle.ssq_open.specs.Epochs.{AreEndsAt, IsGoodCommit, IsPending}
 use Rattle.ssq_open.specs.Refused.{CommitsRefuse}
 use Rattle.ssq_open.proofs.Keeping.{counted_as, plans_all, plans_refused, commits_refused, commits_passed, commits_all, mark_refused, sinks_refused, state_refused}
 use Rattle.ssq_open.proofs.kept.kept_epochs.Goals as goal
@@ -13,14 +13,14 @@ returns-in_err-epochs-clause-refused g c = λ tells are.
     let p = err_from_is_err_and c.from_residual.result c.from_residual.ensures.1 in
     let k = c.committed-committed.ensures in
     let counted = counted_as _ _ _ c.committed-committed.result c.planned-planned.ensures.below c.planned-planned.ensures.greatest k.below k.ahead k.last k.pending refl in
-    rw (p.1, p.2) (plans_refused _ (starts c.args.found.now) _ _ _ c.in_err-epochs.field-0.0 are counted (c.in_err-epochs.ensures.refused tells))
+    rw (p.1, p.2) (plans_refused _ c.args.first.now _ _ _ c.in_err-epochs.field-0.0 are counted (c.in_err-epochs.ensures.refused tells))
 
 pub returns-in_err-check_commits-clause-refused : goal.returns-in_err-check_commits-clause-refused
 returns-in_err-check_commits-clause-refused g c = λ tells are.
     let p = err_from_is_err_and c.from_residual-in_err-check_commits.result c.from_residual-in_err-check_commits.ensures.1 in
     let files : Files = files_now (g.D.Disk.history c.args.disk.now) in
     let n : ℕ = c.planned-planned.result in
-    let first : List PartEnd = starts c.args.found.now in
+    let first : List PartEnd = c.args.first.now in
     let k : ℕ = c.in_ok-epochs.epochs.committed in
     let by = c.committed-committed.ensures in
     let counted = counted_as _ n _ k c.planned-planned.ensures.below c.planned-planned.ensures.greatest by.below by.ahead by.last by.pending c.in_ok-epochs.ensures.count in
@@ -33,7 +33,7 @@ returns-in_err-check_last_commit-clause-refused g c = λ tells are.
     let p = err_from_is_err_and c.from_residual-in_err-check_last_commit.result c.from_residual-in_err-check_last_commit.ensures.1 in
     let files : Files = files_now (g.D.Disk.history c.args.disk.now) in
     let n : ℕ = c.planned-planned.result in
-    let first : List PartEnd = starts c.args.found.now in
+    let first : List PartEnd = c.args.first.now in
     let k : ℕ = c.in_ok-epochs.epochs.committed in
     let by = c.committed-committed.ensures in
     let counted = counted_as _ n _ k c.planned-planned.ensures.below c.planned-planned.ensures.greatest by.below by.ahead by.last by.pending c.in_ok-epochs.ensures.count in
@@ -47,7 +47,7 @@ returns-in_err-check_marked-clause-refused g c = λ tells are.
     let p = err_from_is_err_and c.from_residual-in_err-check_marked.result c.from_residual-in_err-check_marked.ensures.1 in
     let files : Files = files_now (g.D.Disk.history c.args.disk.now) in
     let n : ℕ = c.planned-planned.result in
-    let first : List PartEnd = starts c.args.found.now in
+    let first : List PartEnd = c.args.first.now in
     let k : ℕ = c.in_ok-epochs.epochs.committed in
     let by = c.committed-committed.ensures in
     let counted = counted_as _ n _ k c.planned-planned.ensures.below c.planned-planned.ensures.greatest by.below by.ahead by.last by.pending c.in_ok-epochs.ensures.count in
@@ -62,7 +62,7 @@ returns-in_err-check_sinks-clause-refused g c = λ tells are.
     let p = err_from_is_err_and c.from_residual-in_err-check_sinks.result c.from_residual-in_err-check_sinks.ensures.1 in
     let files : Files = files_now (g.D.Disk.history c.args.disk.now) in
     let n : ℕ = c.planned-planned.result in
-    let first : List PartEnd = starts c.args.found.now in
+    let first : List PartEnd = c.args.first.now in
     let k : ℕ = c.in_ok-epochs.epochs.committed in
     let by = c.committed-committed.ensures in
     let counted = counted_as _ n _ k c.planned-planned.ensures.below c.planned-planned.ensures.greatest by.below by.ahead by.last by.pending c.in_ok-epochs.ensures.count in
@@ -78,7 +78,7 @@ returns-in_err-check_state-clause-refused g c = λ tells are.
     let p = err_from_is_err_and c.from_residual-in_err-check_state.result c.from_residual-in_err-check_state.ensures.1 in
     let files : Files = files_now (g.D.Disk.history c.args.disk.now) in
     let n : ℕ = c.planned-planned.result in
-    let first : List PartEnd = starts c.args.found.now in
+    let first : List PartEnd = c.args.first.now in
     let k : ℕ = c.in_ok-epochs.epochs.committed in
     let by = c.committed-committed.ensures in
     let counted = counted_as _ n _ k c.planned-planned.ensures.below c.planned-planned.ensures.greatest by.below by.ahead by.last by.pending c.in_ok-epochs.ensures.count in
@@ -94,7 +94,7 @@ pub returns-clause-kept : goal.returns-clause-kept
 returns-clause-kept g c = λ tells are.
     let files : Files = files_now (g.D.Disk.history c.args.disk.now) in
     let n : ℕ = c.planned-planned.result in
-    let first : List PartEnd = starts c.args.found.now in
+    let first : List PartEnd = c.args.first.now in
     let k : ℕ = c.in_ok-epochs.epochs.committed in
     let by = c.committed-committed.ensures in
     let counted = counted_as _ n _ k c.planned-planned.ensures.below c.planned-planned.ensures.greatest by.below by.ahead by.last by.pending c.in_ok-epochs.ensures.count in

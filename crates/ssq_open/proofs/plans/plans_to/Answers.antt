@@ -1,7 +1,7 @@
 use Rattle.std.proofs.Common.{◌≡◌, ◌+◌, ◌<◌, ◌≤◌, arith, subst, sym, ◌∙◌, ℕ}
 use Rattle.std.proofs.lemmas.Result.{err_from_is_err_and}
 use Rattle.ssq_outside.specs.History.{History, files_now}
-use Rattle.ssq_open.specs.Epochs.{starts, ArePlanned, IsUnmarked, IsFirstBelow}
+use Rattle.ssq_open.specs.Epochs.{ArePlanned, IsUnmarked, IsFirstBelow}
 use Rattle.ssq_open.specs.Refused.{PlansRefuse}
 use Rattle.ssq_open.proofs.Planning.{plans_refuse_more}
 use Rattle.ssq_open.proofs.plans.plans_to.Goals as goal
@@ -10,18 +10,18 @@ pub returns-in_err-planned-clause-refused : goal.returns-in_err-planned-clause-r
 returns-in_err-planned-clause-refused g c = λ tells.
     let p = err_from_is_err_and c.from_residual-in_err-planned.result c.from_residual-in_err-planned.ensures.1 in
     let less : c.loop-epoch.epoch + 1 ≤ c.args.count = omega arith in
-    let M : History → Type 0 = λ h. ArePlanned (files_now h) (starts c.args.found.now) c.loop-epoch.epoch c.loop-epoch.planned.ends in
-    let R : History → Type 0 = λ h. PlansRefuse (files_now h) (starts c.args.found.now) (c.loop-epoch.epoch + 1) c.in_err-planned.field-0.0 in
+    let M : History → Type 0 = λ h. ArePlanned (files_now h) c.args.first.now c.loop-epoch.epoch c.loop-epoch.planned.ends in
+    let R : History → Type 0 = λ h. PlansRefuse (files_now h) c.args.first.now (c.loop-epoch.epoch + 1) c.in_err-planned.field-0.0 in
     let same = c.loop-epoch.invariant.same tells in
-    rw (p.1, p.2) (plans_refuse_more _ _ _ _ c.in_err-planned.field-0.0 less (subst R same (c.in_err-planned.ensures.refused tells (starts c.args.found.now) (subst M (sym same) (c.loop-epoch.invariant.planned tells)))))
+    rw (p.1, p.2) (plans_refuse_more _ _ _ _ c.in_err-planned.field-0.0 less (subst R same (c.in_err-planned.ensures.refused tells c.args.first.now (subst M (sym same) (c.loop-epoch.invariant.planned tells)))))
 
 pub loop-epoch-preserved : goal.loop-epoch-preserved
 loop-epoch-preserved g c = record {
   planned = λ tells.
-      let M : History → Type 0 = λ h. ArePlanned (files_now h) (starts c.args.found.now) c.loop-epoch.epoch c.loop-epoch.planned.ends in
-      let N : History → Type 0 = λ h. ArePlanned (files_now h) (starts c.args.found.now) (c.loop-epoch.epoch + 1) c.in_ok-planned.planned.ends in
+      let M : History → Type 0 = λ h. ArePlanned (files_now h) c.args.first.now c.loop-epoch.epoch c.loop-epoch.planned.ends in
+      let N : History → Type 0 = λ h. ArePlanned (files_now h) c.args.first.now (c.loop-epoch.epoch + 1) c.in_ok-planned.planned.ends in
       let same = c.loop-epoch.invariant.same tells in
-      subst N same (c.in_ok-planned.ensures.planned tells (starts c.args.found.now) (subst M (sym same) (c.loop-epoch.invariant.planned tells)));
+      subst N same (c.in_ok-planned.ensures.planned tells c.args.first.now (subst M (sym same) (c.loop-epoch.invariant.planned tells)));
   marked = λ tells.
       let M : History → Type 0 = λ h. IsFirstBelow (IsUnmarked (files_now h)) c.loop-epoch.epoch c.loop-epoch.planned.marked in
       let N : History → Type 0 = λ h. IsFirstBelow (IsUnmarked (files_now h)) (c.loop-epoch.epoch + 1) c.in_ok-planned.planned.marked in
