@@ -1,6 +1,6 @@
 -- How the opening of a checkpoint ends.
 use Rattle.std.proofs.Common.{◌≡◌, ◌∙◌, ◌==◌, ℕ, List, [], ◌∷◌, Option, Some, None, Result, Ok, Err, true, false, refl, sym, ap, subst, inl, inr, arith, length}
-use Rattle.std.specs.Prelude.{Contains, IsSome, IfOk, IfErr, OnOk}
+use Rattle.std.specs.Prelude.{Contains, IsSome, IfOk, IfErr, OnOk, OnErr}
 use Rattle.std.proofs.lemmas.Bool.{eqb-true, eqb-false}
 use Rattle.ssq_outside.specs.declared.name.Name.{Name}
 use Rattle.ssq_outside.specs.Files.{Files, IsEmpty, AreNames, IsSyncStep, IsImage, files_of, settled_at}
@@ -8,6 +8,7 @@ use Rattle.ssq_outside.specs.History.{History, had_now, files_now, Elapses, Leav
 use Rattle.ssq_outside.proofs.Steps.{begins, syncs, files_are_image, weaker, joined}
 use Rattle.ssq_plans.specs.declared.meta.Meta.{Meta}
 use Rattle.ssq_core.specs.Settled.{IsSettledAs, IsEither}
+use Rattle.ssq_core.proofs.Standing.{stays}
 use Rattle.ssq_open.specs.declared.fault.OpenFault.{OpenFault}
 use Rattle.ssq_open.specs.declared.fault.OpenFault.TheVariants.{OtherQuery, OtherPartitions, OtherParts, LogShort, Damaged, DiskFault, NoMemory}
 use Rattle.ssq_open.specs.declared.wanted.Opened.{Opened}
@@ -15,7 +16,7 @@ use Rattle.ssq_open.specs.Sought.{Sought, IsJob}
 use Rattle.ssq_open.specs.Spelled.{IsTheMeta}
 use Rattle.ssq_open.specs.Epochs.{starts}
 use Rattle.ssq_open.specs.Refused.{EpochsRefuse}
-use Rattle.ssq_open.specs.Opening.{Passes, Refuses, IsOutside, IsFirst, IsOpen, kept, begun, IsRefused, unchanged, unfinished, IsImageOpening, only_meta, first_meta, in_epochs}
+use Rattle.ssq_open.specs.Opening.{Passes, Refuses, IsOutside, IsFirst, IsOpen, kept, begun, IsRefused, unchanged, unfinished, IsImageOpening, only_meta, first_meta, in_epochs, SyncedSince, IsBegun}
 
 -- where no name is listed there is no file
 pub none_listed : (files : Files) (names : List Name) → AreNames files names → names ≡ [] → IsEmpty files
@@ -117,3 +118,41 @@ epochs_refused s files m (OtherQuery query) is job refused = absurd refused
 epochs_refused s files m (OtherPartitions partitions asked) is job refused = absurd refused
 epochs_refused s files m (OtherParts stream parts found) is job refused = absurd refused
 epochs_refused s files m (LogShort stream part logged found) is job refused = absurd refused
+
+-- what holds whatever a call answered
+pub on_ok : {T E : Type 0} {P : Type 0} (r : Result T E) → P → OnOk r P
+on_ok (Ok x) is = is
+on_ok (Err e) is = tt
+
+pub on_err : {T E : Type 0} {P : Type 0} (r : Result T E) → P → OnErr r P
+on_err (Ok x) is = tt
+on_err (Err e) is = is
+
+-- no image is new in a sync
+pub sync_images : (h0 h1 h2 : History) → Elapses h0 h1 (IsSyncStep (had_now h0)) → h2 ≡ h1 → LeavesOnly h0 h2 (IsImage (had_now h0))
+sync_images h0 h1 h2 step same =
+    let P : Files → Type 0 = IsImage (had_now h0) in
+    let now : LeavesNow h0 P = record { each = λ image is. is } in
+    let run : LeavesOnly h0 h1 P = (syncs P P P h0 h0 h1 (begins P P P h0 now (λ f p. p) (files_are_image (had_now h0))) step (λ f p. p)).since in
+    let M : History → Type 0 = λ h. LeavesOnly h0 h P in
+    subst M (sym same) run
+
+-- the names were synced, and this came since
+pub synced_since : (P : Files → Type 0) (h0 h1 h2 h3 : History) → Elapses h0 h1 (IsSyncStep (had_now h0)) → h2 ≡ h1 → IsSettledAs h2 (files_now h0) → LeavesOnly h2 h3 P → SyncedSince h0 h3 P
+synced_since P h0 h1 h2 h3 step same settled later = record { at = h2; before = sync_images h0 h1 h2 step same; settled = settled; since = later }
+
+-- nothing came since
+pub synced_still : (s : Sought) (h0 h1 h2 h3 : History) → Elapses h0 h1 (IsSyncStep (had_now h0)) → h2 ≡ h1 → IsSettledAs h2 (files_now h0) → h3 ≡ h2 → SyncedSince h0 h3 (IsBegun s (files_now h0))
+synced_still s h0 h1 h2 h3 step same settled still =
+    let P : Files → Type 0 = IsBegun s (files_now h0) in
+    synced_since P h0 h1 h2 h3 step same settled (same_leaves P h2 h2 h3 (stays h2 P (files_now h0) settled (inl refl)) still)
+
+-- an empty checkpoint was begun since
+pub synced_begun : (s : Sought) (h0 h1 h2 h3 : History) → Elapses h0 h1 (IsSyncStep (had_now h0)) → h2 ≡ h1 → IsSettledAs h2 (files_now h0) → IsEmpty (files_now h0)
+    → LeavesOnly h2 h3 (IsEither (files_now h0) (only_meta (first_meta s))) → SyncedSince h0 h3 (IsBegun s (files_now h0))
+synced_begun s h0 h1 h2 h3 step same settled empty later =
+    let P : Files → Type 0 = IsBegun s (files_now h0) in
+    synced_since P h0 h1 h2 h3 step same settled (weaker (IsEither (files_now h0) (only_meta (first_meta s))) P h2 h3 later (λ f either. elim either [
+      | inl still ↦ inl still
+      | inr is ↦ inr (empty, is)
+    ]))

@@ -1,10 +1,10 @@
 //! The opening of a checkpoint.
 
-ghost use Rattle.std.specs.Prelude.{◌≡◌, ◌≤◌, IfOk, IfErr};
+ghost use Rattle.std.specs.Prelude.{◌≡◌, ◌≤◌, IfOk, IfErr, OnOk, OnErr};
 ghost use Rattle.ssq_outside.specs.Files.{AreNames};
 ghost use Rattle.ssq_outside.specs.History.{had_now, files_now, LeavesOnly};
 ghost use Rattle.ssq_open.specs.Fault.{DiskRises};
-ghost use Rattle.ssq_open.specs.Opening.{CanBeSought, Passes, Refuses, IsOpen, IsRefused, IsImageOpening};
+ghost use Rattle.ssq_open.specs.Opening.{CanBeSought, Passes, Refuses, IsOpen, IsRefused, IsImageOpening, SyncedSince, IsBegun, IsOpening};
 ghost use Rattle.ssq_open.specs.Sought.{Sought};
 
 use crate::begin::begin;
@@ -72,6 +72,12 @@ pub fn open<D: Disk>(alloc: Global, disk: &mut D, wanted: &Wanted<'_>) -> Result
     // A crash at any moment leaves what it might have left before, or, of an empty checkpoint, the job's record alone.
     ensures any_moment { D.tells → LeavesOnly (D.history disk.old) (D.history disk.new)
         (IsImageOpening (record { query = wanted.now.query.now; partitions = wanted.now.partitions; parts = wanted.now.parts.now; found = wanted.now.found.now }) (had_now (D.history disk.old))) }
+
+    // Once the names are synced a crash leaves the files as they were, or, of an empty checkpoint, the job's record alone.
+    ensures synced { D.tells → OnOk result (SyncedSince (D.history disk.old) (D.history disk.new)
+        (IsBegun (record { query = wanted.now.query.now; partitions = wanted.now.partitions; parts = wanted.now.parts.now; found = wanted.now.found.now }) (files_now (D.history disk.old)))) }
+    ensures unfinished { D.tells → OnErr result (IsOpening (record { query = wanted.now.query.now; partitions = wanted.now.partitions; parts = wanted.now.parts.now; found = wanted.now.found.now })
+        (D.history disk.old) (D.history disk.new)) }
 
     // A fault of the disk is answered only where it was counted.
     ensures counted { D.faults disk.old ≤ D.faults disk.new }

@@ -3,8 +3,8 @@ use Rattle.ssq_outside.specs.declared.name.Name.{Name}
 use Rattle.ssq_outside.specs.Files.{Files, IsEmpty, AreNames, files_of}
 use Rattle.ssq_outside.specs.History.{had_now, files_now}
 use Rattle.ssq_open.specs.Sought.{Sought}
-use Rattle.ssq_open.specs.Opening.{IsImageOpening}
-use Rattle.ssq_open.proofs.Opens.{none_listed, empty_listed, no_items, some_item, settled_since, files_since, sync_leaves, begin_leaves, same_leaves, open_begun, refused_begun, open_kept, refused_kept}
+use Rattle.ssq_open.specs.Opening.{IsImageOpening, unsynced, synced}
+use Rattle.ssq_open.proofs.Opens.{none_listed, empty_listed, no_items, some_item, settled_since, files_since, sync_leaves, begin_leaves, same_leaves, open_begun, refused_begun, open_kept, refused_kept, on_ok, on_err, sync_images, synced_still, synced_begun}
 use Rattle.ssq_open.proofs.opening.open.Goals as goal
 
 pub returns-in_err-sync_names-clause-any_moment : goal.returns-in_err-sync_names-clause-any_moment
@@ -74,3 +74,66 @@ pub returns-clause-any_moment : goal.returns-clause-any_moment
 returns-clause-any_moment g c = λ tells.
     let s : Sought = record { query = c.args.wanted.now.query.now; partitions = c.args.wanted.now.partitions; parts = c.args.wanted.now.parts.now; found = c.args.wanted.now.found.now } in
     same_leaves (IsImageOpening s (had_now (g.D.Disk.history c.args.disk.now))) (g.D.Disk.history c.args.disk.now) (g.D.Disk.history c.names.new.self) (g.D.Disk.history c.kept.new.disk) (sync_leaves s (g.D.Disk.history c.args.disk.now) (g.D.Disk.history c.sync_names.new.self) (g.D.Disk.history c.names.new.self) (c.sync_names.ensures.steps tells) (c.names.ensures.same tells)) (c.kept.ensures.same tells)
+
+pub returns-in_err-sync_names-clause-unfinished : goal.returns-in_err-sync_names-clause-unfinished
+returns-in_err-sync_names-clause-unfinished g c = λ tells. on_err c.from_residual.result (unsynced (sync_images (g.D.Disk.history c.args.disk.now) (g.D.Disk.history c.sync_names.new.self) (g.D.Disk.history c.sync_names.new.self) (c.sync_names.ensures.steps tells) refl))
+
+pub returns-in_err-names-clause-unfinished : goal.returns-in_err-names-clause-unfinished
+returns-in_err-names-clause-unfinished g c = λ tells.
+    let s : Sought = record { query = c.args.wanted.now.query.now; partitions = c.args.wanted.now.partitions; parts = c.args.wanted.now.parts.now; found = c.args.wanted.now.found.now } in
+    let h0 = g.D.Disk.history c.args.disk.now in
+    let h1 = g.D.Disk.history c.sync_names.new.self in
+    let h2 = g.D.Disk.history c.names.new.self in
+    let ok = c.in_ok-sync_names.ensures.ok tells in
+    let settled = settled_since h0 h1 h2 ok (c.names.ensures.same tells) in
+    on_err c.from_residual-in_err-names.result (synced (synced_still s h0 h1 h2 h2 (c.sync_names.ensures.steps tells) (c.names.ensures.same tells) settled refl))
+
+pub returns-then-is_empty-clause-synced : goal.returns-then-is_empty-clause-synced
+returns-then-is_empty-clause-synced g c = λ tells.
+    let s : Sought = record { query = c.args.wanted.now.query.now; partitions = c.args.wanted.now.partitions; parts = c.args.wanted.now.parts.now; found = c.args.wanted.now.found.now } in
+    let h0 = g.D.Disk.history c.args.disk.now in
+    let h1 = g.D.Disk.history c.sync_names.new.self in
+    let h2 = g.D.Disk.history c.names.new.self in
+    let ok = c.in_ok-sync_names.ensures.ok tells in
+    let settled = settled_since h0 h1 h2 ok (c.names.ensures.same tells) in
+    let P : Files → Type 0 = λ files. AreNames files c.in_ok-names.names.items in
+    let are = subst P (ap files_of ok) (c.in_ok-names.ensures.found tells) in
+    let empty = none_listed (files_now h0) _ are (sym c.as_slice.ensures.value ∙ no_items _ (sym c.is_empty.ensures ∙ c.if-is_empty.true)) in
+    let begun = synced_begun s h0 h1 h2 (g.D.Disk.history c.begin.new.disk) (c.sync_names.ensures.steps tells) (c.names.ensures.same tells) settled empty (c.begin.ensures.any_moment tells (files_now h0) empty settled) in
+    on_ok c.begin.result begun
+
+pub returns-then-is_empty-clause-unfinished : goal.returns-then-is_empty-clause-unfinished
+returns-then-is_empty-clause-unfinished g c = λ tells.
+    let s : Sought = record { query = c.args.wanted.now.query.now; partitions = c.args.wanted.now.partitions; parts = c.args.wanted.now.parts.now; found = c.args.wanted.now.found.now } in
+    let h0 = g.D.Disk.history c.args.disk.now in
+    let h1 = g.D.Disk.history c.sync_names.new.self in
+    let h2 = g.D.Disk.history c.names.new.self in
+    let ok = c.in_ok-sync_names.ensures.ok tells in
+    let settled = settled_since h0 h1 h2 ok (c.names.ensures.same tells) in
+    let P : Files → Type 0 = λ files. AreNames files c.in_ok-names.names.items in
+    let are = subst P (ap files_of ok) (c.in_ok-names.ensures.found tells) in
+    let empty = none_listed (files_now h0) _ are (sym c.as_slice.ensures.value ∙ no_items _ (sym c.is_empty.ensures ∙ c.if-is_empty.true)) in
+    let begun = synced_begun s h0 h1 h2 (g.D.Disk.history c.begin.new.disk) (c.sync_names.ensures.steps tells) (c.names.ensures.same tells) settled empty (c.begin.ensures.any_moment tells (files_now h0) empty settled) in
+    on_err c.begin.result (synced begun)
+
+pub returns-clause-synced : goal.returns-clause-synced
+returns-clause-synced g c = λ tells.
+    let s : Sought = record { query = c.args.wanted.now.query.now; partitions = c.args.wanted.now.partitions; parts = c.args.wanted.now.parts.now; found = c.args.wanted.now.found.now } in
+    let h0 = g.D.Disk.history c.args.disk.now in
+    let h1 = g.D.Disk.history c.sync_names.new.self in
+    let h2 = g.D.Disk.history c.names.new.self in
+    let ok = c.in_ok-sync_names.ensures.ok tells in
+    let settled = settled_since h0 h1 h2 ok (c.names.ensures.same tells) in
+    let still = synced_still s h0 h1 h2 (g.D.Disk.history c.kept.new.disk) (c.sync_names.ensures.steps tells) (c.names.ensures.same tells) settled (c.kept.ensures.same tells) in
+    on_ok c.kept.result still
+
+pub returns-clause-unfinished : goal.returns-clause-unfinished
+returns-clause-unfinished g c = λ tells.
+    let s : Sought = record { query = c.args.wanted.now.query.now; partitions = c.args.wanted.now.partitions; parts = c.args.wanted.now.parts.now; found = c.args.wanted.now.found.now } in
+    let h0 = g.D.Disk.history c.args.disk.now in
+    let h1 = g.D.Disk.history c.sync_names.new.self in
+    let h2 = g.D.Disk.history c.names.new.self in
+    let ok = c.in_ok-sync_names.ensures.ok tells in
+    let settled = settled_since h0 h1 h2 ok (c.names.ensures.same tells) in
+    let still = synced_still s h0 h1 h2 (g.D.Disk.history c.kept.new.disk) (c.sync_names.ensures.steps tells) (c.names.ensures.same tells) settled (c.kept.ensures.same tells) in
+    on_err c.kept.result (synced still)

@@ -1,0 +1,5 @@
+pub mod Entry
+pub mod Faults
+pub mod Rounds
+pub mod Told
+pub mod Ending

@@ -1,0 +1,35 @@
+//! What is found of a log.
+
+ghost use Rattle.std.specs.Prelude.{◌≡◌, ◌≤◌, ℕ, length, IfOk, IfErr};
+ghost use Rattle.ssq_round.specs.Faults.{most_lines};
+ghost use Rattle.ssq_job.specs.Ending.{IsUntaken};
+ghost use Rattle.ssq_job.specs.Faults.{IsJobFault, IsNoRefusal, LogRises, DiskRises, OutRises};
+
+use crate::fault::JobFault;
+use ssq_outside::Log;
+
+/// The most lines of a log's part.
+const MOST_LINES: u64 = 1_099_511_627_776;
+
+/// Asks a log for its number of lines.
+pub(crate) fn see_lines<L: Log>(log: &mut L) -> Result<u64, JobFault>
+    ensures found { L.tells → IfOk result (λ n. (L.shown log.new ≡ n) × (n ≤ length (L.lines log.new))) }
+    ensures few { IfOk result (λ n. n ≤ most_lines) }
+    ensures untaken { L.tells → IfErr result (IsUntaken (L.shown log.new)) }
+    ensures only { IfErr result IsJobFault }
+    ensures no_refusal { IfErr result IsNoRefusal }
+    ensures same { L.tells → L.lines log.new ≡ L.lines log.old }
+    ensures grown { L.tells → L.shown log.old ≤ L.shown log.new }
+    ensures counted { L.faults log.old ≤ L.faults log.new }
+    ensures cause { IfErr result (LogRises (L.faults log.old) (L.faults log.new)) }
+    ensures not_the_disk { (before now : ℕ) → IfErr result (DiskRises before now) }
+    ensures not_the_output { (before now : ℕ) → IfErr result (OutRises before now) }
+{
+    let Ok(found) = log.lines() else {
+        return Err(JobFault::LogFault);
+    };
+    if found > MOST_LINES {
+        return Err(JobFault::FullLines { lines: found });
+    }
+    Ok(found)
+}
