@@ -1,14 +1,14 @@
 -- What a run leaves at each moment: what stood before, or stands now.
-use Rattle.std.proofs.Common.{◌≡◌, ◌⊎◌, ◌<◌, ◌≤◌, ◌^◌, ℕ, List, [], Option, Some, None, refl, ap, sym, ◌∙◌, subst, inl, inr, arith}
-use Rattle.ssq_outside.specs.Files.{Files, Had, IsEmpty, IsImage}
+use Rattle.std.proofs.Common.{◌≡◌, ◌<◌, ◌≤◌, ◌^◌, ℕ, refl, sym, ◌∙◌, subst, inl, inr, arith}
+use Rattle.ssq_outside.specs.Files.{Files, IsEmpty, IsImage}
 use Rattle.ssq_outside.specs.History.{History, had_now, files_now, LeavesNow, LeavesOnly}
 use Rattle.ssq_outside.proofs.Steps.{files_are_image, weaker, joined}
 use Rattle.ssq_meaning.specs.Meaning.{Cuts}
 use Rattle.ssq_core.specs.Standing.{files_at}
 use Rattle.ssq_core.proofs.Standing.{meta_step}
 use Rattle.ssq_open.specs.Opening.{SyncedSince, IsBegun, IsOpening, unsynced, synced, only_meta, first_meta, no_files}
-use Rattle.ssq_round.specs.Standing.{Job, course_of, Standing, StandsBetween}
-use Rattle.ssq_job.specs.Entry.{Entry, StandsAt, IsUncut, Reads, StandsFor, IsEmptyOrStands, StillStands, AlwaysStands, sought_of}
+use Rattle.ssq_round.specs.Standing.{Job, course_of, Standing}
+use Rattle.ssq_job.specs.Entry.{Entry, IsUncut, StandsFor, IsEmptyOrStands, StillStands, AlwaysStands, sought_of}
 use Rattle.ssq_job.specs.Ending.{StandsYet}
 
 -- an image that there was before

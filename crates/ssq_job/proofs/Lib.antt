@@ -1,2 +1,5 @@
 pub mod Always
+pub mod Cuts
+pub mod Entries
+pub mod Turns
 pub mod Ends

@@ -1,5 +1,5 @@
 -- Why a run stops: how faults go up, and when each may come.
-use Rattle.std.specs.Prelude.{◌≡◌, ◌≢◌, ◌<◌, ℕ, ⊤}
+use Rattle.std.specs.Prelude.{◌≢◌, ◌<◌, ℕ, ⊤}
 use Rattle.ssq_outside.specs.Faults.{Rises}
 use Rattle.ssq_json.specs.declared.bad_row.BadRow.TheVariants as bad
 use Rattle.ssq_open.specs.declared.fault.OpenFault.{OpenFault}

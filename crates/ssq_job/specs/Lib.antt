@@ -3,3 +3,4 @@ pub mod Faults
 pub mod Rounds
 pub mod Told
 pub mod Ending
+pub mod Going

@@ -13,6 +13,8 @@ ghost use Rattle.ssq_job.specs.Faults.{IsJobFault, IsNoRefusal, LogRises, DiskRi
 
 use crate::ask::Ask;
 use crate::fault::JobFault;
+use crate::opening::open_job;
+use crate::rounds::run_rounds;
 use crate::seeing::see_lines;
 use ssq_outside::{Disk, Log, Output};
 use ssq_round::Prepared;
@@ -70,6 +72,7 @@ pub fn run_job<D: Disk, L: Log, O: Output>(
     ensures log_cause { IfErr result (LogRises (L.faults log.old) (L.faults log.new)) }
     ensures out_cause { IfErr result (OutRises (O.faults out.old) (O.faults out.new)) }
 {
-    let _seen = see_lines(log)?;
-    Err(JobFault::NoMemory)
+    let found = see_lines(log)?;
+    let progress = open_job(alloc, disk, text, found)?;
+    run_rounds(alloc, disk, log, out, prepared, ask, progress, told)
 }

@@ -8,6 +8,8 @@
 mod ask;
 mod fault;
 mod job;
+mod opening;
+mod rounds;
 mod seeing;
 
 pub use ask::Ask;
