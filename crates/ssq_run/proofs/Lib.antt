@@ -1,3 +1,4 @@
 pub mod Passing
 pub mod Telling
 pub mod PartLines
+pub mod LookLemmas

@@ -49,10 +49,14 @@ abbrev pub planned_with : ℕ → Option Plan → ℕ
 planned_with committed None = committed
 planned_with committed (Some plan) = committed + 1
 
+-- a name and a number
+abbrev pub number_line : List ℕ → ℕ → List ℕ
+number_line name number = name ++ codes " " ++ decimal number ++ codes "\n"
+
 -- So many partitions, so many epochs planned and committed, and the last plan has no watermark, as no plan has one.
 abbrev pub heading : ℕ → ℕ → ℕ → List ℕ
 heading partitions planned committed =
-    codes "partitions " ++ decimal partitions ++ codes "\nplanned " ++ decimal planned ++ codes "\ncommitted " ++ decimal committed ++ codes "\nwatermark none\n"
+    number_line (codes "partitions") partitions ++ number_line (codes "planned") planned ++ number_line (codes "committed") committed ++ codes "watermark none\n"
 
 -- What is told of a checkpoint: this, and where the planned epochs end, part by part.
 abbrev pub status_text : Opened → List ℕ

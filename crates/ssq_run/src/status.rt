@@ -4,7 +4,7 @@ ghost use Rattle.std.specs.Prelude.{◌≡◌, ◌≤◌, ◌+◌, ◌++◌, ℕ
 ghost use Rattle.ssq_outside.specs.History.{files_now};
 ghost use Rattle.ssq_open.specs.Opening.{last_ends};
 ghost use Rattle.ssq_plans.specs.Records.{lines, part_line};
-ghost use Rattle.ssq_run.specs.Lines.{planned_with, heading, status_text};
+ghost use Rattle.ssq_run.specs.Lines.{planned_with, number_line, heading, status_text};
 ghost use Rattle.ssq_run.specs.Looked.{LookEnd};
 ghost use Rattle.ssq_run.specs.Stopping.{LogRises, DiskRises, OutRises, IsPastWords};
 
@@ -36,6 +36,14 @@ fn last_ends(opened: &Opened) -> &[PartEnd]
     }
 }
 
+/// Adds a line that tells a number.
+fn push_number(alloc: Global, text: &mut String, name: &str, number: u64) -> Result<(), AllocError>
+    ensures { OnOk result (string_bytes text.new ≡ string_bytes text.old ++ number_line name.now number) }
+{
+    let line = format!(in alloc; "{name} {number}\n")?;
+    text.push_str(line.as_str())
+}
+
 /// What stands before the lines of the parts.
 fn heading(
     alloc: Global,
@@ -45,15 +53,20 @@ fn heading(
 ) -> Result<String, AllocError>
     ensures { IfOk result (λ text. string_bytes text ≡ heading partitions planned committed) }
 {
-    format!(in alloc; "partitions {partitions}\nplanned {planned}\ncommitted {committed}\nwatermark none\n")
+    let mut text = String::new(alloc);
+    push_number(alloc, &mut text, "partitions", partitions as u64)?;
+    push_number(alloc, &mut text, "planned", planned)?;
+    push_number(alloc, &mut text, "committed", committed as u64)?;
+    text.push_str("watermark none\n")?;
+    Ok(text)
 }
 
 /// Adds the line of a part.
-fn push_part(alloc: Global, text: &mut String, part: PartEnd) -> Result<(), AllocError>
-    ensures { OnOk result (string_bytes text.new ≡ string_bytes text.old ++ part_line part) }
+fn push_part(alloc: Global, text: &mut String, part: &PartEnd) -> Result<(), AllocError>
+    ensures { OnOk result (string_bytes text.new ≡ string_bytes text.old ++ part_line part.now) }
 {
-    let PartEnd { stream, part, end } = part;
-    let line = format!(in alloc; "part {stream} {part} {end}\n")?;
+    let (stream, number, end) = (part.stream, part.part, part.end);
+    let line = format!(in alloc; "part {stream} {number} {end}\n")?;
     text.push_str(line.as_str())
 }
 
@@ -63,7 +76,7 @@ fn push_parts(alloc: Global, text: &mut String, ends: &[PartEnd]) -> Result<(), 
     ensures { OnOk result (string_bytes text.new ≡ string_bytes text.old ++ lines (λ at part. part_line part) 0 ends.now) }
 {
     for part in ends {
-        push_part(alloc, text, *part)?;
+        push_part(alloc, text, part)?;
     }
     Ok(())
 }
@@ -94,6 +107,8 @@ pub fn status<D: Disk>(alloc: Global, disk: &mut D, query: Query) -> Result<Stri
     ensures not_the_output { (before now : ℕ) → IfErr result (OutRises before now) }
 {
     let text = text(alloc, &query)?;
+    let _text = text.as_bytes();
+    let _len = text.len();
     match look(alloc, disk, &text, 1) {
         Ok(None) => Ok(String::from_str(alloc, "no checkpoint\n")?),
         Ok(Some(opened)) => Ok(status_text(alloc, &opened)?),

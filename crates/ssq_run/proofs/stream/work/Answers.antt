@@ -7,13 +7,13 @@ use Rattle.ssq_run.proofs.Passing.{not_read, was_looked, was_denied}
 use Rattle.ssq_run.proofs.stream.work.Goals as goal
 
 pub run_file-requires-clause-some : goal.run_file-requires-clause-some
-run_file-requires-clause-some g c = λ κs most is.
+run_file-requires-clause-some g c = λ κs lives most is.
     let R : Command → Type 0 = IsInRange in
     let range = subst R c.in-Ok-Run.field-0-is c.in-Ok-Run.ensures.in_range in
     (range.0 most is).0
 
 pub run_file-requires-clause-rounds : goal.run_file-requires-clause-rounds
-run_file-requires-clause-rounds g c = λ κs.
+run_file-requires-clause-rounds g c = λ κs lives.
     let R : Command → Type 0 = IsInRange in
     let range = subst R c.in-Ok-Run.field-0-is c.in-Ok-Run.ensures.in_range in
     range.1.0
