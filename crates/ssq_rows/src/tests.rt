@@ -1,8 +1,10 @@
-//! Each row is a query, a log and the words, with the output, the status and the files that have to come of them.
+//! Each row is a query, a log, the files of a checkpoint and the words, with the output, the status and the files that have to come
+//! of them.
 
+use ssq_core::settle;
 use ssq_fakes::{FailAt, MemDisk, MemInputs, MemLog, MemOut, OpenGate};
 use ssq_files::{FolderDisk, FolderInputs};
-use ssq_outside::{Disk, Name};
+use ssq_outside::{Disk, DiskError, Name};
 use ssq_run::{Ended, stream_main};
 use std::alloc::{AllocError, Global};
 use std::sync::Wait;
@@ -10,126 +12,247 @@ use std::test::Fail;
 use std::thread::Threads;
 use std::{env, fs, process};
 
+type Files = &'static [(Name, &'static [u8])];
+
 struct Row {
     words: &'static [&'static str],
     query: &'static [u8],
+    before: Files,
     log: &'static [u8],
     out: &'static [u8],
     status: u8,
-    files: &'static [(Name, &'static [u8])],
+    after: Files,
 }
 
 const FILTER: &[u8] =
     b"CREATE STREAM s (id BIGINT, v BIGINT) FROM 's';\nSELECT id, v + 1 AS w FROM s WHERE v > 10 OUTPUT APPEND;\n";
 
+const ONE_AND_TORN: &[u8] = b"{\"id\":1,\"v\":11}\n{\"id\":3,\"v\":20}";
+
+const TWO_WHOLE: &[u8] = b"{\"id\":1,\"v\":11}\n{\"id\":3,\"v\":20}\n";
+
+const TWO: &[u8] = b"{\"id\":1,\"v\":11}\n{\"id\":2,\"v\":5}\n";
+
 const THREE: &[u8] = b"{\"id\":1,\"v\":11}\n{\"id\":2,\"v\":5}\n{\"id\":3,\"v\":20}\n";
 
-const META: &[u8] =
-    b"v1\npartitions 1\nparts 0 1\nquery 104\nCREATE STREAM s (id BIGINT, v BIGINT) FROM 's'; SELECT id, v + 1 AS w FROM s WHERE v > 10 OUTPUT APPEND;\nend\n";
+const FOUR: &[u8] =
+    b"{\"id\":1,\"v\":11}\n{\"id\":2,\"v\":5}\n{\"id\":3,\"v\":20}\n{\"id\":4,\"v\":30}\n";
+
+const RUN: &[&str] = &["ssq", "run", "q.sql"];
 
 const BY_TWO: &[&str] = &["ssq", "run", "q.sql", "--max-lines", "2"];
 
+const STATUS: &[&str] = &["ssq", "status", "q.sql"];
+
+const META: (Name, &[u8]) = (
+    Name::Meta,
+    b"v1\npartitions 1\nparts 0 1\nquery 104\nCREATE STREAM s (id BIGINT, v BIGINT) FROM 's'; SELECT id, v + 1 AS w FROM s WHERE v > 10 OUTPUT APPEND;\nend\n",
+);
+
+const PLAN_0: (Name, &[u8]) = (
+    Name::Plan(0),
+    b"v1\nplan 0\nwatermark none\npart 0 0 2\nend\n",
+);
+
+const PLAN_1: (Name, &[u8]) = (
+    Name::Plan(1),
+    b"v1\nplan 1\nwatermark none\npart 0 0 3\nend\n",
+);
+
+const PLAN_2: (Name, &[u8]) = (
+    Name::Plan(2),
+    b"v1\nplan 2\nwatermark none\npart 0 0 4\nend\n",
+);
+
+const SHORT_0: (Name, &[u8]) = (
+    Name::Plan(0),
+    b"v1\nplan 0\nwatermark none\npart 0 0 1\nend\n",
+);
+
+const SHORT_1: (Name, &[u8]) = (
+    Name::Plan(1),
+    b"v1\nplan 1\nwatermark none\npart 0 0 2\nend\n",
+);
+
+const COMMIT_0: (Name, &[u8]) = (Name::Commit(0), b"v1\ncommit 0\nend\n");
+
+const COMMIT_1: (Name, &[u8]) = (Name::Commit(1), b"v1\ncommit 1\nend\n");
+
+const COMMIT_2: (Name, &[u8]) = (Name::Commit(2), b"v1\ncommit 2\nend\n");
+
+const OUT_0: (Name, &[u8]) = (Name::Out(0), b"{\"id\":1,\"w\":12}\n");
+
+const OUT_1: (Name, &[u8]) = (Name::Out(1), b"{\"id\":3,\"w\":21}\n");
+
+const OUT_2: (Name, &[u8]) = (Name::Out(2), b"{\"id\":4,\"w\":31}\n");
+
 /// The files of the first row.
-const DONE: &[(Name, &[u8])] = &[
-    (Name::Meta, META),
-    (
-        Name::Plan(0),
-        b"v1\nplan 0\nwatermark none\npart 0 0 2\nend\n",
-    ),
-    (
-        Name::Plan(1),
-        b"v1\nplan 1\nwatermark none\npart 0 0 3\nend\n",
-    ),
-    (Name::Commit(0), b"v1\ncommit 0\nend\n"),
-    (Name::Commit(1), b"v1\ncommit 1\nend\n"),
-    (Name::Out(0), b"{\"id\":1,\"w\":12}\n"),
-    (Name::Out(1), b"{\"id\":3,\"w\":21}\n"),
+const DONE: Files = &[META, PLAN_0, PLAN_1, COMMIT_0, COMMIT_1, OUT_0, OUT_1];
+
+/// The same, before the second epoch was committed.
+const HALF: Files = &[META, PLAN_0, PLAN_1, COMMIT_0, OUT_0, OUT_1];
+
+/// The same, with one epoch more.
+const MORE: Files = &[
+    META, PLAN_0, PLAN_1, PLAN_2, COMMIT_0, COMMIT_1, COMMIT_2, OUT_0, OUT_1, OUT_2,
 ];
+
+/// The files of one short epoch.
+const SHORT: Files = &[META, SHORT_0, COMMIT_0, OUT_0];
 
 const TOLD: &[u8] =
     b"epoch 0 lines 2 watermark none rows 1\nepoch 1 lines 1 watermark none rows 1\ndone epochs 2\n";
 
-static ROWS: [Row; 7] = [
+const FAULT: &[u8] = b"stopped 7 DiskFault\n";
+
+static WORKED: [Row; 8] = [
     Row {
         words: BY_TWO,
         query: FILTER,
+        before: &[],
         log: THREE,
         out: TOLD,
         status: 0,
-        files: DONE,
+        after: DONE,
+    },
+    // A round that finds nothing new tells nothing.
+    Row {
+        words: &["ssq", "run", "q.sql", "--max-lines", "2", "--rounds", "2"],
+        query: FILTER,
+        before: &[],
+        log: THREE,
+        out: TOLD,
+        status: 0,
+        after: DONE,
     },
     // No line: the job's record alone.
     Row {
-        words: &["ssq", "run", "q.sql"],
+        words: RUN,
         query: FILTER,
+        before: &[],
         log: b"",
         out: b"done epochs 0\n",
         status: 0,
-        files: &[(Name::Meta, META)],
+        after: &[META],
     },
-    // A last line without its end is not there.
+    // A last line without its end is not there; once it has its end it is.
     Row {
-        words: &["ssq", "run", "q.sql"],
+        words: RUN,
         query: FILTER,
-        log: b"{\"id\":1,\"v\":11}\n{\"id\":3,\"v\":20}",
+        before: &[],
+        log: ONE_AND_TORN,
         out: b"epoch 0 lines 1 watermark none rows 1\ndone epochs 1\n",
         status: 0,
-        files: &[
-            (Name::Meta, META),
-            (
-                Name::Plan(0),
-                b"v1\nplan 0\nwatermark none\npart 0 0 1\nend\n",
-            ),
-            (Name::Commit(0), b"v1\ncommit 0\nend\n"),
-            (Name::Out(0), b"{\"id\":1,\"w\":12}\n"),
-        ],
+        after: SHORT,
     },
+    Row {
+        words: RUN,
+        query: FILTER,
+        before: SHORT,
+        log: TWO_WHOLE,
+        out: b"epoch 1 lines 1 watermark none rows 1\ndone epochs 2\n",
+        status: 0,
+        after: &[META, SHORT_0, SHORT_1, COMMIT_0, COMMIT_1, OUT_0, OUT_1],
+    },
+    // The planned epoch is finished at its logged end, though the log has grown.
+    Row {
+        words: RUN,
+        query: FILTER,
+        before: HALF,
+        log: FOUR,
+        out: b"epoch 1 lines 1 watermark none rows 1\nepoch 2 lines 1 watermark none rows 1\ndone epochs 3\n",
+        status: 0,
+        after: MORE,
+    },
+    Row {
+        words: STATUS,
+        query: FILTER,
+        before: DONE,
+        log: b"",
+        out: b"partitions 1\nplanned 2\ncommitted 2\nwatermark none\npart 0 0 3\n",
+        status: 0,
+        after: DONE,
+    },
+    Row {
+        words: STATUS,
+        query: FILTER,
+        before: &[],
+        log: THREE,
+        out: b"no checkpoint\n",
+        status: 0,
+        after: &[],
+    },
+];
+
+static REFUSED: [Row; 7] = [
     // Blanks are no row, other fields are ignored, and the first bad line stops its epoch.
     Row {
         words: BY_TWO,
         query: FILTER,
+        before: &[],
         log: b"  \n{\"id\":1,\"v\":11,\"x\":[1.5]}\n{\"id\":\"7\",\"v\":1}\n",
-        out: b"epoch 0 lines 2 watermark none rows 1\nstopped 4 NotYet s 0 2\n",
+        out: b"epoch 0 lines 2 watermark none rows 1\nstopped 4 BadLine s 0 2 WrongType id\n",
         status: 4,
-        files: &[
-            (Name::Meta, META),
-            (
-                Name::Plan(0),
-                b"v1\nplan 0\nwatermark none\npart 0 0 2\nend\n",
-            ),
-            (
-                Name::Plan(1),
-                b"v1\nplan 1\nwatermark none\npart 0 0 3\nend\n",
-            ),
-            (Name::Commit(0), b"v1\ncommit 0\nend\n"),
-            (Name::Out(0), b"{\"id\":1,\"w\":12}\n"),
-        ],
+        after: &[META, PLAN_0, PLAN_1, COMMIT_0, OUT_0],
+    },
+    Row {
+        words: RUN,
+        query: FILTER,
+        before: &[],
+        log: b"{\"id\":3,\"v\":9223372036854775807}\n",
+        out: b"stopped 5 Overflow s 0 0\n",
+        status: 5,
+        after: &[META, SHORT_0],
+    },
+    Row {
+        words: RUN,
+        query: b"CREATE STREAM s (id BIGINT, v BIGINT) FROM 's';\nSELECT id, v + 1 AS w FROM s WHERE v > 11 OUTPUT APPEND;\n",
+        before: DONE,
+        log: THREE,
+        out: b"stopped 9 OtherQuery CREATE STREAM s (id BIGINT, v BIGINT) FROM 's'; SELECT id, v + 1 AS w FROM s WHERE v > 10 OUTPUT APPEND;\n",
+        status: 9,
+        after: DONE,
+    },
+    Row {
+        words: RUN,
+        query: FILTER,
+        before: DONE,
+        log: TWO,
+        out: b"stopped 9 LogShort s 0 3 2\n",
+        status: 9,
+        after: DONE,
     },
     Row {
         words: &["ssq", "walk", "q.sql"],
         query: FILTER,
+        before: &[],
         log: b"",
         out: b"stopped 2 Usage\n",
         status: 2,
-        files: &[],
+        after: &[],
     },
     Row {
         words: &["ssq", "run", "q.sql", "--max-lines", "0"],
         query: FILTER,
+        before: &[],
         log: b"",
         out: b"stopped 2 Usage\n",
         status: 2,
-        files: &[],
+        after: &[],
     },
     Row {
-        words: &["ssq", "run", "q.sql"],
+        words: RUN,
         query: b"SELECT id FROM s OUTPUT APPEND;",
+        before: &[],
         log: b"",
         out: b"stopped 3 NotYet Query\n",
         status: 3,
-        files: &[],
+        after: &[],
     },
 ];
+
+/// What a crash left of a name that changed, by the number of a content it had.
+static IMAGES: [&[u64]; 2] = [&[0], &[1]];
 
 type Over = Ended<MemDisk, MemInputs, MemOut>;
 
@@ -139,6 +262,14 @@ fn words_of(alloc: Global, words: &[&str]) -> Result<Vec<String>, AllocError> {
         all.push(String::from_str(alloc, word)?)?;
     }
     Ok(all)
+}
+
+fn disk_of(alloc: Global, files: &[(Name, &[u8])]) -> Result<MemDisk, DiskError> {
+    let mut disk = MemDisk::new(alloc);
+    for (name, bytes) in files {
+        settle(alloc, &mut disk, *name, bytes)?;
+    }
+    Ok(disk)
 }
 
 fn run<R: Threads + Wait + Sync>(
@@ -154,6 +285,17 @@ fn run<R: Threads + Wait + Sync>(
         .with_text(alloc, "q.sql", row.query)?
         .with_part(alloc, "s", log)?;
     Ok(stream_main(rt, alloc, words.as_slice(), disk, inputs, out, &OpenGate))
+}
+
+/// Runs a row over a disk, with a log and an output that never fail.
+fn run_on<R: Threads + Wait + Sync>(
+    rt: &R,
+    alloc: Global,
+    row: &Row,
+    disk: MemDisk,
+) -> Result<Over, AllocError> {
+    let log = MemLog::torn(alloc, row.log)?;
+    run(rt, alloc, row, disk, log, MemOut::new(alloc))
 }
 
 /// Whether the disk has exactly these files.
@@ -172,54 +314,71 @@ fn holds<D: Disk>(alloc: Global, disk: &mut D, files: &[(Name, &[u8])]) -> bool 
     all
 }
 
-#[test]
-fn worked_rows(rt: HostRuntime) -> Result<(), Fail> {
-    let alloc = rt.alloc();
-    for row in &ROWS {
-        let log = MemLog::torn(alloc, row.log)?;
-        let over = run(
-            &rt,
-            alloc,
-            row,
-            MemDisk::new(alloc),
-            log,
-            MemOut::new(alloc),
-        )?;
-        let Ended {
-            status,
-            mut disk,
-            inputs: _,
-            out,
-        } = over;
-        assert_eq!(rt; out.bytes(), row.out);
-        assert_eq!(rt; status, row.status);
-        assert!(rt; holds(alloc, &mut disk, row.files));
-    }
-    Ok(())
-}
-
-#[test]
-fn faults_have_their_status(rt: HostRuntime) -> Result<(), Fail> {
-    let alloc = rt.alloc();
-    let row = &ROWS[0];
-
-    // The output fails once the work is done: the checkpoint is whole.
-    let out = MemOut::new(alloc).failing(vec![in alloc; 0]?);
-    let log = MemLog::torn(alloc, THREE)?;
-    let over = run(&rt, alloc, row, MemDisk::new(alloc), log, out)?;
+/// Whether a run of the row over the disk ends as the row says.
+fn ends_so<R: Threads + Wait + Sync>(
+    rt: &R,
+    alloc: Global,
+    row: &Row,
+    disk: MemDisk,
+) -> Result<bool, AllocError> {
     let Ended {
         status,
         mut disk,
         inputs: _,
         out,
-    } = over;
+    } = run_on(rt, alloc, row, disk)?;
+    Ok(out.bytes() == row.out && status == row.status && holds(alloc, &mut disk, row.after))
+}
+
+#[test]
+fn worked_rows(rt: HostRuntime) -> Result<(), Fail> {
+    let alloc = rt.alloc();
+    for row in &WORKED {
+        let disk = disk_of(alloc, row.before).expect(&rt, "memory");
+        assert!(rt; ends_so(&rt, alloc, row, disk)?);
+    }
+    Ok(())
+}
+
+#[test]
+fn refusals_are_told(rt: HostRuntime) -> Result<(), Fail> {
+    let alloc = rt.alloc();
+    for row in &REFUSED {
+        let disk = disk_of(alloc, row.before).expect(&rt, "memory");
+        assert!(rt; ends_so(&rt, alloc, row, disk)?);
+    }
+    Ok(())
+}
+
+/// The output fails, and then the log.
+#[test]
+fn faults_have_their_status(rt: HostRuntime) -> Result<(), Fail> {
+    let alloc = rt.alloc();
+    let row = &WORKED[0];
+
+    // The output fails once the round is done: the checkpoint is whole, and a further run has nothing to do.
+    let out = MemOut::new(alloc).failing(vec![in alloc; 0]?);
+    let log = MemLog::torn(alloc, THREE)?;
+    let Ended {
+        status,
+        mut disk,
+        inputs: _,
+        out,
+    } = run(&rt, alloc, row, MemDisk::new(alloc), log, out)?;
     assert_eq!(rt; status, 8);
     assert_eq!(rt; out.bytes(), b"stopped 8 OutFault\n".as_slice());
     assert!(rt; holds(alloc, &mut disk, DONE));
+    let over = run_on(&rt, alloc, row, disk)?;
+    assert_eq!(rt; over.out.bytes(), b"done epochs 2\n".as_slice());
 
     // The log fails at the first line that is read: the epoch is planned and no more.
-    let log = MemLog::torn(alloc, THREE)?.failing(vec![in alloc; 1]?);
-    let over = run(
+    let log = MemLog::torn(alloc, THREE)?.failing(vec![in alloc; 2]?);
+    let Ended {
+        status,
+        mut disk,
+        inputs: _,
+        out,
+    } = run(
         &rt,
         alloc,
         row,
@@ -227,29 +386,70 @@ fn faults_have_their_status(rt: HostRuntime) -> Result<(), Fail> {
         log,
         MemOut::new(alloc),
     )?;
-    let Ended {
-        status,
-        mut disk,
-        inputs: _,
-        out,
-    } = over;
     assert_eq!(rt; status, 6);
     assert_eq!(rt; out.bytes(), b"stopped 6 LogFault\n".as_slice());
-    assert!(rt; holds(alloc, &mut disk, &[DONE[0], DONE[1]]));
+    assert!(rt; holds(alloc, &mut disk, &[META, PLAN_0]));
+    Ok(())
+}
 
-    // The disk fails at its first call.
-    let disk = MemDisk::new(alloc).failing(vec![in alloc; FailAt::Disk(0)]?);
-    let log = MemLog::torn(alloc, THREE)?;
-    let over = run(&rt, alloc, row, disk, log, MemOut::new(alloc))?;
+/// Of the first row the sync after the first commit fails. It is told alone, and any image of a crash, or the disk as it is, is run on
+/// to the same rows.
+#[test]
+fn a_commit_that_is_not_synced(rt: HostRuntime) -> Result<(), Fail> {
+    let alloc = rt.alloc();
+    let row = &WORKED[0];
+    let disk = MemDisk::new(alloc).failing(vec![in alloc; FailAt::Disk(13)]?);
     let Ended {
         status,
         mut disk,
         inputs: _,
         out,
-    } = over;
+    } = run_on(&rt, alloc, row, disk)?;
     assert_eq!(rt; status, 7);
-    assert_eq!(rt; out.bytes(), b"stopped 7 DiskFault\n".as_slice());
-    assert!(rt; holds(alloc, &mut disk, &[]));
+    assert_eq!(rt; out.bytes(), FAULT);
+    for image in &IMAGES {
+        let crashed = disk.crash_at(alloc, u64::MAX, image)?;
+        let Ended { mut disk, .. } = run_on(&rt, alloc, row, crashed)?;
+        assert!(rt; holds(alloc, &mut disk, DONE));
+    }
+    assert!(rt; holds(alloc, &mut disk, &[META, PLAN_0, COMMIT_0, OUT_0]));
+    let Ended { mut disk, .. } = run_on(&rt, alloc, row, disk)?;
+    assert!(rt; holds(alloc, &mut disk, DONE));
+    Ok(())
+}
+
+/// The disk after a run whose first sync failed, and a crash.
+fn stopped_and_crashed<R: Threads + Wait + Sync>(
+    rt: &R,
+    alloc: Global,
+    row: &Row,
+    disk: MemDisk,
+    image: &[u64],
+) -> Result<Option<MemDisk>, AllocError> {
+    let disk = disk.failing(vec![in alloc; FailAt::Disk(0)]?);
+    let Ended {
+        status, disk, out, ..
+    } = run_on(rt, alloc, row, disk)?;
+    if status != 7 || out.bytes() != FAULT {
+        return Ok(None);
+    }
+    Ok(Some(disk.crash_at(alloc, u64::MAX, image)?))
+}
+
+/// Of the first row the sync of the second epoch's rows fails, and then twice the first sync of a run, each time with a crash.
+#[test]
+fn twice_the_first_sync_fails(rt: HostRuntime) -> Result<(), Fail> {
+    let alloc = rt.alloc();
+    let row = &WORKED[5];
+    for image in &IMAGES {
+        let disk = MemDisk::new(alloc).failing(vec![in alloc; FailAt::Disk(19)]?);
+        let over = run_on(&rt, alloc, &WORKED[0], disk)?;
+        assert_eq!(rt; over.status, 7);
+        let disk = over.disk.crash_at(alloc, u64::MAX, image)?;
+        let disk = stopped_and_crashed(&rt, alloc, row, disk, image)?.expect(&rt, "stopped");
+        let disk = stopped_and_crashed(&rt, alloc, row, disk, image)?.expect(&rt, "stopped");
+        assert!(rt; ends_so(&rt, alloc, row, disk)?);
+    }
     Ok(())
 }
 

@@ -1,10 +1,4 @@
-pub mod Rows
-pub mod Settling
-pub mod Standing
-pub mod Stopping
-pub mod Rounds
-pub mod Beginning
-pub mod Ending
-pub mod Spelled
 pub mod Passing
 pub mod Telling
+pub mod PartLines
+pub mod LookLemmas

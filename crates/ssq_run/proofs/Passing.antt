@@ -1,132 +1,145 @@
 -- What is passed on to the call above.
-use Rattle.std.proofs.Common.{◌≡◌, ◌≤◌, ◌∙◌, ℕ, List, [], ◌∷◌, Option, Some, None, Result, Ok, Err, refl, sym, ap, subst, inl, inr, arith, min}
-use Rattle.std.specs.Prelude.{OnOk, IfErr}
-use Rattle.ssq_outside.specs.History.{History}
-use Rattle.ssq_outside.specs.Logs.{Held}
+use Rattle.std.proofs.Common.{◌≡◌, ◌≢◌, ◌≤◌, ◌∙◌, ℕ, List, [], Option, Some, None, Result, Ok, Err, refl, sym, ap, subst, inl, inr, arith, min}
+use Rattle.std.specs.Prelude.{OnOk, IfOk, IfErr, IsSome}
+use Rattle.ssq_outside.specs.History.{History, files_now}
+use Rattle.ssq_outside.specs.Logs.{Held, Line}
+use Rattle.ssq_outside.specs.declared.inputs.InputError.{InputError}
+use Rattle.ssq_outside.specs.declared.inputs.InputError.TheVariants as input
 use Rattle.ssq_query.specs.declared.query.Query.{Query as Asking}
-use Rattle.ssq_query.specs.Canonical.{canonical}
-use Rattle.ssq_meaning.specs.Meaning.{Line as LogLine}
+use Rattle.ssq_query.specs.Binding.{bound_of}
+use Rattle.ssq_shape.specs.declared.bound.Bound.{Bound}
+use Rattle.ssq_words.specs.Asking.{Asked, asks_run, asks_status, asked}
+use Rattle.ssq_round.specs.Standing.{Job, IsJobOf}
+use Rattle.ssq_job.specs.declared.fault.JobFault.{JobFault}
+use Rattle.ssq_job.specs.Ending.{JobEnd}
+use Rattle.ssq_job.specs.Entry.{Entry, Reads, AlwaysStands}
+use Rattle.ssq_job.specs.Faults.{IsNoRefusal}
 use Rattle.ssq_run.specs.declared.stop.Stop.{Stop}
-use Rattle.ssq_run.specs.Ending.{RunLeaves}
-use Rattle.std.specs.Option.{ForSome}
-use Rattle.ssq_query.specs.File.{IsWritten}
-use Rattle.ssq_run.specs.declared.stop.Stop.TheVariants.{Usage, Query, Line, NotYet, LogFault, DiskFault, NoMemory}
-use Rattle.ssq_run.specs.Stopping.{IsPastWords, IsRunStop}
-use Rattle.ssq_run.specs.Words.{IsAsked}
-use Rattle.ssq_run.specs.Program.{Given, read_of, ReadCause, WordsCause, stop_in, SourceEnd, unstarted, not_one_part, ran, ProgramEnd, no_file, no_query, query_run}
+use Rattle.ssq_run.specs.declared.stop.Stop.TheVariants.{Usage, Query, LogFault, OtherParts, NoMemory}
+use Rattle.ssq_run.specs.Queries.{IsQueryAt, stream_of, source_of, text_of, job_of}
+use Rattle.ssq_run.specs.Stopping.{stop_of_input, stop_of_end, stop_in, ReadCause, WordsCause, IsPastWords}
+use Rattle.ssq_run.specs.Looked.{LookEnd}
+use Rattle.ssq_run.specs.Program.{Given, IsIdle, IsOutside, GoesOn, SourceEnd, unstarted, not_one_part, ran, file_of, ProgramEnd, no_file, no_query, query_run, looked}
 
-pub on_ok : {T E : Type 0} {P Q : Type 0} (r : Result T E) → OnOk r P → (P → Q) → OnOk r Q
-on_ok (Ok x) p f = f p
-on_ok (Err e) p f = p
+-- nothing was done
+pub idle : (start : History) (old told : List ℕ) → told ≡ [] → IsIdle start start old old told
+idle start old told none = record { still = refl; unwritten = refl; untold = none }
 
-pub if_err : {T E : Type 0} {P Q : E → Type 0} (r : Result T E) → IfErr r P → ((e : E) → P e → Q e) → IfErr r Q
-if_err (Ok x) p f = p
-if_err (Err e) p f = f e p
+pub input_outside : (error : InputError) → IsOutside (Some (stop_of_input error))
+input_outside input.Fault = inl refl
+input_outside input.NoMemory = inr refl
 
--- a run over a log of which more was known
-pub known_less : (query : Asking) (text text' : List ℕ) (log log' : List LogLine) (shown shown' : ℕ) (most : Option ℕ) (start now : History) (told_old told : List ℕ) (stop : Option Stop)
-    → log ≡ log' → text ≡ text' → shown' ≤ shown → RunLeaves query text log shown most start now told_old told stop → RunLeaves query text' log' shown' most start now told_old told stop
-known_less query text text' log log' shown shown' most start now told_old told stop same spelled less left =
-    let less_known : RunLeaves query text log shown' most start now told_old told stop =
-    record { seen = left.seen; epochs = left.epochs; saw = omega (arith, left.saw, less); lines = left.lines; files = left.files; sums = left.sums; kept = left.kept; cause = left.cause; moments = left.moments } in
-    let P : List LogLine → Type 0 = λ log. RunLeaves query text log shown' most start now told_old told stop in
-    let Q : List ℕ → Type 0 = λ text. RunLeaves query text log' shown' most start now told_old told stop in
-    subst Q spelled (subst P same less_known)
+-- the fault of a result, if it is one
+abbrev pub fault_in : {T : Type 0} → Result T JobFault → Option JobFault
+fault_in (Ok done) = None
+fault_in (Err fault) = Some fault
+
+-- what holds where a job is done, and where it stopped, holds of how it ended
+pub ended : {T : Type 0} (P : Option JobFault → Type 0) (r : Result T JobFault) → OnOk r (P None) → IfErr r (λ fault. P (Some fault)) → P (fault_in r)
+ended P (Ok done) ok err = ok
+ended P (Err fault) ok err = err
+
+pub went_on : {T : Type 0} (r : Result T JobFault) → IfErr r IsNoRefusal → GoesOn (fault_in r)
+went_on (Ok done) is = tt
+went_on (Err fault) is = is
+
+-- it was the query over the lines of its log
+pub is_job : (query : Asking) (bound : Bound) (held mid : Held) (source : List ℕ) (lines : List Line) → bound ≡ bound_of query → source ≡ source_of query → mid ≡ held → lines ≡ mid.lines source 0
+    → IsJobOf (job_of query (held.lines (source_of query) 0)) bound lines
+is_job query bound held mid source lines so named same read =
+    record { same_query = sym so; same_lines = ap (λ s. held.lines s 0) (sym named) ∙ ap (λ (h : Held). h.lines source 0) (sym same) ∙ sym read }
 
 -- the one part of the source was run
-pub source_ran : (held mid : Held) (query : Asking) (shown mid_shown : List ℕ → ℕ → ℕ) (source : List ℕ) (parts : ℕ) (log : List LogLine) (known : ℕ) (text : List ℕ) (most : Option ℕ) (start now : History) (told_old told : List ℕ) (stop : Option Stop)
-    → source ≡ query.source → mid ≡ held → parts ≡ min (held.parts source) 65 → parts ≡ 1
-    → log ≡ mid.lines source 0 → mid_shown source 0 ≤ known → ((stream : List ℕ) (part : ℕ) → shown stream part ≤ mid_shown stream part) → text ≡ canonical query
-    → RunLeaves query text log known most start now told_old told stop
-    → SourceEnd held shown query most start now told_old told stop
-source_ran held mid query shown mid_shown source parts log known text most start now told_old told stop same unchanged counted one lines begins grown spelled left =
-    let one_part : held.parts source ≡ 1 = omega (arith, counted, one) in
-    let whole : log ≡ held.lines query.source 0 = lines ∙ ap (λ (h : Held). h.lines source 0) unchanged ∙ ap (λ s. held.lines s 0) same in
-    let less : shown query.source 0 ≤ known =
+pub source_ran : (held : Held) (shown mid_shown : List ℕ → ℕ → ℕ) (query : Asking) (source : List ℕ) (most : Option ℕ) (rounds parts known known_now : ℕ) (start now : History) (OutTells : Type 0)
+    (old written told : List ℕ) (end : Option JobFault) (stop : Option Stop)
+    → source ≡ source_of query → parts ≡ min (held.parts source) 65 → parts ≡ 1
+    → mid_shown source 0 ≤ known → ((stream : List ℕ) (part : ℕ) → shown stream part ≤ mid_shown stream part)
+    → JobEnd (record { job = job_of query (held.lines (source_of query) 0); most = most; rounds = rounds; known = known; start = start; written = old }) known_now now OutTells written told end
+    → AlwaysStands (job_of query (held.lines (source_of query) 0)) start now
+    → ((entry : Entry) → Reads (job_of query (held.lines (source_of query) 0)) entry (files_now start) → entry.cuts entry.planned ≤ known → GoesOn end)
+    → stop ≡ stop_of_end query end
+    → SourceEnd held shown query most rounds start now OutTells old written told stop
+source_ran held shown mid_shown query source most rounds parts known known_now start now OutTells old written told end stop named counted one begins grown left always goes is =
+    let from : shown source 0 ≤ known = omega (arith, grown source 0, begins) in
     let P : List ℕ → Type 0 = λ s. shown s 0 ≤ known in
-    let at : shown source 0 ≤ known = omega (arith, grown source 0, begins) in subst P same at in
-    ran (ap held.parts (sym same) ∙ one_part) (known_less query text (canonical query) log (held.lines query.source 0) known (shown query.source 0) most start now told_old told stop whole spelled less left)
+    let at_least : shown (source_of query) 0 ≤ known = subst P named from in
+    let one_part : held.parts source ≡ 1 = omega (arith, counted, one) in
+    ran (ap held.parts (sym named) ∙ one_part) known known_now end at_least left always (λ entry reads long. goes entry reads (omega (arith, long, at_least))) is
 
-abbrev value_or_0 : Option ℕ → ℕ
-value_or_0 None = 0
-value_or_0 (Some n) = n
-
-some_same : (n m : ℕ) → Some n ≡ Some m → n ≡ m
-some_same n m e = ap value_or_0 e
-
-none_some : (m : ℕ) → None ≡ Some m → ⊥
-none_some m e = cc
-
-some_cap : (n : ℕ) → 1 ≤ n → ForSome (Some n) (λ m. 1 ≤ m)
-some_cap n low m e = let same : n ≡ m = some_same n m e in omega (arith, low, same)
+-- the parts are not exactly one
+pub other_parts : (held : Held) (shown : List ℕ → ℕ → ℕ) (query : Asking) (source : List ℕ) (most : Option ℕ) (rounds parts : ℕ) (start : History) (OutTells : Type 0) (old told : List ℕ)
+    → source ≡ source_of query → parts ≡ min (held.parts source) 65 → parts ≢ 1 → told ≡ []
+    → SourceEnd held shown query most rounds start start OutTells old old told (Some (OtherParts (stream_of query) 1 parts))
+other_parts held shown query source most rounds parts start OutTells old told named counted other none =
+    let same : parts ≡ min (held.parts (source_of query)) 65 = counted ∙ ap (λ s. min (held.parts s) 65) named in
+    not_one_part (λ one. other (same ∙ ap (λ n. min n 65) one)) (ap (λ n. Some (OtherParts (stream_of query) 1 n)) same) (idle start old told none)
 
 -- the query's file was not read, or is no query
-pub not_read : (given : Given) (start : History) (told file : List ℕ) (most : Option ℕ) (stop : Stop) → IsAsked given.words file most → ReadCause (read_of given.held file) stop → ProgramEnd given start start told told (Some stop)
-not_read given start told file most Query asked cause = no_query file most asked cause refl (refl, refl)
-not_read given start told file most LogFault asked cause = no_file file most asked (inl refl) (refl, refl)
-not_read given start told file most NoMemory asked cause = no_file file most asked (inr refl) (refl, refl)
-not_read given start told file most Usage asked cause = absurd cause
-not_read given start told file most (Line stream at) asked cause = absurd cause
-not_read given start told file most NotYet asked cause = absurd cause
-not_read given start told file most DiskFault asked cause = absurd cause
+pub not_read : (given : Given) (start : History) (OutTells : Type 0) (old told : List ℕ) (what : Asked) (stop : Stop) → asked given.words ≡ Some what → told ≡ [] → ReadCause given.held (file_of what) stop
+    → ProgramEnd given start start OutTells old old told (Some stop)
+not_read given start OutTells old told what Query is none cause = no_query what is cause refl (idle start old told none)
+not_read given start OutTells old told what LogFault is none cause = no_file what is (inl refl) (idle start old told none)
+not_read given start OutTells old told what NoMemory is none cause = no_file what is (inr refl) (idle start old told none)
+not_read given start OutTells old told what _ is none cause = absurd cause
+
+pub not_read_at : (given : Given) (start : History) (OutTells : Type 0) (old told : List ℕ) (what : Asked) (stop : Stop) (held : Held) → asked given.words ≡ Some what → given.held ≡ held → told ≡ []
+    → ReadCause held (file_of what) stop → ProgramEnd given start start OutTells old old told (Some stop)
+not_read_at given start OutTells old told what stop held is same none cause =
+    let P : Held → Type 0 = λ h. ReadCause h (file_of what) stop in
+    not_read given start OutTells old told what stop is none (subst P (sym same) cause)
 
 -- memory ran out before the query was run
-pub not_prepared : (given : Given) (start : History) (told file : List ℕ) (most : Option ℕ) → IsAsked given.words file most → ProgramEnd given start start told told (Some NoMemory)
-not_prepared given start told file most asked = no_file file most asked (inr refl) (refl, refl)
-
--- the words were taken, so the stop is another
-pub words_taken : (words : List (List ℕ)) (file : List ℕ) (most : Option ℕ) (stop : Stop) → IsAsked words file most → IsPastWords stop → WordsCause words stop
-words_taken words file most Usage asked past = absurd past
-words_taken words file most Query asked past = (file, most, asked)
-words_taken words file most (Line stream at) asked past = (file, most, asked)
-words_taken words file most NotYet asked past = (file, most, asked)
-words_taken words file most LogFault asked past = (file, most, asked)
-words_taken words file most DiskFault asked past = (file, most, asked)
-words_taken words file most NoMemory asked past = (file, most, asked)
-
-pub run_past_words : (stop : Stop) → IsRunStop stop → IsPastWords stop
-run_past_words Usage is = is
-run_past_words Query is = absurd is
-run_past_words (Line stream at) is = tt
-run_past_words NotYet is = tt
-run_past_words LogFault is = tt
-run_past_words DiskFault is = tt
-run_past_words NoMemory is = tt
-
-pub cap_some : (words : List (List ℕ)) (file : List ℕ) (most : Option ℕ) → IsAsked words file most → ForSome most (λ m. 1 ≤ m)
-cap_some (name ∷ command ∷ asked ∷ []) file most is = let P : Option ℕ → Type 0 = λ o. ForSome o (λ m. 1 ≤ m) in subst P (sym is.3) (λ m e. absurd (none_some m e))
-cap_some (name ∷ command ∷ asked ∷ option ∷ number ∷ []) file most is =
-    let cap = is.3 in
-    let P : Option ℕ → Type 0 = λ o. ForSome o (λ m. 1 ≤ m) in
-    subst P (sym cap.4) (some_cap cap.0 cap.1.0)
-cap_some [] file most is = absurd is
-cap_some (a ∷ []) file most is = absurd is
-cap_some (a ∷ b ∷ []) file most is = absurd is
-cap_some (a ∷ b ∷ c ∷ d ∷ []) file most is = absurd is
-cap_some (a ∷ b ∷ c ∷ d ∷ e ∷ f ∷ rest) file most is = absurd is
+pub not_prepared : (given : Given) (start : History) (OutTells : Type 0) (old told : List ℕ) (what : Asked) → asked given.words ≡ Some what → told ≡ []
+    → ProgramEnd given start start OutTells old old told (Some NoMemory)
+not_prepared given start OutTells old told what is none = no_file what is (inr refl) (idle start old told none)
 
 -- what was known when the program began is no more than what was known when the source was run
-pub source_earlier : (held0 held1 : Held) (shown0 shown1 : List ℕ → ℕ → ℕ) (query : Asking) (most : Option ℕ) (start now : History) (told_old told : List ℕ) (stop : Option Stop)
+source_earlier : (held0 held1 : Held) (shown0 shown1 : List ℕ → ℕ → ℕ) (query : Asking) (most : Option ℕ) (rounds : ℕ) (start now : History) (OutTells : Type 0) (old written told : List ℕ) (stop : Option Stop)
     → held1 ≡ held0 → ((stream : List ℕ) (part : ℕ) → shown0 stream part ≤ shown1 stream part)
-    → SourceEnd held1 shown1 query most start now told_old told stop → SourceEnd held0 shown0 query most start now told_old told stop
-source_earlier held0 held1 shown0 shown1 query most start now told_old told stop same less (unstarted outside idle) = unstarted outside idle
-source_earlier held0 held1 shown0 shown1 query most start now told_old told stop same less (not_one_part parts is idle) =
-    not_one_part (λ e. parts (ap (λ (h : Held). h.parts query.source) same ∙ e)) is idle
-source_earlier held0 held1 shown0 shown1 query most start now told_old told stop same less (ran parts left) =
-    ran (ap (λ (h : Held). h.parts query.source) (sym same) ∙ parts)
-    (known_less query (canonical query) (canonical query) (held1.lines query.source 0) (held0.lines query.source 0) (shown1 query.source 0) (shown0 query.source 0) most start now told_old told stop
-    (ap (λ (h : Held). h.lines query.source 0) same) refl (less query.source 0) left)
+    → SourceEnd held1 shown1 query most rounds start now OutTells old written told stop → SourceEnd held0 shown0 query most rounds start now OutTells old written told stop
+source_earlier held0 held1 shown0 shown1 query most rounds start now OutTells old written told stop same less end =
+    let P : Held → Type 0 = λ h. SourceEnd h shown0 query most rounds start now OutTells old written told stop in
+    subst P same (known_less end)
+  where
+    known_less : SourceEnd held1 shown1 query most rounds start now OutTells old written told stop → SourceEnd held1 shown0 query most rounds start now OutTells old written told stop
+    known_less (unstarted outside still) = unstarted outside still
+    known_less (not_one_part parts is still) = not_one_part parts is still
+    known_less (ran parts known known_now end at_least left always goes is) =
+        let less_known = less (source_of query) 0 in
+        ran parts known known_now end (omega (arith, less_known, at_least)) left always (λ entry reads long. goes entry reads (omega (arith, long, less_known))) is
 
 -- the query was run
-pub ran_query : (given : Given) (held1 : Held) (shown1 : List ℕ → ℕ → ℕ) (query prepared : Asking) (file : List ℕ) (most : Option ℕ) (start now : History) (told_old told : List ℕ) (stop : Option Stop)
-    → IsAsked given.words file most → IsWritten (read_of given.held file) query → prepared ≡ query → held1 ≡ given.held → ((stream : List ℕ) (part : ℕ) → given.shown stream part ≤ shown1 stream part)
-    → SourceEnd held1 shown1 prepared most start now told_old told stop → ProgramEnd given start now told_old told stop
-ran_query given held1 shown1 query prepared file most start now told_old told stop asked is same_query same less end =
-    let P : Asking → Type 0 = λ q. SourceEnd held1 shown1 q most start now told_old told stop in
-    query_run file most query asked is (source_earlier given.held held1 given.shown shown1 query most start now told_old told stop same less (subst P same_query end))
+pub ran_query : (given : Given) (held0 held1 : Held) (query : Asking) (file : List ℕ) (shown0 shown1 : List ℕ → ℕ → ℕ) (most : Option ℕ) (rounds : ℕ) (start now : History) (OutTells : Type 0) (old written told : List ℕ) (stop : Option Stop)
+    → asked given.words ≡ Some (asks_run file most rounds) → given.held ≡ held0 → given.shown ≡ shown0 → IsQueryAt held0 file query → held1 ≡ held0
+    → ((stream : List ℕ) (part : ℕ) → shown0 stream part ≤ shown1 stream part)
+    → SourceEnd held1 shown1 query most rounds start now OutTells old written told stop → ProgramEnd given start now OutTells old written told stop
+ran_query given held0 held1 query file shown0 shown1 most rounds start now OutTells old written told stop is has shows written_so same less end =
+    let Q : Held → Type 0 = λ h. IsQueryAt h file query in
+    let S : (List ℕ → ℕ → ℕ) → Type 0 = λ shown. (stream : List ℕ) (part : ℕ) → shown stream part ≤ shown1 stream part in
+    query_run file most rounds query is (subst Q (sym has) written_so)
+    (source_earlier given.held held1 given.shown shown1 query most rounds start now OutTells old written told stop (same ∙ sym has) (subst S (sym shows) less) end)
 
--- a result tells how the program ended
-pub ends_so : {T : Type 0} (given : Given) (start now : History) (told_old told : List ℕ) (r : Result T Stop) → told_old ≡ []
-    → OnOk r (ProgramEnd given start now told_old told None) → IfErr r (λ stop. ProgramEnd given start now told_old told (Some stop)) → ProgramEnd given start now [] told (stop_in r)
-ends_so given start now told_old told (Ok done) none ok err = let P : List ℕ → Type 0 = λ t. ProgramEnd given start now t told None in subst P none ok
-ends_so given start now told_old told (Err stop) none ok err = let P : List ℕ → Type 0 = λ t. ProgramEnd given start now t told (Some stop) in subst P none err
+-- the checkpoint was looked at
+pub was_looked : (given : Given) (held : Held) (query : Asking) (file : List ℕ) (start now : History) (OutTells : Type 0) (old told : List ℕ) (stop : Option Stop)
+    → asked given.words ≡ Some (asks_status file) → given.held ≡ held → IsQueryAt held file query → now ≡ start → LookEnd query (files_now start) told stop
+    → ProgramEnd given start now OutTells old old told stop
+was_looked given held query file start now OutTells old told stop is has written_so still end =
+    let Q : Held → Type 0 = λ h. IsQueryAt h file query in
+    looked file query is (subst Q (sym has) written_so) still refl end
+
+-- it was denied, and nothing is told
+pub was_denied : (given : Given) (held : Held) (query : Asking) (file : List ℕ) (start now : History) (OutTells : Type 0) (old told : List ℕ) (stop : Option Stop)
+    → asked given.words ≡ Some (asks_status file) → given.held ≡ held → IsQueryAt held file query → now ≡ start → told ≡ [] → LookEnd query (files_now start) [] stop
+    → ProgramEnd given start now OutTells old old told stop
+was_denied given held query file start now OutTells old told stop is has written_so still none end =
+    let T : List ℕ → Type 0 = λ t. LookEnd query (files_now start) t stop in
+    was_looked given held query file start now OutTells old told stop is has written_so still (subst T (sym none) end)
+
+some_asked : (words : List (List ℕ)) (what : Asked) → asked words ≡ Some what → IsSome (asked words)
+some_asked words what is = cc
+
+-- the words were taken, so the stop is another
+pub words_taken : (words : List (List ℕ)) (what : Asked) (stop : Stop) → asked words ≡ Some what → IsPastWords stop → WordsCause words stop
+words_taken words what Usage is past = absurd past
+words_taken words what NoMemory is past = tt
+words_taken words what _ is past = some_asked words what is

@@ -1,12 +1,15 @@
 -- What was written.
-use Rattle.std.proofs.Common.{◌≡◌, ◌++◌, ◌≤◌, ◌∙◌, arith, ℕ, List, Option, Some, None, Result, Ok, Err, refl, ap, sym, inl, inr, length, take}
-use Rattle.std.specs.Prelude.{OnOk, OnErr, codes}
+use Rattle.std.proofs.Common.{◌≡◌, ◌≢◌, ◌⊎◌, ◌++◌, ◌≤◌, ◌∙◌, arith, ℕ, List, Option, Some, None, Result, Ok, Err, refl, ap, sym, inl, inr, length, take}
+use Rattle.std.specs.Prelude.{OnOk, OnErr, IfErr, IsSome}
 use Rattle.std.proofs.Math.Seq.{take-length}
 use Rattle.std.proofs.lemmas.List.{append-nil}
 use Rattle.ssq_outside.specs.Faults.{Rises}
 use Rattle.ssq_run.specs.declared.stop.Stop.{Stop}
-use Rattle.ssq_run.specs.declared.stop.Stop.TheVariants.{Usage, Query, Line, NotYet, LogFault, DiskFault, NoMemory}
-use Rattle.ssq_run.specs.Program.{status_of, Wrote, whole, cut, cut_done, starved, HasEnded}
+use Rattle.ssq_run.specs.declared.stop.Stop.TheVariants.{Usage, LogFault, DiskFault, OutFault, NoMemory}
+use Rattle.ssq_run.specs.Lines.{stop_line}
+use Rattle.ssq_run.specs.Stopping.{status_of, stop_in, LogRises, DiskRises, OutRises, WordsCause}
+use Rattle.ssq_run.specs.Program.{Wrote, whole, cut, cut_done, starved, HasEnded, IsStatus}
+use Rattle.ssq_words.specs.Asking.{asked}
 
 -- a front was written, all of it or less
 pub said : {E : Type 0} (result : Result (Unit {0}) E) (old new line : List ℕ) → OnOk result (new ≡ old ++ line) → OnErr result ((n : ℕ) × (new ≡ old ++ take n line)) → (n : ℕ) × (new ≡ old ++ take n line)
@@ -30,21 +33,85 @@ wrote_cut stop told text old new before now status n (inr short) stopped rises p
     starved short.1 n 0 (put ∙ ap (λ t. old ++ take n t) short.2 ∙ sym (append-nil (old ++ take n told)))
 
 -- memory ran out for what was to be written
-pub wrote_starved : (stop : Option Stop) (told old mid new : List ℕ) (before now n : ℕ) → mid ≡ old → new ≡ mid ++ take n (codes "stopped 10 NoMemory\n") → Wrote stop told old new before now 10
-wrote_starved stop told old mid new before now n same put = starved refl 0 n (put ∙ ap (λ c. c ++ take n (codes "stopped 10 NoMemory\n")) (same ∙ sym (append-nil old)))
+pub wrote_starved : (stop : Option Stop) (told old mid new : List ℕ) (before now n : ℕ) → mid ≡ old → new ≡ mid ++ take n (stop_line NoMemory) → Wrote stop told old new before now 10
+wrote_starved stop told old mid new before now n same put = starved refl 0 n (put ∙ ap (λ c. c ++ take n (stop_line NoMemory)) (same ∙ sym (append-nil old)))
 
 never_zero : (stop : Stop) → status_of stop ≡ 0 → ⊥
 never_zero Usage e = absurd (omega (arith, e))
-never_zero Query e = absurd (omega (arith, e))
-never_zero (Line stream at) e = absurd (omega (arith, e))
-never_zero NotYet e = absurd (omega (arith, e))
-never_zero LogFault e = absurd (omega (arith, e))
-never_zero DiskFault e = absurd (omega (arith, e))
-never_zero NoMemory e = absurd (omega (arith, e))
+never_zero _ e = absurd (omega (arith, e))
 
 -- the output failed where the job was done
-pub wrote_done : (stop : Option Stop) (told text old mid new : List ℕ) (f0 f1 f2 status n m : ℕ) → HasEnded stop told status text → status ≡ 0 → Rises f0 f1 → f1 ≤ f2 → mid ≡ old ++ take n text → new ≡ mid ++ take m (codes "stopped 8 OutFault\n") → Wrote stop told old new f0 f2 8
+pub wrote_done : (stop : Option Stop) (told text old mid new : List ℕ) (f0 f1 f2 status n m : ℕ) → HasEnded stop told status text → status ≡ 0 → Rises f0 f1 → f1 ≤ f2 → mid ≡ old ++ take n text → new ≡ mid ++ take m (stop_line OutFault) → Wrote stop told old new f0 f2 8
 wrote_done None told text old mid new f0 f1 f2 status n m (inl ended) zero_status rises later first second =
-    cut_done refl refl (omega (arith, rises, later)) n m (second ∙ ap (λ c. c ++ take m (codes "stopped 8 OutFault\n")) (first ∙ ap (λ t. old ++ take n t) (ended.1 ∙ append-nil told)))
+    cut_done refl refl (omega (arith, rises, later)) n m (second ∙ ap (λ c. c ++ take m (stop_line OutFault)) (first ∙ ap (λ t. old ++ take n t) (ended.1 ∙ append-nil told)))
 wrote_done (Some stop) told text old mid new f0 f1 f2 status n m (inl ended) zero_status rises later first second = absurd (never_zero stop (sym ended.0 ∙ zero_status))
 wrote_done stop told text old mid new f0 f1 f2 status n m (inr short) zero_status rises later first second = absurd (omega (arith, short.1, zero_status))
+
+-- counts that were lower before
+pub status_since : (stop : Option Stop) (earlier before now status : ℕ) → earlier ≤ before → IsStatus stop before now status → IsStatus stop earlier now status
+status_since stop earlier before now status less (inl is) = inl is
+status_since stop earlier before now status less (inr (inl is)) = inr (inl (is.0, is.1, omega (arith, is.2, less)))
+status_since stop earlier before now status less (inr (inr is)) = inr (inr is)
+
+pub wrote_since : (stop : Option Stop) (told old new : List ℕ) (earlier before now status : ℕ) → earlier ≤ before → Wrote stop told old new before now status → Wrote stop told old new earlier now status
+wrote_since stop told old new earlier before now status less (whole is put) = whole is put
+wrote_since stop told old new earlier before now status less (cut is some rises n put) = cut is some (omega (arith, rises, less)) n put
+wrote_since stop told old new earlier before now status less (cut_done is none rises n m put) = cut_done is none (omega (arith, rises, less)) n m put
+wrote_since stop told old new earlier before now status less (starved is n m put) = starved is n m put
+
+-- the status tells the stop
+usage_stop : (words : List (List ℕ)) (stop : Stop) → WordsCause words stop → status_of stop ≡ 2 → asked words ≡ None
+usage_stop words Usage cause is = cause
+usage_stop words _ cause is = absurd (omega (arith, is))
+
+log_stop : (before now : ℕ) (stop : Stop) → LogRises before now stop → status_of stop ≡ 6 → Rises before now
+log_stop before now LogFault cause is = cause
+log_stop before now _ cause is = absurd (omega (arith, is))
+
+disk_stop : (before now : ℕ) (stop : Stop) → DiskRises before now stop → status_of stop ≡ 7 → Rises before now
+disk_stop before now DiskFault cause is = cause
+disk_stop before now _ cause is = absurd (omega (arith, is))
+
+out_stop : (before now : ℕ) (stop : Stop) → OutRises before now stop → status_of stop ≡ 8 → Rises before now
+out_stop before now OutFault cause is = cause
+out_stop before now _ cause is = absurd (omega (arith, is))
+
+-- a status that only a stop has
+of_stop : {T : Type 0} (r : Result T Stop) (n before now status : ℕ) (P : Stop → Type 0) (Q : Type 0) → n ≢ 0 → n ≢ 8 → n ≢ 10
+    → ((stop : Stop) → P stop → status_of stop ≡ n → Q) → IfErr r P → IsStatus (stop_in r) before now status → status ≡ n → Q
+of_stop (Ok done) n before now status P Q zero eight ten by cause (inl is) same = absurd (zero (sym same ∙ is))
+of_stop (Err stop) n before now status P Q zero eight ten by cause (inl is) same = by stop cause (sym is ∙ same)
+of_stop r n before now status P Q zero eight ten by cause (inr (inl is)) same = absurd (eight (sym same ∙ is.0))
+of_stop r n before now status P Q zero eight ten by cause (inr (inr is)) same = absurd (ten (sym same ∙ is))
+
+pub usage_told : {T : Type 0} (words : List (List ℕ)) (r : Result T Stop) (before now status : ℕ) → IfErr r (WordsCause words) → IsStatus (stop_in r) before now status → status ≡ 2 → asked words ≡ None
+usage_told words r before now status = of_stop r 2 before now status (WordsCause words) (asked words ≡ None) (λ e. absurd (omega (arith, e))) (λ e. absurd (omega (arith, e))) (λ e. absurd (omega (arith, e))) (usage_stop words)
+
+pub log_told : {T : Type 0} (r : Result T Stop) (f0 f1 before now status : ℕ) → IfErr r (LogRises f0 f1) → IsStatus (stop_in r) before now status → status ≡ 6 → Rises f0 f1
+log_told r f0 f1 before now status = of_stop r 6 before now status (LogRises f0 f1) (Rises f0 f1) (λ e. absurd (omega (arith, e))) (λ e. absurd (omega (arith, e))) (λ e. absurd (omega (arith, e))) (log_stop f0 f1)
+
+pub disk_told : {T : Type 0} (r : Result T Stop) (f0 f1 before now status : ℕ) → IfErr r (DiskRises f0 f1) → IsStatus (stop_in r) before now status → status ≡ 7 → Rises f0 f1
+disk_told r f0 f1 before now status = of_stop r 7 before now status (DiskRises f0 f1) (Rises f0 f1) (λ e. absurd (omega (arith, e))) (λ e. absurd (omega (arith, e))) (λ e. absurd (omega (arith, e))) (disk_stop f0 f1)
+
+-- the output failed before the end, or at it
+pub out_told : {T : Type 0} (r : Result T Stop) (f0 f1 f2 status : ℕ) → IfErr r (OutRises f0 f1) → f0 ≤ f1 → f1 ≤ f2 → IsStatus (stop_in r) f1 f2 status → status ≡ 8 → Rises f0 f2
+out_told (Ok done) f0 f1 f2 status cause less later (inl is) same = absurd (omega (arith, is, same))
+out_told (Err stop) f0 f1 f2 status cause less later (inl is) same = let rises = out_stop f0 f1 stop cause (sym is ∙ same) in omega (arith, rises, later)
+out_told r f0 f1 f2 status cause less later (inr (inl is)) same = omega (arith, is.2, less)
+out_told r f0 f1 f2 status cause less later (inr (inr is)) same = absurd (omega (arith, is, same))
+
+-- words that are no command are told so
+no_words : (words : List (List ℕ)) → asked words ≡ None → IsSome (asked words) → ⊥
+no_words words none some = cc
+
+usage_only : (words : List (List ℕ)) (stop : Stop) → asked words ≡ None → WordsCause words stop → (status_of stop ≡ 2) ⊎ (status_of stop ≡ 10)
+usage_only words Usage none cause = inl refl
+usage_only words NoMemory none cause = inr refl
+usage_only words _ none cause = absurd (no_words words none cause)
+
+pub no_command_told : {T : Type 0} (words : List (List ℕ)) (r : Result T Stop) (before now status : ℕ) → asked words ≡ None → OnOk r (IsSome (asked words)) → IfErr r (WordsCause words)
+    → IsStatus (stop_in r) before now status → (status ≡ 2) ⊎ (status ≡ 10)
+no_command_told words (Ok done) before now status none taken cause answer = absurd (no_words words none taken)
+no_command_told words (Err stop) before now status none taken cause (inl is) = elim (usage_only words stop none cause) [ | inl two ↦ inl (is ∙ two) | inr ten ↦ inr (is ∙ ten) ]
+no_command_told words (Err stop) before now status none taken cause (inr (inl is)) = absurd (some_stop stop is.1)
+no_command_told words (Err stop) before now status none taken cause (inr (inr is)) = inr is

@@ -1,9 +1,5 @@
-pub mod Settled
-pub mod Feeding
-pub mod Standing
+pub mod Queries
 pub mod Stopping
-pub mod Told
-pub mod Ending
-pub mod Beginning
-pub mod Words
+pub mod Lines
+pub mod Looked
 pub mod Program

@@ -1,49 +1,191 @@
 //! Why the program stops before its job is done.
 
-use ssq_outside::{DiskError, InputError};
+ghost use Rattle.std.specs.Prelude.{◌≡◌, ℕ};
+ghost use Rattle.ssq_run.specs.Stopping.{status_of};
+
+use ssq_outside::{InputError, Name};
+use ssq_plans::NameText;
 use ssq_query::QueryFault;
 use ssq_value::Text;
-use std::alloc::{AllocError, AllocFailed};
-use thiserror::Error;
+use ssq_words::AskError;
+use std::alloc::AllocError;
+use std::fmt;
 
-/// Why the program stops before its job is done. Each cause has a status and a line of its own.
-#[derive(Debug, Drop, Error)]
-pub enum Stop {
-    /// The words are no command.
-    #[error("the words are no command")]
-    Usage,
-    /// The file is no query that can be run yet.
-    #[error("the file is no query that can be run yet")]
-    Query,
-    /// The first line of a planned epoch that is bad, or on which a result is outside 64 bits: the stream's declared
-    /// name, and the line's offset in its part.
-    #[error("line {offset} of a stream is faulty")]
-    Line { stream: Text, offset: u64 },
-    /// What cannot be run yet: a stream whose parts are not exactly one, a part of more than 1,000,000 lines, a disk
-    /// that is not empty, or a log that has lost lines.
-    #[error("this cannot be run yet")]
-    NotYet,
-    /// The inputs failed, or a log.
-    #[error("a log failed")]
-    LogFault,
-    /// The disk failed.
-    #[error("the disk failed")]
-    DiskFault,
-    /// Memory ran out.
-    #[error("out of memory")]
-    NoMemory,
+/// What is wrong with a bad line: the first cause.
+#[derive(Debug, Drop)]
+pub enum Wrong {
+    /// It has more than 1,048,576 bytes.
+    TooLong,
+    NotJson,
+    NotObject,
+    /// The first column, in declared order, of which it has a value of another type.
+    WrongType { column: Text },
+    NoEventTime,
 }
 
-impl From<DiskError> for Stop {
+/// Shown as in the line that tells it.
+impl fmt::Display for Wrong {
+    ghost use Rattle.std.specs.Prelude.{Some};
+    ghost use Rattle.ssq_run.specs.Lines.{wrong_text};
+
+    ghost output = { λ wrong. Some (wrong_text wrong) };
+
+    fn fmt<W: fmt::Write>(&self, f: &mut fmt::Formatter<W>) -> fmt::Result {
+        match self {
+            Wrong::TooLong => write!(f, "TooLong"),
+            Wrong::NotJson => write!(f, "NotJson"),
+            Wrong::NotObject => write!(f, "NotObject"),
+            Wrong::WrongType { column } => write!(f, "WrongType {}", column.as_str()),
+            Wrong::NoEventTime => write!(f, "NoEventTime"),
+        }
+    }
+}
+
+/// Why the program stops before its job is done. Each cause has a status and a line of its own. A stream is told by its declared
+/// name, and parts, lines and epochs are counted from 0.
+#[derive(Debug, Drop)]
+pub enum Stop {
+    /// The words are no command.
+    Usage,
+    /// The file is no query that can be run yet.
+    Query,
+    /// The first line of a planned epoch that shows nothing is bad.
+    BadLine {
+        stream: Text,
+        part: u32,
+        offset: u64,
+        wrong: Wrong,
+    },
+    /// On the first line of a planned epoch that shows nothing a result is outside 64 bits.
+    Overflow {
+        stream: Text,
+        part: u32,
+        offset: u64,
+    },
+    /// The inputs failed, or a log.
+    LogFault,
+    /// The disk failed.
+    DiskFault,
+    /// The output failed.
+    OutFault,
+    /// The checkpoint is of another query, with this text.
+    OtherQuery { kept: Text },
+    /// The checkpoint has another number of partitions than is asked for.
+    OtherPartitions { kept: u32, asked: u32 },
+    /// A stream has another number of parts than it had, or than can be run yet.
+    OtherParts {
+        stream: Text,
+        kept: u32,
+        found: u32,
+    },
+    /// A part has fewer lines than the plans have logged.
+    LogShort {
+        stream: Text,
+        part: u32,
+        logged: u64,
+        found: u64,
+    },
+    /// The first file of the checkpoint that is absent, too many, not canonical or against the files before it.
+    Damaged { name: Name },
+    /// Memory ran out.
+    NoMemory,
+    /// A part has more than 1,099,511,627,776 lines.
+    FullLines {
+        stream: Text,
+        part: u32,
+        lines: u64,
+    },
+    /// An epoch is to be planned, and 4,294,967,295 are.
+    FullEpochs,
+}
+
+impl Stop {
+    /// The program's status where it stops so.
+    pub fn status(&self) -> u8
+        ensures { result ≡ status_of self.now }
+    {
+        match self {
+            Stop::Usage => 2,
+            Stop::Query => 3,
+            Stop::BadLine { .. } => 4,
+            Stop::Overflow { .. } => 5,
+            Stop::LogFault => 6,
+            Stop::DiskFault => 7,
+            Stop::OutFault => 8,
+            Stop::OtherQuery { .. } => 9,
+            Stop::OtherPartitions { .. } => 9,
+            Stop::OtherParts { .. } => 9,
+            Stop::LogShort { .. } => 9,
+            Stop::Damaged { .. } => 9,
+            Stop::NoMemory => 10,
+            Stop::FullLines { .. } => 11,
+            Stop::FullEpochs => 11,
+        }
+    }
+}
+
+/// Shown as the line that tells it, without the line's end.
+impl fmt::Display for Stop {
+    ghost use Rattle.std.specs.Prelude.{Some};
+    ghost use Rattle.ssq_run.specs.Lines.{stop_text};
+
+    ghost output = { λ stop. Some (stop_text stop) };
+
+    fn fmt<W: fmt::Write>(&self, f: &mut fmt::Formatter<W>) -> fmt::Result {
+        match self {
+            Stop::Usage => write!(f, "stopped 2 Usage"),
+            Stop::Query => write!(f, "stopped 3 NotYet Query"),
+            Stop::BadLine {
+                stream,
+                part,
+                offset,
+                wrong,
+            } => write!(f, "stopped 4 BadLine {} {part} {offset} {wrong}", stream.as_str()),
+            Stop::Overflow {
+                stream,
+                part,
+                offset,
+            } => write!(f, "stopped 5 Overflow {} {part} {offset}", stream.as_str()),
+            Stop::LogFault => write!(f, "stopped 6 LogFault"),
+            Stop::DiskFault => write!(f, "stopped 7 DiskFault"),
+            Stop::OutFault => write!(f, "stopped 8 OutFault"),
+            Stop::OtherQuery { kept } => write!(f, "stopped 9 OtherQuery {}", kept.as_str()),
+            Stop::OtherPartitions { kept, asked } => {
+                write!(f, "stopped 9 OtherPartitions {kept} {asked}")
+            }
+            Stop::OtherParts {
+                stream,
+                kept,
+                found,
+            } => write!(f, "stopped 9 OtherParts {} {kept} {found}", stream.as_str()),
+            Stop::LogShort {
+                stream,
+                part,
+                logged,
+                found,
+            } => write!(f, "stopped 9 LogShort {} {part} {logged} {found}", stream.as_str()),
+            Stop::Damaged { name } => write!(f, "stopped 9 Damaged {}", NameText(*name)),
+            Stop::NoMemory => write!(f, "stopped 10 NoMemory"),
+            Stop::FullLines {
+                stream,
+                part,
+                lines,
+            } => write!(f, "stopped 11 Full lines {} {part} {lines}", stream.as_str()),
+            Stop::FullEpochs => write!(f, "stopped 11 Full epochs"),
+        }
+    }
+}
+
+impl From<AskError> for Stop {
     ghost use Rattle.std.specs.Prelude.{◌≡◌};
-    ghost use Rattle.ssq_run.specs.Stopping.{stop_of_disk};
+    ghost use Rattle.ssq_run.specs.Stopping.{stop_of_ask};
 
-    ghost from_gives = { λ error stop. stop ≡ stop_of_disk error };
+    ghost from_gives = { λ error stop. stop ≡ stop_of_ask error };
 
-    fn from(error: DiskError) -> Stop {
+    fn from(error: AskError) -> Stop {
         match error {
-            DiskError::Fault => Stop::DiskFault,
-            DiskError::NoMemory => Stop::NoMemory,
+            AskError::Usage => Stop::Usage,
+            AskError::NoMemory => Stop::NoMemory,
         }
     }
 }
@@ -83,17 +225,6 @@ impl From<AllocError> for Stop {
     ghost from_gives = { λ _ stop. stop ≡ NoMemory };
 
     fn from(_: AllocError) -> Stop {
-        Stop::NoMemory
-    }
-}
-
-impl<T: Drop> From<AllocFailed<T>> for Stop {
-    ghost use Rattle.std.specs.Prelude.{◌≡◌};
-    ghost use Rattle.ssq_run.specs.declared.stop.Stop.TheVariants.{NoMemory};
-
-    ghost from_gives = { λ _ stop. stop ≡ NoMemory };
-
-    fn from(_: AllocFailed<T>) -> Stop {
         Stop::NoMemory
     }
 }

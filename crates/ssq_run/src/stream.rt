@@ -1,19 +1,22 @@
 //! The top call.
 
-ghost use Rattle.std.specs.Prelude.{◌≡◌, ◌≤◌, ◌⊎◌, ℕ, List, [], Some, None, Option, map, string_bytes, OnOk, IfErr};
+ghost use Rattle.std.specs.Prelude.{◌≡◌, ◌≤◌, ◌⊎◌, ℕ, List, [], Some, None, map, string_bytes, IfErr, OnOk, IsSome};
+ghost use Rattle.std.specs.Option.{ForSome};
 ghost use Rattle.ssq_outside.specs.Faults.{Rises};
-ghost use Rattle.ssq_outside.specs.Logs.{Held};
-ghost use Rattle.ssq_run.specs.Program.{ProgramEnd, ProgramWrote, WordsCause};
-ghost use Rattle.ssq_run.specs.Stopping.{LogRises, DiskRises};
-ghost use Rattle.ssq_run.specs.Words.{IsAsked};
+ghost use Rattle.ssq_words.specs.Asking.{asks_run, asked};
+ghost use Rattle.ssq_run.specs.Program.{Given, ProgramEnd, ProgramWrote};
+ghost use Rattle.ssq_run.specs.Stopping.{stop_in, LogRises, DiskRises, OutRises, WordsCause, IsPastWords};
 
-use crate::prepare::{prepared, read_file};
-use crate::source::run_source;
+use crate::prepare::read_file;
+use crate::run::run_source;
+use crate::status::status;
 use crate::stop::Stop;
 use crate::tell::tell;
-use crate::words::ask;
+use ssq_job::Ask;
 use ssq_outside::{Disk, Gate, Inputs, Output};
-use ssq_query::text;
+use ssq_query::bind;
+use ssq_round::Prepared;
+use ssq_words::{Command, ask};
 use std::alloc::Global;
 use std::sync::Wait;
 use std::thread::Threads;
@@ -28,43 +31,82 @@ pub struct Ended<D: Disk, I: Inputs, O: Output> {
     pub out: O,
 }
 
-/// Does what the words ask for, and gathers what there is to tell.
-fn work<D: Disk, I: Inputs>(
+/// Runs the query of a file.
+fn run_file<D: Disk, I: Inputs, O: Output>(
+    alloc: Global,
+    disk: &mut D,
+    inputs: &mut I,
+    out: &mut O,
+    file: &str,
+    ask: Ask,
+    told: &mut String,
+) -> Result<(), Stop>
+    requires some { ForSome ask.most (λ most. 1 ≤ most) }
+    requires rounds { 1 ≤ ask.rounds }
+    requires untold { string_bytes told.old ≡ [] }
+    ensures end { D.tells → I.tells → (given : Given) → given.held ≡ I.held inputs.old → given.shown ≡ I.shown inputs.old →
+        asked given.words ≡ Some (asks_run file.now ask.most ask.rounds) →
+        ProgramEnd given (D.history disk.old) (D.history disk.new) O.tells (O.content out.old) (O.content out.new) (string_bytes told.new) (stop_in result) }
+    ensures only { IfErr result IsPastWords }
+    ensures out_counted { O.faults out.old ≤ O.faults out.new }
+    ensures inputs_cause { IfErr result (LogRises (I.faults inputs.old) (I.faults inputs.new)) }
+    ensures disk_cause { IfErr result (DiskRises (D.faults disk.old) (D.faults disk.new)) }
+    ensures out_cause { IfErr result (OutRises (O.faults out.old) (O.faults out.new)) }
+{
+    let query = read_file(alloc, inputs, file)?;
+    let bound = bind(alloc, &query)?;
+    let prepared = Prepared::new(alloc, bound)?;
+    run_source(alloc, disk, inputs, out, query, &prepared, ask, told)
+}
+
+/// Does what the words ask for. What is left to be written is put into `told`.
+fn work<D: Disk, I: Inputs, O: Output>(
     alloc: Global,
     words: &[String],
     disk: &mut D,
     inputs: &mut I,
+    out: &mut O,
     told: &mut String,
 ) -> Result<(), Stop>
-    ensures done { D.tells → I.tells → OnOk result (ProgramEnd
+    requires untold { string_bytes told.old ≡ [] }
+    ensures end { D.tells → I.tells → ProgramEnd
         (record { words = map string_bytes words.now; held = I.held inputs.old; shown = I.shown inputs.old })
-        (D.history disk.old) (D.history disk.new) (string_bytes told.old) (string_bytes told.new) None) }
-    ensures stop { D.tells → I.tells → IfErr result (λ stop. ProgramEnd
-        (record { words = map string_bytes words.now; held = I.held inputs.old; shown = I.shown inputs.old })
-        (D.history disk.old) (D.history disk.new) (string_bytes told.old) (string_bytes told.new) (Some stop)) }
+        (D.history disk.old) (D.history disk.new) O.tells (O.content out.old) (O.content out.new) (string_bytes told.new) (stop_in result) }
     ensures words { IfErr result (WordsCause (map string_bytes words.now)) }
-    ensures taken { OnOk result ((file : List ℕ) × (most : Option ℕ) × IsAsked (map string_bytes words.now) file most) }
-    ensures inputs_cause { IfErr result (λ stop. LogRises stop (I.faults inputs.old) (I.faults inputs.new)) }
-    ensures disk_cause { IfErr result (λ stop. DiskRises stop (D.faults disk.old) (D.faults disk.new)) }
+    ensures taken { OnOk result (IsSome (asked (map string_bytes words.now))) }
+    ensures out_counted { O.faults out.old ≤ O.faults out.new }
+    ensures inputs_cause { IfErr result (LogRises (I.faults inputs.old) (I.faults inputs.new)) }
+    ensures disk_cause { IfErr result (DiskRises (D.faults disk.old) (D.faults disk.new)) }
+    ensures out_cause { IfErr result (OutRises (O.faults out.old) (O.faults out.new)) }
 {
-    let asked = match ask(words) {
-        Some(asked) => asked,
-        None => return Err(Stop::Usage),
-    };
-    let query = read_file(alloc, inputs, asked.file)?;
-    let prepared = prepared(alloc, query)?;
-    let text = text(alloc, &prepared.query)?;
-    run_source(alloc, disk, inputs, &prepared, text, asked.most, told)
+    match ask(alloc, words) {
+        Ok(Command::Run {
+            query,
+            most_lines,
+            rounds,
+        }) => {
+            let most = most_lines;
+            run_file(alloc, disk, inputs, out, query, Ask { most, rounds }, told)
+        }
+        Ok(Command::Status { query }) => {
+            let query = read_file(alloc, inputs, query)?;
+            *told = status(alloc, disk, query)?;
+            Ok(())
+        }
+        Err(error) => Err(Stop::from(error)),
+    }
 }
 
 /// Does all that the program does: what the words ask for, on this disk and these inputs, with what there is to say on this
 /// output. `words` begin with the program's name. The outside comes back with the program's status.
 ///
-/// `run QUERY [--max-lines N]` runs the query of the file QUERY over the log of its one part, in epochs of at most N lines, into a
-/// checkpoint that is empty. When that is done it writes one line for each epoch, and then how many there are. A refusal is
-/// one line, and its number is the status: 2, the words are none of these; 3, the file is no query that can be run yet; 4, the first
-/// line of the planned epoch that is bad or overflows; 9, what cannot be run yet; 6, 7 and 8, the inputs, the disk or the
-/// output failed; 10, memory ran out.
+/// `run QUERY [--max-lines N] [--rounds R]` runs the query of the file QUERY over the log of its one part, in R rounds, and in epochs of
+/// at most N lines, over a checkpoint that is empty or of this query. As a round ends it writes one line for each of its epochs,
+/// and at the end how many epochs there are. `status QUERY` says how far the checkpoint has come, and changes nothing.
+///
+/// A refusal is one line, and its number is the status: 2, the words are none of these; 3, the file is no query that can be run yet; 4
+/// and 5, the first line of the planned epoch that is bad or overflows; 6, 7 and 8, the inputs, the disk or the output failed; 9, the
+/// checkpoint is not of this query and these parts, is damaged, or its log has lost lines; 10, memory ran out; 11, a limit is met.
 pub fn stream_main<R: Threads + Wait + Sync, D: Disk, I: Inputs, O: Output, G: Gate>(
     _rt: &R,
     alloc: Global,
@@ -80,8 +122,8 @@ pub fn stream_main<R: Threads + Wait + Sync, D: Disk, I: Inputs, O: Output, G: G
         (D.history disk) (D.history result.disk) O.tells (O.content out) (O.content result.out) (O.faults out) (O.faults result.out) result.status }
 
     // The words are refused exactly where they are no command, unless memory runs out.
-    ensures usage { result.status ≡ 2 → (file : List ℕ) (most : Option ℕ) → IsAsked (map string_bytes words.now) file most → ⊥ }
-    ensures no_command { ((file : List ℕ) (most : Option ℕ) → IsAsked (map string_bytes words.now) file most → ⊥) → (result.status ≡ 2) ⊎ (result.status ≡ 10) }
+    ensures usage { result.status ≡ 2 → asked (map string_bytes words.now) ≡ None }
+    ensures no_command { asked (map string_bytes words.now) ≡ None → (result.status ≡ 2) ⊎ (result.status ≡ 10) }
 
     // A fault of the outside is answered only where it was counted.
     ensures inputs_fault { result.status ≡ 6 → Rises (I.faults inputs) (I.faults result.inputs) }
@@ -92,7 +134,7 @@ pub fn stream_main<R: Threads + Wait + Sync, D: Disk, I: Inputs, O: Output, G: G
     let mut inputs = inputs;
     let mut out = out;
     let mut told = String::new(alloc);
-    let end = work(alloc, words, &mut disk, &mut inputs, &mut told);
+    let end = work(alloc, words, &mut disk, &mut inputs, &mut out, &mut told);
     let status = tell(alloc, &mut out, told, end);
     Ended {
         status,

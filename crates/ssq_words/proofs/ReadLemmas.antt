@@ -1,10 +1,11 @@
 -- What the typed getters give of matches that are whole.
-use Rattle.std.proofs.Common.{◌≡◌, ◌∙◌, ◌<◌, ◌^◌, ℕ, ap, refl, arith, Option, Some, None, Result, Ok, Err}
-use Rattle.std.specs.Prelude.{option_map}
+use Rattle.std.proofs.Common.{◌≡◌, ◌∙◌, ◌<◌, ◌≤◌, ◌^◌, ℕ, List, ap, refl, arith, Option, Some, None, Result, Ok, Err}
+use Rattle.std.specs.Prelude.{option_map, unwrap_or, IfSome}
+use Rattle.std.specs.Option.{ForSome}
 use Rattle.std.specs.Str.Parse.{ParsesUnsigned}
 use Rattle.clap.specs.Values.{IsUnsignedIn}
 use Rattle.clap.specs.Walk.{rows_of}
-use Rattle.clap.specs.Words.{Text, ReadsOne, first_of, one_text}
+use Rattle.clap.specs.Words.{Row, Text, ReadsOne, first_of, one_text}
 use Rattle.clap.specs.declared.parser.matches.Found.{Found}
 use Rattle.clap.proofs.WalkLemmas.{one_text-rows}
 use Rattle.ssq_words.specs.Asking.{number_given, number_of}
@@ -25,3 +26,21 @@ number_read G k low high fits only f id r has absent read = go (first_of id (row
     go : (o : Option Text) → first_of id (rows_of f) ≡ o → r ≡ option_map number_of o
     go None e = absent (one_text-rows f id ∙ has.written ∙ e)
     go (Some t) e = number_in G k low high fits only t r (read t (one_text-rows f id ∙ has.written ∙ e)) (rw e at has.number)
+
+some_same : (a b : ℕ) → Some a ≡ Some b → a ≡ b
+some_same a b e = cc
+
+none_some : (b : ℕ) → None ≡ Some b → ⊥
+none_some b e = cc
+
+-- and it is in these bounds
+pub number_bounded : (low high : ℕ) (id : Text) (rows : List Row) → HasNumberIn low high id rows → ForSome (number_given id rows) (λ n. (low ≤ n) × (n ≤ high))
+number_bounded low high id rows has = go (first_of id rows) has.number
+  where
+    go : (o : Option Text) → IfSome o (IsUnsignedIn low high) → ForSome (option_map number_of o) (λ n. (low ≤ n) × (n ≤ high))
+    go None passed = λ n e. absurd (none_some n e)
+    go (Some t) passed = λ n e. let same : number_of t ≡ n = some_same (number_of t) n e in (omega (arith, passed.2, same), omega (arith, passed.3, same))
+
+pub bounded_or_one : (o : Option ℕ) (high : ℕ) → 1 ≤ high → ForSome o (λ n. (1 ≤ n) × (n ≤ high)) → (1 ≤ unwrap_or o 1) × (unwrap_or o 1 ≤ high)
+bounded_or_one None high some bounded = (omega arith, some)
+bounded_or_one (Some n) high some bounded = bounded n refl

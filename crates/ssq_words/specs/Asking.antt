@@ -1,5 +1,6 @@
 -- What the words ask for, by clap's reading of the program's one command.
-use Rattle.std.specs.Prelude.{◌≡◌, ℕ, ⊤, List, Option, None, codes, if◌then◌else◌, option_map, option_and_then, unwrap_or}
+use Rattle.std.specs.Prelude.{◌≡◌, ◌≤◌, ℕ, ⊤, List, Option, None, codes, if◌then◌else◌, option_map, option_and_then, unwrap_or}
+use Rattle.std.specs.Option.{ForSome}
 use Rattle.std.specs.Str.{bytes_eq}
 use Rattle.std.specs.Str.Parse.{digits_value, without_leading_plus}
 use Rattle.clap.specs.Walk.{is_empty}
@@ -48,6 +49,11 @@ unfoldable pub asked : List Text → Option Asked
 asked words =
     if is_empty (fault_of program words) then option_and_then (λ p. subcommand_asked p.0 p.1) (subcommand_of program words)
     else None
+
+-- the numbers of a command are in the ranges that the program takes
+abbrev pub IsInRange : Command → Type 0
+IsInRange (Run query most_lines rounds) = ForSome most_lines (λ most. (1 ≤ most) × (most ≤ 1099511627776)) × ((1 ≤ rounds) × (rounds ≤ 1000000))
+IsInRange (Status query) = ⊤
 
 -- why words are refused: they are no command; memory may run out at any time
 abbrev pub IsCause : List Text → AskError → Type 0

@@ -6,7 +6,7 @@
 
 ghost use Rattle.std.specs.Prelude.{◌≡◌, IfErr, IfOk, Some, [], true, is_some, map, string_bytes};
 ghost use Rattle.clap.specs.Words.{fault_of};
-ghost use Rattle.ssq_words.specs.Asking.{IsCause, asked, asked_of};
+ghost use Rattle.ssq_words.specs.Asking.{IsCause, IsInRange, asked, asked_of};
 ghost use Rattle.ssq_words.specs.Program.{program};
 
 mod error;
@@ -48,6 +48,7 @@ pub enum Command<'a> {
 #[tactic(auto, using(crate::proofs::TakenLemmas::free_asks))]
 pub fn ask<'a>(alloc: Global, words: &'a [String]) -> Result<Command<'a>, AskError>
     ensures taken { IfOk result (λ command. asked (map string_bytes words.entry.now) ≡ Some (asked_of command)) }
+    ensures in_range { IfOk result IsInRange }
     ensures refused { IfErr result (IsCause (map string_bytes words.entry.now)) }
 
     // Words in which clap finds no fault are always a command.

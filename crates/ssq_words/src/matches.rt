@@ -1,8 +1,9 @@
 //! What clap's matches ask for.
-ghost use Rattle.std.specs.Prelude.{◌≡◌, Some, codes, option_and_then, unwrap_or};
+ghost use Rattle.std.specs.Prelude.{◌≡◌, ◌≤◌, Some, codes, option_and_then, unwrap_or};
+ghost use Rattle.std.specs.Option.{ForSome};
 ghost use Rattle.clap.specs.Walk.{rows_of, first_of};
 ghost use Rattle.clap.specs.Words.{found_of, subcommand_rows_of};
-ghost use Rattle.ssq_words.specs.Asking.{number_given, run_asked, asked_of, status_asked, subcommand_asked};
+ghost use Rattle.ssq_words.specs.Asking.{number_given, run_asked, asked_of, status_asked, subcommand_asked, IsInRange};
 ghost use Rattle.ssq_words.specs.Reading.{HasNumberIn, HasQuery, IsRun, IsWhole};
 
 use crate::Command;
@@ -20,14 +21,16 @@ fn query<'a>(matches: &ArgMatches<'a>) -> &'a str
 
 fn most_lines(matches: &ArgMatches<'_>) -> Option<u64>
     requires { HasNumberIn 1 1099511627776 (codes "max-lines") (rows_of (found_of matches.now)) }
-    ensures { result ≡ number_given (codes "max-lines") (rows_of (found_of matches.now)) }
+    ensures given { result ≡ number_given (codes "max-lines") (rows_of (found_of matches.now)) }
+    ensures in_range { ForSome result (λ most. (1 ≤ most) × (most ≤ 1099511627776)) }
 {
     matches.get_one::<u64>("max-lines")
 }
 
 fn rounds(matches: &ArgMatches<'_>) -> u32
     requires { HasNumberIn 1 1000000 (codes "rounds") (rows_of (found_of matches.now)) }
-    ensures { result ≡ unwrap_or (number_given (codes "rounds") (rows_of (found_of matches.now))) 1 }
+    ensures given { result ≡ unwrap_or (number_given (codes "rounds") (rows_of (found_of matches.now))) 1 }
+    ensures in_range { (1 ≤ result) × (result ≤ 1000000) }
 {
     matches.get_one::<u32>("rounds").unwrap_or(ROUNDS)
 }
@@ -35,7 +38,8 @@ fn rounds(matches: &ArgMatches<'_>) -> u32
 #[tactic(auto, unfolding(crate::specs::Asking::run_asked))]
 fn run_of<'a>(matches: &ArgMatches<'a>) -> Command<'a>
     requires { IsRun (rows_of (found_of matches.now)) }
-    ensures { run_asked (rows_of (found_of matches.now)) ≡ Some (asked_of result) }
+    ensures asked { run_asked (rows_of (found_of matches.now)) ≡ Some (asked_of result) }
+    ensures in_range { IsInRange result }
 {
     let query = query(matches);
     let most_lines = most_lines(matches);
@@ -50,7 +54,8 @@ fn run_of<'a>(matches: &ArgMatches<'a>) -> Command<'a>
 #[tactic(auto, unfolding(crate::specs::Asking::status_asked))]
 fn status_of<'a>(matches: &ArgMatches<'a>) -> Command<'a>
     requires { HasQuery (rows_of (found_of matches.now)) }
-    ensures { status_asked (rows_of (found_of matches.now)) ≡ Some (asked_of result) }
+    ensures asked { status_asked (rows_of (found_of matches.now)) ≡ Some (asked_of result) }
+    ensures in_range { IsInRange result }
 {
     let query = query(matches);
     Command::Status { query }
@@ -68,7 +73,8 @@ fn met<'m, 'a>(matches: &'m ArgMatches<'a>) -> (&'a str, &'m ArgMatches<'a>)
 #[tactic(auto, unfolding(crate::specs::Asking::subcommand_asked))]
 pub(crate) fn command_of<'a>(matches: &ArgMatches<'a>) -> Command<'a>
     requires { IsWhole (subcommand_rows_of matches.now) }
-    ensures { option_and_then (λ p. subcommand_asked p.0 p.1) (subcommand_rows_of matches.now) ≡ Some (asked_of result) }
+    ensures asked { option_and_then (λ p. subcommand_asked p.0 p.1) (subcommand_rows_of matches.now) ≡ Some (asked_of result) }
+    ensures in_range { IsInRange result }
 {
     let (name, inner) = met(matches);
     match name {

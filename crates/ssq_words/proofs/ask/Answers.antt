@@ -24,7 +24,7 @@ returns-in-Ok-clause-taken c =
     let free = c.in-Ok.ensures.kinds (ap is_simple_and_free is ∙ program_is_free) in
     let same : subcommand_rows_of c.in-Ok.matches ≡ subcommand_of program words =
     (c.in-Ok.ensures.matches (ap is_simple is ∙ program_is_simple)).1 ∙ ap (λ (a : App). subcommand_of a words) is in
-    asked_free words (ap (λ (a : App). fault_of a words) (sym is) ∙ free) ∙ ap (option_and_then (λ p. subcommand_asked p.0 p.1)) (sym same) ∙ c.command_of.ensures
+    asked_free words (ap (λ (a : App). fault_of a words) (sym is) ∙ free) ∙ ap (option_and_then (λ p. subcommand_asked p.0 p.1)) (sym same) ∙ c.command_of.ensures.asked
 
 pub returns-in-Err-clause-refused : goal.returns-in-Err-clause-refused
 returns-in-Err-clause-refused c =

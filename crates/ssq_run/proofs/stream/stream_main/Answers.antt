@@ -1,13 +1,29 @@
-use Rattle.std.proofs.Common.{string_bytes}
-use Rattle.ssq_run.specs.Program.{stop_in}
-use Rattle.ssq_run.proofs.Passing.{ends_so}
+use Rattle.std.proofs.Common.{List, ℕ, map, string_bytes}
+use Rattle.ssq_run.specs.Stopping.{stop_in}
+use Rattle.ssq_run.proofs.Telling.{status_since, wrote_since, usage_told, no_command_told, log_told, disk_told, out_told}
 use Rattle.ssq_run.proofs.stream.stream_main.Goals as goal
 
 pub returns-clause-ending : goal.returns-clause-ending
 returns-clause-ending g c = λ tells told. record {
   stop = stop_in c.work-end.result;
+  written = g.O.Output.content c.work-end.new.out;
   told = string_bytes c.work-end.new.told;
-  end = ends_so _ _ _ _ _ c.work-end.result c.new-told.ensures.bytes (c.work-end.ensures.done tells told) (c.work-end.ensures.stop tells told);
-  answer = c.tell-status.ensures.status;
-  wrote = c.tell-status.ensures.wrote;
+  end = c.work-end.ensures.end tells told;
+  answer = status_since _ _ _ _ _ c.work-end.ensures.out_counted c.tell-status.ensures.status;
+  wrote = λ out_tells. wrote_since _ _ _ _ _ _ _ _ c.work-end.ensures.out_counted (c.tell-status.ensures.wrote out_tells);
 }
+
+pub returns-clause-usage : goal.returns-clause-usage
+returns-clause-usage g c = usage_told (map string_bytes c.args.words.now) c.work-end.result _ _ _ c.work-end.ensures.words c.tell-status.ensures.status
+
+pub returns-clause-no_command : goal.returns-clause-no_command
+returns-clause-no_command g c = λ none. no_command_told (map string_bytes c.args.words.now) c.work-end.result _ _ _ none c.work-end.ensures.taken c.work-end.ensures.words c.tell-status.ensures.status
+
+pub returns-clause-inputs_fault : goal.returns-clause-inputs_fault
+returns-clause-inputs_fault g c = log_told c.work-end.result _ _ _ _ _ c.work-end.ensures.inputs_cause c.tell-status.ensures.status
+
+pub returns-clause-disk_fault : goal.returns-clause-disk_fault
+returns-clause-disk_fault g c = disk_told c.work-end.result _ _ _ _ _ c.work-end.ensures.disk_cause c.tell-status.ensures.status
+
+pub returns-clause-out_fault : goal.returns-clause-out_fault
+returns-clause-out_fault g c = out_told c.work-end.result _ _ _ _ c.work-end.ensures.out_cause c.work-end.ensures.out_counted c.tell-status.ensures.counted c.tell-status.ensures.status

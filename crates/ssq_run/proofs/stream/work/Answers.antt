@@ -1,43 +1,63 @@
-use Rattle.std.proofs.Common.{map, string_bytes}
+use Rattle.std.proofs.Common.{◌∙◌, Some, map, string_bytes, refl, ap, subst}
 use Rattle.std.proofs.lemmas.Result.{err_from_is_err_and}
+use Rattle.ssq_words.specs.declared.Command.{Command}
+use Rattle.ssq_words.specs.Asking.{asks_status, asked_of, IsInRange}
 use Rattle.ssq_run.specs.Program.{Given}
-use Rattle.ssq_run.proofs.Passing.{on_ok, if_err, not_read, not_prepared, words_taken, run_past_words, ran_query}
+use Rattle.ssq_run.proofs.Passing.{not_read, was_looked, was_denied}
 use Rattle.ssq_run.proofs.stream.work.Goals as goal
 
-pub returns-in_err-query-clause-stop : goal.returns-in_err-query-clause-stop
-returns-in_err-query-clause-stop g c = λ tells told.
+pub run_file-requires-clause-some : goal.run_file-requires-clause-some
+run_file-requires-clause-some g c = λ κs lives most is.
+    let R : Command → Type 0 = IsInRange in
+    let range = subst R c.in-Ok-Run.field-0-is c.in-Ok-Run.ensures.in_range in
+    (range.0 most is).0
+
+pub run_file-requires-clause-rounds : goal.run_file-requires-clause-rounds
+run_file-requires-clause-rounds g c = λ κs lives.
+    let R : Command → Type 0 = IsInRange in
+    let range = subst R c.in-Ok-Run.field-0-is c.in-Ok-Run.ensures.in_range in
+    range.1.0
+
+pub returns-in_err-query-in-Ok-Status-clause-end : goal.returns-in_err-query-in-Ok-Status-clause-end
+returns-in_err-query-in-Ok-Status-clause-end g c = λ tells told.
     let given : Given = record { words = map string_bytes c.args.words.now; held = g.I.Inputs.held c.args.inputs.now; shown = g.I.Inputs.shown c.args.inputs.now } in
     let p = err_from_is_err_and c.from_residual.result c.from_residual.ensures.1 in
-    rw (p.1, p.2) (not_read given _ _ _ _ _ c.in-Some.ensures.taken (c.in_err-query.ensures.stop told))
+    rw (p.1, p.2) (not_read given _ _ _ _ (asks_status c.in-Ok-Status.query.now) _ (c.in-Ok-Status.ensures.taken ∙ ap (λ command. Some (asked_of command)) c.in-Ok-Status.field-0-is) c.requires.untold (c.in_err-query-in-Ok-Status.ensures.stop told))
 
-pub returns-in_err-query-clause-words : goal.returns-in_err-query-clause-words
-returns-in_err-query-clause-words g c =
+pub returns-in_err-query-in-Ok-Status-clause-disk_cause : goal.returns-in_err-query-in-Ok-Status-clause-disk_cause
+returns-in_err-query-in-Ok-Status-clause-disk_cause g c =
     let p = err_from_is_err_and c.from_residual.result c.from_residual.ensures.1 in
-    rw (p.1, p.2) (words_taken _ _ _ _ c.in-Some.ensures.taken c.in_err-query.ensures.only)
+    rw (p.1, p.2) (c.in_err-query-in-Ok-Status.ensures.not_the_disk _ _)
 
-pub returns-in_err-prepared-clause-stop : goal.returns-in_err-prepared-clause-stop
-returns-in_err-prepared-clause-stop g c = λ tells told.
+pub returns-in_err-query-in-Ok-Status-clause-out_cause : goal.returns-in_err-query-in-Ok-Status-clause-out_cause
+returns-in_err-query-in-Ok-Status-clause-out_cause g c =
+    let p = err_from_is_err_and c.from_residual.result c.from_residual.ensures.1 in
+    rw (p.1, p.2) (c.in_err-query-in-Ok-Status.ensures.not_the_output _ _)
+
+pub returns-in_err-told-in-Ok-Status-clause-end : goal.returns-in_err-told-in-Ok-Status-clause-end
+returns-in_err-told-in-Ok-Status-clause-end g c = λ tells told.
     let given : Given = record { words = map string_bytes c.args.words.now; held = g.I.Inputs.held c.args.inputs.now; shown = g.I.Inputs.shown c.args.inputs.now } in
-    let p = err_from_is_err_and c.from_residual-in_err-prepared.result c.from_residual-in_err-prepared.ensures.1 in
-    rw (p.1, p.2) (not_prepared given _ _ _ _ c.in-Some.ensures.taken)
+    let p = err_from_is_err_and c.from_residual-in_err-told-in-Ok-Status.result c.from_residual-in_err-told-in-Ok-Status.ensures.1 in
+    rw (p.1, p.2) (was_denied given _ c.in_ok-query-in-Ok-Status.query c.in-Ok-Status.query.now _ _ _ _ _ _ (c.in-Ok-Status.ensures.taken ∙ ap (λ command. Some (asked_of command)) c.in-Ok-Status.field-0-is) refl
+    (c.in_ok-query-in-Ok-Status.ensures.written told) (c.status.ensures.same tells) c.requires.untold (c.in_err-told-in-Ok-Status.ensures.stop tells))
 
-pub returns-in_err-text-clause-stop : goal.returns-in_err-text-clause-stop
-returns-in_err-text-clause-stop g c = λ tells told.
+pub returns-in_err-told-in-Ok-Status-clause-inputs_cause : goal.returns-in_err-told-in-Ok-Status-clause-inputs_cause
+returns-in_err-told-in-Ok-Status-clause-inputs_cause g c =
+    let p = err_from_is_err_and c.from_residual-in_err-told-in-Ok-Status.result c.from_residual-in_err-told-in-Ok-Status.ensures.1 in
+    rw (p.1, p.2) (c.in_err-told-in-Ok-Status.ensures.not_the_inputs _ _)
+
+pub returns-in_err-told-in-Ok-Status-clause-out_cause : goal.returns-in_err-told-in-Ok-Status-clause-out_cause
+returns-in_err-told-in-Ok-Status-clause-out_cause g c =
+    let p = err_from_is_err_and c.from_residual-in_err-told-in-Ok-Status.result c.from_residual-in_err-told-in-Ok-Status.ensures.1 in
+    rw (p.1, p.2) (c.in_err-told-in-Ok-Status.ensures.not_the_output _ _)
+
+pub returns-in-Ok-Run-clause-end : goal.returns-in-Ok-Run-clause-end
+returns-in-Ok-Run-clause-end g c = λ tells told.
     let given : Given = record { words = map string_bytes c.args.words.now; held = g.I.Inputs.held c.args.inputs.now; shown = g.I.Inputs.shown c.args.inputs.now } in
-    let p = err_from_is_err_and c.from_residual-in_err-text.result c.from_residual-in_err-text.ensures.1 in
-    rw (p.1, p.2) (not_prepared given _ _ _ _ c.in-Some.ensures.taken)
+    c.run_file.ensures.end tells told given refl refl (c.in-Ok-Run.ensures.taken ∙ ap (λ command. Some (asked_of command)) c.in-Ok-Run.field-0-is)
 
-pub returns-clause-done : goal.returns-clause-done
-returns-clause-done g c = λ tells told.
+pub returns-in_ok-told-in-Ok-Status-clause-end : goal.returns-in_ok-told-in-Ok-Status-clause-end
+returns-in_ok-told-in-Ok-Status-clause-end g c = λ tells told.
     let given : Given = record { words = map string_bytes c.args.words.now; held = g.I.Inputs.held c.args.inputs.now; shown = g.I.Inputs.shown c.args.inputs.now } in
-    on_ok c.run_source.result (c.run_source.ensures.done tells told) (λ end.
-    ran_query given _ _ c.in_ok-query.query _ _ _ _ _ _ _ _ c.in-Some.ensures.taken (c.in_ok-query.ensures.written told) c.in_ok-prepared.ensures.query (c.read_file.ensures.same told) (c.read_file.ensures.grown told) end)
-
-pub returns-clause-stop : goal.returns-clause-stop
-returns-clause-stop g c = λ tells told.
-    let given : Given = record { words = map string_bytes c.args.words.now; held = g.I.Inputs.held c.args.inputs.now; shown = g.I.Inputs.shown c.args.inputs.now } in
-    if_err c.run_source.result (c.run_source.ensures.stop tells told) (λ stop end.
-    ran_query given _ _ c.in_ok-query.query _ _ _ _ _ _ _ _ c.in-Some.ensures.taken (c.in_ok-query.ensures.written told) c.in_ok-prepared.ensures.query (c.read_file.ensures.same told) (c.read_file.ensures.grown told) end)
-
-pub returns-clause-words : goal.returns-clause-words
-returns-clause-words g c = if_err c.run_source.result c.run_source.ensures.only (λ stop is. words_taken _ _ _ stop c.in-Some.ensures.taken (run_past_words stop is))
+    was_looked given _ c.in_ok-query-in-Ok-Status.query c.in-Ok-Status.query.now _ _ _ _ _ _ (c.in-Ok-Status.ensures.taken ∙ ap (λ command. Some (asked_of command)) c.in-Ok-Status.field-0-is) refl
+    (c.in_ok-query-in-Ok-Status.ensures.written told) (c.status.ensures.same tells) (c.in_ok-told-in-Ok-Status.ensures.told tells)

@@ -1,6 +1,6 @@
 use Rattle.std.proofs.Common.{◌++◌, ◌∙◌, List, ℕ, Err, ap, take}
 use Rattle.ssq_run.proofs.Telling.{wrote_whole, wrote_cut, wrote_starved, wrote_done}
-use Rattle.ssq_run.specs.Program.{stop_in}
+use Rattle.ssq_run.specs.Stopping.{stop_in}
 use Rattle.ssq_run.proofs.tell.tell.Goals as goal
 
 pub returns-in-Ok-clause-wrote : goal.returns-in-Ok-clause-wrote
