@@ -2,3 +2,4 @@ pub mod Passing
 pub mod Telling
 pub mod PartLines
 pub mod LookLemmas
+pub mod Going

@@ -9,12 +9,12 @@ use Rattle.ssq_core.specs.Course.{Course, plan_of}
 use Rattle.ssq_core.specs.Standing.{Stands}
 use Rattle.ssq_open.specs.declared.fault.OpenFault.{OpenFault}
 use Rattle.ssq_open.specs.declared.wanted.Opened.{Opened}
-use Rattle.ssq_open.specs.Laws.{IsCourseOf, IsCourseFrom, IsOfCourse}
-use Rattle.ssq_open.specs.Looking.{begins, Holds, IsDenied}
+use Rattle.ssq_open.specs.Laws.{IsCourseOf, IsCourseFrom}
+use Rattle.ssq_open.specs.Looking.{begins, IsDenied}
 use Rattle.ssq_open.specs.Opening.{IsOutside}
 use Rattle.ssq_open.proofs.Looks.{not_denied}
 use Rattle.ssq_open.proofs.Standings.{standing_holds}
-use Rattle.ssq_round.specs.Standing.{Job, course_of}
+use Rattle.ssq_round.specs.Standing.{course_of}
 use Rattle.ssq_job.specs.Entry.{Entry, StandsAt, IsEmptyOrStands, sought_of}
 use Rattle.ssq_job.proofs.Entries.{course_wanted}
 use Rattle.ssq_run.specs.Queries.{text_of, job_of}
@@ -48,6 +48,6 @@ stands_denied query lines files why utf8 few denied (inr stood) =
     let course : Course = course_of (job_of query lines) entry.cuts in
     let end : ℕ = entry.cuts entry.planned in
     let wanted : IsCourseOf (sought_of (text_of query) end) course entry.planned =
-        course_wanted (job_of query lines) entry.cuts entry.planned entry.committed stands.written end utf8 few stands.standing stands.small (omega arith) in
+    course_wanted (job_of query lines) entry.cuts entry.planned entry.committed stands.written end utf8 few stands.standing stands.small (omega arith) in
     let there : Stands course files = record { planned = entry.planned; committed = entry.committed; written = stands.written; reached = stands.standing.reached; exactly = stands.exactly } in
     held_is_not_denied (text_of query) course files there why refl refl (course_begins (text_of query) end course entry.planned wanted) denied (cases_lt entry.committed entry.planned)

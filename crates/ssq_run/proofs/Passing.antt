@@ -1,6 +1,6 @@
 -- What is passed on to the call above.
 use Rattle.std.proofs.Common.{◌≡◌, ◌≢◌, ◌≤◌, ◌∙◌, ℕ, List, [], Option, Some, None, Result, Ok, Err, refl, sym, ap, subst, inl, inr, arith, min}
-use Rattle.std.specs.Prelude.{OnOk, IfOk, IfErr, IsSome}
+use Rattle.std.specs.Prelude.{OnOk, IfErr, IsSome}
 use Rattle.ssq_outside.specs.History.{History, files_now}
 use Rattle.ssq_outside.specs.Logs.{Held, Line}
 use Rattle.ssq_outside.specs.declared.inputs.InputError.{InputError}
@@ -9,15 +9,15 @@ use Rattle.ssq_query.specs.declared.query.Query.{Query as Asking}
 use Rattle.ssq_query.specs.Binding.{bound_of}
 use Rattle.ssq_shape.specs.declared.bound.Bound.{Bound}
 use Rattle.ssq_words.specs.Asking.{Asked, asks_run, asks_status, asked}
-use Rattle.ssq_round.specs.Standing.{Job, IsJobOf}
+use Rattle.ssq_round.specs.Standing.{IsJobOf}
 use Rattle.ssq_job.specs.declared.fault.JobFault.{JobFault}
 use Rattle.ssq_job.specs.Ending.{JobEnd}
 use Rattle.ssq_job.specs.Entry.{Entry, Reads, AlwaysStands}
 use Rattle.ssq_job.specs.Faults.{IsNoRefusal}
 use Rattle.ssq_run.specs.declared.stop.Stop.{Stop}
 use Rattle.ssq_run.specs.declared.stop.Stop.TheVariants.{Usage, Query, LogFault, OtherParts, NoMemory}
-use Rattle.ssq_run.specs.Queries.{IsQueryAt, stream_of, source_of, text_of, job_of}
-use Rattle.ssq_run.specs.Stopping.{stop_of_input, stop_of_end, stop_in, ReadCause, WordsCause, IsPastWords}
+use Rattle.ssq_run.specs.Queries.{IsQueryAt, stream_of, source_of, job_of}
+use Rattle.ssq_run.specs.Stopping.{stop_of_input, stop_of_end, ReadCause, WordsCause, IsPastWords}
 use Rattle.ssq_run.specs.Looked.{LookEnd}
 use Rattle.ssq_run.specs.Program.{Given, IsIdle, IsOutside, GoesOn, SourceEnd, unstarted, not_one_part, ran, file_of, ProgramEnd, no_file, no_query, query_run, looked}
 

@@ -112,6 +112,6 @@ usage_only words _ none cause = absurd (no_words words none cause)
 pub no_command_told : {T : Type 0} (words : List (List ℕ)) (r : Result T Stop) (before now status : ℕ) → asked words ≡ None → OnOk r (IsSome (asked words)) → IfErr r (WordsCause words)
     → IsStatus (stop_in r) before now status → (status ≡ 2) ⊎ (status ≡ 10)
 no_command_told words (Ok done) before now status none taken cause answer = absurd (no_words words none taken)
-no_command_told words (Err stop) before now status none taken cause (inl is) = elim (usage_only words stop none cause) [ | inl two ↦ inl (is ∙ two) | inr ten ↦ inr (is ∙ ten) ]
+no_command_told words (Err stop) before now status none taken cause (inl is) = elim (usage_only words stop none cause) [ inl two ↦ inl (is ∙ two) | inr ten ↦ inr (is ∙ ten) ]
 no_command_told words (Err stop) before now status none taken cause (inr (inl is)) = absurd (some_stop stop is.1)
 no_command_told words (Err stop) before now status none taken cause (inr (inr is)) = inr is

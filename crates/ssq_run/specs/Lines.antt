@@ -1,5 +1,5 @@
 -- The lines by which the program tells how it stopped, and how far a checkpoint has come.
-use Rattle.std.specs.Prelude.{ℕ, ◌+◌, ◌++◌, List, [], Option, Some, None, codes, decimal}
+use Rattle.std.specs.Prelude.{ℕ, ◌+◌, ◌++◌, List, Option, Some, None, codes, decimal}
 use Rattle.ssq_plans.specs.Names.{text_of}
 use Rattle.ssq_plans.specs.Records.{lines, part_line}
 use Rattle.ssq_plans.specs.declared.plan.Plan.{Plan}

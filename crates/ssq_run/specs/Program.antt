@@ -1,6 +1,7 @@
 -- How the program ends: the refusals in their order, and what is told and left.
-use Rattle.std.specs.Prelude.{◌≡◌, ◌≢◌, ◌⊎◌, ◌≤◌, ◌++◌, ℕ, List, [], take, min, Option, Some, None, codes, ⊤}
+use Rattle.std.specs.Prelude.{◌≡◌, ◌≢◌, ◌⊎◌, ◌≤◌, ◌++◌, ℕ, List, [], take, min, Option, Some, None, ⊤}
 use Rattle.ssq_outside.specs.Faults.{Rises}
+use Rattle.ssq_outside.specs.Files.{Files}
 use Rattle.ssq_outside.specs.History.{History, files_now}
 use Rattle.ssq_outside.specs.Logs.{Held}
 use Rattle.ssq_query.specs.declared.query.Query.{Query as Asking}
@@ -10,7 +11,7 @@ use Rattle.ssq_job.specs.Ending.{JobEnd}
 use Rattle.ssq_job.specs.Entry.{Entry, Reads, AlwaysStands}
 use Rattle.ssq_job.specs.Faults.{IsNoRefusal}
 use Rattle.ssq_run.specs.declared.stop.Stop.{Stop}
-use Rattle.ssq_run.specs.declared.stop.Stop.TheVariants.{Usage, Query, BadLine, Overflow, LogFault, DiskFault, OutFault, OtherQuery, OtherPartitions, OtherParts, LogShort, Damaged, NoMemory, FullLines, FullEpochs}
+use Rattle.ssq_run.specs.declared.stop.Stop.TheVariants.{Usage, Query, LogFault, OutFault, OtherParts, NoMemory}
 use Rattle.ssq_run.specs.Queries.{IsQueryAt, IsNoQueryAt, stream_of, source_of, job_of}
 use Rattle.ssq_run.specs.Stopping.{stop_of_end, status_in}
 use Rattle.ssq_run.specs.Lines.{stop_line}
@@ -69,6 +70,20 @@ pub data ProgramEnd (given : Given) (start now : History) (OutTells : Type 0) (o
       → SourceEnd given.held given.shown query most rounds start now OutTells old written told stop → ProgramEnd given start now OutTells old written told stop
   looked : (file : List ℕ) (query : Asking) → asked given.words ≡ Some (asks_status file) → IsQueryAt given.held file query
       → now ≡ start → written ≡ old → LookEnd query (files_now start) told stop → ProgramEnd given start now OutTells old written told stop
+
+-- The words ask for the run of a query over its one part; the files stand for that job, or no file is there; and at least as many
+-- lines of the log are known to be there as are planned.
+pub record CanGoOn (given : Given) (files : Files) : Type 0 where
+  pub file : List ℕ
+  pub most : Option ℕ
+  pub rounds : ℕ
+  pub query : Asking
+  pub entry : Entry
+  pub asks : asked given.words ≡ Some (asks_run file most rounds)
+  pub is : IsQueryAt given.held file query
+  pub one_part : given.held.parts (source_of query) ≡ 1
+  pub reads : Reads (job_of query (given.held.lines (source_of query) 0)) entry files
+  pub long : entry.cuts entry.planned ≤ given.shown (source_of query) 0
 
 -- what stands behind what was told
 abbrev pub line_in : Option Stop → List ℕ

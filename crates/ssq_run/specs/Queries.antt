@@ -1,5 +1,5 @@
 -- What is said of queries: how a file is written as one, the names in it, and the job that it is over a log.
-use Rattle.std.specs.Prelude.{◌≡◌, ℕ, List, [], take, slice_index_or, IsTrue}
+use Rattle.std.specs.Prelude.{ℕ, List, [], take, slice_index_or}
 use Rattle.ssq_outside.specs.Logs.{Held, Line}
 use Rattle.ssq_query.specs.declared.query.Query.{Query}
 use Rattle.ssq_query.specs.Binding.{bound_of}

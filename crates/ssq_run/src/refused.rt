@@ -29,7 +29,9 @@ fn stop_of_bad(alloc: Global, query: Query, offset: u64, cause: BadRow) -> Stop
     ensures { result ≡ stop_of_bad query offset cause }
 {
     let Query {
-        stream, columns, ..
+        stream,
+        columns,
+        ..
     } = query;
     let wrong = match cause {
         BadRow::TooLong => Wrong::TooLong,

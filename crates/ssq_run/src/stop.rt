@@ -69,9 +69,14 @@ pub enum Stop {
     /// The output failed.
     OutFault,
     /// The checkpoint is of another query, with this text.
-    OtherQuery { kept: Text },
+    OtherQuery {
+        kept: Text,
+    },
     /// The checkpoint has another number of partitions than is asked for.
-    OtherPartitions { kept: u32, asked: u32 },
+    OtherPartitions {
+        kept: u32,
+        asked: u32,
+    },
     /// A stream has another number of parts than it had, or than can be run yet.
     OtherParts {
         stream: Text,
@@ -86,7 +91,9 @@ pub enum Stop {
         found: u64,
     },
     /// The first file of the checkpoint that is absent, too many, not canonical or against the files before it.
-    Damaged { name: Name },
+    Damaged {
+        name: Name,
+    },
     /// Memory ran out.
     NoMemory,
     /// A part has more than 1,099,511,627,776 lines.
@@ -140,7 +147,11 @@ impl fmt::Display for Stop {
                 part,
                 offset,
                 wrong,
-            } => write!(f, "stopped 4 BadLine {} {part} {offset} {wrong}", stream.as_str()),
+            } => write!(
+                f,
+                "stopped 4 BadLine {} {part} {offset} {wrong}",
+                stream.as_str()
+            ),
             Stop::Overflow {
                 stream,
                 part,
@@ -163,14 +174,22 @@ impl fmt::Display for Stop {
                 part,
                 logged,
                 found,
-            } => write!(f, "stopped 9 LogShort {} {part} {logged} {found}", stream.as_str()),
+            } => write!(
+                f,
+                "stopped 9 LogShort {} {part} {logged} {found}",
+                stream.as_str()
+            ),
             Stop::Damaged { name } => write!(f, "stopped 9 Damaged {}", NameText(*name)),
             Stop::NoMemory => write!(f, "stopped 10 NoMemory"),
             Stop::FullLines {
                 stream,
                 part,
                 lines,
-            } => write!(f, "stopped 11 Full lines {} {part} {lines}", stream.as_str()),
+            } => write!(
+                f,
+                "stopped 11 Full lines {} {part} {lines}",
+                stream.as_str()
+            ),
             Stop::FullEpochs => write!(f, "stopped 11 Full epochs"),
         }
     }

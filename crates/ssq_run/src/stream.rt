@@ -1,10 +1,11 @@
 //! The top call.
 
-ghost use Rattle.std.specs.Prelude.{◌≡◌, ◌≤◌, ◌⊎◌, ℕ, List, [], Some, None, map, string_bytes, IfErr, OnOk, IsSome};
+ghost use Rattle.std.specs.Prelude.{◌≡◌, ◌≢◌, ◌≤◌, ◌⊎◌, ℕ, List, [], Some, None, map, string_bytes, IfErr, OnOk, IsSome};
 ghost use Rattle.std.specs.Option.{ForSome};
 ghost use Rattle.ssq_outside.specs.Faults.{Rises};
+ghost use Rattle.ssq_outside.specs.History.{files_now};
 ghost use Rattle.ssq_words.specs.Asking.{asks_run, asked};
-ghost use Rattle.ssq_run.specs.Program.{Given, ProgramEnd, ProgramWrote};
+ghost use Rattle.ssq_run.specs.Program.{Given, ProgramEnd, ProgramWrote, CanGoOn};
 ghost use Rattle.ssq_run.specs.Stopping.{stop_in, LogRises, DiskRises, OutRises, WordsCause, IsPastWords};
 
 use crate::prepare::read_file;
@@ -80,11 +81,13 @@ fn work<D: Disk, I: Inputs, O: Output>(
     ensures out_cause { IfErr result (OutRises (O.faults out.old) (O.faults out.new)) }
 {
     match ask(alloc, words) {
-        Ok(Command::Run {
-            query,
-            most_lines,
-            rounds,
-        }) => {
+        Ok(
+            Command::Run {
+                query,
+                most_lines,
+                rounds,
+            },
+        ) => {
             let most = most_lines;
             run_file(alloc, disk, inputs, out, query, Ask { most, rounds }, told)
         }
@@ -120,6 +123,10 @@ pub fn stream_main<R: Threads + Wait + Sync, D: Disk, I: Inputs, O: Output, G: G
     ensures ending { D.tells → I.tells → ProgramWrote
         (record { words = map string_bytes words.now; held = I.held inputs; shown = I.shown inputs })
         (D.history disk) (D.history result.disk) O.tells (O.content out) (O.content result.out) (O.faults out) (O.faults result.out) result.status }
+
+    // A checkpoint that stands for the job, whose log has lost no line, is never refused as another's or as damaged.
+    ensures goes_on { D.tells → I.tells → CanGoOn
+        (record { words = map string_bytes words.now; held = I.held inputs; shown = I.shown inputs }) (files_now (D.history disk)) → result.status ≢ 9 }
 
     // The words are refused exactly where they are no command, unless memory runs out.
     ensures usage { result.status ≡ 2 → asked (map string_bytes words.now) ≡ None }

@@ -1,5 +1,6 @@
-use Rattle.std.proofs.Common.{List, ℕ, map, string_bytes}
+use Rattle.std.proofs.Common.{map, string_bytes}
 use Rattle.ssq_run.specs.Stopping.{stop_in}
+use Rattle.ssq_run.proofs.Going.{never_9}
 use Rattle.ssq_run.proofs.Telling.{status_since, wrote_since, usage_told, no_command_told, log_told, disk_told, out_told}
 use Rattle.ssq_run.proofs.stream.stream_main.Goals as goal
 
@@ -27,3 +28,7 @@ returns-clause-disk_fault g c = disk_told c.work-end.result _ _ _ _ _ c.work-end
 
 pub returns-clause-out_fault : goal.returns-clause-out_fault
 returns-clause-out_fault g c = out_told c.work-end.result _ _ _ _ c.work-end.ensures.out_cause c.work-end.ensures.out_counted c.tell-status.ensures.counted c.tell-status.ensures.status
+
+pub returns-clause-goes_on : goal.returns-clause-goes_on
+returns-clause-goes_on g c = λ tells told can.
+    never_9 _ _ _ g.O.Output.tells _ _ _ (stop_in c.work-end.result) _ _ _ (c.work-end.ensures.end tells told) c.tell-status.ensures.status can
