@@ -1,5 +1,5 @@
 -- Each front of a text ends between characters, so that all its tokens say words that can be said.
-use Rattle.std.proofs.Common.{◌≡◌, ℕ, zero, suc, ◌+◌, ◌-◌, ◌<◌, ◌≤◌, Bool, true, false, ◌&&◌, ◌==◌, if◌then◌else◌, true≢false, List, [], ◌∷◌, ◌++◌, length, drop, get_or, map, ℤ, Option, Some, None, IfSome, Result, Ok, Err, IsUtf8, IsCharBoundary, sym, refl, subst, arith}
+use Rattle.std.proofs.Common.{◌≡◌, ℕ, zero, suc, ◌+◌, ◌-◌, ◌<◌, true, ◌&&◌, ◌==◌, if◌then◌else◌, List, [], ◌∷◌, length, drop, get_or, ℤ, Option, Some, None, IfSome, Result, Ok, Err, IsUtf8, IsCharBoundary, sym, refl, subst, arith}
 use Rattle.std.specs.Char.{is_ascii_digit}
 use Rattle.std.specs.List.{All, prefix_len}
 use Rattle.std.proofs.lemmas.Bool.Decides.{nat_tests}
@@ -9,8 +9,7 @@ use Rattle.ssq_lex.specs.Answer.{IsShort}
 use Rattle.ssq_lex.specs.declared.fault.LexCause.{LexCause}
 use Rattle.ssq_lex.specs.declared.symbol.Symbol.{Symbol}
 use Rattle.ssq_lex.specs.declared.symbol.Symbol.TheVariants as mark
-use Rattle.ssq_lex.specs.Cut.{Head, Cut, front, is_blank, begins_name, is_in_name, is_in_line, word_at, value_of, number_at, number_to, closing, text_at, text_to, symbol_at, symbol_of, skipped, token_at, and_rest, cut_from, cut_of}
-use Rattle.ssq_lex.specs.Lexeme.{Lexeme, Lexed}
+use Rattle.ssq_lex.specs.Cut.{Head, Cut, front, is_blank, begins_name, is_in_name, is_in_line, word_at, number_at, number_to, closing, text_at, text_to, symbol_at, symbol_of, skipped, token_at, and_rest, cut_from, cut_of}
 use Rattle.ssq_lex.specs.Sayable.{IsSayable, TokensAreSayable}
 use Rattle.ssq_lex.specs.Spelling.{short_symbol, long_symbol}
 use Rattle.ssq_lex.proofs.Boundaries.{name_boundary, digits_boundary, line_boundary, end_boundary, symbol_boundary, blank_is_ascii}

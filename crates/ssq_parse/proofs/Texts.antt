@@ -1,6 +1,5 @@
 -- The canonical text of a query is read as that query.
 use Rattle.std.proofs.Common.{◌≡◌, ℕ, refl, sym, subst, List, Option, Some, None, Ok}
-use Rattle.ssq_ast.specs.declared.query.Query.{Query}
 use Rattle.ssq_ast.specs.Again.{IsReadAgain, IsSayableAgain}
 use Rattle.ssq_ast.specs.Canonical.{canonical, plain_query}
 use Rattle.ssq_ast.specs.Statement.{IsWritten, query_words}
