@@ -1,5 +1,6 @@
 pub mod Boundaries
 pub mod Closing
+pub mod Cuts
 pub mod Heads
 pub mod Keywords
 pub mod Quotes

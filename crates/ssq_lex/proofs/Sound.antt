@@ -25,7 +25,7 @@ use Rattle.ssq_lex.proofs.Texts.{utf8_around, quote_utf8}
 abbrev pub HeadSays : Result Head LexCause → Type 0
 HeadSays found = IfOk found (λ head. IfSome head.said IsSayable)
 
-by_test : {A : Type 0} (P : A → Type 0) (test : Bool) (x y : A) → (test ≡ true → P x) → (test ≡ false → P y) → P (if test then x else y)
+pub by_test : {A : Type 0} (P : A → Type 0) (test : Bool) (x y : A) → (test ≡ true → P x) → (test ≡ false → P y) → P (if test then x else y)
 by_test P true x y yes_case no_case = yes_case refl
 by_test P false x y yes_case no_case = no_case refl
 
@@ -54,7 +54,7 @@ number_says bytes =
     below n small = grind (arith, nat_tests)
 
 -- a quote ends a text
-unfoldable EndsAt : List ℕ → Option ℕ → Type 0
+unfoldable pub EndsAt : List ℕ → Option ℕ → Type 0
 EndsAt bytes at = IfSome at (λ n. (n < length bytes) × (get_or bytes n 0 ≡ 39))
 
 ends_later : (first bytes all : List ℕ) (at : Option ℕ) → first ++ bytes ≡ all → EndsAt bytes at → EndsAt all (option_map (λ n. length first + n) at)
@@ -65,7 +65,7 @@ ends_later first bytes all (Some n) is ends = (
   ap (λ t. get_or t (length first + n) 0) (sym is) ∙ get_or-append-add first bytes n 0 ∙ ends.1,
 )
 
-closing_ends : (bytes : List ℕ) → EndsAt bytes (closing bytes)
+pub closing_ends : (bytes : List ℕ) → EndsAt bytes (closing bytes)
 unfolding EndsAt
 closing_ends [] = tt
 closing_ends (b ∷ []) = by_test (EndsAt (b ∷ [])) (b == 39) (Some 0) None (λ is. (omega arith, first b is)) (λ _. tt)
@@ -127,7 +127,7 @@ symbol_says : (bytes : List ℕ) → HeadSays (symbol_at bytes)
 unfolding symbol_at
 symbol_says bytes = symbol_said (long_symbol (get_or bytes 0 0) (get_or bytes 1 0)) (short_symbol (get_or bytes 0 0))
 
-front_says : (bytes : List ℕ) → IsUtf8 bytes → HeadSays (front bytes)
+pub front_says : (bytes : List ℕ) → IsUtf8 bytes → HeadSays (front bytes)
 unfolding front
 front_says bytes utf8 =
     let b : ℕ = get_or bytes 0 0 in

@@ -52,7 +52,7 @@ order_within from at len (token ∷ found) within order = (order.0, order.1, ome
 abbrev pub Says : Lexed → Type 0
 Says token = IsSayable token.said
 
-says_more : (at len : ℕ) (said : Option Lexeme) → IfSome said IsSayable → All Says (token_at at len said)
+pub says_more : (at len : ℕ) (said : Option Lexeme) → IfSome said IsSayable → All Says (token_at at len said)
 says_more at len None says = All-nil Says
 says_more at len (Some word) says = All-cons Says (record { start = at; end = at + len; said = word }) [] says (All-nil Says)
 

@@ -2,7 +2,7 @@
 use Rattle.std.specs.Prelude.{◌≡◌, ℕ, ◌<◌, ◌≤◌, ◌^◌, true, length, slice_index, ℤ, pos, List, [], ◌∷◌, map, None, Ok}
 use Rattle.std.specs.List.{All}
 use Rattle.std.specs.Str.{IsUtf8}
-use Rattle.ssq_lex.specs.Cut.{begins_name, is_in_name, Tokens, tokens_of}
+use Rattle.ssq_lex.specs.Cut.{begins_name, is_in_name, Tokens, cut_of, tokens_of}
 use Rattle.ssq_lex.specs.Lexeme.{Lexeme, keyword, name, number, quoted, symbol, Lexed}
 use Rattle.ssq_lex.specs.Printing.{printed}
 use Rattle.ssq_lex.specs.Spelling.{keyword_of}
@@ -49,3 +49,7 @@ StandInOrder from len (token ∷ tokens) = (from ≤ token.start) × (token.star
 pub record AreTokensOf (text : List ℕ) (tokens : List Lexed) : Type 0 where
   pub order : StandInOrder 0 (length text) tokens
   pub said : All IsSayable (map (λ token. token.said) tokens)
+
+-- The tokens of a text, up to its first fault, say words that can be said.
+abbrev pub TokensAreSayable : Type 0
+TokensAreSayable = (text : List ℕ) → IsUtf8 text → All IsSayable (map (λ token. token.said) (cut_of text).tokens)

@@ -3,7 +3,7 @@ ghost use Rattle.std.specs.Option.{option_map};
 ghost use Rattle.ssq_lex.specs.Answer.{Gives, cut_by};
 ghost use Rattle.ssq_lex.specs.Cut.{cut_of, tokens_of, token_at};
 ghost use Rattle.ssq_lex.specs.Lexeme.{lexeme, lexed};
-ghost use Rattle.ssq_lex.specs.Sayable.{AreTokensOf};
+ghost use Rattle.ssq_lex.specs.Sayable.{AreTokensOf, TokensAreSayable};
 
 use crate::fault::{LexFault, Refusal};
 use crate::front::{Front, front_of};
@@ -77,3 +77,8 @@ pub fn tokens(alloc: Global, text: &str) -> Result<Vec<Token<'_>>, LexFault>
         None => Ok(found.tokens),
     }
 }
+
+/// The tokens of a text, up to its first fault, say words that [`crate::Printer`] can say again.
+pub fn tokens_are_sayable()
+    ensures { TokensAreSayable }
+{}

@@ -15,7 +15,7 @@ mod token;
 
 pub use fault::{LexCause, LexFault, Refusal};
 pub use keyword::{Keyword, keywords_are_read};
-pub use lexer::{Lexical, tokens, tokens_to_fault};
+pub use lexer::{Lexical, tokens, tokens_are_sayable, tokens_to_fault};
 pub use printer::{Printer, printed_is_read};
 pub use quoting::{push_quoted, unquoted};
 pub use symbol::Symbol;

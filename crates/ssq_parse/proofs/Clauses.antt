@@ -1,7 +1,6 @@
 -- The clauses of queries are read as they are written.
-use Rattle.std.proofs.Common.{◌≡◌, ℕ, ℤ, zero, suc, ◌+◌, ◌≤◌, Bool, true, false, sym, ap, ◌∙◌, arith, List, [], ◌∷◌, ◌++◌, map, take, drop, length, refl, Option, Some, None, Ok, Err, append_assoc, append-nil, rules}
+use Rattle.std.proofs.Common.{◌≡◌, ℕ, Bool, true, false, sym, ap, ◌∙◌, List, [], ◌∷◌, map, drop, length, refl, Option, Some, None, Ok}
 use Rattle.std.specs.Prelude.{if◌then◌else◌, IfSome}
-use Rattle.std.specs.List.{flat_map}
 use Rattle.std.specs.Option.{option_map}
 use Rattle.ssq_ast.specs.declared.expr.Ident.{Ident}
 use Rattle.ssq_ast.specs.declared.expr.Span.{Span}
@@ -25,7 +24,7 @@ use Rattle.ssq_ast.specs.declared.query.Watermark.{Watermark}
 use Rattle.ssq_ast.specs.declared.query.Window.{Window}
 use Rattle.ssq_ast.specs.Expression.{Words, Written, words, tree, ident}
 use Rattle.ssq_ast.specs.Expression as grammar
-use Rattle.ssq_ast.specs.Statement.{WrittenDecl, WrittenWatermark, WrittenStream, WrittenJoin, WrittenWindow, WrittenGroup, column_group, window_group, WrittenOrder, Each, IsFilled, IsFit, IsSpanText, IsRegularStream, IsRegularGroup, comma, separated, each_tree, type_key, decl_words, decl_tree, watermark_words, watermark_tree, declared_words, declared_tree, name_words, condition_words, condition_tree, kind_words, join_words, join_tree, deduplicate_words, deduplicate_tree, slide_words, window_words, group_item_words, group_item_tree, group_words, group_tree, direction_words, order_item_words, order_item_tree, order_words, limit_words, limit_tree, mode_key}
+use Rattle.ssq_ast.specs.Statement.{WrittenWindow, column_group, window_group, Each, IsFilled, IsFit, IsSpanText, IsRegularStream, IsRegularGroup, comma, separated, each_tree, type_key, decl_words, decl_tree, watermark_words, watermark_tree, declared_words, declared_tree, name_words, condition_words, condition_tree, kind_words, join_words, join_tree, deduplicate_words, deduplicate_tree, slide_words, window_words, group_item_words, group_item_tree, group_words, group_tree, direction_words, order_item_words, order_item_tree, order_words, limit_words, limit_tree, mode_key}
 use Rattle.ssq_lex.specs.declared.keyword.Keyword.{Keyword}
 use Rattle.ssq_lex.specs.declared.keyword.Keyword.TheVariants as key
 use Rattle.ssq_lex.specs.declared.symbol.Symbol.{Symbol}
@@ -35,10 +34,10 @@ use Rattle.ssq_value.specs.declared.column.ColType.{ColType}
 use Rattle.ssq_value.specs.declared.column.ColType.TheVariants as kind
 use Rattle.ssq_parse.specs.Expressions.{whole_at}
 use Rattle.ssq_parse.specs.Queries.{list_at, or_type, type_at, decl_at, watermark_by, watermark_at, stream_at, condition_by, condition_at, joined_at, outer_at, bare_join, right_join, left_join, inner_join, join_at, deduplicate_by, deduplicate_at, slide_by, slide_at, window_at, group_item_by, group_item_at, group_by, group_at, direction_by, direction_at, order_item_at, order_by, order_at, limit_by, limit_at, or_mode, mode_by, mode_at}
-use Rattle.ssq_parse.specs.Reading.{Ahead, Made, Read, ◌>>=◌, behind, needed, first, seen, is_keyword, is_symbol, keyword_at, symbol_at, name_at, quoted_at, number_by, number_at, span_at}
-use Rattle.ssq_parse.specs.Written.{says, starts, Took, IfRead, Spelled}
+use Rattle.ssq_parse.specs.Reading.{Ahead, Read, ◌>>=◌, behind, needed, seen, is_keyword, is_symbol, keyword_at, symbol_at, name_at, quoted_at, number_by, number_at, span_at}
+use Rattle.ssq_parse.specs.Written.{starts, Took, IfRead}
 use Rattle.ssq_parse.proofs.Operands.{symbol_sound, keyword_sound}
-use Rattle.ssq_parse.proofs.Parts.{Part, Always, Further, keep, list_sound}
+use Rattle.ssq_parse.proofs.Parts.{Part, Always, keep, list_sound}
 use Rattle.ssq_parse.proofs.Primary.{Named, name_sound, Spanned, span_sound, quoted_sound}
 use Rattle.ssq_parse.proofs.Whole.{whole_sound}
 use Rattle.ssq_parse.proofs.Words.{took_none, took_one, took_more, then_holds, is_keyword-found, is_symbol-found}

@@ -1,7 +1,6 @@
 -- Each operator of a level is written so.
-use Rattle.std.proofs.Common.{◌≡◌, ℕ, refl, Bool, true, false, Option, Some, None, rules}
+use Rattle.std.proofs.Common.{◌≡◌, ℕ, refl, Bool, true, false, Option, Some, None}
 use Rattle.ssq_ast.specs.declared.expr.BinaryOp.{BinaryOp}
-use Rattle.ssq_ast.specs.declared.expr.BinaryOp.TheVariants as op
 use Rattle.ssq_ast.specs.declared.expr.UnaryOp.{UnaryOp}
 use Rattle.ssq_ast.specs.declared.expr.UnaryOp.TheVariants as unary
 use Rattle.ssq_ast.specs.Expression.{binary_word, binary_level, left_level, unary_word}

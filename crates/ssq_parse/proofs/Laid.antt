@@ -1,5 +1,5 @@
 -- Words laid out at places: the tokens that say them there, and what readers find of them.
-use Rattle.std.proofs.Common.{◌≡◌, ℕ, zero, suc, ◌+◌, ◌≤◌, Bool, true, false, sym, ap, ◌∙◌, arith, List, [], ◌∷◌, ◌++◌, map, drop, length, refl, Option, Some, None}
+use Rattle.std.proofs.Common.{◌≡◌, ℕ, suc, ◌+◌, ◌≤◌, Bool, true, false, ap, ◌∙◌, arith, List, [], ◌∷◌, ◌++◌, map, drop, length, refl, Option, Some, None}
 use Rattle.std.specs.Prelude.{if◌then◌else◌}
 use Rattle.ssq_ast.specs.declared.expr.BinaryOp.{BinaryOp}
 use Rattle.ssq_ast.specs.declared.expr.BinaryOp.TheVariants as op
@@ -8,12 +8,12 @@ use Rattle.ssq_lex.specs.declared.keyword.Keyword.{Keyword}
 use Rattle.ssq_lex.specs.declared.keyword.Keyword.TheVariants as key
 use Rattle.ssq_lex.specs.declared.symbol.Symbol.{Symbol}
 use Rattle.ssq_lex.specs.declared.symbol.Symbol.TheVariants as mark
-use Rattle.ssq_lex.specs.Lexeme.{Lexeme, keyword, name, number, quoted, symbol, Lexed}
+use Rattle.ssq_lex.specs.Lexeme.{Lexeme, keyword, symbol}
 use Rattle.ssq_parse.specs.declared.operators.Level.{Level}
 use Rattle.ssq_parse.specs.Operators.{operator_of}
 use Rattle.ssq_parse.specs.Reading.{Ahead, seen, is_keyword, is_symbol, first_operator, with_place}
 use Rattle.ssq_parse.specs.Written.{says, starts}
-use Rattle.ssq_parse.proofs.Found.{number_of, IsWrittenSo, IfFound, is_found}
+use Rattle.ssq_parse.proofs.Found.{number_of, IfFound, is_found}
 use Rattle.ssq_parse.proofs.Words.{drop_of_drop, is_keyword-found, is_symbol-found}
 
 pub record Where : Type 0 where

@@ -1,36 +1,32 @@
 -- The clauses of a query that are written are read.
-use Rattle.std.proofs.Common.{◌≡◌, ℕ, ℤ, zero, suc, ◌+◌, ◌≤◌, Bool, true, false, sym, ap, ◌∙◌, arith, List, [], ◌∷◌, ◌++◌, map, drop, length, refl, Option, Some, None, Ok, Err, append_assoc, append-nil}
+use Rattle.std.proofs.Common.{◌≡◌, ℕ, ℤ, zero, suc, ◌+◌, ◌≤◌, Bool, true, false, sym, ap, ◌∙◌, arith, List, [], ◌∷◌, ◌++◌, map, drop, length, refl, Option, Some, None, Ok, append_assoc, append-nil}
 use Rattle.std.specs.Prelude.{if◌then◌else◌, IfSome}
 use Rattle.std.specs.List.{flat_map}
 use Rattle.std.specs.Option.{option_map}
-use Rattle.ssq_ast.specs.declared.expr.Expr.TheVariants as expr
-use Rattle.ssq_ast.specs.declared.expr.Ident.{Ident}
 use Rattle.ssq_ast.specs.declared.expr.Span.{Span}
 use Rattle.ssq_ast.specs.declared.query.Direction.{Direction}
 use Rattle.ssq_ast.specs.declared.query.Direction.TheVariants as direction
 use Rattle.ssq_ast.specs.declared.query.Group.TheVariants as group
-use Rattle.ssq_ast.specs.declared.query.Item.TheVariants as item
 use Rattle.ssq_ast.specs.declared.query.JoinKind.{JoinKind}
 use Rattle.ssq_ast.specs.declared.query.JoinKind.TheVariants as join
 use Rattle.ssq_ast.specs.declared.query.Mode.{Mode}
 use Rattle.ssq_ast.specs.declared.query.Mode.TheVariants as mode
 use Rattle.ssq_ast.specs.declared.query.Stream.{Stream}
-use Rattle.ssq_ast.specs.Expression.{Words, Written, WrittenColumn, words, column_words, first, behind, ident, tree, of_column}
-use Rattle.ssq_ast.specs.Statement.{WrittenDecl, WrittenWatermark, WrittenStream, WrittenItem, bare_item, named_item, WrittenJoin, WrittenGroup, column_group, window_group, WrittenOrder, comma, separated, type_key, mode_key, name_words, decl_words, watermark_words, declared_words, item_words, kind_words, join_words, condition_words, deduplicate_words, slide_words, group_item_words, group_words, direction_words, order_item_words, order_words, limit_words, each_tree, decl_tree, watermark_tree, declared_tree, item_tree, condition_tree, join_tree, deduplicate_tree, group_item_tree, group_tree, order_item_tree, limit_tree, IsFilled, Each, IsSpanText, IsFit, IsRegularStream, IsRegularItem, IsRegularGroup}
+use Rattle.ssq_ast.specs.Expression.{Words, Written, WrittenColumn, words, column_words, first, ident, tree, of_column}
+use Rattle.ssq_ast.specs.Statement.{WrittenDecl, WrittenWatermark, WrittenStream, WrittenItem, bare_item, named_item, WrittenJoin, WrittenGroup, column_group, window_group, WrittenOrder, comma, separated, type_key, mode_key, name_words, decl_words, watermark_words, declared_words, item_words, kind_words, join_words, condition_words, deduplicate_words, group_item_words, group_words, direction_words, order_item_words, order_words, limit_words, each_tree, decl_tree, watermark_tree, declared_tree, item_tree, condition_tree, join_tree, deduplicate_tree, group_item_tree, group_tree, order_item_tree, limit_tree, IsFilled, Each, IsSpanText, IsFit, IsRegularStream, IsRegularItem, IsRegularGroup}
 use Rattle.ssq_lex.specs.declared.keyword.Keyword.{Keyword}
 use Rattle.ssq_lex.specs.declared.keyword.Keyword.TheVariants as key
 use Rattle.ssq_lex.specs.declared.symbol.Symbol.TheVariants as mark
-use Rattle.ssq_lex.specs.Lexeme.{Lexeme, keyword, name, number, quoted, symbol}
+use Rattle.ssq_lex.specs.Lexeme.{keyword, name, quoted, symbol}
 use Rattle.ssq_value.specs.declared.column.ColType.{ColType}
 use Rattle.ssq_value.specs.declared.column.ColType.TheVariants as kind
-use Rattle.ssq_parse.specs.Expressions.{whole_at}
-use Rattle.ssq_parse.specs.Queries.{type_at, decl_at, watermark_at, stream_at, streams_then, streams_from, streams_at, item_by, item_at, item_of, condition_by, condition_at, joined_at, inner_join, join_at, deduplicate_by, deduplicate_at, slide_at, window_at, group_item_at, group_by, group_at, direction_by, direction_at, order_item_at, order_by, order_at, limit_by, limit_at, mode_at, list_at}
-use Rattle.ssq_parse.specs.Reading.{Ahead, Read, ◌>>=◌, seen, sees, is_keyword, is_symbol, is_name, keyword_at, symbol_at, name_at, quoted_at, number_at}
+use Rattle.ssq_parse.specs.Queries.{type_at, decl_at, watermark_at, stream_at, streams_then, streams_from, item_by, item_at, item_of, condition_by, condition_at, joined_at, join_at, deduplicate_by, deduplicate_at, slide_at, window_at, group_item_at, group_by, group_at, direction_at, order_item_at, order_by, order_at, limit_by, limit_at, mode_at}
+use Rattle.ssq_parse.specs.Reading.{Ahead, ◌>>=◌, seen, sees, is_keyword, is_name, keyword_at, symbol_at, name_at, quoted_at, number_at}
 use Rattle.ssq_parse.proofs.Laid.{Where, next, skip, laid, two, skip_more, skip_starts, Stops}
 use Rattle.ssq_parse.proofs.LaidExpressions.{whole_reads}
 use Rattle.ssq_parse.proofs.LaidOperands.{span_reads}
 use Rattle.ssq_parse.proofs.LaidOperators.{made}
-use Rattle.ssq_parse.proofs.LaidParts.{Other, unseen, list_reads, stage_of, Later, later, later_stops, later_some, other_keyword, unseen_keyword, no_comma}
+use Rattle.ssq_parse.proofs.LaidParts.{Other, unseen, list_reads, stage_of, Later, later_stops, later_some, other_keyword, unseen_keyword, no_comma}
 
 three : (places : List ℕ) → drop 1 (drop 1 (drop 1 places)) ≡ drop 3 places
 three [] = refl

@@ -1,5 +1,5 @@
 -- Each expression that is written is read.
-use Rattle.std.proofs.Common.{◌≡◌, ℕ, zero, suc, ◌+◌, ◌-◌, ◌<◌, ◌≤◌, max, Bool, true, false, sym, ap, ◌∙◌, arith, List, [], ◌∷◌, ◌++◌, drop, refl, subst, Option, Some, None, Ok, Err, append_assoc}
+use Rattle.std.proofs.Common.{◌≡◌, ℕ, zero, suc, ◌+◌, ◌-◌, ◌≤◌, max, sym, ap, ◌∙◌, arith, ◌∷◌, ◌++◌, drop, refl, subst, Some, Ok, append_assoc}
 use Rattle.ssq_ast.specs.declared.expr.BinaryOp.{BinaryOp}
 use Rattle.ssq_ast.specs.declared.expr.BinaryOp.TheVariants as op
 use Rattle.ssq_ast.specs.declared.expr.Expr.TheVariants as e
@@ -13,9 +13,9 @@ use Rattle.ssq_lex.specs.declared.keyword.Keyword.TheVariants as key
 use Rattle.ssq_lex.specs.Lexeme.{keyword}
 use Rattle.ssq_parse.specs.declared.operators.Level.TheVariants as levels
 use Rattle.ssq_parse.specs.declared.tree.Tree.{Tree}
-use Rattle.ssq_parse.specs.Expressions.{Reader, primary_at, signed_at, product_at, sum_at, null_test_at, between_at, tested, ranged, compared, comparison_at, negation_at, conjunction_at, disjunction_at, expr_at, whole_at, test_by}
+use Rattle.ssq_parse.specs.Expressions.{Reader, primary_at, signed_at, product_at, sum_at, null_test_at, between_at, tested, ranged, compared, comparison_at, negation_at, conjunction_at, disjunction_at, expr_at, whole_at}
 use Rattle.ssq_parse.specs.Operators.{operator_of, is_prefix}
-use Rattle.ssq_parse.specs.Reading.{Ahead, Read, ◌>>=◌, before, with_place, first_operator, keyword_at, seen, is_keyword}
+use Rattle.ssq_parse.specs.Reading.{Ahead, Read, ◌>>=◌, before, with_place, first_operator, keyword_at}
 use Rattle.ssq_parse.specs.Trees.{binary, null_test, tree_of, ◌and_then◌}
 use Rattle.ssq_parse.specs.Trees as trees
 use Rattle.ssq_parse.proofs.Laid.{Where, next, skip, laid, skip_more, skip_starts, reach-operator, Stops, stops_above, no_operator, no_keyword}

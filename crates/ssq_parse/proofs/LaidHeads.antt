@@ -135,7 +135,6 @@ left_tighter op.Multiply = omega arith
 left_tighter op.Divide = omega arith
 left_tighter op.Remainder = omega arith
 
-
 prefix_column : (o : UnaryOp) (stream : Option (List ℕ)) (column : List ℕ) → is_prefix o (column_head stream column) ≡ false
 unfolding is_prefix
 prefix_column unary.Not None column = refl

@@ -1,26 +1,23 @@
 -- Operands that are written are read.
-use Rattle.std.proofs.Common.{◌≡◌, ℕ, ℤ, zero, suc, ◌+◌, ◌≤◌, Bool, true, false, sym, ap, ◌∙◌, arith, List, [], ◌∷◌, ◌++◌, drop, refl, Option, Some, None, Ok, Err, append_assoc}
+use Rattle.std.proofs.Common.{◌≡◌, ℕ, ℤ, suc, Bool, true, false, sym, ap, ◌∙◌, arith, List, [], ◌∷◌, ◌++◌, refl, Option, Some, None, Ok, append_assoc}
 use Rattle.std.specs.Prelude.{◌==◌, if◌then◌else◌}
 use Rattle.std.proofs.lemmas.Bool.Decides.{nat_tests}
-use Rattle.ssq_ast.specs.declared.expr.Expr.{Expr}
 use Rattle.ssq_ast.specs.declared.expr.Expr.TheVariants as e
 use Rattle.ssq_ast.specs.declared.expr.Function.{Function}
 use Rattle.ssq_ast.specs.declared.expr.Function.TheVariants as function
 use Rattle.ssq_ast.specs.declared.expr.Moment.{Moment}
 use Rattle.ssq_ast.specs.declared.expr.Span.{Span}
-use Rattle.ssq_ast.specs.Expression.{Words, Written, WrittenColumn, words, column_words, function_key, only, tree, first, ident, of_number, of_text, of_truth, of_moment, of_span, of_column, of_rows, of_function, bracketed}
-use Rattle.ssq_lex.specs.declared.keyword.Keyword.TheVariants as key
+use Rattle.ssq_ast.specs.Expression.{Words, Written, words, only, tree, first, ident, of_number, of_text, of_truth, of_moment, of_span, of_column, of_rows, of_function, bracketed}
 use Rattle.ssq_lex.specs.declared.symbol.Symbol.TheVariants as mark
-use Rattle.ssq_lex.specs.Lexeme.{Lexeme, keyword, name, number, quoted, symbol, Lexed}
+use Rattle.ssq_lex.specs.Lexeme.{quoted, symbol}
 use Rattle.ssq_time.specs.Time.{span_of, time_of}
 use Rattle.ssq_parse.specs.declared.fault.ParseCause.TheVariants.{TooDeep}
-use Rattle.ssq_parse.specs.declared.tree.Tree.{Tree}
-use Rattle.ssq_parse.specs.Expressions.{Reader, inside_at, bracketed_at, argument_at, aggregate_at, rows_by, count_at, column_by, column_at, timestamp_at, interval_at, worded_at, primary_by, primary_at, expr_at}
-use Rattle.ssq_parse.specs.Reading.{Ahead, Made, Read, ◌>>=◌, before, refused, needed, seen, is_symbol, symbol_at, name_at, quoted_at, as_span, span_at, as_moment, moment_at}
+use Rattle.ssq_parse.specs.Expressions.{Reader, inside_at, bracketed_at, argument_at, aggregate_at, rows_by, count_at, column_by, column_at, timestamp_at, interval_at, worded_at, primary_at, expr_at}
+use Rattle.ssq_parse.specs.Reading.{Ahead, ◌>>=◌, before, refused, seen, is_symbol, symbol_at, name_at, quoted_at, as_span, span_at, as_moment, moment_at}
 use Rattle.ssq_parse.specs.Trees.{tree_of, leaf}
-use Rattle.ssq_parse.proofs.Laid.{Where, next, skip, laid, two, skip_more, Stops, no_symbol}
+use Rattle.ssq_parse.proofs.Laid.{Where, next, skip, laid, two, skip_more, no_symbol}
 use Rattle.ssq_parse.proofs.LaidHeads.{no_star}
-use Rattle.ssq_parse.proofs.LaidOperators.{made, Reads, then_is}
+use Rattle.ssq_parse.proofs.LaidOperators.{made, Reads}
 use Rattle.ssq_parse.proofs.Operands.{aggregate_is}
 
 pub span_reads : (span : Span) → span_of span.text ≡ Some span.micros → (more : Words) (p : Where)

@@ -1,10 +1,9 @@
 -- Operators that are written are read.
-use Rattle.std.proofs.Common.{◌≡◌, ℕ, zero, suc, ◌+◌, ◌<◌, ◌≤◌, max, Bool, true, false, sym, ap, ◌∙◌, arith, List, [], ◌∷◌, ◌++◌, take, drop, refl, Option, Some, None, Ok, Err, append_assoc}
+use Rattle.std.proofs.Common.{◌≡◌, ℕ, zero, suc, ◌+◌, ◌<◌, ◌≤◌, max, Bool, true, false, sym, ap, ◌∙◌, arith, [], ◌∷◌, ◌++◌, take, drop, refl, Some, Ok, Err, append_assoc}
 use Rattle.std.specs.Prelude.{nat_lt, if◌then◌else◌}
 use Rattle.std.specs.List.{prefix_len}
 use Rattle.std.proofs.lemmas.Bool.Decides.{nat_tests}
 use Rattle.ssq_ast.specs.declared.expr.BinaryOp.{BinaryOp}
-use Rattle.ssq_ast.specs.declared.expr.Expr.{Expr}
 use Rattle.ssq_ast.specs.declared.expr.Expr.TheVariants as e
 use Rattle.ssq_ast.specs.declared.expr.UnaryOp.{UnaryOp}
 use Rattle.ssq_ast.specs.Expression.{Words, Written, infixed, words, binary_word, unary_word, height, only, tree, first}
@@ -14,7 +13,7 @@ use Rattle.ssq_parse.specs.declared.tree.Tree.{Tree}
 use Rattle.ssq_parse.specs.declared.fault.ParseCause.TheVariants.{TooDeep}
 use Rattle.ssq_parse.specs.Expressions.{Reader, further, further_by, chain, prefixed}
 use Rattle.ssq_parse.specs.Operators.{operator_of, prefixes, is_prefix}
-use Rattle.ssq_parse.specs.Reading.{Ahead, Made, Read, ◌>>=◌, before, refused, first_operator, with_place}
+use Rattle.ssq_parse.specs.Reading.{Ahead, Made, Read, ◌>>=◌, before, refused, with_place}
 use Rattle.ssq_parse.specs.Trees.{unary, binary, risen, wrapped, tree_of, ◌and_then◌}
 use Rattle.ssq_parse.proofs.Found.{number_of}
 use Rattle.ssq_parse.proofs.Prefixes.{unary_is}

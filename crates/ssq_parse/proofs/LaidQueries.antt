@@ -1,19 +1,17 @@
 -- Each query that is written is read.
-use Rattle.std.proofs.Common.{◌≡◌, ℕ, ℤ, zero, suc, ◌+◌, ◌≤◌, Bool, true, false, sym, ap, ◌∙◌, arith, List, [], ◌∷◌, ◌++◌, map, drop, length, refl, subst, Option, Some, None, Result, Ok, Err, append_assoc, append-nil, length-append}
-use Rattle.std.specs.Prelude.{IfSome}
+use Rattle.std.proofs.Common.{◌≡◌, ℕ, ℤ, ◌≤◌, Bool, true, false, sym, ap, ◌∙◌, arith, List, [], ◌∷◌, ◌++◌, map, drop, length, refl, Option, Some, None, Ok, append_assoc, append-nil, length-append}
 use Rattle.std.specs.List.{flat_map}
 use Rattle.std.specs.Option.{option_map}
 use Rattle.ssq_ast.specs.declared.query.Query.{Query}
 use Rattle.ssq_ast.specs.declared.query.Select.{Select}
-use Rattle.ssq_ast.specs.Expression.{Words, Written, words, first, behind, ident}
-use Rattle.ssq_ast.specs.Statement.{WrittenStream, WrittenItem, bare_item, named_item, WrittenJoin, WrittenGroup, WrittenOrder, WrittenSelect, WrittenQuery, comma, separated, mode_key, declared_words, distinct_words, item_words, join_words, condition_words, deduplicate_words, group_words, order_words, limit_words, select_words, query_words, each_tree, declared_tree, item_tree, condition_tree, join_tree, deduplicate_tree, group_tree, order_item_tree, order_item_words, limit_tree, distinct_tree, select_tree, query_tree, IsFilled, Each, IsRegularStream, IsRegularItem, IsRegularSelect, IsRegularQuery, IsWritten}
+use Rattle.ssq_ast.specs.Expression.{Words, Written, words, behind, ident}
+use Rattle.ssq_ast.specs.Statement.{WrittenStream, WrittenItem, bare_item, named_item, WrittenGroup, WrittenOrder, WrittenSelect, WrittenQuery, comma, separated, mode_key, declared_words, distinct_words, item_words, join_words, condition_words, deduplicate_words, group_words, order_words, limit_words, select_words, query_words, each_tree, declared_tree, item_tree, condition_tree, join_tree, deduplicate_tree, group_tree, order_item_tree, order_item_words, limit_tree, distinct_tree, select_tree, query_tree, IsFilled, IsRegularItem, IsRegularSelect, IsRegularQuery, IsWritten}
 use Rattle.ssq_lex.specs.declared.keyword.Keyword.TheVariants as key
 use Rattle.ssq_lex.specs.declared.symbol.Symbol.TheVariants as mark
-use Rattle.ssq_lex.specs.Lexeme.{Lexeme, keyword, name, number, quoted, symbol, Lexed}
-use Rattle.ssq_parse.specs.Queries.{item_at, join_at, condition_at, deduplicate_at, group_at, order_at, limit_at, mode_at, list_at, streams_from, streams_at, select_at, whole_query, query_at}
+use Rattle.ssq_lex.specs.Lexeme.{Lexeme, keyword, name, symbol}
+use Rattle.ssq_parse.specs.Queries.{item_at, list_at, streams_at, select_at, whole_query, query_at}
 use Rattle.ssq_parse.specs.Reading.{Ahead, Read, ◌>>=◌, seen, is_keyword, is_symbol, keyword_at, symbol_at, name_at}
 use Rattle.ssq_parse.specs.Reading as reading
-use Rattle.ssq_parse.specs.Written.{says, starts}
 use Rattle.ssq_parse.proofs.Laid.{Where, next, skip, laid, two, skip_more, skip_starts, where_of, laid_again, length-laid}
 use Rattle.ssq_parse.proofs.LaidClauses.{ItemEnd, item_reads, join_reads, condition_reads, deduplicate_reads, group_reads, order_reads, limit_reads, mode_reads, streams_read_from}
 use Rattle.ssq_parse.proofs.LaidHeads.{Headed, Begun, further, headed, head_of, begun, column_head, column_headed, column_begun, unseen_head}
@@ -197,15 +195,19 @@ module _ (s : WrittenSelect) (regular : IsRegularSelect s) (more : Words) where
     select_found : select_at (laid (keyword key.Select ∷ Listed) p) ≡ Ok (Found, laid more (next (next (next p10))))
     unfolding select_at keyword_at name_at symbol_at
     select_found =
-        rw (distinct_read s.distinct s.items regular.some_items Sourced p0, distinct_behind s.distinct (Items s.items ++ Sourced) p0, items_read,
-        join_reads s.join regular.on Filtered filtered p3,
-        condition_reads key.Where 3 refl (omega arith) s.filter regular.filter Deduplicated deduplicated p4,
-        deduplicate_reads s.deduplicate regular.deduplicate Grouped grouped p5,
-        group_reads s.group regular.some_group regular.group Havings havings p6,
-        condition_reads key.Having 6 refl (omega arith) s.having regular.having Ordered ordered p7,
-        order_reads s.order Limited limited p8,
-        limit_reads s.limit Shown shown p9,
-        mode_reads s.mode (symbol mark.Semicolon ∷ more) p10)
+        rw (
+          distinct_read s.distinct s.items regular.some_items Sourced p0,
+          distinct_behind s.distinct (Items s.items ++ Sourced) p0,
+          items_read,
+          join_reads s.join regular.on Filtered filtered p3,
+          condition_reads key.Where 3 refl (omega arith) s.filter regular.filter Deduplicated deduplicated p4,
+          deduplicate_reads s.deduplicate regular.deduplicate Grouped grouped p5,
+          group_reads s.group regular.some_group regular.group Havings havings p6,
+          condition_reads key.Having 6 refl (omega arith) s.having regular.having Ordered ordered p7,
+          order_reads s.order Limited limited p8,
+          limit_reads s.limit Shown shown p9,
+          mode_reads s.mode (symbol mark.Semicolon ∷ more) p10,
+        )
 
     -- the places, as the grammar counts them
     placed_by : Found ≡ select_tree s p.starts

@@ -1,24 +1,21 @@
 -- Operands are read as they are written.
-use Rattle.std.proofs.Common.{◌≡◌, ℕ, ℤ, zero, suc, ◌+◌, ◌-◌, ◌<◌, ◌≤◌, Bool, true, false, sym, ap, ◌∙◌, arith, List, [], ◌∷◌, ◌++◌, map, take, drop, length, refl, Option, Some, None, Ok, Err, rules}
+use Rattle.std.proofs.Common.{◌≡◌, ℕ, zero, suc, ◌-◌, Bool, true, false, sym, ap, ◌∙◌, arith, [], ◌∷◌, refl, Some, None, Ok, Err}
 use Rattle.std.specs.Prelude.{◌==◌, if◌then◌else◌}
 use Rattle.ssq_ast.specs.declared.expr.Expr.{Expr}
 use Rattle.ssq_ast.specs.declared.expr.Expr.TheVariants as e
 use Rattle.ssq_ast.specs.declared.expr.Function.{Function}
-use Rattle.ssq_ast.specs.declared.expr.Function.TheVariants as function
 use Rattle.ssq_ast.specs.Expression.{Words, Written, words, function_key, level, IsRegular, opens, height, tallest, only, tree, of_number, of_text, of_truth, of_moment, of_span, of_column, of_rows, of_function}
 use Rattle.ssq_ast.specs.Expression as spec
 use Rattle.ssq_lex.specs.declared.keyword.Keyword.{Keyword}
-use Rattle.ssq_lex.specs.declared.keyword.Keyword.TheVariants as key
 use Rattle.ssq_lex.specs.declared.symbol.Symbol.{Symbol}
 use Rattle.ssq_lex.specs.declared.symbol.Symbol.TheVariants as mark
-use Rattle.ssq_lex.specs.Lexeme.{Lexeme, keyword, name, number, quoted, symbol, Lexed}
-use Rattle.ssq_time.specs.Time.{span_of, time_of}
+use Rattle.ssq_lex.specs.Lexeme.{Lexeme, keyword, symbol, Lexed}
 use Rattle.ssq_parse.specs.declared.fault.ParseCause.TheVariants.{TooDeep}
 use Rattle.ssq_parse.specs.declared.tree.Tree.{Tree}
 use Rattle.ssq_parse.specs.Expressions.{Reader, inside_at, bracketed_at, argument_at, aggregate_at}
-use Rattle.ssq_parse.specs.Reading.{Ahead, Made, Read, ◌>>=◌, before, refused, needed, is_keyword, is_symbol, keyword_at, symbol_at}
+use Rattle.ssq_parse.specs.Reading.{Ahead, Read, ◌>>=◌, refused, needed, is_keyword, is_symbol, keyword_at, symbol_at}
 use Rattle.ssq_parse.specs.Trees.{tree_of, leaf}
-use Rattle.ssq_parse.specs.Written.{says, starts, Took, IfRead, Spelled, Sound}
+use Rattle.ssq_parse.specs.Written.{Took, IfRead, Spelled, Sound}
 use Rattle.ssq_parse.proofs.Words.{took_one, took_more, then_holds, is_keyword-found, is_symbol-found}
 
 -- ---- single words

@@ -1,35 +1,14 @@
 -- The parts of queries are read as they are written.
-use Rattle.std.proofs.Common.{◌≡◌, ℕ, ℤ, zero, suc, ◌+◌, ◌-◌, ◌<◌, ◌≤◌, Bool, true, false, sym, ap, ◌∙◌, arith, List, [], ◌∷◌, ◌++◌, map, take, drop, length, refl, Option, Some, None, Ok, Err, append_assoc, rules}
-use Rattle.std.specs.Prelude.{if◌then◌else◌, IfSome}
-use Rattle.std.specs.Option.{option_map}
-use Rattle.ssq_ast.specs.declared.expr.Expr.{Expr}
-use Rattle.ssq_ast.specs.declared.expr.Ident.{Ident}
-use Rattle.ssq_ast.specs.declared.expr.Span.{Span}
-use Rattle.ssq_ast.specs.declared.query.ColumnDecl.{ColumnDecl}
-use Rattle.ssq_ast.specs.declared.query.Condition.{Condition}
-use Rattle.ssq_ast.specs.declared.query.Direction.{Direction}
-use Rattle.ssq_ast.specs.declared.query.Direction.TheVariants as direction
-use Rattle.ssq_ast.specs.declared.query.Limit.{Limit}
-use Rattle.ssq_ast.specs.declared.query.Mode.{Mode}
-use Rattle.ssq_ast.specs.declared.query.Mode.TheVariants as mode
-use Rattle.ssq_ast.specs.declared.query.OrderBy.{OrderBy}
-use Rattle.ssq_ast.specs.Expression.{Words, Written, words, ident}
-use Rattle.ssq_ast.specs.Expression as grammar
-use Rattle.ssq_ast.specs.Statement.{WrittenDecl, WrittenOrder, Each, IsFilled, IsFit, comma, separated, each_tree, type_key, decl_words, decl_tree, name_words, condition_words, condition_tree, direction_words, order_item_words, order_item_tree, limit_words, limit_tree, mode_key}
-use Rattle.ssq_lex.specs.declared.keyword.Keyword.{Keyword}
-use Rattle.ssq_lex.specs.declared.keyword.Keyword.TheVariants as key
+use Rattle.std.proofs.Common.{◌≡◌, ℕ, zero, suc, Bool, true, false, sym, ap, ◌∙◌, List, [], ◌∷◌, ◌++◌, map, drop, length, refl, Some, None, Ok, Err, append_assoc}
+use Rattle.std.specs.Prelude.{if◌then◌else◌}
+use Rattle.ssq_ast.specs.Expression.{Words}
+use Rattle.ssq_ast.specs.Statement.{Each, comma, separated, each_tree}
 use Rattle.ssq_lex.specs.declared.symbol.Symbol.TheVariants as mark
-use Rattle.ssq_lex.specs.Lexeme.{Lexeme, keyword, name, number, quoted, symbol, Lexed}
-use Rattle.ssq_value.specs.declared.column.ColType.{ColType}
-use Rattle.ssq_value.specs.declared.column.ColType.TheVariants as kind
-use Rattle.ssq_parse.specs.Expressions.{whole_at}
-use Rattle.ssq_parse.specs.Queries.{list_then, list_from, list_at, or_type, type_at, decl_at, condition_by, condition_at, direction_by, direction_at, order_item_at, limit_by, limit_at}
-use Rattle.ssq_parse.specs.Reading.{Ahead, Made, Read, ◌>>=◌, expected, behind, needed, seen, is_keyword, is_symbol, keyword_at, symbol_at, name_at, number_by, number_at}
-use Rattle.ssq_parse.specs.Written.{says, starts, Took, IfRead, Spelled}
-use Rattle.ssq_parse.proofs.Operands.{symbol_sound, keyword_sound}
-use Rattle.ssq_parse.proofs.Primary.{Named, name_sound}
-use Rattle.ssq_parse.proofs.Whole.{whole_sound}
-use Rattle.ssq_parse.proofs.Words.{took_none, took_one, took_more, then_holds, is_keyword-found, is_symbol-found}
+use Rattle.ssq_lex.specs.Lexeme.{Lexed}
+use Rattle.ssq_parse.specs.Queries.{list_then, list_from, list_at}
+use Rattle.ssq_parse.specs.Reading.{Ahead, Made, Read, seen, is_symbol}
+use Rattle.ssq_parse.specs.Written.{starts, Took, IfRead}
+use Rattle.ssq_parse.proofs.Words.{took_one, took_more, then_holds, is_symbol-found}
 
 -- a part that was read, as it is written
 pub record Part {W A : Type 0} (wrote : W → Words) (made : W → List ℕ → A) (good : W → Type 0) (tokens : Ahead) (found : A × Ahead) : Type 0 where

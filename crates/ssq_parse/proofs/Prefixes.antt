@@ -1,13 +1,13 @@
 -- Operators before an operand are read as they are written.
-use Rattle.std.proofs.Common.{◌≡◌, ℕ, zero, suc, ◌+◌, ◌-◌, ◌<◌, ◌≤◌, max, Bool, true, false, sym, ap, ◌∙◌, arith, List, [], ◌∷◌, ◌++◌, map, take, drop, length, refl, Option, Some, None, Ok, Err, rules}
-use Rattle.std.specs.Prelude.{nat_lt, if◌then◌else◌}
+use Rattle.std.proofs.Common.{◌≡◌, ℕ, suc, ◌+◌, ◌<◌, Bool, true, false, sym, ◌∙◌, arith, [], ◌∷◌, take, drop, refl, Ok, Err}
+use Rattle.std.specs.Prelude.{if◌then◌else◌}
 use Rattle.std.specs.List.{prefix_len}
 use Rattle.ssq_ast.specs.declared.expr.Expr.{Expr}
 use Rattle.ssq_ast.specs.declared.expr.Expr.TheVariants as e
 use Rattle.ssq_ast.specs.declared.expr.UnaryOp.{UnaryOp}
 use Rattle.ssq_ast.specs.Expression.{Words, Written, words, unary_word, unary_level, level, only, tree}
 use Rattle.ssq_ast.specs.Expression as spec
-use Rattle.ssq_lex.specs.Lexeme.{Lexeme, Lexed}
+use Rattle.ssq_lex.specs.Lexeme.{Lexed}
 use Rattle.ssq_parse.specs.declared.tree.Tree.{Tree}
 use Rattle.ssq_parse.specs.Expressions.{Reader, prefixed}
 use Rattle.ssq_parse.specs.Operators.{prefixes, is_prefix}
@@ -15,7 +15,7 @@ use Rattle.ssq_parse.specs.Reading.{Ahead, Made, Read, ◌>>=◌, before}
 use Rattle.ssq_parse.specs.Trees.{unary, wrapped, tree_of, ◌and_then◌}
 use Rattle.ssq_parse.proofs.Found.{IfTrue, is_prefix_word}
 use Rattle.ssq_parse.proofs.Sound.{risen_holds}
-use Rattle.ssq_parse.specs.Written.{says, starts, Took, IfRead, Spelled, Sound}
+use Rattle.ssq_parse.specs.Written.{IfRead, Spelled, Sound}
 use Rattle.ssq_parse.proofs.Words.{took_one, took_more, then_holds}
 
 pub unary_is : (o : UnaryOp) (at : ℕ) (a : Expr) → e.Unary o at a ≡ e.Unary' o at tt (only a)

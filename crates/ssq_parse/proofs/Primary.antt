@@ -1,9 +1,8 @@
 -- Operands of every kind are read as they are written.
-use Rattle.std.proofs.Common.{◌≡◌, ℕ, ℤ, zero, suc, ◌+◌, ◌-◌, ◌<◌, ◌≤◌, Bool, true, false, sym, ap, ◌∙◌, arith, List, [], ◌∷◌, ◌++◌, map, take, drop, length, refl, Option, Some, None, Ok, Err, rules}
+use Rattle.std.proofs.Common.{◌≡◌, ℕ, ℤ, suc, ◌-◌, ◌≤◌, Bool, true, false, sym, ap, ◌∙◌, arith, List, [], ◌∷◌, drop, refl, Option, Some, None, Ok}
 use Rattle.std.specs.Prelude.{◌==◌, if◌then◌else◌}
 use Rattle.ssq_ast.specs.declared.expr.Expr.{Expr}
 use Rattle.ssq_ast.specs.declared.expr.Expr.TheVariants as e
-use Rattle.ssq_ast.specs.declared.expr.Function.{Function}
 use Rattle.ssq_ast.specs.declared.expr.Function.TheVariants as function
 use Rattle.ssq_ast.specs.declared.expr.Ident.{Ident}
 use Rattle.ssq_ast.specs.declared.expr.Moment.{Moment}
@@ -12,17 +11,16 @@ use Rattle.ssq_ast.specs.Expression.{Words, Written, words, function_key, level,
 use Rattle.ssq_ast.specs.Expression as spec
 use Rattle.ssq_lex.specs.declared.keyword.Keyword.{Keyword}
 use Rattle.ssq_lex.specs.declared.keyword.Keyword.TheVariants as key
-use Rattle.ssq_lex.specs.declared.symbol.Symbol.{Symbol}
 use Rattle.ssq_lex.specs.declared.symbol.Symbol.TheVariants as mark
 use Rattle.ssq_lex.specs.Lexeme.{Lexeme, keyword, name, number, quoted, symbol, Lexed}
 use Rattle.ssq_time.specs.Time.{span_of, time_of}
 use Rattle.ssq_parse.specs.declared.fault.ParseCause.TheVariants.{TooDeep}
 use Rattle.ssq_parse.specs.declared.tree.Tree.{Tree}
-use Rattle.ssq_parse.specs.Expressions.{Reader, argument_at, rows_by, count_at, column_by, column_at, timestamp_at, interval_at, worded_at, primary_by, primary_at}
-use Rattle.ssq_parse.specs.Reading.{Ahead, Made, Read, ◌>>=◌, before, refused, needed, first, seen, is_symbol, symbol_at, name_at, ident_by, quoted_at, quoted_by, as_span, span_at, as_moment, moment_at}
-use Rattle.ssq_parse.specs.Trees.{tree_of, leaf}
+use Rattle.ssq_parse.specs.Expressions.{Reader, rows_by, count_at, column_by, column_at, timestamp_at, interval_at, worded_at, primary_by, primary_at}
+use Rattle.ssq_parse.specs.Reading.{Ahead, ◌>>=◌, before, refused, needed, seen, is_symbol, symbol_at, name_at, ident_by, quoted_at, quoted_by, as_span, span_at, as_moment, moment_at}
+use Rattle.ssq_parse.specs.Trees.{leaf}
 use Rattle.ssq_parse.proofs.Operands.{above_zero, symbol_sound, argument_sound, aggregate_sound, bracketed_sound}
-use Rattle.ssq_parse.specs.Written.{says, starts, Took, IfRead, Spelled, Sound}
+use Rattle.ssq_parse.specs.Written.{starts, Took, IfRead, Spelled, Sound}
 use Rattle.ssq_parse.proofs.Words.{took_one, took_more, then_holds, is_symbol-found}
 
 -- a name, and its place

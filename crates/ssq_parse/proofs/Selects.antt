@@ -1,8 +1,7 @@
 -- Queries are read as they are written.
-use Rattle.std.proofs.Common.{◌≡◌, ℕ, ℤ, zero, suc, ◌+◌, ◌≤◌, Bool, true, false, sym, ap, subst, ◌∙◌, arith, List, [], ◌∷◌, ◌++◌, map, take, drop, length, refl, Option, Some, None, Result, Ok, Err, append_assoc, append-nil, rules}
-use Rattle.std.specs.Prelude.{if◌then◌else◌, nat_lt, is_some, IfSome, IfOk}
+use Rattle.std.proofs.Common.{◌≡◌, ℕ, zero, suc, ◌≤◌, Bool, true, false, sym, ap, subst, ◌∙◌, arith, List, [], ◌∷◌, ◌++◌, map, drop, length, refl, Option, Some, None, Result, Ok, Err, append_assoc, append-nil}
+use Rattle.std.specs.Prelude.{if◌then◌else◌, nat_lt, is_some, IfOk}
 use Rattle.std.specs.List.{flat_map}
-use Rattle.std.specs.Option.{option_map}
 use Rattle.std.specs.Str.{is_utf8, IsUtf8}
 use Rattle.std.specs.Str.Lossy.{utf8_valid_len}
 use Rattle.std.proofs.lemmas.Bool.Decides.{nat_tests}
@@ -10,21 +9,18 @@ use Rattle.std.proofs.lemmas.Str.{IsUtf8-from_is_utf8}
 use Rattle.ssq_ast.specs.declared.expr.ColumnRef.{ColumnRef}
 use Rattle.ssq_ast.specs.declared.expr.Expr.{Expr}
 use Rattle.ssq_ast.specs.declared.expr.Expr.TheVariants as e
-use Rattle.ssq_ast.specs.declared.expr.Ident.{Ident}
 use Rattle.ssq_ast.specs.declared.query.Item.{Item}
 use Rattle.ssq_ast.specs.declared.query.Item.TheVariants as item
 use Rattle.ssq_ast.specs.declared.query.Query.{Query}
 use Rattle.ssq_ast.specs.declared.query.Select.{Select}
 use Rattle.ssq_ast.specs.declared.query.Stream.{Stream}
-use Rattle.ssq_ast.specs.Expression.{Words, Written, words, IsRegular, opens, tallest, tree, ident, of_number, of_text, of_truth, of_moment, of_span, of_column, of_rows, of_function, bracketed, prefixed, null_tested, infixed, between}
-use Rattle.ssq_ast.specs.Expression as grammar
-use Rattle.ssq_ast.specs.Statement.{WrittenStream, WrittenItem, bare_item, named_item, WrittenSelect, WrittenQuery, Each, IsFilled, IsFit, IsRegularStream, IsRegularItem, IsRegularSelect, IsRegularQuery, IsWritten, separated, each_tree, declared_words, declared_tree, distinct_words, distinct_tree, item_words, item_of, item_tree, join_words, condition_words, deduplicate_words, group_words, order_words, limit_words, select_words, select_tree, query_words, query_tree}
+use Rattle.ssq_ast.specs.Expression.{Words, Written, words, tree, ident, of_number, of_text, of_truth, of_moment, of_span, of_column, of_rows, of_function, bracketed, prefixed, null_tested, infixed, between}
+use Rattle.ssq_ast.specs.Statement.{WrittenStream, bare_item, named_item, WrittenSelect, WrittenQuery, Each, IsRegularStream, IsRegularItem, IsRegularSelect, IsRegularQuery, IsWritten, separated, each_tree, declared_words, declared_tree, distinct_words, distinct_tree, item_words, item_of, item_tree, join_words, condition_words, deduplicate_words, group_words, order_words, select_words, select_tree, query_words, query_tree}
 use Rattle.ssq_lex.specs.declared.fault.Refusal.{Refusal as LexRefusal}
-use Rattle.ssq_lex.specs.declared.keyword.Keyword.{Keyword}
 use Rattle.ssq_lex.specs.declared.keyword.Keyword.TheVariants as key
 use Rattle.ssq_lex.specs.declared.symbol.Symbol.TheVariants as mark
 use Rattle.ssq_lex.specs.Cut.{cut_of}
-use Rattle.ssq_lex.specs.Lexeme.{Lexeme, keyword, name, number, quoted, symbol, Lexed}
+use Rattle.ssq_lex.specs.Lexeme.{keyword, Lexed}
 use Rattle.ssq_parse.specs.declared.fault.ParseCause.TheVariants as cause
 use Rattle.ssq_parse.specs.declared.fault.ParseFault.{ParseFault}
 use Rattle.ssq_parse.specs.declared.fault.ParseFault.TheVariants.{Refused, NoMemory}
@@ -32,10 +28,10 @@ use Rattle.ssq_parse.specs.declared.tree.Tree.{Tree}
 use Rattle.ssq_parse.specs.Expressions.{whole_at}
 use Rattle.ssq_parse.specs.File.{Fault, Answers, judged, judged_cut, query_of, IsQuery}
 use Rattle.ssq_parse.specs.Queries.{list_at, stream_at, streams_then, streams_from, streams_at, bare_at, item_by, item_at, join_at, condition_at, deduplicate_at, group_at, order_at, limit_at, mode_at, select_at, alone, whole_query, query_at}
-use Rattle.ssq_parse.specs.Reading.{Ahead, Made, Read, ◌>>=◌, place, behind, first, seen, sees, is_keyword, is_symbol, is_name, keyword_at, symbol_at, name_at}
-use Rattle.ssq_parse.specs.Written.{says, starts, Took, IfRead, Spelled}
-use Rattle.ssq_parse.proofs.Clauses.{clause, thus, sure, hence, keyword_sure, symbol_sure, name_sure, onward, name_there, Listed, listed, Conditioned, condition_sound, Ordered, order_sound, Limited, limit_sound, Moded, mode_sound, Streamed, stream_sound, Joined, join_sound, Deduplicated, deduplicate_sound, GroupedBy, group_sound}
-use Rattle.ssq_parse.proofs.Parts.{Part, Always, keep}
+use Rattle.ssq_parse.specs.Reading.{Ahead, Made, Read, ◌>>=◌, place, behind, seen, sees, is_keyword, is_name, symbol_at, name_at}
+use Rattle.ssq_parse.specs.Written.{starts, Took, IfRead, Spelled}
+use Rattle.ssq_parse.proofs.Clauses.{clause, thus, sure, hence, keyword_sure, name_sure, onward, name_there, Listed, listed, Conditioned, condition_sound, Ordered, order_sound, Limited, limit_sound, Moded, mode_sound, Streamed, stream_sound, Joined, join_sound, Deduplicated, deduplicate_sound, GroupedBy, group_sound}
+use Rattle.ssq_parse.proofs.Parts.{Part, keep}
 use Rattle.ssq_parse.proofs.Primary.{name_sound}
 use Rattle.ssq_parse.proofs.Whole.{whole_sound}
 use Rattle.ssq_parse.proofs.Operands.{symbol_sound}

@@ -1,24 +1,22 @@
 -- Each expression that is read is written in front of the rest.
-use Rattle.std.proofs.Common.{◌≡◌, ℕ, zero, suc, ◌+◌, ◌-◌, ◌<◌, ◌≤◌, max, Bool, true, false, sym, ap, ◌∙◌, arith, List, [], ◌∷◌, ◌++◌, map, take, drop, length, refl, Option, Some, None, Ok, Err, rules}
+use Rattle.std.proofs.Common.{◌≡◌, ℕ, zero, suc, ◌+◌, ◌<◌, ◌≤◌, max, Bool, true, false, sym, ap, ◌∙◌, arith, [], ◌∷◌, drop, refl, Option, Some, None, Ok}
 use Rattle.std.specs.Prelude.{nat_lt, if◌then◌else◌}
 use Rattle.std.proofs.lemmas.Bool.Decides.{nat_tests}
 use Rattle.ssq_ast.specs.declared.expr.BinaryOp.{BinaryOp}
-use Rattle.ssq_ast.specs.declared.expr.BinaryOp.TheVariants as op
 use Rattle.ssq_ast.specs.declared.expr.Expr.{Expr}
 use Rattle.ssq_ast.specs.declared.expr.Expr.TheVariants as e
 use Rattle.ssq_ast.specs.Expression.{Words, Written, infixed, prefixed, words, binary_word, binary_level, left_level, right_level, level, IsRegular, opens, height, tallest, only, tree}
 use Rattle.ssq_ast.specs.Expression as spec
-use Rattle.ssq_lex.specs.Lexeme.{Lexeme, keyword, name, number, quoted, symbol, Lexed}
+use Rattle.ssq_lex.specs.Lexeme.{Lexed}
 use Rattle.ssq_parse.specs.declared.operators.Level.{Level}
-use Rattle.ssq_parse.specs.declared.operators.Level.TheVariants as levels
 use Rattle.ssq_parse.specs.declared.tree.Tree.{Tree}
 use Rattle.ssq_parse.specs.Expressions.{Reader, further, further_by, chain}
 use Rattle.ssq_parse.specs.Operators.{operator_of}
-use Rattle.ssq_parse.specs.Reading.{Ahead, Made, Read, ◌>>=◌, before, refused, first_operator, with_place}
+use Rattle.ssq_parse.specs.Reading.{Ahead, ◌>>=◌, before, refused, with_place}
 use Rattle.ssq_parse.specs.Trees.{binary, risen, tree_of, ◌and_then◌}
 use Rattle.ssq_parse.specs.declared.fault.ParseCause.TheVariants.{TooDeep}
 use Rattle.ssq_parse.proofs.Found.{number_of, left_of, IsWrittenSo, IfFound, is_found}
-use Rattle.ssq_parse.specs.Written.{says, starts, Took, IfRead, Spelled, Sound}
+use Rattle.ssq_parse.specs.Written.{starts, IfRead, Spelled, Sound}
 use Rattle.ssq_parse.proofs.Words.{took_one, took_more, then_holds}
 
 pub binary_is : (left_at : ℕ) (a : Expr) (o : BinaryOp) (at right_at : ℕ) (b : Expr) → e.Binary left_at a o at right_at b ≡ e.Binary' left_at tt (only a) o at right_at tt (only b)

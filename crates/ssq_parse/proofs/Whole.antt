@@ -1,5 +1,5 @@
 -- Expressions are read as they are written.
-use Rattle.std.proofs.Common.{◌≡◌, ℕ, zero, suc, ◌+◌, ◌-◌, ◌<◌, ◌≤◌, max, Bool, true, false, sym, ap, ◌∙◌, arith, List, [], ◌∷◌, ◌++◌, map, take, drop, length, refl, Option, Some, None, Ok, Err, rules}
+use Rattle.std.proofs.Common.{◌≡◌, ℕ, zero, suc, ◌+◌, ◌<◌, ◌≤◌, max, Bool, true, false, sym, ap, ◌∙◌, arith, [], ◌∷◌, drop, length, refl, Option, Some, None, Ok, Err}
 use Rattle.std.specs.Prelude.{if◌then◌else◌}
 use Rattle.ssq_ast.specs.declared.expr.BinaryOp.{BinaryOp}
 use Rattle.ssq_ast.specs.declared.expr.Expr.{Expr}
@@ -10,12 +10,12 @@ use Rattle.ssq_ast.specs.declared.expr.UnaryOp.TheVariants as prefix
 use Rattle.ssq_ast.specs.Expression.{Words, Written, words, test_words, level, IsRegular, opens, height, tallest, only, tree, null_tested}
 use Rattle.ssq_ast.specs.Expression as spec
 use Rattle.ssq_lex.specs.declared.keyword.Keyword.TheVariants as key
-use Rattle.ssq_lex.specs.Lexeme.{Lexeme, keyword, Lexed}
+use Rattle.ssq_lex.specs.Lexeme.{keyword, Lexed}
 use Rattle.ssq_parse.specs.declared.operators.Level.TheVariants as levels
 use Rattle.ssq_parse.specs.declared.tree.Tree.{Tree}
 use Rattle.ssq_parse.specs.Expressions.{Reader, test_by, primary_at, signed_at, product_at, sum_at, null_test_at, between_at, ranged, tested, compared, comparison_at, negation_at, conjunction_at, disjunction_at, expr_at}
 use Rattle.ssq_parse.specs.Operators.{operator_of}
-use Rattle.ssq_parse.specs.Reading.{Ahead, Made, Read, ◌>>=◌, before, behind, seen, is_keyword, keyword_at, first_operator, with_place}
+use Rattle.ssq_parse.specs.Reading.{Ahead, Read, ◌>>=◌, before, behind, is_keyword, keyword_at, first_operator, with_place}
 use Rattle.ssq_parse.specs.Trees.{null_test, between, binary, tree_of}
 use Rattle.ssq_parse.proofs.Found.{IfFound, is_found}
 use Rattle.ssq_parse.proofs.Operands.{keyword_sound}
@@ -24,7 +24,7 @@ use Rattle.ssq_parse.proofs.Primary.{primary_sound}
 use Rattle.ssq_parse.proofs.Sound.{looser, risen_holds, binary_sound, chain_sound}
 use Rattle.ssq_parse.specs.Expressions.{whole_at}
 use Rattle.ssq_parse.specs.Written.{EachIsWritten}
-use Rattle.ssq_parse.specs.Written.{says, starts, Took, IfRead, Spelled, Sound}
+use Rattle.ssq_parse.specs.Written.{starts, Took, IfRead, Spelled, Sound}
 use Rattle.ssq_parse.proofs.Words.{took_one, took_more, then_holds, is_keyword-found}
 
 looser_read : (asked tight depth : ℕ) (tokens : Ahead) → asked ≤ tight → (read : Read Tree)

@@ -1,5 +1,5 @@
 -- What readers take from the front of tokens.
-use Rattle.std.proofs.Common.{◌≡◌, ℕ, zero, suc, ◌+◌, ◌-◌, ◌<◌, ◌≤◌, Bool, true, false, sym, ap, ◌∙◌, arith, List, [], ◌∷◌, ◌++◌, map, take, drop, length, refl, Option, Some, None, Ok, Err, append_assoc, rules}
+use Rattle.std.proofs.Common.{◌≡◌, ℕ, zero, suc, true, sym, ap, ◌∙◌, List, [], ◌∷◌, ◌++◌, drop, length, refl, Ok, Err, append_assoc, rules}
 use denote.Enum.Bare.{same_true}
 use Rattle.ssq_lex.specs.contracts.keyword.Keyword.{the_type as keyword_type}
 use Rattle.ssq_lex.specs.contracts.symbol.Symbol.{the_type as symbol_type}
@@ -8,7 +8,7 @@ use Rattle.ssq_lex.specs.declared.symbol.Symbol.{Symbol}
 use Rattle.ssq_lex.specs.Lexeme.{Lexeme, keyword, name, number, quoted, symbol, Lexed}
 use Rattle.ssq_ast.specs.Expression.{Words}
 use Rattle.ssq_parse.specs.Written.{says, starts, Took, IfRead}
-use Rattle.ssq_parse.specs.Reading.{Ahead, Made, Read, ◌>>=◌, before, is_keyword, is_symbol}
+use Rattle.ssq_parse.specs.Reading.{Ahead, Read, ◌>>=◌, is_keyword, is_symbol}
 
 pub took_none : (tokens : Ahead) → Took tokens tokens []
 took_none tokens = record { said = refl; left = refl }

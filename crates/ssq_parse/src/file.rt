@@ -5,7 +5,7 @@ ghost use Rattle.std.specs.Str.{IsUtf8};
 ghost use Rattle.ssq_ast.specs.declared.query.Query.{Query};
 ghost use Rattle.ssq_lex.specs.Cut.{cut_of};
 ghost use Rattle.ssq_lex.specs.Lexeme.{lexed};
-ghost use Rattle.ssq_parse.specs.Again.{SaysWords, IsTextRead, TextIsParsed};
+ghost use Rattle.ssq_parse.specs.Again.{TextIsParsed};
 ghost use Rattle.ssq_parse.specs.File as spec;
 ghost use Rattle.ssq_parse.specs.File.{Answers};
 
@@ -13,7 +13,7 @@ use crate::fault::{ParseCause, ParseFault, Stop};
 use crate::query::query;
 use crate::reader::Reader;
 use ssq_ast::{Query, text_is_read_again, text_is_sayable};
-use ssq_lex::{LexCause, Refusal, printed_is_read, tokens_to_fault};
+use ssq_lex::{LexCause, Refusal, printed_is_read, tokens_are_sayable, tokens_to_fault};
 use std::alloc::Global;
 
 /// A query file has at most so many bytes.
@@ -71,22 +71,11 @@ fn judged(
 
 /// The query that a text is.
 fn parse_text(alloc: Global, text: &str) -> Result<Query, ParseFault>
-    ensures answer { Answers (spec.judged_cut (length text.now) (cut_of text.now)) result }
-    ensures said { IfOk result (λ query. SaysWords text.now) }
+    ensures { Answers (spec.judged_cut (length text.now) (cut_of text.now)) result }
 {
     let found = tokens_to_fault(alloc, text)?;
     let read = query(alloc, &mut Reader::new(found.tokens.as_slice()));
     judged(text.len(), found.fault, read)
-}
-
-/// The canonical text of a query that a file is, is read as the same query, places aside, if it has at most 65,536
-/// bytes.
-pub fn text_is_parsed()
-    ensures { TextIsParsed }
-{
-    printed_is_read();
-    text_is_read_again();
-    text_is_sayable();
 }
 
 /// Reads a query file, as it is written: a query and the places of its parts in the file.
@@ -103,8 +92,6 @@ pub fn parse(alloc: Global, file: &[u8]) -> Result<Query, ParseFault>
     ensures written { IfOk result (λ query. spec.IsQuery file.now query) }
     // and each query that is written so is found: a file that is refused is written as none
     ensures each { (query : Query) → spec.IsQuery file.now query → spec.Finds query result }
-    // and its text is read as the same query, places aside, where a file may have so many bytes
-    ensures again { IfOk result IsTextRead }
 {
     if file.len() > MOST_BYTES {
         return Err(ParseFault::Refused {
@@ -112,7 +99,6 @@ pub fn parse(alloc: Global, file: &[u8]) -> Result<Query, ParseFault>
             cause: ParseCause::TooLong,
         });
     }
-    text_is_parsed();
     match str::from_utf8(file) {
         Ok(text) => parse_text(alloc, text),
         Err(error) => Err(ParseFault::Refused {
@@ -120,4 +106,15 @@ pub fn parse(alloc: Global, file: &[u8]) -> Result<Query, ParseFault>
             cause: ParseCause::NotUtf8,
         }),
     }
+}
+
+/// The canonical text of a query that [`parse`] gave is read as that query, places aside, where it has at most 65,536
+/// bytes.
+pub fn text_is_parsed()
+    ensures { TextIsParsed }
+{
+    tokens_are_sayable();
+    printed_is_read();
+    text_is_read_again();
+    text_is_sayable();
 }
