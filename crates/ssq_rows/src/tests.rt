@@ -428,7 +428,10 @@ fn stopped_and_crashed<R: Threads + Wait + Sync>(
 ) -> Result<Option<MemDisk>, AllocError> {
     let disk = disk.failing(vec![in alloc; FailAt::Disk(0)]?);
     let Ended {
-        status, disk, out, ..
+        status,
+        disk,
+        out,
+        ..
     } = run_on(rt, alloc, row, disk)?;
     if status != 7 || out.bytes() != FAULT {
         return Ok(None);
