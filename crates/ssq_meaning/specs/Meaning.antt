@@ -130,11 +130,6 @@ abbrev pub next_end : Option ℕ → ℕ → ℕ → ℕ
 next_end None seen from = seen
 next_end (Some most) seen from = min (from + most) seen
 
--- the cutting of a round that saw so many lines of a log without epochs
-unfoldable pub next_cuts : Option ℕ → ℕ → Cuts
-next_cuts most seen zero = 0
-next_cuts most seen (suc n) = next_end most seen (next_cuts most seen n)
-
 -- each of the first n epochs has a line
 abbrev pub AreProper : Cuts → ℕ → Type 0
 AreProper cuts n = (e : ℕ) → e < n → cuts e < cuts (e + 1)
