@@ -217,7 +217,7 @@ round_stops job cuts first planned seen known most start now new before told tol
     let Last : Files → Type 0 = StandsBetween job cuts planned k (k + 1) in
     let Now : ℕ → Type 0 = λ k. LeavesOnly now new (StandsBetween job cuts m k (k + 1)) in
     let during' : LeavesOnly now new Last = weaker (StandsBetween job cuts m k (k + 1)) Last now new (subst Now so_far.at during)
-        (λ f is. wider job cuts m k (k + 1) planned k (k + 1) f so_far.on (omega arith) (omega arith) is) in
+    (λ f is. wider job cuts m k (k + 1) planned k (k + 1) f so_far.on (omega arith) (omega arith) is) in
     record {
       epochs = n;
       did = record {
