@@ -79,16 +79,16 @@ always_unopened job found start now (unsynced run) before = weaker (IsImage (had
 always_unopened job found start now (synced run) before =
     synced_leaves (IsBegun (sought_of job.text found) (files_now start)) (StillStands job (had_now start)) start now run (λ f is. still job start f before is) (λ f is. begun_still job found start f before is)
 
-yet_still : (job : Job) (cuts : Cuts) (least most : ℕ) (start : History) (files : Files) → ((e : ℕ) → e ≤ most → cuts e < 2 ^ 64)
-    → StandsYet job cuts least most (files_now start) files → StillStands job (had_now start) files
-yet_still job cuts least most start files small (inl s) = inr (record { cuts = cuts; planned = s.planned; committed = s.committed }, record { written = s.written; standing = s.standing; exactly = s.exactly; small = small s.planned s.no_more })
-yet_still job cuts least most start files small (inr old) =
+yet_still : (job : Job) (cuts : Cuts) (begun least most : ℕ) (start : History) (files : Files) → ((e : ℕ) → e ≤ most → cuts e < 2 ^ 64)
+    → StandsYet job cuts begun least most (files_now start) files → StillStands job (had_now start) files
+yet_still job cuts begun least most start files small (inl s) = inr (record { cuts = cuts; planned = s.planned; committed = s.committed }, record { written = s.written; standing = s.standing; exactly = s.exactly; small = small s.planned s.no_more })
+yet_still job cuts begun least most start files small (inr old) =
     let P : Files → Type 0 = IsImage (had_now start) in
     let E : Files → Type 0 = IsEmpty in
     inl (subst E (sym old.1) old.0, subst P (sym old.1) (files_are_image (had_now start)))
 
 -- the rounds were run
-pub always_run : (job : Job) (cuts : Cuts) (least most : ℕ) (start now : History) → ((e : ℕ) → e ≤ most → cuts e < 2 ^ 64)
-    → SyncedSince start now (StandsYet job cuts least most (files_now start)) → AlwaysStands job start now
-always_run job cuts least most start now small run before =
-    synced_leaves (StandsYet job cuts least most (files_now start)) (StillStands job (had_now start)) start now run (λ f is. still job start f before is) (λ f is. yet_still job cuts least most start f small is)
+pub always_run : (job : Job) (cuts : Cuts) (begun least most : ℕ) (start now : History) → ((e : ℕ) → e ≤ most → cuts e < 2 ^ 64)
+    → SyncedSince start now (StandsYet job cuts begun least most (files_now start)) → AlwaysStands job start now
+always_run job cuts begun least most start now small run before =
+    synced_leaves (StandsYet job cuts begun least most (files_now start)) (StillStands job (had_now start)) start now run (λ f is. still job start f before is) (λ f is. yet_still job cuts begun least most start f small is)

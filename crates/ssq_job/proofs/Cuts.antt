@@ -59,7 +59,7 @@ continued_rises cuts n most seen rises below e = elim (cases_lt e n) [
 -- Cuts that go on from where so many epochs are planned, by a round that saw so many lines.
 pub record GoOn (job : Job) (cuts : Cuts) (planned seen : ℕ) (next : Cuts) : Type 0 where
   pub same : (e : ℕ) → e ≤ planned → next e ≡ cuts e
-  pub stands : (least : ℕ) (files : Files) → StandsBetween job cuts least planned files → StandsBetween job next least planned files
+  pub stands : (begun least : ℕ) (files : Files) → StandsBetween job cuts begun least planned files → StandsBetween job next begun least planned files
   pub below : ((e : ℕ) → e ≤ planned → cuts e ≤ seen) → (e : ℕ) → next e ≤ seen
   pub rises : ((e : ℕ) → e < planned → cuts e ≤ cuts (e + 1)) → ((e : ℕ) → e ≤ planned → cuts e ≤ seen) → (e : ℕ) → next e ≤ next (e + 1)
 
@@ -68,7 +68,7 @@ go_on job cuts planned most seen next is =
     let P : Cuts → Type 0 = GoOn job cuts planned seen in
     subst P (sym is) (record {
       same = continued_same cuts planned most seen;
-      stands = λ least files s. stands_on job cuts least planned most seen files s;
+      stands = λ begun least files s. stands_on job cuts begun least planned most seen files s;
       below = continued_le cuts planned most seen;
       rises = continued_rises cuts planned most seen;
     })

@@ -44,11 +44,11 @@ always_refused job found start now held why same un =
     always_unopened job found start now (subst O (sym same) un.moments)
 
 -- what the opening left is what was there, or stands
-begun_yet : (job : Job) (found : ℕ) (entry : Entry) (old files : Files) → Reads job entry old → IsBegun (sought_of job.text found) old files → StandsYet job entry.cuts entry.committed entry.planned old files
-begun_yet job found entry old files (inl s) (inl same) = inl (record { planned = entry.planned; committed = entry.committed; written = s.written; standing = s.standing; exactly = same ∙ s.exactly; kept = omega arith; no_more = omega arith })
+begun_yet : (job : Job) (found : ℕ) (entry : Entry) (old files : Files) → Reads job entry old → IsBegun (sought_of job.text found) old files → StandsYet job entry.cuts entry.planned entry.committed entry.planned old files
+begun_yet job found entry old files (inl s) (inl same) = inl (record { planned = entry.planned; committed = entry.committed; written = s.written; standing = s.standing; exactly = same ∙ s.exactly; no_fewer = omega arith; kept = omega arith; no_more = omega arith })
 begun_yet job found entry old files (inl s) (inr begun) = absurd (not_empty job entry old s begun.0)
 begun_yet job found entry old files (inr uncut) (inl same) = inr (uncut.empty, same)
-begun_yet job found entry old files (inr uncut) (inr begun) = inl (record { planned = 0; committed = 0; written = 0; standing = none_standing job entry.cuts uncut.starts; exactly = begun.1 ∙ only_meta_is job found entry.cuts; kept = omega (arith, uncut.committed); no_more = omega arith })
+begun_yet job found entry old files (inr uncut) (inr begun) = inl (record { planned = 0; committed = 0; written = 0; standing = none_standing job entry.cuts uncut.starts; exactly = begun.1 ∙ only_meta_is job found entry.cuts; no_fewer = omega (arith, uncut.planned); kept = omega (arith, uncut.committed); no_more = omega arith })
 
 -- a run begins
 so_begins : (given : Given) (entry : Entry) (found : ℕ) (progress : Progress) (now : History) (OutTells : Type 0) → Reads given.job entry (files_now given.start) → found ≤ most_lines
@@ -58,8 +58,8 @@ unfolding cuts_after AreRounds told_from
 so_begins given entry found progress now OutTells reads few ready run =
     let old : Files = files_now given.start in
     let P : Files → Type 0 = IsBegun (sought_of given.job.text found) old in
-    let Q : Files → Type 0 = StandsYet given.job entry.cuts entry.committed entry.planned old in
-    let M : ℕ → Type 0 = λ n. SyncedSince given.start now (StandsYet given.job entry.cuts entry.committed n old) in
+    let Q : Files → Type 0 = StandsYet given.job entry.cuts entry.planned entry.committed entry.planned old in
+    let M : ℕ → Type 0 = λ n. SyncedSince given.start now (StandsYet given.job entry.cuts entry.planned entry.committed n old) in
     record {
       are = tt;
       all = omega (arith, ready.is_committed);
@@ -84,7 +84,7 @@ so_begins_at given entry found progress now OutTells held reads few ready same r
     so_begins given entry found progress now OutTells reads few ready (subst S (sym same) run)
 
 left_always : (given : Given) (entry : Entry) (cuts : Cuts) (told planned : ℕ) (now : History) → Left given entry cuts told planned now → AlwaysStands given.job given.start now
-left_always given entry cuts told planned now left = always_run given.job cuts entry.committed planned given.start now left.small left.moments
+left_always given entry cuts told planned now left = always_run given.job cuts entry.planned entry.committed planned given.start now left.small left.moments
 
 rounds_always : (given : Given) (entry : Entry) (found known : ℕ) (now : History) (T : Type 0) (w told : List ℕ) (end : Option JobFault) → RoundsEnd given entry found known now T w told end → AlwaysStands given.job given.start now
 rounds_always given entry found known now T w told end (finished rounds epochs all shown done wrote last is) = left_always given entry _ _ _ now done.left

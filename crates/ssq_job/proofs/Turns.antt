@@ -42,24 +42,25 @@ planned_done cuts k end epochs seen (Some pending) proper plans bound covers = e
       absurd (omega (arith, rises, plans, bound, covers no))
 ]
 
-yet_on : (job : Job) (cuts next : Cuts) (planned seen least most : ℕ) (old files : Files) → GoOn job cuts planned seen next → planned ≤ most
-    → StandsYet job cuts least planned old files → StandsYet job next least most old files
-yet_on job cuts next planned seen least most old files goes le (inl s) = inl (wider job next least planned least most files (omega arith) le (goes.stands least files s))
-yet_on job cuts next planned seen least most old files goes le (inr same) = inr same
+yet_on : (job : Job) (cuts next : Cuts) (planned seen begun least most : ℕ) (old files : Files) → GoOn job cuts planned seen next → planned ≤ most
+    → StandsYet job cuts begun least planned old files → StandsYet job next begun least most old files
+yet_on job cuts next planned seen begun least most old files goes le (inl s) = inl (wider job next begun least planned begun least most files (omega arith) (omega arith) le (goes.stands begun least files s))
+yet_on job cuts next planned seen begun least most old files goes le (inr same) = inr same
 
 -- the moments before a round, and those in it
-turn_moments : (job : Job) (cuts next : Cuts) (planned seen least first most : ℕ) (start mid now : History) → GoOn job cuts planned seen next → planned ≤ most → least ≤ first
-    → SyncedSince start mid (StandsYet job cuts least planned (files_now start)) → LeavesOnly mid now (StandsBetween job next first most)
-    → SyncedSince start now (StandsYet job next least most (files_now start))
-turn_moments job cuts next planned seen least first most start mid now goes le low run in_round =
-    let P : Files → Type 0 = StandsYet job cuts least planned (files_now start) in
-    let Q : Files → Type 0 = StandsYet job next least most (files_now start) in
+turn_moments : (job : Job) (cuts next : Cuts) (planned seen begun least first most : ℕ) (start mid now : History) → GoOn job cuts planned seen next
+    → planned ≤ most → begun ≤ planned → least ≤ first
+    → SyncedSince start mid (StandsYet job cuts begun least planned (files_now start)) → LeavesOnly mid now (StandsBetween job next planned first most)
+    → SyncedSince start now (StandsYet job next begun least most (files_now start))
+turn_moments job cuts next planned seen begun least first most start mid now goes le on low run in_round =
+    let P : Files → Type 0 = StandsYet job cuts begun least planned (files_now start) in
+    let Q : Files → Type 0 = StandsYet job next begun least most (files_now start) in
     record {
       at = run.at;
       before = run.before;
       settled = run.settled;
-      since = joined Q run.at mid now (weaker P Q run.at mid run.since (λ f y. yet_on job cuts next planned seen least most (files_now start) f goes le y))
-          (weaker (StandsBetween job next first most) Q mid now in_round (λ f s. inl (wider job next first most least most f low (omega arith) s)));
+      since = joined Q run.at mid now (weaker P Q run.at mid run.since (λ f y. yet_on job cuts next planned seen begun least most (files_now start) f goes le y))
+          (weaker (StandsBetween job next planned first most) Q mid now in_round (λ f s. inl (wider job next planned first most begun least most f on low (omega arith) s)));
     }
 
 -- no planned epoch ends behind what was seen
@@ -69,18 +70,21 @@ planned_below job cuts sinks from now seen ready all e le = omega (arith, proper
 
 turn_left : (given : Given) (entry : Entry) (found : ℕ) (rounds : List Round) (put : ℕ) (from : Progress) (mid now : History) (T : Type 0) (w : List ℕ) (seen epochs most : ℕ) (next : Cuts)
     → SoFar given entry found rounds put from mid T w → GoOn given.job (cuts_after given.most entry rounds) (planned_in from) seen next → seen ≤ most_lines → planned_end from ≤ seen
-    → planned_in from ≤ most → LeavesOnly mid now (StandsBetween given.job next from.committed most) → LeavesNow now (StandsBetween given.job next (from.committed + epochs) most)
+    → planned_in from ≤ most → LeavesOnly mid now (StandsBetween given.job next (planned_in from) from.committed most)
+    → LeavesNow now (StandsBetween given.job next (planned_in from) (from.committed + epochs) most)
     → Left given entry next (put + epochs) most now
 turn_left given entry found rounds put from mid now T w seen epochs most next so goes few all le in_round kept =
-    let K : ℕ → Type 0 = λ k. LeavesNow now (StandsBetween given.job next k most) in
+    let K : ℕ → Type 0 = λ k. LeavesNow now (StandsBetween given.job next entry.planned k most) in
+    let n : ℕ = planned_in from in
+    let k : ℕ = from.committed + epochs in
     let at : from.committed + epochs ≡ entry.committed + (put + epochs) = omega (arith, so.all) in
     let below = planned_below given.job (cuts_after given.most entry rounds) so.sinks from mid seen so.ready all in
     let standing = so.ready.standing in
     record {
       keeps = λ e low. goes.same e (omega (arith, low, so.on)) ∙ so.keeps e low;
       small = λ e low. omega (arith, goes.below below e, few);
-      moments = turn_moments given.job (cuts_after given.most entry rounds) next (planned_in from) seen entry.committed from.committed most given.start mid now goes le (omega (arith, so.all)) so.moments in_round;
-      kept = subst K at kept;
+      moments = turn_moments given.job (cuts_after given.most entry rounds) next (planned_in from) seen entry.planned entry.committed from.committed most given.start mid now goes le so.on (omega (arith, so.all)) so.moments in_round;
+      kept = subst K at (record { each = λ image is. wider given.job next n k most entry.planned k most image so.on (omega arith) (omega arith) (kept.each image is) });
       sums = sums_upto given.job next most (goes.same 0 (omega arith) ∙ standing.starts) (λ e low. goes.rises (λ e low. omega (arith, standing.proper e low)) below e);
     }
 
@@ -126,8 +130,8 @@ turn_done given entry found known known_now rounds put from mid T w told now pro
     let enough = turn.enough in
     let ready = so.ready in
     let reached = ready.standing.reached in
-    let In : Cuts → Type 0 = λ c. LeavesOnly mid now (StandsBetween given.job c k (k + m)) in
-    let Kept : Cuts → Type 0 = λ c. LeavesNow now (StandsBetween given.job c (k + m) (k + m)) in
+    let In : Cuts → Type 0 = λ c. LeavesOnly mid now (StandsBetween given.job c n k (k + m)) in
+    let Kept : Cuts → Type 0 = λ c. LeavesNow now (StandsBetween given.job c n (k + m) (k + m)) in
     let Settled : Cuts → Type 0 = λ c. IsSettledAs now (files_at (course_of given.job c) (k + m) (k + m) (k + m)) in
     let Ready : Cuts → Type 0 = λ c. IsReady given.job c (k + m) progress now in
     let at : k + m ≡ entry.committed + (put + m) = omega (arith, so.all) in
@@ -145,7 +149,7 @@ turn_done given entry found known known_now rounds put from mid T w told now pro
     let done : AreDone given entry found (r ∷ rounds) (put + m) now = record { are = are; all = sym at; left = subst LeftTo at left_at; settled = subst SettledAt at (subst Settled (sym is) covered.settled) } in
     let planned_is : planned_in progress ≡ progress.committed = ap (planned_with progress.committed) covered.pending in
     let end_is : planned_end progress ≡ progress.end = ap (end_with progress.end) covered.pending in
-    let Moments : ℕ → Type 0 = λ p. SyncedSince given.start now (StandsYet given.job next entry.committed p (files_now given.start)) in
+    let Moments : ℕ → Type 0 = λ p. SyncedSince given.start now (StandsYet given.job next entry.planned entry.committed p (files_now given.start)) in
     let planned_at : k + m ≡ planned_in progress = omega (arith, planned_is, covered.committed) in
     record {
       round = r;
@@ -193,7 +197,7 @@ turn_unput given entry found known rounds put from progress mid now T w w' told 
 -- it stopped at an epoch
 turn_stopped : (given : Given) (entry : Entry) (found known known_now : ℕ) (rounds : List Round) (put : ℕ) (from : Progress) (mid : History) (T : Type 0) (w told : List ℕ) (now : History) (fault : RoundFault) (seen : ℕ)
     → SoFar given entry found rounds put from mid T w → length rounds < given.rounds → seen_after found rounds ≤ known → known ≤ seen → seen ≤ known_now → IsEnough seen given.job from
-    → IsStopped given.job (continued (cuts_after given.most entry rounds) (planned_in from) given.most seen) from.committed seen mid now [] told fault
+    → IsStopped given.job (continued (cuts_after given.most entry rounds) (planned_in from) given.most seen) (planned_in from) from.committed seen mid now [] told fault
     → RoundsEnd given entry found known_now now T w told (Some (fault_of_round fault))
 turn_stopped given entry found known known_now rounds put from mid T w told now fault seen so fewer shown saw there enough stop =
     let cuts : Cuts = cuts_after given.most entry rounds in
@@ -234,13 +238,13 @@ turn_unseen given entry found known known_now rounds put from mid T w told now f
     let Now : History → Type 0 = λ h. Left given entry cuts put (epochs_after entry.planned rounds) h in
     let reached = so.ready.standing.reached in
     let below = planned_below given.job cuts so.sinks from mid (seen_after found rounds) so.ready so.bound in
-    let Kept : Files → Type 0 = StandsBetween given.job cuts (entry.committed + put) n in
+    let Kept : Files → Type 0 = StandsBetween given.job cuts entry.planned (entry.committed + put) n in
     let To : ℕ → Type 0 = λ p. Left given entry cuts put p mid in
     let left_at : Left given entry cuts put n mid = record {
       keeps = so.keeps;
       small = λ e le. omega (arith, below e le, so.few);
       moments = so.moments;
-      kept = settled_leaves Kept mid (files_at (course_of given.job cuts) n from.committed so.sinks) so.ready.settled (between given.job cuts n from.committed so.sinks (entry.committed + put) n so.ready.standing (omega (arith, so.all)) (omega arith));
+      kept = settled_leaves Kept mid (files_at (course_of given.job cuts) n from.committed so.sinks) so.ready.settled (between given.job cuts n from.committed so.sinks entry.planned (entry.committed + put) n so.ready.standing so.on (omega (arith, so.all)) (omega arith));
       sums = sums_upto given.job cuts n so.ready.standing.starts (λ e low. omega (arith, so.ready.standing.proper e low));
     } in
     unseen rounds put seen (fault_of_round fault) (turn_some given entry found rounds put from mid T w so fewer) (omega (arith, shown, saw)) there

@@ -35,20 +35,20 @@ pub record Given : Type 0 where
 abbrev pub Wrote : Type 0 → List ℕ → List ℕ → List ℕ → Type 0
 Wrote Tells old new bytes = Tells → new ≡ old ++ bytes
 
--- The files stand for the job, cut like this, with so many epochs committed at least and so many planned at most; or they are the
--- files as they were, and no file is there.
-abbrev pub StandsYet : Job → Cuts → ℕ → ℕ → Files → Files → Type 0
-StandsYet job cuts least most old files = StandsBetween job cuts least most files ⊎ (IsEmpty old × (files ≡ old))
+-- The files stand for the job, cut like this, with so many epochs planned at least, so many committed at least and so many planned
+-- at most; or they are the files as they were, and no file is there.
+abbrev pub StandsYet : Job → Cuts → ℕ → ℕ → ℕ → Files → Files → Type 0
+StandsYet job cuts begun least most old files = StandsBetween job cuts begun least most files ⊎ (IsEmpty old × (files ≡ old))
 
 -- What rounds left that told so many epochs, from the first on that was not committed. The planned epochs keep their ends. From the
--- first sync of names on, each image of each moment stands for these cuts, with each epoch that was committed before; now each
--- image has each epoch that was told, too. No more than so many are planned. What any first epochs give, one after the other, is
--- what the query means on their lines.
+-- first sync of names on, each image of each moment stands for these cuts, with each epoch planned that was planned before and each
+-- committed that was committed; now each image has each epoch that was told, too. No more than so many are planned. What any first
+-- epochs give, one after the other, is what the query means on their lines.
 pub record Left (given : Given) (entry : Entry) (cuts : Cuts) (told planned : ℕ) (now : History) : Type 0 where
   pub keeps : (e : ℕ) → e ≤ entry.planned → cuts e ≡ entry.cuts e
   pub small : (e : ℕ) → e ≤ planned → cuts e < 2 ^ 64
-  pub moments : SyncedSince given.start now (StandsYet given.job cuts entry.committed planned (files_now given.start))
-  pub kept : LeavesNow now (StandsBetween given.job cuts (entry.committed + told) planned)
+  pub moments : SyncedSince given.start now (StandsYet given.job cuts entry.planned entry.committed planned (files_now given.start))
+  pub kept : LeavesNow now (StandsBetween given.job cuts entry.planned (entry.committed + told) planned)
   pub sums : (n : ℕ) → n ≤ planned → given_by given.job.bound given.job.lines cuts n ≡ meaning given.job.bound given.job.lines cuts n
 
 -- These rounds are done, the latest of which comes first, and so many epochs were told: all that were not committed before. Each

@@ -45,7 +45,7 @@ pub record SoFar (given : Given) (entry : Entry) (found : ℕ) (rounds : List Ro
   pub on : entry.planned ≤ planned_in progress
   pub bound : planned_end progress ≤ seen_after found rounds
   pub few : seen_after found rounds ≤ most_lines
-  pub moments : SyncedSince given.start now (StandsYet given.job (cuts_after given.most entry rounds) entry.committed (planned_in progress) (files_now given.start))
+  pub moments : SyncedSince given.start now (StandsYet given.job (cuts_after given.most entry rounds) entry.planned entry.committed (planned_in progress) (files_now given.start))
   pub wrote : Wrote OutTells given.written written (told_from given.job (cuts_after given.most entry rounds) entry.committed put)
   pub done : 0 < length rounds → AreDone given entry found rounds put now
 

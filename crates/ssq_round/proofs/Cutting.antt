@@ -89,9 +89,9 @@ ready_continued job cuts written progress now most seen ready =
     }
 
 -- what stands for the cuts stands for those that go on
-pub stands_on : (job : Job) (cuts : Cuts) (least planned : ℕ) (most : Option ℕ) (seen : ℕ) (files : Files)
-    → StandsBetween job cuts least planned files → StandsBetween job (continued cuts planned most seen) least planned files
-stands_on job cuts least planned most seen files s =
+pub stands_on : (job : Job) (cuts : Cuts) (begun least planned : ℕ) (most : Option ℕ) (seen : ℕ) (files : Files)
+    → StandsBetween job cuts begun least planned files → StandsBetween job (continued cuts planned most seen) begun least planned files
+stands_on job cuts begun least planned most seen files s =
     let other : Cuts = continued cuts planned most seen in
     let same : (e : ℕ) → e ≤ s.planned → other e ≡ cuts e = λ e le. continued_same cuts planned most seen e (omega (arith, le, s.no_more)) in
     record {
@@ -100,6 +100,7 @@ stands_on job cuts least planned most seen files s =
       written = s.written;
       standing = standing_same job cuts other s.planned s.committed s.written same s.standing;
       exactly = s.exactly ∙ agree_files (course_of job cuts) (course_of job other) s.planned s.committed s.written (agree job cuts other s.planned s.committed s.written same s.standing.reached.planned_first);
+      no_fewer = s.no_fewer;
       kept = s.kept;
       no_more = s.no_more;
     }

@@ -42,7 +42,7 @@ pub record RoundSoFar (job : Job) (cuts : Cuts) (first planned seen : ℕ) (star
   pub epochs : ℕ
   pub at : progress.committed ≡ first + epochs
   pub lines : told ≡ before ++ told_from job cuts first epochs
-  pub moments : LeavesOnly start now (StandsBetween job cuts first (planned_in progress))
+  pub moments : LeavesOnly start now (StandsBetween job cuts planned first (planned_in progress))
   pub on : planned ≤ planned_in progress
   pub bound : planned_end progress ≤ seen
 
@@ -55,8 +55,8 @@ round_begins job cuts written seen start before progress ready enough = record {
   epochs = 0;
   at = omega arith;
   lines = sym (append-nil before) ∙ ap (λ t. before ++ t) (sym (told_none job cuts progress.committed));
-  moments = stays start (StandsBetween job cuts progress.committed (planned_in progress)) (files_at (course_of job cuts) (planned_in progress) progress.committed written) ready.settled
-      (between job cuts (planned_in progress) progress.committed written progress.committed (planned_in progress) ready.standing (omega arith) (omega arith));
+  moments = stays start (StandsBetween job cuts (planned_in progress) progress.committed (planned_in progress)) (files_at (course_of job cuts) (planned_in progress) progress.committed written) ready.settled
+      (between job cuts (planned_in progress) progress.committed written (planned_in progress) progress.committed (planned_in progress) ready.standing (omega arith) (omega arith) (omega arith));
   on = omega arith;
   bound = enough.all;
 }
@@ -116,7 +116,7 @@ pub round_goes_on : (job : Job) (cuts : Cuts) (first planned seen known : ℕ) (
     → is_behind progress seen ≡ true → seen ≤ length job.lines → seen ≤ known
     → progress' ≡ after_epoch most seen progress → IsReady job cuts (progress.committed + 1) progress' new
     → told' ≡ told ++ told_of job cuts progress.committed
-    → LeavesOnly now new (StandsBetween job cuts progress.committed (progress.committed + 1))
+    → LeavesOnly now new (StandsBetween job cuts (planned_in progress) progress.committed (progress.committed + 1))
     → RoundSoFar job cuts first planned seen start new before told' progress'
 round_goes_on job cuts first planned seen known most start now new before told told' progress progress' so_far goes some behind inside there moved ready added during =
     let next = next_of job cuts first planned seen known most start now before told progress so_far goes some behind inside there in
@@ -124,8 +124,9 @@ round_goes_on job cuts first planned seen known most start now new before told t
     let Planned : Progress → Type 0 = λ q. planned ≤ planned_in q in
     let Bound : Progress → Type 0 = λ q. planned_end q ≤ seen in
     let k : ℕ = progress.committed in
-    let One : Files → Type 0 = StandsBetween job cuts first (k + 1) in
-    let Reach : Progress → Type 0 = λ q. LeavesOnly start new (StandsBetween job cuts first (planned_in q)) in
+    let m : ℕ = planned_in progress in
+    let One : Files → Type 0 = StandsBetween job cuts planned first (k + 1) in
+    let Reach : Progress → Type 0 = λ q. LeavesOnly start new (StandsBetween job cuts planned first (planned_in q)) in
     let At : Progress → Type 0 = λ q. q.committed ≡ first + (n + 1) in
     record {
       written = progress.committed + 1;
@@ -135,8 +136,8 @@ round_goes_on job cuts first planned seen known most start now new before told t
       lines = added ∙ ap (λ t. t ++ told_of job cuts progress.committed) so_far.lines ∙ append_assoc before (told_from job cuts first n) (told_of job cuts progress.committed)
           ∙ ap (λ e. before ++ (told_from job cuts first n ++ told_of job cuts e)) so_far.at ∙ ap (λ t. before ++ t) (sym (told_next job cuts first n));
       moments = subst Reach (sym moved) (joined One start now new
-          (weaker (StandsBetween job cuts first (planned_in progress)) One start now so_far.moments (λ f is. wider job cuts first (planned_in progress) first (k + 1) f (omega arith) so_far.ready.standing.reached.one_ahead is))
-          (weaker (StandsBetween job cuts k (k + 1)) One now new during (λ f is. wider job cuts k (k + 1) first (k + 1) f (omega (arith, so_far.at)) (omega arith) is)));
+          (weaker (StandsBetween job cuts planned first m) One start now so_far.moments (λ f is. wider job cuts planned first m planned first (k + 1) f (omega arith) (omega arith) so_far.ready.standing.reached.one_ahead is))
+          (weaker (StandsBetween job cuts m k (k + 1)) One now new during (λ f is. wider job cuts m k (k + 1) planned first (k + 1) f so_far.on (omega (arith, so_far.at)) (omega arith) is)));
       on = subst Planned (sym moved) (omega (arith, so_far.on, so_far.ready.standing.reached.one_ahead));
       bound = subst Bound (sym moved) next.bound;
     }
@@ -155,7 +156,7 @@ at_end seen end (Some pending) behind bound = absurd (true_false behind)
 
 pub round_ends : (job : Job) (cuts : Cuts) (first planned seen : ℕ) (start now : History) (before told : List ℕ) (progress : Progress)
     → RoundSoFar job cuts first planned seen start now before told progress → is_behind progress seen ≡ false
-    → IsDone job cuts first seen start now before told progress
+    → IsDone job cuts planned first seen start now before told progress
 round_ends job cuts first planned seen start now before told progress so_far behind =
     let end = at_end seen progress.end progress.pending behind so_far.bound in
     let reached = so_far.ready.standing.reached in
@@ -171,10 +172,11 @@ round_ends job cuts first planned seen start now before told progress so_far beh
     let written_is : so_far.written ≡ progress.committed = omega (arith, planned_is, reached.written_first, reached.planned_first) in
     let settled : IsSettledAs now (files_at (course_of job cuts) done done done) = subst A so_far.at (subst W written_is (subst P planned_is so_far.ready.settled)) in
     let standing : Standing job cuts done done done = subst SA so_far.at (subst SW written_is (subst SP planned_is so_far.ready.standing)) in
-    let kept : LeavesNow now (StandsBetween job cuts done done) =
-    settled_leaves (StandsBetween job cuts done done) now (files_at (course_of job cuts) done done done) settled (between job cuts done done done done done standing (omega arith) (omega arith)) in
+    let kept : LeavesNow now (StandsBetween job cuts planned done done) =
+    settled_leaves (StandsBetween job cuts planned done done) now (files_at (course_of job cuts) done done done) settled
+    (between job cuts done done done planned done done standing (omega (arith, so_far.on, planned_is, so_far.at)) (omega arith) (omega arith)) in
     let R : ℕ → Type 0 = λ w. IsReady job cuts w progress now in
-    let M : ℕ → Type 0 = λ p. LeavesOnly start now (StandsBetween job cuts first p) in
+    let M : ℕ → Type 0 = λ p. LeavesOnly start now (StandsBetween job cuts planned first p) in
     record {
       epochs = n;
       did = record { lines = so_far.lines; moments = subst M (planned_is ∙ so_far.at) so_far.moments; kept = kept };
@@ -202,24 +204,29 @@ stop_cause job cuts k seen now NoMemory less is = tt
 pub round_stops : (job : Job) (cuts : Cuts) (first planned seen known : ℕ) (most : Option ℕ) (start now new : History) (before told told' : List ℕ) (progress : Progress) (fault : RoundFault)
     → RoundSoFar job cuts first planned seen start now before told progress → GoesOn cuts planned most seen → ForSome most (λ m. 1 ≤ m)
     → is_behind progress seen ≡ true → seen ≤ length job.lines → seen ≤ known
-    → told' ≡ told → LeavesOnly now new (StandsBetween job cuts progress.committed (progress.committed + 1)) → EpochCause job cuts progress.committed new fault
-    → IsStopped job cuts first seen start new before told' fault
+    → told' ≡ told → LeavesOnly now new (StandsBetween job cuts (planned_in progress) progress.committed (progress.committed + 1)) → EpochCause job cuts progress.committed new fault
+    → IsStopped job cuts planned first seen start new before told' fault
 round_stops job cuts first planned seen known most start now new before told told' progress fault so_far goes some behind inside there same during cause =
     let next = next_of job cuts first planned seen known most start now before told progress so_far goes some behind inside there in
     let n : ℕ = so_far.epochs in
     let less : cuts progress.committed < seen = omega (arith, so_far.ready.covers, next.line, next.bound) in
     let C : ℕ → Type 0 = λ k. StopCause job cuts k seen new fault in
-    let One : Files → Type 0 = StandsBetween job cuts first (first + n + 1) in
-    let Now : ℕ → Type 0 = λ k. LeavesOnly now new (StandsBetween job cuts k (k + 1)) in
-    let during' : LeavesOnly now new (StandsBetween job cuts (first + n) (first + n + 1)) = subst Now so_far.at during in
+    let k : ℕ = first + n in
+    let m : ℕ = planned_in progress in
+    let One : Files → Type 0 = StandsBetween job cuts planned first (k + 1) in
+    let Last : Files → Type 0 = StandsBetween job cuts planned k (k + 1) in
+    let Now : ℕ → Type 0 = λ k. LeavesOnly now new (StandsBetween job cuts m k (k + 1)) in
+    let during' : LeavesOnly now new Last = weaker (StandsBetween job cuts m k (k + 1)) Last now new (subst Now so_far.at during)
+    (λ f is. wider job cuts m k (k + 1) planned k (k + 1) f so_far.on (omega arith) (omega arith) is) in
     record {
       epochs = n;
       did = record {
         lines = same ∙ so_far.lines;
         moments = joined One start now new
-            (weaker (StandsBetween job cuts first (planned_in progress)) One start now so_far.moments (λ f is. wider job cuts first (planned_in progress) first (first + n + 1) f (omega arith) (omega (arith, so_far.at, so_far.ready.standing.reached.one_ahead)) is))
-            (weaker (StandsBetween job cuts (first + n) (first + n + 1)) One now new during' (λ f is. wider job cuts (first + n) (first + n + 1) first (first + n + 1) f (omega arith) (omega arith) is));
-        kept = present_of (StandsBetween job cuts (first + n) (first + n + 1)) now new during';
+            (weaker (StandsBetween job cuts planned first m) One start now so_far.moments
+            (λ f is. wider job cuts planned first m planned first (k + 1) f (omega arith) (omega arith) (omega (arith, so_far.at, so_far.ready.standing.reached.one_ahead)) is))
+            (weaker Last One now new during' (λ f is. wider job cuts planned k (k + 1) planned first (k + 1) f (omega arith) (omega arith) (omega arith) is));
+        kept = present_of Last now new during';
       };
       cause = subst C so_far.at (stop_cause job cuts progress.committed seen new fault less cause);
     }
@@ -243,14 +250,14 @@ on_ok (Err e) p f = p
 -- a log of which less was known before
 pub round_done : (job : Job) (cuts : Cuts) (from progress : Progress) (most : Option ℕ) (known mid known_now seen : ℕ) (start now : History) (before told : List ℕ)
     → known ≤ mid → mid ≡ seen → mid ≤ known_now → IsEnough seen job from
-    → IsDone job (continued cuts (planned_in from) most seen) from.committed seen start now before told progress
+    → IsDone job (continued cuts (planned_in from) most seen) (planned_in from) from.committed seen start now before told progress
     → RoundDone job cuts from most known known_now start now before told progress
 round_done job cuts from progress most known mid known_now seen start now before told less is later enough done =
     record { seen = seen; saw = omega (arith, less, is); there = omega (arith, is, later); enough = enough; done = done }
 
 pub round_stopped : (job : Job) (cuts : Cuts) (from : Progress) (most : Option ℕ) (known mid known_now seen : ℕ) (start now : History) (before told : List ℕ) (fault : RoundFault)
     → known ≤ mid → mid ≡ seen → mid ≤ known_now → IsEnough seen job from
-    → IsStopped job (continued cuts (planned_in from) most seen) from.committed seen start now before told fault
+    → IsStopped job (continued cuts (planned_in from) most seen) (planned_in from) from.committed seen start now before told fault
     → RoundStop job cuts from most known known_now start now before told fault
 round_stopped job cuts from most known mid known_now seen start now before told fault less is later enough end =
     stopped seen (omega (arith, less, is)) (omega (arith, is, later)) enough end

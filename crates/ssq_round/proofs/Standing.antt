@@ -105,17 +105,28 @@ commit_standing job cuts e standing = record {
   faultless = standing.faultless;
 }
 
-pub between : (job : Job) (cuts : Cuts) (n k w least most : ℕ) → Standing job cuts n k w → least ≤ k → n ≤ most → StandsBetween job cuts least most (files_at (course_of job cuts) n k w)
-between job cuts n k w least most standing low high = record { planned = n; committed = k; written = w; standing = standing; exactly = refl; kept = low; no_more = high }
+pub between : (job : Job) (cuts : Cuts) (n k w begun least most : ℕ) → Standing job cuts n k w → begun ≤ n → least ≤ k → n ≤ most
+    → StandsBetween job cuts begun least most (files_at (course_of job cuts) n k w)
+between job cuts n k w begun least most standing there low high =
+    record { planned = n; committed = k; written = w; standing = standing; exactly = refl; no_fewer = there; kept = low; no_more = high }
 
-pub wider : (job : Job) (cuts : Cuts) (least most least' most' : ℕ) (files : Files) → least' ≤ least → most ≤ most' → StandsBetween job cuts least most files → StandsBetween job cuts least' most' files
-wider job cuts least most least' most' files low high s =
-    record { planned = s.planned; committed = s.committed; written = s.written; standing = s.standing; exactly = s.exactly; kept = omega (arith, low, s.kept); no_more = omega (arith, high, s.no_more) }
+pub wider : (job : Job) (cuts : Cuts) (begun least most begun' least' most' : ℕ) (files : Files) → begun' ≤ begun → least' ≤ least → most ≤ most'
+    → StandsBetween job cuts begun least most files → StandsBetween job cuts begun' least' most' files
+wider job cuts begun least most begun' least' most' files there low high s = record {
+  planned = s.planned;
+  committed = s.committed;
+  written = s.written;
+  standing = s.standing;
+  exactly = s.exactly;
+  no_fewer = omega (arith, there, s.no_fewer);
+  kept = omega (arith, low, s.kept);
+  no_more = omega (arith, high, s.no_more);
+}
 
 -- one of two, both of which stand
-pub either_between : (job : Job) (cuts : Cuts) (old new : History) (before after : Files) (least most : ℕ) → LeavesOnly old new (IsEither before after)
-    → StandsBetween job cuts least most before → StandsBetween job cuts least most after → LeavesOnly old new (StandsBetween job cuts least most)
-either_between job cuts old new before after least most run first second = either_gives (StandsBetween job cuts least most) old new before after after run refl first second
+pub either_between : (job : Job) (cuts : Cuts) (old new : History) (before after : Files) (begun least most : ℕ) → LeavesOnly old new (IsEither before after)
+    → StandsBetween job cuts begun least most before → StandsBetween job cuts begun least most after → LeavesOnly old new (StandsBetween job cuts begun least most)
+either_between job cuts old new before after begun least most run first second = either_gives (StandsBetween job cuts begun least most) old new before after after run refl first second
 
 -- what each moment leaves, this one leaves
 pub present_of : (P : Files → Type 0) (old new : History) → LeavesOnly old new P → LeavesNow new P

@@ -1,9 +1,9 @@
 -- One epoch of a round: what the code has is what the cuts have.
-use Rattle.std.proofs.Common.{◌≡◌, ◌+◌, ◌-◌, ◌<◌, ◌==◌, ◌^◌, ℕ, Some, None, Bool, true, false, refl, ap, sym, ◌∙◌, subst, inl, inr, arith, eq-eqb, length}
+use Rattle.std.proofs.Common.{◌≡◌, ◌+◌, ◌-◌, ◌<◌, ◌≤◌, ◌==◌, ◌^◌, ℕ, Some, None, Bool, true, false, refl, ap, sym, ◌∙◌, subst, inl, inr, arith, eq-eqb, length}
 use Rattle.std.specs.Prelude.{if◌then◌else◌}
 use Rattle.std.proofs.lemmas.Bool.{eqb-true, cases_lt}
 use Rattle.ssq_outside.specs.History.{History, LeavesOnly}
-use Rattle.ssq_outside.proofs.Steps.{joined}
+use Rattle.ssq_outside.proofs.Steps.{joined, weaker}
 use Rattle.ssq_meaning.specs.Meaning.{Cuts, out}
 use Rattle.ssq_plans.specs.Records.{epoch_after}
 use Rattle.ssq_core.specs.Course.{plan_of}
@@ -16,7 +16,7 @@ use Rattle.ssq_round.specs.Cutting.{planned_with, planned_in}
 use Rattle.ssq_round.specs.Epochs.{IsEpochOf, IsPlanned, IsEpochDone, EpochCause, IsReady, IsNext}
 use Rattle.ssq_round.specs.Standing.{Job, plan_at, course_of, Standing, StandsBetween}
 use Rattle.ssq_round.specs.Told.{epoch_line, told_of}
-use Rattle.ssq_round.proofs.Standing.{plan_standing, between, either_between}
+use Rattle.ssq_round.proofs.Standing.{plan_standing, between, wider, either_between}
 
 some_number : (n m : ℕ) → Some n ≡ Some m → n ≡ m
 some_number n m e = cc
@@ -93,15 +93,17 @@ pub next_planned : (job : Job) (cuts : Cuts) (written number end : ℕ) (progres
 next_planned job cuts written number end progress now new is plans settled =
     let P : ℕ → Type 0 = λ n. IsPlanned job cuts n written new in subst P is.same (record { standing = plans.after; settled = settled })
 
-pub next_leaves : (job : Job) (cuts : Cuts) (written number end : ℕ) (progress : Progress) (now new : History) → IsNumber progress.committed number
-    → PlansNext job cuts written number end now
+pub next_leaves : (job : Job) (cuts : Cuts) (written number end : ℕ) (progress : Progress) (now new : History) → progress.pending ≡ None
+    → IsNumber progress.committed number → PlansNext job cuts written number end now
     → LeavesOnly now new (IsEither (files_at (course_of job cuts) number number written) (files_at (course_of job cuts) (number + 1) number written))
-    → LeavesOnly now new (StandsBetween job cuts progress.committed (progress.committed + 1))
-next_leaves job cuts written number end progress now new is plans run =
-    let P : ℕ → Type 0 = λ n. LeavesOnly now new (StandsBetween job cuts n (n + 1)) in
-    subst P is.same (either_between job cuts now new (files_at (course_of job cuts) number number written) (files_at (course_of job cuts) (number + 1) number written) number (number + 1) run
-    (between job cuts number number written number (number + 1) plans.before (omega arith) (omega arith))
-    (between job cuts (number + 1) number written number (number + 1) plans.after (omega arith) (omega arith)))
+    → LeavesOnly now new (StandsBetween job cuts (planned_in progress) progress.committed (progress.committed + 1))
+next_leaves job cuts written number end progress now new none is plans run =
+    let begun : ℕ = planned_in progress in
+    let P : ℕ → Type 0 = λ n. LeavesOnly now new (StandsBetween job cuts begun n (n + 1)) in
+    let planned : begun ≡ progress.committed = ap (planned_with progress.committed) none in
+    subst P is.same (either_between job cuts now new (files_at (course_of job cuts) number number written) (files_at (course_of job cuts) (number + 1) number written) begun number (number + 1) run
+    (between job cuts number number written begun number (number + 1) plans.before (omega (arith, planned, is.same)) (omega arith) (omega arith))
+    (between job cuts (number + 1) number written begun number (number + 1) plans.after (omega (arith, planned, is.same)) (omega arith) (omega arith)))
 
 -- the pending epoch is planned already
 pub pending_planned : (job : Job) (cuts : Cuts) (written end : ℕ) (progress : Progress) (now : History) → progress.pending ≡ Some end
@@ -115,11 +117,11 @@ pending_planned job cuts written end progress now some ready =
 
 -- nothing is done
 pub ready_leaves : (job : Job) (cuts : Cuts) (written : ℕ) (progress : Progress) (now : History) → IsReady job cuts written progress now
-    → LeavesOnly now now (StandsBetween job cuts progress.committed (progress.committed + 1))
+    → LeavesOnly now now (StandsBetween job cuts (planned_in progress) progress.committed (progress.committed + 1))
 ready_leaves job cuts written progress now ready =
     let k : ℕ = progress.committed in
-    stays now (StandsBetween job cuts k (k + 1)) (files_at (course_of job cuts) (planned_in progress) k written) ready.settled
-    (between job cuts (planned_in progress) k written k (k + 1) ready.standing (omega arith) ready.standing.reached.one_ahead)
+    stays now (StandsBetween job cuts (planned_in progress) k (k + 1)) (files_at (course_of job cuts) (planned_in progress) k written) ready.settled
+    (between job cuts (planned_in progress) k written (planned_in progress) k (k + 1) ready.standing (omega arith) (omega arith) ready.standing.reached.one_ahead)
 
 -- that no epoch comes next is said where as many are planned as can be, all of them committed
 pub full_settled : (job : Job) (cuts : Cuts) (written : ℕ) (progress : Progress) (now : History) → progress.committed ≡ 4294967295
@@ -148,12 +150,17 @@ planned_is job cuts written number progress now is planned = let P : ℕ → Typ
 
 -- the epoch was planned, and then it ran, to its end or not
 pub epoch_leaves : (job : Job) (cuts : Cuts) (number : ℕ) (progress : Progress) (start now new : History) → number ≡ progress.committed
-    → LeavesOnly start now (StandsBetween job cuts progress.committed (progress.committed + 1)) → LeavesOnly now new (StandsBetween job cuts number (number + 1))
-    → LeavesOnly start new (StandsBetween job cuts progress.committed (progress.committed + 1))
-epoch_leaves job cuts number progress start now new is first second =
+    → planned_in progress ≤ progress.committed + 1
+    → LeavesOnly start now (StandsBetween job cuts (planned_in progress) progress.committed (progress.committed + 1))
+    → LeavesOnly now new (StandsBetween job cuts (number + 1) number (number + 1))
+    → LeavesOnly start new (StandsBetween job cuts (planned_in progress) progress.committed (progress.committed + 1))
+epoch_leaves job cuts number progress start now new is ahead first second =
     let k : ℕ = progress.committed in
-    let P : ℕ → Type 0 = λ n. LeavesOnly now new (StandsBetween job cuts n (n + 1)) in
-    joined (StandsBetween job cuts k (k + 1)) start now new first (subst P is second)
+    let begun : ℕ = planned_in progress in
+    let P : ℕ → Type 0 = λ n. LeavesOnly now new (StandsBetween job cuts (n + 1) n (n + 1)) in
+    joined (StandsBetween job cuts begun k (k + 1)) start now new first
+    (weaker (StandsBetween job cuts (k + 1) k (k + 1)) (StandsBetween job cuts begun k (k + 1)) now new (subst P is second)
+    (λ f is. wider job cuts (k + 1) k (k + 1) begun k (k + 1) f ahead (omega arith) (omega arith) is))
 
 pub epoch_stops : (job : Job) (cuts : Cuts) (number : ℕ) (progress : Progress) (now : History) (fault : RoundFault) → number ≡ progress.committed
     → EpochCause job cuts number now fault → EpochCause job cuts progress.committed now fault

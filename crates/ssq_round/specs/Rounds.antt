@@ -56,22 +56,23 @@ StopCause job cuts done seen now DiskFault = ⊤
 StopCause job cuts done seen now NoMemory = ⊤
 
 -- Epochs that a round did from the first on: what it told, and what each crash leaves. At each moment of it the epochs that were
--- committed at its start are; now those that it told are too. No more than so many are planned.
-pub record Did (job : Job) (cuts : Cuts) (first : ℕ) (start now : History) (before told : List ℕ) (epochs planned : ℕ) : Type 0 where
+-- planned at its start are planned, and those that were committed are; now those that it told are committed too. No more than so
+-- many are planned.
+pub record Did (job : Job) (cuts : Cuts) (begun first : ℕ) (start now : History) (before told : List ℕ) (epochs planned : ℕ) : Type 0 where
   pub lines : told ≡ before ++ told_from job cuts first epochs
-  pub moments : LeavesOnly start now (StandsBetween job cuts first planned)
-  pub kept : LeavesNow now (StandsBetween job cuts (first + epochs) planned)
+  pub moments : LeavesOnly start now (StandsBetween job cuts begun first planned)
+  pub kept : LeavesNow now (StandsBetween job cuts begun (first + epochs) planned)
 
 -- The round is done: so many epochs cover what was seen.
-pub record IsDone (job : Job) (cuts : Cuts) (first seen : ℕ) (start now : History) (before told : List ℕ) (progress : Progress) : Type 0 where
+pub record IsDone (job : Job) (cuts : Cuts) (begun first seen : ℕ) (start now : History) (before told : List ℕ) (progress : Progress) : Type 0 where
   pub epochs : ℕ
-  pub did : Did job cuts first start now before told epochs (first + epochs)
+  pub did : Did job cuts begun first start now before told epochs (first + epochs)
   pub covered : IsCovered job cuts (first + epochs) seen now progress
 
 -- The round stopped: at the epoch after so many, which has begun at most.
-pub record IsStopped (job : Job) (cuts : Cuts) (first seen : ℕ) (start now : History) (before told : List ℕ) (fault : RoundFault) : Type 0 where
+pub record IsStopped (job : Job) (cuts : Cuts) (begun first seen : ℕ) (start now : History) (before told : List ℕ) (fault : RoundFault) : Type 0 where
   pub epochs : ℕ
-  pub did : Did job cuts first start now before told epochs (first + epochs + 1)
+  pub did : Did job cuts begun first start now before told epochs (first + epochs + 1)
   pub cause : StopCause job cuts (first + epochs) seen now fault
 
 -- The round found its log too long, too short or failing: nothing was done.
@@ -87,17 +88,17 @@ pub record RoundDone (job : Job) (cuts : Cuts) (from : Progress) (most : Option 
   pub saw : known ≤ seen
   pub there : seen ≤ known_now
   pub enough : IsEnough seen job from
-  pub done : IsDone job (continued cuts (planned_in from) most seen) from.committed seen start now before told progress
+  pub done : IsDone job (continued cuts (planned_in from) most seen) (planned_in from) from.committed seen start now before told progress
 
 -- How a round ends that stopped: where its log was seen and taken, at an epoch; else before it did anything.
 pub data RoundStop (job : Job) (cuts : Cuts) (from : Progress) (most : Option ℕ) (known known_now : ℕ) (start now : History) (before told : List ℕ) (fault : RoundFault) : Type 0 where
   stopped : (seen : ℕ) → known ≤ seen → seen ≤ known_now → IsEnough seen job from
-      → IsStopped job (continued cuts (planned_in from) most seen) from.committed seen start now before told fault
+      → IsStopped job (continued cuts (planned_in from) most seen) (planned_in from) from.committed seen start now before told fault
       → RoundStop job cuts from most known known_now start now before told fault
   unseen : (seen : ℕ) → known ≤ seen → seen ≤ known_now → IsUnseen job cuts seen start now before told from fault
       → RoundStop job cuts from most known known_now start now before told fault
 
 -- Files that stand for a job's cuts stand for all cuts that go on from there: so what one round leaves stands for the next.
 abbrev pub StandsOn : Type 0
-StandsOn = (job : Job) (cuts : Cuts) (least planned : ℕ) (most : Option ℕ) (seen : ℕ) (files : Files)
-    → StandsBetween job cuts least planned files → StandsBetween job (continued cuts planned most seen) least planned files
+StandsOn = (job : Job) (cuts : Cuts) (begun least planned : ℕ) (most : Option ℕ) (seen : ℕ) (files : Files)
+    → StandsBetween job cuts begun least planned files → StandsBetween job (continued cuts planned most seen) begun least planned files

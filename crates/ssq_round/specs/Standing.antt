@@ -55,12 +55,13 @@ pub record Standing (job : Job) (cuts : Cuts) (planned committed written : ℕ) 
   pub inside : cuts planned ≤ length job.lines
   pub faultless : (e : ℕ) → e < written → fault job.bound job.lines cuts e ≡ None
 
--- The files stand for the job, with so many epochs committed at least, and so many planned at most.
-pub record StandsBetween (job : Job) (cuts : Cuts) (least most : ℕ) (files : Files) : Type 0 where
+-- The files stand for the job, with so many epochs planned at least, so many committed at least, and so many planned at most.
+pub record StandsBetween (job : Job) (cuts : Cuts) (begun least most : ℕ) (files : Files) : Type 0 where
   pub planned : ℕ
   pub committed : ℕ
   pub written : ℕ
   pub standing : Standing job cuts planned committed written
   pub exactly : files ≡ files_at (course_of job cuts) planned committed written
+  pub no_fewer : begun ≤ planned
   pub kept : least ≤ committed
   pub no_more : planned ≤ most

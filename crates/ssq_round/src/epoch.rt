@@ -124,10 +124,10 @@ pub fn run_planned<D: Disk, L: Log>(
     ensures done { D.tells → L.tells → (job : Job) (cuts : Cuts) (written : ℕ) → IsJobOf job prepared.now.bound (L.lines log.old) →
         IsEpochOf cuts epoch.number epoch.from epoch.end → IsPlanned job cuts epoch.number written (D.history disk.old) →
         IfOk result (IsEpochDone job cuts epoch.number (D.history disk.new)) }
-    // A crash at any moment leaves the epoch planned, written or committed.
+    // A crash at any moment leaves the epoch planned, and perhaps written, or committed too.
     ensures any_moment { D.tells → L.tells → (job : Job) (cuts : Cuts) (written : ℕ) → IsJobOf job prepared.now.bound (L.lines log.old) →
         IsEpochOf cuts epoch.number epoch.from epoch.end → IsPlanned job cuts epoch.number written (D.history disk.old) →
-        LeavesOnly (D.history disk.old) (D.history disk.new) (StandsBetween job cuts epoch.number (epoch.number + 1)) }
+        LeavesOnly (D.history disk.old) (D.history disk.new) (StandsBetween job cuts (epoch.number + 1) epoch.number (epoch.number + 1)) }
     ensures stop { D.tells → L.tells → (job : Job) (cuts : Cuts) (written : ℕ) → IsJobOf job prepared.now.bound (L.lines log.old) →
         IsEpochOf cuts epoch.number epoch.from epoch.end → IsPlanned job cuts epoch.number written (D.history disk.old) →
         epoch.end ≤ L.shown log.old → IfErr result (EpochCause job cuts epoch.number (D.history disk.new)) }

@@ -62,11 +62,11 @@ fn cover<D: Disk, L: Log>(
     ensures done { D.tells → L.tells → (job : Job) (cuts : Cuts) (written : ℕ) → IsJobOf job prepared.now.bound (L.lines log.old) →
         IsReady job cuts written progress.old (D.history disk.old) → GoesOn cuts (planned_in progress.old) sight.most sight.seen →
         IsEnough sight.seen job progress.old → sight.seen ≤ L.shown log.old →
-        OnOk result (IsDone job cuts progress.old.committed sight.seen (D.history disk.old) (D.history disk.new) (string_bytes told.old) (string_bytes told.new) progress.new) }
+        OnOk result (IsDone job cuts (planned_in progress.old) progress.old.committed sight.seen (D.history disk.old) (D.history disk.new) (string_bytes told.old) (string_bytes told.new) progress.new) }
     ensures stop { D.tells → L.tells → (job : Job) (cuts : Cuts) (written : ℕ) → IsJobOf job prepared.now.bound (L.lines log.old) →
         IsReady job cuts written progress.old (D.history disk.old) → GoesOn cuts (planned_in progress.old) sight.most sight.seen →
         IsEnough sight.seen job progress.old → sight.seen ≤ L.shown log.old →
-        IfErr result (IsStopped job cuts progress.old.committed sight.seen (D.history disk.old) (D.history disk.new) (string_bytes told.old) (string_bytes told.new)) }
+        IfErr result (IsStopped job cuts (planned_in progress.old) progress.old.committed sight.seen (D.history disk.old) (D.history disk.new) (string_bytes told.old) (string_bytes told.new)) }
     ensures only { IfErr result IsRoundFault }
     ensures same { L.tells → L.lines log.new ≡ L.lines log.old }
     ensures grown { L.tells → L.shown log.old ≤ L.shown log.new }

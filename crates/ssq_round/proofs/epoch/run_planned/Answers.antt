@@ -11,7 +11,7 @@ use Rattle.ssq_round.proofs.epoch.run_planned.Goals as goal
 pub returns-in_err-rows-clause-any_moment : goal.returns-in_err-rows-clause-any_moment
 returns-in_err-rows-clause-any_moment g c = λ tells told job cuts written of_job epoch planned.
     let e = c.args.epoch.number in
-    stays _ (StandsBetween job cuts e (e + 1)) (files_at (course_of job cuts) (e + 1) e written) planned.settled (between job cuts (e + 1) e written e (e + 1) planned.standing (omega arith) (omega arith))
+    stays _ (StandsBetween job cuts (e + 1) e (e + 1)) (files_at (course_of job cuts) (e + 1) e written) planned.settled (between job cuts (e + 1) e written (e + 1) e (e + 1) planned.standing (omega arith) (omega arith) (omega arith))
 
 pub returns-in_err-rows-clause-stop : goal.returns-in_err-rows-clause-stop
 returns-in_err-rows-clause-stop g c = λ tells told job cuts written of_job epoch planned there.
@@ -32,9 +32,9 @@ returns-in_err-write_rows-clause-any_moment g c = λ tells told job cuts written
     let high = planned.standing.reached.planned_first in
     let first = c.write_rows.ensures.any_moment tells (course_of job cuts) (e + 1) e written spelled low high planned.settled in
     let done = write_standing job cuts e written planned.standing good in
-    either_between job cuts _ _ _ _ e (e + 1) first
-    (between job cuts (e + 1) e written e (e + 1) planned.standing (omega arith) (omega arith))
-    (between job cuts (e + 1) e (e + 1) e (e + 1) done (omega arith) (omega arith))
+    either_between job cuts _ _ _ _ (e + 1) e (e + 1) first
+    (between job cuts (e + 1) e written (e + 1) e (e + 1) planned.standing (omega arith) (omega arith) (omega arith))
+    (between job cuts (e + 1) e (e + 1) (e + 1) e (e + 1) done (omega arith) (omega arith) (omega arith))
 
 pub returns-in_err-commit_epoch-clause-any_moment : goal.returns-in_err-commit_epoch-clause-any_moment
 returns-in_err-commit_epoch-clause-any_moment g c = λ tells told job cuts written of_job epoch planned.
@@ -47,10 +47,10 @@ returns-in_err-commit_epoch-clause-any_moment g c = λ tells told job cuts writt
     let after = c.in_ok-write_rows.ensures.done tells (course_of job cuts) (e + 1) e written spelled low high planned.settled in
     let second = c.commit_epoch.ensures.any_moment tells (course_of job cuts) (e + 1) (e + 1) refl after in
     let done = write_standing job cuts e written planned.standing good in
-    let there = between job cuts (e + 1) e (e + 1) e (e + 1) done (omega arith) (omega arith) in
-    joined (StandsBetween job cuts e (e + 1)) _ _ _
-    (either_between job cuts _ _ _ _ e (e + 1) first (between job cuts (e + 1) e written e (e + 1) planned.standing (omega arith) (omega arith)) there)
-    (either_between job cuts _ _ _ _ e (e + 1) second there (between job cuts (e + 1) (e + 1) (e + 1) e (e + 1) (commit_standing job cuts e done) (omega arith) (omega arith)))
+    let there = between job cuts (e + 1) e (e + 1) (e + 1) e (e + 1) done (omega arith) (omega arith) (omega arith) in
+    joined (StandsBetween job cuts (e + 1) e (e + 1)) _ _ _
+    (either_between job cuts _ _ _ _ (e + 1) e (e + 1) first (between job cuts (e + 1) e written (e + 1) e (e + 1) planned.standing (omega arith) (omega arith) (omega arith)) there)
+    (either_between job cuts _ _ _ _ (e + 1) e (e + 1) second there (between job cuts (e + 1) (e + 1) (e + 1) (e + 1) e (e + 1) (commit_standing job cuts e done) (omega arith) (omega arith) (omega arith)))
 
 pub returns-clause-any_moment : goal.returns-clause-any_moment
 returns-clause-any_moment g c = λ tells told job cuts written of_job epoch planned.
@@ -63,10 +63,10 @@ returns-clause-any_moment g c = λ tells told job cuts written of_job epoch plan
     let after = c.in_ok-write_rows.ensures.done tells (course_of job cuts) (e + 1) e written spelled low high planned.settled in
     let second = c.commit_epoch.ensures.any_moment tells (course_of job cuts) (e + 1) (e + 1) refl after in
     let done = write_standing job cuts e written planned.standing good in
-    let there = between job cuts (e + 1) e (e + 1) e (e + 1) done (omega arith) (omega arith) in
-    joined (StandsBetween job cuts e (e + 1)) _ _ _
-    (either_between job cuts _ _ _ _ e (e + 1) first (between job cuts (e + 1) e written e (e + 1) planned.standing (omega arith) (omega arith)) there)
-    (either_between job cuts _ _ _ _ e (e + 1) second there (between job cuts (e + 1) (e + 1) (e + 1) e (e + 1) (commit_standing job cuts e done) (omega arith) (omega arith)))
+    let there = between job cuts (e + 1) e (e + 1) (e + 1) e (e + 1) done (omega arith) (omega arith) (omega arith) in
+    joined (StandsBetween job cuts (e + 1) e (e + 1)) _ _ _
+    (either_between job cuts _ _ _ _ (e + 1) e (e + 1) first (between job cuts (e + 1) e written (e + 1) e (e + 1) planned.standing (omega arith) (omega arith) (omega arith)) there)
+    (either_between job cuts _ _ _ _ (e + 1) e (e + 1) second there (between job cuts (e + 1) (e + 1) (e + 1) (e + 1) e (e + 1) (commit_standing job cuts e done) (omega arith) (omega arith) (omega arith)))
 
 pub returns-clause-done : goal.returns-clause-done
 returns-clause-done g c = λ tells told job cuts written of_job epoch planned.

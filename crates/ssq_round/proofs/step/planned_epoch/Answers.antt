@@ -11,7 +11,7 @@ returns-in_err-plan_epoch-in-None-clause-any_moment g c = λ tells job cuts writ
     let end : c.next_end-end.result ≡ epoch_end c.args.sight.most c.args.sight.seen c.args.progress.now =
     c.next_end-end.ensures ∙ sym (ap (next_end_with c.args.sight.most c.args.sight.seen c.args.progress.now.end) c.in-None.is) in
     let plans = plans_next job cuts written known _ _ n c.args.progress.now _ c.in-None.is end is ready next in
-    next_leaves job cuts written n c.next_end-end.result c.args.progress.now _ _ is plans (c.plan_epoch.ensures.any_moment tells (course_of job cuts) n written plans.plan plans.settled)
+    next_leaves job cuts written n c.next_end-end.result c.args.progress.now _ _ c.in-None.is is plans (c.plan_epoch.ensures.any_moment tells (course_of job cuts) n written plans.plan plans.settled)
 
 pub returns-in_ok-plan_epoch-in-None-clause-done : goal.returns-in_ok-plan_epoch-in-None-clause-done
 returns-in_ok-plan_epoch-in-None-clause-done g c = λ tells job cuts written known ready next.
@@ -29,7 +29,7 @@ returns-in_ok-plan_epoch-in-None-clause-any_moment g c = λ tells job cuts writt
     let end : c.next_end-end.result ≡ epoch_end c.args.sight.most c.args.sight.seen c.args.progress.now =
     c.next_end-end.ensures ∙ sym (ap (next_end_with c.args.sight.most c.args.sight.seen c.args.progress.now.end) c.in-None.is) in
     let plans = plans_next job cuts written known _ _ n c.args.progress.now _ c.in-None.is end is ready next in
-    next_leaves job cuts written n c.next_end-end.result c.args.progress.now _ _ is plans (c.plan_epoch.ensures.any_moment tells (course_of job cuts) n written plans.plan plans.settled)
+    next_leaves job cuts written n c.next_end-end.result c.args.progress.now _ _ c.in-None.is is plans (c.plan_epoch.ensures.any_moment tells (course_of job cuts) n written plans.plan plans.settled)
 
 pub returns-in_default-clause-any_moment : goal.returns-in_default-clause-any_moment
 returns-in_default-clause-any_moment g c = λ tells job cuts written known ready next. ready_leaves job cuts written c.args.progress.now _ ready

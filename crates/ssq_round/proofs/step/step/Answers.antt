@@ -22,7 +22,7 @@ returns-in_err-rows-clause-any_moment g c = λ tells told job cuts written of_jo
     let is = c.in_ok-epoch.ensures in
     let epoch = epoch_is job cuts written _ _ _ _ _ c.args.progress.now _ is.number is.from is.end ready next in
     let planned = planned_is job cuts written _ c.args.progress.now _ is.number (is.done tells job cuts written _ ready next) in
-    epoch_leaves job cuts _ c.args.progress.now _ _ _ is.number (c.planned_epoch.ensures.any_moment tells job cuts written _ ready next) (c.run_planned.ensures.any_moment tells told job cuts written of_job epoch planned)
+    epoch_leaves job cuts _ c.args.progress.now _ _ _ is.number ready.standing.reached.one_ahead (c.planned_epoch.ensures.any_moment tells job cuts written _ ready next) (c.run_planned.ensures.any_moment tells told job cuts written of_job epoch planned)
 
 pub returns-in_err-rows-clause-stop : goal.returns-in_err-rows-clause-stop
 returns-in_err-rows-clause-stop g c = λ tells told job cuts written of_job ready next.
@@ -38,14 +38,14 @@ returns-in_err-tell_epoch-clause-any_moment g c = λ tells told job cuts written
     let is = c.in_ok-epoch.ensures in
     let epoch = epoch_is job cuts written _ _ _ _ _ c.args.progress.now _ is.number is.from is.end ready next in
     let planned = planned_is job cuts written _ c.args.progress.now _ is.number (is.done tells job cuts written _ ready next) in
-    epoch_leaves job cuts _ c.args.progress.now _ _ _ is.number (c.planned_epoch.ensures.any_moment tells job cuts written _ ready next) (c.run_planned.ensures.any_moment tells told job cuts written of_job epoch planned)
+    epoch_leaves job cuts _ c.args.progress.now _ _ _ is.number ready.standing.reached.one_ahead (c.planned_epoch.ensures.any_moment tells job cuts written _ ready next) (c.run_planned.ensures.any_moment tells told job cuts written of_job epoch planned)
 
 pub returns-clause-any_moment : goal.returns-clause-any_moment
 returns-clause-any_moment g c = λ tells told job cuts written of_job ready next.
     let is = c.in_ok-epoch.ensures in
     let epoch = epoch_is job cuts written _ _ _ _ _ c.args.progress.now _ is.number is.from is.end ready next in
     let planned = planned_is job cuts written _ c.args.progress.now _ is.number (is.done tells job cuts written _ ready next) in
-    epoch_leaves job cuts _ c.args.progress.now _ _ _ is.number (c.planned_epoch.ensures.any_moment tells job cuts written _ ready next) (c.run_planned.ensures.any_moment tells told job cuts written of_job epoch planned)
+    epoch_leaves job cuts _ c.args.progress.now _ _ _ is.number ready.standing.reached.one_ahead (c.planned_epoch.ensures.any_moment tells job cuts written _ ready next) (c.run_planned.ensures.any_moment tells told job cuts written of_job epoch planned)
 
 pub returns-clause-done : goal.returns-clause-done
 returns-clause-done g c = λ tells told job cuts written of_job ready next.
