@@ -3,8 +3,11 @@ use Rattle.std.proofs.Common.{◌≡◌, ℕ, sym, ap, ◌∙◌, [], ◌∷◌,
 use Rattle.ssq_lex.specs.Lexeme.{Lexed}
 use Rattle.ssq_parse.specs.declared.fault.ParseCause.{ParseCause}
 use Rattle.ssq_parse.specs.declared.fault.ParseCause.TheVariants as cause
-use Rattle.ssq_parse.specs.Faults.{next}
 use Rattle.ssq_parse.specs.Reading.{Ahead, Made, Read, Refusal, ◌>>=◌, before, place, expected, first, needed}
+
+-- the next token
+abbrev pub next : Ahead → Option Lexed
+next tokens = first Some tokens
 
 -- the answer stays while the tokens that were taken and the next one stay
 pub record Seen {A : Type 0} (reader : Ahead → Read A) (tokens rest : Ahead) (answer : Ahead → Read A) : Type 0 where

@@ -18,11 +18,10 @@ use Rattle.ssq_parse.specs.declared.operators.Level.{Level}
 use Rattle.ssq_parse.specs.declared.operators.Level.TheVariants as level
 use Rattle.ssq_parse.specs.declared.tree.Tree.{Tree}
 use Rattle.ssq_parse.specs.Expressions.{Reader, further, further_by, chain, prefixed, column_by, column_at, timestamp_at, interval_at, test_by, inside_at, bracketed_at, argument_at, aggregate_at, rows_by, count_at, worded_at, primary_by, primary_at, signed_at, product_at, sum_at, null_test_at, between_at, ranged, tested, compared, comparison_at, negation_at, conjunction_at, disjunction_at, expr_at, whole_at}
-use Rattle.ssq_parse.specs.Faults.{next}
 use Rattle.ssq_parse.specs.Operators.{operator_of, prefixes}
 use Rattle.ssq_parse.specs.Reading.{Ahead, Made, Read, ◌>>=◌, before, behind, refused, is_keyword, is_symbol, keyword_at, with_place}
 use Rattle.ssq_parse.specs.Trees.{unary, binary, null_test, between, risen, wrapped, ◌and_then◌}
-use Rattle.ssq_parse.proofs.Local.{Local, Told, Unexpected, told_as, behind_told, skip_told, pure, nothing, made_local, skip, followed, maybe}
+use Rattle.ssq_parse.proofs.Local.{next, Local, Told, Unexpected, told_as, behind_told, skip_told, pure, nothing, made_local, skip, followed, maybe}
 use Rattle.ssq_parse.proofs.LocalParts.{if_seen, keyword_local, symbol_local, name_local, span_local, moment_local}
 
 -- ---- no tree lacks a token: it is too high, or it is made

@@ -17,11 +17,10 @@ use Rattle.ssq_lex.specs.Lexeme.{Lexeme}
 use Rattle.ssq_value.specs.declared.column.ColType.TheVariants as kind
 use Rattle.ssq_parse.specs.declared.fault.ParseCause.TheVariants as cause
 use Rattle.ssq_parse.specs.Expressions.{whole_at}
-use Rattle.ssq_parse.specs.Faults.{next}
 use Rattle.ssq_parse.specs.Queries.{list_at, or_type, type_at, decl_at, watermark_by, watermark_at, stream_at, streams_at, bare_at, item_by, item_at, condition_by, condition_at, joined_at, outer_at, bare_join, right_join, left_join, inner_join, join_at, deduplicate_by, deduplicate_at, slide_by, slide_at, window_at, group_item_by, group_item_at, group_by, group_at, direction_by, direction_at, order_item_at, order_by, order_at, limit_by, limit_at, or_mode, mode_at, select_at, alone, whole_query, query_at}
 use Rattle.ssq_parse.specs.Reading.{Ahead, Made, Read, Refusal, ◌>>=◌, place, expected, behind, seen, sees, is_keyword, is_symbol, is_name, keyword_at, symbol_at, name_at}
 use Rattle.ssq_parse.proofs.LaidQueries.{query_reads}
-use Rattle.ssq_parse.proofs.Local.{Local, Told, Seen, IfMissing, if_missing, first_same, place_same, pure, nothing, skip, followed, looking}
+use Rattle.ssq_parse.proofs.Local.{next, Local, Told, Seen, IfMissing, if_missing, first_same, place_same, pure, nothing, skip, followed, looking}
 use Rattle.ssq_parse.proofs.LocalExpressions.{whole_local, whole_none}
 use Rattle.ssq_parse.proofs.LocalLoops.{list_local, streams_local}
 use Rattle.ssq_parse.proofs.LocalParts.{if_seen, keyword_local, symbol_local, name_local, quoted_local, number_local, span_local}
