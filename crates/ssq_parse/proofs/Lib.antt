@@ -1,5 +1,6 @@
 pub mod Clauses
 pub mod Files
+pub mod FirstFault
 pub mod Found
 pub mod Laid
 pub mod LaidClauses
@@ -8,6 +9,11 @@ pub mod LaidHeads
 pub mod LaidOperands
 pub mod LaidOperators
 pub mod LaidParts
+pub mod Local
+pub mod LocalExpressions
+pub mod LocalLoops
+pub mod LocalParts
+pub mod LocalQueries
 pub mod LaidQueries
 pub mod Operands
 pub mod Parts

@@ -1,5 +1,6 @@
 pub mod Again
 pub mod Expressions
+pub mod Faults
 pub mod File
 pub mod Nests
 pub mod Operators

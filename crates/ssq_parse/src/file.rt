@@ -1,11 +1,12 @@
 //! The query that a file is.
 
-ghost use Rattle.std.specs.Prelude.{◌≡◌, ◌≤◌, length, map, IfOk};
+ghost use Rattle.std.specs.Prelude.{◌≡◌, ◌≤◌, length, map, IfErr, IfOk};
 ghost use Rattle.std.specs.Str.{IsUtf8};
 ghost use Rattle.ssq_ast.specs.declared.query.Query.{Query};
 ghost use Rattle.ssq_lex.specs.Cut.{cut_of};
 ghost use Rattle.ssq_lex.specs.Lexeme.{lexed};
 ghost use Rattle.ssq_parse.specs.Again.{TextIsParsed};
+ghost use Rattle.ssq_parse.specs.Faults.{AtExpected, IsFirst};
 ghost use Rattle.ssq_parse.specs.File as spec;
 ghost use Rattle.ssq_parse.specs.File.{Answers};
 
@@ -92,6 +93,8 @@ pub fn parse(alloc: Global, file: &[u8]) -> Result<Query, ParseFault>
     ensures written { IfOk result (λ query. spec.IsQuery file.now query) }
     // and each query that is written so is found: a file that is refused is written as none
     ensures each { (query : Query) → spec.IsQuery file.now query → spec.Finds query result }
+    // where something else is expected, no query goes on like this
+    ensures first { IfErr result (AtExpected (IsFirst file.now)) }
 {
     if file.len() > MOST_BYTES {
         return Err(ParseFault::Refused {

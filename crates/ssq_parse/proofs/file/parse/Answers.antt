@@ -1,6 +1,7 @@
 use Rattle.std.proofs.Common.{rules, arith}
 use Rattle.std.proofs.lemmas.Grind.{common_steps}
 use Rattle.ssq_parse.proofs.Files.{no_text, text_answers, each_found}
+use Rattle.ssq_parse.proofs.FirstFault.{expected_first}
 use Rattle.ssq_parse.proofs.Selects.{parsed}
 use Rattle.ssq_parse.specs.File.{Answers, query_of}
 use Rattle.ssq_parse.proofs.file.parse.Goals as goal
@@ -9,7 +10,7 @@ pub returns-in-Ok : goal.returns-in-Ok
 returns-in-Ok c =
     let answer : Answers (query_of c.args.file.now) c.parse_text.result =
     text_answers c.args.file.now _ c.parse_text.result (omega arith) c.in-Ok.ensures.cases.1 c.in-Ok.ensures.cases.0 c.parse_text.ensures in
-    record { answer = answer; written = parsed c.args.file.now c.parse_text.result answer; each = each_found c.args.file.now c.parse_text.result answer }
+    record { answer = answer; written = parsed c.args.file.now c.parse_text.result answer; each = each_found c.args.file.now c.parse_text.result answer; first = expected_first c.args.file.now c.parse_text.result answer }
 
 pub returns-in-Err-clause-answer : goal.returns-in-Err-clause-answer
 returns-in-Err-clause-answer c =
