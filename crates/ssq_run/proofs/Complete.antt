@@ -75,59 +75,59 @@ proper_le cuts n proper e f le few =
 
 -- ---- what may stop a run
 
--- It is a fault of the outside or want of memory; or a line's fault, where L is so; or a log with too many lines, where F is so.
-abbrev Allowed : Type 0 → Type 0 → Option JobFault → Type 0
-Allowed L F None = ⊤
-Allowed L F (Some (job.Bad offset cause)) = L
-Allowed L F (Some (job.Overflow offset)) = L
-Allowed L F (Some job.LogFault) = ⊤
-Allowed L F (Some job.DiskFault) = ⊤
-Allowed L F (Some job.OutFault) = ⊤
-Allowed L F (Some job.NoMemory) = ⊤
-Allowed L F (Some (job.OtherQuery kept)) = ⊥
-Allowed L F (Some (job.OtherPartitions kept partitions)) = ⊥
-Allowed L F (Some (job.OtherParts stream kept found)) = ⊥
-Allowed L F (Some (job.LogShort logged found)) = ⊥
-Allowed L F (Some (job.Damaged name)) = ⊥
-Allowed L F (Some (job.FullLines lines)) = F
-Allowed L F (Some job.FullEpochs) = ⊥
+-- It is a fault of the outside or want of memory; or a line's fault, where L is so.
+abbrev Allowed : Type 0 → Option JobFault → Type 0
+Allowed L None = ⊤
+Allowed L (Some (job.Bad offset cause)) = L
+Allowed L (Some (job.Overflow offset)) = L
+Allowed L (Some job.LogFault) = ⊤
+Allowed L (Some job.DiskFault) = ⊤
+Allowed L (Some job.OutFault) = ⊤
+Allowed L (Some job.NoMemory) = ⊤
+Allowed L (Some (job.OtherQuery kept)) = ⊥
+Allowed L (Some (job.OtherPartitions kept partitions)) = ⊥
+Allowed L (Some (job.OtherParts stream kept found)) = ⊥
+Allowed L (Some (job.LogShort logged found)) = ⊥
+Allowed L (Some (job.Damaged name)) = ⊥
+Allowed L (Some (job.FullLines lines)) = ⊥
+Allowed L (Some job.FullEpochs) = ⊥
 
 -- the statuses of those
-abbrev Met : Type 0 → Type 0 → ℕ → Type 0
-Met L F n = IsDone n ⊎ (((n ≡ 6) ⊎ ((n ≡ 7) ⊎ (n ≡ 8))) ⊎ ((((n ≡ 4) ⊎ (n ≡ 5)) × L) ⊎ ((n ≡ 11) × F)))
+abbrev Met : Type 0 → ℕ → Type 0
+Met L n = IsDone n ⊎ (((n ≡ 6) ⊎ ((n ≡ 7) ⊎ (n ≡ 8))) ⊎ (((n ≡ 4) ⊎ (n ≡ 5)) × L))
 
-bad_met : (query : Asking) (L F : Type 0) (at : ℕ) (cause : BadRow) → L → Met L F (status_of (stop_of_bad query at cause))
-bad_met query L F at bad.TooLong l = inr (inr (inl (inl refl, l)))
-bad_met query L F at bad.NotJson l = inr (inr (inl (inl refl, l)))
-bad_met query L F at bad.NotObject l = inr (inr (inl (inl refl, l)))
-bad_met query L F at (bad.WrongType column) l = inr (inr (inl (inl refl, l)))
-bad_met query L F at bad.NoEventTime l = inr (inr (inl (inl refl, l)))
-bad_met query L F at bad.NoMemory l = inl (inr refl)
+bad_met : (query : Asking) (L : Type 0) (at : ℕ) (cause : BadRow) → L → Met L (status_of (stop_of_bad query at cause))
+bad_met query L at bad.TooLong l = inr (inr (inl refl, l))
+bad_met query L at bad.NotJson l = inr (inr (inl refl, l))
+bad_met query L at bad.NotObject l = inr (inr (inl refl, l))
+bad_met query L at (bad.WrongType column) l = inr (inr (inl refl, l))
+bad_met query L at bad.NoEventTime l = inr (inr (inl refl, l))
+bad_met query L at bad.NoMemory l = inl (inr refl)
 
-allowed_met : (query : Asking) (L F : Type 0) (end : Option JobFault) → Allowed L F end → Met L F (status_in (stop_of_end query end))
-allowed_met query L F None is = inl (inl refl)
-allowed_met query L F (Some (job.Bad offset cause)) is = bad_met query L F offset cause is
-allowed_met query L F (Some (job.Overflow offset)) is = inr (inr (inl (inr refl, is)))
-allowed_met query L F (Some job.LogFault) is = inr (inl (inl refl))
-allowed_met query L F (Some job.DiskFault) is = inr (inl (inr (inl refl)))
-allowed_met query L F (Some job.OutFault) is = inr (inl (inr (inr refl)))
-allowed_met query L F (Some job.NoMemory) is = inl (inr refl)
-allowed_met query L F (Some (job.OtherQuery kept)) is = absurd is
-allowed_met query L F (Some (job.OtherPartitions kept partitions)) is = absurd is
-allowed_met query L F (Some (job.OtherParts stream kept found)) is = absurd is
-allowed_met query L F (Some (job.LogShort logged found)) is = absurd is
-allowed_met query L F (Some (job.Damaged name)) is = absurd is
-allowed_met query L F (Some (job.FullLines lines)) is = inr (inr (inr (refl, is)))
-allowed_met query L F (Some job.FullEpochs) is = absurd is
+allowed_met : (query : Asking) (L : Type 0) (end : Option JobFault) → Allowed L end → Met L (status_in (stop_of_end query end))
+allowed_met query L None is = inl (inl refl)
+allowed_met query L (Some (job.Bad offset cause)) is = bad_met query L offset cause is
+allowed_met query L (Some (job.Overflow offset)) is = inr (inr (inr refl, is))
+allowed_met query L (Some job.LogFault) is = inr (inl (inl refl))
+allowed_met query L (Some job.DiskFault) is = inr (inl (inr (inl refl)))
+allowed_met query L (Some job.OutFault) is = inr (inl (inr (inr refl)))
+allowed_met query L (Some job.NoMemory) is = inl (inr refl)
+allowed_met query L (Some (job.OtherQuery kept)) is = absurd is
+allowed_met query L (Some (job.OtherPartitions kept partitions)) is = absurd is
+allowed_met query L (Some (job.OtherParts stream kept found)) is = absurd is
+allowed_met query L (Some (job.LogShort logged found)) is = absurd is
+allowed_met query L (Some (job.Damaged name)) is = absurd is
+allowed_met query L (Some (job.FullLines lines)) is = absurd is
+allowed_met query L (Some job.FullEpochs) is = absurd is
 
-open_allowed : (L F : Type 0) (why : OpenFault) → IsNoRefusal (fault_of_open why) → Allowed L F (Some (fault_of_open why))
-open_allowed L F (opening.OtherQuery kept) goes = absurd goes
-open_allowed L F (opening.OtherPartitions kept partitions) goes = absurd goes
-open_allowed L F (opening.OtherParts stream kept found) goes = absurd goes
-open_allowed L F (opening.LogShort stream part logged found) goes = absurd goes
-open_allowed L F (opening.Damaged name) goes = absurd goes
-open_allowed L F opening.DiskFault goes = tt
-open_allowed L F opening.NoMemory goes = tt
+open_allowed : (L : Type 0) (why : OpenFault) → IsNoRefusal (fault_of_open why) → Allowed L (Some (fault_of_open why))
+open_allowed L (opening.OtherQuery kept) goes = absurd goes
+open_allowed L (opening.OtherPartitions kept partitions) goes = absurd goes
+open_allowed L (opening.OtherParts stream kept found) goes = absurd goes
+open_allowed L (opening.LogShort stream part logged found) goes = absurd goes
+open_allowed L (opening.Damaged name) goes = absurd goes
+open_allowed L opening.DiskFault goes = tt
+open_allowed L opening.NoMemory goes = tt
 
 -- ---- rounds
 
@@ -164,66 +164,66 @@ at_line L given entry cuts told planned e at what now room left is fault =
     let later : cuts e ≤ at = position_ge (is_faulty given.job.bound) (cuts e) _ at fault.first in
     room.line at fault.line (omega (arith, rises, later, left.keeps entry.committed room.before)) fault.there (line_faulty given.job.bound fault.line what fault.is)
 
-stop_allowed : (L F : Type 0) (given : Asks) (entry : Entry) (cuts : Cuts) (told planned e seen : ℕ) (now : History) (why : RoundFault) → Room L given.job entry → Left given entry cuts told planned now → e ≡ entry.committed + told
-    → StopCause given.job cuts e seen now why → Allowed L F (Some (fault_of_round why))
-stop_allowed L F given entry cuts told planned e seen now (round.Bad offset cause) room left is why = at_line L given entry cuts told planned e offset _ now room left is why.0
-stop_allowed L F given entry cuts told planned e seen now (round.Overflow offset) room left is why = at_line L given entry cuts told planned e offset _ now room left is why.0
-stop_allowed L F given entry cuts told planned e seen now round.FullEpochs room left is why = no_full L given entry cuts told planned e now room left is why.0.0
-stop_allowed L F given entry cuts told planned e seen now (round.LogShort logged found) room left is why = absurd why
-stop_allowed L F given entry cuts told planned e seen now (round.FullLines lines) room left is why = absurd why
-stop_allowed L F given entry cuts told planned e seen now round.LogFault room left is why = tt
-stop_allowed L F given entry cuts told planned e seen now round.DiskFault room left is why = tt
-stop_allowed L F given entry cuts told planned e seen now round.NoMemory room left is why = tt
+stop_allowed : (L : Type 0) (given : Asks) (entry : Entry) (cuts : Cuts) (told planned e seen : ℕ) (now : History) (why : RoundFault) → Room L given.job entry → Left given entry cuts told planned now → e ≡ entry.committed + told
+    → StopCause given.job cuts e seen now why → Allowed L (Some (fault_of_round why))
+stop_allowed L given entry cuts told planned e seen now (round.Bad offset cause) room left is why = at_line L given entry cuts told planned e offset _ now room left is why.0
+stop_allowed L given entry cuts told planned e seen now (round.Overflow offset) room left is why = at_line L given entry cuts told planned e offset _ now room left is why.0
+stop_allowed L given entry cuts told planned e seen now round.FullEpochs room left is why = no_full L given entry cuts told planned e now room left is why.0.0
+stop_allowed L given entry cuts told planned e seen now (round.LogShort logged found) room left is why = absurd why
+stop_allowed L given entry cuts told planned e seen now (round.FullLines lines) room left is why = absurd why
+stop_allowed L given entry cuts told planned e seen now round.LogFault room left is why = tt
+stop_allowed L given entry cuts told planned e seen now round.DiskFault room left is why = tt
+stop_allowed L given entry cuts told planned e seen now round.NoMemory room left is why = tt
 
-untaken_allowed : (L F : Type 0) (seen : ℕ) (fault : JobFault) → (most_lines < seen → F) → IsUntaken seen fault → Allowed L F (Some fault)
-untaken_allowed L F seen job.LogFault full is = tt
-untaken_allowed L F seen (job.FullLines lines) full is = full is.1
-untaken_allowed L F seen (job.OtherQuery kept) full is = is
-untaken_allowed L F seen (job.OtherPartitions kept partitions) full is = is
-untaken_allowed L F seen (job.OtherParts stream kept found) full is = is
-untaken_allowed L F seen (job.LogShort logged found) full is = is
-untaken_allowed L F seen (job.Damaged name) full is = is
-untaken_allowed L F seen (job.Bad offset cause) full is = absurd is
-untaken_allowed L F seen (job.Overflow offset) full is = absurd is
-untaken_allowed L F seen job.FullEpochs full is = is
-untaken_allowed L F seen job.DiskFault full is = tt
-untaken_allowed L F seen job.OutFault full is = tt
-untaken_allowed L F seen job.NoMemory full is = tt
+untaken_allowed : (L : Type 0) (all seen : ℕ) (fault : JobFault) → all ≤ most_lines → IsUntaken all seen fault → Allowed L (Some fault)
+untaken_allowed L all seen job.LogFault few is = tt
+untaken_allowed L all seen (job.FullLines lines) few is = absurd (omega (arith, few, is.2))
+untaken_allowed L all seen (job.OtherQuery kept) few is = is
+untaken_allowed L all seen (job.OtherPartitions kept partitions) few is = is
+untaken_allowed L all seen (job.OtherParts stream kept found) few is = is
+untaken_allowed L all seen (job.LogShort logged found) few is = is
+untaken_allowed L all seen (job.Damaged name) few is = is
+untaken_allowed L all seen (job.Bad offset cause) few is = absurd is
+untaken_allowed L all seen (job.Overflow offset) few is = absurd is
+untaken_allowed L all seen job.FullEpochs few is = is
+untaken_allowed L all seen job.DiskFault few is = tt
+untaken_allowed L all seen job.OutFault few is = tt
+untaken_allowed L all seen job.NoMemory few is = tt
 
-allowed_at : (L F : Type 0) (end : Option JobFault) (fault : JobFault) → end ≡ Some fault → Allowed L F (Some fault) → Allowed L F end
-allowed_at L F end fault is allowed = subst (Allowed L F) (sym is) allowed
+allowed_at : (L : Type 0) (end : Option JobFault) (fault : JobFault) → end ≡ Some fault → Allowed L (Some fault) → Allowed L end
+allowed_at L end fault is allowed = subst (Allowed L) (sym is) allowed
 
-rounds_allowed : (L F : Type 0) (given : Asks) (entry : Entry) (found known : ℕ) (now : History) (OutTells : Type 0) (written told : List ℕ) (end : Option JobFault) → Room L given.job entry → ((seen : ℕ) → most_lines < seen → F)
-    → RoundsEnd given entry found known now OutTells written told end → Allowed L F end
-rounds_allowed L F given entry found known now OutTells written told end room full (finished rounds epochs number there done wrote tells is) = subst (Allowed L F) (sym is) tt
-rounds_allowed L F given entry found known now OutTells written told end room full (unsaid rounds epochs number there done wrote tells is) = allowed_at L F end job.NoMemory is tt
-rounds_allowed L F given entry found known now OutTells written told end room full (stopped rounds put seen epochs cuts why some less there few same left wrote tells cause is) =
-    allowed_at L F end (fault_of_round why) is (stop_allowed L F given entry cuts (put + epochs) _ (entry.committed + put + epochs) seen now why room left (omega arith) cause)
-rounds_allowed L F given entry found known now OutTells written told end room full (unseen rounds put seen fault some less there left wrote tells cause is) =
-    allowed_at L F end fault is (untaken_allowed L F seen fault (full seen) cause)
-rounds_allowed L F given entry found known now OutTells written told end room full (unput round rounds put epochs fault before some there done wrote cause is) =
-    allowed_at L F end fault is (unput_allowed cause)
+rounds_allowed : (L : Type 0) (given : Asks) (entry : Entry) (found known : ℕ) (now : History) (OutTells : Type 0) (written told : List ℕ) (end : Option JobFault) → Room L given.job entry
+    → RoundsEnd given entry found known now OutTells written told end → Allowed L end
+rounds_allowed L given entry found known now OutTells written told end room (finished rounds epochs number there done wrote tells is) = subst (Allowed L) (sym is) tt
+rounds_allowed L given entry found known now OutTells written told end room (unsaid rounds epochs number there done wrote tells is) = allowed_at L end job.NoMemory is tt
+rounds_allowed L given entry found known now OutTells written told end room (stopped rounds put seen epochs cuts why some less there few same left wrote tells cause is) =
+    allowed_at L end (fault_of_round why) is (stop_allowed L given entry cuts (put + epochs) _ (entry.committed + put + epochs) seen now why room left (omega arith) cause)
+rounds_allowed L given entry found known now OutTells written told end room (unseen rounds put seen fault some less there left wrote tells cause is) =
+    allowed_at L end fault is (untaken_allowed L _ seen fault room.few_lines cause)
+rounds_allowed L given entry found known now OutTells written told end room (unput round rounds put epochs fault before some there done wrote cause is) =
+    allowed_at L end fault is (unput_allowed cause)
   where
-    unput_allowed : {Tells : Type 0} {old new lines left : List ℕ} {fault : JobFault} → IsUnput Tells old new lines left fault → Allowed L F (Some fault)
-    unput_allowed {fault = fault} (failed same put none) = allowed_at L F (Some fault) job.OutFault (ap Some same) tt
-    unput_allowed {fault = fault} (starved same put none) = allowed_at L F (Some fault) job.NoMemory (ap Some same) tt
+    unput_allowed : {Tells : Type 0} {old new lines left : List ℕ} {fault : JobFault} → IsUnput Tells old new lines left fault → Allowed L (Some fault)
+    unput_allowed {fault = fault} (failed same put none) = allowed_at L (Some fault) job.OutFault (ap Some same) tt
+    unput_allowed {fault = fault} (starved same put none) = allowed_at L (Some fault) job.NoMemory (ap Some same) tt
 
-job_allowed : (L F : Type 0) (given : Asks) (entry : Entry) (known : ℕ) (now : History) (OutTells : Type 0) (written told : List ℕ) (end : Option JobFault) → Reads given.job entry (files_now given.start)
-    → Room L given.job entry → ((seen : ℕ) → most_lines < seen → F) → GoesOn end → JobEnd given known now OutTells written told end → Allowed L F end
-job_allowed L F given entry known now OutTells written told end reads room full goes (untaken fault is cause idle wrote tells) = allowed_at L F end fault is (untaken_allowed L F known fault (full known) cause)
-job_allowed L F given entry known now OutTells written told end reads room full goes (unopened found fault is log not wrote tells) =
+job_allowed : (L : Type 0) (given : Asks) (entry : Entry) (known : ℕ) (now : History) (OutTells : Type 0) (written told : List ℕ) (end : Option JobFault) → Reads given.job entry (files_now given.start)
+    → Room L given.job entry → GoesOn end → JobEnd given known now OutTells written told end → Allowed L end
+job_allowed L given entry known now OutTells written told end reads room goes (untaken fault is cause idle wrote tells) = allowed_at L end fault is (untaken_allowed L _ known fault room.few_lines cause)
+job_allowed L given entry known now OutTells written told end reads room goes (unopened found fault is log not wrote tells) =
     let same : end ≡ Some (fault_of_open not.why) = is ∙ ap Some not.is in
-    allowed_at L F end (fault_of_open not.why) same (open_allowed L F not.why (subst GoesOn same goes))
-job_allowed L F given entry known now OutTells written told end reads room full goes (job_ran found log was end_of) = rounds_allowed L F given entry found known now OutTells written told end room full (end_of entry reads)
+    allowed_at L end (fault_of_open not.why) same (open_allowed L not.why (subst GoesOn same goes))
+job_allowed L given entry known now OutTells written told end reads room goes (job_ran found log was end_of) = rounds_allowed L given entry found known now OutTells written told end room (end_of entry reads)
 
 -- ---- the program
 
-outside_met : (L F : Type 0) (stop : Option Stop) → IsOutside stop → Met L F (status_in stop)
-outside_met L F stop (inl is) = subst (λ s. Met L F (status_in s)) (sym is) (inr (inl (inl refl)))
-outside_met L F stop (inr is) = subst (λ s. Met L F (status_in s)) (sym is) (inl (inr refl))
+outside_met : (L : Type 0) (stop : Option Stop) → IsOutside stop → Met L (status_in stop)
+outside_met L stop (inl is) = subst (λ s. Met L (status_in s)) (sym is) (inr (inl (inl refl)))
+outside_met L stop (inr is) = subst (λ s. Met L (status_in s)) (sym is) (inl (inr refl))
 
-no_memory_met : (L F : Type 0) (stop : Option Stop) → stop ≡ Some NoMemory → Met L F (status_in stop)
-no_memory_met L F stop is = outside_met L F stop (inr is)
+no_memory_met : (L : Type 0) (stop : Option Stop) → stop ≡ Some NoMemory → Met L (status_in stop)
+no_memory_met L stop is = outside_met L stop (inr is)
 
 -- what is committed is planned
 committed_le : (work : Job) (entry : Entry) (files : Files) → Reads work entry files → entry.committed ≤ entry.planned
@@ -235,94 +235,93 @@ abbrev FaultsGive : (L : Type 0) (given : Given) (files : Files) → HasRoom giv
 FaultsGive L given files room =
     (at : ℕ) (line : Line) → room.can.entry.cuts room.can.entry.committed ≤ at → slice_get (given.held.lines (source_of room.can.query) 0) at ≡ Some line → is_faulty (bound_of room.can.query) line ≡ true → L
 
-source_met : (L F : Type 0) (given : Given) (most : Option ℕ) (rounds : ℕ) (start now : History) (OutTells : Type 0) (old written told : List ℕ) (stop : Option Stop) (room : HasRoom given (files_now start))
-    → FaultsGive L given (files_now start) room → ((seen : ℕ) → most_lines < seen → F)
-    → SourceEnd given.held given.shown room.can.query most rounds start now OutTells old written told stop → Met L F (status_in stop)
-source_met L F given most rounds start now OutTells old written told stop room line full (unstarted outside idle) = outside_met L F stop outside
-source_met L F given most rounds start now OutTells old written told stop room line full (not_one_part parts is idle) = absurd (parts room.can.one_part)
-source_met L F given most rounds start now OutTells old written told stop room line full (ran parts known known_now end at_least left always goes is) =
+source_met : (L : Type 0) (given : Given) (most : Option ℕ) (rounds : ℕ) (start now : History) (OutTells : Type 0) (old written told : List ℕ) (stop : Option Stop) (room : HasRoom given (files_now start))
+    → FaultsGive L given (files_now start) room
+    → SourceEnd given.held given.shown room.can.query most rounds start now OutTells old written told stop → Met L (status_in stop)
+source_met L given most rounds start now OutTells old written told stop room line (unstarted outside idle) = outside_met L stop outside
+source_met L given most rounds start now OutTells old written told stop room line (not_one_part parts is idle) = absurd (parts room.can.one_part)
+source_met L given most rounds start now OutTells old written told stop room line (ran parts known known_now end at_least left always goes is) =
     let can = room.can in
     let work : Job = job_of can.query (given.held.lines (source_of can.query) 0) in
     let has : Room L work can.entry = record { few_lines = room.few_lines; few_epochs = room.few_epochs; before = committed_le work can.entry (files_now start) can.reads; line = line } in
-    let allowed = job_allowed L F _ can.entry known_now now OutTells written told end can.reads has full (goes can.entry can.reads can.long) left in
-    subst (λ s. Met L F (status_in s)) (sym is) (allowed_met can.query L F end allowed)
+    let allowed = job_allowed L _ can.entry known_now now OutTells written told end can.reads has (goes can.entry can.reads can.long) left in
+    subst (λ s. Met L (status_in s)) (sym is) (allowed_met can.query L end allowed)
 
-run_met : (L F : Type 0) (given : Given) (start now : History) (OutTells : Type 0) (old written told : List ℕ) (stop : Option Stop) (room : HasRoom given (files_now start))
-    → FaultsGive L given (files_now start) room → ((seen : ℕ) → most_lines < seen → F)
-    → ProgramEnd given start now OutTells old written told stop → Met L F (status_in stop)
-run_met L F given start now OutTells old written told stop room line full (unread is idle) = no_memory_met L F stop is
-run_met L F given start now OutTells old written told stop room line full (no_command none is idle) = absurd (no_words given.words (asks_run room.can.file room.can.most room.can.rounds) room.can.asks none)
-run_met L F given start now OutTells old written told stop room line full (no_file what is outside idle) = outside_met L F stop outside
-run_met L F given start now OutTells old written told stop room line full (no_query what is none so idle) =
+run_met : (L : Type 0) (given : Given) (start now : History) (OutTells : Type 0) (old written told : List ℕ) (stop : Option Stop) (room : HasRoom given (files_now start))
+    → FaultsGive L given (files_now start) room
+    → ProgramEnd given start now OutTells old written told stop → Met L (status_in stop)
+run_met L given start now OutTells old written told stop room line (unread is idle) = no_memory_met L stop is
+run_met L given start now OutTells old written told stop room line (no_command none is idle) = absurd (no_words given.words (asks_run room.can.file room.can.most room.can.rounds) room.can.asks none)
+run_met L given start now OutTells old written told stop room line (no_file what is outside idle) = outside_met L stop outside
+run_met L given start now OutTells old written told stop room line (no_query what is none so idle) =
     let can = room.can in
     let P : Asked → Type 0 = λ a. IsNoQueryAt given.held (file_of a) in
     absurd (subst P (same_asked given.words what (asks_run can.file can.most can.rounds) is can.asks) none can.query can.is)
-run_met L F given start now OutTells old written told stop room line full (query_run file most rounds query is written_so end) =
+run_met L given start now OutTells old written told stop room line (query_run file most rounds query is written_so end) =
     let can = room.can in
     let Q : List ℕ → Type 0 = λ f. IsQueryAt given.held f query in
     let same = one_asked given.held can.file query can.query (subst Q (sym (same_file given.words file can.file most can.most rounds can.rounds is can.asks)) written_so) can.is in
     let S : Asking → Type 0 = λ q. SourceEnd given.held given.shown q most rounds start now OutTells old written told stop in
-    source_met L F given most rounds start now OutTells old written told stop room line full (subst S same end)
-run_met L F given start now OutTells old written told stop room line full (looked file query is written_so still unwritten end) = absurd (no_status given.words room.can.file file room.can.most room.can.rounds room.can.asks is)
+    source_met L given most rounds start now OutTells old written told stop room line (subst S same end)
+run_met L given start now OutTells old written told stop room line (looked file query is written_so still unwritten end) = absurd (no_status given.words room.can.file file room.can.most room.can.rounds room.can.asks is)
 
 -- ---- a look
 
-outside_of_met : (query : Asking) (L F : Type 0) (why : OpenFault) → IsOutsideOf why → Met L F (status_of (stop_of_open query why))
-outside_of_met query L F opening.DiskFault is = inr (inl (inr (inl refl)))
-outside_of_met query L F opening.NoMemory is = inl (inr refl)
-outside_of_met query L F _ is = absurd is
+outside_of_met : (query : Asking) (L : Type 0) (why : OpenFault) → IsOutsideOf why → Met L (status_of (stop_of_open query why))
+outside_of_met query L opening.DiskFault is = inr (inl (inr (inl refl)))
+outside_of_met query L opening.NoMemory is = inl (inr refl)
+outside_of_met query L _ is = absurd is
 
-done_met : (L F : Type 0) (stop : Option Stop) → stop ≡ None → Met L F (status_in stop)
-done_met L F stop is = subst (λ s. Met L F (status_in s)) (sym is) (inl (inl refl))
+done_met : (L : Type 0) (stop : Option Stop) → stop ≡ None → Met L (status_in stop)
+done_met L stop is = subst (λ s. Met L (status_in s)) (sym is) (inl (inl refl))
 
-look_at_met : (L F : Type 0) (query : Asking) (lines : List Line) (files : Files) (told : List ℕ) (stop : Option Stop) → IsEmptyOrStands (job_of query lines) files → LookEnd query files told stop → Met L F (status_in stop)
-look_at_met L F query lines files told stop stands (nothing_there empty tells is) = done_met L F stop is
-look_at_met L F query lines files told stop stands (look_shown opened holds tells is) = done_met L F stop is
-look_at_met L F query lines files told stop stands (denied why cause outside tells is) = subst (λ s. Met L F (status_in s)) (sym is) (outside_of_met query L F why (outside lines stands))
-look_at_met L F query lines files told stop stands (look_starved tells is) = no_memory_met L F stop is
+look_at_met : (L : Type 0) (query : Asking) (lines : List Line) (files : Files) (told : List ℕ) (stop : Option Stop) → IsEmptyOrStands (job_of query lines) files → LookEnd query files told stop → Met L (status_in stop)
+look_at_met L query lines files told stop stands (nothing_there empty tells is) = done_met L stop is
+look_at_met L query lines files told stop stands (look_shown opened holds tells is) = done_met L stop is
+look_at_met L query lines files told stop stands (denied why cause outside tells is) = subst (λ s. Met L (status_in s)) (sym is) (outside_of_met query L why (outside lines stands))
+look_at_met L query lines files told stop stands (look_starved tells is) = no_memory_met L stop is
 
-look_met : (L F : Type 0) (given : Given) (start now : History) (OutTells : Type 0) (old written told : List ℕ) (stop : Option Stop) → CanLook given (files_now start)
-    → ProgramEnd given start now OutTells old written told stop → Met L F (status_in stop)
-look_met L F given start now OutTells old written told stop can (unread is idle) = no_memory_met L F stop is
-look_met L F given start now OutTells old written told stop can (no_command none is idle) = absurd (no_words given.words (asks_status can.file) can.asks none)
-look_met L F given start now OutTells old written told stop can (no_file what is outside idle) = outside_met L F stop outside
-look_met L F given start now OutTells old written told stop can (no_query what is none so idle) =
+look_met : (L : Type 0) (given : Given) (start now : History) (OutTells : Type 0) (old written told : List ℕ) (stop : Option Stop) → CanLook given (files_now start)
+    → ProgramEnd given start now OutTells old written told stop → Met L (status_in stop)
+look_met L given start now OutTells old written told stop can (unread is idle) = no_memory_met L stop is
+look_met L given start now OutTells old written told stop can (no_command none is idle) = absurd (no_words given.words (asks_status can.file) can.asks none)
+look_met L given start now OutTells old written told stop can (no_file what is outside idle) = outside_met L stop outside
+look_met L given start now OutTells old written told stop can (no_query what is none so idle) =
     let P : Asked → Type 0 = λ a. IsNoQueryAt given.held (file_of a) in
     absurd (subst P (same_asked given.words what (asks_status can.file) is can.asks) none can.query can.is)
-look_met L F given start now OutTells old written told stop can (query_run file most rounds query is written_so end) = absurd (no_status given.words file can.file most rounds is can.asks)
-look_met L F given start now OutTells old written told stop can (looked file query is written_so still unwritten end) =
+look_met L given start now OutTells old written told stop can (query_run file most rounds query is written_so end) = absurd (no_status given.words file can.file most rounds is can.asks)
+look_met L given start now OutTells old written told stop can (looked file query is written_so still unwritten end) =
     let Q : List ℕ → Type 0 = λ f. IsQueryAt given.held f query in
     let P : Asked → Type 0 = λ a. IsQueryAt given.held (file_of a) query in
     let same = one_asked given.held can.file query can.query (subst P (same_asked given.words (asks_status file) (asks_status can.file) is can.asks) written_so) can.is in
     let E : Asking → Type 0 = λ q. LookEnd q (files_now start) told stop in
-    look_at_met L F can.query can.lines (files_now start) told stop can.stands (subst E same end)
+    look_at_met L can.query can.lines (files_now start) told stop can.stands (subst E same end)
 
 -- ---- statuses
 
-status_met : (L F : Type 0) (stop : Option Stop) (before after status : ℕ) → IsStatus stop before after status → Met L F (status_in stop) → Met L F status
-status_met L F stop before after status (inl is) met = subst (Met L F) (sym is) met
-status_met L F stop before after status (inr (inl is)) met = inr (inl (inr (inr is.0)))
-status_met L F stop before after status (inr (inr is)) met = inl (inr is)
+status_met : (L : Type 0) (stop : Option Stop) (before after status : ℕ) → IsStatus stop before after status → Met L (status_in stop) → Met L status
+status_met L stop before after status (inl is) met = subst (Met L) (sym is) met
+status_met L stop before after status (inr (inl is)) met = inr (inl (inr (inr is.0)))
+status_met L stop before after status (inr (inr is)) met = inl (inr is)
 
 -- what is left where no fault of the outside was counted
-left_met : (L F : Type 0) (status inputs inputs_now disk disk_now out out_now : ℕ) → NoneFailed inputs inputs_now disk disk_now out out_now
-    → (status ≡ 6 → Rises inputs inputs_now) → (status ≡ 7 → Rises disk disk_now) → (status ≡ 8 → Rises out out_now) → Met L F status → IsDone status ⊎ ((((status ≡ 4) ⊎ (status ≡ 5)) × L) ⊎ ((status ≡ 11) × F))
-left_met L F status inputs inputs_now disk disk_now out out_now none six seven eight (inl done) = inl done
-left_met L F status inputs inputs_now disk disk_now out out_now none six seven eight (inr (inl (inl is))) = absurd (none.inputs_whole (six is))
-left_met L F status inputs inputs_now disk disk_now out out_now none six seven eight (inr (inl (inr (inl is)))) = absurd (none.disk_whole (seven is))
-left_met L F status inputs inputs_now disk disk_now out out_now none six seven eight (inr (inl (inr (inr is)))) = absurd (none.out_whole (eight is))
-left_met L F status inputs inputs_now disk disk_now out out_now none six seven eight (inr (inr is)) = inr is
+left_met : (L : Type 0) (status inputs inputs_now disk disk_now out out_now : ℕ) → NoneFailed inputs inputs_now disk disk_now out out_now
+    → (status ≡ 6 → Rises inputs inputs_now) → (status ≡ 7 → Rises disk disk_now) → (status ≡ 8 → Rises out out_now) → Met L status → IsDone status ⊎ (((status ≡ 4) ⊎ (status ≡ 5)) × L)
+left_met L status inputs inputs_now disk disk_now out out_now none six seven eight (inl done) = inl done
+left_met L status inputs inputs_now disk disk_now out out_now none six seven eight (inr (inl (inl is))) = absurd (none.inputs_whole (six is))
+left_met L status inputs inputs_now disk disk_now out out_now none six seven eight (inr (inl (inr (inl is)))) = absurd (none.disk_whole (seven is))
+left_met L status inputs inputs_now disk disk_now out out_now none six seven eight (inr (inl (inr (inr is)))) = absurd (none.out_whole (eight is))
+left_met L status inputs inputs_now disk disk_now out out_now none six seven eight (inr (inr is)) = inr is
 
 pub done_to_a_line : (given : Given) (start now : History) (OutTells : Type 0) (old written told : List ℕ) (stop : Option Stop) (before after status inputs inputs_now disk disk_now out out_now : ℕ)
     → ProgramEnd given start now OutTells old written told stop → IsStatus stop before after status
     → (status ≡ 6 → Rises inputs inputs_now) → (status ≡ 7 → Rises disk disk_now) → (status ≡ 8 → Rises out out_now)
-    → HasRoom given (files_now start) → NoneFailed inputs inputs_now disk disk_now out out_now → IsDoneToALine status ⊎ (status ≡ 11)
+    → HasRoom given (files_now start) → NoneFailed inputs inputs_now disk disk_now out out_now → IsDoneToALine status
 done_to_a_line given start now OutTells old written told stop before after status inputs inputs_now disk disk_now out out_now end answer six seven eight room none =
-    let met : Met ⊤ ⊤ status = status_met ⊤ ⊤ stop before after status answer (run_met ⊤ ⊤ given start now OutTells old written told stop room (λ at line le there bad. tt) (λ seen many. tt) end) in
-    elim (left_met ⊤ ⊤ status inputs inputs_now disk disk_now out out_now none six seven eight met) [
-    | inl done ↦ inl (inl done)
-    | inr (inl line) ↦ inl (inr line.0)
-    | inr (inr full) ↦ inr full.0
+    let met : Met ⊤ status = status_met ⊤ stop before after status answer (run_met ⊤ given start now OutTells old written told stop room (λ at line le there bad. tt) end) in
+    elim (left_met ⊤ status inputs inputs_now disk disk_now out out_now none six seven eight met) [
+    | inl is ↦ inl is
+    | inr line ↦ inr line.0
     ]
 
 true_false : (b : Bool) → b ≡ true → b ≡ false → ⊥
@@ -331,14 +330,13 @@ true_false b is other = cc
 pub done : (given : Given) (start now : History) (OutTells : Type 0) (old written told : List ℕ) (stop : Option Stop) (before after status inputs inputs_now disk disk_now out out_now : ℕ)
     → ProgramEnd given start now OutTells old written told stop → IsStatus stop before after status
     → (status ≡ 6 → Rises inputs inputs_now) → (status ≡ 7 → Rises disk disk_now) → (status ≡ 8 → Rises out out_now)
-    → IsFaultless given (files_now start) → NoneFailed inputs inputs_now disk disk_now out out_now → IsDone status ⊎ (status ≡ 11)
+    → IsFaultless given (files_now start) → NoneFailed inputs inputs_now disk disk_now out out_now → IsDone status
 done given start now OutTells old written told stop before after status inputs inputs_now disk disk_now out out_now end answer six seven eight faultless none =
-    let met : Met ⊥ ⊤ status = status_met ⊥ ⊤ stop before after status answer
-    (run_met ⊥ ⊤ given start now OutTells old written told stop faultless.room (λ at line le there bad. true_false _ bad (faultless.good at line le there)) (λ seen many. tt) end) in
-    elim (left_met ⊥ ⊤ status inputs inputs_now disk disk_now out out_now none six seven eight met) [
-    | inl is ↦ inl is
-    | inr (inl line) ↦ absurd line.1
-    | inr (inr full) ↦ inr full.0
+    let met : Met ⊥ status = status_met ⊥ stop before after status answer
+    (run_met ⊥ given start now OutTells old written told stop faultless.room (λ at line le there bad. true_false _ bad (faultless.good at line le there)) end) in
+    elim (left_met ⊥ status inputs inputs_now disk disk_now out out_now none six seven eight met) [
+    | inl is ↦ is
+    | inr line ↦ absurd line.1
     ]
 
 pub looked_well : (given : Given) (start now : History) (OutTells : Type 0) (old written told : List ℕ) (stop : Option Stop) (before after status inputs inputs_now disk disk_now out out_now : ℕ)
@@ -346,9 +344,8 @@ pub looked_well : (given : Given) (start now : History) (OutTells : Type 0) (old
     → (status ≡ 6 → Rises inputs inputs_now) → (status ≡ 7 → Rises disk disk_now) → (status ≡ 8 → Rises out out_now)
     → CanLook given (files_now start) → NoneFailed inputs inputs_now disk disk_now out out_now → IsDone status
 looked_well given start now OutTells old written told stop before after status inputs inputs_now disk disk_now out out_now end answer six seven eight can none =
-    let met : Met ⊥ ⊥ status = status_met ⊥ ⊥ stop before after status answer (look_met ⊥ ⊥ given start now OutTells old written told stop can end) in
-    elim (left_met ⊥ ⊥ status inputs inputs_now disk disk_now out out_now none six seven eight met) [
+    let met : Met ⊥ status = status_met ⊥ stop before after status answer (look_met ⊥ given start now OutTells old written told stop can end) in
+    elim (left_met ⊥ status inputs inputs_now disk disk_now out out_now none six seven eight met) [
     | inl is ↦ is
-    | inr (inl line) ↦ absurd line.1
-    | inr (inr full) ↦ absurd full.1
+    | inr line ↦ absurd line.1
     ]

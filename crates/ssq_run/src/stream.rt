@@ -133,11 +133,11 @@ pub fn stream_main<R: Threads + Wait + Sync, D: Disk, I: Inputs, O: Output, G: G
     ensures is_done_to_a_line { D.tells → I.tells → HasRoom
         (record { words = map string_bytes words.now; held = I.held inputs; shown = I.shown inputs }) (files_now (D.history disk)) →
         NoneFailed (I.faults inputs) (I.faults result.inputs) (D.faults disk) (D.faults result.disk) (O.faults out) (O.faults result.out) →
-        IsDoneToALine result.status ⊎ (result.status ≡ 11) }
+        IsDoneToALine result.status }
     ensures is_done { D.tells → I.tells → IsFaultless
         (record { words = map string_bytes words.now; held = I.held inputs; shown = I.shown inputs }) (files_now (D.history disk)) →
         NoneFailed (I.faults inputs) (I.faults result.inputs) (D.faults disk) (D.faults result.disk) (O.faults out) (O.faults result.out) →
-        IsDone result.status ⊎ (result.status ≡ 11) }
+        IsDone result.status }
     ensures is_told { D.tells → I.tells → CanLook
         (record { words = map string_bytes words.now; held = I.held inputs; shown = I.shown inputs }) (files_now (D.history disk)) →
         NoneFailed (I.faults inputs) (I.faults result.inputs) (D.faults disk) (D.faults result.disk) (O.faults out) (O.faults result.out) →
