@@ -1,11 +1,11 @@
 -- How a run ends, from what each of its parts left.
-use Rattle.std.proofs.Common.{◌≡◌, ◌≤◌, ℕ, List, [], Option, Some, None, Result, Ok, Err, refl, sym, ◌∙◌, subst, inl, inr, arith}
+use Rattle.std.proofs.Common.{◌≡◌, ◌≤◌, ℕ, List, [], length, Option, Some, None, Result, Ok, Err, refl, sym, ◌∙◌, subst, inl, inr, arith}
 use Rattle.std.specs.Prelude.{OnOk, IfErr}
 use Rattle.std.proofs.lemmas.List.{append-nil}
 use Rattle.ssq_outside.specs.Files.{Files}
 use Rattle.ssq_outside.specs.History.{History, had_now, files_now, LeavesNow}
 use Rattle.ssq_outside.proofs.Steps.{files_are_image, weaker}
-use Rattle.ssq_meaning.specs.Meaning.{Cuts}
+use Rattle.ssq_meaning.specs.Meaning.{Line, Cuts}
 use Rattle.ssq_open.specs.declared.fault.OpenFault.{OpenFault}
 use Rattle.ssq_open.specs.declared.fault.OpenFault.TheVariants as opening
 use Rattle.ssq_open.specs.Opening.{SyncedSince, IsBegun, IsOpening, IsOutside}
@@ -27,9 +27,11 @@ use Rattle.ssq_job.proofs.Always.{always_idle, always_unopened, always_run, none
 use Rattle.ssq_job.proofs.Entries.{not_empty}
 
 -- the log was not taken
-pub end_untaken : (given : Given) (known : ℕ) (OutTells : Type 0) (told : List ℕ) (why : JobFault) → told ≡ [] → IsUntaken known why
+pub end_untaken : (given : Given) (known : ℕ) (OutTells : Type 0) (told : List ℕ) (why : JobFault) (lines : List Line) → told ≡ [] → given.job.lines ≡ lines → IsUntaken (length lines) known why
     → JobEnd given known given.start OutTells given.written told (Some why)
-end_untaken given known OutTells told why empty is = untaken why refl is refl (λ t. sym (append-nil given.written)) empty
+end_untaken given known OutTells told why lines empty same is =
+    let Cause : List Line → Type 0 = λ ls. IsUntaken (length ls) known why in
+    untaken why refl (subst Cause (sym same) is) refl (λ t. sym (append-nil given.written)) empty
 
 -- the checkpoint was not opened
 pub end_unopened : (given : Given) (known found : ℕ) (now : History) (OutTells : Type 0) (told held : List ℕ) (why : JobFault) → told ≡ [] → given.known ≤ known → known ≡ found → found ≤ most_lines
@@ -144,20 +146,20 @@ stop_passes job cuts k seen now round.FullEpochs is = tt
 stop_passes job cuts k seen now round.DiskFault is = tt
 stop_passes job cuts k seen now round.NoMemory is = tt
 
-untaken_passes : (seen : ℕ) (why : JobFault) → IsUntaken seen why → IsNoRefusal why
-untaken_passes seen fault.LogFault is = tt
-untaken_passes seen (fault.FullLines lines) is = tt
-untaken_passes seen (fault.OtherQuery query) is = is
-untaken_passes seen (fault.OtherPartitions partitions asked) is = is
-untaken_passes seen (fault.OtherParts stream parts found) is = is
-untaken_passes seen (fault.LogShort logged found) is = is
-untaken_passes seen (fault.Damaged at) is = is
-untaken_passes seen (fault.Bad offset cause) is = tt
-untaken_passes seen (fault.Overflow offset) is = tt
-untaken_passes seen fault.FullEpochs is = tt
-untaken_passes seen fault.DiskFault is = tt
-untaken_passes seen fault.OutFault is = tt
-untaken_passes seen fault.NoMemory is = tt
+untaken_passes : (all seen : ℕ) (why : JobFault) → IsUntaken all seen why → IsNoRefusal why
+untaken_passes all seen fault.LogFault is = tt
+untaken_passes all seen (fault.FullLines lines) is = tt
+untaken_passes all seen (fault.OtherQuery query) is = is
+untaken_passes all seen (fault.OtherPartitions partitions asked) is = is
+untaken_passes all seen (fault.OtherParts stream parts found) is = is
+untaken_passes all seen (fault.LogShort logged found) is = is
+untaken_passes all seen (fault.Damaged at) is = is
+untaken_passes all seen (fault.Bad offset cause) is = tt
+untaken_passes all seen (fault.Overflow offset) is = tt
+untaken_passes all seen fault.FullEpochs is = tt
+untaken_passes all seen fault.DiskFault is = tt
+untaken_passes all seen fault.OutFault is = tt
+untaken_passes all seen fault.NoMemory is = tt
 
 -- it is this fault
 same_fault : (one other : JobFault) → Some one ≡ Some other → one ≡ other
@@ -168,7 +170,7 @@ rounds_pass given entry found known now T w told why (finished rounds epochs all
 rounds_pass given entry found known now T w told why (unsaid rounds epochs all shown done wrote last is) = subst IsNoRefusal (sym (same_fault why fault.NoMemory is)) tt
 rounds_pass given entry found known now T w told why (stopped rounds put seen epochs cuts cause some saw there few next left wrote lines stop is) =
     subst IsNoRefusal (sym (same_fault why (fault_of_round cause) is)) (stop_passes given.job cuts _ seen now cause stop)
-rounds_pass given entry found known now T w told why (unseen rounds put seen cause some saw there left wrote empty stop is) = subst IsNoRefusal (sym (same_fault why cause is)) (untaken_passes seen cause stop)
+rounds_pass given entry found known now T w told why (unseen rounds put seen cause some saw there left wrote empty stop is) = subst IsNoRefusal (sym (same_fault why cause is)) (untaken_passes _ seen cause stop)
 rounds_pass given entry found known now T w told why (unput round rounds put epochs cause before some shown done wrote un is) = subst IsNoRefusal (sym (same_fault why cause is)) (unput_passes T _ _ _ _ cause un)
 
 -- a fault of the outside is no refusal

@@ -217,15 +217,15 @@ turn_stopped given entry found known known_now rounds put from mid T w told now 
     (stop.did.lines ∙ ap (λ f. told_from given.job next f m) (sym so.all)) (subst Cause (sym so.all) stop.cause) refl
 
 -- why its log was not taken: it has not fewer lines than before
-see_untaken : (end before seen : ℕ) (fault : RoundFault) → end ≤ before → before ≤ seen → SeeCause end seen fault → IsUntaken seen (fault_of_round fault)
-see_untaken end before seen (round.FullLines lines) bound saw is = is
-see_untaken end before seen (round.LogShort logged found) bound saw is = absurd (omega (arith, bound, saw, is.2))
-see_untaken end before seen round.LogFault bound saw is = tt
-see_untaken end before seen (round.Bad offset cause) bound saw is = absurd is
-see_untaken end before seen (round.Overflow offset) bound saw is = absurd is
-see_untaken end before seen round.FullEpochs bound saw is = absurd is
-see_untaken end before seen round.DiskFault bound saw is = absurd is
-see_untaken end before seen round.NoMemory bound saw is = absurd is
+see_untaken : (all end before seen : ℕ) (fault : RoundFault) → end ≤ before → before ≤ seen → SeeCause all end seen fault → IsUntaken all seen (fault_of_round fault)
+see_untaken all end before seen (round.FullLines lines) bound saw is = is
+see_untaken all end before seen (round.LogShort logged found) bound saw is = absurd (omega (arith, bound, saw, is.2))
+see_untaken all end before seen round.LogFault bound saw is = tt
+see_untaken all end before seen (round.Bad offset cause) bound saw is = absurd is
+see_untaken all end before seen (round.Overflow offset) bound saw is = absurd is
+see_untaken all end before seen round.FullEpochs bound saw is = absurd is
+see_untaken all end before seen round.DiskFault bound saw is = absurd is
+see_untaken all end before seen round.NoMemory bound saw is = absurd is
 
 -- its log was not taken
 turn_unseen : (given : Given) (entry : Entry) (found known known_now : ℕ) (rounds : List Round) (put : ℕ) (from : Progress) (mid : History) (T : Type 0) (w told : List ℕ) (now : History) (fault : RoundFault) (seen : ℕ)
@@ -249,7 +249,7 @@ turn_unseen given entry found known known_now rounds put from mid T w told now f
     } in
     unseen rounds put seen (fault_of_round fault) (turn_some given entry found rounds put from mid T w so fewer) (omega (arith, shown, saw)) there
     (subst Now (sym un.idle) (subst To (sym so.planned) left_at)) so.wrote un.untold
-    (see_untaken (planned_end from) (seen_after found rounds) seen fault so.bound (omega (arith, shown, saw)) un.cause) refl
+    (see_untaken (length given.job.lines) (planned_end from) (seen_after found rounds) seen fault so.bound (omega (arith, shown, saw)) un.cause) refl
 
 pub turn_stops : (given : Given) (entry : Entry) (found known known_now : ℕ) (rounds : List Round) (put : ℕ) (from : Progress) (mid : History) (T : Type 0) (w told : List ℕ) (now : History) (fault : RoundFault)
     → SoFar given entry found rounds put from mid T w → length rounds < given.rounds → seen_after found rounds ≤ known

@@ -71,21 +71,21 @@ pub data IsUnput (Tells : Type 0) (old new lines told : List ℕ) (fault : JobFa
   failed : fault ≡ OutFault → (Tells → (n : ℕ) × (new ≡ old ++ take n lines)) → told ≡ [] → IsUnput Tells old new lines told fault
   starved : fault ≡ NoMemory → (Tells → new ≡ old) → told ≡ lines → IsUnput Tells old new lines told fault
 
--- The log failed, or has too many lines.
-abbrev pub IsUntaken : ℕ → JobFault → Type 0
-IsUntaken seen LogFault = ⊤
-IsUntaken seen (FullLines lines) = (lines ≡ seen) × (most_lines < seen)
-IsUntaken seen (OtherQuery kept) = ⊥
-IsUntaken seen (OtherPartitions kept asked) = ⊥
-IsUntaken seen (OtherParts stream kept found) = ⊥
-IsUntaken seen (LogShort logged found) = ⊥
-IsUntaken seen (Damaged name) = ⊥
-IsUntaken seen (Bad offset cause) = ⊥
-IsUntaken seen (Overflow offset) = ⊥
-IsUntaken seen FullEpochs = ⊥
-IsUntaken seen DiskFault = ⊥
-IsUntaken seen OutFault = ⊥
-IsUntaken seen NoMemory = ⊥
+-- The log failed, or too many of all its lines are there.
+abbrev pub IsUntaken : ℕ → ℕ → JobFault → Type 0
+IsUntaken all seen LogFault = ⊤
+IsUntaken all seen (FullLines lines) = (lines ≡ seen) × (most_lines < seen) × (seen ≤ all)
+IsUntaken all seen (OtherQuery kept) = ⊥
+IsUntaken all seen (OtherPartitions kept asked) = ⊥
+IsUntaken all seen (OtherParts stream kept found) = ⊥
+IsUntaken all seen (LogShort logged found) = ⊥
+IsUntaken all seen (Damaged name) = ⊥
+IsUntaken all seen (Bad offset cause) = ⊥
+IsUntaken all seen (Overflow offset) = ⊥
+IsUntaken all seen FullEpochs = ⊥
+IsUntaken all seen DiskFault = ⊥
+IsUntaken all seen OutFault = ⊥
+IsUntaken all seen NoMemory = ⊥
 
 -- How rounds end over a log in which so many lines were found, and what they wrote and have yet to write. All that were asked for
 -- are done and put, and then it is told how many epochs there are, or memory ran out for that. Or one stopped, at the epoch after
@@ -110,7 +110,7 @@ pub data RoundsEnd (given : Given) (entry : Entry) (found known : ℕ) (now : Hi
       → seen_after found rounds ≤ seen → seen ≤ known
       → Left given entry (cuts_after given.most entry rounds) put (epochs_after entry.planned rounds) now
       → Wrote OutTells given.written written (told_from given.job (cuts_after given.most entry rounds) entry.committed put)
-      → told ≡ [] → IsUntaken seen fault → end ≡ Some fault → RoundsEnd given entry found known now OutTells written told end
+      → told ≡ [] → IsUntaken (length given.job.lines) seen fault → end ≡ Some fault → RoundsEnd given entry found known now OutTells written told end
   unput : (round : Round) (rounds : List Round) (put epochs : ℕ) (fault : JobFault) (before : List ℕ) → AreSome given entry found rounds put
       → round.seen ≤ known → AreDone given entry found (round ∷ rounds) (put + epochs) now
       → Wrote OutTells given.written before (told_from given.job (cuts_after given.most entry (round ∷ rounds)) entry.committed put)
@@ -139,7 +139,7 @@ pub record WasOpened (text : List ℕ) (found : ℕ) (files : Files) : Type 0 wh
 -- How a run ends, in the order of its work: its log was not taken; the checkpoint was not opened; or it was, and the rounds were
 -- run, on all that its files stood for.
 pub data JobEnd (given : Given) (known : ℕ) (now : History) (OutTells : Type 0) (written told : List ℕ) (end : Option JobFault) : Type 0 where
-  untaken : (fault : JobFault) → end ≡ Some fault → IsUntaken known fault → now ≡ given.start
+  untaken : (fault : JobFault) → end ≡ Some fault → IsUntaken (length given.job.lines) known fault → now ≡ given.start
       → Wrote OutTells given.written written [] → told ≡ [] → JobEnd given known now OutTells written told end
   unopened : (found : ℕ) (fault : JobFault) → end ≡ Some fault → IsFound given known found → IsUnopened given.job.text found given.start now fault
       → Wrote OutTells given.written written [] → told ≡ [] → JobEnd given known now OutTells written told end

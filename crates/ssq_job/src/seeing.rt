@@ -15,7 +15,7 @@ const MOST_LINES: u64 = 1_099_511_627_776;
 pub(crate) fn see_lines<L: Log>(log: &mut L) -> Result<u64, JobFault>
     ensures found { L.tells → IfOk result (λ n. (L.shown log.new ≡ n) × (n ≤ length (L.lines log.new))) }
     ensures few { IfOk result (λ n. n ≤ most_lines) }
-    ensures untaken { L.tells → IfErr result (IsUntaken (L.shown log.new)) }
+    ensures untaken { L.tells → IfErr result (IsUntaken (length (L.lines log.new)) (L.shown log.new)) }
     ensures only { IfErr result IsJobFault }
     ensures no_refusal { IfErr result IsNoRefusal }
     ensures same { L.tells → L.lines log.new ≡ L.lines log.old }

@@ -7,7 +7,7 @@ use Rattle.std.proofs.lemmas.Bool.{ltb-true, ltb-false}
 use Rattle.ssq_outside.specs.Files.{Files}
 use Rattle.ssq_outside.specs.History.{History, LeavesNow, LeavesOnly}
 use Rattle.ssq_outside.proofs.Steps.{weaker, joined}
-use Rattle.ssq_meaning.specs.Meaning.{Cuts, next_end, AreProper}
+use Rattle.ssq_meaning.specs.Meaning.{Line, Cuts, next_end, AreProper}
 use Rattle.ssq_core.specs.Settled.{IsSettledAs}
 use Rattle.ssq_core.specs.Standing.{files_at}
 use Rattle.ssq_core.proofs.Standing.{stays}
@@ -263,11 +263,12 @@ round_stopped job cuts from most known mid known_now seen start now before told 
     stopped seen (omega (arith, less, is)) (omega (arith, is, later)) enough end
 
 -- the log was not taken
-pub round_unseen : (job : Job) (cuts : Cuts) (from : Progress) (most : Option ℕ) (known known_now : ℕ) (start : History) (before : List ℕ) (fault : RoundFault)
-    → known ≤ known_now → SeeCause (planned_end from) known_now fault
+pub round_unseen : (job : Job) (cuts : Cuts) (from : Progress) (most : Option ℕ) (known known_now : ℕ) (start : History) (before : List ℕ) (fault : RoundFault) (lines : List Line)
+    → known ≤ known_now → job.lines ≡ lines → SeeCause (length lines) (planned_end from) known_now fault
     → RoundStop job cuts from most known known_now start start before before fault
-round_unseen job cuts from most known known_now start before fault less cause =
-    unseen known_now less (omega arith) (record { idle = refl; untold = refl; cause = cause })
+round_unseen job cuts from most known known_now start before fault lines less same cause =
+    let Cause : List Line → Type 0 = λ ls. SeeCause (length ls) (planned_end from) known_now fault in
+    unseen known_now less (omega arith) (record { idle = refl; untold = refl; cause = subst Cause (sym same) cause })
 
 pub enough_is : (job : Job) (progress : Progress) (seen logged all : ℕ) → logged ≡ planned_end progress → (logged ≤ seen) × (seen ≤ most_lines) → all ≡ length job.lines → seen ≤ all → IsEnough seen job progress
 enough_is job progress seen logged all is bounds whole inside = record { few = bounds.1; all = omega (arith, is, bounds.0); inside = omega (arith, whole, inside) }

@@ -14,16 +14,16 @@ use Rattle.ssq_round.specs.Faults.{most_lines}
 use Rattle.ssq_round.specs.Standing.{Job, course_of, StandsBetween}
 use Rattle.ssq_round.specs.Told.{told_from}
 
--- Why a log is not read: it has too many lines, or else fewer than were logged, or it failed.
-abbrev pub SeeCause : ℕ → ℕ → RoundFault → Type 0
-SeeCause end seen (FullLines lines) = (lines ≡ seen) × (most_lines < seen)
-SeeCause end seen (LogShort logged found) = (logged ≡ end) × (found ≡ seen) × (seen < end) × (seen ≤ most_lines)
-SeeCause end seen LogFault = ⊤
-SeeCause end seen (Bad offset cause) = ⊥
-SeeCause end seen (Overflow offset) = ⊥
-SeeCause end seen FullEpochs = ⊥
-SeeCause end seen DiskFault = ⊥
-SeeCause end seen NoMemory = ⊥
+-- Why a log is not read: it has too many of all its lines, or else fewer than were logged, or it failed.
+abbrev pub SeeCause : ℕ → ℕ → ℕ → RoundFault → Type 0
+SeeCause all end seen (FullLines lines) = (lines ≡ seen) × (most_lines < seen) × (seen ≤ all)
+SeeCause all end seen (LogShort logged found) = (logged ≡ end) × (found ≡ seen) × (seen < end) × (seen ≤ most_lines)
+SeeCause all end seen LogFault = ⊤
+SeeCause all end seen (Bad offset cause) = ⊥
+SeeCause all end seen (Overflow offset) = ⊥
+SeeCause all end seen FullEpochs = ⊥
+SeeCause all end seen DiskFault = ⊥
+SeeCause all end seen NoMemory = ⊥
 
 -- What a round that saw so many lines starts from: not too many lines, and none of the planned epochs is missing any.
 pub record IsEnough (seen : ℕ) (job : Job) (progress : Progress) : Type 0 where
@@ -79,7 +79,7 @@ pub record IsStopped (job : Job) (cuts : Cuts) (begun first seen : ℕ) (start n
 pub record IsUnseen (job : Job) (cuts : Cuts) (seen : ℕ) (start now : History) (before told : List ℕ) (progress : Progress) (fault : RoundFault) : Type 0 where
   pub idle : now ≡ start
   pub untold : told ≡ before
-  pub cause : SeeCause (planned_end progress) seen fault
+  pub cause : SeeCause (length job.lines) (planned_end progress) seen fault
 
 -- How a round ends that was done, for what it saw: never fewer lines than its log was known to have, nor more than it is known to
 -- have now.

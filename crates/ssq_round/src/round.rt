@@ -25,7 +25,7 @@ const MOST_LINES: u64 = 1_099_511_627_776;
 fn see<L: Log>(log: &mut L, logged: u64) -> Result<u64, RoundFault>
     ensures found { L.tells → IfOk result (λ n. (L.shown log.new ≡ n) × (n ≤ length (L.lines log.new))) }
     ensures enough { IfOk result (λ n. (logged ≤ n) × (n ≤ most_lines)) }
-    ensures stop { L.tells → IfErr result (SeeCause logged (L.shown log.new)) }
+    ensures stop { L.tells → IfErr result (SeeCause (length (L.lines log.new)) logged (L.shown log.new)) }
     ensures only { IfErr result IsRoundFault }
     ensures same { L.tells → L.lines log.new ≡ L.lines log.old }
     ensures grown { L.tells → L.shown log.old ≤ L.shown log.new }

@@ -20,7 +20,7 @@ some_words : (a b : Words) → Some a ≡ Some b → a ≡ b
 some_words a b e = cc
 
 -- a file is written as one query at most
-one_asked : (held : Held) (file : List ℕ) (query other : Asking) → IsQueryAt held file query → IsQueryAt held file other → query ≡ other
+pub one_asked : (held : Held) (file : List ℕ) (query other : Asking) → IsQueryAt held file query → IsQueryAt held file other → query ≡ other
 one_asked held file query other one two = one_query query other one.taken two.taken (some_words (spelling query) (spelling other) (sym one.words ∙ two.words))
 
 -- what a checkpoint that stands is not refused for has another status
@@ -55,13 +55,13 @@ outside_no_9 : (stop : Option Stop) → IsOutside stop → status_in stop ≡ 9 
 outside_no_9 stop (inl is) nine = other_status stop LogFault 6 (λ e. absurd (omega (arith, e))) refl is nine
 outside_no_9 stop (inr is) nine = other_status stop NoMemory 10 (λ e. absurd (omega (arith, e))) refl is nine
 
-same_file : (words : List (List ℕ)) (file other : List ℕ) (most more : Option ℕ) (rounds again : ℕ) → asked words ≡ Some (asks_run file most rounds) → asked words ≡ Some (asks_run other more again) → other ≡ file
+pub same_file : (words : List (List ℕ)) (file other : List ℕ) (most more : Option ℕ) (rounds again : ℕ) → asked words ≡ Some (asks_run file most rounds) → asked words ≡ Some (asks_run other more again) → other ≡ file
 same_file words file other most more rounds again one two = cc
 
-no_status : (words : List (List ℕ)) (file other : List ℕ) (most : Option ℕ) (rounds : ℕ) → asked words ≡ Some (asks_run file most rounds) → asked words ≡ Some (asks_status other) → ⊥
+pub no_status : (words : List (List ℕ)) (file other : List ℕ) (most : Option ℕ) (rounds : ℕ) → asked words ≡ Some (asks_run file most rounds) → asked words ≡ Some (asks_status other) → ⊥
 no_status words file other most rounds one two = cc
 
-no_words : (words : List (List ℕ)) (what : Asked) → asked words ≡ Some what → asked words ≡ None → ⊥
+pub no_words : (words : List (List ℕ)) (what : Asked) → asked words ≡ Some what → asked words ≡ None → ⊥
 no_words words what some none = cc
 
 source_no_9 : (given : Given) (query : Asking) (most : Option ℕ) (rounds : ℕ) (start now : History) (OutTells : Type 0) (old written told : List ℕ) (stop : Option Stop) (can : CanGoOn given (files_now start))

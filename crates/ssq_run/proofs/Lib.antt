@@ -3,3 +3,4 @@ pub mod Telling
 pub mod PartLines
 pub mod LookLemmas
 pub mod Going
+pub mod Complete

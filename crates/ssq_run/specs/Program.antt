@@ -1,14 +1,17 @@
 -- How the program ends: the refusals in their order, and what is told and left.
-use Rattle.std.specs.Prelude.{◌≡◌, ◌≢◌, ◌⊎◌, ◌≤◌, ◌++◌, ℕ, List, [], take, min, Option, Some, None, ⊤}
+use Rattle.std.specs.Prelude.{◌≡◌, ◌≢◌, ◌⊎◌, ◌≤◌, ◌<◌, ◌+◌, ◌++◌, ℕ, false, List, [], length, take, min, slice_get, Option, Some, None, ⊤}
 use Rattle.ssq_outside.specs.Faults.{Rises}
 use Rattle.ssq_outside.specs.Files.{Files}
 use Rattle.ssq_outside.specs.History.{History, files_now}
-use Rattle.ssq_outside.specs.Logs.{Held}
+use Rattle.ssq_outside.specs.Logs.{Held, Line}
+use Rattle.ssq_meaning.specs.Meaning.{is_faulty}
+use Rattle.ssq_round.specs.Faults.{most_lines, most_epochs}
 use Rattle.ssq_query.specs.declared.query.Query.{Query as Asking}
+use Rattle.ssq_query.specs.Binding.{bound_of}
 use Rattle.ssq_words.specs.Asking.{Asked, asks_run, asks_status, asked}
 use Rattle.ssq_job.specs.declared.fault.JobFault.{JobFault}
 use Rattle.ssq_job.specs.Ending.{JobEnd}
-use Rattle.ssq_job.specs.Entry.{Entry, Reads, AlwaysStands}
+use Rattle.ssq_job.specs.Entry.{Entry, Reads, IsEmptyOrStands, AlwaysStands}
 use Rattle.ssq_job.specs.Faults.{IsNoRefusal}
 use Rattle.ssq_run.specs.declared.stop.Stop.{Stop}
 use Rattle.ssq_run.specs.declared.stop.Stop.TheVariants.{Usage, Query, LogFault, OutFault, OtherParts, NoMemory}
@@ -84,6 +87,42 @@ pub record CanGoOn (given : Given) (files : Files) : Type 0 where
   pub one_part : given.held.parts (source_of query) ≡ 1
   pub reads : Reads (job_of query (given.held.lines (source_of query) 0)) entry files
   pub long : entry.cuts entry.planned ≤ given.shown (source_of query) 0
+
+-- It can go on, and no limit is in the way: the log will come to hold no more lines than are taken; and since each epoch that is
+-- still to be planned has a line of its own, fewer epochs than the most are needed.
+pub record HasRoom (given : Given) (files : Files) : Type 0 where
+  pub can : CanGoOn given files
+  pub few_lines : length (given.held.lines (source_of can.query) 0) ≤ most_lines
+  pub few_epochs : can.entry.planned + length (given.held.lines (source_of can.query) 0) < most_epochs + can.entry.cuts can.entry.planned
+
+-- And no line from the first one on that is not committed is a fault.
+pub record IsFaultless (given : Given) (files : Files) : Type 0 where
+  pub room : HasRoom given files
+  pub good : (at : ℕ) (line : Line) → room.can.entry.cuts room.can.entry.committed ≤ at → slice_get (given.held.lines (source_of room.can.query) 0) at ≡ Some line
+      → is_faulty (bound_of room.can.query) line ≡ false
+
+-- The words ask how far the checkpoint of a query has come, and it is empty, or stands for a job of that query.
+pub record CanLook (given : Given) (files : Files) : Type 0 where
+  pub file : List ℕ
+  pub query : Asking
+  pub lines : List Line
+  pub asks : asked given.words ≡ Some (asks_status file)
+  pub is : IsQueryAt given.held file query
+  pub stands : IsEmptyOrStands (job_of query lines) files
+
+-- no fault of the inputs, the disk or the output was counted
+pub record NoneFailed (inputs inputs_now disk disk_now out out_now : ℕ) : Type 0 where
+  pub inputs_whole : Rises inputs inputs_now → ⊥
+  pub disk_whole : Rises disk disk_now → ⊥
+  pub out_whole : Rises out out_now → ⊥
+
+-- it was done to its end, or memory ran out
+abbrev pub IsDone : ℕ → Type 0
+IsDone status = (status ≡ 0) ⊎ (status ≡ 10)
+
+-- or a line was a fault
+abbrev pub IsDoneToALine : ℕ → Type 0
+IsDoneToALine status = IsDone status ⊎ ((status ≡ 4) ⊎ (status ≡ 5))
 
 -- what stands behind what was told
 abbrev pub line_in : Option Stop → List ℕ

@@ -5,7 +5,7 @@ ghost use Rattle.std.specs.Option.{ForSome};
 ghost use Rattle.ssq_outside.specs.Faults.{Rises};
 ghost use Rattle.ssq_outside.specs.History.{files_now};
 ghost use Rattle.ssq_words.specs.Asking.{asks_run, asked};
-ghost use Rattle.ssq_run.specs.Program.{Given, ProgramEnd, ProgramWrote, CanGoOn};
+ghost use Rattle.ssq_run.specs.Program.{Given, ProgramEnd, ProgramWrote, CanGoOn, HasRoom, IsFaultless, CanLook, NoneFailed, IsDone, IsDoneToALine};
 ghost use Rattle.ssq_run.specs.Stopping.{stop_in, LogRises, DiskRises, OutRises, WordsCause, IsPastWords};
 
 use crate::prepare::read_file;
@@ -127,6 +127,21 @@ pub fn stream_main<R: Threads + Wait + Sync, D: Disk, I: Inputs, O: Output, G: G
     // A checkpoint that stands for the job, whose log has lost no line, is never refused as another's or as damaged.
     ensures goes_on { D.tells → I.tells → CanGoOn
         (record { words = map string_bytes words.now; held = I.held inputs; shown = I.shown inputs }) (files_now (D.history disk)) → result.status ≢ 9 }
+
+    // And these are all the ways to end. Where the outside did not fail, it is done to its end, or memory ran out: for a run that can go
+    // on with no limit in its way, unless a line is a fault; and for a look at a checkpoint that stands or is empty.
+    ensures is_done_to_a_line { D.tells → I.tells → HasRoom
+        (record { words = map string_bytes words.now; held = I.held inputs; shown = I.shown inputs }) (files_now (D.history disk)) →
+        NoneFailed (I.faults inputs) (I.faults result.inputs) (D.faults disk) (D.faults result.disk) (O.faults out) (O.faults result.out) →
+        IsDoneToALine result.status }
+    ensures is_done { D.tells → I.tells → IsFaultless
+        (record { words = map string_bytes words.now; held = I.held inputs; shown = I.shown inputs }) (files_now (D.history disk)) →
+        NoneFailed (I.faults inputs) (I.faults result.inputs) (D.faults disk) (D.faults result.disk) (O.faults out) (O.faults result.out) →
+        IsDone result.status }
+    ensures is_told { D.tells → I.tells → CanLook
+        (record { words = map string_bytes words.now; held = I.held inputs; shown = I.shown inputs }) (files_now (D.history disk)) →
+        NoneFailed (I.faults inputs) (I.faults result.inputs) (D.faults disk) (D.faults result.disk) (O.faults out) (O.faults result.out) →
+        IsDone result.status }
 
     // The words are refused exactly where they are no command, unless memory runs out.
     ensures usage { result.status ≡ 2 → asked (map string_bytes words.now) ≡ None }

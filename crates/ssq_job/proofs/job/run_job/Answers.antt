@@ -10,7 +10,7 @@ pub returns-in_err-found-clause-stop : goal.returns-in_err-found-clause-stop
 returns-in_err-found-clause-stop g c = λ tells told job of_job text.
     let given : Given = record { job = job; most = c.args.ask.most; rounds = c.args.ask.rounds; known = g.L.Log.shown c.args.log.now; start = g.D.Disk.history c.args.disk.now; written = g.O.Output.content c.args.out.now } in
     let p = err_from_is_err_and c.from_residual.result c.from_residual.ensures.1 in
-    rw (p.1, p.2) (end_untaken given _ _ _ _ c.requires.untold (c.in_err-found.ensures.untaken told))
+    rw (p.1, p.2) (end_untaken given _ _ _ _ _ c.requires.untold (of_job.same_lines ∙ sym (c.see_lines.ensures.same told)) (c.in_err-found.ensures.untaken told))
 
 pub returns-in_err-found-clause-always : goal.returns-in_err-found-clause-always
 returns-in_err-found-clause-always g c = λ tells told job of_job text. always_idle job _ _ refl

@@ -12,7 +12,7 @@ use Rattle.ssq_round.proofs.round.run_round.Goals as goal
 pub returns-in_err-seen-clause-stop : goal.returns-in_err-seen-clause-stop
 returns-in_err-seen-clause-stop g c = λ tells told job cuts written of_job ready.
     let p = err_from_is_err_and c.from_residual.result c.from_residual.ensures.1 in
-    rw (p.1, p.2) (round_unseen job cuts c.args.progress.now c.args.most _ _ _ _ _ (c.see.ensures.grown told) (rw c.planned_end.ensures at (c.in_err-seen.ensures.stop told)))
+    rw (p.1, p.2) (round_unseen job cuts c.args.progress.now c.args.most _ _ _ _ _ _ (c.see.ensures.grown told) (of_job.same_lines ∙ sym (c.see.ensures.same told)) (rw c.planned_end.ensures at (c.in_err-seen.ensures.stop told)))
 
 pub returns-clause-done : goal.returns-clause-done
 returns-clause-done g c = λ tells told job cuts written of_job ready.

@@ -1,6 +1,7 @@
 use Rattle.std.proofs.Common.{map, string_bytes}
 use Rattle.ssq_run.specs.Stopping.{stop_in}
 use Rattle.ssq_run.proofs.Going.{never_9}
+use Rattle.ssq_run.proofs.Complete.{done_to_a_line, done, looked_well}
 use Rattle.ssq_run.proofs.Telling.{status_since, wrote_since, usage_told, no_command_told, log_told, disk_told, out_told}
 use Rattle.ssq_run.proofs.stream.stream_main.Goals as goal
 
@@ -32,3 +33,24 @@ returns-clause-out_fault g c = out_told c.work-end.result _ _ _ _ c.work-end.ens
 pub returns-clause-goes_on : goal.returns-clause-goes_on
 returns-clause-goes_on g c = λ tells told can.
     never_9 _ _ _ g.O.Output.tells _ _ _ (stop_in c.work-end.result) _ _ _ (c.work-end.ensures.end tells told) c.tell-status.ensures.status can
+
+pub returns-clause-is_done_to_a_line : goal.returns-clause-is_done_to_a_line
+returns-clause-is_done_to_a_line g c = λ tells told can none.
+    done_to_a_line _ _ _ g.O.Output.tells _ _ _ (stop_in c.work-end.result) _ _ _ _ _ _ _ _ _ (c.work-end.ensures.end tells told) c.tell-status.ensures.status
+    (log_told c.work-end.result _ _ _ _ _ c.work-end.ensures.inputs_cause c.tell-status.ensures.status)
+    (disk_told c.work-end.result _ _ _ _ _ c.work-end.ensures.disk_cause c.tell-status.ensures.status)
+    (out_told c.work-end.result _ _ _ _ c.work-end.ensures.out_cause c.work-end.ensures.out_counted c.tell-status.ensures.counted c.tell-status.ensures.status) can none
+
+pub returns-clause-is_done : goal.returns-clause-is_done
+returns-clause-is_done g c = λ tells told can none.
+    done _ _ _ g.O.Output.tells _ _ _ (stop_in c.work-end.result) _ _ _ _ _ _ _ _ _ (c.work-end.ensures.end tells told) c.tell-status.ensures.status
+    (log_told c.work-end.result _ _ _ _ _ c.work-end.ensures.inputs_cause c.tell-status.ensures.status)
+    (disk_told c.work-end.result _ _ _ _ _ c.work-end.ensures.disk_cause c.tell-status.ensures.status)
+    (out_told c.work-end.result _ _ _ _ c.work-end.ensures.out_cause c.work-end.ensures.out_counted c.tell-status.ensures.counted c.tell-status.ensures.status) can none
+
+pub returns-clause-is_told : goal.returns-clause-is_told
+returns-clause-is_told g c = λ tells told can none.
+    looked_well _ _ _ g.O.Output.tells _ _ _ (stop_in c.work-end.result) _ _ _ _ _ _ _ _ _ (c.work-end.ensures.end tells told) c.tell-status.ensures.status
+    (log_told c.work-end.result _ _ _ _ _ c.work-end.ensures.inputs_cause c.tell-status.ensures.status)
+    (disk_told c.work-end.result _ _ _ _ _ c.work-end.ensures.disk_cause c.tell-status.ensures.status)
+    (out_told c.work-end.result _ _ _ _ c.work-end.ensures.out_cause c.work-end.ensures.out_counted c.tell-status.ensures.counted c.tell-status.ensures.status) can none
