@@ -320,8 +320,8 @@ pub done_to_a_line : (given : Given) (start now : History) (OutTells : Type 0) (
 done_to_a_line given start now OutTells old written told stop before after status inputs inputs_now disk disk_now out out_now end answer six seven eight room none =
     let met : Met ⊤ status = status_met ⊤ stop before after status answer (run_met ⊤ given start now OutTells old written told stop room (λ at line le there bad. tt) end) in
     elim (left_met ⊤ status inputs inputs_now disk disk_now out out_now none six seven eight met) [
-    | inl is ↦ inl is
-    | inr line ↦ inr line.0
+      | inl is ↦ inl is
+      | inr line ↦ inr line.0
     ]
 
 true_false : (b : Bool) → b ≡ true → b ≡ false → ⊥
@@ -335,8 +335,8 @@ done given start now OutTells old written told stop before after status inputs i
     let met : Met ⊥ status = status_met ⊥ stop before after status answer
     (run_met ⊥ given start now OutTells old written told stop faultless.room (λ at line le there bad. true_false _ bad (faultless.good at line le there)) end) in
     elim (left_met ⊥ status inputs inputs_now disk disk_now out out_now none six seven eight met) [
-    | inl is ↦ is
-    | inr line ↦ absurd line.1
+      | inl is ↦ is
+      | inr line ↦ absurd line.1
     ]
 
 pub looked_well : (given : Given) (start now : History) (OutTells : Type 0) (old written told : List ℕ) (stop : Option Stop) (before after status inputs inputs_now disk disk_now out out_now : ℕ)
@@ -346,6 +346,6 @@ pub looked_well : (given : Given) (start now : History) (OutTells : Type 0) (old
 looked_well given start now OutTells old written told stop before after status inputs inputs_now disk disk_now out out_now end answer six seven eight can none =
     let met : Met ⊥ status = status_met ⊥ stop before after status answer (look_met ⊥ given start now OutTells old written told stop can end) in
     elim (left_met ⊥ status inputs inputs_now disk disk_now out out_now none six seven eight met) [
-    | inl is ↦ is
-    | inr line ↦ absurd line.1
+      | inl is ↦ is
+      | inr line ↦ absurd line.1
     ]
