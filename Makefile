@@ -33,6 +33,8 @@ demo: bin/ssq
 	@echo '$$ ssq run query.sql --max-lines 2'
 	@cd demo && ../bin/ssq run query.sql --max-lines 2
 	@cd demo/checkpoint && for file in sink/*; do echo "\$$ cat checkpoint/$$file"; cat "$$file"; done
+	@echo '$$ ssq status query.sql'
+	@cd demo && ../bin/ssq status query.sql
 
 clean:
 	rm -rf bin demo crates/*/out
