@@ -18,13 +18,99 @@ fn constant(alloc: Global, number: i64) -> Result<Boxed<Typed>, Fail> {
     Ok(Boxed::new(alloc, Typed::Constant(Value::Int(number)))?)
 }
 
+/// `op` on the first two columns.
+fn calculation(alloc: Global, op: Arithmetic) -> Result<Typed, Fail> {
+    let left = column(alloc, 0)?;
+    let right = column(alloc, 1)?;
+    Ok(Typed::Arithmetic(op, left, right))
+}
+
+/// How two columns compare.
+fn comparison(alloc: Global, comparison: Comparison, a: usize, b: usize) -> Result<Typed, Fail> {
+    let left = column(alloc, a)?;
+    let right = column(alloc, b)?;
+    Ok(Typed::Compared(comparison, left, right))
+}
+
+/// `9223372036854775807 + 1`
+fn too_great(alloc: Global) -> Result<Boxed<Typed>, Fail> {
+    let greatest = constant(alloc, i64::MAX)?;
+    let one = constant(alloc, 1)?;
+    Ok(Boxed::new(alloc, Typed::Arithmetic(Arithmetic::Plus, greatest, one))?)
+}
+
 /// `9223372036854775807 + 1 > 0`
 fn overflowing(alloc: Global) -> Result<Boxed<Typed>, Fail> {
-    let greatest = constant(alloc, i64::MAX)?;
-    let sum = Typed::Arithmetic(Arithmetic::Plus, greatest, constant(alloc, 1)?);
-    let sum = Boxed::new(alloc, sum)?;
-    let comparison = Typed::Compared(Comparison::Greater, sum, constant(alloc, 0)?);
-    Ok(Boxed::new(alloc, comparison)?)
+    let sum = too_great(alloc)?;
+    let zero = constant(alloc, 0)?;
+    Ok(Boxed::new(alloc, Typed::Compared(Comparison::Greater, sum, zero))?)
+}
+
+/// AND of the first column and the overflow.
+fn and_overflow(alloc: Global) -> Result<Typed, Fail> {
+    let left = column(alloc, 0)?;
+    let right = overflowing(alloc)?;
+    Ok(Typed::And(left, right))
+}
+
+/// OR of the first column and the overflow.
+fn or_overflow(alloc: Global) -> Result<Typed, Fail> {
+    let left = column(alloc, 0)?;
+    let right = overflowing(alloc)?;
+    Ok(Typed::Or(left, right))
+}
+
+/// AND of the first two columns.
+fn conjunction(alloc: Global) -> Result<Typed, Fail> {
+    let left = column(alloc, 0)?;
+    let right = column(alloc, 1)?;
+    Ok(Typed::And(left, right))
+}
+
+/// OR of the first two columns.
+fn disjunction(alloc: Global) -> Result<Typed, Fail> {
+    let left = column(alloc, 0)?;
+    let right = column(alloc, 1)?;
+    Ok(Typed::Or(left, right))
+}
+
+/// The first column, between a least and a most.
+fn between(alloc: Global, least: Boxed<Typed>, most: Boxed<Typed>) -> Result<Typed, Fail> {
+    let value = column(alloc, 0)?;
+    Ok(Typed::Between(value, least, most))
+}
+
+/// The first three columns, in BETWEEN.
+fn between_columns(alloc: Global) -> Result<Typed, Fail> {
+    let least = column(alloc, 1)?;
+    let most = column(alloc, 2)?;
+    between(alloc, least, most)
+}
+
+/// The first column, between 1 and an overflow.
+fn between_overflow(alloc: Global) -> Result<Typed, Fail> {
+    let least = constant(alloc, 1)?;
+    let most = too_great(alloc)?;
+    between(alloc, least, most)
+}
+
+/// Two columns, joined.
+fn joined(alloc: Global, right: usize) -> Result<Typed, Fail> {
+    let left = column(alloc, 0)?;
+    let right = column(alloc, right)?;
+    Ok(Typed::Joined(left, right))
+}
+
+/// That an expression gives this on a row.
+fn gives(
+    rt: &impl Abort,
+    alloc: Global,
+    expression: Typed,
+    row: &[Value],
+    wanted: Result<Value, EvalFault>,
+) {
+    let found = eval(alloc, &expression, row);
+    assert!(rt; found == wanted);
 }
 
 fn number(number: Option<i64>) -> Value {
@@ -71,21 +157,50 @@ static CALCULATED: [(Arithmetic, i64, i64, Option<i64>); 19] = [
 fn numbers_are_calculated(rt: HostRuntime) -> Result<(), Fail> {
     let alloc = rt.alloc();
     for &(op, a, b, wanted) in &CALCULATED {
-        let expression = Typed::Arithmetic(op, column(alloc, 0)?, column(alloc, 1)?);
+        let calculated = calculation(alloc, op)?;
         let wanted = wanted.map(Value::Int).ok_or(EvalFault::Overflow);
-        let found = eval(alloc, &expression, &[Value::Int(a), Value::Int(b)]);
-        assert_eq!(rt; found, wanted, "{a} {op:?} {b}");
-        let found = eval(alloc, &expression, &[Value::Null, Value::Int(b)]);
-        assert_eq!(rt; found, Ok(Value::Null), "NULL {op:?} {b}");
-        let found = eval(alloc, &expression, &[Value::Int(a), Value::Null]);
-        assert_eq!(rt; found, Ok(Value::Null), "{a} {op:?} NULL");
+        gives(
+            &rt,
+            alloc,
+            calculated,
+            &[Value::Int(a), Value::Int(b)],
+            wanted,
+        );
+        let calculated = calculation(alloc, op)?;
+        gives(
+            &rt,
+            alloc,
+            calculated,
+            &[Value::Null, Value::Int(b)],
+            Ok(Value::Null),
+        );
+        let calculated = calculation(alloc, op)?;
+        gives(
+            &rt,
+            alloc,
+            calculated,
+            &[Value::Int(a), Value::Null],
+            Ok(Value::Null),
+        );
     }
-    let negated = Typed::Negated(column(alloc, 0)?);
-    let found = eval(alloc, &negated, &[Value::Int(i64::MAX)]);
-    assert_eq!(rt; found, Ok(Value::Int(-9_223_372_036_854_775_807)));
-    let found = eval(alloc, &negated, &[Value::Int(i64::MIN)]);
-    assert_eq!(rt; found, Err(EvalFault::Overflow));
-    assert_eq!(rt; eval(alloc, &negated, &[Value::Null]), Ok(Value::Null));
+    Ok(())
+}
+
+/// A number, and what a minus sign before it gives; none where it overflows.
+static NEGATED: [(Option<i64>, Option<Option<i64>>); 3] = [
+    (Some(i64::MAX), Some(Some(-9_223_372_036_854_775_807))),
+    (Some(i64::MIN), None),
+    (None, Some(None)),
+];
+
+#[test]
+fn numbers_are_negated(rt: HostRuntime) -> Result<(), Fail> {
+    let alloc = rt.alloc();
+    for &(value, wanted) in &NEGATED {
+        let negated = Typed::Negated(column(alloc, 0)?);
+        let wanted = wanted.map(number).ok_or(EvalFault::Overflow);
+        gives(&rt, alloc, negated, &[number(value)], wanted);
+    }
     Ok(())
 }
 
@@ -105,15 +220,13 @@ static CONNECTED: [(Option<bool>, Option<bool>, Option<bool>, Option<bool>); 9] 
 #[test]
 fn logic_is_three_valued(rt: HostRuntime) -> Result<(), Fail> {
     let alloc = rt.alloc();
-    let and = Typed::And(column(alloc, 0)?, column(alloc, 1)?);
-    let or = Typed::Or(column(alloc, 0)?, column(alloc, 1)?);
-    let not = Typed::Not(column(alloc, 0)?);
     for &(a, b, both, either) in &CONNECTED {
-        let row = [truth(a), truth(b)];
-        assert_eq!(rt; eval(alloc, &and, &row), Ok(truth(both)), "{a:?} AND {b:?}");
-        assert_eq!(rt; eval(alloc, &or, &row), Ok(truth(either)), "{a:?} OR {b:?}");
-        let negation = a.map(|a| !a);
-        assert_eq!(rt; eval(alloc, &not, &row), Ok(truth(negation)), "NOT {a:?}");
+        let and = conjunction(alloc)?;
+        gives(&rt, alloc, and, &[truth(a), truth(b)], Ok(truth(both)));
+        let or = disjunction(alloc)?;
+        gives(&rt, alloc, or, &[truth(a), truth(b)], Ok(truth(either)));
+        let not = Typed::Not(column(alloc, 0)?);
+        gives(&rt, alloc, not, &[truth(a)], Ok(truth(a.map(|a| !a))));
     }
     Ok(())
 }
@@ -128,16 +241,13 @@ static LEFT_FIRST: [(Option<bool>, Option<bool>, Option<bool>); 3] = [
 #[test]
 fn what_decides_leaves_the_right_unevaluated(rt: HostRuntime) -> Result<(), Fail> {
     let alloc = rt.alloc();
-    let and = Typed::And(column(alloc, 0)?, overflowing(alloc)?);
-    let or = Typed::Or(column(alloc, 0)?, overflowing(alloc)?);
-    let right = Typed::And(overflowing(alloc)?, column(alloc, 0)?);
     for &(left, both, either) in &LEFT_FIRST {
-        let row = [truth(left)];
+        let and = and_overflow(alloc)?;
         let both = both.map(Value::Truth).ok_or(EvalFault::Overflow);
-        assert_eq!(rt; eval(alloc, &and, &row), both, "{left:?} AND");
+        gives(&rt, alloc, and, &[truth(left)], both);
+        let or = or_overflow(alloc)?;
         let either = either.map(Value::Truth).ok_or(EvalFault::Overflow);
-        assert_eq!(rt; eval(alloc, &or, &row), either, "{left:?} OR");
-        assert_eq!(rt; eval(alloc, &right, &row), Err(EvalFault::Overflow));
+        gives(&rt, alloc, or, &[truth(left)], either);
     }
     Ok(())
 }
@@ -160,26 +270,21 @@ static BETWEEN: [(Option<i64>, Option<i64>, Option<i64>, Option<bool>); 11] = [
 #[test]
 fn between_has_both_ends(rt: HostRuntime) -> Result<(), Fail> {
     let alloc = rt.alloc();
-    let between = Typed::Between(column(alloc, 0)?, column(alloc, 1)?, column(alloc, 2)?);
     for &(value, least, most, wanted) in &BETWEEN {
-        let found = eval(
-            alloc,
-            &between,
-            &[number(value), number(least), number(most)],
-        );
-        assert_eq!(rt; found, Ok(truth(wanted)), "{value:?} {least:?} {most:?}");
+        let between = between_columns(alloc)?;
+        let row = [number(value), number(least), number(most)];
+        gives(&rt, alloc, between, &row, Ok(truth(wanted)));
     }
-    let sum = Typed::Arithmetic(
-        Arithmetic::Plus,
-        constant(alloc, i64::MAX)?,
-        constant(alloc, 1)?,
+    let below = between_overflow(alloc)?;
+    gives(&rt, alloc, below, &[Value::Int(0)], Ok(Value::Truth(false)));
+    let within = between_overflow(alloc)?;
+    gives(
+        &rt,
+        alloc,
+        within,
+        &[Value::Int(1)],
+        Err(EvalFault::Overflow),
     );
-    let most = Boxed::new(alloc, sum)?;
-    let between = Typed::Between(column(alloc, 0)?, constant(alloc, 1)?, most);
-    let found = eval(alloc, &between, &[Value::Int(0)]);
-    assert_eq!(rt; found, Ok(Value::Truth(false)));
-    let found = eval(alloc, &between, &[Value::Int(1)]);
-    assert_eq!(rt; found, Err(EvalFault::Overflow));
     Ok(())
 }
 
@@ -200,17 +305,14 @@ fn times_stay_in_their_years(rt: HostRuntime) -> Result<(), Fail> {
     for &(time, by, wanted) in &SHIFTED {
         let shifted = Typed::Shifted(column(alloc, 0)?, by);
         let wanted = wanted.map(Value::Time).ok_or(EvalFault::Overflow);
-        assert_eq!(rt;
-            eval(alloc, &shifted, &[Value::Time(time)]),
-            wanted,
-            "{time} {by}"
-        );
-        assert_eq!(rt; eval(alloc, &shifted, &[Value::Null]), Ok(Value::Null));
+        gives(&rt, alloc, shifted, &[Value::Time(time)], wanted);
     }
+    let shifted = Typed::Shifted(column(alloc, 0)?, 1);
+    gives(&rt, alloc, shifted, &[Value::Null], Ok(Value::Null));
     let last = Typed::Constant(Value::Time(LAST_TIME));
-    assert_eq!(rt; eval(alloc, &last, &[]), Ok(Value::Time(LAST_TIME)));
+    gives(&rt, alloc, last, &[], Ok(Value::Time(LAST_TIME)));
     let later = Typed::Constant(Value::Time(LAST_TIME + 1));
-    assert_eq!(rt; eval(alloc, &later, &[]), Err(EvalFault::Overflow));
+    gives(&rt, alloc, later, &[], Err(EvalFault::Overflow));
     Ok(())
 }
 
@@ -231,23 +333,32 @@ static LENGTHS: [(usize, usize, bool); 5] = [
     (1, 1_048_576, false),
 ];
 
+/// That a text of so many letters and one of so many others are joined, or are too long for it.
+fn joins(rt: &impl Abort, alloc: Global, a: usize, b: usize, fits: bool) -> Result<(), Fail> {
+    let wanted = if fits {
+        Ok(letters(alloc, a.saturating_add(b))?)
+    } else {
+        Err(EvalFault::Overflow)
+    };
+    let expression = joined(alloc, 1)?;
+    let row = [letters(alloc, a)?, letters(alloc, b)?];
+    gives(rt, alloc, expression, &row, wanted);
+    Ok(())
+}
+
 #[test]
 fn texts_are_joined(rt: HostRuntime) -> Result<(), Fail> {
     let alloc = rt.alloc();
-    let joined = Typed::Joined(column(alloc, 0)?, column(alloc, 1)?);
     for &(a, b, fits) in &LENGTHS {
-        let row = [letters(alloc, a)?, letters(alloc, b)?];
-        let wanted = if fits {
-            Ok(letters(alloc, a + b)?)
-        } else {
-            Err(EvalFault::Overflow)
-        };
-        assert!(rt; eval(alloc, &joined, &row) == wanted, "{a} {b}");
+        joins(&rt, alloc, a, b, fits)?;
     }
-    let row = [text(alloc, "é")?, text(alloc, "b")?, Value::Null];
-    assert_eq!(rt; eval(alloc, &joined, &row), Ok(text(alloc, "éb")?));
-    let joined = Typed::Joined(column(alloc, 0)?, column(alloc, 2)?);
-    assert_eq!(rt; eval(alloc, &joined, &row), Ok(Value::Null));
+    let expression = joined(alloc, 1)?;
+    let wanted = text(alloc, "éb")?;
+    let row = [text(alloc, "é")?, text(alloc, "b")?];
+    gives(&rt, alloc, expression, &row, Ok(wanted));
+    let expression = joined(alloc, 1)?;
+    let row = [text(alloc, "é")?, Value::Null];
+    gives(&rt, alloc, expression, &row, Ok(Value::Null));
     Ok(())
 }
 
@@ -263,7 +374,7 @@ static COMPARED: [(Comparison, bool, bool, bool); 6] = [
 
 fn compares(rt: &impl Abort, alloc: Global, low: Value, high: Value) -> Result<(), Fail> {
     let row = [low, high, Value::Null];
-    for &(comparison, rising, level, falling) in &COMPARED {
+    for &(kind, rising, level, falling) in &COMPARED {
         for (a, b, wanted) in [
             (0, 1, Some(rising)),
             (1, 1, Some(level)),
@@ -272,9 +383,8 @@ fn compares(rt: &impl Abort, alloc: Global, low: Value, high: Value) -> Result<(
             (2, 1, None),
             (2, 2, None),
         ] {
-            let compared = Typed::Compared(comparison, column(alloc, a)?, column(alloc, b)?);
-            let found = eval(alloc, &compared, &row);
-            assert_eq!(rt; found, Ok(truth(wanted)), "{row:?} {comparison:?} {a} {b}");
+            let compared = comparison(alloc, kind, a, b)?;
+            gives(rt, alloc, compared, &row, Ok(truth(wanted)));
         }
     }
     Ok(())
@@ -296,48 +406,59 @@ fn equal_types_are_compared(rt: HostRuntime) -> Result<(), Fail> {
 #[test]
 fn null_is_told(rt: HostRuntime) -> Result<(), Fail> {
     let alloc = rt.alloc();
-    let absent = Typed::IsNull(column(alloc, 0)?);
-    assert_eq!(rt;
-        eval(alloc, &absent, &[Value::Null]),
-        Ok(Value::Truth(true))
-    );
-    assert_eq!(rt;
-        eval(alloc, &absent, &[Value::Int(0)]),
-        Ok(Value::Truth(false))
-    );
-    let itself = Typed::Compared(Comparison::Equal, column(alloc, 0)?, column(alloc, 0)?);
-    assert_eq!(rt; eval(alloc, &itself, &[Value::Null]), Ok(Value::Null));
+    for (value, absent) in [(None, true), (Some(0), false)] {
+        let null = Typed::IsNull(column(alloc, 0)?);
+        gives(&rt, alloc, null, &[number(value)], Ok(Value::Truth(absent)));
+    }
+    let itself = comparison(alloc, Comparison::Equal, 0, 0)?;
+    gives(&rt, alloc, itself, &[Value::Null], Ok(Value::Null));
     Ok(())
 }
 
-/// `SELECT id, 0 - v AS w .. WHERE v > 10`, on some v: what is shown of it.
-#[test]
-fn rows_are_filtered_and_shown(rt: HostRuntime) -> Result<(), Fail> {
-    let alloc = rt.alloc();
-    let bound = constant(alloc, 10)?;
-    let filter = Some(Typed::Compared(Comparison::Greater, column(alloc, 1)?, bound));
-    for (v, passing) in [(Some(11), true), (Some(10), false), (None, false)] {
-        let row = [Value::Int(1), number(v)];
-        assert_eq!(rt; passes(alloc, &filter, &row), Ok(passing), "{v:?}");
-        assert_eq!(rt; passes(alloc, &None, &row), Ok(true), "{v:?}");
-    }
+/// `v > 10`, of the second column.
+fn above_ten(alloc: Global) -> Result<Typed, Fail> {
+    let v = column(alloc, 1)?;
+    let ten = constant(alloc, 10)?;
+    Ok(Typed::Compared(Comparison::Greater, v, ten))
+}
+
+/// `id, - v AS w`, of the first two columns.
+fn outputs(alloc: Global) -> Result<[Output; 2], Fail> {
+    let negated = Typed::Negated(column(alloc, 1)?);
+    let name = Text::from_str(alloc, "w")?;
+    let w = Output {
+        name,
+        kind: ColType::Bigint,
+        value: negated,
+    };
+    let name = Text::from_str(alloc, "id")?;
     let id = Output {
-        name: Text::from_str(alloc, "id")?,
+        name,
         kind: ColType::Str,
         value: Typed::Column(0),
     };
-    let w = Output {
-        name: Text::from_str(alloc, "w")?,
-        kind: ColType::Bigint,
-        value: Typed::Negated(column(alloc, 1)?),
-    };
-    let outputs = [id, w];
-    let row = project(alloc, &outputs, &[text(alloc, "a")?, Value::Int(5)])?;
-    assert_eq!(rt;
-        row.as_slice(),
-        [text(alloc, "a")?, Value::Int(-5)].as_slice()
-    );
+    Ok([id, w])
+}
+
+#[test]
+fn rows_are_filtered(rt: HostRuntime) -> Result<(), Fail> {
+    let alloc = rt.alloc();
+    for (v, passing) in [(Some(11), true), (Some(10), false), (None, false)] {
+        let filter = Some(above_ten(alloc)?);
+        let row = [Value::Int(1), number(v)];
+        assert!(rt; passes(alloc, &filter, &row) == Ok(passing));
+        assert!(rt; passes(alloc, &None, &row) == Ok(true));
+    }
+    Ok(())
+}
+
+#[test]
+fn rows_are_shown(rt: HostRuntime) -> Result<(), Fail> {
+    let alloc = rt.alloc();
+    let outputs = outputs(alloc)?;
     let fault = project(alloc, &outputs, &[Value::Null, Value::Int(i64::MIN)]);
     assert!(rt; fault.is_err());
+    let row = project(alloc, &outputs, &[Value::Truth(true), Value::Int(5)])?;
+    assert!(rt; row.as_slice() == [Value::Truth(true), Value::Int(-5)].as_slice());
     Ok(())
 }
