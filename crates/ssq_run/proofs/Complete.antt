@@ -1,12 +1,12 @@
 -- Where no cause of a refusal holds, the job is done, or memory ran out.
-use Rattle.std.proofs.Common.{◌≡◌, ◌≢◌, ◌⊎◌, ◌∙◌, ◌+◌, ◌<◌, ◌≤◌, ℕ, zero, suc, Bool, true, false, List, [], ◌∷◌, length, Option, Some, None, refl, sym, ap, subst, inl, inr, arith, add-one}
+use Rattle.std.proofs.Common.{◌≡◌, ◌⊎◌, ◌∙◌, ◌+◌, ◌<◌, ◌≤◌, ℕ, zero, suc, Bool, true, false, List, [], ◌∷◌, length, Option, Some, None, refl, sym, ap, subst, inl, inr, arith, add-one}
 use Rattle.std.specs.Prelude.{cond, ⊤, is_some, slice_get}
 use Rattle.std.specs.List.{position_from}
 use Rattle.std.proofs.lemmas.Bool.{cases_lt}
 use Rattle.ssq_outside.specs.Faults.{Rises}
 use Rattle.ssq_outside.specs.Files.{Files}
 use Rattle.ssq_outside.specs.History.{History, had_now, files_now}
-use Rattle.ssq_outside.specs.Logs.{Held, Line}
+use Rattle.ssq_outside.specs.Logs.{Line}
 use Rattle.ssq_outside.proofs.Steps.{files_are_image}
 use Rattle.ssq_json.specs.declared.bad_row.BadRow.{BadRow}
 use Rattle.ssq_json.specs.declared.bad_row.BadRow.TheVariants as bad
@@ -27,14 +27,14 @@ use Rattle.ssq_round.specs.Standing.{Job, StandsBetween}
 use Rattle.ssq_job.specs.declared.fault.JobFault.{JobFault}
 use Rattle.ssq_job.specs.declared.fault.JobFault.TheVariants as job
 use Rattle.ssq_job.specs.Ending.{Given as Asks, Left, IsUnput, failed, starved, IsUntaken, RoundsEnd, finished, unsaid, stopped, unseen, unput, JobEnd, untaken, unopened, ran as job_ran}
-use Rattle.ssq_job.specs.Entry.{Entry, StandsAt, IsUncut, Reads, IsEmptyOrStands}
+use Rattle.ssq_job.specs.Entry.{Entry, Reads, IsEmptyOrStands}
 use Rattle.ssq_job.specs.Faults.{IsNoRefusal, fault_of_open, fault_of_round}
 use Rattle.ssq_run.specs.declared.stop.Stop.{Stop}
-use Rattle.ssq_run.specs.declared.stop.Stop.TheVariants.{Query, LogFault, NoMemory}
+use Rattle.ssq_run.specs.declared.stop.Stop.TheVariants.{NoMemory}
 use Rattle.ssq_run.specs.Looked.{LookEnd, nothing_there, shown as look_shown, denied, starved as look_starved}
 use Rattle.ssq_run.specs.Queries.{IsQueryAt, IsNoQueryAt, source_of, job_of}
 use Rattle.ssq_run.specs.Stopping.{stop_of_bad, stop_of_end, stop_of_open, status_of, status_in}
-use Rattle.ssq_run.specs.Program.{Given, IsOutside, GoesOn, CanGoOn, HasRoom, IsFaultless, CanLook, NoneFailed, IsDone, IsDoneToALine, SourceEnd, unstarted, not_one_part, ran, file_of, ProgramEnd, unread, no_command, no_file, no_query, query_run, looked, IsStatus}
+use Rattle.ssq_run.specs.Program.{Given, IsOutside, GoesOn, HasRoom, IsFaultless, CanLook, NoneFailed, IsDone, IsDoneToALine, SourceEnd, unstarted, not_one_part, ran, file_of, ProgramEnd, unread, no_command, no_file, no_query, query_run, looked, IsStatus}
 use Rattle.ssq_run.proofs.Going.{one_asked, same_file, no_status, no_words}
 
 same_asked : (words : List (List ℕ)) (what other : Asked) → asked words ≡ Some what → asked words ≡ Some other → what ≡ other
