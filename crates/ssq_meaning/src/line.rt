@@ -7,7 +7,7 @@ ghost use Rattle.ssq_meaning.specs.Meaning.{layout_of, fed, shown, is_faulty, Is
 
 use ssq_expr::{EvalFault, show};
 use ssq_json::{BadRow, read_row};
-use ssq_shape::{Bound, copied_schema};
+use ssq_shape::Bound;
 use ssq_value::{Row, Schema};
 use std::alloc::{AllocError, Global};
 use thiserror::Error;
@@ -31,7 +31,7 @@ pub fn schema_of(alloc: Global, query: &Bound) -> Result<Schema, AllocError>
     ensures { IfOk result (λ schema. schema ≡ layout_of query.now) }
 {
     match query.streams.as_slice().first() {
-        Some(stream) => copied_schema(alloc, &stream.schema),
+        Some(stream) => stream.schema.clone(),
         None => Ok(Schema::new(Vec::new(alloc), None)),
     }
 }

@@ -9,7 +9,7 @@ use crate::canonical::text;
 use crate::query::{Filter, Item, Op, Query, Step, Sum, Term};
 use crate::typing::item_kind;
 use sqlite_items::Boxed;
-use ssq_shape::{Arithmetic, Bound, Mode, Output, Shape, Stream, Typed, copied};
+use ssq_shape::{Arithmetic, Bound, Mode, Output, Shape, Stream, Typed};
 use ssq_value::{ColType, Column, Schema, Sequence, Text, Value};
 use std::alloc::{AllocError, Global};
 
@@ -113,13 +113,14 @@ fn outputs(
     Ok(outputs)
 }
 
-fn stream(alloc: Global, query: &Query) -> Result<Stream, AllocError>
+fn stream(query: &Query) -> Result<Stream, AllocError>
     requires { length query.now.columns ≤ 64 }
     ensures { IfOk result (λ stream. stream ≡ stream_of query.now) }
 {
     let name = query.stream.clone()?;
     let source = query.source.clone()?;
-    let schema = Schema::new(copied(alloc, query.columns.as_slice())?, None);
+    let columns = query.columns.clone()?.into_vec();
+    let schema = Schema::new(columns, None);
     Ok(Stream {
         name,
         source,
@@ -135,7 +136,7 @@ pub fn bind(alloc: Global, query: &Query) -> Result<Bound, AllocError>
     ensures few { IfOk result (λ bound. length bound.outputs ≤ 64) }
 {
     let mut streams = Sequence::new(alloc);
-    streams.push(stream(alloc, query)?)?;
+    streams.push(stream(query)?)?;
     Ok(Bound {
         text: text(alloc, query)?,
         streams,

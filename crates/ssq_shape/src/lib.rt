@@ -6,11 +6,9 @@
 #![tactic(auto)]
 
 mod bound;
-mod columns;
 mod laws;
 mod typed;
 
 pub use bound::{Bound, Job, Mode, Output, Shape, Stream};
-pub use columns::{copied, copied_schema};
 pub use laws::{times_stay_printable, values_have_their_kind};
 pub use typed::{Arithmetic, Comparison, Typed};

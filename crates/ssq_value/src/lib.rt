@@ -16,7 +16,7 @@ pub use keys::{key_bytes, keys_are_apart, put_key};
 pub use row::Row;
 pub use schema::Schema;
 pub use sequence::Sequence;
-pub use text::Text;
+pub use text::{Text, texts_are_utf8};
 pub use value::Value;
 
 #[cfg(test)]

@@ -74,3 +74,14 @@ impl<T: Drop> Sequence<T> {
         Ok(())
     }
 }
+
+/// A copy of each element, in memory of its own.
+impl<T: Clone> Clone for Sequence<T> {
+    ghost use Rattle.std.specs.List.{AllZip};
+
+    ghost is_clone = { λ old new. AllZip T.is_clone old new };
+
+    fn clone(&self) -> Result<Sequence<T>, AllocError> {
+        Ok(Sequence(self.0.clone()?))
+    }
+}

@@ -1,6 +1,6 @@
 //! Texts, as contracts see them: the list of their bytes.
 
-ghost use Rattle.std.specs.Prelude.{◌≡◌, ◌==◌, length, string_bytes, IfOk};
+ghost use Rattle.std.specs.Prelude.{◌≡◌, ◌==◌, ◌<◌, ◌^◌, length, string_bytes, IfOk};
 ghost use Rattle.std.specs.Str.{IsUtf8};
 
 use std::alloc::{AllocError, Global};
@@ -67,6 +67,14 @@ impl Text {
     {
         self.0.is_empty()
     }
+}
+
+/// The law of texts: the bytes of a text are UTF-8, and fewer than 2^64.
+pub fn texts_are_utf8(text: &Text)
+    ensures utf8 { IsUtf8 text.now }
+    ensures few { length text.now < 2 ^ 64 }
+{
+    let _count = text.as_bytes().len();
 }
 
 /// A copy in memory of its own.
