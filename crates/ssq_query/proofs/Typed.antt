@@ -1,5 +1,5 @@
 -- The bound query of a query that is taken is well typed.
-use Rattle.std.proofs.Common.{◌≡◌, ◌∙◌, ap, ℕ, zero, suc, Bool, true, List, [], ◌∷◌, map, Option, Some, None, refl}
+use Rattle.std.proofs.Common.{◌≡◌, ◌∙◌, ap, ℕ, zero, suc, true, List, [], ◌∷◌, map, Option, Some, None, refl}
 use Rattle.std.specs.Prelude.{IfSome, slice_get, option_map}
 use Rattle.std.specs.List.{AllByRecursion, list_all}
 use Rattle.ssq_value.specs.declared.column.ColType.{ColType}
@@ -17,7 +17,7 @@ use Rattle.ssq_query.specs.declared.query.Term.{Term}
 use Rattle.ssq_query.specs.declared.query.Term.TheVariants as term
 use Rattle.ssq_query.specs.Binding.{typed_term, typed_step, typed_steps, typed_sum, typed_item, typed_filter, kind_or_bigint, output_of, bound_of, column_kinds, IsWellTyped}
 use Rattle.ssq_query.specs.Taken.{IsTaken}
-use Rattle.ssq_query.specs.Typing.{column_kind, term_kind, added_kind, steps_kind, sum_kind, item_kind, is_condition, is_well_typed}
+use Rattle.ssq_query.specs.Typing.{column_kind, term_kind, added_kind, steps_kind, sum_kind, item_kind, is_condition}
 use Rattle.ssq_query.proofs.Laws.{and_true}
 
 kind_there : (columns : List Column) (at : ℕ) → slice_get (column_kinds columns) at ≡ column_kind columns at
