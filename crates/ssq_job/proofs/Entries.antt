@@ -226,7 +226,3 @@ stands_outside job lines entry files now why utf8 few reads long (unfinished emp
 stands_outside job lines entry files now why utf8 few (inl s) long (unchanged is refuses outside) =
     let held = stands_passes job entry files lines utf8 few s long in not_refused (sought_of job.text lines) files held.0 why held.2 refuses
 stands_outside job lines entry files now why utf8 few (inr uncut) long (unchanged is refuses outside) = outside uncut.empty
-
--- a text in memory has a length of 64 bits
-pub text_few : (text held : List ℕ) → text ≡ held → (n : ℕ) → n ≡ length held → n < 2 ^ 64 → length text < 2 ^ 64
-text_few text held same n is few = omega (arith, ap (λ (t : List ℕ). length t) same, is, few)

@@ -14,7 +14,7 @@ use ssq_open::{Opened, Wanted, open};
 use ssq_outside::Disk;
 use ssq_plans::PartEnd;
 use ssq_round::Progress;
-use ssq_value::Text;
+use ssq_value::{Text, texts_are_utf8};
 use std::alloc::Global;
 
 /// Where the one part ends.
@@ -62,8 +62,7 @@ pub(crate) fn open_job<D: Disk>(
     ensures not_the_log { (before now : ℕ) → IfErr result (LogRises before now) }
     ensures not_the_output { (before now : ℕ) → IfErr result (OutRises before now) }
 {
-    let _text = text.as_bytes();
-    let _len = text.len();
+    texts_are_utf8(text);
     let parts = [1];
     let found = [PartEnd {
         stream: 0,

@@ -7,9 +7,7 @@ ghost use Rattle.ssq_job.specs.Faults.{IsJobFault, IsNoRefusal, LogRises, DiskRi
 
 use crate::fault::JobFault;
 use ssq_outside::Log;
-
-/// The most lines of a log's part.
-const MOST_LINES: u64 = 1_099_511_627_776;
+use ssq_round::MOST_LINES;
 
 /// Asks a log for its number of lines.
 pub(crate) fn see_lines<L: Log>(log: &mut L) -> Result<u64, JobFault>

@@ -18,7 +18,7 @@ pub use fault::RoundFault;
 pub use law::rounds_go_on;
 pub use prepare::Prepared;
 pub use progress::Progress;
-pub use round::run_round;
+pub use round::{MOST_LINES, run_round};
 
 #[cfg(test)]
 mod tests;

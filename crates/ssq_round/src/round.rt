@@ -19,7 +19,7 @@ use ssq_outside::{Disk, Log};
 use std::alloc::Global;
 
 /// The most lines of a log's part.
-const MOST_LINES: u64 = 1_099_511_627_776;
+pub const MOST_LINES: u64 = 1_099_511_627_776;
 
 /// Asks a log for its number of lines, of which so many were logged.
 fn see<L: Log>(log: &mut L, logged: u64) -> Result<u64, RoundFault>

@@ -14,6 +14,7 @@ use ssq_open::{Opened, look};
 use ssq_outside::Disk;
 use ssq_plans::PartEnd;
 use ssq_query::{Query, text};
+use ssq_value::texts_are_utf8;
 use std::alloc::{AllocError, Global};
 
 /// How many epochs are planned.
@@ -107,8 +108,7 @@ pub fn status<D: Disk>(alloc: Global, disk: &mut D, query: Query) -> Result<Stri
     ensures not_the_output { (before now : ℕ) → IfErr result (OutRises before now) }
 {
     let text = text(alloc, &query)?;
-    let _text = text.as_bytes();
-    let _len = text.len();
+    texts_are_utf8(&text);
     match look(alloc, disk, &text, 1) {
         Ok(None) => Ok(String::from_str(alloc, "no checkpoint\n")?),
         Ok(Some(opened)) => Ok(status_text(alloc, &opened)?),

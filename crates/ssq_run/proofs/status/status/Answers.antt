@@ -1,4 +1,4 @@
-use Rattle.std.proofs.Common.{◌≡◌, ◌<◌, ◌^◌, ◌∙◌, List, ℕ, Option, Some, refl, subst, ap, arith, length}
+use Rattle.std.proofs.Common.{◌≡◌, ◌<◌, ◌^◌, List, ℕ, Option, Some, refl, subst, ap, length}
 use Rattle.std.specs.Str.{IsUtf8}
 use Rattle.ssq_outside.specs.Files.{Files}
 use Rattle.std.specs.Prelude.{IfSome}
@@ -22,6 +22,7 @@ returns-clause-stop g c = λ tells.
     let D : List ℕ → Type 0 = λ text. IsDenied text 1 files c.in-Err.fault in
     let same : c.in_ok-text.text ≡ text_of c.args.query = c.in_ok-text.ensures in
     let why = subst D same (c.in-Err.ensures.denied tells) in
-    let utf8 : IsUtf8 (text_of c.args.query) = subst IsUtf8 (c.as_bytes-text.ensures.bytes ∙ same) c.as_bytes-text.ensures.utf8 in
-    let few : length (text_of c.args.query) < 2 ^ 64 = let len : c.len-len.result ≡ length (text_of c.args.query) = c.len-len.ensures ∙ ap length same in omega (arith, len) in
+    let F : List ℕ → Type 0 = λ text. length text < 2 ^ 64 in
+    let utf8 : IsUtf8 (text_of c.args.query) = subst IsUtf8 same c.texts_are_utf8.ensures.utf8 in
+    let few : length (text_of c.args.query) < 2 ^ 64 = subst F same c.texts_are_utf8.ensures.few in
     denied c.in-Err.fault why (λ lines stood. stands_denied c.args.query lines files c.in-Err.fault utf8 few why stood) refl (ap Some c.stop_of_open.ensures)
