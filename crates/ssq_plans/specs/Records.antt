@@ -31,7 +31,7 @@ IsCount count = count ≤ 64
 abbrev pub IsMeta : Meta → Type 0
 IsMeta m = (1 ≤ m.partitions) × (m.partitions ≤ 64) × All IsCount m.parts
 
--- and whose query is a text, with a length of 64 bits
+-- a job's record whose query is UTF-8, with a length of 64 bits
 abbrev pub IsMetaRecord : Meta → Type 0
 IsMetaRecord m = IsMeta m × IsUtf8 m.query × (length m.query < 2 ^ 64)
 
