@@ -1,5 +1,4 @@
 pub mod Names
-pub mod Reading
 pub mod Walks
 pub mod Finding
 pub mod Planning
@@ -9,5 +8,4 @@ pub mod Beginning
 pub mod Opens
 pub mod Passing
 pub mod Standings
-pub mod Apart
 pub mod Looks

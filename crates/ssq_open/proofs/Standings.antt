@@ -11,6 +11,7 @@ use Rattle.ssq_plans.specs.declared.plan.Plan.{Plan}
 use Rattle.ssq_plans.specs.declared.part.PartEnd.{PartEnd}
 use Rattle.ssq_plans.specs.declared.seen.SeenBy.{SeenBy}
 use Rattle.ssq_plans.specs.Records.{meta_text, plan_text, commit_text}
+use Rattle.ssq_plans.proofs.Apart.{records_apart}
 use Rattle.ssq_core.specs.Course.{Course, plan_of, commit_of}
 use Rattle.ssq_core.specs.Standing.{Stands, files_at, upto}
 use Rattle.ssq_core.proofs.Same.{upto-there, upto-absent}
@@ -19,9 +20,8 @@ use Rattle.ssq_open.specs.Sought.{Sought, IsJob}
 use Rattle.ssq_open.specs.Spelled.{IsTheMeta, IsThePlan, IsTheCommit}
 use Rattle.ssq_open.specs.Epochs.{starts, follows, AreEndsAt, at_start, at_plan, IsThere, IsGoodPlan, IsGoodCommit, IsSinkRight, is_state, IsPending, all_done, one_left, AreEpochs}
 use Rattle.ssq_open.specs.Opening.{Passes, last_ends, first_short}
-use Rattle.ssq_open.proofs.Apart.{metas_apart, plans_apart, commits_apart}
 use Rattle.ssq_open.specs.Looking.{begins, IsOf, Holds}
-use Rattle.ssq_open.specs.Laws.{AreRecordsApart, IsCourseOf, IsCourseFrom, IsOfCourse}
+use Rattle.ssq_open.specs.Laws.{IsCourseOf, IsCourseFrom, IsOfCourse}
 
 some_same : (x y : List ℕ) → Some x ≡ Some y → x ≡ y
 some_same x y e = cc
@@ -52,14 +52,14 @@ own_is e seen none = let same : (e == e) ≡ true = eq-eqb e e refl in rw (same,
 course_from : (s : Sought) (course : Course) (planned : ℕ) → IsCourseOf s course planned → IsCourseFrom (starts s.found) course planned
 course_from s course planned of = record { record_is = of.record_is; start = of.start; plans = of.plans; follow = of.follow; unmarked = of.unmarked; commits = of.commits; unseen = of.unseen }
 
-module _ (apart : AreRecordsApart) (first : List PartEnd) (course : Course) (files : Files) (stands : Stands course files) (of : IsCourseFrom first course stands.planned) where
+module _ (first : List PartEnd) (course : Course) (files : Files) (stands : Stands course files) (of : IsCourseFrom first course stands.planned) where
   at : (q : Name) → files q ≡ files_at course stands.planned stands.committed stands.written q
   at q = ap (λ (f : Files). f q) stands.exactly
 
   the_meta : IsTheMeta files course.meta
   the_meta = record {
     spells = record { canonical = of.record_is; text = at name.Meta };
-    only = λ other spells. apart.metas other course.meta spells.canonical of.record_is (some_same (meta_text other) (meta_text course.meta) (sym spells.text ∙ at name.Meta));
+    only = λ other spells. records_apart.metas other course.meta spells.canonical of.record_is (some_same (meta_text other) (meta_text course.meta) (sym spells.text ∙ at name.Meta));
   }
 
   plan_at : (e : ℕ) → e < stands.planned → files (name.Plan e) ≡ Some (plan_text (plan_of course e))
@@ -68,7 +68,7 @@ module _ (apart : AreRecordsApart) (first : List PartEnd) (course : Course) (fil
   the_plan : (e : ℕ) → e < stands.planned → IsThePlan files e (plan_of course e)
   the_plan e less = record {
     spells = record { canonical = of.plans e less; text = plan_at e less };
-    only = λ other spells. apart.plans other (plan_of course e) spells.canonical (of.plans e less) (some_same (plan_text other) (plan_text (plan_of course e)) (sym spells.text ∙ plan_at e less));
+    only = λ other spells. records_apart.plans other (plan_of course e) spells.canonical (of.plans e less) (some_same (plan_text other) (plan_text (plan_of course e)) (sym spells.text ∙ plan_at e less));
   }
 
   commit_at : (e : ℕ) → e < stands.committed → files (name.Commit e) ≡ Some (commit_text (commit_of course e))
@@ -80,7 +80,7 @@ module _ (apart : AreRecordsApart) (first : List PartEnd) (course : Course) (fil
   the_commit : (e : ℕ) → e < stands.committed → IsTheCommit files e (commit_of course e)
   the_commit e less = record {
     spells = record { canonical = of.commits e (planned_of e less); text = commit_at e less };
-    only = λ other spells. apart.commits other (commit_of course e) spells.canonical (of.commits e (planned_of e less))
+    only = λ other spells. records_apart.commits other (commit_of course e) spells.canonical (of.commits e (planned_of e less))
         (some_same (commit_text other) (commit_text (commit_of course e)) (sym spells.text ∙ commit_at e less));
   }
 
@@ -167,22 +167,19 @@ module _ (apart : AreRecordsApart) (first : List PartEnd) (course : Course) (fil
   none_seen : (opened : Opened) → IsOfCourse course stands.planned stands.committed opened → opened.seen ≡ []
   none_seen opened is = is.seen ∙ of.unseen stands.committed (omega (arith, stands.reached.written_first, stands.reached.planned_first))
 
-pub records_apart : AreRecordsApart
-records_apart = record { metas = metas_apart; plans = plans_apart; commits = commits_apart }
-
 pub standing_passes : (s : Sought) (course : Course) (files : Files) (stands : Stands course files) → IsCourseOf s course stands.planned
     → (opened : Opened) → IsOfCourse course stands.planned stands.committed opened → Passes s files opened
 standing_passes s course files stands of opened is =
     let from = course_from s course stands.planned of in
     let J : Meta → Type 0 = IsJob s in
     record {
-      meta = the_opened records_apart (starts s.found) course files stands from opened is;
+      meta = the_opened (starts s.found) course files stands from opened is;
       job = subst J (sym is.meta) of.job;
       planned = stands.planned;
-      epochs = the_epochs records_apart (starts s.found) course files stands from opened is;
+      epochs = the_epochs (starts s.found) course files stands from opened is;
       long = ap (λ (ends : List PartEnd). first_short ends s.found)
-          (last_of records_apart (starts s.found) course files stands from opened is (cases_lt stands.committed stands.planned)) ∙ of.long;
-      seen = none_seen records_apart (starts s.found) course files stands from opened is;
+          (last_of (starts s.found) course files stands from opened is (cases_lt stands.committed stands.planned)) ∙ of.long;
+      seen = none_seen (starts s.found) course files stands from opened is;
     }
 
 pub standing_holds : (asked : List ℕ) (streams : ℕ) (course : Course) (files : Files) (stands : Stands course files)
@@ -193,9 +190,9 @@ standing_holds asked streams course files stands of ours opened is =
     let O : Meta → Type 0 = IsOf asked streams in
     let E : List PartEnd → Type 0 = λ from. AreEpochs files from stands.planned opened.committed opened.ends opened.pending in
     record {
-      meta = the_opened records_apart first course files stands of opened is;
+      meta = the_opened first course files stands of opened is;
       ours = subst O (sym is.meta) ours;
       planned = stands.planned;
-      epochs = subst E (ap (λ (m : Meta). begins m.parts) (sym is.meta)) (the_epochs records_apart first course files stands of opened is);
-      seen = none_seen records_apart first course files stands of opened is;
+      epochs = subst E (ap (λ (m : Meta). begins m.parts) (sym is.meta)) (the_epochs first course files stands of opened is);
+      seen = none_seen first course files stands of opened is;
     }

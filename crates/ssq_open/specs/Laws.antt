@@ -1,16 +1,12 @@
 -- What holds of checkpoints that pass, that are refused, and that stand.
 use Rattle.std.specs.Prelude.{◌≡◌, ◌<◌, ◌≤◌, ◌+◌, ℕ, List, [], Some, None, IsTrue}
 use Rattle.ssq_outside.specs.Files.{Files}
-use Rattle.ssq_plans.specs.declared.meta.Meta.{Meta}
-use Rattle.ssq_plans.specs.declared.plan.Plan.{Plan}
-use Rattle.ssq_plans.specs.declared.commit.Commit.{Commit}
-use Rattle.ssq_plans.specs.Records.{IsPlan, IsCommit, meta_text, plan_text, commit_text}
+use Rattle.ssq_plans.specs.Records.{IsMetaRecord, IsPlan, IsCommit}
 use Rattle.ssq_core.specs.Course.{Course, Ends, plan_of, commit_of}
 use Rattle.ssq_core.specs.Standing.{Stands}
 use Rattle.ssq_open.specs.declared.fault.OpenFault.{OpenFault}
 use Rattle.ssq_open.specs.declared.wanted.Opened.{Opened}
 use Rattle.ssq_open.specs.Sought.{Sought, IsJob}
-use Rattle.ssq_open.specs.Spelled.{IsMetaRecord}
 use Rattle.ssq_open.specs.Epochs.{starts, follows}
 use Rattle.ssq_open.specs.Opening.{Passes, Refuses, IsOutside, first_short}
 use Rattle.ssq_open.specs.Looking.{begins, IsOf, Holds, Denies}
@@ -30,12 +26,6 @@ pub record AreAlike (one other : Opened) : Type 0 where
 -- what is found in a checkpoint is determined by its files
 abbrev pub FilesSayWhatIsFound : Type 0
 FilesSayWhatIsFound = (s : Sought) (files : Files) (one other : Opened) → Passes s files one → Passes s files other → AreAlike one other
-
--- no two records of a kind have one text
-pub record AreRecordsApart : Type 0 where
-  pub metas : (m n : Meta) → IsMetaRecord m → IsMetaRecord n → meta_text m ≡ meta_text n → m ≡ n
-  pub plans : (p q : Plan) → IsPlan p → IsPlan q → plan_text p ≡ plan_text q → p ≡ q
-  pub commits : (c d : Commit) → IsCommit c → IsCommit d → commit_text c ≡ commit_text d → c ≡ d
 
 -- The course is one of the job that is wanted, up to so many planned epochs: its record and plans can be written, its epochs
 -- begin at the start and do not fall, no stream has a watermark, and of each part as many lines are found as are planned.

@@ -1,6 +1,6 @@
 //! What holds of checkpoints that pass, that are refused, and that stand.
 
-ghost use Rattle.ssq_open.specs.Laws.{PassesOrIsRefused, FilesSayWhatIsFound, AreRecordsApart, StandingPasses, HoldsOrIsDenied, FilesSayWhatIsHeld, StandingHolds};
+ghost use Rattle.ssq_open.specs.Laws.{PassesOrIsRefused, FilesSayWhatIsFound, StandingPasses, HoldsOrIsDenied, FilesSayWhatIsHeld, StandingHolds};
 
 /// The law of refusals: a checkpoint that passes every check is refused by nothing but a fault of the outside, so that `open`
 /// answers its other refusals exactly where a check is not met.
@@ -11,11 +11,6 @@ pub fn passing_is_not_refused()
 /// The law of what is found: the files of a checkpoint determine it.
 pub fn files_say_what_is_found()
     ensures { FilesSayWhatIsFound }
-{}
-
-/// The law of records: no two jobs, plans or commits have one text.
-pub fn records_are_apart()
-    ensures { AreRecordsApart }
 {}
 
 /// The law of standing: a checkpoint that stands for a course of the job that is wanted passes every check, and what is found is

@@ -14,7 +14,6 @@ mod looking;
 mod opening;
 mod plans;
 mod read;
-mod records;
 #[cfg(test)]
 mod tests;
 mod unread;
@@ -23,7 +22,7 @@ mod wanted;
 pub use fault::OpenFault;
 pub use law::{
     files_say_what_is_found, files_say_what_is_held, holding_is_not_denied, passing_is_not_refused,
-    records_are_apart, standing_holds, standing_passes,
+    standing_holds, standing_passes,
 };
 pub use looking::look;
 pub use opening::open;

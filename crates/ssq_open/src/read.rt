@@ -8,9 +8,8 @@ ghost use Rattle.ssq_plans.specs.declared.plan.Plan.{Plan as PlanOf};
 ghost use Rattle.ssq_plans.specs.declared.commit.Commit.{Commit as CommitOf};
 ghost use Rattle.ssq_open.specs.Spelled.{SpellsMeta, SpellsPlan, SpellsCommit, IsTheMeta, IsThePlan, IsTheCommit};
 
-use crate::records::meta_in;
 use ssq_outside::{Disk, DiskError, Name};
-use ssq_plans::{Commit, Meta, Plan, read_commit, read_plan};
+use ssq_plans::{Commit, Meta, Plan, read_commit, read_meta, read_plan};
 use std::alloc::Global;
 
 /// The record of the job. `None` where it is absent or not canonical.
@@ -22,7 +21,7 @@ pub(crate) fn meta_of<D: Disk>(alloc: Global, disk: &mut D) -> Result<Option<Met
     ensures cause { IsErrOf result DiskError.Fault → Rises (D.faults disk.old) (D.faults disk.new) }
 {
     match disk.read(alloc, Name::Meta)? {
-        Some(text) => Ok(meta_in(alloc, text.as_slice())?),
+        Some(text) => Ok(read_meta(alloc, text.as_slice())?),
         None => Ok(None),
     }
 }

@@ -2,3 +2,4 @@ mod Listing
 pub mod Texts
 mod Times
 mod Spelled
+pub mod Apart

@@ -1,6 +1,7 @@
 -- The texts of records, line by line. Numbers are decimal without leading zeros, and a line feed ends each line.
-use Rattle.std.specs.Prelude.{ℕ, ◌+◌, ◌<◌, ◌≤◌, ◌^◌, ◌==◌, ℤ, List, [], ◌∷◌, ◌++◌, length, All, Option, Some, None, if◌then◌else◌, codes, decimal}
+use Rattle.std.specs.Prelude.{◌≡◌, ℕ, ◌+◌, ◌<◌, ◌≤◌, ◌^◌, ◌==◌, ℤ, List, [], ◌∷◌, ◌++◌, length, All, Option, Some, None, if◌then◌else◌, codes, decimal}
 use Rattle.std.specs.Option.{ForSome}
+use Rattle.std.specs.Str.{IsUtf8}
 use Rattle.ssq_time.specs.Time.{stamp_text, IsStampTime}
 use Rattle.ssq_plans.specs.declared.meta.Meta.{Meta}
 use Rattle.ssq_plans.specs.declared.plan.Plan.{Plan}
@@ -29,6 +30,10 @@ IsCount count = count ≤ 64
 -- a job's record: 1 to 64 partitions, and at most 64 parts of each stream
 abbrev pub IsMeta : Meta → Type 0
 IsMeta m = (1 ≤ m.partitions) × (m.partitions ≤ 64) × All IsCount m.parts
+
+-- a job's record whose query is UTF-8, with a length of 64 bits
+abbrev pub IsMetaRecord : Meta → Type 0
+IsMetaRecord m = IsMeta m × IsUtf8 m.query × (length m.query < 2 ^ 64)
 
 -- the record of a job: partitions, the parts of each stream, and the query's length in bytes and text
 abbrev pub meta_text : Meta → List ℕ
@@ -82,3 +87,9 @@ commit_text c =
 -- the epoch to plan after that many
 abbrev pub epoch_after : ℕ → Option ℕ
 epoch_after planned = if planned == 4_294_967_295 then None else Some planned
+
+-- no two records of a kind have one text
+pub record AreRecordsApart : Type 0 where
+  pub metas : (m n : Meta) → IsMetaRecord m → IsMetaRecord n → meta_text m ≡ meta_text n → m ≡ n
+  pub plans : (p q : Plan) → IsPlan p → IsPlan q → plan_text p ≡ plan_text q → p ≡ q
+  pub commits : (c d : Commit) → IsCommit c → IsCommit d → commit_text c ≡ commit_text d → c ≡ d

@@ -1,6 +1,7 @@
-//! What the texts of names have in common.
+//! What the texts of names have in common, and those of records.
 
 ghost use Rattle.ssq_plans.specs.Names.{AreTextsApart};
+ghost use Rattle.ssq_plans.specs.Records.{AreRecordsApart};
 
 use ssq_field::fields_are_apart;
 
@@ -10,3 +11,8 @@ pub fn names_are_apart()
 {
     fields_are_apart();
 }
+
+/// The law of records: no two jobs, plans or commits have one text.
+pub fn records_are_apart()
+    ensures { AreRecordsApart }
+{}

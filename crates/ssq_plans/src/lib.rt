@@ -15,7 +15,7 @@ mod seen_line;
 mod tests;
 
 pub use commit::{Commit, read_commit, write_commit};
-pub use law::names_are_apart;
+pub use law::{names_are_apart, records_are_apart};
 pub use meta::{Meta, read_meta, write_meta};
 pub use names::{NameText, name_text, read_name};
 pub use part::PartEnd;

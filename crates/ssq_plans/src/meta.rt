@@ -1,8 +1,8 @@
 //! The record of a checkpoint's job.
-ghost use Rattle.std.specs.Prelude.{◌≡◌, ◌++◌, ◌<◌, ◌≤◌, List, ℕ, All, IfOk, IfSome, IsSomeAnd, OnOk, Some, codes, decimal, length};
+ghost use Rattle.std.specs.Prelude.{◌≡◌, ◌++◌, ◌<◌, ◌≤◌, ◌^◌, List, ℕ, All, IfOk, IfSome, IsSomeAnd, OnOk, Some, codes, decimal, length};
 ghost use Rattle.std.specs.Str.{IsUtf8};
 ghost use Rattle.ssq_plans.specs.declared.meta.Meta.{Meta as Record};
-ghost use Rattle.ssq_plans.specs.Records.{IsCount, IsMeta, meta_text, parts_line};
+ghost use Rattle.ssq_plans.specs.Records.{IsCount, IsMeta, IsMetaRecord, meta_text, parts_line};
 
 use crate::fields::{after, is_all, long_after, short_line_after, split};
 use crate::lines::{Line, put_lines, take_lines};
@@ -84,6 +84,7 @@ fn partitions_and_rest(text: &[u8]) -> Option<(u32, &[u8])>
 /// The query, where its length and text and the record's end are all that is left.
 fn query_in(text: &[u8]) -> Option<&str>
     ensures found { IfSome result (λ query. text.now ≡ codes "query " ++ (decimal (length query.now) ++ (codes "\n" ++ (query.now ++ codes "\nend\n")))) }
+    ensures in_range { IfSome result (λ query. IsUtf8 query.now × (length query.now < 2 ^ 64)) }
     ensures each { (query : List ℕ) → IsUtf8 query →
         text.now ≡ codes "query " ++ (decimal (length query) ++ (codes "\n" ++ (query ++ codes "\nend\n"))) →
         IsSomeAnd result (λ found. found.now ≡ query) }
@@ -104,9 +105,9 @@ fn query_in(text: &[u8]) -> Option<&str>
 /// The job whose record these bytes are. `None` where they are no job's.
 pub fn read_meta(alloc: Global, text: &[u8]) -> Result<Option<Meta>, AllocError>
     ensures found { IfOk result (λ read. IfSome read (λ meta. text.now ≡ meta_text meta)) }
-    ensures in_range { IfOk result (λ read. IfSome read IsMeta) }
+    ensures in_range { IfOk result (λ read. IfSome read IsMetaRecord) }
     // So `None` comes only where no job has this record.
-    ensures each { (meta : Record) → IsMeta meta → IsUtf8 meta.query → text.now ≡ meta_text meta → IfOk result (λ read. read ≡ Some meta) }
+    ensures each { (meta : Record) → IsMetaRecord meta → text.now ≡ meta_text meta → IfOk result (λ read. read ≡ Some meta) }
 {
     let Some((partitions, rest)) = partitions_and_rest(text) else {
         return Ok(None);
