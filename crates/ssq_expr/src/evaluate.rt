@@ -35,9 +35,29 @@ fn constant<'a>(value: &'a Value) -> Result<Cow<'a, Value>, EvalFault>
     }
 }
 
-/// The value of an expression, which is borrowed where it stands in the row or in the query.
+/// The value of an expression, which is borrowed where it stands in the row or in the query. Most operands are columns and
+/// constants, and take no frame with room for each operator.
+#[cycle(evaluation)]
 #[tactic(auto, using(ssq_shape::specs::Boxes::boxes), unfolding(ssq_shape::specs::Evaluation::evaluated))]
 pub(crate) fn evaluate<'a>(
+    alloc: Global,
+    expression: &'a Typed,
+    row: &'a [Value],
+) -> Result<Cow<'a, Value>, EvalFault>
+    ensures { Answers cow_value result (evaluated expression.now row.now) }
+{
+    match expression {
+        Typed::Column(at) => Ok(cell_at(row, *at)),
+        Typed::Constant(value) => constant(value),
+        _ => operated(alloc, expression, row),
+    }
+}
+
+/// As [`evaluate`], for any expression.
+#[inline(never)]
+#[cycle(evaluation)]
+#[tactic(auto, using(ssq_shape::specs::Boxes::boxes), unfolding(ssq_shape::specs::Evaluation::evaluated))]
+fn operated<'a>(
     alloc: Global,
     expression: &'a Typed,
     row: &'a [Value],
