@@ -1,4 +1,5 @@
 pub mod Settling
+pub mod Staying
 pub mod Standing
 pub mod Same
 pub mod Worked

@@ -1,4 +1,5 @@
 pub mod Course
 pub mod Standing
 pub mod Settled
+pub mod Staying
 pub mod Laws
