@@ -8,6 +8,7 @@ use Rattle.ssq_outside.proofs.Steps.{files_are_image, weaker}
 use Rattle.ssq_meaning.specs.Meaning.{Line, Cuts}
 use Rattle.ssq_open.specs.declared.fault.OpenFault.{OpenFault}
 use Rattle.ssq_open.specs.declared.fault.OpenFault.TheVariants as opening
+use Rattle.ssq_core.specs.Staying.{FilesStay}
 use Rattle.ssq_open.specs.Opening.{SyncedSince, IsBegun, IsOpening, IsOutside}
 use Rattle.ssq_round.specs.declared.fault.RoundFault.{RoundFault}
 use Rattle.ssq_round.specs.declared.fault.RoundFault.TheVariants as round
@@ -54,10 +55,10 @@ begun_yet job found entry old files (inr uncut) (inr begun) = inl (record { plan
 
 -- a run begins
 so_begins : (given : Given) (entry : Entry) (found : ℕ) (progress : Progress) (now : History) (OutTells : Type 0) → Reads given.job entry (files_now given.start) → found ≤ most_lines
-    → IsReadyFor given.job found entry.cuts entry.planned entry.committed progress now → SyncedSince given.start now (IsBegun (sought_of given.job.text found) (files_now given.start))
+    → IsReadyFor given.job found entry.cuts entry.planned entry.committed progress now → SyncedSince given.start now (IsBegun (sought_of given.job.text found) (files_now given.start)) → FilesStay given.start now
     → SoFar given entry found [] 0 progress now OutTells given.written
 unfolding cuts_after AreRounds told_from
-so_begins given entry found progress now OutTells reads few ready run =
+so_begins given entry found progress now OutTells reads few ready run stays =
     let old : Files = files_now given.start in
     let P : Files → Type 0 = IsBegun (sought_of given.job.text found) old in
     let Q : Files → Type 0 = StandsYet given.job entry.cuts entry.planned entry.committed entry.planned old in
@@ -74,16 +75,17 @@ so_begins given entry found progress now OutTells reads few ready run =
       bound = ready.long;
       few = few;
       moments = subst M (sym ready.is_planned) (record { at = run.at; before = run.before; settled = run.settled; since = weaker P Q run.at now run.since (λ f is. begun_yet given.job found entry old f reads is) });
+      stay = stays;
       wrote = λ t. sym (append-nil given.written);
       done = λ some. absurd (omega (arith, some));
     }
 
 pub so_begins_at : (given : Given) (entry : Entry) (found : ℕ) (progress : Progress) (now : History) (OutTells : Type 0) (held : List ℕ) → Reads given.job entry (files_now given.start) → found ≤ most_lines
-    → IsReadyFor given.job found entry.cuts entry.planned entry.committed progress now → given.job.text ≡ held → SyncedSince given.start now (IsBegun (sought_of held found) (files_now given.start))
+    → IsReadyFor given.job found entry.cuts entry.planned entry.committed progress now → given.job.text ≡ held → SyncedSince given.start now (IsBegun (sought_of held found) (files_now given.start)) → FilesStay given.start now
     → SoFar given entry found [] 0 progress now OutTells given.written
-so_begins_at given entry found progress now OutTells held reads few ready same run =
+so_begins_at given entry found progress now OutTells held reads few ready same run stays =
     let S : List ℕ → Type 0 = λ t. SyncedSince given.start now (IsBegun (sought_of t found) (files_now given.start)) in
-    so_begins given entry found progress now OutTells reads few ready (subst S (sym same) run)
+    so_begins given entry found progress now OutTells reads few ready (subst S (sym same) run) stays
 
 left_always : (given : Given) (entry : Entry) (cuts : Cuts) (told planned : ℕ) (now : History) → Left given entry cuts told planned now → AlwaysStands given.job given.start now
 left_always given entry cuts told planned now left = always_run given.job cuts entry.planned entry.committed planned given.start now left.small left.moments

@@ -8,6 +8,8 @@ use Rattle.ssq_outside.proofs.Steps.{weaker, joined}
 use Rattle.ssq_meaning.specs.Meaning.{Cuts}
 use Rattle.ssq_core.specs.Settled.{IsSettledAs}
 use Rattle.ssq_core.specs.Standing.{files_at}
+use Rattle.ssq_core.specs.Staying.{FilesStay}
+use Rattle.ssq_core.proofs.Staying.{stay_on}
 use Rattle.ssq_open.specs.Opening.{SyncedSince}
 use Rattle.ssq_round.specs.declared.fault.RoundFault.{RoundFault}
 use Rattle.ssq_round.specs.declared.fault.RoundFault.TheVariants as round
@@ -71,9 +73,9 @@ planned_below job cuts sinks from now seen ready all e le = omega (arith, proper
 turn_left : (given : Given) (entry : Entry) (found : ℕ) (rounds : List Round) (put : ℕ) (from : Progress) (mid now : History) (T : Type 0) (w : List ℕ) (seen epochs most : ℕ) (next : Cuts)
     → SoFar given entry found rounds put from mid T w → GoOn given.job (cuts_after given.most entry rounds) (planned_in from) seen next → seen ≤ most_lines → planned_end from ≤ seen
     → planned_in from ≤ most → LeavesOnly mid now (StandsBetween given.job next (planned_in from) from.committed most)
-    → LeavesNow now (StandsBetween given.job next (planned_in from) (from.committed + epochs) most)
+    → LeavesNow now (StandsBetween given.job next (planned_in from) (from.committed + epochs) most) → FilesStay mid now
     → Left given entry next (put + epochs) most now
-turn_left given entry found rounds put from mid now T w seen epochs most next so goes few all le in_round kept =
+turn_left given entry found rounds put from mid now T w seen epochs most next so goes few all le in_round kept stays =
     let K : ℕ → Type 0 = λ k. LeavesNow now (StandsBetween given.job next entry.planned k most) in
     let n : ℕ = planned_in from in
     let k : ℕ = from.committed + epochs in
@@ -85,6 +87,7 @@ turn_left given entry found rounds put from mid now T w seen epochs most next so
       small = λ e low. omega (arith, goes.below below e, few);
       moments = turn_moments given.job (cuts_after given.most entry rounds) next (planned_in from) seen entry.planned entry.committed from.committed most given.start mid now goes le so.on (omega (arith, so.all)) so.moments in_round;
       kept = subst K at (record { each = λ image is. wider given.job next n k most entry.planned k most image so.on (omega arith) (omega arith) (kept.each image is) });
+      stay = stay_on given.start mid now so.stay stays;
       sums = sums_upto given.job next most (goes.same 0 (omega arith) ∙ standing.starts) (λ e low. goes.rises (λ e low. omega (arith, standing.proper e low)) below e);
     }
 
@@ -140,7 +143,7 @@ turn_done given entry found known known_now rounds put from mid T w told now pro
     let on : n ≤ k + m = planned_done cuts k from.end m seen from.pending ready.standing.proper ready.plans enough.all
     (λ none. let here : k + m ≡ k = omega (arith, none) in sym k_stays ∙ ap next (sym here) ∙ covers) in
     let left_at : Left given entry next (put + m) (k + m) now =
-    turn_left given entry found rounds put from mid now T w seen m (k + m) next so goes enough.few enough.all on (subst In (sym is) did.moments) (subst Kept (sym is) did.kept) in
+    turn_left given entry found rounds put from mid now T w seen m (k + m) next so goes enough.few enough.all on (subst In (sym is) did.moments) (subst Kept (sym is) did.kept) did.stay in
     let LeftTo : ℕ → Type 0 = λ p. Left given entry next (put + m) p now in
     let SettledAt : ℕ → Type 0 = λ p. IsSettledAs now (files_at (course_of given.job next) p p p) in
     let are : AreRounds given.most entry found (r ∷ rounds) = are_more given.most entry found r rounds (record { saw = omega (arith, shown, turn.saw); few = enough.few; on = omega (arith, so.planned, on); covers = covers }) so.are in
@@ -170,6 +173,7 @@ turn_done given entry found known known_now rounds put from mid T w told now pro
         bound = omega (arith, end_is, covered.end);
         few = enough.few;
         moments = subst Moments planned_at left_at.moments;
+        stay = left_at.stay;
         wrote = λ t. more t ∙ ap (λ b. b ++ told) (before t) ∙ append_assoc given.written (told_from given.job next entry.committed put) told
             ∙ ap (λ l. given.written ++ (told_from given.job next entry.committed put ++ l)) lines ∙ ap (λ l. given.written ++ l) (told_split given.job next entry.committed put m);
         done = λ some. done;
@@ -208,7 +212,7 @@ turn_stopped given entry found known known_now rounds put from mid T w told now 
     let goes : GoOn given.job cuts n seen next = go_on given.job cuts n given.most seen next refl in
     let one : n ≤ k + m + 1 = omega (arith, so.ready.standing.reached.one_ahead) in
     let left_at : Left given entry next (put + m) (k + m + 1) now =
-    turn_left given entry found rounds put from mid now T w seen m (k + m + 1) next so goes enough.few enough.all one stop.did.moments stop.did.kept in
+    turn_left given entry found rounds put from mid now T w seen m (k + m + 1) next so goes enough.few enough.all one stop.did.moments stop.did.kept stop.did.stay in
     let LeftTo : ℕ → Type 0 = λ p. Left given entry next (put + m) (p + m + 1) now in
     let Cause : ℕ → Type 0 = λ p. StopCause given.job next (p + m) seen now fault in
     stopped rounds put seen m next fault (turn_some given entry found rounds put from mid T w so fewer) (omega (arith, shown, saw)) there enough.few
@@ -245,6 +249,7 @@ turn_unseen given entry found known known_now rounds put from mid T w told now f
       small = λ e le. omega (arith, below e le, so.few);
       moments = so.moments;
       kept = settled_leaves Kept mid (files_at (course_of given.job cuts) n from.committed so.sinks) so.ready.settled (between given.job cuts n from.committed so.sinks entry.planned (entry.committed + put) n so.ready.standing so.on (omega (arith, so.all)) (omega arith));
+      stay = so.stay;
       sums = sums_upto given.job cuts n so.ready.standing.starts (λ e low. omega (arith, so.ready.standing.proper e low));
     } in
     unseen rounds put seen (fault_of_round fault) (turn_some given entry found rounds put from mid T w so fewer) (omega (arith, shown, saw)) there

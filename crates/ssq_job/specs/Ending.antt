@@ -5,6 +5,7 @@ use Rattle.ssq_outside.specs.History.{History, files_now, LeavesNow}
 use Rattle.ssq_meaning.specs.Meaning.{Cuts, given as given_by, meaning}
 use Rattle.ssq_core.specs.Settled.{IsSettledAs}
 use Rattle.ssq_core.specs.Standing.{files_at}
+use Rattle.ssq_core.specs.Staying.{FilesStay}
 use Rattle.ssq_open.specs.declared.fault.OpenFault.{OpenFault}
 use Rattle.ssq_open.specs.declared.wanted.Opened.{Opened}
 use Rattle.ssq_open.specs.Opening.{Passes, IsRefused, SyncedSince, IsOpening}
@@ -42,13 +43,15 @@ StandsYet job cuts begun least most old files = StandsBetween job cuts begun lea
 
 -- What rounds left that told so many epochs, from the first on that was not committed. The planned epochs keep their ends. From the
 -- first sync of names on, each image of each moment stands for these cuts, with each epoch planned that was planned before and each
--- committed that was committed; now each image has each epoch that was told, too. No more than so many are planned. What any first
--- epochs give, one after the other, is what the query means on their lines.
+-- committed that was committed; now each image has each epoch that was told, too. No more than so many are planned. At no moment
+-- was a file removed or changed: so what a sync settled, an epoch's rows and its commit among it, stays in each image. What any
+-- first epochs give, one after the other, is what the query means on their lines.
 pub record Left (given : Given) (entry : Entry) (cuts : Cuts) (told planned : ℕ) (now : History) : Type 0 where
   pub keeps : (e : ℕ) → e ≤ entry.planned → cuts e ≡ entry.cuts e
   pub small : (e : ℕ) → e ≤ planned → cuts e < 2 ^ 64
   pub moments : SyncedSince given.start now (StandsYet given.job cuts entry.planned entry.committed planned (files_now given.start))
   pub kept : LeavesNow now (StandsBetween given.job cuts entry.planned (entry.committed + told) planned)
+  pub stay : FilesStay given.start now
   pub sums : (n : ℕ) → n ≤ planned → given_by given.job.bound given.job.lines cuts n ≡ meaning given.job.bound given.job.lines cuts n
 
 -- These rounds are done, the latest of which comes first, and so many epochs were told: all that were not committed before. Each
@@ -124,12 +127,14 @@ pub record IsFound (given : Given) (known found : ℕ) : Type 0 where
   pub there : found ≤ known
   pub few : found ≤ most_lines
 
--- The checkpoint was not opened, and this is why. Its files are as they were, or it was empty and has the job's record alone.
+-- The checkpoint was not opened, and this is why. Its files are as they were, or it was empty and has the job's record alone; none
+-- was removed or changed.
 pub record IsUnopened (text : List ℕ) (found : ℕ) (start now : History) (fault : JobFault) : Type 0 where
   pub why : OpenFault
   pub is : fault ≡ fault_of_open why
   pub refused : IsRefused (sought_of text found) (files_now start) (files_now now) why
   pub moments : IsOpening (sought_of text found) start now
+  pub stay : FilesStay start now
 
 -- The checkpoint passed every check, and held this, or it was empty.
 pub record WasOpened (text : List ℕ) (found : ℕ) (files : Files) : Type 0 where

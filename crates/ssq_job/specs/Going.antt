@@ -4,6 +4,7 @@ use Rattle.ssq_outside.specs.History.{History, files_now}
 use Rattle.ssq_meaning.specs.Meaning.{Cuts}
 use Rattle.ssq_plans.specs.declared.part.PartEnd.{PartEnd}
 use Rattle.ssq_plans.specs.declared.plan.Plan.{Plan}
+use Rattle.ssq_core.specs.Staying.{FilesStay}
 use Rattle.ssq_open.specs.declared.wanted.Opened.{Opened}
 use Rattle.ssq_open.specs.Opening.{SyncedSince}
 use Rattle.ssq_round.specs.declared.progress.Progress.{Progress}
@@ -46,6 +47,7 @@ pub record SoFar (given : Given) (entry : Entry) (found : ℕ) (rounds : List Ro
   pub bound : planned_end progress ≤ seen_after found rounds
   pub few : seen_after found rounds ≤ most_lines
   pub moments : SyncedSince given.start now (StandsYet given.job (cuts_after given.most entry rounds) entry.planned entry.committed (planned_in progress) (files_now given.start))
+  pub stay : FilesStay given.start now
   pub wrote : Wrote OutTells given.written written (told_from given.job (cuts_after given.most entry rounds) entry.committed put)
   pub done : 0 < length rounds → AreDone given entry found rounds put now
 

@@ -2,6 +2,7 @@
 
 ghost use Rattle.std.specs.Prelude.{◌≡◌, ◌≤◌, ℕ, IfOk, IfErr, OnOk};
 ghost use Rattle.ssq_outside.specs.History.{files_now};
+ghost use Rattle.ssq_core.specs.Staying.{FilesStay};
 ghost use Rattle.ssq_open.specs.Opening.{SyncedSince, IsBegun};
 ghost use Rattle.ssq_round.specs.Standing.{Job};
 ghost use Rattle.ssq_job.specs.Ending.{IsUnopened, WasOpened};
@@ -53,6 +54,7 @@ pub(crate) fn open_job<D: Disk>(
     ensures ready { D.tells → (job : Job) → job.text ≡ text.now → (entry : Entry) → Reads job entry (files_now (D.history disk.old)) →
         IfOk result (λ progress. IsReadyFor job lines entry.cuts entry.planned entry.committed progress (D.history disk.new)) }
     ensures synced { D.tells → OnOk result (SyncedSince (D.history disk.old) (D.history disk.new) (IsBegun (sought_of text.now lines) (files_now (D.history disk.old)))) }
+    ensures stay { D.tells → FilesStay (D.history disk.old) (D.history disk.new) }
     ensures unopened { D.tells → IfErr result (IsUnopened text.now lines (D.history disk.old) (D.history disk.new)) }
     ensures goes_on { D.tells → (job : Job) → job.text ≡ text.now → (entry : Entry) → Reads job entry (files_now (D.history disk.old)) →
         entry.cuts entry.planned ≤ lines → IfErr result IsNoRefusal }

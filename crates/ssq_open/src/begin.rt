@@ -2,9 +2,10 @@
 
 ghost use Rattle.std.specs.Prelude.{◌≡◌, ◌≤◌, ℕ, IfOk, IfErr, OnOk};
 ghost use Rattle.ssq_outside.specs.Files.{Files, IsEmpty};
-ghost use Rattle.ssq_outside.specs.History.{LeavesOnly};
+ghost use Rattle.ssq_outside.specs.History.{files_now, LeavesOnly};
 ghost use Rattle.ssq_plans.specs.Records.{meta_text};
 ghost use Rattle.ssq_core.specs.Settled.{IsSettledAs, IsEither};
+ghost use Rattle.ssq_core.specs.Staying.{FilesStay};
 ghost use Rattle.ssq_open.specs.Fault.{DiskRises};
 ghost use Rattle.ssq_open.specs.Opening.{CanBeSought, first_meta, only_meta, IsFirst, IsOutside};
 ghost use Rattle.ssq_open.specs.Sought.{Sought};
@@ -51,6 +52,7 @@ pub(crate) fn begin<D: Disk>(
         OnOk result (IsSettledAs (D.history disk.new) (only_meta (first_meta (record { query = wanted.now.query.now; partitions = wanted.now.partitions; parts = wanted.now.parts.now; found = wanted.now.found.now })))) }
     ensures any_moment { D.tells → (files : Files) → IsEmpty files → IsSettledAs (D.history disk.old) files →
         LeavesOnly (D.history disk.old) (D.history disk.new) (IsEither files (only_meta (first_meta (record { query = wanted.now.query.now; partitions = wanted.now.partitions; parts = wanted.now.parts.now; found = wanted.now.found.now })))) }
+    ensures stay { D.tells → IsEmpty (files_now (D.history disk.old)) → FilesStay (D.history disk.old) (D.history disk.new) }
     ensures outside { IfErr result IsOutside }
     ensures counted { D.faults disk.old ≤ D.faults disk.new }
     ensures cause { IfErr result (λ fault. DiskRises fault (D.faults disk.old) (D.faults disk.new)) }

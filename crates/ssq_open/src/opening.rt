@@ -3,6 +3,7 @@
 ghost use Rattle.std.specs.Prelude.{◌≡◌, ◌≤◌, IfOk, IfErr, OnOk, OnErr};
 ghost use Rattle.ssq_outside.specs.Files.{AreNames};
 ghost use Rattle.ssq_outside.specs.History.{had_now, files_now, LeavesOnly};
+ghost use Rattle.ssq_core.specs.Staying.{FilesStay};
 ghost use Rattle.ssq_open.specs.Fault.{DiskRises};
 ghost use Rattle.ssq_open.specs.Opening.{CanBeSought, Passes, Refuses, IsOpen, IsRefused, IsImageOpening, SyncedSince, IsBegun, IsOpening};
 ghost use Rattle.ssq_open.specs.Sought.{Sought};
@@ -78,6 +79,9 @@ pub fn open<D: Disk>(alloc: Global, disk: &mut D, wanted: &Wanted<'_>) -> Result
         (IsBegun (record { query = wanted.now.query.now; partitions = wanted.now.partitions; parts = wanted.now.parts.now; found = wanted.now.found.now }) (files_now (D.history disk.old)))) }
     ensures unfinished { D.tells → OnErr result (IsOpening (record { query = wanted.now.query.now; partitions = wanted.now.partitions; parts = wanted.now.parts.now; found = wanted.now.found.now })
         (D.history disk.old) (D.history disk.new)) }
+
+    // No file that was there is removed or changed.
+    ensures stay { D.tells → FilesStay (D.history disk.old) (D.history disk.new) }
 
     // A fault of the disk is answered only where it was counted.
     ensures counted { D.faults disk.old ≤ D.faults disk.new }

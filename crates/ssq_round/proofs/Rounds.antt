@@ -10,7 +10,9 @@ use Rattle.ssq_outside.proofs.Steps.{weaker, joined}
 use Rattle.ssq_meaning.specs.Meaning.{Line, Cuts, next_end, AreProper}
 use Rattle.ssq_core.specs.Settled.{IsSettledAs}
 use Rattle.ssq_core.specs.Standing.{files_at}
+use Rattle.ssq_core.specs.Staying.{FilesStay}
 use Rattle.ssq_core.proofs.Standing.{stays}
+use Rattle.ssq_core.proofs.Staying.{stay_here, stay_on}
 use Rattle.ssq_round.specs.declared.fault.RoundFault.{RoundFault}
 use Rattle.ssq_round.specs.declared.fault.RoundFault.TheVariants.{Bad, Overflow, LogFault, LogShort, FullLines, FullEpochs, DiskFault, NoMemory}
 use Rattle.ssq_round.specs.declared.progress.Progress.{Progress}
@@ -43,6 +45,7 @@ pub record RoundSoFar (job : Job) (cuts : Cuts) (first planned seen : ℕ) (star
   pub at : progress.committed ≡ first + epochs
   pub lines : told ≡ before ++ told_from job cuts first epochs
   pub moments : LeavesOnly start now (StandsBetween job cuts planned first (planned_in progress))
+  pub stay : FilesStay start now
   pub on : planned ≤ planned_in progress
   pub bound : planned_end progress ≤ seen
 
@@ -57,6 +60,7 @@ round_begins job cuts written seen start before progress ready enough = record {
   lines = sym (append-nil before) ∙ ap (λ t. before ++ t) (sym (told_none job cuts progress.committed));
   moments = stays start (StandsBetween job cuts (planned_in progress) progress.committed (planned_in progress)) (files_at (course_of job cuts) (planned_in progress) progress.committed written) ready.settled
       (between job cuts (planned_in progress) progress.committed written (planned_in progress) progress.committed (planned_in progress) ready.standing (omega arith) (omega arith) (omega arith));
+  stay = stay_here start;
   on = omega arith;
   bound = enough.all;
 }
@@ -116,9 +120,9 @@ pub round_goes_on : (job : Job) (cuts : Cuts) (first planned seen known : ℕ) (
     → is_behind progress seen ≡ true → seen ≤ length job.lines → seen ≤ known
     → progress' ≡ after_epoch most seen progress → IsReady job cuts (progress.committed + 1) progress' new
     → told' ≡ told ++ told_of job cuts progress.committed
-    → LeavesOnly now new (StandsBetween job cuts (planned_in progress) progress.committed (progress.committed + 1))
+    → LeavesOnly now new (StandsBetween job cuts (planned_in progress) progress.committed (progress.committed + 1)) → FilesStay now new
     → RoundSoFar job cuts first planned seen start new before told' progress'
-round_goes_on job cuts first planned seen known most start now new before told told' progress progress' so_far goes some behind inside there moved ready added during =
+round_goes_on job cuts first planned seen known most start now new before told told' progress progress' so_far goes some behind inside there moved ready added during kept =
     let next = next_of job cuts first planned seen known most start now before told progress so_far goes some behind inside there in
     let n : ℕ = so_far.epochs in
     let Planned : Progress → Type 0 = λ q. planned ≤ planned_in q in
@@ -138,6 +142,7 @@ round_goes_on job cuts first planned seen known most start now new before told t
       moments = subst Reach (sym moved) (joined One start now new
           (weaker (StandsBetween job cuts planned first m) One start now so_far.moments (λ f is. wider job cuts planned first m planned first (k + 1) f (omega arith) (omega arith) so_far.ready.standing.reached.one_ahead is))
           (weaker (StandsBetween job cuts m k (k + 1)) One now new during (λ f is. wider job cuts m k (k + 1) planned first (k + 1) f so_far.on (omega (arith, so_far.at)) (omega arith) is)));
+      stay = stay_on start now new so_far.stay kept;
       on = subst Planned (sym moved) (omega (arith, so_far.on, so_far.ready.standing.reached.one_ahead));
       bound = subst Bound (sym moved) next.bound;
     }
@@ -179,7 +184,7 @@ round_ends job cuts first planned seen start now before told progress so_far beh
     let M : ℕ → Type 0 = λ p. LeavesOnly start now (StandsBetween job cuts planned first p) in
     record {
       epochs = n;
-      did = record { lines = so_far.lines; moments = subst M (planned_is ∙ so_far.at) so_far.moments; kept = kept };
+      did = record { lines = so_far.lines; moments = subst M (planned_is ∙ so_far.at) so_far.moments; kept = kept; stay = so_far.stay };
       covered = record {
         covers = ap cuts (sym so_far.at) ∙ so_far.ready.covers ∙ end.over;
         settled = settled;
@@ -204,9 +209,9 @@ stop_cause job cuts k seen now NoMemory less is = tt
 pub round_stops : (job : Job) (cuts : Cuts) (first planned seen known : ℕ) (most : Option ℕ) (start now new : History) (before told told' : List ℕ) (progress : Progress) (fault : RoundFault)
     → RoundSoFar job cuts first planned seen start now before told progress → GoesOn cuts planned most seen → ForSome most (λ m. 1 ≤ m)
     → is_behind progress seen ≡ true → seen ≤ length job.lines → seen ≤ known
-    → told' ≡ told → LeavesOnly now new (StandsBetween job cuts (planned_in progress) progress.committed (progress.committed + 1)) → EpochCause job cuts progress.committed new fault
+    → told' ≡ told → LeavesOnly now new (StandsBetween job cuts (planned_in progress) progress.committed (progress.committed + 1)) → FilesStay now new → EpochCause job cuts progress.committed new fault
     → IsStopped job cuts planned first seen start new before told' fault
-round_stops job cuts first planned seen known most start now new before told told' progress fault so_far goes some behind inside there same during cause =
+round_stops job cuts first planned seen known most start now new before told told' progress fault so_far goes some behind inside there same during kept cause =
     let next = next_of job cuts first planned seen known most start now before told progress so_far goes some behind inside there in
     let n : ℕ = so_far.epochs in
     let less : cuts progress.committed < seen = omega (arith, so_far.ready.covers, next.line, next.bound) in
@@ -227,6 +232,7 @@ round_stops job cuts first planned seen known most start now new before told tol
             (λ f is. wider job cuts planned first m planned first (k + 1) f (omega arith) (omega arith) (omega (arith, so_far.at, so_far.ready.standing.reached.one_ahead)) is))
             (weaker Last One now new during' (λ f is. wider job cuts planned k (k + 1) planned first (k + 1) f (omega arith) (omega arith) (omega arith) is));
         kept = present_of Last now new during';
+        stay = stay_on start now new so_far.stay kept;
       };
       cause = subst C so_far.at (stop_cause job cuts progress.committed seen new fault less cause);
     }

@@ -5,6 +5,7 @@ use Rattle.ssq_outside.specs.History.{History, LeavesNow, LeavesOnly}
 use Rattle.ssq_meaning.specs.Meaning.{Cuts, next_end}
 use Rattle.ssq_core.specs.Settled.{IsSettledAs}
 use Rattle.ssq_core.specs.Standing.{files_at}
+use Rattle.ssq_core.specs.Staying.{FilesStay}
 use Rattle.ssq_round.specs.declared.fault.RoundFault.{RoundFault}
 use Rattle.ssq_round.specs.declared.fault.RoundFault.TheVariants.{Bad, Overflow, LogFault, LogShort, FullLines, FullEpochs, DiskFault, NoMemory}
 use Rattle.ssq_round.specs.declared.progress.Progress.{Progress}
@@ -57,11 +58,12 @@ StopCause job cuts done seen now NoMemory = ⊤
 
 -- Epochs that a round did from the first on: what it told, and what each crash leaves. At each moment of it the epochs that were
 -- planned at its start are planned, and those that were committed are; now those that it told are committed too. No more than so
--- many are planned.
+-- many are planned. No file was removed or changed at any moment, so that what was settled stays.
 pub record Did (job : Job) (cuts : Cuts) (begun first : ℕ) (start now : History) (before told : List ℕ) (epochs planned : ℕ) : Type 0 where
   pub lines : told ≡ before ++ told_from job cuts first epochs
   pub moments : LeavesOnly start now (StandsBetween job cuts begun first planned)
   pub kept : LeavesNow now (StandsBetween job cuts begun (first + epochs) planned)
+  pub stay : FilesStay start now
 
 -- The round is done: so many epochs cover what was seen.
 pub record IsDone (job : Job) (cuts : Cuts) (begun first seen : ℕ) (start now : History) (before told : List ℕ) (progress : Progress) : Type 0 where

@@ -13,6 +13,7 @@ ghost use Rattle.ssq_sink.specs.Sink.{sink_text};
 ghost use Rattle.ssq_core.specs.Course.{Course, plan_of, commit_of};
 ghost use Rattle.ssq_core.specs.Settled.{IsSettledAs, IsEither};
 ghost use Rattle.ssq_core.specs.Standing.{files_at};
+ghost use Rattle.ssq_core.specs.Staying.{FilesStay};
 ghost use Rattle.ssq_round.specs.Epochs.{IsEpochOf, IsPlanned, IsEpochDone, EpochCause};
 ghost use Rattle.ssq_round.specs.Faults.{IsReadFault, IsRoundFault, LogRises, DiskRises};
 ghost use Rattle.ssq_round.specs.Standing.{Job, IsJobOf, plan_at, commit_at, StandsBetween};
@@ -67,6 +68,7 @@ pub fn plan_epoch<D: Disk>(alloc: Global, disk: &mut D, epoch: Epoch) -> Result<
     ensures any_moment { D.tells → (course : Course) (k w : ℕ) → plan_of course epoch.number ≡ plan_at epoch.number epoch.end →
         IsSettledAs (D.history disk.old) (files_at course epoch.number k w) →
         LeavesOnly (D.history disk.old) (D.history disk.new) (IsEither (files_at course epoch.number k w) (files_at course (epoch.number + 1) k w)) }
+    ensures stay { D.tells → (course : Course) (k w : ℕ) → IsSettledAs (D.history disk.old) (files_at course epoch.number k w) → FilesStay (D.history disk.old) (D.history disk.new) }
     ensures counted { D.faults disk.old ≤ D.faults disk.new }
     ensures cause { IsErrOf result DiskError.Fault → Rises (D.faults disk.old) (D.faults disk.new) }
 {
@@ -89,6 +91,8 @@ fn write_rows<D: Disk>(
     ensures any_moment { D.tells → (course : Course) (n k w : ℕ) → sink_text (names_of shown.now.columns) rows.items ≡ course.rows number →
         number ≤ w → w ≤ number + 1 → IsSettledAs (D.history disk.old) (files_at course n k w) →
         LeavesOnly (D.history disk.old) (D.history disk.new) (IsEither (files_at course n k w) (files_at course n k (number + 1))) }
+    ensures stay { D.tells → (course : Course) (n k w : ℕ) → sink_text (names_of shown.now.columns) rows.items ≡ course.rows number →
+        number ≤ w → w ≤ number + 1 → IsSettledAs (D.history disk.old) (files_at course n k w) → FilesStay (D.history disk.old) (D.history disk.new) }
     ensures counted { D.faults disk.old ≤ D.faults disk.new }
     ensures cause { IsErrOf result DiskError.Fault → Rises (D.faults disk.old) (D.faults disk.new) }
 {
@@ -103,6 +107,7 @@ fn commit_epoch<D: Disk>(alloc: Global, disk: &mut D, number: u32) -> Result<(),
     ensures any_moment { D.tells → (course : Course) (n w : ℕ) → commit_of course number ≡ commit_at number →
         IsSettledAs (D.history disk.old) (files_at course n number w) →
         LeavesOnly (D.history disk.old) (D.history disk.new) (IsEither (files_at course n number w) (files_at course n (number + 1) w)) }
+    ensures stay { D.tells → (course : Course) (n w : ℕ) → IsSettledAs (D.history disk.old) (files_at course n number w) → FilesStay (D.history disk.old) (D.history disk.new) }
     ensures counted { D.faults disk.old ≤ D.faults disk.new }
     ensures cause { IsErrOf result DiskError.Fault → Rises (D.faults disk.old) (D.faults disk.new) }
 {
@@ -128,6 +133,10 @@ pub fn run_planned<D: Disk, L: Log>(
     ensures any_moment { D.tells → L.tells → (job : Job) (cuts : Cuts) (written : ℕ) → IsJobOf job prepared.now.bound (L.lines log.old) →
         IsEpochOf cuts epoch.number epoch.from epoch.end → IsPlanned job cuts epoch.number written (D.history disk.old) →
         LeavesOnly (D.history disk.old) (D.history disk.new) (StandsBetween job cuts (epoch.number + 1) epoch.number (epoch.number + 1)) }
+    // No file that was there is removed or changed.
+    ensures stay { D.tells → L.tells → (job : Job) (cuts : Cuts) (written : ℕ) → IsJobOf job prepared.now.bound (L.lines log.old) →
+        IsEpochOf cuts epoch.number epoch.from epoch.end → IsPlanned job cuts epoch.number written (D.history disk.old) →
+        FilesStay (D.history disk.old) (D.history disk.new) }
     ensures stop { D.tells → L.tells → (job : Job) (cuts : Cuts) (written : ℕ) → IsJobOf job prepared.now.bound (L.lines log.old) →
         IsEpochOf cuts epoch.number epoch.from epoch.end → IsPlanned job cuts epoch.number written (D.history disk.old) →
         epoch.end ≤ L.shown log.old → IfErr result (EpochCause job cuts epoch.number (D.history disk.new)) }

@@ -5,6 +5,7 @@ ghost use Rattle.ssq_json.specs.RowText.{names_of};
 ghost use Rattle.ssq_shape.specs.Plain.{output_names};
 ghost use Rattle.ssq_meaning.specs.Meaning.{layout_of, Cuts};
 ghost use Rattle.ssq_outside.specs.History.{LeavesOnly};
+ghost use Rattle.ssq_core.specs.Staying.{FilesStay};
 ghost use Rattle.ssq_round.specs.Cutting.{planned_in, epoch_end, after_epoch};
 ghost use Rattle.ssq_round.specs.Epochs.{IsPlanned, EpochCause, IsReady, IsNext};
 ghost use Rattle.ssq_round.specs.Faults.{IsRoundFault, LogRises, DiskRises};
@@ -46,6 +47,9 @@ fn planned_epoch<D: Disk>(
     ensures any_moment { D.tells → (job : Job) (cuts : Cuts) (written known : ℕ) → IsReady job cuts written progress.now (D.history disk.old) →
         IsNext job cuts (epoch_end sight.most sight.seen progress.now) known progress.now →
         LeavesOnly (D.history disk.old) (D.history disk.new) (StandsBetween job cuts (planned_in progress.now) progress.now.committed (progress.now.committed + 1)) }
+    ensures stay { D.tells → (job : Job) (cuts : Cuts) (written known : ℕ) → IsReady job cuts written progress.now (D.history disk.old) →
+        IsNext job cuts (epoch_end sight.most sight.seen progress.now) known progress.now →
+        FilesStay (D.history disk.old) (D.history disk.new) }
     ensures stop { D.tells → (job : Job) (cuts : Cuts) (written known : ℕ) → IsReady job cuts written progress.now (D.history disk.old) →
         IsNext job cuts (epoch_end sight.most sight.seen progress.now) known progress.now →
         IfErr result (EpochCause job cuts progress.now.committed (D.history disk.new)) }
@@ -111,6 +115,10 @@ pub fn step<D: Disk, L: Log>(
         IsReady job cuts written progress.old (D.history disk.old) →
         IsNext job cuts (epoch_end sight.most sight.seen progress.old) (L.shown log.old) progress.old →
         LeavesOnly (D.history disk.old) (D.history disk.new) (StandsBetween job cuts (planned_in progress.old) progress.old.committed (progress.old.committed + 1)) }
+    ensures stay { D.tells → L.tells → (job : Job) (cuts : Cuts) (written : ℕ) → IsJobOf job prepared.now.bound (L.lines log.old) →
+        IsReady job cuts written progress.old (D.history disk.old) →
+        IsNext job cuts (epoch_end sight.most sight.seen progress.old) (L.shown log.old) progress.old →
+        FilesStay (D.history disk.old) (D.history disk.new) }
     ensures stop { D.tells → L.tells → (job : Job) (cuts : Cuts) (written : ℕ) → IsJobOf job prepared.now.bound (L.lines log.old) →
         IsReady job cuts written progress.old (D.history disk.old) →
         IsNext job cuts (epoch_end sight.most sight.seen progress.old) (L.shown log.old) progress.old →

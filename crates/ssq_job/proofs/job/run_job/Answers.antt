@@ -60,7 +60,7 @@ returns-clause-done g c = λ tells told job of_job text.
     let there : found ≤ g.L.Log.shown c.see_lines.new.log = omega (arith, is.0) in
     run_done c.run_rounds.result given _ _ found _ _ _ _ c.args.text.now (c.see_lines.ensures.grown told) is.0 (c.run_rounds.ensures.grown told) c.in_ok-found.ensures.few text (c.in_ok-progress.ensures.opened tells)
     (λ entry reads. c.run_rounds.ensures.done tells told given entry found of_job' refl refl c.requires.untold there
-    (so_begins_at given entry found c.in_ok-progress.progress _ g.O.Output.tells c.args.text.now reads c.in_ok-found.ensures.few (c.in_ok-progress.ensures.ready tells job text entry reads) text (c.in_ok-progress.ensures.synced tells)))
+    (so_begins_at given entry found c.in_ok-progress.progress _ g.O.Output.tells c.args.text.now reads c.in_ok-found.ensures.few (c.in_ok-progress.ensures.ready tells job text entry reads) text (c.in_ok-progress.ensures.synced tells) (c.open_job.ensures.stay tells)))
 
 pub returns-clause-stop : goal.returns-clause-stop
 returns-clause-stop g c = λ tells told job of_job text.
@@ -71,7 +71,7 @@ returns-clause-stop g c = λ tells told job of_job text.
     let there : found ≤ g.L.Log.shown c.see_lines.new.log = omega (arith, is.0) in
     run_stop c.run_rounds.result given _ _ found _ _ _ _ c.args.text.now (c.see_lines.ensures.grown told) is.0 (c.run_rounds.ensures.grown told) c.in_ok-found.ensures.few text (c.in_ok-progress.ensures.opened tells)
     (λ entry reads. c.run_rounds.ensures.stop tells told given entry found of_job' refl refl c.requires.untold there
-    (so_begins_at given entry found c.in_ok-progress.progress _ g.O.Output.tells c.args.text.now reads c.in_ok-found.ensures.few (c.in_ok-progress.ensures.ready tells job text entry reads) text (c.in_ok-progress.ensures.synced tells)))
+    (so_begins_at given entry found c.in_ok-progress.progress _ g.O.Output.tells c.args.text.now reads c.in_ok-found.ensures.few (c.in_ok-progress.ensures.ready tells job text entry reads) text (c.in_ok-progress.ensures.synced tells) (c.open_job.ensures.stay tells)))
 
 pub returns-clause-always : goal.returns-clause-always
 returns-clause-always g c = λ tells told job of_job text.
@@ -83,11 +83,11 @@ returns-clause-always g c = λ tells told job of_job text.
     let done =
     run_done c.run_rounds.result given _ _ found _ _ _ _ c.args.text.now (c.see_lines.ensures.grown told) is.0 (c.run_rounds.ensures.grown told) c.in_ok-found.ensures.few text (c.in_ok-progress.ensures.opened tells)
     (λ entry reads. c.run_rounds.ensures.done tells told given entry found of_job' refl refl c.requires.untold there
-    (so_begins_at given entry found c.in_ok-progress.progress _ g.O.Output.tells c.args.text.now reads c.in_ok-found.ensures.few (c.in_ok-progress.ensures.ready tells job text entry reads) text (c.in_ok-progress.ensures.synced tells))) in
+    (so_begins_at given entry found c.in_ok-progress.progress _ g.O.Output.tells c.args.text.now reads c.in_ok-found.ensures.few (c.in_ok-progress.ensures.ready tells job text entry reads) text (c.in_ok-progress.ensures.synced tells) (c.open_job.ensures.stay tells))) in
     let stop =
     run_stop c.run_rounds.result given _ _ found _ _ _ _ c.args.text.now (c.see_lines.ensures.grown told) is.0 (c.run_rounds.ensures.grown told) c.in_ok-found.ensures.few text (c.in_ok-progress.ensures.opened tells)
     (λ entry reads. c.run_rounds.ensures.stop tells told given entry found of_job' refl refl c.requires.untold there
-    (so_begins_at given entry found c.in_ok-progress.progress _ g.O.Output.tells c.args.text.now reads c.in_ok-found.ensures.few (c.in_ok-progress.ensures.ready tells job text entry reads) text (c.in_ok-progress.ensures.synced tells))) in
+    (so_begins_at given entry found c.in_ok-progress.progress _ g.O.Output.tells c.args.text.now reads c.in_ok-found.ensures.few (c.in_ok-progress.ensures.ready tells job text entry reads) text (c.in_ok-progress.ensures.synced tells) (c.open_job.ensures.stay tells))) in
     run_always c.run_rounds.result given _ _ _ _ _ done stop
 
 pub returns-clause-goes_on : goal.returns-clause-goes_on
@@ -98,4 +98,4 @@ returns-clause-goes_on g c = λ tells told job of_job text entry reads long.
     let of_job' : IsJobOf job c.args.prepared.now.bound (g.L.Log.lines c.see_lines.new.log) = record { same_query = of_job.same_query; same_lines = of_job.same_lines ∙ sym (c.see_lines.ensures.same told) } in
     let there : found ≤ g.L.Log.shown c.see_lines.new.log = omega (arith, is.0) in
     rounds_pass_by c.run_rounds.result given entry found _ _ _ _ _ (c.run_rounds.ensures.stop tells told given entry found of_job' refl refl c.requires.untold there
-    (so_begins_at given entry found c.in_ok-progress.progress _ g.O.Output.tells c.args.text.now reads c.in_ok-found.ensures.few (c.in_ok-progress.ensures.ready tells job text entry reads) text (c.in_ok-progress.ensures.synced tells)))
+    (so_begins_at given entry found c.in_ok-progress.progress _ g.O.Output.tells c.args.text.now reads c.in_ok-found.ensures.few (c.in_ok-progress.ensures.ready tells job text entry reads) text (c.in_ok-progress.ensures.synced tells) (c.open_job.ensures.stay tells)))

@@ -1,6 +1,8 @@
-use Rattle.std.proofs.Common.{◌∙◌, subst}
+use Rattle.std.proofs.Common.{◌∙◌, inl, subst}
+use Rattle.ssq_outside.specs.declared.name.Name.TheVariants as name
 use Rattle.ssq_outside.specs.Files.{Files}
 use Rattle.ssq_core.specs.Settled.{IsSettledAs}
+use Rattle.ssq_core.proofs.Staying.{stay_here}
 use Rattle.ssq_open.proofs.Beginning.{only_meta-published, either_same}
 use Rattle.ssq_open.proofs.begin.begin.Goals as goal
 
@@ -18,3 +20,15 @@ pub returns-clause-any_moment : goal.returns-clause-any_moment
 returns-clause-any_moment g c = λ tells files empty settled.
     either_same _ _ _ _ _ (c.settle.ensures.any_moment tells files settled)
     (only_meta-published files _ _ _ empty (c.as_slice.ensures.value ∙ c.in_ok-bytes.ensures) c.in_ok-opened.ensures.meta)
+
+pub returns-in_err-opened-clause-stay : goal.returns-in_err-opened-clause-stay
+returns-in_err-opened-clause-stay g c = λ tells empty. stay_here _
+
+pub returns-in_err-bytes-clause-stay : goal.returns-in_err-bytes-clause-stay
+returns-in_err-bytes-clause-stay g c = λ tells empty. stay_here _
+
+pub returns-in_err-settle-clause-stay : goal.returns-in_err-settle-clause-stay
+returns-in_err-settle-clause-stay g c = λ tells empty. c.settle.ensures.stay tells (inl (empty name.Meta))
+
+pub returns-clause-stay : goal.returns-clause-stay
+returns-clause-stay g c = λ tells empty. c.settle.ensures.stay tells (inl (empty name.Meta))

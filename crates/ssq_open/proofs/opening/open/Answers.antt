@@ -1,7 +1,8 @@
 use Rattle.std.proofs.Common.{◌∙◌, List, refl, subst, sym, ap}
 use Rattle.ssq_outside.specs.declared.name.Name.{Name}
 use Rattle.ssq_outside.specs.Files.{Files, IsEmpty, AreNames, files_of}
-use Rattle.ssq_outside.specs.History.{had_now, files_now}
+use Rattle.ssq_outside.specs.History.{History, had_now, files_now}
+use Rattle.ssq_core.proofs.Staying.{stay_same, stay_on, stay_synced}
 use Rattle.ssq_open.specs.Sought.{Sought}
 use Rattle.ssq_open.specs.Opening.{IsImageOpening, unsynced, synced}
 use Rattle.ssq_open.proofs.Opens.{none_listed, empty_listed, no_items, some_item, settled_since, files_since, sync_leaves, begin_leaves, same_leaves, open_begun, refused_begun, open_kept, refused_kept, on_ok, on_err, sync_images, synced_still, synced_begun}
@@ -137,3 +138,22 @@ returns-clause-unfinished g c = λ tells.
     let settled = settled_since h0 h1 h2 ok (c.names.ensures.same tells) in
     let still = synced_still s h0 h1 h2 (g.D.Disk.history c.kept.new.disk) (c.sync_names.ensures.steps tells) (c.names.ensures.same tells) settled (c.kept.ensures.same tells) in
     on_err c.kept.result (synced still)
+
+pub returns-in_err-sync_names-clause-stay : goal.returns-in_err-sync_names-clause-stay
+returns-in_err-sync_names-clause-stay g c = λ tells. stay_synced _ _ (c.sync_names.ensures.steps tells)
+
+pub returns-in_err-names-clause-stay : goal.returns-in_err-names-clause-stay
+returns-in_err-names-clause-stay g c = λ tells. stay_on _ _ _ (stay_synced _ _ (c.sync_names.ensures.steps tells)) (stay_same _ _ (c.names.ensures.same tells))
+
+pub returns-then-is_empty-clause-stay : goal.returns-then-is_empty-clause-stay
+returns-then-is_empty-clause-stay g c = λ tells.
+    let h1 = g.D.Disk.history c.sync_names.new.self in
+    let h2 = g.D.Disk.history c.names.new.self in
+    let none = none_listed (files_now h1) _ (c.in_ok-names.ensures.found tells) (sym c.as_slice.ensures.value ∙ no_items _ (sym c.is_empty.ensures ∙ c.if-is_empty.true)) in
+    let Empty : History → Type 0 = λ h. IsEmpty (files_now h) in
+    stay_on _ h2 _ (stay_on _ h1 h2 (stay_synced _ _ (c.sync_names.ensures.steps tells)) (stay_same _ _ (c.names.ensures.same tells)))
+    (c.begin.ensures.stay tells (subst Empty (sym (c.names.ensures.same tells)) none))
+
+pub returns-clause-stay : goal.returns-clause-stay
+returns-clause-stay g c = λ tells.
+    stay_on _ _ _ (stay_on _ _ _ (stay_synced _ _ (c.sync_names.ensures.steps tells)) (stay_same _ _ (c.names.ensures.same tells))) (stay_same _ _ (c.kept.ensures.same tells))

@@ -4,8 +4,10 @@ use Rattle.ssq_plans.specs.Records.{plan_text}
 use Rattle.ssq_core.specs.Settled.{IsSettledAs, IsEither}
 use Rattle.ssq_core.specs.Standing.{files_at}
 use Rattle.ssq_core.proofs.Standing.{either_gives}
+use Rattle.ssq_core.proofs.Staying.{stay_here}
 use Rattle.ssq_round.specs.Standing.{plan_at}
 use Rattle.ssq_round.proofs.Standing.{plan_published}
+use Rattle.ssq_round.proofs.Staying.{no_plan}
 use Rattle.ssq_round.proofs.epoch.plan_epoch.Goals as goal
 
 pub returns-clause-done : goal.returns-clause-done
@@ -18,3 +20,9 @@ pub returns-clause-any_moment : goal.returns-clause-any_moment
 returns-clause-any_moment g c = λ tells course k w is settled.
     let spelled : c.as_slice.result.now ≡ plan_text (plan_at c.args.epoch.number c.args.epoch.end) = c.as_slice.ensures.value ∙ c.in_ok-bytes.ensures in
     either_gives (IsEither (files_at course c.args.epoch.number k w) (files_at course (c.args.epoch.number + 1) k w)) _ _ _ _ _ (c.settle.ensures.any_moment tells _ settled) (plan_published course _ _ _ _ _ is spelled) (inl refl) (inr refl)
+
+pub returns-in_err-bytes-clause-stay : goal.returns-in_err-bytes-clause-stay
+returns-in_err-bytes-clause-stay g c = λ tells course k w settled. stay_here _
+
+pub returns-clause-stay : goal.returns-clause-stay
+returns-clause-stay g c = λ tells course k w settled. c.settle.ensures.stay tells (no_plan course _ k w _ _ settled)

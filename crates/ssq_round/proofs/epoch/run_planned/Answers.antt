@@ -3,6 +3,7 @@ use Rattle.std.proofs.lemmas.Result.{err_from_is_err_and}
 use Rattle.ssq_outside.proofs.Steps.{joined}
 use Rattle.ssq_core.specs.Standing.{files_at}
 use Rattle.ssq_core.proofs.Standing.{stays}
+use Rattle.ssq_core.proofs.Staying.{stay_here, stay_on}
 use Rattle.ssq_round.specs.Standing.{course_of, StandsBetween}
 use Rattle.ssq_round.proofs.Faults.{feed_stops, read_only}
 use Rattle.ssq_round.proofs.Standing.{rows_spelled, rows_given, no_fault, write_standing, commit_standing, between, either_between}
@@ -81,3 +82,34 @@ returns-clause-done g c = λ tells told job cuts written of_job epoch planned.
       settled = c.in_ok-commit_epoch.ensures.done tells (course_of job cuts) (e + 1) (e + 1) refl after;
       count = ap length (c.as_slice-count.ensures.value ∙ c.in_ok-rows.ensures.rows told ∙ sym (rows_given job cuts _ _ e _ _ of_job epoch));
     }
+
+pub returns-in_err-rows-clause-stay : goal.returns-in_err-rows-clause-stay
+returns-in_err-rows-clause-stay g c = λ tells told job cuts written of_job epoch planned. stay_here _
+
+pub returns-in_err-write_rows-clause-stay : goal.returns-in_err-write_rows-clause-stay
+returns-in_err-write_rows-clause-stay g c = λ tells told job cuts written of_job epoch planned.
+    let e = c.args.epoch.number in
+    let spelled = rows_spelled job cuts _ _ e _ _ _ _ of_job epoch c.requires.shown (c.in_ok-rows.ensures.rows told) in
+    let low = planned.standing.reached.written_first in
+    let high = planned.standing.reached.planned_first in
+    c.write_rows.ensures.stay tells (course_of job cuts) (e + 1) e written spelled low high planned.settled
+
+pub returns-in_err-commit_epoch-clause-stay : goal.returns-in_err-commit_epoch-clause-stay
+returns-in_err-commit_epoch-clause-stay g c = λ tells told job cuts written of_job epoch planned.
+    let e = c.args.epoch.number in
+    let spelled = rows_spelled job cuts _ _ e _ _ _ _ of_job epoch c.requires.shown (c.in_ok-rows.ensures.rows told) in
+    let low = planned.standing.reached.written_first in
+    let high = planned.standing.reached.planned_first in
+    let first = c.write_rows.ensures.stay tells (course_of job cuts) (e + 1) e written spelled low high planned.settled in
+    let after = c.in_ok-write_rows.ensures.done tells (course_of job cuts) (e + 1) e written spelled low high planned.settled in
+    stay_on _ _ _ first (c.commit_epoch.ensures.stay tells (course_of job cuts) (e + 1) (e + 1) after)
+
+pub returns-clause-stay : goal.returns-clause-stay
+returns-clause-stay g c = λ tells told job cuts written of_job epoch planned.
+    let e = c.args.epoch.number in
+    let spelled = rows_spelled job cuts _ _ e _ _ _ _ of_job epoch c.requires.shown (c.in_ok-rows.ensures.rows told) in
+    let low = planned.standing.reached.written_first in
+    let high = planned.standing.reached.planned_first in
+    let first = c.write_rows.ensures.stay tells (course_of job cuts) (e + 1) e written spelled low high planned.settled in
+    let after = c.in_ok-write_rows.ensures.done tells (course_of job cuts) (e + 1) e written spelled low high planned.settled in
+    stay_on _ _ _ first (c.commit_epoch.ensures.stay tells (course_of job cuts) (e + 1) (e + 1) after)

@@ -24,7 +24,7 @@ loop-alloc-preserved g c = record {
       let next = round_next job cuts c.args.progress.now.committed (planned_in c.args.progress.now) c.args.sight.seen (g.L.Log.shown c.loop-alloc.log) c.args.sight.most _ _ _ _ c.loop-alloc.progress so_far goes c.requires.some behind enough.inside there' in
       round_goes_on job cuts c.args.progress.now.committed (planned_in c.args.progress.now) c.args.sight.seen (g.L.Log.shown c.loop-alloc.log) c.args.sight.most _ _ _ _ _ _ c.loop-alloc.progress c.step.new.progress so_far goes c.requires.some behind enough.inside there'
       c.in_ok-step.ensures.moved (c.in_ok-step.ensures.done tells told job cuts so_far.written of_job' so_far.ready next) (c.in_ok-step.ensures.told tells told job cuts so_far.written of_job' so_far.ready next)
-      (c.step.ensures.any_moment tells told job cuts so_far.written of_job' so_far.ready next);
+      (c.step.ensures.any_moment tells told job cuts so_far.written of_job' so_far.ready next) (c.step.ensures.stay tells told job cuts so_far.written of_job' so_far.ready next);
   same = λ told. c.step.ensures.same told ∙ c.loop-alloc.invariant.same told;
   grown = λ told. omega (arith, c.loop-alloc.invariant.grown told, c.step.ensures.grown told);
   disk_counted = omega (arith, c.loop-alloc.invariant.disk_counted, c.step.ensures.disk_counted);
@@ -40,7 +40,7 @@ returns-in_err-step-clause-stop g c = λ tells told job cuts written of_job read
     let next = round_next job cuts c.args.progress.now.committed (planned_in c.args.progress.now) c.args.sight.seen (g.L.Log.shown c.loop-alloc.log) c.args.sight.most _ _ _ _ c.loop-alloc.progress so_far goes c.requires.some behind enough.inside there' in
     let p = err_from_is_err_and c.from_residual.result c.from_residual.ensures.1 in
     rw (p.1, p.2) (round_stops job cuts c.args.progress.now.committed (planned_in c.args.progress.now) c.args.sight.seen (g.L.Log.shown c.loop-alloc.log) c.args.sight.most _ _ _ _ _ _ c.loop-alloc.progress _ so_far goes c.requires.some behind enough.inside there'
-    c.in_err-step.ensures.untold (c.step.ensures.any_moment tells told job cuts so_far.written of_job' so_far.ready next) (c.in_err-step.ensures.stop tells told job cuts so_far.written of_job' so_far.ready next))
+    c.in_err-step.ensures.untold (c.step.ensures.any_moment tells told job cuts so_far.written of_job' so_far.ready next) (c.step.ensures.stay tells told job cuts so_far.written of_job' so_far.ready next) (c.in_err-step.ensures.stop tells told job cuts so_far.written of_job' so_far.ready next))
 
 pub returns-clause-done : goal.returns-clause-done
 returns-clause-done g c = λ tells told job cuts written of_job ready goes enough there.

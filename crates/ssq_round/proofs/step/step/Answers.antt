@@ -1,5 +1,6 @@
 use Rattle.std.proofs.Common.{◌≤◌, ◌++◌, ◌∙◌, List, ℕ, string_bytes, ap, refl, arith}
 use Rattle.std.proofs.lemmas.Result.{err_from_is_err_and}
+use Rattle.ssq_core.proofs.Staying.{stay_on}
 use Rattle.ssq_round.proofs.Steps.{epoch_is, planned_is, epoch_leaves, epoch_stops, epoch_ready, epoch_told}
 use Rattle.ssq_round.proofs.step.step.Goals as goal
 
@@ -61,3 +62,28 @@ returns-clause-told g c = λ tells told job cuts written of_job ready next.
     let planned = planned_is job cuts written _ c.args.progress.now _ is.number (is.done tells job cuts written _ ready next) in
     let line = epoch_told job cuts written _ _ _ _ _ _ _ c.args.progress.now _ _ is.number is.from is.end c.saturating_sub-lines.ensures ready next (c.in_ok-rows.ensures.done tells told job cuts written of_job epoch planned) in
     c.in_ok-tell_epoch.ensures.ok ∙ ap (λ (t : List ℕ). string_bytes c.args.told.now ++ t) line
+
+pub returns-in_err-epoch-clause-stay : goal.returns-in_err-epoch-clause-stay
+returns-in_err-epoch-clause-stay g c = λ tells told job cuts written of_job ready next.
+    c.planned_epoch.ensures.stay tells job cuts written _ ready next
+
+pub returns-in_err-rows-clause-stay : goal.returns-in_err-rows-clause-stay
+returns-in_err-rows-clause-stay g c = λ tells told job cuts written of_job ready next.
+    let is = c.in_ok-epoch.ensures in
+    let epoch = epoch_is job cuts written _ _ _ _ _ c.args.progress.now _ is.number is.from is.end ready next in
+    let planned = planned_is job cuts written _ c.args.progress.now _ is.number (is.done tells job cuts written _ ready next) in
+    stay_on _ _ _ (c.planned_epoch.ensures.stay tells job cuts written _ ready next) (c.run_planned.ensures.stay tells told job cuts written of_job epoch planned)
+
+pub returns-in_err-tell_epoch-clause-stay : goal.returns-in_err-tell_epoch-clause-stay
+returns-in_err-tell_epoch-clause-stay g c = λ tells told job cuts written of_job ready next.
+    let is = c.in_ok-epoch.ensures in
+    let epoch = epoch_is job cuts written _ _ _ _ _ c.args.progress.now _ is.number is.from is.end ready next in
+    let planned = planned_is job cuts written _ c.args.progress.now _ is.number (is.done tells job cuts written _ ready next) in
+    stay_on _ _ _ (c.planned_epoch.ensures.stay tells job cuts written _ ready next) (c.run_planned.ensures.stay tells told job cuts written of_job epoch planned)
+
+pub returns-clause-stay : goal.returns-clause-stay
+returns-clause-stay g c = λ tells told job cuts written of_job ready next.
+    let is = c.in_ok-epoch.ensures in
+    let epoch = epoch_is job cuts written _ _ _ _ _ c.args.progress.now _ is.number is.from is.end ready next in
+    let planned = planned_is job cuts written _ c.args.progress.now _ is.number (is.done tells job cuts written _ ready next) in
+    stay_on _ _ _ (c.planned_epoch.ensures.stay tells job cuts written _ ready next) (c.run_planned.ensures.stay tells told job cuts written of_job epoch planned)
