@@ -1,15 +1,16 @@
 -- From the checks of single kinds of files to those of the epochs.
-use Rattle.std.proofs.Common.{◌≡◌, ◌⊎◌, ◌<◌, ◌≤◌, ◌+◌, ◌-◌, ℕ, List, sym, subst, inl, inr, arith}
+use Rattle.std.proofs.Common.{◌≡◌, ◌⊎◌, ◌<◌, ◌≤◌, ◌+◌, ◌-◌, ℕ, List, Option, sym, subst, inl, inr, arith}
 use Rattle.std.specs.Prelude.{Contains}
 use Rattle.std.proofs.lemmas.Bool.{cases_lt}
 use Rattle.ssq_outside.specs.declared.name.Name.{Name}
 use Rattle.ssq_outside.specs.declared.name.Name.TheVariants as name
 use Rattle.ssq_outside.specs.Files.{Files, AreNames}
 use Rattle.ssq_plans.specs.declared.part.PartEnd.{PartEnd}
+use Rattle.ssq_plans.specs.declared.plan.Plan.{Plan}
 use Rattle.ssq_open.specs.declared.fault.OpenFault.{OpenFault}
 use Rattle.ssq_open.specs.declared.fault.OpenFault.TheVariants.{OtherQuery, OtherPartitions, OtherParts, LogShort, Damaged, DiskFault, NoMemory}
-use Rattle.ssq_open.specs.Epochs.{IsThere, IsGoodPlan, IsGoodCommit, IsUnmarked, IsSinkRight, ArePlans, AreCommits}
-use Rattle.ssq_open.specs.Refused.{PlansRefuse, CommitsRefuse, CommitsPassed, MarkRefuses, SinksRefuse, StateRefuses, EpochsRefuse, in_plans, in_commits, in_watermarks, in_sinks, in_state}
+use Rattle.ssq_open.specs.Epochs.{IsThere, IsGoodPlan, IsGoodCommit, IsUnmarked, IsSinkRight, ArePlans, AreCommits, IsProgress}
+use Rattle.ssq_open.specs.Refused.{PlansRefuse, CommitsRefuse, CommitsPassed, MarkRefuses, SinksRefuse, StateRefuses, in_plans, in_commits, in_watermarks, ProgressRefuses, of_progress, in_sinks, in_state, EpochsRefuse}
 
 -- what the names say of how many epochs are planned, and how many of these are committed
 pub record AreCounted (names : List Name) (n k : ℕ) : Type 0 where
@@ -26,7 +27,7 @@ some_last n e less = (n - 1, omega arith)
 pub plans_all : (files : Files) (first : List PartEnd) (names : List Name) (n k : ℕ) → AreNames files names → AreCounted names n k → ((e : ℕ) → e < n → IsGoodPlan files first e) → ArePlans files first n
 plans_all files first names n k are counted good = record { all = λ e there. counted.plan_below e (are.all (name.Plan e) there); good = good }
 
-pub plans_refused : (files : Files) (first : List PartEnd) (names : List Name) (n k : ℕ) (fault : OpenFault) → AreNames files names → AreCounted names n k → PlansRefuse files first n fault → EpochsRefuse files first fault
+pub plans_refused : (files : Files) (first : List PartEnd) (names : List Name) (n k : ℕ) (fault : OpenFault) → AreNames files names → AreCounted names n k → PlansRefuse files first n fault → ProgressRefuses files first fault
 plans_refused files first names n k (Damaged at) are counted refused =
     let last = some_last n refused.0 refused.2 in
     in_plans refused.0 refused.1 (record {
@@ -48,7 +49,7 @@ needed files names n k e are counted less = elim (cases_lt (e + 1) n) [
 ]
 
 pub commits_refused : (files : Files) (first : List PartEnd) (names : List Name) (n k : ℕ) (fault : OpenFault) → AreNames files names → AreCounted names n k → ArePlans files first n
-    → CommitsRefuse files k fault → EpochsRefuse files first fault
+    → CommitsRefuse files k fault → ProgressRefuses files first fault
 commits_refused files first names n k (Damaged at) are counted plans refused =
     in_commits n refused.0 plans refused.1 (record {
       before = λ f less some. (omega (arith, less, refused.2, counted.below), refused.3.before f less);
@@ -66,7 +67,7 @@ not_pending : (files : Files) (names : List Name) (n k e : ℕ) → AreNames fil
 not_pending files names n k e are counted from less there = counted.pending e (omega (arith, from, less, counted.ahead)) (omega (arith, from, less, counted.ahead)) (are.all (name.Commit e) there)
 
 pub commits_passed : (files : Files) (first : List PartEnd) (names : List Name) (n k : ℕ) (fault : OpenFault) → AreNames files names → AreCounted names n k → ArePlans files first n
-    → ((e : ℕ) → e < k → IsGoodCommit files e) → CommitsPassed files n fault → EpochsRefuse files first fault
+    → ((e : ℕ) → e < k → IsGoodCommit files e) → CommitsPassed files n fault → ProgressRefuses files first fault
 commits_passed files first names n k (Damaged at) are counted plans good passed =
     in_commits n passed.0 plans passed.1 (record {
       before = λ f less some. by_place f less some (cases_lt f k);
@@ -99,7 +100,7 @@ commits_all files names n k are counted good no_more = record { below = counted.
     by_place e there (inr from) (inl planned) = absurd (not_pending files names n k e are counted from planned there)
     by_place e there (inr from) (inr not_planned) = absurd (no_more e not_planned there)
 
-pub mark_refused : (files : Files) (first : List PartEnd) (n k : ℕ) (fault : OpenFault) → ArePlans files first n → AreCommits files n k → MarkRefuses files n fault → EpochsRefuse files first fault
+pub mark_refused : (files : Files) (first : List PartEnd) (n k : ℕ) (fault : OpenFault) → ArePlans files first n → AreCommits files n k → MarkRefuses files n fault → ProgressRefuses files first fault
 mark_refused files first n k (Damaged at) plans commits refused = in_watermarks n k refused.0 plans commits refused.1 refused.2 refused.3
 mark_refused files first n k DiskFault plans commits refused = tt
 mark_refused files first n k NoMemory plans commits refused = tt
@@ -108,25 +109,35 @@ mark_refused files first n k (OtherPartitions kept asked) plans commits refused 
 mark_refused files first n k (OtherParts stream kept found) plans commits refused = refused
 mark_refused files first n k (LogShort stream part logged found) plans commits refused = refused
 
-pub sinks_refused : (files : Files) (first : List PartEnd) (n k : ℕ) (fault : OpenFault) → ArePlans files first n → AreCommits files n k → ((f : ℕ) → f < n → IsUnmarked files f)
-    → SinksRefuse files n k fault → EpochsRefuse files first fault
-sinks_refused files first n k (Damaged at) plans commits unmarked refused = in_sinks n k refused.0 plans commits unmarked refused.1 refused.2
-sinks_refused files first n k DiskFault plans commits unmarked refused = tt
-sinks_refused files first n k NoMemory plans commits unmarked refused = tt
-sinks_refused files first n k (OtherQuery kept) plans commits unmarked refused = refused
-sinks_refused files first n k (OtherPartitions kept asked) plans commits unmarked refused = refused
-sinks_refused files first n k (OtherParts stream kept found) plans commits unmarked refused = refused
-sinks_refused files first n k (LogShort stream part logged found) plans commits unmarked refused = refused
+-- the epochs are refused where their plans and commits are
+pub progress_refused : (files : Files) (first : List PartEnd) (fault : OpenFault) → ProgressRefuses files first fault → EpochsRefuse files first fault
+progress_refused files first (Damaged at) refused = of_progress refused
+progress_refused files first DiskFault refused = tt
+progress_refused files first NoMemory refused = tt
+progress_refused files first (OtherQuery kept) refused = refused
+progress_refused files first (OtherPartitions kept asked) refused = refused
+progress_refused files first (OtherParts stream kept found) refused = refused
+progress_refused files first (LogShort stream part logged found) refused = refused
 
-pub state_refused : (files : Files) (first : List PartEnd) (n k : ℕ) (fault : OpenFault) → ArePlans files first n → AreCommits files n k → ((f : ℕ) → f < n → IsUnmarked files f)
+pub sinks_refused : (files : Files) (first : List PartEnd) (n k : ℕ) (ends : List PartEnd) (pending : Option Plan) (fault : OpenFault) → IsProgress files first n k ends pending → SinksRefuse files n k fault
+    → EpochsRefuse files first fault
+sinks_refused files first n k ends pending (Damaged at) progress refused = in_sinks n k refused.0 ends pending progress refused.1 refused.2
+sinks_refused files first n k ends pending DiskFault progress refused = tt
+sinks_refused files first n k ends pending NoMemory progress refused = tt
+sinks_refused files first n k ends pending (OtherQuery kept) progress refused = refused
+sinks_refused files first n k ends pending (OtherPartitions kept asked) progress refused = refused
+sinks_refused files first n k ends pending (OtherParts stream kept found) progress refused = refused
+sinks_refused files first n k ends pending (LogShort stream part logged found) progress refused = refused
+
+pub state_refused : (files : Files) (first : List PartEnd) (n k : ℕ) (ends : List PartEnd) (pending : Option Plan) (fault : OpenFault) → IsProgress files first n k ends pending
     → ((f : ℕ) → IsSinkRight files n k f) → StateRefuses files fault → EpochsRefuse files first fault
-state_refused files first n k (Damaged at) plans commits unmarked sinks refused = in_state n k plans commits unmarked sinks refused
-state_refused files first n k DiskFault plans commits unmarked sinks refused = tt
-state_refused files first n k NoMemory plans commits unmarked sinks refused = tt
-state_refused files first n k (OtherQuery kept) plans commits unmarked sinks refused = refused
-state_refused files first n k (OtherPartitions kept asked) plans commits unmarked sinks refused = refused
-state_refused files first n k (OtherParts stream kept found) plans commits unmarked sinks refused = refused
-state_refused files first n k (LogShort stream part logged found) plans commits unmarked sinks refused = refused
+state_refused files first n k ends pending (Damaged at) progress sinks refused = in_state n k ends pending progress sinks refused
+state_refused files first n k ends pending DiskFault progress sinks refused = tt
+state_refused files first n k ends pending NoMemory progress sinks refused = tt
+state_refused files first n k ends pending (OtherQuery kept) progress sinks refused = refused
+state_refused files first n k ends pending (OtherPartitions kept asked) progress sinks refused = refused
+state_refused files first n k ends pending (OtherParts stream kept found) progress sinks refused = refused
+state_refused files first n k ends pending (LogShort stream part logged found) progress sinks refused = refused
 
 pub counted_as : (names : List Name) (n k k' : ℕ) → ((e : ℕ) → Contains names (name.Plan e) → e < n) → ((e : ℕ) → n ≡ e + 1 → Contains names (name.Plan e)) → k ≤ n → n ≤ k + 1
     → ((e : ℕ) → n ≡ e + 1 → k ≡ n → Contains names (name.Commit e)) → ((e : ℕ) → n ≡ e + 1 → k ≡ e → Contains names (name.Commit e) → ⊥) → k' ≡ k → AreCounted names n k'

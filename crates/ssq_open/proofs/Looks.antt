@@ -9,12 +9,12 @@ use Rattle.ssq_open.specs.declared.fault.OpenFault.TheVariants.{OtherQuery, Othe
 use Rattle.ssq_open.specs.declared.wanted.Opened.{Opened}
 use Rattle.ssq_open.specs.Sought.{Sought}
 use Rattle.ssq_open.specs.Spelled.{IsTheMeta}
-use Rattle.ssq_open.specs.Epochs.{AreEpochs}
-use Rattle.ssq_open.specs.Refused.{JobDiffers, JobRefuses, EpochsRefuse}
+use Rattle.ssq_open.specs.Epochs.{IsProgress}
+use Rattle.ssq_open.specs.Refused.{JobDiffers, JobRefuses, ProgressRefuses}
 use Rattle.ssq_open.specs.Opening.{IsOutside}
-use Rattle.ssq_open.specs.Looking.{begins, IsOf, QueryDiffers, MetaDiffers, MetaRefuses, Holds, IsSpoilt, no_record, other_streams, in_epochs, Denies}
+use Rattle.ssq_open.specs.Looking.{begins, IsOf, QueryDiffers, MetaDiffers, MetaRefuses, Holds, IsSpoilt, no_record, other_streams, of_progress, Denies}
 use Rattle.ssq_open.specs.Laws.{AreAlike}
-use Rattle.ssq_open.proofs.Passing.{no_damage, one_finding}
+use Rattle.ssq_open.proofs.Passing.{no_progress_damage, one_finding}
 
 -- a record that is of another query is not of the job that is wanted
 pub job_differs : (s : Sought) (m : Meta) (fault : OpenFault) → QueryDiffers s.query (length s.parts) m fault → JobDiffers s m fault
@@ -47,15 +47,15 @@ meta_denied asked streams files (LogShort stream part logged found) why = why
 meta_denied asked streams files DiskFault why = tt
 meta_denied asked streams files NoMemory why = tt
 
--- or the epochs are, of a record that is of the query
-pub epochs_denied : (asked : List ℕ) (streams : ℕ) (files : Files) (m : Meta) (fault : OpenFault) → IsTheMeta files m → IsOf asked streams m → EpochsRefuse files (begins m.parts) fault → Denies asked streams files fault
-epochs_denied asked streams files m (Damaged at) is ours why = in_epochs m is ours why
-epochs_denied asked streams files m (OtherQuery kept) is ours why = absurd why
-epochs_denied asked streams files m (OtherPartitions kept partitions) is ours why = why
-epochs_denied asked streams files m (OtherParts stream kept found) is ours why = why
-epochs_denied asked streams files m (LogShort stream part logged found) is ours why = why
-epochs_denied asked streams files m DiskFault is ours why = tt
-epochs_denied asked streams files m NoMemory is ours why = tt
+-- or the plans or commits are, of a record that is of the query
+pub progress_denied : (asked : List ℕ) (streams : ℕ) (files : Files) (m : Meta) (fault : OpenFault) → IsTheMeta files m → IsOf asked streams m → ProgressRefuses files (begins m.parts) fault → Denies asked streams files fault
+progress_denied asked streams files m (Damaged at) is ours why = of_progress m is ours why
+progress_denied asked streams files m (OtherQuery kept) is ours why = absurd why
+progress_denied asked streams files m (OtherPartitions kept partitions) is ours why = why
+progress_denied asked streams files m (OtherParts stream kept found) is ours why = why
+progress_denied asked streams files m (LogShort stream part logged found) is ours why = why
+progress_denied asked streams files m DiskFault is ours why = tt
+progress_denied asked streams files m NoMemory is ours why = tt
 
 -- a checkpoint that holds what is found is not denied
 no_difference : (asked : List ℕ) (streams : ℕ) (m : Meta) (fault : OpenFault) → IsOf asked streams m → QueryDiffers asked streams m fault → ⊥
@@ -75,10 +75,10 @@ no_meta_differs asked streams files m fault is ours why =
 not_spoilt : (asked : List ℕ) (streams : ℕ) (files : Files) (opened : Opened) (at : Name) → Holds asked streams files opened → IsSpoilt asked streams files at → ⊥
 not_spoilt asked streams files opened at holds (no_record is none) = none opened.meta holds.meta.spells
 not_spoilt asked streams files opened at holds (other_streams why) = no_meta_differs asked streams files opened.meta (Damaged at) holds.meta holds.ours why
-not_spoilt asked streams files opened at holds (in_epochs m is ours damage) =
-    let E : List PartEnd → Type 0 = λ first. AreEpochs files first holds.planned opened.committed opened.ends opened.pending in
+not_spoilt asked streams files opened at holds (of_progress m is ours damage) =
+    let E : List PartEnd → Type 0 = λ first. IsProgress files first holds.planned opened.committed opened.ends opened.pending in
     let same : opened.meta ≡ m = is.only opened.meta holds.meta.spells in
-    no_damage files (begins m.parts) holds.planned opened.committed opened.ends opened.pending at (subst E (ap (λ (n : Meta). begins n.parts) same) holds.epochs) damage
+    no_progress_damage files (begins m.parts) holds.planned opened.committed opened.ends opened.pending at (subst E (ap (λ (n : Meta). begins n.parts) same) holds.progress) damage
 
 pub not_denied : (asked : List ℕ) (streams : ℕ) (files : Files) (opened : Opened) (fault : OpenFault) → Holds asked streams files opened → Denies asked streams files fault → IsOutside fault
 not_denied asked streams files opened (OtherQuery kept) holds why = absurd (no_meta_differs asked streams files opened.meta (OtherQuery kept) holds.meta holds.ours why)
@@ -91,8 +91,8 @@ not_denied asked streams files opened NoMemory holds why = tt
 
 pub say_what_is_held : (asked : List ℕ) (streams : ℕ) (files : Files) (one other : Opened) → Holds asked streams files one → Holds asked streams files other → AreAlike one other
 say_what_is_held asked streams files one other p q =
-    let E : List PartEnd → Type 0 = λ first. AreEpochs files first q.planned other.committed other.ends other.pending in
+    let E : List PartEnd → Type 0 = λ first. IsProgress files first q.planned other.committed other.ends other.pending in
     let same : one.meta ≡ other.meta = q.meta.only one.meta p.meta.spells in
-    let there = subst E (ap (λ (m : Meta). begins m.parts) (sym same)) q.epochs in
-    let found = one_finding files (begins one.meta.parts) p.planned q.planned one.committed other.committed one.ends other.ends one.pending other.pending p.epochs there in
+    let there = subst E (ap (λ (m : Meta). begins m.parts) (sym same)) q.progress in
+    let found = one_finding files (begins one.meta.parts) p.planned q.planned one.committed other.committed one.ends other.ends one.pending other.pending p.progress there in
     record { meta = same; committed = found.committed; ends = found.ends_there; pending = found.left; seen = p.seen ∙ sym q.seen }

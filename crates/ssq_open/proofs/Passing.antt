@@ -14,8 +14,8 @@ use Rattle.ssq_open.specs.declared.fault.OpenFault.TheVariants.{OtherQuery, Othe
 use Rattle.ssq_open.specs.declared.wanted.Opened.{Opened}
 use Rattle.ssq_open.specs.Sought.{Sought, IsJob}
 use Rattle.ssq_open.specs.Spelled.{IsTheMeta, IsThePlan}
-use Rattle.ssq_open.specs.Epochs.{starts, AreEndsAt, at_start, at_plan, IsThere, IsGoodPlan, IsGoodCommit, IsPlanRight, IsCommitRight, IsSinkRight, IsPending, all_done, one_left, ArePlans, AreCommits, AreEpochs}
-use Rattle.ssq_open.specs.Refused.{JobDiffers, RecordDiffers, IsDamage, in_plans, in_commits, in_watermarks, in_sinks, in_state}
+use Rattle.ssq_open.specs.Epochs.{starts, AreEndsAt, at_start, at_plan, IsThere, IsGoodPlan, IsGoodCommit, IsPlanRight, IsCommitRight, IsSinkRight, IsPending, all_done, one_left, ArePlans, AreCommits, IsProgress, AreEpochs}
+use Rattle.ssq_open.specs.Refused.{JobDiffers, RecordDiffers, IsProgressDamage, in_plans, in_commits, in_watermarks, IsDamage, of_progress, in_sinks, in_state}
 use Rattle.ssq_open.specs.Opening.{Passes, Refuses, IsOutside, IsShort, IsDamaged, no_record, other_streams, in_epochs, last_ends, first_short}
 use Rattle.ssq_open.specs.Laws.{AreAlike}
 
@@ -80,13 +80,13 @@ one_pending files n m k l p q same equal (one_left a last is the) (one_left b la
     let P : ℕ → Type 0 = λ e. IsThePlan files e b in
     is ∙ ap Some (one_plan files k a b the (subst P (sym equal) the')) ∙ sym is'
 
--- epochs that are right are the same, whoever found them
+-- plans and commits that are right say the same, whoever found it
 pub record AreOne (k l : ℕ) (ends others : List PartEnd) (p q : Option Plan) : Type 0 where
   pub committed : k ≡ l
   pub ends_there : ends ≡ others
   pub left : p ≡ q
 
-pub one_finding : (files : Files) (first : List PartEnd) (n m k l : ℕ) (ends others : List PartEnd) (p q : Option Plan) → AreEpochs files first n k ends p → AreEpochs files first m l others q → AreOne k l ends others p q
+pub one_finding : (files : Files) (first : List PartEnd) (n m k l : ℕ) (ends others : List PartEnd) (p q : Option Plan) → IsProgress files first n k ends p → IsProgress files first m l others q → AreOne k l ends others p q
 one_finding files first n m k l ends others p q one other =
     let planned = one_count files first n m one.plans other.plans in
     let same = one_commits files n m k l one.commits other.commits in
@@ -99,7 +99,7 @@ one_finding files first n m k l ends others p q one other =
 
 pub say_what_is_found : (s : Sought) (files : Files) (one other : Opened) → Passes s files one → Passes s files other → AreAlike one other
 say_what_is_found s files one other p q =
-    let same = one_finding files (starts s.found) p.planned q.planned one.committed other.committed one.ends other.ends one.pending other.pending p.epochs q.epochs in
+    let same = one_finding files (starts s.found) p.planned q.planned one.committed other.committed one.ends other.ends one.pending other.pending p.epochs.progress q.epochs.progress in
     record { meta = q.meta.only one.meta p.meta.spells; committed = same.committed; ends = same.ends_there; pending = same.left; seen = p.seen ∙ sym q.seen }
 
 -- a record that differs is not that of the job
@@ -118,7 +118,7 @@ no_record_differs s files m fault is job differs =
     let P : Meta → Type 0 = λ other. JobDiffers s other fault in
     no_difference s m fault job (subst P (is.only differs.meta differs.is.spells) differs.differs)
 
--- epochs that are as they have to be are not damaged
+-- plans and commits that are as they have to be are not damaged
 plan_right : (files : Files) (first : List PartEnd) (n e : ℕ) → ArePlans files first n → IsPlanRight files first e
 plan_right files first n e plans later above there = plans.good e (omega (arith, above, plans.all later there))
 
@@ -132,18 +132,24 @@ commit_right files n k e commits some = by_case some
     by_case (inl earlier) = committed (omega (arith, earlier, commits.ahead))
     by_case (inr there) = committed (commits.all e there)
 
-pub no_damage : (files : Files) (first : List PartEnd) (n k : ℕ) (ends : List PartEnd) (pending : Option Plan) (at : Name) → AreEpochs files first n k ends pending → IsDamage files first at → ⊥
-no_damage files first n k ends pending at are (in_plans e is bad) = bad.bad (plan_right files first n e are.plans)
-no_damage files first n k ends pending at are (in_commits n' e plans is bad) =
+pub no_progress_damage : (files : Files) (first : List PartEnd) (n k : ℕ) (ends : List PartEnd) (pending : Option Plan) (at : Name) → IsProgress files first n k ends pending → IsProgressDamage files first at → ⊥
+no_progress_damage files first n k ends pending at progress (in_plans e is bad) = bad.bad (plan_right files first n e progress.plans)
+no_progress_damage files first n k ends pending at progress (in_commits n' e plans is bad) =
     let P : ℕ → Type 0 = λ n. IsCommitRight files n e in
-    bad.bad (subst P (one_count files first n n' are.plans plans) (commit_right files n k e are.commits))
-no_damage files first n k ends pending at are (in_watermarks n' k' e plans commits is less bad) =
-    bad.bad (are.unmarked e (omega (arith, less, one_count files first n n' are.plans plans)))
-no_damage files first n k ends pending at are (in_sinks n' k' e plans commits unmarked is bad) =
+    bad.bad (subst P (one_count files first n n' progress.plans plans) (commit_right files n k e progress.commits))
+no_progress_damage files first n k ends pending at progress (in_watermarks n' k' e plans commits is less bad) =
+    bad.bad (progress.unmarked e (omega (arith, less, one_count files first n n' progress.plans plans)))
+
+-- nor are epochs
+no_damage : (files : Files) (first : List PartEnd) (n k : ℕ) (ends : List PartEnd) (pending : Option Plan) (at : Name) → AreEpochs files first n k ends pending → IsDamage files first at → ⊥
+no_damage files first n k ends pending at are (of_progress damage) = no_progress_damage files first n k ends pending at are.progress damage
+no_damage files first n k ends pending at are (in_sinks n' k' e ends' pending' progress is bad) =
     let P : ℕ → Type 0 = λ n. IsSinkRight files n k e in
     let Q : ℕ → Type 0 = λ k. IsSinkRight files n' k e in
-    bad.bad (subst Q (one_commits files n n' k k' are.commits commits) (subst P (one_count files first n n' are.plans plans) (are.sinks e)))
-no_damage files first n k ends pending at are (in_state n' k' plans commits unmarked sinks state) = are.stateless at state.state state.there
+    let planned = one_count files first n n' are.progress.plans progress.plans in
+    let committed = one_commits files n n' k k' are.progress.commits progress.commits in
+    bad.bad (subst Q committed (subst P planned (are.sinks e)))
+no_damage files first n k ends pending at are (in_state n' k' ends' pending' progress sinks state) = are.stateless at state.state state.there
 
 not_damaged : (s : Sought) (files : Files) (opened : Opened) (at : Name) → Passes s files opened → IsDamaged s files at → ⊥
 not_damaged s files opened at passes (no_record is none) = none opened.meta passes.meta.spells
@@ -152,7 +158,7 @@ not_damaged s files opened at passes (in_epochs m is job damage) = no_damage fil
 
 not_short : (s : Sought) (files : Files) (opened : Opened) (stream part logged found : ℕ) → Passes s files opened → IsShort s files stream part logged found → ⊥
 not_short s files opened stream part logged found passes short =
-    let same = one_finding files (starts s.found) passes.planned short.planned opened.committed short.committed opened.ends short.ends opened.pending short.pending passes.epochs short.epochs in
+    let same = one_finding files (starts s.found) passes.planned short.planned opened.committed short.committed opened.ends short.ends opened.pending short.pending passes.epochs.progress short.epochs.progress in
     let ends = same.ends_there in
     let pending = same.left in
     let last : last_ends opened.ends opened.pending ≡ last_ends short.ends short.pending = λ i. last_ends (ends i) (pending i) in

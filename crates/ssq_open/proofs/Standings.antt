@@ -18,7 +18,7 @@ use Rattle.ssq_core.proofs.Same.{upto-there, upto-absent}
 use Rattle.ssq_open.specs.declared.wanted.Opened.{Opened}
 use Rattle.ssq_open.specs.Sought.{Sought, IsJob}
 use Rattle.ssq_open.specs.Spelled.{IsTheMeta, IsThePlan, IsTheCommit}
-use Rattle.ssq_open.specs.Epochs.{starts, follows, AreEndsAt, at_start, at_plan, IsThere, IsGoodPlan, IsGoodCommit, IsSinkRight, is_state, IsPending, all_done, one_left, AreEpochs}
+use Rattle.ssq_open.specs.Epochs.{starts, follows, AreEndsAt, at_start, at_plan, IsThere, IsGoodPlan, IsGoodCommit, IsSinkRight, is_state, IsPending, all_done, one_left, IsProgress}
 use Rattle.ssq_open.specs.Opening.{Passes, last_ends, first_short}
 use Rattle.ssq_open.specs.Looking.{begins, IsOf, Holds}
 use Rattle.ssq_open.specs.Laws.{IsCourseOf, IsCourseFrom, IsOfCourse}
@@ -139,8 +139,8 @@ module _ (first : List PartEnd) (course : Course) (files : Files) (stands : Stan
       let done : stands.committed ≡ stands.planned = omega (arith, more, stands.reached.written_first, stands.reached.planned_first) in
       ap (last_ends opened.ends) (is.done done) ∙ is.ends ∙ ap course.ends done
 
-  epochs_of : (opened : Opened) → IsOfCourse course stands.planned stands.committed opened → AreEpochs files first stands.planned stands.committed (course.ends stands.committed) opened.pending
-  epochs_of opened is = record {
+  progress_of : (opened : Opened) → IsOfCourse course stands.planned stands.committed opened → IsProgress files first stands.planned stands.committed (course.ends stands.committed) opened.pending
+  progress_of opened is = record {
     plans = record { all = λ e there. there_below stands.planned e (λ e. plan_text (plan_of course e)) (files (name.Plan e)) (at (name.Plan e)) there; good = good_plan };
     commits = record {
       below = omega (arith, stands.reached.written_first, stands.reached.planned_first);
@@ -149,17 +149,18 @@ module _ (first : List PartEnd) (course : Course) (files : Files) (stands : Stan
       all = λ e there. there_below stands.committed e (λ e. commit_text (commit_of course e)) (files (name.Commit e)) (at (name.Commit e)) there;
     };
     unmarked = λ e less p the. ap (λ (q : Plan). q.watermark) ((the_plan e less).only p the.spells) ∙ of.unmarked e less;
-    sinks = sink_right;
-    stateless = no_state;
     end = ends_at stands.committed (omega (arith, stands.reached.written_first, stands.reached.planned_first));
     left = left_of opened is (cases_lt stands.committed stands.planned);
   }
 
-  the_epochs : (opened : Opened) → IsOfCourse course stands.planned stands.committed opened → AreEpochs files first stands.planned opened.committed opened.ends opened.pending
-  the_epochs opened is =
-      let J : ℕ → Type 0 = λ k. AreEpochs files first stands.planned k opened.ends opened.pending in
-      let E : List PartEnd → Type 0 = λ ends. AreEpochs files first stands.planned stands.committed ends opened.pending in
-      subst J (sym is.count) (subst E (sym is.ends) (epochs_of opened is))
+  the_progress : (opened : Opened) → IsOfCourse course stands.planned stands.committed opened → IsProgress files first stands.planned opened.committed opened.ends opened.pending
+  the_progress opened is =
+      let J : ℕ → Type 0 = λ k. IsProgress files first stands.planned k opened.ends opened.pending in
+      let E : List PartEnd → Type 0 = λ ends. IsProgress files first stands.planned stands.committed ends opened.pending in
+      subst J (sym is.count) (subst E (sym is.ends) (progress_of opened is))
+
+  the_sinks : (opened : Opened) → IsOfCourse course stands.planned stands.committed opened → (e : ℕ) → IsSinkRight files stands.planned opened.committed e
+  the_sinks opened is e = let K : ℕ → Type 0 = λ k. IsSinkRight files stands.planned k e in subst K (sym is.count) (sink_right e)
 
   the_opened : (opened : Opened) → IsOfCourse course stands.planned stands.committed opened → IsTheMeta files opened.meta
   the_opened opened is = let M : Meta → Type 0 = IsTheMeta files in subst M (sym is.meta) the_meta
@@ -176,7 +177,11 @@ standing_passes s course files stands of opened is =
       meta = the_opened (starts s.found) course files stands from opened is;
       job = subst J (sym is.meta) of.job;
       planned = stands.planned;
-      epochs = the_epochs (starts s.found) course files stands from opened is;
+      epochs = record {
+        progress = the_progress (starts s.found) course files stands from opened is;
+        sinks = the_sinks (starts s.found) course files stands from opened is;
+        stateless = no_state (starts s.found) course files stands from;
+      };
       long = ap (λ (ends : List PartEnd). first_short ends s.found)
           (last_of (starts s.found) course files stands from opened is (cases_lt stands.committed stands.planned)) ∙ of.long;
       seen = none_seen (starts s.found) course files stands from opened is;
@@ -188,11 +193,11 @@ pub standing_holds : (asked : List ℕ) (streams : ℕ) (course : Course) (files
 standing_holds asked streams course files stands of ours opened is =
     let first : List PartEnd = begins course.meta.parts in
     let O : Meta → Type 0 = IsOf asked streams in
-    let E : List PartEnd → Type 0 = λ from. AreEpochs files from stands.planned opened.committed opened.ends opened.pending in
+    let E : List PartEnd → Type 0 = λ from. IsProgress files from stands.planned opened.committed opened.ends opened.pending in
     record {
       meta = the_opened first course files stands of opened is;
       ours = subst O (sym is.meta) ours;
       planned = stands.planned;
-      epochs = subst E (ap (λ (m : Meta). begins m.parts) (sym is.meta)) (the_epochs first course files stands of opened is);
+      progress = subst E (ap (λ (m : Meta). begins m.parts) (sym is.meta)) (the_progress first course files stands of opened is);
       seen = none_seen first course files stands of opened is;
     }

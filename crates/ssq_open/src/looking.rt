@@ -9,7 +9,7 @@ ghost use Rattle.ssq_open.specs.Looking.{Holds, Denies, IsDenied};
 use crate::cuts::begins;
 use crate::fault::OpenFault;
 use crate::job::kept_query;
-use crate::kept::kept_epochs;
+use crate::kept::kept_progress;
 use crate::wanted::Opened;
 use ssq_outside::{Disk, Name};
 use ssq_value::{Sequence, Text};
@@ -33,7 +33,7 @@ fn held<D: Disk>(
 {
     let meta = kept_query(alloc, disk, query, streams as usize)?;
     let first = begins(alloc, meta.parts.as_slice())?;
-    let epochs = kept_epochs(alloc, disk, names, first.as_slice())?;
+    let epochs = kept_progress(alloc, disk, names, first.as_slice())?;
     Ok(Opened {
         meta,
         committed: epochs.committed,
@@ -46,9 +46,10 @@ fn held<D: Disk>(
 /// Looks at the checkpoint of a query, which has so many streams, and says what it holds: nothing where no file is there. Nothing is
 /// changed, and no log is asked.
 ///
-/// The checks are those of [`open`](crate::open) that need no log, in the same order: the job's record is there and canonical
-/// (`Damaged`); it is of this query (`OtherQuery`) and has one number of parts for each stream (`Damaged`); and the plans, the
-/// commits, the sink files and the files of the state are as they have to be, with the parts that the record keeps (`Damaged`).
+/// The checks are those of [`open`](crate::open) on the job's record, the plans and the commits, in the same order: the record is
+/// there and canonical (`Damaged`); it is of this query (`OtherQuery`) and has one number of parts for each stream (`Damaged`); and
+/// the plans and the commits are as they have to be, with the parts that the record keeps (`Damaged`). No other file is asked: a
+/// sink file or a file of the state may be absent or too many.
 pub fn look<D: Disk>(
     alloc: Global,
     disk: &mut D,

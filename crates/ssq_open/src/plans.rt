@@ -143,9 +143,11 @@ pub(crate) fn pending_plan<D: Disk>(
 /// The epochs of a checkpoint.
 #[derive(Debug, Drop)]
 pub(crate) struct Epochs {
-    /// How many are committed.
+    /// How many are planned.
+    pub(crate) planned: u64,
+    /// How many of these are committed.
     pub(crate) committed: u32,
-    /// Where these end.
+    /// Where the committed ones end.
     pub(crate) ends: Sequence<PartEnd>,
     /// The plan of the one that is planned and not committed.
     pub(crate) pending: Option<Plan>,
@@ -174,6 +176,7 @@ pub(crate) fn planned_epochs<D: Disk>(
     requires fits { planned ≤ 2 ^ 32 }
     requires below { committed ≤ planned }
     requires ahead { planned ≤ committed + 1 }
+    ensures planned { IfOk result (λ epochs. epochs.planned ≡ planned) }
     ensures count { IfOk result (λ epochs. epochs.committed ≡ committed) }
     ensures good { D.tells → OnOk result ((e : ℕ) → e < planned → IsGoodPlan (files_now (D.history disk.old)) first.now e) }
     ensures end { D.tells → IfOk result (λ epochs. AreEndsAt (files_now (D.history disk.old)) first.now committed epochs.ends) }
@@ -190,6 +193,7 @@ pub(crate) fn planned_epochs<D: Disk>(
     let marked = mark_pending(before.marked, committed, &pending);
     let Planned { ends, .. } = before;
     Ok(Epochs {
+        planned,
         committed,
         ends,
         pending,

@@ -58,7 +58,7 @@ struct Spoilt {
     answer: Answer,
 }
 
-static SPOILT: [Spoilt; 14] = [
+static SPOILT: [Spoilt; 11] = [
     Spoilt {
         changes: &[],
         answer: Answer::Opened {
@@ -135,6 +135,10 @@ static SPOILT: [Spoilt; 14] = [
         )],
         answer: Answer::Damaged(Name::Plan(0)),
     },
+];
+
+/// Checkpoints that are spoilt where a look asks nothing: their job, plans and commits are as they have to be.
+static UNASKED: [Spoilt; 3] = [
     Spoilt {
         changes: &[(Name::Out(0), None)],
         answer: Answer::Damaged(Name::Out(0)),
@@ -258,6 +262,15 @@ fn looks_or_names_the_file(rt: HostRuntime) -> Result<(), Fail> {
         let mut disk = disk_of(alloc, spoilt.changes).expect(&rt, "memory");
         assert_eq!(rt; looking(alloc, &mut disk, QUERY)?, Some(spoilt.answer));
     }
+    let whole = Answer::Opened {
+        committed: 2,
+        end: 3,
+        pending: None,
+    };
+    for unasked in &UNASKED {
+        let mut disk = disk_of(alloc, unasked.changes).expect(&rt, "memory");
+        assert_eq!(rt; looking(alloc, &mut disk, QUERY)?, Some(whole));
+    }
     let mut disk = disk_of(alloc, &[]).expect(&rt, "memory");
     assert_eq!(rt;
         looking(alloc, &mut disk, "SELECT")?,
@@ -275,6 +288,13 @@ fn opens_or_names_the_file(rt: HostRuntime) -> Result<(), Fail> {
         assert_eq!(rt;
             opening(alloc, &mut disk, QUERY, None, &[1], &[part(0, 3)])?,
             spoilt.answer
+        );
+    }
+    for unasked in &UNASKED {
+        let mut disk = disk_of(alloc, unasked.changes).expect(&rt, "memory");
+        assert_eq!(rt;
+            opening(alloc, &mut disk, QUERY, None, &[1], &[part(0, 3)])?,
+            unasked.answer
         );
     }
     Ok(())

@@ -14,8 +14,9 @@ use Rattle.ssq_run.specs.Queries.{text_of, job_of}
 use Rattle.ssq_run.specs.Stopping.{stop_of_open}
 use Rattle.ssq_run.specs.Lines.{status_text, no_checkpoint}
 
--- No file is there; or the checkpoint meets every check that asks no log, and it is told what it holds; or it is denied, which is
--- for a fault of the outside alone where it stands for a job of the query; or memory ran out. Then nothing is told.
+-- No file is there; or the checkpoint meets every check of the job's record, the plans and the commits, and it is told what it
+-- holds; or it is denied, which is for a fault of the outside alone where it stands for a job of the query; or memory ran out. Then
+-- nothing is told.
 pub data LookEnd (query : Asking) (files : Files) (told : List ℕ) (stop : Option Stop) : Type 0 where
   nothing_there : IsEmpty files → told ≡ no_checkpoint → stop ≡ None → LookEnd query files told stop
   shown : (opened : Opened) → Holds (text_of query) 1 files opened → told ≡ status_text opened → stop ≡ None → LookEnd query files told stop
