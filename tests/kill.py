@@ -6,8 +6,9 @@
 Each trial has a folder of its own. A writer appends lines to the log while runs of many rounds go over it; each run is
 killed (SIGKILL) after a random time, from the first millisecond on, so that openings are hit too, and the next one begins
 on what is left. After each kill each epoch whose line was printed has its commit and its sink file. At the end a run is
-let end by itself. Then the plans cover the whole log without a gap, and each plan, commit and sink file is, byte for byte,
-what the query gives for the cuts that the plans have: computed here, apart from the program.
+let end by itself. No epoch's line is printed twice, by one run or by two. Then the plans cover the whole log without a gap,
+and each plan, commit and sink file is, byte for byte, what the query gives for the cuts that the plans have: computed here,
+apart from the program.
 
 It is not part of the gate, since it takes minutes and its timing is the machine's. A killed process loses nothing that the
 system had taken from it, so this shows crashes of the program, and not of the machine: those are proved.
@@ -81,6 +82,13 @@ def killed_run(folder, chance):
     return told(output)
 
 
+def add_told(seen, epochs):
+    """Adds the epochs that a run told. None is told twice, by this run or by an earlier one too."""
+    for epoch in epochs:
+        assert epoch not in seen, f"epoch {epoch} was told again"
+        seen.add(epoch)
+
+
 def check_told(folder, epochs):
     for epoch in epochs:
         assert (folder / "checkpoint/commits" / str(epoch)).exists(), f"epoch {epoch} was told and is not committed"
@@ -119,16 +127,17 @@ def trial(folder, chance):
     kills = chance.randrange(1, 5)
     seen = set()
     for _ in range(kills):
-        seen.update(killed_run(folder, chance))
+        add_told(seen, killed_run(folder, chance))
         check_told(folder, seen)
+    early = len(seen)
     writer.done.set()
     writer.join()
     last = subprocess.run([SSQ, "run", "q.sql", "--max-lines", str(CAP)], cwd=folder, capture_output=True, text=True)
     assert last.returncode == 0, last.stdout
-    assert not seen & set(told(last.stdout)), "an epoch was told again"
+    add_told(seen, told(last.stdout))
     epochs = check_whole(folder)
     assert last.stdout.splitlines()[-1] == f"done epochs {epochs}", last.stdout[-200:]
-    return kills, len(seen), epochs
+    return kills, early, epochs
 
 
 def main():

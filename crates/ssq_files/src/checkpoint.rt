@@ -163,7 +163,7 @@ impl<R: Files + Drop> Checkpoint<R> {
                 break;
             }
             if let Some(number) = number_of(entries.name()) {
-                self.discard(number)?;
+                if_there(self.discard(number))?;
             }
         }
         self.is_clear = true;
@@ -276,7 +276,10 @@ fn partition_of(entry: &[u8]) -> Option<u32> {
     }
 }
 
-/// The number of a file aside.
+/// The number of a file aside. Only the spelling in which it is written is one: `007` and `+5` are other files.
 fn number_of(entry: &[u8]) -> Option<u64> {
-    str::from_utf8(entry).ok()?.parse::<u64>().ok()
+    let number = str::from_utf8(entry).ok()?.parse::<u64>().ok()?;
+    let mut text = PathText::new();
+    write!(text, "{number}").ok()?;
+    (text.as_bytes() == entry).then_some(number)
 }

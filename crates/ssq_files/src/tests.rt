@@ -8,7 +8,7 @@ use std::io::Write;
 use std::process::Abort;
 use std::{env, fs, process};
 
-/// The files of a checkpoint, not in their order, and one that is no name's.
+/// The files of a checkpoint, not in their order.
 const FILES: [(Name, &[u8]); 8] = [
     (Name::Snapshot(3, 9), b"snapshot"),
     (Name::Delta(3, 10), b"changes"),
@@ -19,6 +19,9 @@ const FILES: [(Name, &[u8]); 8] = [
     (Name::Plan(9), b"nine"),
     (Name::Meta, b"v1\n"),
 ];
+
+/// Files in its folders that no run writes: beside the plans, and beside what is left aside.
+const FOREIGN: [&str; 4] = ["offsets/010", "aside/007", "aside/+5", "aside/note"];
 
 /// Publishes the bytes under the name, in two writes.
 fn put<D: Disk>(rt: &impl Abort, alloc: Global, disk: &mut D, name: Name, bytes: &[u8]) {
@@ -83,16 +86,21 @@ fn a_folder_and_a_file_of_lines(rt: HostRuntime) {
     assert_eq!(rt; disk.remove(Name::Snapshot(4, 9)), Ok(()));
     assert_eq!(rt; disk.sync_names(), Ok(()));
 
-    // A later run passes over what has no name's path, and takes away what was left aside.
-    let foreign = format!(in alloc; "{root}/offsets/010").expect(&rt, "memory");
-    fs::write(&rt, foreign.as_str(), "no plan").expect(&rt, "a foreign file");
+    // A later run takes away what was left aside, and leaves other files alone.
+    for path in FOREIGN {
+        let foreign = format!(in alloc; "{root}/{path}").expect(&rt, "memory");
+        fs::write(&rt, foreign.as_str(), "foreign").expect(&rt, "a foreign file");
+    }
     let aside = format!(in alloc; "{root}/aside/7").expect(&rt, "memory");
     fs::write(&rt, aside.as_str(), "v1").expect(&rt, "a file aside");
     let mut disk = FolderDisk::new(rt, root.as_str());
     assert!(rt; holds(alloc, &mut disk, &FILES[1..]));
     assert_eq!(rt; disk.sync_names(), Ok(()));
     assert!(rt; fs::metadata(&rt, aside.as_str()).is_err());
-    assert!(rt; fs::metadata(&rt, foreign.as_str()).is_ok());
+    for path in FOREIGN {
+        let foreign = format!(in alloc; "{root}/{path}").expect(&rt, "memory");
+        assert!(rt; fs::metadata(&rt, foreign.as_str()).is_ok(), "{path}");
+    }
 
     // A last line without its end is not there until its end comes.
     let stream = format!(in alloc; "{base}/n").expect(&rt, "memory");
