@@ -61,3 +61,8 @@ returns-clause-told g c = λ tells told job cuts written of_job ready next.
     let planned = planned_is job cuts written _ c.args.progress.now _ is.number (is.done tells job cuts written _ ready next) in
     let line = epoch_told job cuts written _ _ _ _ _ _ _ c.args.progress.now _ _ is.number is.from is.end c.saturating_sub-lines.ensures ready next (c.in_ok-rows.ensures.done tells told job cuts written of_job epoch planned) in
     c.in_ok-tell_epoch.ensures.ok ∙ ap (λ (t : List ℕ). string_bytes c.args.told.now ++ t) line
+
+pub returns-in_err-epoch-clause-reason : goal.returns-in_err-epoch-clause-reason
+returns-in_err-epoch-clause-reason g c = λ told.
+    let p = err_from_is_err_and c.from_residual.result c.from_residual.ensures.1 in
+    rw (p.1, p.2) (c.in_err-epoch.ensures.reason _ _ _ _)
