@@ -6,3 +6,4 @@ pub mod Faults
 pub mod Steps
 pub mod Rounds
 pub mod Worked
+pub mod Causes

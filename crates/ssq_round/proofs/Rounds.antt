@@ -25,7 +25,7 @@ use Rattle.ssq_round.specs.Told.{told_of, told_from}
 use Rattle.ssq_round.proofs.Standing.{between, wider, present_of, settled_leaves}
 
 -- an epoch that begins before what was seen has a line, and does not go past it
-next_end_bounds : (most : Option ℕ) (seen from : ℕ) → ForSome most (λ m. 1 ≤ m) → from < seen → (from < next_end most seen from) × (next_end most seen from ≤ seen)
+pub next_end_bounds : (most : Option ℕ) (seen from : ℕ) → ForSome most (λ m. 1 ≤ m) → from < seen → (from < next_end most seen from) × (next_end most seen from ≤ seen)
 next_end_bounds None seen from some lt = (lt, omega arith)
 next_end_bounds (Some m) seen from some lt = (omega (arith, some m refl), omega arith)
 
@@ -148,11 +148,11 @@ round_goes_on job cuts first planned seen known most start now new before told t
     }
 
 -- nothing is planned, and what was seen is covered
-record AtEnd (seen end : ℕ) (pending : Option ℕ) : Type 0 where
+pub record AtEnd (seen end : ℕ) (pending : Option ℕ) : Type 0 where
   pub none : pending ≡ None
   pub over : end ≡ seen
 
-at_end : (seen end : ℕ) (pending : Option ℕ) → (is_some pending || nat_lt end seen) ≡ false → end_with end pending ≤ seen → AtEnd seen end pending
+pub at_end : (seen end : ℕ) (pending : Option ℕ) → (is_some pending || nat_lt end seen) ≡ false → end_with end pending ≤ seen → AtEnd seen end pending
 at_end seen end None behind bound = record { none = refl; over = omega (arith, bound, ltb-false end seen behind) }
 at_end seen end (Some pending) behind bound = absurd (true_false behind)
   where

@@ -4,3 +4,4 @@ pub mod Faults
 pub mod Told
 pub mod Epochs
 pub mod Rounds
+pub mod Causes

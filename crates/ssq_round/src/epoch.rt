@@ -14,6 +14,7 @@ ghost use Rattle.ssq_core.specs.Course.{Course, plan_of, commit_of};
 ghost use Rattle.ssq_core.specs.Settled.{IsSettledAs, IsEither};
 ghost use Rattle.ssq_core.specs.Standing.{files_at};
 ghost use Rattle.ssq_core.specs.Staying.{FilesStay};
+ghost use Rattle.ssq_round.specs.Causes.{AreGood, EpochReason};
 ghost use Rattle.ssq_round.specs.Epochs.{IsEpochOf, IsPlanned, IsEpochDone, EpochCause};
 ghost use Rattle.ssq_round.specs.Faults.{IsReadFault, IsRoundFault, LogRises, DiskRises};
 ghost use Rattle.ssq_round.specs.Standing.{Job, IsJobOf, plan_at, commit_at, StandsBetween};
@@ -147,6 +148,9 @@ pub fn run_planned<D: Disk, L: Log>(
     ensures log_counted { L.faults log.old ≤ L.faults log.new }
     ensures disk_cause { IfErr result (DiskRises (D.faults disk.old) (D.faults disk.new)) }
     ensures log_cause { IfErr result (LogRises (L.faults log.old) (L.faults log.new)) }
+    // Whatever the checkpoint holds: an epoch that is done had good lines, and one that stopped has its reason.
+    ensures read { L.tells → OnOk result (AreGood prepared.now.bound (L.lines log.old) epoch.from epoch.end) }
+    ensures reason { L.tells → IfErr result (EpochReason prepared.now.bound (L.lines log.old) epoch.from epoch.end epoch.number (L.shown log.old)) }
 {
     let rows = feed(alloc, log, prepared, epoch.from, epoch.end)?;
     let count = rows.as_slice().len();

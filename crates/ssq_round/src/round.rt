@@ -5,7 +5,8 @@ ghost use Rattle.std.specs.Option.{ForSome};
 ghost use Rattle.ssq_json.specs.RowText.{names_of};
 ghost use Rattle.ssq_shape.specs.Plain.{output_names};
 ghost use Rattle.ssq_meaning.specs.Meaning.{layout_of, Cuts};
-ghost use Rattle.ssq_round.specs.Cutting.{planned_in};
+ghost use Rattle.ssq_round.specs.Causes.{RoundReason, HasRead};
+ghost use Rattle.ssq_round.specs.Cutting.{planned_in, planned_end};
 ghost use Rattle.ssq_round.specs.Epochs.{IsReady};
 ghost use Rattle.ssq_round.specs.Faults.{most_lines, IsRoundFault, LogRises, DiskRises};
 ghost use Rattle.ssq_round.specs.Rounds.{SeeCause, IsEnough, GoesOn, IsDone, IsStopped, RoundDone, RoundStop};
@@ -74,6 +75,10 @@ fn cover<D: Disk, L: Log>(
     ensures log_counted { L.faults log.old ≤ L.faults log.new }
     ensures disk_cause { IfErr result (DiskRises (D.faults disk.old) (D.faults disk.new)) }
     ensures log_cause { IfErr result (LogRises (L.faults log.old) (L.faults log.new)) }
+    ensures read { L.tells → progress.old.end ≤ planned_end progress.old → planned_end progress.old ≤ sight.seen →
+        OnOk result (HasRead prepared.now.bound (L.lines log.old) sight.seen sight.seen progress.old progress.new) }
+    ensures reason { L.tells → progress.old.end ≤ planned_end progress.old → planned_end progress.old ≤ sight.seen → sight.seen ≤ L.shown log.old →
+        IfErr result (RoundReason prepared.now.bound (L.lines log.old) (L.shown log.old) sight.seen progress.old) }
 {
     while progress.is_behind(sight.seen) {
         step(alloc, disk, log, prepared, sight, progress, told)?;
@@ -117,6 +122,12 @@ pub fn run_round<D: Disk, L: Log>(
     ensures log_counted { L.faults log.old ≤ L.faults log.new }
     ensures disk_cause { IfErr result (DiskRises (D.faults disk.old) (D.faults disk.new)) }
     ensures log_cause { IfErr result (LogRises (L.faults log.old) (L.faults log.new)) }
+    // Whatever the checkpoint holds, where no planned epoch ends before it begins: the lines of a round that is done are good, and
+    // one that stopped has its reason.
+    ensures read { L.tells → progress.old.end ≤ planned_end progress.old →
+        OnOk result (HasRead prepared.now.bound (L.lines log.old) (L.shown log.old) (L.shown log.new) progress.old progress.new) }
+    ensures reason { L.tells → progress.old.end ≤ planned_end progress.old →
+        IfErr result (RoundReason prepared.now.bound (L.lines log.old) (L.shown log.old) (L.shown log.new) progress.old) }
 {
     let seen = see(log, progress.planned_end())?;
     let sight = Sight { seen, most };

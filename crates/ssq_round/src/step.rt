@@ -1,11 +1,13 @@
 //! One epoch of a round, from its plan to its line.
 
-ghost use Rattle.std.specs.Prelude.{◌≡◌, ◌+◌, ◌-◌, ◌<◌, ◌≤◌, ◌++◌, ℕ, string_bytes, IfOk, IfErr, OnOk, OnErr};
+ghost use Rattle.std.specs.Prelude.{◌≡◌, ◌+◌, ◌-◌, ◌<◌, ◌≤◌, ◌++◌, ℕ, string_bytes, IfOk, IfErr, OnOk, OnErr, List};
 ghost use Rattle.ssq_json.specs.RowText.{names_of};
+ghost use Rattle.ssq_shape.specs.declared.bound.Bound.{Bound};
 ghost use Rattle.ssq_shape.specs.Plain.{output_names};
-ghost use Rattle.ssq_meaning.specs.Meaning.{layout_of, Cuts};
+ghost use Rattle.ssq_meaning.specs.Meaning.{layout_of, Cuts, Line};
 ghost use Rattle.ssq_outside.specs.History.{LeavesOnly};
 ghost use Rattle.ssq_core.specs.Staying.{FilesStay};
+ghost use Rattle.ssq_round.specs.Causes.{AreGood, EpochReason};
 ghost use Rattle.ssq_round.specs.Cutting.{planned_in, epoch_end, after_epoch};
 ghost use Rattle.ssq_round.specs.Epochs.{IsPlanned, EpochCause, IsReady, IsNext};
 ghost use Rattle.ssq_round.specs.Faults.{IsRoundFault, LogRises, DiskRises};
@@ -57,6 +59,8 @@ fn planned_epoch<D: Disk>(
     ensures counted { D.faults disk.old ≤ D.faults disk.new }
     ensures cause { IfErr result (DiskRises (D.faults disk.old) (D.faults disk.new)) }
     ensures not_the_log { (before now : ℕ) → IfErr result (LogRises before now) }
+    // It is no fault of the lines.
+    ensures reason { (query : Bound) (lines : List Line) (end known : ℕ) → IfErr result (EpochReason query lines progress.now.end end progress.now.committed known) }
 {
     let Some(number) = next_epoch(progress.committed) else {
         return Err(RoundFault::FullEpochs);
@@ -130,6 +134,10 @@ pub fn step<D: Disk, L: Log>(
     ensures log_counted { L.faults log.old ≤ L.faults log.new }
     ensures disk_cause { IfErr result (DiskRises (D.faults disk.old) (D.faults disk.new)) }
     ensures log_cause { IfErr result (LogRises (L.faults log.old) (L.faults log.new)) }
+    // Whatever the checkpoint holds: an epoch that is done had good lines, and one that stopped has its reason.
+    ensures read { L.tells → OnOk result (AreGood prepared.now.bound (L.lines log.old) progress.old.end (epoch_end sight.most sight.seen progress.old)) }
+    ensures reason { L.tells → IfErr result (EpochReason prepared.now.bound (L.lines log.old) progress.old.end (epoch_end sight.most sight.seen progress.old)
+        progress.old.committed (L.shown log.old)) }
 {
     let epoch = planned_epoch(alloc, disk, sight, progress)?;
     let rows = run_planned(alloc, disk, log, prepared, epoch)?;

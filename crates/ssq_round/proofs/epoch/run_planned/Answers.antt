@@ -5,6 +5,7 @@ use Rattle.ssq_core.specs.Standing.{files_at}
 use Rattle.ssq_core.proofs.Standing.{stays}
 use Rattle.ssq_core.proofs.Staying.{stay_here, stay_on}
 use Rattle.ssq_round.specs.Standing.{course_of, StandsBetween}
+use Rattle.ssq_round.proofs.Causes.{feed_reason}
 use Rattle.ssq_round.proofs.Faults.{feed_stops, read_only}
 use Rattle.ssq_round.proofs.Standing.{rows_spelled, rows_given, no_fault, write_standing, commit_standing, between, either_between}
 use Rattle.ssq_round.proofs.epoch.run_planned.Goals as goal
@@ -113,3 +114,8 @@ returns-clause-stay g c = λ tells told job cuts written of_job epoch planned.
     let first = c.write_rows.ensures.stay tells (course_of job cuts) (e + 1) e written spelled low high planned.settled in
     let after = c.in_ok-write_rows.ensures.done tells (course_of job cuts) (e + 1) e written spelled low high planned.settled in
     stay_on _ _ _ first (c.commit_epoch.ensures.stay tells (course_of job cuts) (e + 1) (e + 1) after)
+
+pub returns-in_err-rows-clause-reason : goal.returns-in_err-rows-clause-reason
+returns-in_err-rows-clause-reason g c = λ told.
+    let p = err_from_is_err_and c.from_residual.result c.from_residual.ensures.1 in
+    rw (p.1, p.2) (feed_reason _ _ _ _ _ _ _ (c.in_err-rows.ensures.stop told))

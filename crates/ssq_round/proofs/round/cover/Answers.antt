@@ -2,6 +2,7 @@ use Rattle.std.proofs.Common.{◌≡◌, ◌≤◌, ◌∙◌, true, false, refl
 use Rattle.std.proofs.lemmas.Result.{err_from_is_err_and}
 use Rattle.ssq_round.specs.Cutting.{planned_in, is_behind}
 use Rattle.ssq_round.specs.Standing.{IsJobOf}
+use Rattle.ssq_round.proofs.Causes.{read_begins, read_goes_on, read_stops, read_ends}
 use Rattle.ssq_round.proofs.Rounds.{round_begins, round_next, round_goes_on, round_stops, round_ends}
 use Rattle.ssq_round.proofs.round.cover.Goals as goal
 
@@ -12,6 +13,7 @@ loop-alloc-init g c = record {
   grown = λ told. omega arith;
   disk_counted = omega arith;
   log_counted = omega arith;
+  read = λ told ahead bound. read_begins _ _ c.args.sight.seen c.args.progress.now ahead bound;
 }
 
 pub loop-alloc-preserved : goal.loop-alloc-preserved
@@ -29,6 +31,10 @@ loop-alloc-preserved g c = record {
   grown = λ told. omega (arith, c.loop-alloc.invariant.grown told, c.step.ensures.grown told);
   disk_counted = omega (arith, c.loop-alloc.invariant.disk_counted, c.step.ensures.disk_counted);
   log_counted = omega (arith, c.loop-alloc.invariant.log_counted, c.step.ensures.log_counted);
+  read = λ told ahead bound.
+      let behind : is_behind c.loop-alloc.progress c.args.sight.seen ≡ true = sym c.is_behind.ensures ∙ c.loop-alloc-test.true in
+      read_goes_on _ _ (g.L.Log.lines c.loop-alloc.log) c.args.sight.most c.args.sight.seen c.args.progress.now c.loop-alloc.progress c.step.new.progress (c.loop-alloc.invariant.read told ahead bound) (c.loop-alloc.invariant.same told) c.requires.some behind
+      c.in_ok-step.ensures.moved (c.in_ok-step.ensures.read told);
 }
 
 pub returns-in_err-step-clause-stop : goal.returns-in_err-step-clause-stop
@@ -46,3 +52,16 @@ pub returns-clause-done : goal.returns-clause-done
 returns-clause-done g c = λ tells told job cuts written of_job ready goes enough there.
     let over : is_behind c.loop-alloc.progress c.args.sight.seen ≡ false = sym c.is_behind.ensures ∙ c.loop-alloc-test.false in
     round_ends job cuts c.args.progress.now.committed (planned_in c.args.progress.now) c.args.sight.seen _ _ _ _ c.loop-alloc.progress (c.loop-alloc.invariant.so_far tells told job cuts written of_job ready goes enough there) over
+
+pub returns-in_err-step-clause-reason : goal.returns-in_err-step-clause-reason
+returns-in_err-step-clause-reason g c = λ told ahead bound there.
+    let behind : is_behind c.loop-alloc.progress c.args.sight.seen ≡ true = sym c.is_behind.ensures ∙ c.loop-alloc-test.true in
+    let there' : c.args.sight.seen ≤ g.L.Log.shown c.loop-alloc.log = omega (arith, there, c.loop-alloc.invariant.grown told) in
+    let p = err_from_is_err_and c.from_residual.result c.from_residual.ensures.1 in
+    rw (p.1, p.2) (read_stops _ _ (g.L.Log.lines c.loop-alloc.log) c.args.sight.most c.args.sight.seen _ _ c.args.progress.now c.loop-alloc.progress _ (c.loop-alloc.invariant.read told ahead bound) (c.loop-alloc.invariant.same told) c.requires.some behind there'
+    c.in_err-step.ensures.only (c.in_err-step.ensures.reason told))
+
+pub returns-clause-read : goal.returns-clause-read
+returns-clause-read g c = λ told ahead bound.
+    let over : is_behind c.loop-alloc.progress c.args.sight.seen ≡ false = sym c.is_behind.ensures ∙ c.loop-alloc-test.false in
+    read_ends _ _ c.args.sight.seen c.args.progress.now c.loop-alloc.progress (c.loop-alloc.invariant.read told ahead bound) over

@@ -1,9 +1,10 @@
 use Rattle.std.proofs.Common.{◌≡◌, ◌≤◌, ℕ, string_bytes}
 use Rattle.ssq_meaning.specs.Meaning.{Cuts}
-use Rattle.ssq_round.specs.Cutting.{planned_in}
+use Rattle.ssq_round.specs.Cutting.{planned_in, planned_end}
 use Rattle.ssq_round.specs.Epochs.{IsReady}
 use Rattle.ssq_round.specs.Rounds.{GoesOn, IsEnough}
 use Rattle.ssq_round.specs.Standing.{Job, IsJobOf}
+use Rattle.ssq_round.proofs.Causes.{ReadSoFar}
 use Rattle.ssq_round.proofs.Rounds.{RoundSoFar, left_with}
 use Rattle.ssq_round.proofs.round.cover.Given as goal
 
@@ -17,6 +18,8 @@ invariant-loop-alloc g l = record {
   grown : g.L.Log.tells → g.L.Log.shown l.initial.log ≤ g.L.Log.shown l.log;
   disk_counted : g.D.Disk.faults l.initial.disk ≤ g.D.Disk.faults l.disk;
   log_counted : g.L.Log.faults l.initial.log ≤ g.L.Log.faults l.log;
+  read : g.L.Log.tells → l.initial.progress.end ≤ planned_end l.initial.progress → planned_end l.initial.progress ≤ l.sight.seen
+      → ReadSoFar l.prepared.bound (g.L.Log.lines l.initial.log) l.sight.seen l.initial.progress l.progress;
 }
 
 abbrev pub decreases-loop-alloc : goal.decreases-loop-alloc

@@ -1,9 +1,10 @@
 use Rattle.std.proofs.Common.{◌≤◌, ◌∙◌, List, ap, sym, arith, length}
 use Rattle.std.proofs.lemmas.Result.{err_from_is_err_and}
 use Rattle.ssq_meaning.specs.Meaning.{Line}
-use Rattle.ssq_round.specs.Cutting.{continued, planned_in}
+use Rattle.ssq_round.specs.Cutting.{continued, planned_in, planned_end}
 use Rattle.ssq_round.specs.Rounds.{IsEnough}
 use Rattle.ssq_round.specs.Standing.{IsJobOf}
+use Rattle.ssq_round.proofs.Causes.{read_done, round_reason, see_reason}
 use Rattle.ssq_round.proofs.Cutting.{ready_continued, continued_next}
 use Rattle.ssq_round.proofs.Rows.{if_err}
 use Rattle.ssq_round.proofs.Rounds.{on_ok, round_done, round_stopped, round_unseen, enough_is}
@@ -42,3 +43,27 @@ pub returns-in_err-seen-clause-disk_cause : goal.returns-in_err-seen-clause-disk
 returns-in_err-seen-clause-disk_cause g c =
     let p = err_from_is_err_and c.from_residual.result c.from_residual.ensures.1 in
     rw (p.1, p.2) (c.in_err-seen.ensures.not_the_disk _ _)
+
+pub returns-in_err-seen-clause-reason : goal.returns-in_err-seen-clause-reason
+returns-in_err-seen-clause-reason g c = λ told ahead.
+    let p = err_from_is_err_and c.from_residual.result c.from_residual.ensures.1 in
+    rw (p.1, p.2) (see_reason _ _ (g.L.Log.lines c.see.new.log) _ _ _ c.args.progress.now _ (c.see.ensures.same told) (c.see.ensures.grown told) c.planned_end.ensures (c.in_err-seen.ensures.stop told))
+
+pub returns-clause-read : goal.returns-clause-read
+returns-clause-read g c = λ told ahead.
+    let from = c.args.progress.now in
+    let seen = c.in_ok-seen.seen in
+    let found = c.in_ok-seen.ensures.found told in
+    let enough : planned_end from ≤ seen = omega (arith, c.planned_end.ensures, c.in_ok-seen.ensures.enough.0) in
+    on_ok c.cover.result (c.cover.ensures.read told ahead enough)
+    (λ read. read_done _ _ (g.L.Log.lines c.see.new.log) _ _ _ seen from _ (c.see.ensures.same told) (c.see.ensures.grown told) found.0 (c.cover.ensures.grown told) read)
+
+pub returns-clause-reason : goal.returns-clause-reason
+returns-clause-reason g c = λ told ahead.
+    let from = c.args.progress.now in
+    let seen = c.in_ok-seen.seen in
+    let found = c.in_ok-seen.ensures.found told in
+    let enough : planned_end from ≤ seen = omega (arith, c.planned_end.ensures, c.in_ok-seen.ensures.enough.0) in
+    let there : seen ≤ g.L.Log.shown c.see.new.log = omega (arith, found.0) in
+    if_err c.cover.result (c.cover.ensures.reason told ahead enough there)
+    (λ fault why. round_reason _ _ (g.L.Log.lines c.see.new.log) _ _ _ seen from fault (c.see.ensures.same told) (c.see.ensures.grown told) found.0 (c.cover.ensures.grown told) why)

@@ -87,3 +87,8 @@ returns-clause-stay g c = λ tells told job cuts written of_job ready next.
     let epoch = epoch_is job cuts written _ _ _ _ _ c.args.progress.now _ is.number is.from is.end ready next in
     let planned = planned_is job cuts written _ c.args.progress.now _ is.number (is.done tells job cuts written _ ready next) in
     stay_on _ _ _ (c.planned_epoch.ensures.stay tells job cuts written _ ready next) (c.run_planned.ensures.stay tells told job cuts written of_job epoch planned)
+
+pub returns-in_err-epoch-clause-reason : goal.returns-in_err-epoch-clause-reason
+returns-in_err-epoch-clause-reason g c = λ told.
+    let p = err_from_is_err_and c.from_residual.result c.from_residual.ensures.1 in
+    rw (p.1, p.2) (c.in_err-epoch.ensures.reason _ _ _ _)
