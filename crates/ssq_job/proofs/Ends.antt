@@ -6,6 +6,7 @@ use Rattle.ssq_outside.specs.Files.{Files}
 use Rattle.ssq_outside.specs.History.{History, had_now, files_now, LeavesNow}
 use Rattle.ssq_outside.proofs.Steps.{files_are_image, weaker}
 use Rattle.ssq_meaning.specs.Meaning.{Line, Cuts}
+use Rattle.ssq_shape.specs.declared.bound.Bound.{Bound}
 use Rattle.ssq_open.specs.declared.fault.OpenFault.{OpenFault}
 use Rattle.ssq_open.specs.declared.fault.OpenFault.TheVariants as opening
 use Rattle.ssq_core.specs.Staying.{FilesStay}
@@ -15,16 +16,19 @@ use Rattle.ssq_round.specs.declared.fault.RoundFault.TheVariants as round
 use Rattle.ssq_round.specs.declared.progress.Progress.{Progress}
 use Rattle.ssq_round.specs.Faults.{most_lines}
 use Rattle.ssq_round.specs.Rounds.{StopCause}
-use Rattle.ssq_round.specs.Standing.{Job}
+use Rattle.ssq_round.specs.Standing.{Job, IsJobOf}
 use Rattle.ssq_round.specs.Told.{told_from}
 use Rattle.ssq_job.specs.declared.fault.JobFault.{JobFault}
 use Rattle.ssq_job.specs.declared.fault.JobFault.TheVariants as fault
+use Rattle.ssq_job.specs.Begun.{BeginsAt}
+use Rattle.ssq_job.specs.Causes.{JobReason}
 use Rattle.ssq_job.specs.Entry.{Entry, Reads, IsEmptyOrStands, AlwaysStands, sought_of}
 use Rattle.ssq_job.specs.Faults.{fault_of_open, fault_of_round, IsNoRefusal}
 use Rattle.ssq_job.specs.Rounds.{cuts_after, AreRounds}
-use Rattle.ssq_job.specs.Ending.{Given, StandsYet, Left, IsUnput, failed, starved, IsUntaken, RoundsEnd, finished, unsaid, stopped, unseen, unput, IsUnopened, WasOpened, JobEnd, untaken, unopened, ran}
+use Rattle.ssq_job.specs.Ending.{Given, StandsYet, Left, IsUnput, failed, starved, IsUntaken, RoundsEnd, finished, unsaid, stopped, unseen, unput, IsUnopened, JobEnd, untaken, unopened, ran}
 use Rattle.ssq_job.specs.Going.{IsReadyFor, SoFar}
 use Rattle.ssq_job.proofs.Always.{always_idle, always_unopened, always_run, none_standing, only_meta_is, no_epochs, uncut_none}
+use Rattle.ssq_job.proofs.Causes.{reason_at}
 use Rattle.ssq_job.proofs.Entries.{not_empty}
 
 -- the log was not taken
@@ -106,7 +110,7 @@ read_now job start before = elim (before.each (files_now start) (files_are_image
 end_always : (given : Given) (known : ℕ) (now : History) (T : Type 0) (w told : List ℕ) (end : Option JobFault) → JobEnd given known now T w told end → AlwaysStands given.job given.start now
 end_always given known now T w told end (untaken why is cause same wrote empty) = always_idle given.job given.start now same
 end_always given known now T w told end (unopened found why is seen un wrote empty) = always_unopened given.job found given.start now un.moments
-end_always given known now T w told end (ran found seen opened rounds) = λ before.
+end_always given known now T w told end (ran found seen opened rounds reason) = λ before.
     let entry = read_now given.job given.start before in
     rounds_always given entry.0 found known now T w told end (rounds entry.0 entry.1) before
 
@@ -118,20 +122,22 @@ run_always (Err why) given known now T w told done stop = end_always given known
 
 -- the rounds were run
 pub run_done : {X : Type 0} (r : Result X JobFault) (given : Given) (known mid found : ℕ) (now : History) (T : Type 0) (w told held : List ℕ) → given.known ≤ mid → mid ≡ found → mid ≤ known → found ≤ most_lines
-    → given.job.text ≡ held → WasOpened held found (files_now given.start) → ((entry : Entry) → Reads given.job entry (files_now given.start) → OnOk r (RoundsEnd given entry found known now T w told None))
+    → given.job.text ≡ held → ((entry : Entry) → Reads given.job entry (files_now given.start) → OnOk r (RoundsEnd given entry found known now T w told None))
+    → (query : Bound) (lines : List Line) (from : Progress) → IsJobOf given.job query lines → BeginsAt held found (files_now given.start) from → OnOk r (JobReason query lines mid known from None)
     → OnOk r (JobEnd given known now T w told None)
-run_done (Ok x) given known mid found now T w told held saw is later few same opened rounds =
-    let W : List ℕ → Type 0 = λ t. WasOpened t found (files_now given.start) in
-    ran found (record { saw = omega (arith, saw, is); there = omega (arith, is, later); few = few }) (subst W (sym same) opened) rounds
-run_done (Err why) given known mid found now T w told held saw is later few same opened rounds = tt
+run_done (Ok x) given known mid found now T w told held saw is later few same rounds query lines from of_job begins reason =
+    let why = reason_at given known mid found held query lines from None is same of_job begins reason in
+    ran found (record { saw = omega (arith, saw, is); there = omega (arith, is, later); few = few }) why.0 rounds why.1
+run_done (Err why) given known mid found now T w told held saw is later few same rounds query lines from of_job begins reason = tt
 
 pub run_stop : {X : Type 0} (r : Result X JobFault) (given : Given) (known mid found : ℕ) (now : History) (T : Type 0) (w told held : List ℕ) → given.known ≤ mid → mid ≡ found → mid ≤ known → found ≤ most_lines
-    → given.job.text ≡ held → WasOpened held found (files_now given.start) → ((entry : Entry) → Reads given.job entry (files_now given.start) → IfErr r (λ why. RoundsEnd given entry found known now T w told (Some why)))
+    → given.job.text ≡ held → ((entry : Entry) → Reads given.job entry (files_now given.start) → IfErr r (λ why. RoundsEnd given entry found known now T w told (Some why)))
+    → (query : Bound) (lines : List Line) (from : Progress) → IsJobOf given.job query lines → BeginsAt held found (files_now given.start) from → IfErr r (λ why. JobReason query lines mid known from (Some why))
     → IfErr r (λ why. JobEnd given known now T w told (Some why))
-run_stop (Ok x) given known mid found now T w told held saw is later few same opened rounds = tt
-run_stop (Err why) given known mid found now T w told held saw is later few same opened rounds =
-    let W : List ℕ → Type 0 = λ t. WasOpened t found (files_now given.start) in
-    ran found (record { saw = omega (arith, saw, is); there = omega (arith, is, later); few = few }) (subst W (sym same) opened) rounds
+run_stop (Ok x) given known mid found now T w told held saw is later few same rounds query lines from of_job begins reason = tt
+run_stop (Err fault) given known mid found now T w told held saw is later few same rounds query lines from of_job begins reason =
+    let why = reason_at given known mid found held query lines from (Some fault) is same of_job begins reason in
+    ran found (record { saw = omega (arith, saw, is); there = omega (arith, is, later); few = few }) why.0 rounds why.1
 
 -- rounds refuse no checkpoint
 unput_passes : (T : Type 0) (old new lines told : List ℕ) (why : JobFault) → IsUnput T old new lines told why → IsNoRefusal why

@@ -24,8 +24,9 @@ use Rattle.ssq_open.proofs.Passing.{say_what_is_found, not_refused}
 use Rattle.ssq_open.proofs.Standings.{standing_passes}
 use Rattle.ssq_round.specs.declared.progress.Progress.{Progress}
 use Rattle.ssq_round.specs.Standing.{Job, part_ends, course_of, Standing}
+use Rattle.ssq_job.specs.Causes.{end_of, progress_in}
 use Rattle.ssq_job.specs.Entry.{Entry, StandsAt, IsUncut, Reads, sought_of}
-use Rattle.ssq_job.specs.Going.{end_of, progress_in, IsReadyFor}
+use Rattle.ssq_job.specs.Going.{IsReadyFor}
 use Rattle.ssq_job.proofs.Always.{none_standing, only_meta_is}
 use Rattle.ssq_job.proofs.Cuts.{proper_le}
 

@@ -8,7 +8,7 @@ use Rattle.ssq_core.specs.Standing.{files_at}
 use Rattle.ssq_core.specs.Staying.{FilesStay}
 use Rattle.ssq_open.specs.declared.fault.OpenFault.{OpenFault}
 use Rattle.ssq_open.specs.declared.wanted.Opened.{Opened}
-use Rattle.ssq_open.specs.Opening.{Passes, IsRefused, SyncedSince, IsOpening}
+use Rattle.ssq_open.specs.Opening.{Passes, IsFirst, IsRefused, SyncedSince, IsOpening}
 use Rattle.ssq_round.specs.declared.fault.RoundFault.{RoundFault}
 use Rattle.ssq_round.specs.Cutting.{continued}
 use Rattle.ssq_round.specs.Faults.{most_lines}
@@ -17,6 +17,7 @@ use Rattle.ssq_round.specs.Standing.{Job, course_of, StandsBetween}
 use Rattle.ssq_round.specs.Told.{told_from}
 use Rattle.ssq_job.specs.declared.fault.JobFault.{JobFault}
 use Rattle.ssq_job.specs.declared.fault.JobFault.TheVariants.{OtherQuery, OtherPartitions, OtherParts, LogShort, Damaged, Bad, Overflow, FullLines, FullEpochs, LogFault, DiskFault, OutFault, NoMemory}
+use Rattle.ssq_job.specs.Causes.{progress_in, JobReason}
 use Rattle.ssq_job.specs.Entry.{Entry, Reads, sought_of}
 use Rattle.ssq_job.specs.Faults.{fault_of_open, fault_of_round}
 use Rattle.ssq_job.specs.Rounds.{Round, seen_after, epochs_after, cuts_after, AreRounds}
@@ -136,18 +137,19 @@ pub record IsUnopened (text : List ℕ) (found : ℕ) (start now : History) (fau
   pub moments : IsOpening (sought_of text found) start now
   pub stay : FilesStay start now
 
--- The checkpoint passed every check, and held this, or it was empty.
+-- The checkpoint passed every check, and held this, or it was empty, and this is a first one.
 pub record WasOpened (text : List ℕ) (found : ℕ) (files : Files) : Type 0 where
   pub held : Opened
-  pub passed : Passes (sought_of text found) files held ⊎ IsEmpty files
+  pub passed : Passes (sought_of text found) files held ⊎ (IsEmpty files × IsFirst (sought_of text found) held)
 
 -- How a run ends, in the order of its work: its log was not taken; the checkpoint was not opened; or it was, and the rounds were
--- run, on all that its files stood for.
+-- run, on all that its files stood for. Then there is a reason for the end whatever they stood for, by what the checkpoint held.
 pub data JobEnd (given : Given) (known : ℕ) (now : History) (OutTells : Type 0) (written told : List ℕ) (end : Option JobFault) : Type 0 where
   untaken : (fault : JobFault) → end ≡ Some fault → IsUntaken (length given.job.lines) known fault → now ≡ given.start
       → Wrote OutTells given.written written [] → told ≡ [] → JobEnd given known now OutTells written told end
   unopened : (found : ℕ) (fault : JobFault) → end ≡ Some fault → IsFound given known found → IsUnopened given.job.text found given.start now fault
       → Wrote OutTells given.written written [] → told ≡ [] → JobEnd given known now OutTells written told end
-  ran : (found : ℕ) → IsFound given known found → WasOpened given.job.text found (files_now given.start)
+  ran : (found : ℕ) → IsFound given known found → (opened : WasOpened given.job.text found (files_now given.start))
       → ((entry : Entry) → Reads given.job entry (files_now given.start) → RoundsEnd given entry found known now OutTells written told end)
+      → JobReason given.job.bound given.job.lines found known (progress_in opened.held) end
       → JobEnd given known now OutTells written told end

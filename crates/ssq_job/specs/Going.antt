@@ -1,11 +1,8 @@
 -- How far a run has come between two rounds.
-use Rattle.std.specs.Prelude.{◌≡◌, ◌<◌, ◌≤◌, ◌+◌, ℕ, List, [], ◌∷◌, length, option_map}
+use Rattle.std.specs.Prelude.{◌≡◌, ◌<◌, ◌≤◌, ◌+◌, ℕ, List, ◌∷◌, length}
 use Rattle.ssq_outside.specs.History.{History, files_now}
 use Rattle.ssq_meaning.specs.Meaning.{Cuts}
-use Rattle.ssq_plans.specs.declared.part.PartEnd.{PartEnd}
-use Rattle.ssq_plans.specs.declared.plan.Plan.{Plan}
 use Rattle.ssq_core.specs.Staying.{FilesStay}
-use Rattle.ssq_open.specs.declared.wanted.Opened.{Opened}
 use Rattle.ssq_open.specs.Opening.{SyncedSince}
 use Rattle.ssq_round.specs.declared.progress.Progress.{Progress}
 use Rattle.ssq_round.specs.Cutting.{planned_in, planned_end}
@@ -16,15 +13,6 @@ use Rattle.ssq_round.specs.Told.{told_from}
 use Rattle.ssq_job.specs.Entry.{Entry}
 use Rattle.ssq_job.specs.Rounds.{Round, seen_after, epochs_after, cuts_after, AreRounds}
 use Rattle.ssq_job.specs.Ending.{Given, Wrote, StandsYet, AreDone}
-
--- where the one part ends
-abbrev pub end_of : List PartEnd → ℕ
-end_of [] = 0
-end_of (part ∷ rest) = part.end
-
--- how far a checkpoint has come that was opened
-abbrev pub progress_in : Opened → Progress
-progress_in opened = record { committed = opened.committed; end = end_of opened.ends; pending = option_map (λ (plan : Plan). end_of plan.ends) opened.pending }
 
 -- The checkpoint is ready for a run over a log of so many lines, with so many epochs planned and committed of these cuts.
 pub record IsReadyFor (job : Job) (lines : ℕ) (cuts : Cuts) (planned committed : ℕ) (progress : Progress) (now : History) : Type 0 where

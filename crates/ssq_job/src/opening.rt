@@ -5,10 +5,12 @@ ghost use Rattle.ssq_outside.specs.History.{files_now};
 ghost use Rattle.ssq_core.specs.Staying.{FilesStay};
 ghost use Rattle.ssq_open.specs.Opening.{SyncedSince, IsBegun};
 ghost use Rattle.ssq_round.specs.Standing.{Job};
-ghost use Rattle.ssq_job.specs.Ending.{IsUnopened, WasOpened};
+ghost use Rattle.ssq_job.specs.Begun.{BeginsAt};
+ghost use Rattle.ssq_job.specs.Causes.{end_of, progress_in};
+ghost use Rattle.ssq_job.specs.Ending.{IsUnopened};
 ghost use Rattle.ssq_job.specs.Entry.{Entry, Reads, sought_of};
 ghost use Rattle.ssq_job.specs.Faults.{IsJobFault, IsNoRefusal, LogRises, DiskRises, OutRises};
-ghost use Rattle.ssq_job.specs.Going.{end_of, progress_in, IsReadyFor};
+ghost use Rattle.ssq_job.specs.Going.{IsReadyFor};
 
 use crate::fault::JobFault;
 use ssq_open::{Opened, Wanted, open};
@@ -50,7 +52,7 @@ pub(crate) fn open_job<D: Disk>(
     text: &Text,
     lines: u64,
 ) -> Result<Progress, JobFault>
-    ensures opened { D.tells → OnOk result (WasOpened text.now lines (files_now (D.history disk.old))) }
+    ensures opened { D.tells → IfOk result (BeginsAt text.now lines (files_now (D.history disk.old))) }
     ensures ready { D.tells → (job : Job) → job.text ≡ text.now → (entry : Entry) → Reads job entry (files_now (D.history disk.old)) →
         IfOk result (λ progress. IsReadyFor job lines entry.cuts entry.planned entry.committed progress (D.history disk.new)) }
     ensures synced { D.tells → OnOk result (SyncedSince (D.history disk.old) (D.history disk.new) (IsBegun (sought_of text.now lines) (files_now (D.history disk.old)))) }

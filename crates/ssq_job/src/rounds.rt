@@ -5,7 +5,10 @@ ghost use Rattle.std.specs.Option.{ForSome};
 ghost use Rattle.ssq_json.specs.RowText.{names_of};
 ghost use Rattle.ssq_meaning.specs.Meaning.{layout_of};
 ghost use Rattle.ssq_shape.specs.Plain.{output_names};
+ghost use Rattle.ssq_round.specs.Causes.{HasRead};
+ghost use Rattle.ssq_round.specs.Cutting.{planned_end};
 ghost use Rattle.ssq_round.specs.Standing.{IsJobOf};
+ghost use Rattle.ssq_job.specs.Causes.{FaultReason, JobReason};
 ghost use Rattle.ssq_job.specs.Ending.{Given, IsUnput, RoundsEnd};
 ghost use Rattle.ssq_job.specs.Entry.{Entry};
 ghost use Rattle.ssq_job.specs.Faults.{IsJobFault, IsNoRefusal, LogRises, DiskRises, OutRises};
@@ -78,6 +81,10 @@ fn next_round<D: Disk, L: Log, O: Output>(
     ensures disk_cause { IfErr result (DiskRises (D.faults disk.old) (D.faults disk.new)) }
     ensures log_cause { IfErr result (LogRises (L.faults log.old) (L.faults log.new)) }
     ensures out_cause { IfErr result (OutRises (O.faults out.old) (O.faults out.new)) }
+    ensures read { L.tells → progress.old.end ≤ planned_end progress.old →
+        OnOk result (HasRead prepared.now.bound (L.lines log.old) (L.shown log.old) (L.shown log.new) progress.old progress.new) }
+    ensures reason { L.tells → progress.old.end ≤ planned_end progress.old → planned_end progress.old ≤ L.shown log.old →
+        IfErr result (FaultReason prepared.now.bound (L.lines log.old) (L.shown log.old) (L.shown log.new) progress.old) }
 {
     run_round(alloc, disk, log, prepared, most, progress, told)?;
     put_lines(out, told)
@@ -125,6 +132,11 @@ pub(crate) fn run_rounds<D: Disk, L: Log, O: Output>(
     ensures disk_cause { IfErr result (DiskRises (D.faults disk.old) (D.faults disk.new)) }
     ensures log_cause { IfErr result (LogRises (L.faults log.old) (L.faults log.new)) }
     ensures out_cause { IfErr result (OutRises (O.faults out.old) (O.faults out.new)) }
+    // Whatever the checkpoint holds, where no planned epoch ends before it begins, and the log has lost no line.
+    ensures read { L.tells → progress.end ≤ planned_end progress → planned_end progress ≤ L.shown log.old →
+        OnOk result (JobReason prepared.now.bound (L.lines log.old) (L.shown log.old) (L.shown log.new) progress None) }
+    ensures reason { L.tells → progress.end ≤ planned_end progress → planned_end progress ≤ L.shown log.old →
+        IfErr result (λ fault. JobReason prepared.now.bound (L.lines log.old) (L.shown log.old) (L.shown log.new) progress (Some fault)) }
 {
     let mut progress = progress;
     for _ in 0..ask.rounds {

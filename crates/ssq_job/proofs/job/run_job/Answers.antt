@@ -1,5 +1,6 @@
 use Rattle.std.proofs.Common.{◌≤◌, ◌∙◌, refl, sym, arith}
 use Rattle.std.proofs.lemmas.Result.{err_from_is_err_and}
+use Rattle.ssq_round.specs.Cutting.{planned_end}
 use Rattle.ssq_round.specs.Standing.{IsJobOf}
 use Rattle.ssq_job.specs.Ending.{Given}
 use Rattle.ssq_job.proofs.Always.{always_idle}
@@ -58,9 +59,12 @@ returns-clause-done g c = λ tells told job of_job text.
     let is = c.in_ok-found.ensures.found told in
     let of_job' : IsJobOf job c.args.prepared.now.bound (g.L.Log.lines c.see_lines.new.log) = record { same_query = of_job.same_query; same_lines = of_job.same_lines ∙ sym (c.see_lines.ensures.same told) } in
     let there : found ≤ g.L.Log.shown c.see_lines.new.log = omega (arith, is.0) in
-    run_done c.run_rounds.result given _ _ found _ _ _ _ c.args.text.now (c.see_lines.ensures.grown told) is.0 (c.run_rounds.ensures.grown told) c.in_ok-found.ensures.few text (c.in_ok-progress.ensures.opened tells)
+    let begins = c.in_ok-progress.ensures.opened tells in
+    let long : planned_end c.in_ok-progress.progress ≤ g.L.Log.shown c.see_lines.new.log = omega (arith, begins.long, is.0) in
+    run_done c.run_rounds.result given _ _ found _ _ _ _ c.args.text.now (c.see_lines.ensures.grown told) is.0 (c.run_rounds.ensures.grown told) c.in_ok-found.ensures.few text
     (λ entry reads. c.run_rounds.ensures.done tells told given entry found of_job' refl refl c.requires.untold there
     (so_begins_at given entry found c.in_ok-progress.progress _ g.O.Output.tells c.args.text.now reads c.in_ok-found.ensures.few (c.in_ok-progress.ensures.ready tells job text entry reads) text (c.in_ok-progress.ensures.synced tells) (c.open_job.ensures.stay tells)))
+    _ _ c.in_ok-progress.progress of_job' begins (c.run_rounds.ensures.read told begins.ahead long)
 
 pub returns-clause-stop : goal.returns-clause-stop
 returns-clause-stop g c = λ tells told job of_job text.
@@ -69,9 +73,12 @@ returns-clause-stop g c = λ tells told job of_job text.
     let is = c.in_ok-found.ensures.found told in
     let of_job' : IsJobOf job c.args.prepared.now.bound (g.L.Log.lines c.see_lines.new.log) = record { same_query = of_job.same_query; same_lines = of_job.same_lines ∙ sym (c.see_lines.ensures.same told) } in
     let there : found ≤ g.L.Log.shown c.see_lines.new.log = omega (arith, is.0) in
-    run_stop c.run_rounds.result given _ _ found _ _ _ _ c.args.text.now (c.see_lines.ensures.grown told) is.0 (c.run_rounds.ensures.grown told) c.in_ok-found.ensures.few text (c.in_ok-progress.ensures.opened tells)
+    let begins = c.in_ok-progress.ensures.opened tells in
+    let long : planned_end c.in_ok-progress.progress ≤ g.L.Log.shown c.see_lines.new.log = omega (arith, begins.long, is.0) in
+    run_stop c.run_rounds.result given _ _ found _ _ _ _ c.args.text.now (c.see_lines.ensures.grown told) is.0 (c.run_rounds.ensures.grown told) c.in_ok-found.ensures.few text
     (λ entry reads. c.run_rounds.ensures.stop tells told given entry found of_job' refl refl c.requires.untold there
     (so_begins_at given entry found c.in_ok-progress.progress _ g.O.Output.tells c.args.text.now reads c.in_ok-found.ensures.few (c.in_ok-progress.ensures.ready tells job text entry reads) text (c.in_ok-progress.ensures.synced tells) (c.open_job.ensures.stay tells)))
+    _ _ c.in_ok-progress.progress of_job' begins (c.run_rounds.ensures.reason told begins.ahead long)
 
 pub returns-clause-always : goal.returns-clause-always
 returns-clause-always g c = λ tells told job of_job text.
@@ -80,14 +87,18 @@ returns-clause-always g c = λ tells told job of_job text.
     let is = c.in_ok-found.ensures.found told in
     let of_job' : IsJobOf job c.args.prepared.now.bound (g.L.Log.lines c.see_lines.new.log) = record { same_query = of_job.same_query; same_lines = of_job.same_lines ∙ sym (c.see_lines.ensures.same told) } in
     let there : found ≤ g.L.Log.shown c.see_lines.new.log = omega (arith, is.0) in
+    let begins = c.in_ok-progress.ensures.opened tells in
+    let long : planned_end c.in_ok-progress.progress ≤ g.L.Log.shown c.see_lines.new.log = omega (arith, begins.long, is.0) in
     let done =
-    run_done c.run_rounds.result given _ _ found _ _ _ _ c.args.text.now (c.see_lines.ensures.grown told) is.0 (c.run_rounds.ensures.grown told) c.in_ok-found.ensures.few text (c.in_ok-progress.ensures.opened tells)
+    run_done c.run_rounds.result given _ _ found _ _ _ _ c.args.text.now (c.see_lines.ensures.grown told) is.0 (c.run_rounds.ensures.grown told) c.in_ok-found.ensures.few text
     (λ entry reads. c.run_rounds.ensures.done tells told given entry found of_job' refl refl c.requires.untold there
-    (so_begins_at given entry found c.in_ok-progress.progress _ g.O.Output.tells c.args.text.now reads c.in_ok-found.ensures.few (c.in_ok-progress.ensures.ready tells job text entry reads) text (c.in_ok-progress.ensures.synced tells) (c.open_job.ensures.stay tells))) in
+    (so_begins_at given entry found c.in_ok-progress.progress _ g.O.Output.tells c.args.text.now reads c.in_ok-found.ensures.few (c.in_ok-progress.ensures.ready tells job text entry reads) text (c.in_ok-progress.ensures.synced tells) (c.open_job.ensures.stay tells)))
+    _ _ c.in_ok-progress.progress of_job' begins (c.run_rounds.ensures.read told begins.ahead long) in
     let stop =
-    run_stop c.run_rounds.result given _ _ found _ _ _ _ c.args.text.now (c.see_lines.ensures.grown told) is.0 (c.run_rounds.ensures.grown told) c.in_ok-found.ensures.few text (c.in_ok-progress.ensures.opened tells)
+    run_stop c.run_rounds.result given _ _ found _ _ _ _ c.args.text.now (c.see_lines.ensures.grown told) is.0 (c.run_rounds.ensures.grown told) c.in_ok-found.ensures.few text
     (λ entry reads. c.run_rounds.ensures.stop tells told given entry found of_job' refl refl c.requires.untold there
-    (so_begins_at given entry found c.in_ok-progress.progress _ g.O.Output.tells c.args.text.now reads c.in_ok-found.ensures.few (c.in_ok-progress.ensures.ready tells job text entry reads) text (c.in_ok-progress.ensures.synced tells) (c.open_job.ensures.stay tells))) in
+    (so_begins_at given entry found c.in_ok-progress.progress _ g.O.Output.tells c.args.text.now reads c.in_ok-found.ensures.few (c.in_ok-progress.ensures.ready tells job text entry reads) text (c.in_ok-progress.ensures.synced tells) (c.open_job.ensures.stay tells)))
+    _ _ c.in_ok-progress.progress of_job' begins (c.run_rounds.ensures.reason told begins.ahead long) in
     run_always c.run_rounds.result given _ _ _ _ _ done stop
 
 pub returns-clause-goes_on : goal.returns-clause-goes_on

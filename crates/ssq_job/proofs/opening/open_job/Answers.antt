@@ -4,8 +4,10 @@ use Rattle.std.proofs.lemmas.Result.{err_from_is_err_and}
 use Rattle.ssq_outside.specs.History.{files_now}
 use Rattle.ssq_open.specs.Opening.{IsOpen, IsRefused}
 use Rattle.ssq_round.specs.declared.progress.Progress.{Progress}
+use Rattle.ssq_job.specs.Begun.{BeginsAt}
 use Rattle.ssq_job.specs.Entry.{sought_of}
 use Rattle.ssq_job.specs.Going.{IsReadyFor}
+use Rattle.ssq_job.proofs.Causes.{open_begins}
 use Rattle.ssq_job.proofs.Ends.{outside_passes}
 use Rattle.ssq_job.proofs.Entries.{open_ready, stands_outside}
 use Rattle.ssq_job.proofs.opening.open_job.Goals as goal
@@ -28,3 +30,8 @@ returns-clause-ready g c = λ tells job same entry reads.
     let O : List ℕ → Type 0 = λ t. IsOpen (sought_of t c.args.lines) (files_now (g.D.Disk.history c.args.disk.now)) (g.D.Disk.history c.open.new.disk) c.in_ok-opened.opened in
     let P : Progress → Type 0 = λ q. IsReadyFor job c.args.lines entry.cuts entry.planned entry.committed q (g.D.Disk.history c.open.new.disk) in
     subst P (sym c.progress_of.ensures) (open_ready job c.args.lines entry (files_now (g.D.Disk.history c.args.disk.now)) c.in_ok-opened.opened (g.D.Disk.history c.open.new.disk) utf8 few reads (subst O (sym same) (c.in_ok-opened.ensures.opened tells)))
+
+pub returns-clause-opened : goal.returns-clause-opened
+returns-clause-opened g c = λ tells.
+    let P : Progress → Type 0 = BeginsAt c.args.text.now c.args.lines (files_now (g.D.Disk.history c.args.disk.now)) in
+    subst P (sym c.progress_of.ensures) (open_begins c.args.text.now c.args.lines _ _ c.in_ok-opened.opened (c.in_ok-opened.ensures.opened tells))

@@ -1,8 +1,10 @@
 use Rattle.std.proofs.Common.{◌≡◌, ◌≤◌, ℕ, [], string_bytes}
+use Rattle.ssq_round.specs.Cutting.{planned_end}
 use Rattle.ssq_round.specs.Standing.{IsJobOf}
 use Rattle.ssq_job.specs.Ending.{Given}
 use Rattle.ssq_job.specs.Entry.{Entry}
 use Rattle.ssq_job.specs.Going.{SoFar}
+use Rattle.ssq_job.proofs.Causes.{RoundsRead}
 use Rattle.ssq_job.proofs.Turns.{RoundsSoFar}
 use Rattle.ssq_job.proofs.rounds.run_rounds.Given as goal
 
@@ -18,4 +20,6 @@ invariant-loop g l = record {
   disk_counted : g.D.Disk.faults l.initial.disk ≤ g.D.Disk.faults l.disk;
   log_counted : g.L.Log.faults l.initial.log ≤ g.L.Log.faults l.log;
   out_counted : g.O.Output.faults l.initial.out ≤ g.O.Output.faults l.out;
+  read : g.L.Log.tells → l.initial.progress.end ≤ planned_end l.initial.progress → planned_end l.initial.progress ≤ g.L.Log.shown l.initial.log
+      → RoundsRead l.prepared.bound (g.L.Log.lines l.initial.log) l.counter (g.L.Log.shown l.initial.log) (g.L.Log.shown l.log) l.initial.progress l.progress;
 }
