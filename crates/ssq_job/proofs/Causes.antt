@@ -11,7 +11,7 @@ use Rattle.ssq_meaning.specs.declared.line.LineFault.TheVariants as line
 use Rattle.ssq_plans.specs.declared.part.PartEnd.{PartEnd}
 use Rattle.ssq_plans.specs.declared.plan.Plan.{Plan}
 use Rattle.ssq_open.specs.declared.wanted.Opened.{Opened}
-use Rattle.ssq_open.specs.Epochs.{follows, keeps_up, is_next, AreEpochs, IsPending, all_done, one_left}
+use Rattle.ssq_open.specs.Epochs.{follows, keeps_up, is_next, IsProgress, IsPending, all_done, one_left}
 use Rattle.ssq_open.specs.Opening.{last_ends, IsOpen, kept, begun}
 use Rattle.ssq_open.proofs.Passing.{one_end}
 use Rattle.ssq_round.specs.declared.fault.RoundFault.{RoundFault}
@@ -146,7 +146,7 @@ last_end ends None = refl
 last_end ends (Some plan) = refl
 
 -- the planned epoch does not end before it begins
-left_ahead : (files : Files) (first : List PartEnd) (n k : ℕ) (ends : List PartEnd) (pending : Option Plan) → AreEpochs files first n k ends pending → IsPending files n k pending
+left_ahead : (files : Files) (first : List PartEnd) (n k : ℕ) (ends : List PartEnd) (pending : Option Plan) → IsProgress files first n k ends pending → IsPending files n k pending
     → end_of ends ≤ end_of (last_ends ends pending)
 left_ahead files first n k ends pending epochs (all_done all none) =
     let same : end_of (last_ends ends pending) ≡ end_of ends = ap (λ p. end_of (last_ends ends p)) none in omega (arith, same)
@@ -163,7 +163,7 @@ pub open_begins : (text : List ℕ) (lines : ℕ) (files : Files) (now : History
 open_begins text lines files now opened (kept passes settled) =
     let last = last_end opened.ends opened.pending in
     let found : end_of (last_ends opened.ends opened.pending) ≤ lines = ends_found (last_ends opened.ends opened.pending) lines passes.long in
-    let ahead = left_ahead files _ passes.planned opened.committed opened.ends opened.pending passes.epochs passes.epochs.left in
+    let ahead = left_ahead files _ passes.planned opened.committed opened.ends opened.pending passes.epochs.progress passes.epochs.progress.left in
     record {
       opened = record { held = opened; passed = inl passes };
       is = refl;

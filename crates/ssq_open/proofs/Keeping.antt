@@ -9,7 +9,7 @@ use Rattle.ssq_plans.specs.declared.part.PartEnd.{PartEnd}
 use Rattle.ssq_plans.specs.declared.plan.Plan.{Plan}
 use Rattle.ssq_open.specs.declared.fault.OpenFault.{OpenFault}
 use Rattle.ssq_open.specs.declared.fault.OpenFault.TheVariants.{OtherQuery, OtherPartitions, OtherParts, LogShort, Damaged, DiskFault, NoMemory}
-use Rattle.ssq_open.specs.Epochs.{IsThere, IsGoodPlan, IsGoodCommit, IsUnmarked, IsSinkRight, ArePlans, AreCommits, IsProgress}
+use Rattle.ssq_open.specs.Epochs.{IsThere, IsGoodPlan, IsGoodCommit, IsSinkRight, ArePlans, AreCommits, IsProgress}
 use Rattle.ssq_open.specs.Refused.{PlansRefuse, CommitsRefuse, CommitsPassed, MarkRefuses, SinksRefuse, StateRefuses, in_plans, in_commits, in_watermarks, ProgressRefuses, of_progress, in_sinks, in_state, EpochsRefuse}
 
 -- what the names say of how many epochs are planned, and how many of these are committed
