@@ -64,7 +64,7 @@ fn query(alloc: Global, reader: &mut Reader<'_>) -> Result<Query, QueryFault>
 ///
 /// [`QueryFault::NotYet`] exactly where the file is no such query: it is longer than 65,536 bytes, no UTF-8 or not
 /// cut into tokens, its tokens are not of the grammar, a name is unknown or given twice, a stream has over 64 columns
-/// or the query over 64 items, or a sum is higher than 64.
+/// or the query over 64 items, a sum is higher than 64, or what is added or compared is of types that do not go together.
 pub fn read_query(alloc: Global, file: &[u8]) -> Result<Query, QueryFault>
     ensures taken { IfOk result (IsWritten file.now) }
     ensures refused { IsErrOf result QueryFault.NotYet → IsNoQuery file.now }
