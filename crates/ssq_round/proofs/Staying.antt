@@ -1,5 +1,5 @@
 -- What an epoch publishes stands at a name where nothing else stands.
-use Rattle.std.proofs.Common.{◌≡◌, ◌+◌, ◌≤◌, ◌∙◌, ℕ, List, Some, ap, sym, inl, inr, arith}
+use Rattle.std.proofs.Common.{◌≡◌, ◌∙◌, ℕ, List, Some, ap, sym, inl, inr, arith}
 use Rattle.std.proofs.lemmas.Bool.{cases_lt}
 use Rattle.ssq_outside.specs.declared.name.Name.TheVariants as name
 use Rattle.ssq_outside.specs.Files.{Files}
