@@ -214,7 +214,7 @@ job_allowed L given entry known now OutTells written told end reads room goes (u
 job_allowed L given entry known now OutTells written told end reads room goes (unopened found fault is log not wrote tells) =
     let same : end ≡ Some (fault_of_open not.why) = is ∙ ap Some not.is in
     allowed_at L end (fault_of_open not.why) same (open_allowed L not.why (subst GoesOn same goes))
-job_allowed L given entry known now OutTells written told end reads room goes (job_ran found log was end_of) = rounds_allowed L given entry found known now OutTells written told end room (end_of entry reads)
+job_allowed L given entry known now OutTells written told end reads room goes (job_ran found log was end_of why) = rounds_allowed L given entry found known now OutTells written told end room (end_of entry reads)
 
 -- ---- the program
 
