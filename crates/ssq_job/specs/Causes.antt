@@ -24,8 +24,8 @@ progress_in opened = record { committed = opened.committed; end = end_of opened.
 
 -- Why rounds stop that began at this progress, over a log of which so many lines were known before and so many are known now. A bad
 -- line or an overflow is the first faulty line from the end of the committed epochs on, with what is wrong. The checkpoint is
--- refused no more, and the log is not short. Too many lines were there; or so many epochs are committed, each of which was planned
--- before or has a line behind those. A fault of the outside may come at any time.
+-- refused no more, and the log is not short. Too many lines were there; or the epochs that were planned before, and the lines behind
+-- them, are as many as epochs may be planned, since each further one has a line. A fault of the outside may come at any time.
 abbrev pub FaultReason : Bound → List Line → ℕ → ℕ → Progress → JobFault → Type 0
 FaultReason query lines known known_now from (OtherQuery kept) = ⊥
 FaultReason query lines known known_now from (OtherPartitions kept asked) = ⊥

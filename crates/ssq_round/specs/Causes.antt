@@ -34,8 +34,8 @@ EpochReason query lines from end number known NoMemory = ⊤
 
 -- Why a round stops that began at this progress, over a log of which so many lines were known before and so many are known now: the
 -- first faulty line from the end of the committed epochs on, with what is wrong; fewer lines than the planned epochs cover, and no
--- fewer than were known; too many lines; that so many epochs are committed, each of which was planned before or has a line behind
--- those; or a fault of the outside.
+-- fewer than were known; too many lines; that the epochs which were planned before, and the lines behind them, are as many as epochs
+-- may be planned, since each further one has a line; or a fault of the outside.
 abbrev pub RoundReason : Bound → List Line → ℕ → ℕ → Progress → RoundFault → Type 0
 RoundReason query lines known known_now from (Bad offset cause) = IsFirstFrom query lines from.end offset (line.Bad cause)
 RoundReason query lines known known_now from (Overflow offset) = IsFirstFrom query lines from.end offset line.Overflow
