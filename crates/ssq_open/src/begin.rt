@@ -8,7 +8,7 @@ ghost use Rattle.ssq_core.specs.Settled.{IsSettledAs, IsEither};
 ghost use Rattle.ssq_core.specs.Staying.{FilesStay};
 ghost use Rattle.ssq_open.specs.Fault.{DiskRises};
 ghost use Rattle.ssq_open.specs.Opening.{CanBeSought, first_meta, only_meta, IsFirst, IsOutside};
-ghost use Rattle.ssq_open.specs.Sought.{Sought};
+ghost use Rattle.ssq_open.specs.Sought.{sought};
 
 use crate::cuts::starts;
 use crate::fault::OpenFault;
@@ -21,7 +21,7 @@ use std::alloc::{AllocError, Global};
 
 /// What a new checkpoint of the job holds.
 fn first_opened(alloc: Global, wanted: &Wanted<'_>) -> Result<Opened, AllocError>
-    ensures { IfOk result (IsFirst (record { query = wanted.now.query.now; partitions = wanted.now.partitions; parts = wanted.now.parts.now; found = wanted.now.found.now })) }
+    ensures { IfOk result (IsFirst (sought wanted.now)) }
 {
     let parts = Sequence::from_vec(Vec::from_slice(alloc, wanted.parts)?);
     let ends = starts(alloc, wanted.found)?;
@@ -47,11 +47,11 @@ pub(crate) fn begin<D: Disk>(
     wanted: &Wanted<'_>,
 ) -> Result<Opened, OpenFault>
     requires { CanBeSought wanted.now.partitions wanted.now.parts.now }
-    ensures first { IfOk result (IsFirst (record { query = wanted.now.query.now; partitions = wanted.now.partitions; parts = wanted.now.parts.now; found = wanted.now.found.now })) }
+    ensures first { IfOk result (IsFirst (sought wanted.now)) }
     ensures settled { D.tells → (files : Files) → IsEmpty files → IsSettledAs (D.history disk.old) files →
-        OnOk result (IsSettledAs (D.history disk.new) (only_meta (first_meta (record { query = wanted.now.query.now; partitions = wanted.now.partitions; parts = wanted.now.parts.now; found = wanted.now.found.now })))) }
+        OnOk result (IsSettledAs (D.history disk.new) (only_meta (first_meta (sought wanted.now)))) }
     ensures any_moment { D.tells → (files : Files) → IsEmpty files → IsSettledAs (D.history disk.old) files →
-        LeavesOnly (D.history disk.old) (D.history disk.new) (IsEither files (only_meta (first_meta (record { query = wanted.now.query.now; partitions = wanted.now.partitions; parts = wanted.now.parts.now; found = wanted.now.found.now })))) }
+        LeavesOnly (D.history disk.old) (D.history disk.new) (IsEither files (only_meta (first_meta (sought wanted.now)))) }
     ensures stay { D.tells → IsEmpty (files_now (D.history disk.old)) → FilesStay (D.history disk.old) (D.history disk.new) }
     ensures outside { IfErr result IsOutside }
     ensures counted { D.faults disk.old ≤ D.faults disk.new }

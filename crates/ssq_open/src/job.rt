@@ -3,7 +3,7 @@
 ghost use Rattle.std.specs.Prelude.{◌≡◌, ◌≢◌, ◌↔◌, ◌<◌, ◌≤◌, ℕ, length, slice_index, IfOk, IfErr, IfSome, IfNone, IsTrue};
 ghost use Rattle.ssq_outside.specs.History.{files_now};
 ghost use Rattle.ssq_open.specs.Fault.{DiskRises};
-ghost use Rattle.ssq_open.specs.Sought.{Sought, IsJob};
+ghost use Rattle.ssq_open.specs.Sought.{IsJob, sought};
 ghost use Rattle.ssq_open.specs.Spelled.{IsTheMeta};
 ghost use Rattle.ssq_open.specs.Looking.{IsOf, QueryDiffers, MetaRefuses};
 ghost use Rattle.ssq_open.specs.Refused.{JobDiffers, JobRefuses};
@@ -78,8 +78,8 @@ pub(crate) fn kept_query<D: Disk>(
 fn same_job(meta: Meta, wanted: &Wanted<'_>) -> Result<Meta, OpenFault>
     requires { IsOf wanted.now.query.now (length wanted.now.parts.now) meta }
     ensures same { IfOk result (λ kept. kept ≡ meta) }
-    ensures job { IfOk result (IsJob (record { query = wanted.now.query.now; partitions = wanted.now.partitions; parts = wanted.now.parts.now; found = wanted.now.found.now })) }
-    ensures differs { IfErr result (JobDiffers (record { query = wanted.now.query.now; partitions = wanted.now.partitions; parts = wanted.now.parts.now; found = wanted.now.found.now }) meta) }
+    ensures job { IfOk result (IsJob (sought wanted.now)) }
+    ensures differs { IfErr result (JobDiffers (sought wanted.now) meta) }
 {
     if let Some(asked) = wanted.partitions {
         if asked != meta.partitions {
@@ -106,8 +106,8 @@ pub(crate) fn kept_job<D: Disk>(
     wanted: &Wanted<'_>,
 ) -> Result<Meta, OpenFault>
     ensures kept { D.tells → IfOk result (IsTheMeta (files_now (D.history disk.old))) }
-    ensures job { IfOk result (IsJob (record { query = wanted.now.query.now; partitions = wanted.now.partitions; parts = wanted.now.parts.now; found = wanted.now.found.now })) }
-    ensures refused { D.tells → IfErr result (JobRefuses (record { query = wanted.now.query.now; partitions = wanted.now.partitions; parts = wanted.now.parts.now; found = wanted.now.found.now }) (files_now (D.history disk.old))) }
+    ensures job { IfOk result (IsJob (sought wanted.now)) }
+    ensures refused { D.tells → IfErr result (JobRefuses (sought wanted.now) (files_now (D.history disk.old))) }
     ensures same { D.tells → D.history disk.new ≡ D.history disk.old }
     ensures counted { D.faults disk.old ≤ D.faults disk.new }
     ensures cause { IfErr result (λ fault. DiskRises fault (D.faults disk.old) (D.faults disk.new)) }

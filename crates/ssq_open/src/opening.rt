@@ -6,7 +6,7 @@ ghost use Rattle.ssq_outside.specs.History.{had_now, files_now, LeavesOnly};
 ghost use Rattle.ssq_core.specs.Staying.{FilesStay};
 ghost use Rattle.ssq_open.specs.Fault.{DiskRises};
 ghost use Rattle.ssq_open.specs.Opening.{CanBeSought, Passes, Refuses, IsOpen, IsRefused, IsImageOpening, SyncedSince, IsBegun, IsOpening};
-ghost use Rattle.ssq_open.specs.Sought.{Sought};
+ghost use Rattle.ssq_open.specs.Sought.{sought};
 
 use crate::begin::begin;
 use crate::cuts::starts;
@@ -27,9 +27,9 @@ fn kept<D: Disk>(
     wanted: &Wanted<'_>,
 ) -> Result<Opened, OpenFault>
     ensures passes { D.tells → AreNames (files_now (D.history disk.old)) names.now →
-        IfOk result (Passes (record { query = wanted.now.query.now; partitions = wanted.now.partitions; parts = wanted.now.parts.now; found = wanted.now.found.now }) (files_now (D.history disk.old))) }
+        IfOk result (Passes (sought wanted.now) (files_now (D.history disk.old))) }
     ensures refused { D.tells → AreNames (files_now (D.history disk.old)) names.now →
-        IfErr result (Refuses (record { query = wanted.now.query.now; partitions = wanted.now.partitions; parts = wanted.now.parts.now; found = wanted.now.found.now }) (files_now (D.history disk.old))) }
+        IfErr result (Refuses (sought wanted.now) (files_now (D.history disk.old))) }
     ensures same { D.tells → D.history disk.new ≡ D.history disk.old }
     ensures counted { D.faults disk.old ≤ D.faults disk.new }
     ensures cause { IfErr result (λ fault. DiskRises fault (D.faults disk.old) (D.faults disk.new)) }
@@ -65,19 +65,19 @@ pub fn open<D: Disk>(alloc: Global, disk: &mut D, wanted: &Wanted<'_>) -> Result
     requires { CanBeSought wanted.now.partitions wanted.now.parts.now }
 
     // What is found is settled, and no crash can leave anything else.
-    ensures opened { D.tells → IfOk result (IsOpen (record { query = wanted.now.query.now; partitions = wanted.now.partitions; parts = wanted.now.parts.now; found = wanted.now.found.now })
+    ensures opened { D.tells → IfOk result (IsOpen (sought wanted.now)
         (files_now (D.history disk.old)) (D.history disk.new)) }
-    ensures refused { D.tells → IfErr result (IsRefused (record { query = wanted.now.query.now; partitions = wanted.now.partitions; parts = wanted.now.parts.now; found = wanted.now.found.now })
+    ensures refused { D.tells → IfErr result (IsRefused (sought wanted.now)
         (files_now (D.history disk.old)) (files_now (D.history disk.new))) }
 
     // A crash at any moment leaves what it might have left before, or, of an empty checkpoint, the job's record alone.
     ensures any_moment { D.tells → LeavesOnly (D.history disk.old) (D.history disk.new)
-        (IsImageOpening (record { query = wanted.now.query.now; partitions = wanted.now.partitions; parts = wanted.now.parts.now; found = wanted.now.found.now }) (had_now (D.history disk.old))) }
+        (IsImageOpening (sought wanted.now) (had_now (D.history disk.old))) }
 
     // Once the names are synced a crash leaves the files as they were, or, of an empty checkpoint, the job's record alone.
     ensures synced { D.tells → OnOk result (SyncedSince (D.history disk.old) (D.history disk.new)
-        (IsBegun (record { query = wanted.now.query.now; partitions = wanted.now.partitions; parts = wanted.now.parts.now; found = wanted.now.found.now }) (files_now (D.history disk.old)))) }
-    ensures unfinished { D.tells → OnErr result (IsOpening (record { query = wanted.now.query.now; partitions = wanted.now.partitions; parts = wanted.now.parts.now; found = wanted.now.found.now })
+        (IsBegun (sought wanted.now) (files_now (D.history disk.old)))) }
+    ensures unfinished { D.tells → OnErr result (IsOpening (sought wanted.now)
         (D.history disk.old) (D.history disk.new)) }
 
     // No file that was there is removed or changed.

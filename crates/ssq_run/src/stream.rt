@@ -84,13 +84,10 @@ fn work<D: Disk, I: Inputs, O: Output>(
         Ok(
             Command::Run {
                 query,
-                most_lines,
+                most_lines: most,
                 rounds,
             },
-        ) => {
-            let most = most_lines;
-            run_file(alloc, disk, inputs, out, query, Ask { most, rounds }, told)
-        }
+        ) => run_file(alloc, disk, inputs, out, query, Ask { most, rounds }, told),
         Ok(Command::Status { query }) => {
             let query = read_file(alloc, inputs, query)?;
             *told = status(alloc, disk, query)?;

@@ -3,7 +3,7 @@ use Rattle.std.proofs.lemmas.Result.{err_from_is_err_and}
 use Rattle.ssq_outside.specs.Files.{AreNames}
 use Rattle.ssq_outside.specs.History.{History, files_now}
 use Rattle.ssq_plans.specs.declared.part.PartEnd.{PartEnd}
-use Rattle.ssq_open.specs.Sought.{Sought}
+use Rattle.ssq_open.specs.Sought.{Sought, sought}
 use Rattle.ssq_open.specs.Epochs.{starts}
 use Rattle.ssq_open.specs.Refused.{EpochsRefuse}
 use Rattle.ssq_open.proofs.Opens.{epochs_refused}
@@ -12,7 +12,7 @@ use Rattle.ssq_open.proofs.opening.kept.Goals as goal
 pub returns-in_err-epochs-clause-refused : goal.returns-in_err-epochs-clause-refused
 returns-in_err-epochs-clause-refused g c = λ tells are.
     let p = err_from_is_err_and c.from_residual-in_err-epochs.result c.from_residual-in_err-epochs.ensures.1 in
-    let s : Sought = record { query = c.args.wanted.now.query.now; partitions = c.args.wanted.now.partitions; parts = c.args.wanted.now.parts.now; found = c.args.wanted.now.found.now } in
+    let s : Sought = sought c.args.wanted.now in
     let A : History → Type 0 = λ h. AreNames (files_now h) c.args.names.now in
     let R : History → Type 0 = λ h. EpochsRefuse (files_now h) c.as_slice.result.now c.in_err-epochs.field-0.0 in
     let F : List PartEnd → Type 0 = λ first. EpochsRefuse (files_now (g.D.Disk.history c.args.disk.now)) first c.in_err-epochs.field-0.0 in

@@ -3,20 +3,20 @@ use Rattle.ssq_outside.specs.declared.name.Name.{Name}
 use Rattle.ssq_outside.specs.Files.{Files, IsEmpty, AreNames, files_of}
 use Rattle.ssq_outside.specs.History.{History, had_now, files_now}
 use Rattle.ssq_core.proofs.Staying.{stay_same, stay_on, stay_synced}
-use Rattle.ssq_open.specs.Sought.{Sought}
+use Rattle.ssq_open.specs.Sought.{Sought, sought}
 use Rattle.ssq_open.specs.Opening.{IsImageOpening, unsynced, synced}
 use Rattle.ssq_open.proofs.Opens.{none_listed, empty_listed, no_items, some_item, settled_since, files_since, sync_leaves, begin_leaves, same_leaves, open_begun, refused_begun, open_kept, refused_kept, on_ok, on_err, sync_images, synced_still, synced_begun}
 use Rattle.ssq_open.proofs.opening.open.Goals as goal
 
 pub returns-in_err-sync_names-clause-any_moment : goal.returns-in_err-sync_names-clause-any_moment
-returns-in_err-sync_names-clause-any_moment g c = λ tells. sync_leaves (record { query = c.args.wanted.now.query.now; partitions = c.args.wanted.now.partitions; parts = c.args.wanted.now.parts.now; found = c.args.wanted.now.found.now }) (g.D.Disk.history c.args.disk.now) (g.D.Disk.history c.sync_names.new.self) (g.D.Disk.history c.sync_names.new.self) (c.sync_names.ensures.steps tells) refl
+returns-in_err-sync_names-clause-any_moment g c = λ tells. sync_leaves (sought c.args.wanted.now) (g.D.Disk.history c.args.disk.now) (g.D.Disk.history c.sync_names.new.self) (g.D.Disk.history c.sync_names.new.self) (c.sync_names.ensures.steps tells) refl
 
 pub returns-in_err-names-clause-any_moment : goal.returns-in_err-names-clause-any_moment
-returns-in_err-names-clause-any_moment g c = λ tells. sync_leaves (record { query = c.args.wanted.now.query.now; partitions = c.args.wanted.now.partitions; parts = c.args.wanted.now.parts.now; found = c.args.wanted.now.found.now }) (g.D.Disk.history c.args.disk.now) (g.D.Disk.history c.sync_names.new.self) (g.D.Disk.history c.names.new.self) (c.sync_names.ensures.steps tells) (c.names.ensures.same tells)
+returns-in_err-names-clause-any_moment g c = λ tells. sync_leaves (sought c.args.wanted.now) (g.D.Disk.history c.args.disk.now) (g.D.Disk.history c.sync_names.new.self) (g.D.Disk.history c.names.new.self) (c.sync_names.ensures.steps tells) (c.names.ensures.same tells)
 
 pub returns-then-is_empty-clause-opened : goal.returns-then-is_empty-clause-opened
 returns-then-is_empty-clause-opened g c = λ tells.
-    let s : Sought = record { query = c.args.wanted.now.query.now; partitions = c.args.wanted.now.partitions; parts = c.args.wanted.now.parts.now; found = c.args.wanted.now.found.now } in
+    let s : Sought = sought c.args.wanted.now in
     let ok = c.in_ok-sync_names.ensures.ok tells in
     let P : Files → Type 0 = λ files. AreNames files c.in_ok-names.names.items in
     let are = subst P (ap files_of ok) (c.in_ok-names.ensures.found tells) in
@@ -26,7 +26,7 @@ returns-then-is_empty-clause-opened g c = λ tells.
 
 pub returns-then-is_empty-clause-refused : goal.returns-then-is_empty-clause-refused
 returns-then-is_empty-clause-refused g c = λ tells.
-    let s : Sought = record { query = c.args.wanted.now.query.now; partitions = c.args.wanted.now.partitions; parts = c.args.wanted.now.parts.now; found = c.args.wanted.now.found.now } in
+    let s : Sought = sought c.args.wanted.now in
     let ok = c.in_ok-sync_names.ensures.ok tells in
     let P : Files → Type 0 = λ files. AreNames files c.in_ok-names.names.items in
     let are = subst P (ap files_of ok) (c.in_ok-names.ensures.found tells) in
@@ -36,7 +36,7 @@ returns-then-is_empty-clause-refused g c = λ tells.
 
 pub returns-then-is_empty-clause-any_moment : goal.returns-then-is_empty-clause-any_moment
 returns-then-is_empty-clause-any_moment g c = λ tells.
-    let s : Sought = record { query = c.args.wanted.now.query.now; partitions = c.args.wanted.now.partitions; parts = c.args.wanted.now.parts.now; found = c.args.wanted.now.found.now } in
+    let s : Sought = sought c.args.wanted.now in
     let ok = c.in_ok-sync_names.ensures.ok tells in
     let P : Files → Type 0 = λ files. AreNames files c.in_ok-names.names.items in
     let are = subst P (ap files_of ok) (c.in_ok-names.ensures.found tells) in
@@ -46,7 +46,7 @@ returns-then-is_empty-clause-any_moment g c = λ tells.
 
 pub returns-clause-opened : goal.returns-clause-opened
 returns-clause-opened g c = λ tells.
-    let s : Sought = record { query = c.args.wanted.now.query.now; partitions = c.args.wanted.now.partitions; parts = c.args.wanted.now.parts.now; found = c.args.wanted.now.found.now } in
+    let s : Sought = sought c.args.wanted.now in
     let ok = c.in_ok-sync_names.ensures.ok tells in
     let since = files_since (g.D.Disk.history c.args.disk.now) (g.D.Disk.history c.sync_names.new.self) (g.D.Disk.history c.names.new.self) ok (c.names.ensures.same tells) in
     let settled = settled_since (g.D.Disk.history c.args.disk.now) (g.D.Disk.history c.sync_names.new.self) (g.D.Disk.history c.names.new.self) ok (c.names.ensures.same tells) in
@@ -58,7 +58,7 @@ returns-clause-opened g c = λ tells.
 
 pub returns-clause-refused : goal.returns-clause-refused
 returns-clause-refused g c = λ tells.
-    let s : Sought = record { query = c.args.wanted.now.query.now; partitions = c.args.wanted.now.partitions; parts = c.args.wanted.now.parts.now; found = c.args.wanted.now.found.now } in
+    let s : Sought = sought c.args.wanted.now in
     let ok = c.in_ok-sync_names.ensures.ok tells in
     let since = files_since (g.D.Disk.history c.args.disk.now) (g.D.Disk.history c.sync_names.new.self) (g.D.Disk.history c.names.new.self) ok (c.names.ensures.same tells) in
     let P : Files → Type 0 = λ files. AreNames files c.as_slice-2.result.now in
@@ -73,7 +73,7 @@ returns-clause-refused g c = λ tells.
 
 pub returns-clause-any_moment : goal.returns-clause-any_moment
 returns-clause-any_moment g c = λ tells.
-    let s : Sought = record { query = c.args.wanted.now.query.now; partitions = c.args.wanted.now.partitions; parts = c.args.wanted.now.parts.now; found = c.args.wanted.now.found.now } in
+    let s : Sought = sought c.args.wanted.now in
     same_leaves (IsImageOpening s (had_now (g.D.Disk.history c.args.disk.now))) (g.D.Disk.history c.args.disk.now) (g.D.Disk.history c.names.new.self) (g.D.Disk.history c.kept.new.disk) (sync_leaves s (g.D.Disk.history c.args.disk.now) (g.D.Disk.history c.sync_names.new.self) (g.D.Disk.history c.names.new.self) (c.sync_names.ensures.steps tells) (c.names.ensures.same tells)) (c.kept.ensures.same tells)
 
 pub returns-in_err-sync_names-clause-unfinished : goal.returns-in_err-sync_names-clause-unfinished
@@ -81,7 +81,7 @@ returns-in_err-sync_names-clause-unfinished g c = λ tells. on_err c.from_residu
 
 pub returns-in_err-names-clause-unfinished : goal.returns-in_err-names-clause-unfinished
 returns-in_err-names-clause-unfinished g c = λ tells.
-    let s : Sought = record { query = c.args.wanted.now.query.now; partitions = c.args.wanted.now.partitions; parts = c.args.wanted.now.parts.now; found = c.args.wanted.now.found.now } in
+    let s : Sought = sought c.args.wanted.now in
     let h0 = g.D.Disk.history c.args.disk.now in
     let h1 = g.D.Disk.history c.sync_names.new.self in
     let h2 = g.D.Disk.history c.names.new.self in
@@ -91,7 +91,7 @@ returns-in_err-names-clause-unfinished g c = λ tells.
 
 pub returns-then-is_empty-clause-synced : goal.returns-then-is_empty-clause-synced
 returns-then-is_empty-clause-synced g c = λ tells.
-    let s : Sought = record { query = c.args.wanted.now.query.now; partitions = c.args.wanted.now.partitions; parts = c.args.wanted.now.parts.now; found = c.args.wanted.now.found.now } in
+    let s : Sought = sought c.args.wanted.now in
     let h0 = g.D.Disk.history c.args.disk.now in
     let h1 = g.D.Disk.history c.sync_names.new.self in
     let h2 = g.D.Disk.history c.names.new.self in
@@ -105,7 +105,7 @@ returns-then-is_empty-clause-synced g c = λ tells.
 
 pub returns-then-is_empty-clause-unfinished : goal.returns-then-is_empty-clause-unfinished
 returns-then-is_empty-clause-unfinished g c = λ tells.
-    let s : Sought = record { query = c.args.wanted.now.query.now; partitions = c.args.wanted.now.partitions; parts = c.args.wanted.now.parts.now; found = c.args.wanted.now.found.now } in
+    let s : Sought = sought c.args.wanted.now in
     let h0 = g.D.Disk.history c.args.disk.now in
     let h1 = g.D.Disk.history c.sync_names.new.self in
     let h2 = g.D.Disk.history c.names.new.self in
@@ -119,7 +119,7 @@ returns-then-is_empty-clause-unfinished g c = λ tells.
 
 pub returns-clause-synced : goal.returns-clause-synced
 returns-clause-synced g c = λ tells.
-    let s : Sought = record { query = c.args.wanted.now.query.now; partitions = c.args.wanted.now.partitions; parts = c.args.wanted.now.parts.now; found = c.args.wanted.now.found.now } in
+    let s : Sought = sought c.args.wanted.now in
     let h0 = g.D.Disk.history c.args.disk.now in
     let h1 = g.D.Disk.history c.sync_names.new.self in
     let h2 = g.D.Disk.history c.names.new.self in
@@ -130,7 +130,7 @@ returns-clause-synced g c = λ tells.
 
 pub returns-clause-unfinished : goal.returns-clause-unfinished
 returns-clause-unfinished g c = λ tells.
-    let s : Sought = record { query = c.args.wanted.now.query.now; partitions = c.args.wanted.now.partitions; parts = c.args.wanted.now.parts.now; found = c.args.wanted.now.found.now } in
+    let s : Sought = sought c.args.wanted.now in
     let h0 = g.D.Disk.history c.args.disk.now in
     let h1 = g.D.Disk.history c.sync_names.new.self in
     let h2 = g.D.Disk.history c.names.new.self in
