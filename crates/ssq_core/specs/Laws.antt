@@ -3,9 +3,11 @@
 use Rattle.std.specs.Prelude.{◌≡◌, ◌<◌, ◌+◌, ℕ}
 use Rattle.ssq_outside.specs.declared.name.Name.TheVariants as name
 use Rattle.ssq_outside.specs.Files.{Files, IsEmpty, published}
+use Rattle.ssq_outside.specs.History.{History, LeavesOnly}
 use Rattle.ssq_plans.specs.Records.{meta_text, plan_text, commit_text}
 use Rattle.ssq_core.specs.Course.{Course, plan_of, commit_of, AgreeUpTo}
 use Rattle.ssq_core.specs.Standing.{files_at, Stands}
+use Rattle.ssq_core.specs.Staying.{WasSettled, Keeps}
 
 -- the job's record is published where there is no file
 abbrev pub BeginsACourse : Type 0
@@ -56,3 +58,7 @@ pub record AreSame (one other : Course) (files : Files) (s : Stands one files) (
 
 abbrev pub FilesSayTheirCourse : Type 0
 FilesSayTheirCourse = (one other : Course) (files : Files) (s : Stands one files) (t : Stands other files) → AreSame one other files s t
+
+-- Files that were settled at a moment are in each image that a crash might have left from that moment on.
+abbrev pub SettledFilesStay : Type 0
+SettledFilesStay = (start now : History) (files : Files) (was : WasSettled start now files) → LeavesOnly was.at now (Keeps files)

@@ -1,6 +1,6 @@
 //! What holds of the files of courses.
 
-ghost use Rattle.ssq_core.specs.Laws.{BeginsACourse, PlansTheNext, WritesTheNext, WritesAgain, CommitsTheNext, StandsAtEachStep, HasFilesUpTo, FilesSayTheirCourse};
+ghost use Rattle.ssq_core.specs.Laws.{BeginsACourse, PlansTheNext, WritesTheNext, WritesAgain, CommitsTheNext, StandsAtEachStep, HasFilesUpTo, FilesSayTheirCourse, SettledFilesStay};
 
 /// The law of steps: what each step of an epoch publishes leads from the files of a course to its next files, and these
 /// stand for it. Rows that are written may be published again: that changes nothing.
@@ -21,4 +21,10 @@ pub fn courses_have_files()
 /// The law of files: files that stand say how many epochs are planned, committed and written, and what each of them holds.
 pub fn files_say_their_course()
     ensures { FilesSayTheirCourse }
+{}
+
+/// The law of what is settled: each image that a crash might have left since some files were settled has them, where no file was
+/// removed or changed.
+pub fn settled_files_stay()
+    ensures { SettledFilesStay }
 {}
