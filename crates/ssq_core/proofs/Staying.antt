@@ -162,9 +162,9 @@ settling_stays h0 h1 h2 name bytes text other same spelled step =
     let Here : List ℕ → Type 0 = λ b. IsNoOther (files_now h0) name b in
     stay_on h0 h1 h2 (stay_same h0 h1 same) (stay_published h1 h2 name text step (subst Other (sym same) (subst Here (sym spelled) other)))
 
--- nothing was done since
-pub was_settled_now : (start now : History) (files : Files) → FilesStay start now → IsSettledAs now files → WasSettled start now files
-was_settled_now start now files stays settled = record { at = now; since = stays; settled = settled; stays = stay_here now }
+-- it was settled at this moment
+pub was_settled_at : (start mid now : History) (files : Files) → FilesStay start mid → IsSettledAs mid files → FilesStay mid now → WasSettled start now files
+was_settled_at start mid now files since settled stays = record { at = mid; since = since; settled = settled; stays = stays }
 
 -- more was done before, and more since
 pub was_settled_within : (before start now after : History) (files : Files) → FilesStay before start → WasSettled start now files → FilesStay now after → WasSettled before after files

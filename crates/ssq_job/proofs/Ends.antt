@@ -79,6 +79,7 @@ so_begins given entry found progress now OutTells reads few ready run stays =
       bound = ready.long;
       few = few;
       moments = subst M (sym ready.is_planned) (record { at = run.at; before = run.before; settled = run.settled; since = weaker P Q run.at now run.since (λ f is. begun_yet given.job found entry old f reads is) });
+      settled = λ e low high. absurd (omega (arith, low, high));
       stay = stays;
       wrote = λ t. sym (append-nil given.written);
       done = λ some. absurd (omega (arith, some));

@@ -9,17 +9,18 @@ use Rattle.ssq_meaning.specs.Meaning.{Cuts}
 use Rattle.ssq_core.specs.Settled.{IsSettledAs}
 use Rattle.ssq_core.specs.Standing.{files_at}
 use Rattle.ssq_core.specs.Staying.{FilesStay}
-use Rattle.ssq_core.proofs.Staying.{stay_on}
+use Rattle.ssq_core.proofs.Staying.{stay_here, stay_on}
 use Rattle.ssq_open.specs.Opening.{SyncedSince}
 use Rattle.ssq_round.specs.declared.fault.RoundFault.{RoundFault}
 use Rattle.ssq_round.specs.declared.fault.RoundFault.TheVariants as round
 use Rattle.ssq_round.specs.declared.progress.Progress.{Progress}
 use Rattle.ssq_round.specs.Cutting.{continued, planned_with, planned_in, end_with, planned_end}
-use Rattle.ssq_round.specs.Epochs.{IsReady}
+use Rattle.ssq_round.specs.Epochs.{IsReady, SettledInSteps}
 use Rattle.ssq_round.specs.Faults.{most_lines}
 use Rattle.ssq_round.specs.Rounds.{SeeCause, StopCause, IsEnough, IsStopped, IsUnseen, RoundDone, RoundStop, stopped as at_epoch, unseen as at_log}
 use Rattle.ssq_round.specs.Standing.{Job, course_of, StandsBetween}
 use Rattle.ssq_round.specs.Told.{told_from}
+use Rattle.ssq_round.proofs.Settled.{steps_within, steps_since, steps_same}
 use Rattle.ssq_round.proofs.Standing.{between, wider, settled_leaves}
 use Rattle.ssq_job.specs.declared.fault.JobFault.{JobFault}
 use Rattle.ssq_job.specs.declared.fault.JobFault.TheVariants.{NoMemory}
@@ -70,12 +71,33 @@ planned_below : (job : Job) (cuts : Cuts) (sinks : ℕ) (from : Progress) (now :
     → (e : ℕ) → e ≤ planned_in from → cuts e ≤ seen
 planned_below job cuts sinks from now seen ready all e le = omega (arith, proper_le cuts (planned_in from) ready.standing.proper e le, ready.plans, all)
 
+-- an epoch that is not committed yet, and was not planned when the run began, is not planned yet
+unplanned : (before committed first planned : ℕ) (rounds : List Round) → epochs_after before rounds ≡ planned → epochs_after first rounds ≡ committed → (e : ℕ) → committed ≤ e → before ≤ e → planned ≤ e
+unplanned before committed first planned [] is at e low free = omega (arith, is, free)
+unplanned before committed first planned (round ∷ earlier) is at e low free = omega (arith, is, at, low)
+
+-- the epochs that were told before a round, and those that it told
+turn_settled : (given : Given) (entry : Entry) (found : ℕ) (rounds : List Round) (put : ℕ) (from : Progress) (mid now : History) (T : Type 0) (w : List ℕ) (seen epochs : ℕ) (next : Cuts)
+    → SoFar given entry found rounds put from mid T w → GoOn given.job (cuts_after given.most entry rounds) (planned_in from) seen next
+    → ((e : ℕ) → from.committed ≤ e → e < from.committed + epochs → SettledInSteps given.job next (planned_in from) e mid now) → FilesStay mid now
+    → (e : ℕ) → entry.committed ≤ e → e < entry.committed + (put + epochs) → SettledInSteps given.job next entry.planned e given.start now
+turn_settled given entry found rounds put from mid now T w seen epochs next so goes settled stays e low high = elim (cases_lt e from.committed) [
+  | inl old ↦
+      let reached = so.ready.standing.reached in
+      steps_same given.job (cuts_after given.most entry rounds) next entry.planned e given.start now (λ f le. goes.same f (omega (arith, le, old, reached.written_first, reached.planned_first)))
+      (steps_since given.job (cuts_after given.most entry rounds) entry.planned e given.start mid now (so.settled e low (omega (arith, old, so.all))) stays)
+  | inr new ↦
+      steps_within given.job next (planned_in from) entry.planned e given.start mid now now so.stay (settled e new (omega (arith, high, so.all)))
+      (unplanned entry.planned from.committed entry.committed (planned_in from) rounds so.planned so.committed e new) (stay_here now)
+]
+
 turn_left : (given : Given) (entry : Entry) (found : ℕ) (rounds : List Round) (put : ℕ) (from : Progress) (mid now : History) (T : Type 0) (w : List ℕ) (seen epochs most : ℕ) (next : Cuts)
     → SoFar given entry found rounds put from mid T w → GoOn given.job (cuts_after given.most entry rounds) (planned_in from) seen next → seen ≤ most_lines → planned_end from ≤ seen
     → planned_in from ≤ most → LeavesOnly mid now (StandsBetween given.job next (planned_in from) from.committed most)
-    → LeavesNow now (StandsBetween given.job next (planned_in from) (from.committed + epochs) most) → FilesStay mid now
+    → LeavesNow now (StandsBetween given.job next (planned_in from) (from.committed + epochs) most)
+    → ((e : ℕ) → from.committed ≤ e → e < from.committed + epochs → SettledInSteps given.job next (planned_in from) e mid now) → FilesStay mid now
     → Left given entry next (put + epochs) most now
-turn_left given entry found rounds put from mid now T w seen epochs most next so goes few all le in_round kept stays =
+turn_left given entry found rounds put from mid now T w seen epochs most next so goes few all le in_round kept settled stays =
     let K : ℕ → Type 0 = λ k. LeavesNow now (StandsBetween given.job next entry.planned k most) in
     let n : ℕ = planned_in from in
     let k : ℕ = from.committed + epochs in
@@ -87,6 +109,7 @@ turn_left given entry found rounds put from mid now T w seen epochs most next so
       small = λ e low. omega (arith, goes.below below e, few);
       moments = turn_moments given.job (cuts_after given.most entry rounds) next (planned_in from) seen entry.planned entry.committed from.committed most given.start mid now goes le so.on (omega (arith, so.all)) so.moments in_round;
       kept = subst K at (record { each = λ image is. wider given.job next n k most entry.planned k most image so.on (omega arith) (omega arith) (kept.each image is) });
+      settled = turn_settled given entry found rounds put from mid now T w seen epochs next so goes settled stays;
       stay = stay_on given.start mid now so.stay stays;
       sums = sums_upto given.job next most (goes.same 0 (omega arith) ∙ standing.starts) (λ e low. goes.rises (λ e low. omega (arith, standing.proper e low)) below e);
     }
@@ -135,6 +158,7 @@ turn_done given entry found known known_now rounds put from mid T w told now pro
     let reached = ready.standing.reached in
     let In : Cuts → Type 0 = λ c. LeavesOnly mid now (StandsBetween given.job c n k (k + m)) in
     let Kept : Cuts → Type 0 = λ c. LeavesNow now (StandsBetween given.job c n (k + m) (k + m)) in
+    let Steps : Cuts → Type 0 = λ c. (e : ℕ) → k ≤ e → e < k + m → SettledInSteps given.job c n e mid now in
     let Settled : Cuts → Type 0 = λ c. IsSettledAs now (files_at (course_of given.job c) (k + m) (k + m) (k + m)) in
     let Ready : Cuts → Type 0 = λ c. IsReady given.job c (k + m) progress now in
     let at : k + m ≡ entry.committed + (put + m) = omega (arith, so.all) in
@@ -143,7 +167,7 @@ turn_done given entry found known known_now rounds put from mid T w told now pro
     let on : n ≤ k + m = planned_done cuts k from.end m seen from.pending ready.standing.proper ready.plans enough.all
     (λ none. let here : k + m ≡ k = omega (arith, none) in sym k_stays ∙ ap next (sym here) ∙ covers) in
     let left_at : Left given entry next (put + m) (k + m) now =
-    turn_left given entry found rounds put from mid now T w seen m (k + m) next so goes enough.few enough.all on (subst In (sym is) did.moments) (subst Kept (sym is) did.kept) did.stay in
+    turn_left given entry found rounds put from mid now T w seen m (k + m) next so goes enough.few enough.all on (subst In (sym is) did.moments) (subst Kept (sym is) did.kept) (subst Steps (sym is) did.settled) did.stay in
     let LeftTo : ℕ → Type 0 = λ p. Left given entry next (put + m) p now in
     let SettledAt : ℕ → Type 0 = λ p. IsSettledAs now (files_at (course_of given.job next) p p p) in
     let are : AreRounds given.most entry found (r ∷ rounds) = are_more given.most entry found r rounds (record { saw = omega (arith, shown, turn.saw); few = enough.few; on = omega (arith, so.planned, on); covers = covers }) so.are in
@@ -173,6 +197,7 @@ turn_done given entry found known known_now rounds put from mid T w told now pro
         bound = omega (arith, end_is, covered.end);
         few = enough.few;
         moments = subst Moments planned_at left_at.moments;
+        settled = left_at.settled;
         stay = left_at.stay;
         wrote = λ t. more t ∙ ap (λ b. b ++ told) (before t) ∙ append_assoc given.written (told_from given.job next entry.committed put) told
             ∙ ap (λ l. given.written ++ (told_from given.job next entry.committed put ++ l)) lines ∙ ap (λ l. given.written ++ l) (told_split given.job next entry.committed put m);
@@ -212,7 +237,7 @@ turn_stopped given entry found known known_now rounds put from mid T w told now 
     let goes : GoOn given.job cuts n seen next = go_on given.job cuts n given.most seen next refl in
     let one : n ≤ k + m + 1 = omega (arith, so.ready.standing.reached.one_ahead) in
     let left_at : Left given entry next (put + m) (k + m + 1) now =
-    turn_left given entry found rounds put from mid now T w seen m (k + m + 1) next so goes enough.few enough.all one stop.did.moments stop.did.kept stop.did.stay in
+    turn_left given entry found rounds put from mid now T w seen m (k + m + 1) next so goes enough.few enough.all one stop.did.moments stop.did.kept stop.did.settled stop.did.stay in
     let LeftTo : ℕ → Type 0 = λ p. Left given entry next (put + m) (p + m + 1) now in
     let Cause : ℕ → Type 0 = λ p. StopCause given.job next (p + m) seen now fault in
     stopped rounds put seen m next fault (turn_some given entry found rounds put from mid T w so fewer) (omega (arith, shown, saw)) there enough.few
@@ -249,6 +274,7 @@ turn_unseen given entry found known known_now rounds put from mid T w told now f
       small = λ e le. omega (arith, below e le, so.few);
       moments = so.moments;
       kept = settled_leaves Kept mid (files_at (course_of given.job cuts) n from.committed so.sinks) so.ready.settled (between given.job cuts n from.committed so.sinks entry.planned (entry.committed + put) n so.ready.standing so.on (omega (arith, so.all)) (omega arith));
+      settled = so.settled;
       stay = so.stay;
       sums = sums_upto given.job cuts n so.ready.standing.starts (λ e low. omega (arith, so.ready.standing.proper e low));
     } in

@@ -11,6 +11,7 @@ use Rattle.ssq_open.specs.declared.wanted.Opened.{Opened}
 use Rattle.ssq_open.specs.Opening.{Passes, IsFirst, IsRefused, SyncedSince, IsOpening}
 use Rattle.ssq_round.specs.declared.fault.RoundFault.{RoundFault}
 use Rattle.ssq_round.specs.Cutting.{continued}
+use Rattle.ssq_round.specs.Epochs.{SettledInSteps}
 use Rattle.ssq_round.specs.Faults.{most_lines}
 use Rattle.ssq_round.specs.Rounds.{StopCause}
 use Rattle.ssq_round.specs.Standing.{Job, course_of, StandsBetween}
@@ -44,14 +45,16 @@ StandsYet job cuts begun least most old files = StandsBetween job cuts begun lea
 
 -- What rounds left that told so many epochs, from the first on that was not committed. The planned epochs keep their ends. From the
 -- first sync of names on, each image of each moment stands for these cuts, with each epoch planned that was planned before and each
--- committed that was committed; now each image has each epoch that was told, too. No more than so many are planned. At no moment
--- was a file removed or changed: so what a sync settled, an epoch's rows and its commit among it, stays in each image. What any
--- first epochs give, one after the other, is what the query means on their lines.
+-- committed that was committed; now each image has each epoch that was told, too. No more than so many are planned. Each epoch that
+-- was told was settled in steps, before the next was planned: its plan, its rows and its commit are in each image from then on. At no
+-- moment was a file removed or changed, or one that was settled at the start missing in an image. What any first epochs give, one
+-- after the other, is what the query means on their lines.
 pub record Left (given : Given) (entry : Entry) (cuts : Cuts) (told planned : ℕ) (now : History) : Type 0 where
   pub keeps : (e : ℕ) → e ≤ entry.planned → cuts e ≡ entry.cuts e
   pub small : (e : ℕ) → e ≤ planned → cuts e < 2 ^ 64
   pub moments : SyncedSince given.start now (StandsYet given.job cuts entry.planned entry.committed planned (files_now given.start))
   pub kept : LeavesNow now (StandsBetween given.job cuts entry.planned (entry.committed + told) planned)
+  pub settled : (e : ℕ) → entry.committed ≤ e → e < entry.committed + told → SettledInSteps given.job cuts entry.planned e given.start now
   pub stay : FilesStay given.start now
   pub sums : (n : ℕ) → n ≤ planned → given_by given.job.bound given.job.lines cuts n ≡ meaning given.job.bound given.job.lines cuts n
 

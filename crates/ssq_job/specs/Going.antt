@@ -6,7 +6,7 @@ use Rattle.ssq_core.specs.Staying.{FilesStay}
 use Rattle.ssq_open.specs.Opening.{SyncedSince}
 use Rattle.ssq_round.specs.declared.progress.Progress.{Progress}
 use Rattle.ssq_round.specs.Cutting.{planned_in, planned_end}
-use Rattle.ssq_round.specs.Epochs.{IsReady}
+use Rattle.ssq_round.specs.Epochs.{IsReady, SettledInSteps}
 use Rattle.ssq_round.specs.Faults.{most_lines}
 use Rattle.ssq_round.specs.Standing.{Job}
 use Rattle.ssq_round.specs.Told.{told_from}
@@ -35,6 +35,7 @@ pub record SoFar (given : Given) (entry : Entry) (found : ℕ) (rounds : List Ro
   pub bound : planned_end progress ≤ seen_after found rounds
   pub few : seen_after found rounds ≤ most_lines
   pub moments : SyncedSince given.start now (StandsYet given.job (cuts_after given.most entry rounds) entry.planned entry.committed (planned_in progress) (files_now given.start))
+  pub settled : (e : ℕ) → entry.committed ≤ e → e < entry.committed + put → SettledInSteps given.job (cuts_after given.most entry rounds) entry.planned e given.start now
   pub stay : FilesStay given.start now
   pub wrote : Wrote OutTells given.written written (told_from given.job (cuts_after given.most entry rounds) entry.committed put)
   pub done : 0 < length rounds → AreDone given entry found rounds put now

@@ -2,7 +2,7 @@
 //! is told on the output when it is done.
 //!
 //! Whatever the answer, and wherever a crash comes, the checkpoint stands for the query over the lines that its epochs cover, with
-//! each epoch that was told, once; and a checkpoint that this leaves can be run on.
+//! each epoch that was done by then, once; and a checkpoint that this leaves can be run on. An epoch is told when it is done.
 #![tactic(auto)]
 
 mod ask;

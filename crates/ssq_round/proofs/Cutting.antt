@@ -11,6 +11,7 @@ use Rattle.ssq_meaning.specs.Meaning.{Line, Cuts, fed, shown, out, fault, is_fau
 use Rattle.ssq_sink.specs.Sink.{sink_text}
 use Rattle.ssq_core.specs.Course.{AgreeUpTo}
 use Rattle.ssq_core.specs.Settled.{IsSettledAs}
+use Rattle.ssq_core.specs.Standing.{files_at}
 use Rattle.ssq_core.proofs.Standing.{agree_files}
 use Rattle.ssq_round.specs.declared.progress.Progress.{Progress}
 use Rattle.ssq_round.specs.Cutting.{continued, planned_in}
@@ -72,6 +73,11 @@ agree job cuts other n k w same le = record {
   rows = λ e less. ap (sink_text (output_names job.bound)) (sym (out_same job.bound job.lines cuts other e (same e (omega (arith, less, le))) (same (e + 1) (omega (arith, less, le)))));
 }
 
+-- cuts that are the same up to there have the same files
+pub same_files : (job : Job) (cuts other : Cuts) (n k w : ℕ) → ((e : ℕ) → e ≤ n → other e ≡ cuts e) → w ≤ n
+    → files_at (course_of job cuts) n k w ≡ files_at (course_of job other) n k w
+same_files job cuts other n k w same le = agree_files (course_of job cuts) (course_of job other) n k w (agree job cuts other n k w same le)
+
 -- what is ready is ready for the round's cuts
 pub ready_continued : (job : Job) (cuts : Cuts) (written : ℕ) (progress : Progress) (now : History) (most : Option ℕ) (seen : ℕ)
     → IsReady job cuts written progress now → IsReady job (continued cuts (planned_in progress) most seen) written progress now
@@ -85,7 +91,7 @@ ready_continued job cuts written progress now most seen ready =
       standing = standing_same job cuts (continued cuts n most seen) n progress.committed written same ready.standing;
       covers = same progress.committed behind ∙ ready.covers;
       plans = same n (omega arith) ∙ ready.plans;
-      settled = subst P (agree_files (course_of job cuts) (course_of job (continued cuts n most seen)) n progress.committed written (agree job cuts (continued cuts n most seen) n progress.committed written same reached.planned_first)) ready.settled;
+      settled = subst P (same_files job cuts (continued cuts n most seen) n progress.committed written same reached.planned_first) ready.settled;
     }
 
 -- what stands for the cuts stands for those that go on
@@ -99,7 +105,7 @@ stands_on job cuts begun least planned most seen files s =
       committed = s.committed;
       written = s.written;
       standing = standing_same job cuts other s.planned s.committed s.written same s.standing;
-      exactly = s.exactly ∙ agree_files (course_of job cuts) (course_of job other) s.planned s.committed s.written (agree job cuts other s.planned s.committed s.written same s.standing.reached.planned_first);
+      exactly = s.exactly ∙ same_files job cuts other s.planned s.committed s.written same s.standing.reached.planned_first;
       no_fewer = s.no_fewer;
       kept = s.kept;
       no_more = s.no_more;

@@ -3,6 +3,7 @@ pub mod Cutting
 pub mod Standing
 pub mod Staying
 pub mod Faults
+pub mod Settled
 pub mod Steps
 pub mod Rounds
 pub mod Worked

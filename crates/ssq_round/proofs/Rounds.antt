@@ -1,9 +1,9 @@
 -- A round, epoch after epoch.
-use Rattle.std.proofs.Common.{◌≡◌, Result, Ok, Err, ◌+◌, ◌-◌, ◌^◌, ◌<◌, ◌≤◌, ◌++◌, [], ℕ, List, Option, Some, None, true, false, refl, ap, sym, ◌∙◌, subst, arith, add-one, length, append_assoc}
+use Rattle.std.proofs.Common.{◌≡◌, inl, inr, Result, Ok, Err, ◌+◌, ◌-◌, ◌^◌, ◌<◌, ◌≤◌, ◌++◌, [], ℕ, List, Option, Some, None, true, false, refl, ap, sym, ◌∙◌, subst, arith, add-one, length, append_assoc}
 use Rattle.std.specs.Prelude.{nat_lt, is_some, ◌||◌, OnOk}
 use Rattle.std.specs.Option.{ForSome}
 use Rattle.std.proofs.lemmas.List.{append-nil}
-use Rattle.std.proofs.lemmas.Bool.{ltb-true, ltb-false}
+use Rattle.std.proofs.lemmas.Bool.{cases_lt, ltb-true, ltb-false}
 use Rattle.ssq_outside.specs.Files.{Files}
 use Rattle.ssq_outside.specs.History.{History, LeavesNow, LeavesOnly}
 use Rattle.ssq_outside.proofs.Steps.{weaker, joined}
@@ -17,11 +17,12 @@ use Rattle.ssq_round.specs.declared.fault.RoundFault.{RoundFault}
 use Rattle.ssq_round.specs.declared.fault.RoundFault.TheVariants.{Bad, Overflow, LogFault, LogShort, FullLines, FullEpochs, DiskFault, NoMemory}
 use Rattle.ssq_round.specs.declared.progress.Progress.{Progress}
 use Rattle.ssq_round.specs.Cutting.{continued, planned_with, planned_in, end_with, planned_end, next_end_with, epoch_end, after_epoch, is_behind}
-use Rattle.ssq_round.specs.Epochs.{EpochCause, IsReady, IsNext}
+use Rattle.ssq_round.specs.Epochs.{EpochCause, IsReady, IsNext, SettledInSteps}
 use Rattle.ssq_round.specs.Rounds.{SeeCause, IsEnough, GoesOn, StopCause, IsDone, IsStopped, RoundDone, RoundStop, stopped, unseen}
 use Rattle.ssq_round.specs.Faults.{most_lines}
 use Rattle.ssq_round.specs.Standing.{Job, course_of, Standing, StandsBetween}
 use Rattle.ssq_round.specs.Told.{told_of, told_from}
+use Rattle.ssq_round.proofs.Settled.{steps_within, steps_since}
 use Rattle.ssq_round.proofs.Standing.{between, wider, present_of, settled_leaves}
 
 -- an epoch that begins before what was seen has a line, and does not go past it
@@ -45,8 +46,10 @@ pub record RoundSoFar (job : Job) (cuts : Cuts) (first planned seen : ℕ) (star
   pub at : progress.committed ≡ first + epochs
   pub lines : told ≡ before ++ told_from job cuts first epochs
   pub moments : LeavesOnly start now (StandsBetween job cuts planned first (planned_in progress))
+  pub settled : (e : ℕ) → first ≤ e → e < first + epochs → SettledInSteps job cuts planned e start now
   pub stay : FilesStay start now
   pub on : planned ≤ planned_in progress
+  pub free : planned ≤ progress.committed → planned_in progress ≡ progress.committed
   pub bound : planned_end progress ≤ seen
 
 pub round_begins : (job : Job) (cuts : Cuts) (written seen : ℕ) (start : History) (before : List ℕ) (progress : Progress)
@@ -60,8 +63,10 @@ round_begins job cuts written seen start before progress ready enough = record {
   lines = sym (append-nil before) ∙ ap (λ t. before ++ t) (sym (told_none job cuts progress.committed));
   moments = stays start (StandsBetween job cuts (planned_in progress) progress.committed (planned_in progress)) (files_at (course_of job cuts) (planned_in progress) progress.committed written) ready.settled
       (between job cuts (planned_in progress) progress.committed written (planned_in progress) progress.committed (planned_in progress) ready.standing (omega arith) (omega arith) (omega arith));
+  settled = λ e low high. absurd (omega (arith, low, high));
   stay = stay_here start;
   on = omega arith;
+  free = λ none. omega (arith, none, ready.standing.reached.written_first, ready.standing.reached.planned_first);
   bound = enough.all;
 }
 
@@ -120,9 +125,10 @@ pub round_goes_on : (job : Job) (cuts : Cuts) (first planned seen known : ℕ) (
     → is_behind progress seen ≡ true → seen ≤ length job.lines → seen ≤ known
     → progress' ≡ after_epoch most seen progress → IsReady job cuts (progress.committed + 1) progress' new
     → told' ≡ told ++ told_of job cuts progress.committed
-    → LeavesOnly now new (StandsBetween job cuts (planned_in progress) progress.committed (progress.committed + 1)) → FilesStay now new
+    → LeavesOnly now new (StandsBetween job cuts (planned_in progress) progress.committed (progress.committed + 1))
+    → SettledInSteps job cuts (planned_in progress) progress.committed now new → FilesStay now new
     → RoundSoFar job cuts first planned seen start new before told' progress'
-round_goes_on job cuts first planned seen known most start now new before told told' progress progress' so_far goes some behind inside there moved ready added during kept =
+round_goes_on job cuts first planned seen known most start now new before told told' progress progress' so_far goes some behind inside there moved ready added during settled kept =
     let next = next_of job cuts first planned seen known most start now before told progress so_far goes some behind inside there in
     let n : ℕ = so_far.epochs in
     let Planned : Progress → Type 0 = λ q. planned ≤ planned_in q in
@@ -132,6 +138,8 @@ round_goes_on job cuts first planned seen known most start now new before told t
     let One : Files → Type 0 = StandsBetween job cuts planned first (k + 1) in
     let Reach : Progress → Type 0 = λ q. LeavesOnly start new (StandsBetween job cuts planned first (planned_in q)) in
     let At : Progress → Type 0 = λ q. q.committed ≡ first + (n + 1) in
+    let Free : Progress → Type 0 = λ q. planned ≤ q.committed → planned_in q ≡ q.committed in
+    let Steps : ℕ → Type 0 = λ e. SettledInSteps job cuts planned e start new in
     record {
       written = progress.committed + 1;
       ready = ready;
@@ -142,7 +150,14 @@ round_goes_on job cuts first planned seen known most start now new before told t
       moments = subst Reach (sym moved) (joined One start now new
           (weaker (StandsBetween job cuts planned first m) One start now so_far.moments (λ f is. wider job cuts planned first m planned first (k + 1) f (omega arith) (omega arith) so_far.ready.standing.reached.one_ahead is))
           (weaker (StandsBetween job cuts m k (k + 1)) One now new during (λ f is. wider job cuts m k (k + 1) planned first (k + 1) f so_far.on (omega (arith, so_far.at)) (omega arith) is)));
+      settled = λ e low high. elim (cases_lt e (first + n)) [
+        | inl old ↦ steps_since job cuts planned e start now new (so_far.settled e low old) kept
+        | inr last ↦
+            let is : k ≡ e = omega (arith, so_far.at, last, high) in
+            subst Steps is (steps_within job cuts m planned k start now new new so_far.stay settled (λ le. omega (arith, so_far.free le)) (stay_here new))
+      ];
       stay = stay_on start now new so_far.stay kept;
+      free = subst Free (sym moved) (λ le. refl);
       on = subst Planned (sym moved) (omega (arith, so_far.on, so_far.ready.standing.reached.one_ahead));
       bound = subst Bound (sym moved) next.bound;
     }
@@ -184,7 +199,7 @@ round_ends job cuts first planned seen start now before told progress so_far beh
     let M : ℕ → Type 0 = λ p. LeavesOnly start now (StandsBetween job cuts planned first p) in
     record {
       epochs = n;
-      did = record { lines = so_far.lines; moments = subst M (planned_is ∙ so_far.at) so_far.moments; kept = kept; stay = so_far.stay };
+      did = record { lines = so_far.lines; moments = subst M (planned_is ∙ so_far.at) so_far.moments; kept = kept; settled = so_far.settled; stay = so_far.stay };
       covered = record {
         covers = ap cuts (sym so_far.at) ∙ so_far.ready.covers ∙ end.over;
         settled = settled;
@@ -232,6 +247,7 @@ round_stops job cuts first planned seen known most start now new before told tol
             (λ f is. wider job cuts planned first m planned first (k + 1) f (omega arith) (omega arith) (omega (arith, so_far.at, so_far.ready.standing.reached.one_ahead)) is))
             (weaker Last One now new during' (λ f is. wider job cuts planned k (k + 1) planned first (k + 1) f (omega arith) (omega arith) (omega arith) is));
         kept = present_of Last now new during';
+        settled = λ e low high. steps_since job cuts planned e start now new (so_far.settled e low high) kept;
         stay = stay_on start now new so_far.stay kept;
       };
       cause = subst C so_far.at (stop_cause job cuts progress.committed seen new fault less cause);

@@ -7,6 +7,7 @@ use Rattle.ssq_meaning.specs.declared.line.LineFault.{LineFault}
 use Rattle.ssq_meaning.specs.declared.line.LineFault.TheVariants as line
 use Rattle.ssq_core.specs.Settled.{IsSettledAs}
 use Rattle.ssq_core.specs.Standing.{files_at}
+use Rattle.ssq_core.specs.Staying.{WasSettled}
 use Rattle.ssq_round.specs.declared.fault.RoundFault.{RoundFault}
 use Rattle.ssq_round.specs.declared.fault.RoundFault.TheVariants.{Bad, Overflow, LogFault, LogShort, FullLines, FullEpochs, DiskFault, NoMemory}
 use Rattle.ssq_round.specs.declared.progress.Progress.{Progress}
@@ -92,6 +93,14 @@ pub record IsEpochDone (job : Job) (cuts : Cuts) (e : ℕ) (now : History) (rows
   pub standing : Standing job cuts (e + 1) (e + 1) (e + 1)
   pub settled : IsSettledAs now (files_at (course_of job cuts) (e + 1) (e + 1) (e + 1))
   pub count : rows ≡ length (out job.bound job.lines cuts e)
+
+-- Epoch e was settled in steps: its plan before its rows were written, where it was not planned at first; its rows before its
+-- commit; and its commit before the next epoch was planned. What was settled is in each image that a crash might have left from
+-- then on.
+pub record SettledInSteps (job : Job) (cuts : Cuts) (begun e : ℕ) (start now : History) : Type 0 where
+  pub plan : begun ≤ e → WasSettled start now (files_at (course_of job cuts) (e + 1) e e)
+  pub rows : WasSettled start now (files_at (course_of job cuts) (e + 1) e (e + 1))
+  pub commit : WasSettled start now (files_at (course_of job cuts) (e + 1) (e + 1) (e + 1))
 
 -- What stops epoch e: its first faulty line with what is wrong, where it is planned and nothing more, or a fault of the outside.
 -- That there are too many epochs is said where it would be planned, and then nothing is done.

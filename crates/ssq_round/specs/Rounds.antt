@@ -10,7 +10,7 @@ use Rattle.ssq_round.specs.declared.fault.RoundFault.{RoundFault}
 use Rattle.ssq_round.specs.declared.fault.RoundFault.TheVariants.{Bad, Overflow, LogFault, LogShort, FullLines, FullEpochs, DiskFault, NoMemory}
 use Rattle.ssq_round.specs.declared.progress.Progress.{Progress}
 use Rattle.ssq_round.specs.Cutting.{continued, planned_in, planned_end}
-use Rattle.ssq_round.specs.Epochs.{EpochCause, IsReady}
+use Rattle.ssq_round.specs.Epochs.{EpochCause, IsReady, SettledInSteps}
 use Rattle.ssq_round.specs.Faults.{most_lines}
 use Rattle.ssq_round.specs.Standing.{Job, course_of, StandsBetween}
 use Rattle.ssq_round.specs.Told.{told_from}
@@ -58,11 +58,13 @@ StopCause job cuts done seen now NoMemory = ⊤
 
 -- Epochs that a round did from the first on: what it told, and what each crash leaves. At each moment of it the epochs that were
 -- planned at its start are planned, and those that were committed are; now those that it told are committed too. No more than so
--- many are planned. No file was removed or changed at any moment, so that what was settled stays.
+-- many are planned. Each that it told was settled in steps, before the next was planned, and is in each image from then on. No
+-- file was removed or changed at any moment, and none that was settled at the start was missing in an image.
 pub record Did (job : Job) (cuts : Cuts) (begun first : ℕ) (start now : History) (before told : List ℕ) (epochs planned : ℕ) : Type 0 where
   pub lines : told ≡ before ++ told_from job cuts first epochs
   pub moments : LeavesOnly start now (StandsBetween job cuts begun first planned)
   pub kept : LeavesNow now (StandsBetween job cuts begun (first + epochs) planned)
+  pub settled : (e : ℕ) → first ≤ e → e < first + epochs → SettledInSteps job cuts begun e start now
   pub stay : FilesStay start now
 
 -- The round is done: so many epochs cover what was seen.

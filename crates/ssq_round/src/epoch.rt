@@ -13,11 +13,11 @@ ghost use Rattle.ssq_sink.specs.Sink.{sink_text};
 ghost use Rattle.ssq_core.specs.Course.{Course, plan_of, commit_of};
 ghost use Rattle.ssq_core.specs.Settled.{IsSettledAs, IsEither};
 ghost use Rattle.ssq_core.specs.Standing.{files_at};
-ghost use Rattle.ssq_core.specs.Staying.{FilesStay};
+ghost use Rattle.ssq_core.specs.Staying.{FilesStay, WasSettled};
 ghost use Rattle.ssq_round.specs.Causes.{AreGood, EpochReason};
 ghost use Rattle.ssq_round.specs.Epochs.{IsEpochOf, IsPlanned, IsEpochDone, EpochCause};
 ghost use Rattle.ssq_round.specs.Faults.{IsReadFault, IsRoundFault, LogRises, DiskRises};
-ghost use Rattle.ssq_round.specs.Standing.{Job, IsJobOf, plan_at, commit_at, StandsBetween};
+ghost use Rattle.ssq_round.specs.Standing.{Job, IsJobOf, course_of, plan_at, commit_at, StandsBetween};
 
 use crate::fault::RoundFault;
 use crate::feed::feed;
@@ -130,11 +130,15 @@ pub fn run_planned<D: Disk, L: Log>(
     ensures done { D.tells → L.tells → (job : Job) (cuts : Cuts) (written : ℕ) → IsJobOf job prepared.now.bound (L.lines log.old) →
         IsEpochOf cuts epoch.number epoch.from epoch.end → IsPlanned job cuts epoch.number written (D.history disk.old) →
         IfOk result (IsEpochDone job cuts epoch.number (D.history disk.new)) }
+    // Its rows were settled before its commit.
+    ensures settled { D.tells → L.tells → (job : Job) (cuts : Cuts) (written : ℕ) → IsJobOf job prepared.now.bound (L.lines log.old) →
+        IsEpochOf cuts epoch.number epoch.from epoch.end → IsPlanned job cuts epoch.number written (D.history disk.old) →
+        OnOk result (WasSettled (D.history disk.old) (D.history disk.new) (files_at (course_of job cuts) (epoch.number + 1) epoch.number (epoch.number + 1))) }
     // A crash at any moment leaves the epoch planned, and perhaps written, or committed too.
     ensures any_moment { D.tells → L.tells → (job : Job) (cuts : Cuts) (written : ℕ) → IsJobOf job prepared.now.bound (L.lines log.old) →
         IsEpochOf cuts epoch.number epoch.from epoch.end → IsPlanned job cuts epoch.number written (D.history disk.old) →
         LeavesOnly (D.history disk.old) (D.history disk.new) (StandsBetween job cuts (epoch.number + 1) epoch.number (epoch.number + 1)) }
-    // No file that was there is removed or changed.
+    // No file that was there is removed or changed, and none that was settled is missing in an image.
     ensures stay { D.tells → L.tells → (job : Job) (cuts : Cuts) (written : ℕ) → IsJobOf job prepared.now.bound (L.lines log.old) →
         IsEpochOf cuts epoch.number epoch.from epoch.end → IsPlanned job cuts epoch.number written (D.history disk.old) →
         FilesStay (D.history disk.old) (D.history disk.new) }

@@ -9,7 +9,7 @@ ghost use Rattle.ssq_outside.specs.History.{LeavesOnly};
 ghost use Rattle.ssq_core.specs.Staying.{FilesStay};
 ghost use Rattle.ssq_round.specs.Causes.{AreGood, EpochReason};
 ghost use Rattle.ssq_round.specs.Cutting.{planned_in, epoch_end, after_epoch};
-ghost use Rattle.ssq_round.specs.Epochs.{IsPlanned, EpochCause, IsReady, IsNext};
+ghost use Rattle.ssq_round.specs.Epochs.{IsPlanned, SettledInSteps, EpochCause, IsReady, IsNext};
 ghost use Rattle.ssq_round.specs.Faults.{IsRoundFault, LogRises, DiskRises};
 ghost use Rattle.ssq_round.specs.Standing.{Job, IsJobOf, StandsBetween};
 ghost use Rattle.ssq_round.specs.Told.{epoch_line, told_of};
@@ -114,6 +114,11 @@ pub fn step<D: Disk, L: Log>(
         IsReady job cuts written progress.old (D.history disk.old) →
         IsNext job cuts (epoch_end sight.most sight.seen progress.old) (L.shown log.old) progress.old →
         OnOk result (string_bytes told.new ≡ string_bytes told.old ++ told_of job cuts progress.old.committed) }
+    // Each of its files was settled before the next was published.
+    ensures settled { D.tells → L.tells → (job : Job) (cuts : Cuts) (written : ℕ) → IsJobOf job prepared.now.bound (L.lines log.old) →
+        IsReady job cuts written progress.old (D.history disk.old) →
+        IsNext job cuts (epoch_end sight.most sight.seen progress.old) (L.shown log.old) progress.old →
+        OnOk result (SettledInSteps job cuts (planned_in progress.old) progress.old.committed (D.history disk.old) (D.history disk.new)) }
     ensures untold { OnErr result (string_bytes told.new ≡ string_bytes told.old) }
     ensures any_moment { D.tells → L.tells → (job : Job) (cuts : Cuts) (written : ℕ) → IsJobOf job prepared.now.bound (L.lines log.old) →
         IsReady job cuts written progress.old (D.history disk.old) →

@@ -3,7 +3,7 @@ use Rattle.std.proofs.lemmas.Result.{err_from_is_err_and}
 use Rattle.ssq_outside.proofs.Steps.{joined}
 use Rattle.ssq_core.specs.Standing.{files_at}
 use Rattle.ssq_core.proofs.Standing.{stays}
-use Rattle.ssq_core.proofs.Staying.{stay_here, stay_on}
+use Rattle.ssq_core.proofs.Staying.{stay_here, stay_on, was_settled_at}
 use Rattle.ssq_round.specs.Standing.{course_of, StandsBetween}
 use Rattle.ssq_round.proofs.Causes.{feed_reason}
 use Rattle.ssq_round.proofs.Faults.{feed_stops, read_only}
@@ -114,6 +114,16 @@ returns-clause-stay g c = λ tells told job cuts written of_job epoch planned.
     let first = c.write_rows.ensures.stay tells (course_of job cuts) (e + 1) e written spelled low high planned.settled in
     let after = c.in_ok-write_rows.ensures.done tells (course_of job cuts) (e + 1) e written spelled low high planned.settled in
     stay_on _ _ _ first (c.commit_epoch.ensures.stay tells (course_of job cuts) (e + 1) (e + 1) after)
+
+pub returns-clause-settled : goal.returns-clause-settled
+returns-clause-settled g c = λ tells told job cuts written of_job epoch planned.
+    let e = c.args.epoch.number in
+    let spelled = rows_spelled job cuts _ _ e _ _ _ _ of_job epoch c.requires.shown (c.in_ok-rows.ensures.rows told) in
+    let low = planned.standing.reached.written_first in
+    let high = planned.standing.reached.planned_first in
+    let first = c.write_rows.ensures.stay tells (course_of job cuts) (e + 1) e written spelled low high planned.settled in
+    let after = c.in_ok-write_rows.ensures.done tells (course_of job cuts) (e + 1) e written spelled low high planned.settled in
+    was_settled_at _ _ _ _ first after (c.commit_epoch.ensures.stay tells (course_of job cuts) (e + 1) (e + 1) after)
 
 pub returns-in_err-rows-clause-reason : goal.returns-in_err-rows-clause-reason
 returns-in_err-rows-clause-reason g c = λ told.

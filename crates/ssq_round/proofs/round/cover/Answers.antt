@@ -26,7 +26,7 @@ loop-alloc-preserved g c = record {
       let next = round_next job cuts c.args.progress.now.committed (planned_in c.args.progress.now) c.args.sight.seen (g.L.Log.shown c.loop-alloc.log) c.args.sight.most _ _ _ _ c.loop-alloc.progress so_far goes c.requires.some behind enough.inside there' in
       round_goes_on job cuts c.args.progress.now.committed (planned_in c.args.progress.now) c.args.sight.seen (g.L.Log.shown c.loop-alloc.log) c.args.sight.most _ _ _ _ _ _ c.loop-alloc.progress c.step.new.progress so_far goes c.requires.some behind enough.inside there'
       c.in_ok-step.ensures.moved (c.in_ok-step.ensures.done tells told job cuts so_far.written of_job' so_far.ready next) (c.in_ok-step.ensures.told tells told job cuts so_far.written of_job' so_far.ready next)
-      (c.step.ensures.any_moment tells told job cuts so_far.written of_job' so_far.ready next) (c.step.ensures.stay tells told job cuts so_far.written of_job' so_far.ready next);
+      (c.step.ensures.any_moment tells told job cuts so_far.written of_job' so_far.ready next) (c.in_ok-step.ensures.settled tells told job cuts so_far.written of_job' so_far.ready next) (c.step.ensures.stay tells told job cuts so_far.written of_job' so_far.ready next);
   same = λ told. c.step.ensures.same told ∙ c.loop-alloc.invariant.same told;
   grown = λ told. omega (arith, c.loop-alloc.invariant.grown told, c.step.ensures.grown told);
   disk_counted = omega (arith, c.loop-alloc.invariant.disk_counted, c.step.ensures.disk_counted);

@@ -1,6 +1,7 @@
 use Rattle.std.proofs.Common.{◌≤◌, ◌++◌, ◌∙◌, List, ℕ, string_bytes, ap, refl, arith}
 use Rattle.std.proofs.lemmas.Result.{err_from_is_err_and}
 use Rattle.ssq_core.proofs.Staying.{stay_on}
+use Rattle.ssq_round.proofs.Settled.{epoch_settled}
 use Rattle.ssq_round.proofs.Steps.{epoch_is, planned_is, epoch_leaves, epoch_stops, epoch_ready, epoch_told}
 use Rattle.ssq_round.proofs.step.step.Goals as goal
 
@@ -87,6 +88,16 @@ returns-clause-stay g c = λ tells told job cuts written of_job ready next.
     let epoch = epoch_is job cuts written _ _ _ _ _ c.args.progress.now _ is.number is.from is.end ready next in
     let planned = planned_is job cuts written _ c.args.progress.now _ is.number (is.done tells job cuts written _ ready next) in
     stay_on _ _ _ (c.planned_epoch.ensures.stay tells job cuts written _ ready next) (c.run_planned.ensures.stay tells told job cuts written of_job epoch planned)
+
+pub returns-clause-settled : goal.returns-clause-settled
+returns-clause-settled g c = λ tells told job cuts written of_job ready next.
+    let is = c.in_ok-epoch.ensures in
+    let epoch = epoch_is job cuts written _ _ _ _ _ c.args.progress.now _ is.number is.from is.end ready next in
+    let plan = is.done tells job cuts written _ ready next in
+    let planned = planned_is job cuts written _ c.args.progress.now _ is.number plan in
+    epoch_settled job cuts written _ _ c.args.progress.now _ _ _ is.number ready plan (c.planned_epoch.ensures.stay tells job cuts written _ ready next)
+    (c.run_planned.ensures.stay tells told job cuts written of_job epoch planned) (c.in_ok-rows.ensures.settled tells told job cuts written of_job epoch planned)
+    (c.in_ok-rows.ensures.done tells told job cuts written of_job epoch planned)
 
 pub returns-in_err-epoch-clause-reason : goal.returns-in_err-epoch-clause-reason
 returns-in_err-epoch-clause-reason g c = λ told.
