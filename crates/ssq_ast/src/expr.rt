@@ -1,3 +1,5 @@
+//! Expressions as they are written, with the places of their parts.
+
 use sqlite_items::Boxed;
 use ssq_value::Text;
 

@@ -1,3 +1,5 @@
+//! Queries as they are written: streams, what is selected of them, and the mode of output.
+
 use crate::expr::{ColumnRef, Expr, Ident, Span};
 use ssq_value::{ColType, Sequence, Text};
 

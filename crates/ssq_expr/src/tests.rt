@@ -1,3 +1,5 @@
+//! Worked values of expressions, as tables.
+
 use super::{EvalFault, eval, passes, project};
 use sqlite_items::Boxed;
 use ssq_shape::{Arithmetic, Comparison, Output, Typed};

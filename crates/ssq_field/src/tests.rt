@@ -1,3 +1,5 @@
+//! Numbers, and the digits and bytes that they are written as.
+
 use super::*;
 use std::test::Fail;
 

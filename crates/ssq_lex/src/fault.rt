@@ -1,3 +1,5 @@
+//! Where a text has no token, and why.
+
 ghost use Rattle.std.specs.Prelude.{◌≡◌};
 ghost use Rattle.ssq_lex.specs.declared.fault.LexFault.TheVariants.{NoMemory};
 

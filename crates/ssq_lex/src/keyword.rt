@@ -1,3 +1,5 @@
+//! The words of the language.
+
 ghost use Rattle.std.specs.Prelude.{◌≡◌};
 ghost use Rattle.ssq_lex.specs.Spelling.{EachIsRead};
 ghost use Rattle.ssq_lex.specs.Spelling.{keyword_spelling, keyword_of};

@@ -1,3 +1,5 @@
+//! Cuts a text into tokens, up to its first fault.
+
 ghost use Rattle.std.specs.Prelude.{◌≡◌, ◌+◌, ◌<◌, ◌^◌, ◌++◌, map, IfOk, OnOk};
 ghost use Rattle.std.specs.Option.{option_map};
 ghost use Rattle.ssq_lex.specs.Answer.{Gives, cut_by};

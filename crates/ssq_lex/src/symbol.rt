@@ -1,3 +1,5 @@
+//! The symbols of the language, of one character or of two.
+
 ghost use Rattle.std.specs.Prelude.{◌≡◌};
 ghost use Rattle.ssq_lex.specs.Spelling.{symbol_spelling, short_symbol, long_symbol};
 

@@ -1,3 +1,5 @@
+//! Worked texts, and their tokens or their first fault.
+
 use super::*;
 use std::alloc::Global;
 use std::test::Fail;

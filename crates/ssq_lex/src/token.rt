@@ -1,3 +1,5 @@
+//! What a text is cut into.
+
 use crate::{Keyword, Symbol};
 
 /// What a token is. Names and texts are parts of the text that was read.

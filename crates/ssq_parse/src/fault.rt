@@ -1,3 +1,5 @@
+//! Why a file was not read as a query, and where.
+
 ghost use Rattle.std.specs.Prelude.{◌≡◌};
 ghost use Rattle.ssq_parse.specs.declared.fault.ParseFault.TheVariants as fault;
 ghost use Rattle.ssq_parse.specs.declared.fault.Stop.TheVariants as stop;

@@ -1,3 +1,5 @@
+//! Worked files: the queries that they are, or their first fault.
+
 use super::*;
 use ssq_ast::text;
 use std::alloc::{AllocGlobal, Global};

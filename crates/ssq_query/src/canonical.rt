@@ -1,3 +1,5 @@
+//! Prints a query as its canonical text.
+
 ghost use Rattle.std.specs.Prelude.{◌≡◌, ◌∷◌, map, OnOk, IfOk};
 ghost use Rattle.std.specs.List.{flat_map};
 ghost use Rattle.ssq_lex.specs.Printing.{with_word, with_words};

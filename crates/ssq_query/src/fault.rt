@@ -1,3 +1,5 @@
+//! Why a file was not read as a query.
+
 ghost use Rattle.std.specs.Prelude.{◌≡◌};
 ghost use Rattle.ssq_query.specs.declared.fault.QueryFault.TheVariants.{NoMemory};
 

@@ -1,3 +1,5 @@
+//! Queries of the form that is run so far.
+
 use ssq_shape::Comparison;
 use ssq_value::{Column, Sequence, Text};
 

@@ -1,3 +1,5 @@
+//! Reads a query from its file.
+
 ghost use Rattle.std.specs.Prelude.{◌≡◌, map, IfOk, IsErrOf};
 ghost use Rattle.ssq_lex.specs.Lexeme.{lexeme};
 ghost use Rattle.ssq_query.specs.File.{words_of, HasWords, IsWritten, IsNoQuery, HaveOneQuery};

@@ -1,3 +1,5 @@
+//! Worked files: which are read, and at which limits one is refused.
+
 use super::*;
 use ssq_value::Text;
 use std::alloc::Global;

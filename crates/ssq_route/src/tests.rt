@@ -1,3 +1,5 @@
+//! Worked keys and their places, and items in their buckets.
+
 use super::*;
 use std::test::Fail;
 

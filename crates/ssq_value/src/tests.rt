@@ -1,3 +1,5 @@
+//! Worked keys and orders of values and rows.
+
 ghost use Rattle.std.specs.Prelude.{◌^◌, ◌<◌, length, All, IfOk};
 ghost use Rattle.ssq_value.specs.Key.{HasShortText};
 
