@@ -9,14 +9,17 @@ use Rattle.ssq_meaning.specs.Meaning.{Line, Cuts}
 use Rattle.ssq_shape.specs.declared.bound.Bound.{Bound}
 use Rattle.ssq_open.specs.declared.fault.OpenFault.{OpenFault}
 use Rattle.ssq_open.specs.declared.fault.OpenFault.TheVariants as opening
+use Rattle.ssq_core.specs.Settled.{IsSettledAs}
+use Rattle.ssq_core.specs.Standing.{files_at}
 use Rattle.ssq_core.specs.Staying.{FilesStay}
+use Rattle.ssq_core.proofs.Staying.{stay_here, was_settled_at}
 use Rattle.ssq_open.specs.Opening.{SyncedSince, IsBegun, IsOpening, IsOutside}
 use Rattle.ssq_round.specs.declared.fault.RoundFault.{RoundFault}
 use Rattle.ssq_round.specs.declared.fault.RoundFault.TheVariants as round
 use Rattle.ssq_round.specs.declared.progress.Progress.{Progress}
 use Rattle.ssq_round.specs.Faults.{most_lines}
 use Rattle.ssq_round.specs.Rounds.{StopCause}
-use Rattle.ssq_round.specs.Standing.{Job, IsJobOf}
+use Rattle.ssq_round.specs.Standing.{Job, course_of, IsJobOf}
 use Rattle.ssq_round.specs.Told.{told_from}
 use Rattle.ssq_job.specs.declared.fault.JobFault.{JobFault}
 use Rattle.ssq_job.specs.declared.fault.JobFault.TheVariants as fault
@@ -67,6 +70,8 @@ so_begins given entry found progress now OutTells reads few ready run stays =
     let P : Files → Type 0 = IsBegun (sought_of given.job.text found) old in
     let Q : Files → Type 0 = StandsYet given.job entry.cuts entry.planned entry.committed entry.planned old in
     let M : ℕ → Type 0 = λ n. SyncedSince given.start now (StandsYet given.job entry.cuts entry.planned entry.committed n old) in
+    let Planned : ℕ → Type 0 = λ p. IsSettledAs now (files_at (course_of given.job entry.cuts) p progress.committed ready.written) in
+    let Committed : ℕ → Type 0 = λ k. IsSettledAs now (files_at (course_of given.job entry.cuts) entry.planned k ready.written) in
     record {
       are = tt;
       all = omega (arith, ready.is_committed);
@@ -79,6 +84,11 @@ so_begins given entry found progress now OutTells reads few ready run stays =
       bound = ready.long;
       few = few;
       moments = subst M (sym ready.is_planned) (record { at = run.at; before = run.before; settled = run.settled; since = weaker P Q run.at now run.since (λ f is. begun_yet given.job found entry old f reads is) });
+      opened = (
+        ready.written,
+        was_settled_at given.start now now (files_at (course_of given.job entry.cuts) entry.planned entry.committed ready.written) stays
+            (subst Committed ready.is_committed (subst Planned ready.is_planned ready.ready.settled)) (stay_here now),
+      );
       settled = λ e low high. absurd (omega (arith, low, high));
       stay = stays;
       wrote = λ t. sym (append-nil given.written);
@@ -98,7 +108,7 @@ left_always given entry cuts told planned now left = always_run given.job cuts e
 rounds_always : (given : Given) (entry : Entry) (found known : ℕ) (now : History) (T : Type 0) (w told : List ℕ) (end : Option JobFault) → RoundsEnd given entry found known now T w told end → AlwaysStands given.job given.start now
 rounds_always given entry found known now T w told end (finished rounds epochs all shown done wrote last is) = left_always given entry _ _ _ now done.left
 rounds_always given entry found known now T w told end (unsaid rounds epochs all shown done wrote last is) = left_always given entry _ _ _ now done.left
-rounds_always given entry found known now T w told end (stopped rounds put seen epochs cuts why some saw there few next left wrote lines cause is) = left_always given entry _ _ _ now left
+rounds_always given entry found known now T w told end (stopped rounds put seen epochs cuts why some saw there few inside next left wrote lines cause is) = left_always given entry _ _ _ now left
 rounds_always given entry found known now T w told end (unseen rounds put seen why some saw there left wrote empty cause is) = left_always given entry _ _ _ now left
 rounds_always given entry found known now T w told end (unput round rounds put epochs why before some shown done wrote un is) = left_always given entry _ _ _ now done.left
 
@@ -177,7 +187,7 @@ same_fault one other is = cc
 pub rounds_pass : (given : Given) (entry : Entry) (found known : ℕ) (now : History) (T : Type 0) (w told : List ℕ) (why : JobFault) → RoundsEnd given entry found known now T w told (Some why) → IsNoRefusal why
 rounds_pass given entry found known now T w told why (finished rounds epochs all shown done wrote last is) = cc
 rounds_pass given entry found known now T w told why (unsaid rounds epochs all shown done wrote last is) = subst IsNoRefusal (sym (same_fault why fault.NoMemory is)) tt
-rounds_pass given entry found known now T w told why (stopped rounds put seen epochs cuts cause some saw there few next left wrote lines stop is) =
+rounds_pass given entry found known now T w told why (stopped rounds put seen epochs cuts cause some saw there few inside next left wrote lines stop is) =
     subst IsNoRefusal (sym (same_fault why (fault_of_round cause) is)) (stop_passes given.job cuts _ seen now cause stop)
 rounds_pass given entry found known now T w told why (unseen rounds put seen cause some saw there left wrote empty stop is) = subst IsNoRefusal (sym (same_fault why cause is)) (untaken_passes _ seen cause stop)
 rounds_pass given entry found known now T w told why (unput round rounds put epochs cause before some shown done wrote un is) = subst IsNoRefusal (sym (same_fault why cause is)) (unput_passes T _ _ _ _ cause un)

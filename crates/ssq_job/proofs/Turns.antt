@@ -9,7 +9,7 @@ use Rattle.ssq_meaning.specs.Meaning.{Cuts}
 use Rattle.ssq_core.specs.Settled.{IsSettledAs}
 use Rattle.ssq_core.specs.Standing.{files_at}
 use Rattle.ssq_core.specs.Staying.{FilesStay}
-use Rattle.ssq_core.proofs.Staying.{stay_here, stay_on}
+use Rattle.ssq_core.proofs.Staying.{stay_here, stay_on, was_settled_within}
 use Rattle.ssq_open.specs.Opening.{SyncedSince}
 use Rattle.ssq_round.specs.declared.fault.RoundFault.{RoundFault}
 use Rattle.ssq_round.specs.declared.fault.RoundFault.TheVariants as round
@@ -109,6 +109,7 @@ turn_left given entry found rounds put from mid now T w seen epochs most next so
       small = λ e low. omega (arith, goes.below below e, few);
       moments = turn_moments given.job (cuts_after given.most entry rounds) next (planned_in from) seen entry.planned entry.committed from.committed most given.start mid now goes le so.on (omega (arith, so.all)) so.moments in_round;
       kept = subst K at (record { each = λ image is. wider given.job next n k most entry.planned k most image so.on (omega arith) (omega arith) (kept.each image is) });
+      opened = (so.opened.0, was_settled_within given.start given.start mid now (files_at (course_of given.job entry.cuts) entry.planned entry.committed so.opened.0) (stay_here given.start) so.opened.1 stays);
       settled = turn_settled given entry found rounds put from mid now T w seen epochs next so goes settled stays;
       stay = stay_on given.start mid now so.stay stays;
       sums = sums_upto given.job next most (goes.same 0 (omega arith) ∙ standing.starts) (λ e low. goes.rises (λ e low. omega (arith, standing.proper e low)) below e);
@@ -197,6 +198,7 @@ turn_done given entry found known known_now rounds put from mid T w told now pro
         bound = omega (arith, end_is, covered.end);
         few = enough.few;
         moments = subst Moments planned_at left_at.moments;
+        opened = left_at.opened;
         settled = left_at.settled;
         stay = left_at.stay;
         wrote = λ t. more t ∙ ap (λ b. b ++ told) (before t) ∙ append_assoc given.written (told_from given.job next entry.committed put) told
@@ -240,7 +242,7 @@ turn_stopped given entry found known known_now rounds put from mid T w told now 
     turn_left given entry found rounds put from mid now T w seen m (k + m + 1) next so goes enough.few enough.all one stop.did.moments stop.did.kept stop.did.settled stop.did.stay in
     let LeftTo : ℕ → Type 0 = λ p. Left given entry next (put + m) (p + m + 1) now in
     let Cause : ℕ → Type 0 = λ p. StopCause given.job next (p + m) seen now fault in
-    stopped rounds put seen m next fault (turn_some given entry found rounds put from mid T w so fewer) (omega (arith, shown, saw)) there enough.few
+    stopped rounds put seen m next fault (turn_some given entry found rounds put from mid T w so fewer) (omega (arith, shown, saw)) there enough.few enough.inside
     (ap (λ p. continued cuts p given.most seen) (sym so.planned)) (subst LeftTo (sym so.all) left_at)
     (turn_wrote given entry found rounds put from mid T w seen next so goes)
     (stop.did.lines ∙ ap (λ f. told_from given.job next f m) (sym so.all)) (subst Cause (sym so.all) stop.cause) refl
@@ -274,6 +276,7 @@ turn_unseen given entry found known known_now rounds put from mid T w told now f
       small = λ e le. omega (arith, below e le, so.few);
       moments = so.moments;
       kept = settled_leaves Kept mid (files_at (course_of given.job cuts) n from.committed so.sinks) so.ready.settled (between given.job cuts n from.committed so.sinks entry.planned (entry.committed + put) n so.ready.standing so.on (omega (arith, so.all)) (omega arith));
+      opened = so.opened;
       settled = so.settled;
       stay = so.stay;
       sums = sums_upto given.job cuts n so.ready.standing.starts (λ e low. omega (arith, so.ready.standing.proper e low));

@@ -5,7 +5,7 @@ use Rattle.ssq_outside.specs.History.{History, files_now, LeavesNow}
 use Rattle.ssq_meaning.specs.Meaning.{Cuts, given as given_by, meaning}
 use Rattle.ssq_core.specs.Settled.{IsSettledAs}
 use Rattle.ssq_core.specs.Standing.{files_at}
-use Rattle.ssq_core.specs.Staying.{FilesStay}
+use Rattle.ssq_core.specs.Staying.{FilesStay, WasSettled}
 use Rattle.ssq_open.specs.declared.fault.OpenFault.{OpenFault}
 use Rattle.ssq_open.specs.declared.wanted.Opened.{Opened}
 use Rattle.ssq_open.specs.Opening.{Passes, IsFirst, IsRefused, SyncedSince, IsOpening}
@@ -46,14 +46,16 @@ StandsYet job cuts begun least most old files = StandsBetween job cuts begun lea
 -- What rounds left that told so many epochs, from the first on that was not committed. The planned epochs keep their ends. From the
 -- first sync of names on, each image of each moment stands for these cuts, with each epoch planned that was planned before and each
 -- committed that was committed; now each image has each epoch that was told, too. No more than so many are planned. Each epoch that
--- was told was settled in steps, before the next was planned: its plan, its rows and its commit are in each image from then on. At no
--- moment was a file removed or changed, or one that was settled at the start missing in an image. What any first epochs give, one
--- after the other, is what the query means on their lines.
+-- was told was settled in steps, before the next was planned: its plan, its rows and its commit are in each image from then on. So are
+-- the files that the opening settled: those that were there, or the first record. At no moment was a file removed or changed, or one
+-- that was settled at the start missing in an image. What any first epochs give, one after the other, is what the query means on
+-- their lines.
 pub record Left (given : Given) (entry : Entry) (cuts : Cuts) (told planned : ℕ) (now : History) : Type 0 where
   pub keeps : (e : ℕ) → e ≤ entry.planned → cuts e ≡ entry.cuts e
   pub small : (e : ℕ) → e ≤ planned → cuts e < 2 ^ 64
   pub moments : SyncedSince given.start now (StandsYet given.job cuts entry.planned entry.committed planned (files_now given.start))
   pub kept : LeavesNow now (StandsBetween given.job cuts entry.planned (entry.committed + told) planned)
+  pub opened : (w : ℕ) × WasSettled given.start now (files_at (course_of given.job entry.cuts) entry.planned entry.committed w)
   pub settled : (e : ℕ) → entry.committed ≤ e → e < entry.committed + told → SettledInSteps given.job cuts entry.planned e given.start now
   pub stay : FilesStay given.start now
   pub sums : (n : ℕ) → n ≤ planned → given_by given.job.bound given.job.lines cuts n ≡ meaning given.job.bound given.job.lines cuts n
@@ -106,7 +108,7 @@ pub data RoundsEnd (given : Given) (entry : Entry) (found known : ℕ) (now : Hi
       → Wrote OutTells given.written written (told_from given.job (cuts_after given.most entry rounds) entry.committed epochs)
       → told ≡ [] → end ≡ Some NoMemory → RoundsEnd given entry found known now OutTells written told end
   stopped : (rounds : List Round) (put seen epochs : ℕ) (cuts : Cuts) (why : RoundFault) → AreSome given entry found rounds put
-      → seen_after found rounds ≤ seen → seen ≤ known → seen ≤ most_lines
+      → seen_after found rounds ≤ seen → seen ≤ known → seen ≤ most_lines → seen ≤ length given.job.lines
       → cuts ≡ continued (cuts_after given.most entry rounds) (epochs_after entry.planned rounds) given.most seen
       → Left given entry cuts (put + epochs) (entry.committed + put + epochs + 1) now
       → Wrote OutTells given.written written (told_from given.job cuts entry.committed put)

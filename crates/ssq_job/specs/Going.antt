@@ -2,13 +2,14 @@
 use Rattle.std.specs.Prelude.{◌≡◌, ◌<◌, ◌≤◌, ◌+◌, ℕ, List, ◌∷◌, length}
 use Rattle.ssq_outside.specs.History.{History, files_now}
 use Rattle.ssq_meaning.specs.Meaning.{Cuts}
-use Rattle.ssq_core.specs.Staying.{FilesStay}
+use Rattle.ssq_core.specs.Standing.{files_at}
+use Rattle.ssq_core.specs.Staying.{FilesStay, WasSettled}
 use Rattle.ssq_open.specs.Opening.{SyncedSince}
 use Rattle.ssq_round.specs.declared.progress.Progress.{Progress}
 use Rattle.ssq_round.specs.Cutting.{planned_in, planned_end}
 use Rattle.ssq_round.specs.Epochs.{IsReady, SettledInSteps}
 use Rattle.ssq_round.specs.Faults.{most_lines}
-use Rattle.ssq_round.specs.Standing.{Job}
+use Rattle.ssq_round.specs.Standing.{Job, course_of}
 use Rattle.ssq_round.specs.Told.{told_from}
 use Rattle.ssq_job.specs.Entry.{Entry}
 use Rattle.ssq_job.specs.Rounds.{Round, seen_after, epochs_after, cuts_after, AreRounds}
@@ -35,6 +36,7 @@ pub record SoFar (given : Given) (entry : Entry) (found : ℕ) (rounds : List Ro
   pub bound : planned_end progress ≤ seen_after found rounds
   pub few : seen_after found rounds ≤ most_lines
   pub moments : SyncedSince given.start now (StandsYet given.job (cuts_after given.most entry rounds) entry.planned entry.committed (planned_in progress) (files_now given.start))
+  pub opened : (w : ℕ) × WasSettled given.start now (files_at (course_of given.job entry.cuts) entry.planned entry.committed w)
   pub settled : (e : ℕ) → entry.committed ≤ e → e < entry.committed + put → SettledInSteps given.job (cuts_after given.most entry rounds) entry.planned e given.start now
   pub stay : FilesStay given.start now
   pub wrote : Wrote OutTells given.written written (told_from given.job (cuts_after given.most entry rounds) entry.committed put)

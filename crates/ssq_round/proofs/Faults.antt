@@ -61,7 +61,7 @@ feed_stops job cuts query lines e from end known w now (Bad offset cause) of_job
     let wrong = fault_of_job job cuts query lines e from end offset (line.Bad cause) of_job epoch is in (wrong, faulty_settled job cuts e w offset now planned wrong.first)
 feed_stops job cuts query lines e from end known w now (Overflow offset) of_job epoch planned there only is =
     let wrong = fault_of_job job cuts query lines e from end offset line.Overflow of_job epoch is in (wrong, faulty_settled job cuts e w offset now planned wrong.first)
-feed_stops job cuts query lines e from end known w now LogFault of_job epoch planned there only is = tt
+feed_stops job cuts query lines e from end known w now LogFault of_job epoch planned there only is = (w, planned.settled)
 feed_stops job cuts query lines e from end known w now (LogShort logged found) of_job epoch planned there only is = absurd (omega (arith, there, only, is.0, is.1))
 feed_stops job cuts query lines e from end known w now (FullLines all) of_job epoch planned there only is = absurd is
 feed_stops job cuts query lines e from end known w now FullEpochs of_job epoch planned there only is = absurd is

@@ -213,7 +213,7 @@ round_ends job cuts first planned seen start now before told progress so_far beh
 stop_cause : (job : Job) (cuts : Cuts) (k seen : ℕ) (now : History) (fault : RoundFault) → cuts k < seen → EpochCause job cuts k now fault → StopCause job cuts k seen now fault
 stop_cause job cuts k seen now (Bad offset cause) less is = is
 stop_cause job cuts k seen now (Overflow offset) less is = is
-stop_cause job cuts k seen now LogFault less is = tt
+stop_cause job cuts k seen now LogFault less is = is
 stop_cause job cuts k seen now (LogShort logged found) less is = absurd is
 stop_cause job cuts k seen now (FullLines lines) less is = absurd is
 stop_cause job cuts k seen now FullEpochs less is = (is, less)

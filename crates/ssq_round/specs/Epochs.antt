@@ -102,14 +102,15 @@ pub record SettledInSteps (job : Job) (cuts : Cuts) (begun e : ℕ) (start now :
   pub rows : WasSettled start now (files_at (course_of job cuts) (e + 1) e (e + 1))
   pub commit : WasSettled start now (files_at (course_of job cuts) (e + 1) (e + 1) (e + 1))
 
--- What stops epoch e: its first faulty line with what is wrong, where it is planned and nothing more, or a fault of the outside.
+-- What stops epoch e: its first faulty line with what is wrong, where it is planned and nothing more; a fault of the log, where it is
+-- planned and not committed, and that is settled; or another fault of the outside.
 -- That there are too many epochs is said where it would be planned, and then nothing is done.
 abbrev pub EpochCause : Job → Cuts → ℕ → History → RoundFault → Type 0
 EpochCause job cuts e now (Bad offset cause) =
     IsFaultOf job.bound job.lines cuts e offset (line.Bad cause) × IsSettledAs now (files_at (course_of job cuts) (e + 1) e e)
 EpochCause job cuts e now (Overflow offset) =
     IsFaultOf job.bound job.lines cuts e offset line.Overflow × IsSettledAs now (files_at (course_of job cuts) (e + 1) e e)
-EpochCause job cuts e now LogFault = ⊤
+EpochCause job cuts e now LogFault = (w : ℕ) × IsSettledAs now (files_at (course_of job cuts) (e + 1) e w)
 EpochCause job cuts e now (LogShort logged found) = ⊥
 EpochCause job cuts e now (FullLines lines) = ⊥
 EpochCause job cuts e now FullEpochs = (e ≡ most_epochs) × IsSettledAs now (files_at (course_of job cuts) e e e)

@@ -50,7 +50,7 @@ abbrev pub StopCause : Job → Cuts → ℕ → ℕ → History → RoundFault �
 StopCause job cuts done seen now FullEpochs = EpochCause job cuts done now FullEpochs × (cuts done < seen)
 StopCause job cuts done seen now (Bad offset cause) = EpochCause job cuts done now (Bad offset cause)
 StopCause job cuts done seen now (Overflow offset) = EpochCause job cuts done now (Overflow offset)
-StopCause job cuts done seen now LogFault = ⊤
+StopCause job cuts done seen now LogFault = EpochCause job cuts done now LogFault
 StopCause job cuts done seen now (LogShort logged found) = ⊥
 StopCause job cuts done seen now (FullLines lines) = ⊥
 StopCause job cuts done seen now DiskFault = ⊤

@@ -197,7 +197,7 @@ rounds_allowed : (L : Type 0) (given : Asks) (entry : Entry) (found known : ℕ)
     → RoundsEnd given entry found known now OutTells written told end → Allowed L end
 rounds_allowed L given entry found known now OutTells written told end room (finished rounds epochs number there done wrote tells is) = subst (Allowed L) (sym is) tt
 rounds_allowed L given entry found known now OutTells written told end room (unsaid rounds epochs number there done wrote tells is) = allowed_at L end job.NoMemory is tt
-rounds_allowed L given entry found known now OutTells written told end room (stopped rounds put seen epochs cuts why some less there few same left wrote tells cause is) =
+rounds_allowed L given entry found known now OutTells written told end room (stopped rounds put seen epochs cuts why some less there few inside same left wrote tells cause is) =
     allowed_at L end (fault_of_round why) is (stop_allowed L given entry cuts (put + epochs) _ (entry.committed + put + epochs) seen now why room left (omega arith) cause)
 rounds_allowed L given entry found known now OutTells written told end room (unseen rounds put seen fault some less there left wrote tells cause is) =
     allowed_at L end fault is (untaken_allowed L _ seen fault room.few_lines cause)
