@@ -4,9 +4,9 @@ use Rattle.ssq_outside.specs.Files.{Files, IsEmpty, IsImage}
 use Rattle.ssq_outside.specs.History.{History, had_now, files_now, LeavesNow, LeavesOnly}
 use Rattle.ssq_outside.proofs.Steps.{files_are_image, weaker, joined}
 use Rattle.ssq_meaning.specs.Meaning.{Cuts}
-use Rattle.ssq_core.specs.Standing.{files_at}
-use Rattle.ssq_core.proofs.Standing.{meta_step}
-use Rattle.ssq_open.specs.Opening.{SyncedSince, IsBegun, IsOpening, unsynced, synced, only_meta, first_meta, no_files}
+use Rattle.ssq_settle.specs.Standing.{files_at}
+use Rattle.ssq_settle.proofs.Standing.{meta_step}
+use Rattle.ssq_opening.specs.Opening.{SyncedSince, IsBegun, IsOpening, unsynced, synced, only_meta, first_meta, no_files}
 use Rattle.ssq_round.specs.Standing.{Job, course_of, Standing}
 use Rattle.ssq_job.specs.Entry.{Entry, IsUncut, StandsFor, IsEmptyOrStands, StillStands, AlwaysStands, sought_of}
 use Rattle.ssq_job.specs.Ending.{StandsYet}

@@ -10,10 +10,10 @@ use Rattle.ssq_meaning.specs.Meaning.{Line}
 use Rattle.ssq_meaning.specs.declared.line.LineFault.TheVariants as line
 use Rattle.ssq_plans.specs.declared.part.PartEnd.{PartEnd}
 use Rattle.ssq_plans.specs.declared.plan.Plan.{Plan}
-use Rattle.ssq_open.specs.declared.wanted.Opened.{Opened}
-use Rattle.ssq_open.specs.Epochs.{follows, keeps_up, is_next, IsProgress, IsPending, all_done, one_left}
-use Rattle.ssq_open.specs.Opening.{last_ends, IsOpen, kept, begun}
-use Rattle.ssq_open.proofs.Passing.{one_end}
+use Rattle.ssq_opening.specs.declared.wanted.Opened.{Opened}
+use Rattle.ssq_opening.specs.Epochs.{follows, keeps_up, is_next, IsProgress, IsPending, all_done, one_left}
+use Rattle.ssq_opening.specs.Opening.{last_ends, IsOpen, kept, begun}
+use Rattle.ssq_opening.proofs.Passing.{one_end}
 use Rattle.ssq_round.specs.declared.fault.RoundFault.{RoundFault}
 use Rattle.ssq_round.specs.declared.fault.RoundFault.TheVariants as round
 use Rattle.ssq_round.specs.declared.progress.Progress.{Progress}

@@ -7,13 +7,13 @@ use Rattle.ssq_outside.specs.History.{History, had_now, files_now, LeavesNow}
 use Rattle.ssq_outside.proofs.Steps.{files_are_image, weaker}
 use Rattle.ssq_meaning.specs.Meaning.{Line, Cuts}
 use Rattle.ssq_shape.specs.declared.bound.Bound.{Bound}
-use Rattle.ssq_open.specs.declared.fault.OpenFault.{OpenFault}
-use Rattle.ssq_open.specs.declared.fault.OpenFault.TheVariants as opening
-use Rattle.ssq_core.specs.Settled.{IsSettledAs}
-use Rattle.ssq_core.specs.Standing.{files_at}
-use Rattle.ssq_core.specs.Staying.{FilesStay}
-use Rattle.ssq_core.proofs.Staying.{stay_here, was_settled_at}
-use Rattle.ssq_open.specs.Opening.{SyncedSince, IsBegun, IsOpening, IsOutside}
+use Rattle.ssq_opening.specs.declared.fault.OpenFault.{OpenFault}
+use Rattle.ssq_opening.specs.declared.fault.OpenFault.TheVariants as opening
+use Rattle.ssq_settle.specs.Settled.{IsSettledAs}
+use Rattle.ssq_settle.specs.Standing.{files_at}
+use Rattle.ssq_settle.specs.Staying.{FilesStay}
+use Rattle.ssq_settle.proofs.Staying.{stay_here, was_settled_at}
+use Rattle.ssq_opening.specs.Opening.{SyncedSince, IsBegun, IsOpening, IsOutside}
 use Rattle.ssq_round.specs.declared.fault.RoundFault.{RoundFault}
 use Rattle.ssq_round.specs.declared.fault.RoundFault.TheVariants as round
 use Rattle.ssq_round.specs.declared.progress.Progress.{Progress}

@@ -12,16 +12,16 @@ use Rattle.ssq_meaning.specs.Meaning.{Cuts}
 use Rattle.ssq_plans.specs.declared.part.PartEnd.{PartEnd}
 use Rattle.ssq_plans.specs.declared.plan.Plan.{Plan}
 use Rattle.ssq_plans.specs.Records.{IsCount, IsPart, IsSeen}
-use Rattle.ssq_core.specs.Course.{Course, plan_of}
-use Rattle.ssq_core.specs.Settled.{IsSettledAs}
-use Rattle.ssq_core.specs.Standing.{files_at, Stands}
-use Rattle.ssq_open.specs.declared.fault.OpenFault.{OpenFault}
-use Rattle.ssq_open.specs.declared.wanted.Opened.{Opened}
-use Rattle.ssq_open.specs.Opening.{first_short, is_short, Passes, IsOutside, IsFirst, IsOpen, kept, begun, IsRefused, unchanged, unfinished, only_meta, first_meta, last_ends}
-use Rattle.ssq_open.specs.Epochs.{follows}
-use Rattle.ssq_open.specs.Laws.{IsCourseOf, IsOfCourse, AreAlike}
-use Rattle.ssq_open.proofs.Passing.{say_what_is_found, not_refused}
-use Rattle.ssq_open.proofs.Standings.{standing_passes}
+use Rattle.ssq_settle.specs.Course.{Course, plan_of}
+use Rattle.ssq_settle.specs.Settled.{IsSettledAs}
+use Rattle.ssq_settle.specs.Standing.{files_at, Stands}
+use Rattle.ssq_opening.specs.declared.fault.OpenFault.{OpenFault}
+use Rattle.ssq_opening.specs.declared.wanted.Opened.{Opened}
+use Rattle.ssq_opening.specs.Opening.{first_short, is_short, Passes, IsOutside, IsFirst, IsOpen, kept, begun, IsRefused, unchanged, unfinished, only_meta, first_meta, last_ends}
+use Rattle.ssq_opening.specs.Epochs.{follows}
+use Rattle.ssq_opening.specs.Laws.{IsCourseOf, IsOfCourse, AreAlike}
+use Rattle.ssq_opening.proofs.Passing.{say_what_is_found, not_refused}
+use Rattle.ssq_opening.proofs.Standings.{standing_passes}
 use Rattle.ssq_round.specs.declared.progress.Progress.{Progress}
 use Rattle.ssq_round.specs.Standing.{Job, part_ends, course_of, Standing}
 use Rattle.ssq_job.specs.Causes.{end_of, progress_in}

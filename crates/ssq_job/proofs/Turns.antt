@@ -6,11 +6,11 @@ use Rattle.ssq_outside.specs.Files.{Files}
 use Rattle.ssq_outside.specs.History.{History, files_now, LeavesNow, LeavesOnly}
 use Rattle.ssq_outside.proofs.Steps.{weaker, joined}
 use Rattle.ssq_meaning.specs.Meaning.{Cuts}
-use Rattle.ssq_core.specs.Settled.{IsSettledAs}
-use Rattle.ssq_core.specs.Standing.{files_at}
-use Rattle.ssq_core.specs.Staying.{FilesStay}
-use Rattle.ssq_core.proofs.Staying.{stay_here, stay_on, was_settled_within}
-use Rattle.ssq_open.specs.Opening.{SyncedSince}
+use Rattle.ssq_settle.specs.Settled.{IsSettledAs}
+use Rattle.ssq_settle.specs.Standing.{files_at}
+use Rattle.ssq_settle.specs.Staying.{FilesStay}
+use Rattle.ssq_settle.proofs.Staying.{stay_here, stay_on, was_settled_within}
+use Rattle.ssq_opening.specs.Opening.{SyncedSince}
 use Rattle.ssq_round.specs.declared.fault.RoundFault.{RoundFault}
 use Rattle.ssq_round.specs.declared.fault.RoundFault.TheVariants as round
 use Rattle.ssq_round.specs.declared.progress.Progress.{Progress}

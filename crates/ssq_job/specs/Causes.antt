@@ -5,7 +5,7 @@ use Rattle.ssq_meaning.specs.Meaning.{Line}
 use Rattle.ssq_meaning.specs.declared.line.LineFault.TheVariants as line
 use Rattle.ssq_plans.specs.declared.part.PartEnd.{PartEnd}
 use Rattle.ssq_plans.specs.declared.plan.Plan.{Plan}
-use Rattle.ssq_open.specs.declared.wanted.Opened.{Opened}
+use Rattle.ssq_opening.specs.declared.wanted.Opened.{Opened}
 use Rattle.ssq_round.specs.declared.progress.Progress.{Progress}
 use Rattle.ssq_round.specs.Causes.{AreGood, IsFirstFrom}
 use Rattle.ssq_round.specs.Cutting.{planned_in, planned_end}

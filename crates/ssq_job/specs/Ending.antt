@@ -3,12 +3,12 @@ use Rattle.std.specs.Prelude.{◌≡◌, ◌⊎◌, ◌<◌, ◌≤◌, ◌+◌,
 use Rattle.ssq_outside.specs.Files.{Files, IsEmpty}
 use Rattle.ssq_outside.specs.History.{History, files_now, LeavesNow}
 use Rattle.ssq_meaning.specs.Meaning.{Cuts, given as given_by, meaning}
-use Rattle.ssq_core.specs.Settled.{IsSettledAs}
-use Rattle.ssq_core.specs.Standing.{files_at}
-use Rattle.ssq_core.specs.Staying.{FilesStay, WasSettled}
-use Rattle.ssq_open.specs.declared.fault.OpenFault.{OpenFault}
-use Rattle.ssq_open.specs.declared.wanted.Opened.{Opened}
-use Rattle.ssq_open.specs.Opening.{Passes, IsFirst, IsRefused, SyncedSince, IsOpening}
+use Rattle.ssq_settle.specs.Settled.{IsSettledAs}
+use Rattle.ssq_settle.specs.Standing.{files_at}
+use Rattle.ssq_settle.specs.Staying.{FilesStay, WasSettled}
+use Rattle.ssq_opening.specs.declared.fault.OpenFault.{OpenFault}
+use Rattle.ssq_opening.specs.declared.wanted.Opened.{Opened}
+use Rattle.ssq_opening.specs.Opening.{Passes, IsFirst, IsRefused, SyncedSince, IsOpening}
 use Rattle.ssq_round.specs.declared.fault.RoundFault.{RoundFault}
 use Rattle.ssq_round.specs.Cutting.{continued}
 use Rattle.ssq_round.specs.Epochs.{SettledInSteps}

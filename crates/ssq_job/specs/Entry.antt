@@ -3,8 +3,8 @@ use Rattle.std.specs.Prelude.{◌≡◌, ◌⊎◌, ◌<◌, ◌^◌, ℕ, List,
 use Rattle.ssq_outside.specs.Files.{Files, Had, IsEmpty, IsImage}
 use Rattle.ssq_outside.specs.History.{History, had_now, LeavesNow, LeavesOnly}
 use Rattle.ssq_meaning.specs.Meaning.{Cuts}
-use Rattle.ssq_core.specs.Standing.{files_at}
-use Rattle.ssq_open.specs.Sought.{Sought}
+use Rattle.ssq_settle.specs.Standing.{files_at}
+use Rattle.ssq_opening.specs.Sought.{Sought}
 use Rattle.ssq_round.specs.Standing.{Job, part_ends, course_of, Standing}
 
 -- What is wanted of a checkpoint: it is of the query with this text, which has one stream of one part, in which so many lines

@@ -2,8 +2,8 @@
 use Rattle.std.specs.Prelude.{◌≢◌, ◌<◌, ℕ, ⊤}
 use Rattle.ssq_outside.specs.Faults.{Rises}
 use Rattle.ssq_json.specs.declared.bad_row.BadRow.TheVariants as bad
-use Rattle.ssq_open.specs.declared.fault.OpenFault.{OpenFault}
-use Rattle.ssq_open.specs.declared.fault.OpenFault.TheVariants as opening
+use Rattle.ssq_opening.specs.declared.fault.OpenFault.{OpenFault}
+use Rattle.ssq_opening.specs.declared.fault.OpenFault.TheVariants as opening
 use Rattle.ssq_round.specs.declared.fault.RoundFault.{RoundFault}
 use Rattle.ssq_round.specs.declared.fault.RoundFault.TheVariants as round
 use Rattle.ssq_round.specs.Faults.{most_lines}

@@ -2,9 +2,9 @@
 use Rattle.std.specs.Prelude.{◌≡◌, ◌<◌, ◌≤◌, ◌+◌, ℕ, List, ◌∷◌, length}
 use Rattle.ssq_outside.specs.History.{History, files_now}
 use Rattle.ssq_meaning.specs.Meaning.{Cuts}
-use Rattle.ssq_core.specs.Standing.{files_at}
-use Rattle.ssq_core.specs.Staying.{FilesStay, WasSettled}
-use Rattle.ssq_open.specs.Opening.{SyncedSince}
+use Rattle.ssq_settle.specs.Standing.{files_at}
+use Rattle.ssq_settle.specs.Staying.{FilesStay, WasSettled}
+use Rattle.ssq_opening.specs.Opening.{SyncedSince}
 use Rattle.ssq_round.specs.declared.progress.Progress.{Progress}
 use Rattle.ssq_round.specs.Cutting.{planned_in, planned_end}
 use Rattle.ssq_round.specs.Epochs.{IsReady, SettledInSteps}

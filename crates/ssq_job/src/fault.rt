@@ -1,7 +1,7 @@
 //! Why a run stops.
 
 use ssq_json::BadRow;
-use ssq_open::OpenFault;
+use ssq_opening::OpenFault;
 use ssq_outside::Name;
 use ssq_round::RoundFault;
 use ssq_value::Text;

@@ -29,7 +29,7 @@ use std::alloc::Global;
 /// `done epochs K`, for the caller to write. Where a round stopped, `told` has the lines of the epochs that it did, for the caller
 /// to write before it says why. Where the output failed, a front of the round's lines was written and `told` is empty.
 ///
-/// The refusals come in the order of the work: `LogFault` and `FullLines` of the log; those of the checkpoint, as `ssq_open::open`
+/// The refusals come in the order of the work: `LogFault` and `FullLines` of the log; those of the checkpoint, as `ssq_opening::open`
 /// has them, with no partitions asked for and one part of the one stream; those of rounds, as `ssq_round::run_round` has them.
 pub fn run_job<D: Disk, L: Log, O: Output>(
     alloc: Global,

@@ -2,8 +2,8 @@
 
 ghost use Rattle.std.specs.Prelude.{◌≡◌, ◌≤◌, ℕ, IfOk, IfErr, OnOk};
 ghost use Rattle.ssq_outside.specs.History.{files_now};
-ghost use Rattle.ssq_core.specs.Staying.{FilesStay};
-ghost use Rattle.ssq_open.specs.Opening.{SyncedSince, IsBegun};
+ghost use Rattle.ssq_settle.specs.Staying.{FilesStay};
+ghost use Rattle.ssq_opening.specs.Opening.{SyncedSince, IsBegun};
 ghost use Rattle.ssq_round.specs.Standing.{Job};
 ghost use Rattle.ssq_job.specs.Begun.{BeginsAt};
 ghost use Rattle.ssq_job.specs.Causes.{end_of, progress_in};
@@ -13,7 +13,7 @@ ghost use Rattle.ssq_job.specs.Faults.{IsJobFault, IsNoRefusal, LogRises, DiskRi
 ghost use Rattle.ssq_job.specs.Going.{IsReadyFor};
 
 use crate::fault::JobFault;
-use ssq_open::{Opened, Wanted, open};
+use ssq_opening::{Opened, Wanted, open};
 use ssq_outside::Disk;
 use ssq_plans::PartEnd;
 use ssq_round::Progress;

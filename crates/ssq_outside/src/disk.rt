@@ -74,9 +74,9 @@ impl From<AllocError> for DiskError {
 }
 
 /// A file that is written aside, owned by one task. It stands in no checkpoint and in no image of a crash.
-pub trait Stage: Drop + Send + Sized {
+pub trait Stage: Drop + Sized {
     /// The file when it is whole and on the disk, to be published under a name.
-    type Sealed: Drop + Send;
+    type Sealed: Drop;
 
     /// Whether the type tells what it holds.
     ghost tells: { Type 0 };
@@ -110,7 +110,7 @@ pub trait Stage: Drop + Send + Sized {
 ///
 /// A crash leaves for each name by itself the content that it had at the last successful `sync_names`, or one that
 /// it had since. A failed call leaves any state that its start or its success allows. Staged files are in no image.
-pub trait Disk: Drop + Send {
+pub trait Disk: Drop {
     type Stage: Stage;
 
     /// Whether the type tells what it holds.

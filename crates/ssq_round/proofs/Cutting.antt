@@ -9,10 +9,10 @@ use Rattle.ssq_shape.specs.declared.bound.Bound.{Bound}
 use Rattle.ssq_shape.specs.Plain.{output_names}
 use Rattle.ssq_meaning.specs.Meaning.{Line, Cuts, fed, shown, out, fault, is_faulty, lines_between, next_end}
 use Rattle.ssq_sink.specs.Sink.{sink_text}
-use Rattle.ssq_core.specs.Course.{AgreeUpTo}
-use Rattle.ssq_core.specs.Settled.{IsSettledAs}
-use Rattle.ssq_core.specs.Standing.{files_at}
-use Rattle.ssq_core.proofs.Standing.{agree_files}
+use Rattle.ssq_settle.specs.Course.{AgreeUpTo}
+use Rattle.ssq_settle.specs.Settled.{IsSettledAs}
+use Rattle.ssq_settle.specs.Standing.{files_at}
+use Rattle.ssq_settle.proofs.Standing.{agree_files}
 use Rattle.ssq_round.specs.declared.progress.Progress.{Progress}
 use Rattle.ssq_round.specs.Cutting.{continued, planned_in}
 use Rattle.ssq_round.specs.Epochs.{IsReady}

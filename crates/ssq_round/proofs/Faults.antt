@@ -8,8 +8,8 @@ use Rattle.ssq_shape.specs.declared.bound.Bound.{Bound}
 use Rattle.ssq_meaning.specs.Meaning.{Line, Cuts, fault, IsFirstFault, IsFaultOf}
 use Rattle.ssq_meaning.specs.declared.line.LineFault.{LineFault}
 use Rattle.ssq_meaning.specs.declared.line.LineFault.TheVariants as line
-use Rattle.ssq_core.specs.Settled.{IsSettledAs}
-use Rattle.ssq_core.specs.Standing.{files_at}
+use Rattle.ssq_settle.specs.Settled.{IsSettledAs}
+use Rattle.ssq_settle.specs.Standing.{files_at}
 use Rattle.ssq_round.specs.declared.fault.RoundFault.{RoundFault}
 use Rattle.ssq_round.specs.declared.fault.RoundFault.TheVariants.{Bad, Overflow, LogFault, LogShort, FullLines, FullEpochs, DiskFault, NoMemory}
 use Rattle.ssq_round.specs.Epochs.{FeedCause, IsEpochOf, IsPlanned, EpochCause}

@@ -8,11 +8,11 @@ use Rattle.ssq_outside.specs.Files.{Files}
 use Rattle.ssq_outside.specs.History.{History, LeavesNow, LeavesOnly}
 use Rattle.ssq_outside.proofs.Steps.{weaker, joined}
 use Rattle.ssq_meaning.specs.Meaning.{Line, Cuts, next_end, AreProper}
-use Rattle.ssq_core.specs.Settled.{IsSettledAs}
-use Rattle.ssq_core.specs.Standing.{files_at}
-use Rattle.ssq_core.specs.Staying.{FilesStay}
-use Rattle.ssq_core.proofs.Standing.{stays}
-use Rattle.ssq_core.proofs.Staying.{stay_here, stay_on}
+use Rattle.ssq_settle.specs.Settled.{IsSettledAs}
+use Rattle.ssq_settle.specs.Standing.{files_at}
+use Rattle.ssq_settle.specs.Staying.{FilesStay}
+use Rattle.ssq_settle.proofs.Standing.{stays}
+use Rattle.ssq_settle.proofs.Staying.{stay_here, stay_on}
 use Rattle.ssq_round.specs.declared.fault.RoundFault.{RoundFault}
 use Rattle.ssq_round.specs.declared.fault.RoundFault.TheVariants.{Bad, Overflow, LogFault, LogShort, FullLines, FullEpochs, DiskFault, NoMemory}
 use Rattle.ssq_round.specs.declared.progress.Progress.{Progress}

@@ -3,10 +3,10 @@ use Rattle.std.proofs.Common.{◌≡◌, ◌+◌, ◌≤◌, ℕ, subst, arith}
 use Rattle.ssq_outside.specs.Files.{Files}
 use Rattle.ssq_outside.specs.History.{History}
 use Rattle.ssq_meaning.specs.Meaning.{Cuts}
-use Rattle.ssq_core.specs.Settled.{IsSettledAs}
-use Rattle.ssq_core.specs.Standing.{files_at}
-use Rattle.ssq_core.specs.Staying.{FilesStay, WasSettled}
-use Rattle.ssq_core.proofs.Staying.{stay_here, stay_on, was_settled_at, was_settled_within}
+use Rattle.ssq_settle.specs.Settled.{IsSettledAs}
+use Rattle.ssq_settle.specs.Standing.{files_at}
+use Rattle.ssq_settle.specs.Staying.{FilesStay, WasSettled}
+use Rattle.ssq_settle.proofs.Staying.{stay_here, stay_on, was_settled_at, was_settled_within}
 use Rattle.ssq_round.specs.declared.progress.Progress.{Progress}
 use Rattle.ssq_round.specs.Cutting.{planned_in}
 use Rattle.ssq_round.specs.Epochs.{IsPlanned, IsEpochDone, IsReady, SettledInSteps}

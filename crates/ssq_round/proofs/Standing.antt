@@ -13,12 +13,12 @@ use Rattle.std.specs.List.{position_from}
 use Rattle.ssq_shape.specs.declared.bound.Bound.{Bound}
 use Rattle.ssq_plans.specs.Records.{plan_text, commit_text}
 use Rattle.ssq_sink.specs.Sink.{sink_text}
-use Rattle.ssq_core.specs.Course.{Course, plan_of, commit_of}
-use Rattle.ssq_core.specs.Settled.{IsSettledAs, IsEither}
-use Rattle.ssq_core.specs.Standing.{files_at}
-use Rattle.ssq_core.proofs.Same.{write_again}
-use Rattle.ssq_core.proofs.Settling.{settled_image}
-use Rattle.ssq_core.proofs.Standing.{plan_step, write_step, commit_step, either_gives}
+use Rattle.ssq_settle.specs.Course.{Course, plan_of, commit_of}
+use Rattle.ssq_settle.specs.Settled.{IsSettledAs, IsEither}
+use Rattle.ssq_settle.specs.Standing.{files_at}
+use Rattle.ssq_settle.proofs.Same.{write_again}
+use Rattle.ssq_settle.proofs.Settling.{settled_image}
+use Rattle.ssq_settle.proofs.Standing.{plan_step, write_step, commit_step, either_gives}
 use Rattle.ssq_round.specs.Epochs.{IsEpochOf}
 use Rattle.ssq_round.specs.Standing.{Job, IsJobOf, plan_at, commit_at, epoch_text, course_of, Standing, StandsBetween}
 

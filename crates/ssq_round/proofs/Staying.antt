@@ -5,12 +5,12 @@ use Rattle.ssq_outside.specs.declared.name.Name.TheVariants as name
 use Rattle.ssq_outside.specs.Files.{Files}
 use Rattle.ssq_outside.specs.History.{History, files_now}
 use Rattle.ssq_plans.specs.Records.{plan_text, commit_text}
-use Rattle.ssq_core.specs.Course.{Course, plan_of, commit_of}
-use Rattle.ssq_core.specs.Settled.{IsSettledAs}
-use Rattle.ssq_core.specs.Standing.{files_at}
-use Rattle.ssq_core.specs.Staying.{IsNoOther}
-use Rattle.ssq_core.proofs.Same.{upto-there, upto-absent}
-use Rattle.ssq_core.proofs.Settling.{settled_files}
+use Rattle.ssq_settle.specs.Course.{Course, plan_of, commit_of}
+use Rattle.ssq_settle.specs.Settled.{IsSettledAs}
+use Rattle.ssq_settle.specs.Standing.{files_at}
+use Rattle.ssq_settle.specs.Staying.{IsNoOther}
+use Rattle.ssq_settle.proofs.Same.{upto-there, upto-absent}
+use Rattle.ssq_settle.proofs.Settling.{settled_files}
 
 pub no_plan : (course : Course) (n k w : ℕ) (h : History) (bytes : List ℕ) → IsSettledAs h (files_at course n k w) → IsNoOther (files_now h) (name.Plan n) bytes
 no_plan course n k w h bytes settled =

@@ -6,10 +6,10 @@ use Rattle.ssq_outside.specs.History.{History, LeavesOnly}
 use Rattle.ssq_outside.proofs.Steps.{joined, weaker}
 use Rattle.ssq_meaning.specs.Meaning.{Cuts, out}
 use Rattle.ssq_plans.specs.Records.{epoch_after}
-use Rattle.ssq_core.specs.Course.{plan_of}
-use Rattle.ssq_core.specs.Settled.{IsSettledAs, IsEither}
-use Rattle.ssq_core.specs.Standing.{files_at}
-use Rattle.ssq_core.proofs.Standing.{stays}
+use Rattle.ssq_settle.specs.Course.{plan_of}
+use Rattle.ssq_settle.specs.Settled.{IsSettledAs, IsEither}
+use Rattle.ssq_settle.specs.Standing.{files_at}
+use Rattle.ssq_settle.proofs.Standing.{stays}
 use Rattle.ssq_round.specs.declared.fault.RoundFault.{RoundFault}
 use Rattle.ssq_round.specs.declared.progress.Progress.{Progress}
 use Rattle.ssq_round.specs.Cutting.{planned_with, planned_in}

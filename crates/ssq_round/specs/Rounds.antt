@@ -3,9 +3,9 @@ use Rattle.std.specs.Prelude.{◌≡◌, ◌<◌, ◌≤◌, ◌+◌, ◌++◌, 
 use Rattle.ssq_outside.specs.Files.{Files}
 use Rattle.ssq_outside.specs.History.{History, LeavesNow, LeavesOnly}
 use Rattle.ssq_meaning.specs.Meaning.{Cuts, next_end}
-use Rattle.ssq_core.specs.Settled.{IsSettledAs}
-use Rattle.ssq_core.specs.Standing.{files_at}
-use Rattle.ssq_core.specs.Staying.{FilesStay}
+use Rattle.ssq_settle.specs.Settled.{IsSettledAs}
+use Rattle.ssq_settle.specs.Standing.{files_at}
+use Rattle.ssq_settle.specs.Staying.{FilesStay}
 use Rattle.ssq_round.specs.declared.fault.RoundFault.{RoundFault}
 use Rattle.ssq_round.specs.declared.fault.RoundFault.TheVariants.{Bad, Overflow, LogFault, LogShort, FullLines, FullEpochs, DiskFault, NoMemory}
 use Rattle.ssq_round.specs.declared.progress.Progress.{Progress}

@@ -8,8 +8,8 @@ use Rattle.ssq_plans.specs.declared.meta.Meta.{Meta}
 use Rattle.ssq_plans.specs.declared.plan.Plan.{Plan}
 use Rattle.ssq_plans.specs.declared.commit.Commit.{Commit}
 use Rattle.ssq_sink.specs.Sink.{sink_text}
-use Rattle.ssq_core.specs.Course.{Course, Ends}
-use Rattle.ssq_core.specs.Standing.{files_at, IsReached}
+use Rattle.ssq_settle.specs.Course.{Course, Ends}
+use Rattle.ssq_settle.specs.Standing.{files_at, IsReached}
 
 -- A bound query, its canonical text, and all lines that its one log will come to hold.
 pub record Job : Type 0 where

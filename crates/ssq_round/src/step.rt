@@ -6,7 +6,7 @@ ghost use Rattle.ssq_shape.specs.declared.bound.Bound.{Bound};
 ghost use Rattle.ssq_shape.specs.Plain.{output_names};
 ghost use Rattle.ssq_meaning.specs.Meaning.{layout_of, Cuts, Line};
 ghost use Rattle.ssq_outside.specs.History.{LeavesOnly};
-ghost use Rattle.ssq_core.specs.Staying.{FilesStay};
+ghost use Rattle.ssq_settle.specs.Staying.{FilesStay};
 ghost use Rattle.ssq_round.specs.Causes.{AreGood, EpochReason};
 ghost use Rattle.ssq_round.specs.Cutting.{planned_in, epoch_end, after_epoch};
 ghost use Rattle.ssq_round.specs.Epochs.{IsPlanned, SettledInSteps, EpochCause, IsReady, IsNext};

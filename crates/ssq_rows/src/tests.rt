@@ -1,7 +1,7 @@
 //! Each row is a query, a log, the files of a checkpoint and the words, with the output, the status and the files that have to come
 //! of them.
 
-use ssq_core::settle;
+use ssq_settle::settle;
 use ssq_fakes::{FailAt, MemDisk, MemInputs, MemLog, MemOut, OpenGate};
 use ssq_files::{FolderDisk, FolderInputs};
 use ssq_outside::{Disk, DiskError, Name};

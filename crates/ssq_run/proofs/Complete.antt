@@ -16,9 +16,9 @@ use Rattle.ssq_meaning.specs.declared.line.LineFault.{LineFault}
 use Rattle.ssq_query.specs.declared.query.Query.{Query as Asking}
 use Rattle.ssq_query.specs.Binding.{bound_of}
 use Rattle.ssq_words.specs.Asking.{Asked, asks_run, asks_status, asked}
-use Rattle.ssq_open.specs.declared.fault.OpenFault.{OpenFault}
-use Rattle.ssq_open.specs.declared.fault.OpenFault.TheVariants as opening
-use Rattle.ssq_open.specs.Opening.{IsOutside as IsOutsideOf}
+use Rattle.ssq_opening.specs.declared.fault.OpenFault.{OpenFault}
+use Rattle.ssq_opening.specs.declared.fault.OpenFault.TheVariants as opening
+use Rattle.ssq_opening.specs.Opening.{IsOutside as IsOutsideOf}
 use Rattle.ssq_round.specs.declared.fault.RoundFault.{RoundFault}
 use Rattle.ssq_round.specs.declared.fault.RoundFault.TheVariants as round
 use Rattle.ssq_round.specs.Faults.{most_lines, most_epochs}

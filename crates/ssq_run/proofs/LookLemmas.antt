@@ -5,15 +5,15 @@ use Rattle.std.proofs.lemmas.Bool.{cases_lt}
 use Rattle.ssq_outside.specs.Files.{Files}
 use Rattle.ssq_outside.specs.Logs.{Line}
 use Rattle.ssq_query.specs.declared.query.Query.{Query as Asking}
-use Rattle.ssq_core.specs.Course.{Course, plan_of}
-use Rattle.ssq_core.specs.Standing.{Stands}
-use Rattle.ssq_open.specs.declared.fault.OpenFault.{OpenFault}
-use Rattle.ssq_open.specs.declared.wanted.Opened.{Opened}
-use Rattle.ssq_open.specs.Laws.{IsCourseOf, IsCourseFrom}
-use Rattle.ssq_open.specs.Looking.{begins, IsDenied}
-use Rattle.ssq_open.specs.Opening.{IsOutside}
-use Rattle.ssq_open.proofs.Looks.{not_denied}
-use Rattle.ssq_open.proofs.Standings.{standing_holds}
+use Rattle.ssq_settle.specs.Course.{Course, plan_of}
+use Rattle.ssq_settle.specs.Standing.{Stands}
+use Rattle.ssq_opening.specs.declared.fault.OpenFault.{OpenFault}
+use Rattle.ssq_opening.specs.declared.wanted.Opened.{Opened}
+use Rattle.ssq_opening.specs.Laws.{IsCourseOf, IsCourseFrom}
+use Rattle.ssq_opening.specs.Looking.{begins, IsDenied}
+use Rattle.ssq_opening.specs.Opening.{IsOutside}
+use Rattle.ssq_opening.proofs.Looks.{not_denied}
+use Rattle.ssq_opening.proofs.Standings.{standing_holds}
 use Rattle.ssq_round.specs.Standing.{course_of}
 use Rattle.ssq_job.specs.Entry.{Entry, StandsAt, IsEmptyOrStands, sought_of}
 use Rattle.ssq_job.proofs.Entries.{course_wanted}

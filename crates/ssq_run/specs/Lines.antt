@@ -3,8 +3,8 @@ use Rattle.std.specs.Prelude.{ℕ, ◌+◌, ◌++◌, List, Option, Some, None, 
 use Rattle.ssq_plans.specs.Names.{text_of}
 use Rattle.ssq_plans.specs.Records.{lines, part_line}
 use Rattle.ssq_plans.specs.declared.plan.Plan.{Plan}
-use Rattle.ssq_open.specs.declared.wanted.Opened.{Opened}
-use Rattle.ssq_open.specs.Opening.{last_ends}
+use Rattle.ssq_opening.specs.declared.wanted.Opened.{Opened}
+use Rattle.ssq_opening.specs.Opening.{last_ends}
 use Rattle.ssq_run.specs.declared.stop.Stop.{Stop}
 use Rattle.ssq_run.specs.declared.stop.Stop.TheVariants.{Usage, Query, BadLine, Overflow, LogFault, DiskFault, OutFault, OtherQuery, OtherPartitions, OtherParts, LogShort, Damaged, NoMemory, FullLines, FullEpochs}
 use Rattle.ssq_run.specs.declared.stop.Wrong.{Wrong}

@@ -3,10 +3,10 @@ use Rattle.std.specs.Prelude.{◌≡◌, ℕ, List, [], Option, Some, None}
 use Rattle.ssq_outside.specs.Files.{Files, IsEmpty}
 use Rattle.ssq_outside.specs.Logs.{Line}
 use Rattle.ssq_query.specs.declared.query.Query.{Query as Asking}
-use Rattle.ssq_open.specs.declared.fault.OpenFault.{OpenFault}
-use Rattle.ssq_open.specs.declared.wanted.Opened.{Opened}
-use Rattle.ssq_open.specs.Looking.{Holds, IsDenied}
-use Rattle.ssq_open.specs.Opening.{IsOutside}
+use Rattle.ssq_opening.specs.declared.fault.OpenFault.{OpenFault}
+use Rattle.ssq_opening.specs.declared.wanted.Opened.{Opened}
+use Rattle.ssq_opening.specs.Looking.{Holds, IsDenied}
+use Rattle.ssq_opening.specs.Opening.{IsOutside}
 use Rattle.ssq_job.specs.Entry.{IsEmptyOrStands}
 use Rattle.ssq_run.specs.declared.stop.Stop.{Stop}
 use Rattle.ssq_run.specs.declared.stop.Stop.TheVariants.{NoMemory}

@@ -12,8 +12,8 @@ use Rattle.ssq_query.specs.declared.query.Query.{Query as Asking}
 use Rattle.ssq_words.specs.Asking.{asked}
 use Rattle.ssq_words.specs.declared.error.AskError.{AskError}
 use Rattle.ssq_words.specs.declared.error.AskError.TheVariants as words
-use Rattle.ssq_open.specs.declared.fault.OpenFault.{OpenFault}
-use Rattle.ssq_open.specs.declared.fault.OpenFault.TheVariants as opening
+use Rattle.ssq_opening.specs.declared.fault.OpenFault.{OpenFault}
+use Rattle.ssq_opening.specs.declared.fault.OpenFault.TheVariants as opening
 use Rattle.ssq_job.specs.declared.fault.JobFault.{JobFault}
 use Rattle.ssq_job.specs.declared.fault.JobFault.TheVariants as job
 use Rattle.ssq_run.specs.declared.stop.Stop.{Stop}

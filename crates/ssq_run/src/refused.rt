@@ -7,7 +7,7 @@ ghost use Rattle.ssq_run.specs.Stopping.{stop_of_bad, stop_of_job, stop_of_open}
 use crate::stop::{Stop, Wrong};
 use ssq_job::JobFault;
 use ssq_json::BadRow;
-use ssq_open::OpenFault;
+use ssq_opening::OpenFault;
 use ssq_query::Query;
 use ssq_value::{Column, Sequence, Text};
 use std::alloc::Global;

@@ -2,7 +2,7 @@
 
 ghost use Rattle.std.specs.Prelude.{◌≡◌, ◌≤◌, ◌+◌, ◌++◌, ℕ, [], None, Some, string_bytes, IfOk, IfErr, OnOk};
 ghost use Rattle.ssq_outside.specs.History.{files_now};
-ghost use Rattle.ssq_open.specs.Opening.{last_ends};
+ghost use Rattle.ssq_opening.specs.Opening.{last_ends};
 ghost use Rattle.ssq_plans.specs.Records.{lines, part_line};
 ghost use Rattle.ssq_run.specs.Lines.{planned_with, number_line, heading, status_text};
 ghost use Rattle.ssq_run.specs.Looked.{LookEnd};
@@ -10,7 +10,7 @@ ghost use Rattle.ssq_run.specs.Stopping.{LogRises, DiskRises, OutRises, IsPastWo
 
 use crate::refused::stop_of_open;
 use crate::stop::Stop;
-use ssq_open::{Opened, look};
+use ssq_opening::{Opened, look};
 use ssq_outside::Disk;
 use ssq_plans::PartEnd;
 use ssq_query::{Query, text};

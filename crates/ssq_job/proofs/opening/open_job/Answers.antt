@@ -2,7 +2,7 @@ use Rattle.std.proofs.Common.{◌<◌, ◌^◌, ℕ, List, sym, subst, length}
 use Rattle.std.specs.Str.{IsUtf8}
 use Rattle.std.proofs.lemmas.Result.{err_from_is_err_and}
 use Rattle.ssq_outside.specs.History.{files_now}
-use Rattle.ssq_open.specs.Opening.{IsOpen, IsRefused}
+use Rattle.ssq_opening.specs.Opening.{IsOpen, IsRefused}
 use Rattle.ssq_round.specs.declared.progress.Progress.{Progress}
 use Rattle.ssq_job.specs.Begun.{BeginsAt}
 use Rattle.ssq_job.specs.Entry.{sought_of}

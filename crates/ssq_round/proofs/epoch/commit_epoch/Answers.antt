@@ -1,10 +1,10 @@
 use Rattle.std.proofs.Common.{◌≡◌, ◌+◌, ◌∙◌, refl, subst, OnOk, inl, inr}
 use Rattle.ssq_outside.specs.Files.{Files}
 use Rattle.ssq_plans.specs.Records.{commit_text}
-use Rattle.ssq_core.specs.Settled.{IsSettledAs, IsEither}
-use Rattle.ssq_core.specs.Standing.{files_at}
-use Rattle.ssq_core.proofs.Standing.{either_gives}
-use Rattle.ssq_core.proofs.Staying.{stay_here}
+use Rattle.ssq_settle.specs.Settled.{IsSettledAs, IsEither}
+use Rattle.ssq_settle.specs.Standing.{files_at}
+use Rattle.ssq_settle.proofs.Standing.{either_gives}
+use Rattle.ssq_settle.proofs.Staying.{stay_here}
 use Rattle.ssq_round.specs.Standing.{commit_at}
 use Rattle.ssq_round.proofs.Standing.{commit_published}
 use Rattle.ssq_round.proofs.Staying.{no_commit}

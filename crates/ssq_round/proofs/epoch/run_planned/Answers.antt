@@ -1,9 +1,9 @@
 use Rattle.std.proofs.Common.{◌+◌, ◌∙◌, ap, refl, sym, length, arith}
 use Rattle.std.proofs.lemmas.Result.{err_from_is_err_and}
 use Rattle.ssq_outside.proofs.Steps.{joined}
-use Rattle.ssq_core.specs.Standing.{files_at}
-use Rattle.ssq_core.proofs.Standing.{stays}
-use Rattle.ssq_core.proofs.Staying.{stay_here, stay_on, was_settled_at}
+use Rattle.ssq_settle.specs.Standing.{files_at}
+use Rattle.ssq_settle.proofs.Standing.{stays}
+use Rattle.ssq_settle.proofs.Staying.{stay_here, stay_on, was_settled_at}
 use Rattle.ssq_round.specs.Standing.{course_of, StandsBetween}
 use Rattle.ssq_round.proofs.Causes.{feed_reason}
 use Rattle.ssq_round.proofs.Faults.{feed_stops, read_only}

@@ -1,9 +1,9 @@
 use Rattle.std.proofs.Common.{◌≡◌, ◌+◌, ◌∙◌, refl, subst, OnOk, inl, inr}
 use Rattle.ssq_outside.specs.Files.{Files}
-use Rattle.ssq_core.specs.Settled.{IsSettledAs, IsEither}
-use Rattle.ssq_core.specs.Standing.{files_at}
-use Rattle.ssq_core.proofs.Standing.{either_gives}
-use Rattle.ssq_core.proofs.Staying.{stay_here}
+use Rattle.ssq_settle.specs.Settled.{IsSettledAs, IsEither}
+use Rattle.ssq_settle.specs.Standing.{files_at}
+use Rattle.ssq_settle.proofs.Standing.{either_gives}
+use Rattle.ssq_settle.proofs.Staying.{stay_here}
 use Rattle.ssq_round.proofs.Standing.{rows_published}
 use Rattle.ssq_round.proofs.Staying.{same_rows}
 use Rattle.ssq_round.proofs.epoch.write_rows.Goals as goal

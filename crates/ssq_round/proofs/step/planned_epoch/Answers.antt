@@ -1,5 +1,5 @@
 use Rattle.std.proofs.Common.{◌≡◌, sym, ◌∙◌, ap}
-use Rattle.ssq_core.proofs.Staying.{stay_here}
+use Rattle.ssq_settle.proofs.Staying.{stay_here}
 use Rattle.ssq_round.specs.Cutting.{epoch_end, next_end_with}
 use Rattle.ssq_round.specs.Standing.{course_of}
 use Rattle.ssq_round.proofs.Steps.{IsNumber, number, plans_next, next_planned, next_leaves, ready_leaves}

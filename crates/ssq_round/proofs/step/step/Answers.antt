@@ -1,6 +1,6 @@
 use Rattle.std.proofs.Common.{◌≤◌, ◌++◌, ◌∙◌, List, ℕ, string_bytes, ap, refl, arith}
 use Rattle.std.proofs.lemmas.Result.{err_from_is_err_and}
-use Rattle.ssq_core.proofs.Staying.{stay_on}
+use Rattle.ssq_settle.proofs.Staying.{stay_on}
 use Rattle.ssq_round.proofs.Settled.{epoch_settled}
 use Rattle.ssq_round.proofs.Steps.{epoch_is, planned_is, epoch_leaves, epoch_stops, epoch_ready, epoch_told}
 use Rattle.ssq_round.proofs.step.step.Goals as goal

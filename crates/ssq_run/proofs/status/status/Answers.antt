@@ -3,8 +3,8 @@ use Rattle.std.specs.Str.{IsUtf8}
 use Rattle.ssq_outside.specs.Files.{Files}
 use Rattle.std.specs.Prelude.{IfSome}
 use Rattle.ssq_outside.specs.History.{files_now}
-use Rattle.ssq_open.specs.declared.wanted.Opened.{Opened}
-use Rattle.ssq_open.specs.Looking.{Holds, IsDenied}
+use Rattle.ssq_opening.specs.declared.wanted.Opened.{Opened}
+use Rattle.ssq_opening.specs.Looking.{Holds, IsDenied}
 use Rattle.ssq_run.specs.Queries.{text_of}
 use Rattle.ssq_run.proofs.LookLemmas.{stands_denied}
 use Rattle.ssq_run.specs.Looked.{shown, denied}
