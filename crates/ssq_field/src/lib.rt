@@ -10,6 +10,3 @@ pub use big_endian::{put_be32, put_be64, put_be128, take_be32, take_be64, take_b
 pub use bytes::Bytes;
 pub use decimal::{put_decimal, put_decimal_to, take_decimal};
 pub use law::fields_are_apart;
-
-#[cfg(test)]
-mod tests;

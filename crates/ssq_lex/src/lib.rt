@@ -20,6 +20,3 @@ pub use printer::{Printer, printed_is_read};
 pub use quoting::{push_quoted, unquoted};
 pub use symbol::Symbol;
 pub use token::{Kind, Token};
-
-#[cfg(test)]
-mod tests;

@@ -6,6 +6,3 @@ mod hash;
 
 pub use buckets::Buckets;
 pub use hash::place;
-
-#[cfg(test)]
-mod tests;

@@ -18,6 +18,3 @@ pub use schema::Schema;
 pub use sequence::Sequence;
 pub use text::{Text, texts_are_utf8};
 pub use value::Value;
-
-#[cfg(test)]
-mod tests;

@@ -59,6 +59,3 @@ pub fn ask<'a>(alloc: Global, words: &'a [String]) -> Result<Command<'a>, AskErr
         Err(error) => Err(AskError::of(&error)),
     }
 }
-
-#[cfg(test)]
-mod tests;

@@ -3,8 +3,10 @@
 ghost use Rattle.std.specs.Prelude.{◌^◌, ◌<◌, length, All, IfOk};
 ghost use Rattle.ssq_value.specs.Key.{HasShortText};
 
-use super::*;
-use std::alloc::{AllocError, Global};
+use ssq_value::{
+    ColType, Column, Row, Schema, Sequence, Text, Value, key_bytes, order, order_rows, put_key,
+};
+use std::alloc::{AllocError, AllocGlobal, Global};
 use std::cmp::Ordering;
 use std::process::Abort;
 use std::test::Fail;

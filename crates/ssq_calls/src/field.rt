@@ -1,6 +1,9 @@
 //! Numbers, and the digits and bytes that they are written as.
 
-use super::*;
+use ssq_field::{
+    Bytes, put_be32, put_be64, put_be128, put_decimal, take_be32, take_be64, take_be128,
+    take_decimal,
+};
 use std::test::Fail;
 
 #[test]

@@ -1,6 +1,6 @@
 //! Worked keys and their places, and items in their buckets.
 
-use super::*;
+use ssq_route::{Buckets, place};
 use std::test::Fail;
 
 #[test]

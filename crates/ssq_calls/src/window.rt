@@ -1,5 +1,5 @@
 //! Windows found by trying each multiple of the slide near the time.
-use super::windows_of;
+use ssq_window::windows_of;
 
 const ROWS: [(i64, i64, i64, i64, u32); 16] = [
     (420_000_000, 600_000_000, 300_000_000, 0, 2),

@@ -1,6 +1,6 @@
 //! Command lines with what clap's documentation says of them: an option's value follows it as a word or after `=`, a word after
 //! `--` is a positional, a lone `-` is one too, an option is given once, and what the command does not list is refused.
-use super::{AskError, Command, ask};
+use ssq_words::{AskError, Command, ask};
 use std::alloc::{AllocError, Global};
 use std::test::Fail;
 

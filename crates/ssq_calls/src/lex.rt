@@ -1,6 +1,8 @@
 //! Worked texts, and their tokens or their first fault.
 
-use super::*;
+use ssq_lex::{
+    Keyword, LexCause, Printer, Refusal, Symbol, push_quoted, tokens, tokens_to_fault, unquoted,
+};
 use std::alloc::Global;
 use std::test::Fail;
 
