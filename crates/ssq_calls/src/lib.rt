@@ -7,7 +7,11 @@ mod field;
 #[cfg(test)]
 mod lex;
 #[cfg(test)]
+mod parse;
+#[cfg(test)]
 mod route;
+#[cfg(test)]
+mod time;
 #[cfg(test)]
 mod value;
 #[cfg(test)]

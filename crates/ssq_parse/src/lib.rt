@@ -15,6 +15,3 @@ mod tree;
 pub use expr::expressions_are_written;
 pub use fault::{ParseCause, ParseFault};
 pub use file::{parse, text_is_parsed};
-
-#[cfg(test)]
-mod tests;

@@ -7,8 +7,6 @@ mod digits;
 mod printer;
 mod reader;
 mod span;
-#[cfg(test)]
-mod tests;
 mod years;
 
 pub use printer::{put_time, time_text};

@@ -1,5 +1,5 @@
 //! Times and spans with the values that Python's `datetime` gives for them.
-use super::{is_line_time, is_stamp_time, read_span, read_stamp, read_time, time_text};
+use ssq_time::{is_line_time, is_stamp_time, read_span, read_stamp, read_time, time_text};
 use std::test::Fail;
 
 static TIMES: [(&str, Option<i64>); 81] = [

@@ -1,7 +1,7 @@
 //! Worked files: the queries that they are, or their first fault.
 
-use super::*;
 use ssq_ast::text;
+use ssq_parse::parse;
 use std::alloc::{AllocGlobal, Global};
 use std::process::Abort;
 use std::test::Fail;
