@@ -5,6 +5,7 @@ use Rattle.std.specs.String.{string_bytes}
 use Rattle.std.specs.Str.{bytes_eq}
 use Rattle.ssq_outside.specs.Logs.{Held, Line}
 use Rattle.ssq_fakes.specs.Logs.{log_lines}
+use Rattle.ssq_fakes.specs.Returned.{returned_of}
 use Rattle.ssq_fakes.specs.declared.log.MemLog.{MemLog}
 use Rattle.ssq_fakes.specs.declared.inputs.Text.{Text}
 use Rattle.ssq_fakes.specs.declared.inputs.Part.{Part}
@@ -30,6 +31,10 @@ inputs_held inputs = record {
   parts = λ stream. length (parts_of inputs.parts.items stream);
   lines = λ stream. lines_at (parts_of inputs.parts.items stream);
 }
+
+-- of each log that was given back what its `lines` answered, the last one first
+abbrev pub inputs_returned : MemInputs → List (List ℕ)
+inputs_returned inputs = returned_of inputs.returned
 
 -- how often they failed
 abbrev pub input_faults : MemInputs → ℕ

@@ -5,3 +5,4 @@ pub mod Logs
 pub mod Names
 pub mod Outputs
 pub mod Records
+pub mod Returned

@@ -1,5 +1,5 @@
 -- What a log in memory holds.
-use Rattle.std.specs.Prelude.{ℕ, ◌==◌, List, [], ◌∷◌, ◌++◌, map, replicate, if◌then◌else◌}
+use Rattle.std.specs.Prelude.{ℕ, ◌==◌, List, [], ◌∷◌, ◌++◌, length, map, replicate, if◌then◌else◌}
 use Rattle.std.specs.Arc.{arc_value}
 use Rattle.ssq_outside.specs.Logs.{Line}
 use Rattle.ssq_fakes.specs.declared.log.MemLog.{MemLog}
@@ -13,6 +13,10 @@ lines_of (Same line n) = replicate n line.items
 -- its lines, without their ends
 abbrev pub log_lines : MemLog → List Line
 log_lines log = lines_of (arc_value log.lines)
+
+-- what each call of `lines` answered that did not fail, the first one first
+abbrev pub log_answers : MemLog → List ℕ
+log_answers log = replicate log.asked (length (log_lines log))
 
 -- how often it failed
 abbrev pub log_faults : MemLog → ℕ

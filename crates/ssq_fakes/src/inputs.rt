@@ -4,6 +4,7 @@ ghost use Rattle.std.specs.Prelude.{◌≡◌, ◌<◌, [], ⊤, Some, length, s
 
 use crate::faults::Faults;
 use crate::log::{MemLog, front};
+use crate::returned::Returned;
 use ssq_outside::{InputError, Inputs, Log};
 use std::alloc::{AllocError, Global};
 
@@ -29,22 +30,26 @@ pub struct MemInputs {
     texts: Vec<Text>,
     /// Each stream's in their order.
     parts: Vec<Part>,
+    /// What logs answered that were given back.
+    returned: Returned,
     faults: Faults<Vec<u64>>,
 }
 
 impl MemInputs {
     ghost use Rattle.ssq_fakes.specs.Logs.{log_lines};
-    ghost use Rattle.ssq_fakes.specs.Inputs.{inputs_held, input_faults, holding_text, holding_part, parts_of, text_in, IsSureLog};
+    ghost use Rattle.ssq_fakes.specs.Inputs.{inputs_held, inputs_returned, input_faults, holding_text, holding_part, parts_of, text_in, IsSureLog};
 
     /// No file and no part. They never fail.
     pub fn new(alloc: Global) -> Self
         ensures held { inputs_held result ≡ record { text = λ name. []; parts = λ stream. 0; lines = λ stream number. [] } }
+        ensures returned { inputs_returned result ≡ [] }
         ensures count { input_faults result ≡ 0 }
         ensures sure { ⟦<MemInputs as Inputs>⟧.sure result }
     {
         MemInputs {
             texts: Vec::new(alloc),
             parts: Vec::new(alloc),
+            returned: Returned::Empty,
             faults: Faults::new(Vec::new(alloc)),
         }
     }
@@ -52,6 +57,7 @@ impl MemInputs {
     /// With these bytes as the file of this name, in place of what it had. Where memory runs out the inputs are lost.
     pub fn with_text(mut self, alloc: Global, name: &str, bytes: &[u8]) -> Result<Self, AllocError>
         ensures held { IfOk result (λ inputs. inputs_held inputs ≡ holding_text name.now bytes.now (inputs_held self)) }
+        ensures returned { IfOk result (λ inputs. inputs_returned inputs ≡ inputs_returned self) }
         ensures count { IfOk result (λ inputs. input_faults inputs ≡ input_faults self) }
         ensures sure { ⟦<MemInputs as Inputs>⟧.sure self → IfOk result (λ inputs. ⟦<MemInputs as Inputs>⟧.sure inputs) }
     {
@@ -66,6 +72,7 @@ impl MemInputs {
     /// With this log as the next part of the stream. Where memory runs out the inputs and the log are lost.
     pub fn with_part(mut self, alloc: Global, stream: &str, log: MemLog) -> Result<Self, AllocError>
         ensures held { IfOk result (λ inputs. inputs_held inputs ≡ holding_part stream.now (log_lines log) (inputs_held self)) }
+        ensures returned { IfOk result (λ inputs. inputs_returned inputs ≡ inputs_returned self) }
         ensures count { IfOk result (λ inputs. input_faults inputs ≡ input_faults self) }
         ensures sure { ⟦<MemInputs as Inputs>⟧.sure self → ⟦<MemLog as Log>⟧.sure log → IfOk result (λ inputs. ⟦<MemInputs as Inputs>⟧.sure inputs) }
     {
@@ -77,6 +84,7 @@ impl MemInputs {
     /// The same, where the calls of `text`, `parts` and `log` with these numbers, from 0, fail.
     pub fn failing(mut self, calls: Vec<u64>) -> Self
         ensures held { inputs_held result ≡ inputs_held self }
+        ensures returned { inputs_returned result ≡ inputs_returned self }
         ensures count { input_faults result ≡ input_faults self }
     {
         self.faults.plan = calls;
@@ -123,7 +131,7 @@ impl MemInputs {
 
 impl Inputs for MemInputs {
     ghost use Rattle.std.specs.Prelude.{◌≡◌, [], ⊤, length, All};
-    ghost use Rattle.ssq_fakes.specs.Inputs.{inputs_held, input_faults, IsSureLog};
+    ghost use Rattle.ssq_fakes.specs.Inputs.{inputs_held, inputs_returned, input_faults, IsSureLog};
 
     type Log = MemLog;
 
@@ -131,7 +139,9 @@ impl Inputs for MemInputs {
 
     ghost held = { inputs_held };
 
-    ghost shown = { λ inputs stream part. length ((inputs_held inputs).lines stream part) };
+    ghost available = { λ inputs stream part. length ((inputs_held inputs).lines stream part) };
+
+    ghost returned = { inputs_returned };
 
     ghost faults = { input_faults };
 
@@ -168,5 +178,7 @@ impl Inputs for MemInputs {
 
     fn give_back(&mut self, log: MemLog) {
         self.faults.count = self.faults.count.saturating_add(log.faults.count);
+        let (answers, room) = log.into_answers();
+        self.returned.push(answers, room);
     }
 }

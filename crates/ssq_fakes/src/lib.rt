@@ -14,6 +14,7 @@ mod log;
 mod names;
 mod output;
 mod record;
+mod returned;
 
 pub use disk::{FailAt, MemDisk, MemFile, MemStage, each_image_is_picked};
 pub use gate::OpenGate;

@@ -4,6 +4,7 @@ ghost use Rattle.std.specs.Prelude.{◌≡◌, ◌≤◌, [], ⊤, length, map, 
 ghost use Rattle.ssq_outside.specs.Faults.{StaysSure};
 
 use crate::faults::Faults;
+use crate::returned::{Answers, Returned};
 use ssq_outside::{LineError, Log, LogFault};
 use std::alloc::{AllocError, Global};
 use std::mem;
@@ -51,15 +52,21 @@ impl Lines {
 #[derive(Drop)]
 pub struct MemLog {
     lines: Arc<Lines>,
+    /// How often `lines` answered.
+    asked: u64,
+    /// Room for what it answered, where it is given back.
+    room: Box<Returned>,
     pub(crate) faults: Faults<Vec<u64>>,
 }
 
 impl MemLog {
-    ghost use Rattle.ssq_fakes.specs.Logs.{lines_of, log_lines, log_faults, whole_lines};
+    ghost use Rattle.ssq_fakes.specs.Logs.{lines_of, log_lines, log_answers, log_faults, whole_lines};
+    ghost use Rattle.ssq_fakes.specs.Returned.{answers_of};
 
     /// These lines, without their ends. It never fails. Where memory runs out they are lost.
     pub fn of(alloc: Global, lines: Vec<Vec<u8>>) -> Result<Self, AllocError>
         ensures lines { IfOk result (λ log. log_lines log ≡ map (λ line. line.items) lines.items) }
+        ensures unasked { IfOk result (λ log. log_answers log ≡ []) }
         ensures count { IfOk result (λ log. log_faults log ≡ 0) }
         ensures sure { IfOk result (λ log. ⟦<MemLog as Log>⟧.sure log) }
     {
@@ -69,6 +76,7 @@ impl MemLog {
     /// The line, without its end, `n` times, in the room of one. It never fails.
     pub fn repeat(alloc: Global, line: &[u8], n: u64) -> Result<Self, AllocError>
         ensures lines { IfOk result (λ log. log_lines log ≡ replicate n line.now) }
+        ensures unasked { IfOk result (λ log. log_answers log ≡ []) }
         ensures count { IfOk result (λ log. log_faults log ≡ 0) }
         ensures sure { IfOk result (λ log. ⟦<MemLog as Log>⟧.sure log) }
     {
@@ -79,6 +87,7 @@ impl MemLog {
     /// not there. It never fails.
     pub fn torn(alloc: Global, bytes: &[u8]) -> Result<Self, AllocError>
         ensures lines { IfOk result (λ log. log_lines log ≡ whole_lines bytes.now) }
+        ensures unasked { IfOk result (λ log. log_answers log ≡ []) }
         ensures count { IfOk result (λ log. log_faults log ≡ 0) }
         ensures sure { IfOk result (λ log. ⟦<MemLog as Log>⟧.sure log) }
     {
@@ -97,6 +106,7 @@ impl MemLog {
     /// The same, where the calls of `lines` and `line` with these numbers, from 0, fail.
     pub fn failing(mut self, calls: Vec<u64>) -> Self
         ensures lines { log_lines result ≡ log_lines self }
+        ensures answers { log_answers result ≡ log_answers self }
         ensures count { log_faults result ≡ log_faults self }
     {
         self.faults.plan = calls;
@@ -106,35 +116,54 @@ impl MemLog {
     /// A log with the same lines and the same list of calls that are to fail, none of which it has had.
     pub(crate) fn reopened(&self, alloc: Global) -> Result<Self, AllocError>
         ensures lines { IfOk result (λ log. log_lines log ≡ log_lines self.now) }
+        ensures unasked { IfOk result (λ log. log_answers log ≡ []) }
         ensures count { IfOk result (λ log. log_faults log ≡ 0) }
         ensures sure { ⟦<MemLog as Log>⟧.sure self.now → IfOk result (λ log. ⟦<MemLog as Log>⟧.sure log) }
     {
         Ok(MemLog {
             lines: Arc::try_clone(&self.lines)?,
+            asked: 0,
+            room: Box::new(alloc, Returned::Empty)?,
             faults: Faults::new(self.faults.plan.to_vec(alloc)?),
         })
     }
 
+    /// What it answered, and the room for it.
+    pub(crate) fn into_answers(self) -> (Answers, Box<Returned>)
+        ensures { answers_of result.0 ≡ log_answers self }
+    {
+        let answers = Answers {
+            asked: self.asked,
+            lines: self.lines.count(),
+        };
+        (answers, self.room)
+    }
+
     fn holding(alloc: Global, lines: Lines) -> Result<Self, AllocError>
         ensures lines { IfOk result (λ log. log_lines log ≡ lines_of lines) }
+        ensures unasked { IfOk result (λ log. log_answers log ≡ []) }
         ensures count { IfOk result (λ log. log_faults log ≡ 0) }
         ensures sure { IfOk result (λ log. ⟦<MemLog as Log>⟧.sure log) }
     {
         Ok(MemLog {
             lines: Arc::new(alloc, lines)?,
+            asked: 0,
+            room: Box::new(alloc, Returned::Empty)?,
             faults: Faults::new(Vec::new(alloc)),
         })
     }
 }
 
 impl Log for MemLog {
-    ghost use Rattle.ssq_fakes.specs.Logs.{log_lines};
+    ghost use Rattle.ssq_fakes.specs.Logs.{log_lines, log_answers};
 
     ghost tells = { ⊤ };
 
     ghost lines = { log_lines };
 
-    ghost shown = { λ log. length (log_lines log) };
+    ghost available = { λ log. length (log_lines log) };
+
+    ghost answers = { log_answers };
 
     ghost faults = { λ log. log.faults.count };
 
@@ -144,6 +173,7 @@ impl Log for MemLog {
         if self.faults.fails() {
             return Err(LogFault);
         }
+        self.asked = self.asked.saturating_add(1);
         Ok(self.lines.count())
     }
 

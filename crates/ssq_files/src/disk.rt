@@ -70,10 +70,7 @@ impl<R: Files + Drop> FolderDisk<R> {
     }
 }
 
-impl<R: Files + Drop + Send> Disk for FolderDisk<R>
-where
-    R::File: Send,
-{
+impl<R: Files + Drop> Disk for FolderDisk<R> {
     type Stage = FolderStage<R::File>;
 
     ghost tells = { ⊥ };
@@ -157,7 +154,7 @@ pub struct SealedFile {
     number: u64,
 }
 
-impl<F: Write + OpenFile + Drop + Send> Stage for FolderStage<F> {
+impl<F: Write + OpenFile + Drop> Stage for FolderStage<F> {
     type Sealed = SealedFile;
 
     ghost tells = { ⊥ };

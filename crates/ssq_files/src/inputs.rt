@@ -47,17 +47,16 @@ impl<R: Files + Drop> FolderInputs<R> {
     }
 }
 
-impl<R: Files + Drop> Inputs for FolderInputs<R>
-where
-    R::File: Send,
-{
+impl<R: Files + Drop> Inputs for FolderInputs<R> {
     type Log = FileLog<R::File>;
 
     ghost tells = { ⊥ };
 
     ghost held = { λ _. record { text = λ _. []; parts = λ _. 0; lines = λ _ _. [] } };
 
-    ghost shown = { λ _ _ _. 0 };
+    ghost available = { λ _ _ _. 0 };
+
+    ghost returned = { λ _. [] };
 
     ghost faults = { λ inputs. inputs.faults };
 

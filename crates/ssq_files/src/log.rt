@@ -41,12 +41,14 @@ impl<F: Read + Seek + Drop> FileLog<F> {
     }
 }
 
-impl<F: Read + Seek + Drop + Send> Log for FileLog<F> {
+impl<F: Read + Seek + Drop> Log for FileLog<F> {
     ghost tells = { ⊥ };
 
     ghost lines = { λ _. [] };
 
-    ghost shown = { λ _. 0 };
+    ghost available = { λ _. 0 };
+
+    ghost answers = { λ _. [] };
 
     ghost faults = { λ log. log.faults };
 

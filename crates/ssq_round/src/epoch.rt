@@ -22,9 +22,9 @@ ghost use Rattle.ssq_round.specs.Standing.{Job, IsJobOf, course_of, plan_at, com
 use crate::fault::RoundFault;
 use crate::feed::feed;
 use crate::prepare::Prepared;
-use ssq_settle::settle;
 use ssq_outside::{Disk, DiskError, Log, Name};
 use ssq_plans::{Commit, PartEnd, Plan, write_commit, write_plan};
+use ssq_settle::settle;
 use ssq_sink::epoch_text;
 use ssq_value::{Row, Schema, Sequence};
 use std::alloc::{AllocError, Global};
@@ -144,17 +144,17 @@ pub fn run_planned<D: Disk, L: Log>(
         FilesStay (D.history disk.old) (D.history disk.new) }
     ensures stop { D.tells → L.tells → (job : Job) (cuts : Cuts) (written : ℕ) → IsJobOf job prepared.now.bound (L.lines log.old) →
         IsEpochOf cuts epoch.number epoch.from epoch.end → IsPlanned job cuts epoch.number written (D.history disk.old) →
-        epoch.end ≤ L.shown log.old → IfErr result (EpochCause job cuts epoch.number (D.history disk.new)) }
+        epoch.end ≤ L.available log.old → IfErr result (EpochCause job cuts epoch.number (D.history disk.new)) }
     ensures only { IfErr result IsRoundFault }
     ensures same { L.tells → L.lines log.new ≡ L.lines log.old }
-    ensures grown { L.tells → L.shown log.old ≤ L.shown log.new }
+    ensures grown { L.tells → L.available log.old ≤ L.available log.new }
     ensures disk_counted { D.faults disk.old ≤ D.faults disk.new }
     ensures log_counted { L.faults log.old ≤ L.faults log.new }
     ensures disk_cause { IfErr result (DiskRises (D.faults disk.old) (D.faults disk.new)) }
     ensures log_cause { IfErr result (LogRises (L.faults log.old) (L.faults log.new)) }
     // Whatever the checkpoint holds: an epoch that is done had good lines, and one that stopped has its reason.
     ensures read { L.tells → OnOk result (AreGood prepared.now.bound (L.lines log.old) epoch.from epoch.end) }
-    ensures reason { L.tells → IfErr result (EpochReason prepared.now.bound (L.lines log.old) epoch.from epoch.end epoch.number (L.shown log.old)) }
+    ensures reason { L.tells → IfErr result (EpochReason prepared.now.bound (L.lines log.old) epoch.from epoch.end epoch.number (L.available log.old)) }
 {
     let rows = feed(alloc, log, prepared, epoch.from, epoch.end)?;
     let count = rows.as_slice().len();

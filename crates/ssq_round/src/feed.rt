@@ -19,10 +19,10 @@ use std::alloc::{AllocError, Global};
 fn read_line<L: Log>(log: &mut L, at: u64, end: u64, line: &mut Vec<u8>) -> Result<(), RoundFault>
     requires { at < end }
     ensures read { L.tells → OnOk result (IsRead (L.lines log.new) at line.new.items) }
-    ensures stop { L.tells → IfErr result (ReadCause end (L.shown log.old)) }
+    ensures stop { L.tells → IfErr result (ReadCause end (L.available log.old)) }
     ensures only { IfErr result IsReadFault }
     ensures same { L.tells → L.lines log.new ≡ L.lines log.old }
-    ensures grown { L.tells → L.shown log.old ≤ L.shown log.new }
+    ensures grown { L.tells → L.available log.old ≤ L.available log.new }
     ensures counted { L.faults log.old ≤ L.faults log.new }
     ensures cause { IfErr result (LogRises (L.faults log.old) (L.faults log.new)) }
     ensures not_the_disk { (before now : ℕ) → IfErr result (DiskRises before now) }
@@ -70,10 +70,10 @@ fn row_at<L: Log>(
     requires inside { at < end }
     ensures shows { L.tells → IfOk result (λ row. Shows prepared.now.bound (L.lines log.new) at (option_to_list row)) }
     ensures years { IfOk result (λ row. IfSome row (All (IfTime IsStampTime))) }
-    ensures stop { L.tells → IfErr result (RowCause prepared.now.bound (L.lines log.new) at end (L.shown log.old)) }
+    ensures stop { L.tells → IfErr result (RowCause prepared.now.bound (L.lines log.new) at end (L.available log.old)) }
     ensures only { IfErr result IsReadFault }
     ensures same { L.tells → L.lines log.new ≡ L.lines log.old }
-    ensures grown { L.tells → L.shown log.old ≤ L.shown log.new }
+    ensures grown { L.tells → L.available log.old ≤ L.available log.new }
     ensures counted { L.faults log.old ≤ L.faults log.new }
     ensures cause { IfErr result (LogRises (L.faults log.old) (L.faults log.new)) }
     ensures not_the_disk { (before now : ℕ) → IfErr result (DiskRises before now) }
@@ -106,10 +106,10 @@ pub fn feed<L: Log>(
     // No time among them could not be printed.
     ensures years { IfOk result (λ rows. All (All (IfTime IsStampTime)) rows.items) }
     ensures good { L.tells → OnOk result (position_from (is_faulty prepared.now.bound) from (lines_between from end (L.lines log.old)) ≡ None) }
-    ensures stop { L.tells → IfErr result (FeedCause prepared.now.bound (L.lines log.old) from end (L.shown log.old)) }
+    ensures stop { L.tells → IfErr result (FeedCause prepared.now.bound (L.lines log.old) from end (L.available log.old)) }
     ensures only { IfErr result IsReadFault }
     ensures same { L.tells → L.lines log.new ≡ L.lines log.old }
-    ensures grown { L.tells → L.shown log.old ≤ L.shown log.new }
+    ensures grown { L.tells → L.available log.old ≤ L.available log.new }
     ensures counted { L.faults log.old ≤ L.faults log.new }
     ensures cause { IfErr result (LogRises (L.faults log.old) (L.faults log.new)) }
     ensures not_the_disk { (before now : ℕ) → IfErr result (DiskRises before now) }

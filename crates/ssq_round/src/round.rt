@@ -24,12 +24,12 @@ pub const MOST_LINES: u64 = 1_099_511_627_776;
 
 /// Asks a log for its number of lines, of which so many were logged.
 fn see<L: Log>(log: &mut L, logged: u64) -> Result<u64, RoundFault>
-    ensures found { L.tells → IfOk result (λ n. (L.shown log.new ≡ n) × (n ≤ length (L.lines log.new))) }
+    ensures found { L.tells → IfOk result (λ n. (L.available log.new ≡ n) × (n ≤ length (L.lines log.new))) }
     ensures enough { IfOk result (λ n. (logged ≤ n) × (n ≤ most_lines)) }
-    ensures stop { L.tells → IfErr result (SeeCause (length (L.lines log.new)) logged (L.shown log.new)) }
+    ensures stop { L.tells → IfErr result (SeeCause (length (L.lines log.new)) logged (L.available log.new)) }
     ensures only { IfErr result IsRoundFault }
     ensures same { L.tells → L.lines log.new ≡ L.lines log.old }
-    ensures grown { L.tells → L.shown log.old ≤ L.shown log.new }
+    ensures grown { L.tells → L.available log.old ≤ L.available log.new }
     ensures counted { L.faults log.old ≤ L.faults log.new }
     ensures cause { IfErr result (LogRises (L.faults log.old) (L.faults log.new)) }
     ensures not_the_disk { (before now : ℕ) → IfErr result (DiskRises before now) }
@@ -62,23 +62,23 @@ fn cover<D: Disk, L: Log>(
 
     ensures done { D.tells → L.tells → (job : Job) (cuts : Cuts) (written : ℕ) → IsJobOf job prepared.now.bound (L.lines log.old) →
         IsReady job cuts written progress.old (D.history disk.old) → GoesOn cuts (planned_in progress.old) sight.most sight.seen →
-        IsEnough sight.seen job progress.old → sight.seen ≤ L.shown log.old →
+        IsEnough sight.seen job progress.old → sight.seen ≤ L.available log.old →
         OnOk result (IsDone job cuts (planned_in progress.old) progress.old.committed sight.seen (D.history disk.old) (D.history disk.new) (string_bytes told.old) (string_bytes told.new) progress.new) }
     ensures stop { D.tells → L.tells → (job : Job) (cuts : Cuts) (written : ℕ) → IsJobOf job prepared.now.bound (L.lines log.old) →
         IsReady job cuts written progress.old (D.history disk.old) → GoesOn cuts (planned_in progress.old) sight.most sight.seen →
-        IsEnough sight.seen job progress.old → sight.seen ≤ L.shown log.old →
+        IsEnough sight.seen job progress.old → sight.seen ≤ L.available log.old →
         IfErr result (IsStopped job cuts (planned_in progress.old) progress.old.committed sight.seen (D.history disk.old) (D.history disk.new) (string_bytes told.old) (string_bytes told.new)) }
     ensures only { IfErr result IsRoundFault }
     ensures same { L.tells → L.lines log.new ≡ L.lines log.old }
-    ensures grown { L.tells → L.shown log.old ≤ L.shown log.new }
+    ensures grown { L.tells → L.available log.old ≤ L.available log.new }
     ensures disk_counted { D.faults disk.old ≤ D.faults disk.new }
     ensures log_counted { L.faults log.old ≤ L.faults log.new }
     ensures disk_cause { IfErr result (DiskRises (D.faults disk.old) (D.faults disk.new)) }
     ensures log_cause { IfErr result (LogRises (L.faults log.old) (L.faults log.new)) }
     ensures read { L.tells → progress.old.end ≤ planned_end progress.old → planned_end progress.old ≤ sight.seen →
         OnOk result (HasRead prepared.now.bound (L.lines log.old) sight.seen sight.seen progress.old progress.new) }
-    ensures reason { L.tells → progress.old.end ≤ planned_end progress.old → planned_end progress.old ≤ sight.seen → sight.seen ≤ L.shown log.old →
-        IfErr result (RoundReason prepared.now.bound (L.lines log.old) (L.shown log.old) sight.seen progress.old) }
+    ensures reason { L.tells → progress.old.end ≤ planned_end progress.old → planned_end progress.old ≤ sight.seen → sight.seen ≤ L.available log.old →
+        IfErr result (RoundReason prepared.now.bound (L.lines log.old) (L.available log.old) sight.seen progress.old) }
 {
     while progress.is_behind(sight.seen) {
         step(alloc, disk, log, prepared, sight, progress, told)?;
@@ -108,16 +108,16 @@ pub fn run_round<D: Disk, L: Log>(
     // Where each line that was seen is covered: what was told, what each crash leaves, and how far it has come.
     ensures done { D.tells → L.tells → (job : Job) (cuts : Cuts) (written : ℕ) → IsJobOf job prepared.now.bound (L.lines log.old) →
         IsReady job cuts written progress.old (D.history disk.old) →
-        OnOk result (RoundDone job cuts progress.old most (L.shown log.old) (L.shown log.new)
+        OnOk result (RoundDone job cuts progress.old most (L.available log.old) (L.available log.new)
         (D.history disk.old) (D.history disk.new) (string_bytes told.old) (string_bytes told.new) progress.new) }
     // Where it stopped: why, what was told, and what each crash leaves.
     ensures stop { D.tells → L.tells → (job : Job) (cuts : Cuts) (written : ℕ) → IsJobOf job prepared.now.bound (L.lines log.old) →
         IsReady job cuts written progress.old (D.history disk.old) →
-        IfErr result (RoundStop job cuts progress.old most (L.shown log.old) (L.shown log.new)
+        IfErr result (RoundStop job cuts progress.old most (L.available log.old) (L.available log.new)
         (D.history disk.old) (D.history disk.new) (string_bytes told.old) (string_bytes told.new)) }
     ensures only { IfErr result IsRoundFault }
     ensures same { L.tells → L.lines log.new ≡ L.lines log.old }
-    ensures grown { L.tells → L.shown log.old ≤ L.shown log.new }
+    ensures grown { L.tells → L.available log.old ≤ L.available log.new }
     ensures disk_counted { D.faults disk.old ≤ D.faults disk.new }
     ensures log_counted { L.faults log.old ≤ L.faults log.new }
     ensures disk_cause { IfErr result (DiskRises (D.faults disk.old) (D.faults disk.new)) }
@@ -125,9 +125,9 @@ pub fn run_round<D: Disk, L: Log>(
     // Whatever the checkpoint holds, where no planned epoch ends before it begins: the lines of a round that is done are good, and
     // one that stopped has its reason.
     ensures read { L.tells → progress.old.end ≤ planned_end progress.old →
-        OnOk result (HasRead prepared.now.bound (L.lines log.old) (L.shown log.old) (L.shown log.new) progress.old progress.new) }
+        OnOk result (HasRead prepared.now.bound (L.lines log.old) (L.available log.old) (L.available log.new) progress.old progress.new) }
     ensures reason { L.tells → progress.old.end ≤ planned_end progress.old →
-        IfErr result (RoundReason prepared.now.bound (L.lines log.old) (L.shown log.old) (L.shown log.new) progress.old) }
+        IfErr result (RoundReason prepared.now.bound (L.lines log.old) (L.available log.old) (L.available log.new) progress.old) }
 {
     let seen = see(log, progress.planned_end())?;
     let sight = Sight { seen, most };

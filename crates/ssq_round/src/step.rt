@@ -108,33 +108,33 @@ pub fn step<D: Disk, L: Log>(
     ensures moved { OnOk result (progress.new ≡ after_epoch sight.most sight.seen progress.old) }
     ensures done { D.tells → L.tells → (job : Job) (cuts : Cuts) (written : ℕ) → IsJobOf job prepared.now.bound (L.lines log.old) →
         IsReady job cuts written progress.old (D.history disk.old) →
-        IsNext job cuts (epoch_end sight.most sight.seen progress.old) (L.shown log.old) progress.old →
+        IsNext job cuts (epoch_end sight.most sight.seen progress.old) (L.available log.old) progress.old →
         OnOk result (IsReady job cuts (progress.old.committed + 1) progress.new (D.history disk.new)) }
     ensures told { D.tells → L.tells → (job : Job) (cuts : Cuts) (written : ℕ) → IsJobOf job prepared.now.bound (L.lines log.old) →
         IsReady job cuts written progress.old (D.history disk.old) →
-        IsNext job cuts (epoch_end sight.most sight.seen progress.old) (L.shown log.old) progress.old →
+        IsNext job cuts (epoch_end sight.most sight.seen progress.old) (L.available log.old) progress.old →
         OnOk result (string_bytes told.new ≡ string_bytes told.old ++ told_of job cuts progress.old.committed) }
     // Each of its files was settled before the next was published.
     ensures settled { D.tells → L.tells → (job : Job) (cuts : Cuts) (written : ℕ) → IsJobOf job prepared.now.bound (L.lines log.old) →
         IsReady job cuts written progress.old (D.history disk.old) →
-        IsNext job cuts (epoch_end sight.most sight.seen progress.old) (L.shown log.old) progress.old →
+        IsNext job cuts (epoch_end sight.most sight.seen progress.old) (L.available log.old) progress.old →
         OnOk result (SettledInSteps job cuts (planned_in progress.old) progress.old.committed (D.history disk.old) (D.history disk.new)) }
     ensures untold { OnErr result (string_bytes told.new ≡ string_bytes told.old) }
     ensures any_moment { D.tells → L.tells → (job : Job) (cuts : Cuts) (written : ℕ) → IsJobOf job prepared.now.bound (L.lines log.old) →
         IsReady job cuts written progress.old (D.history disk.old) →
-        IsNext job cuts (epoch_end sight.most sight.seen progress.old) (L.shown log.old) progress.old →
+        IsNext job cuts (epoch_end sight.most sight.seen progress.old) (L.available log.old) progress.old →
         LeavesOnly (D.history disk.old) (D.history disk.new) (StandsBetween job cuts (planned_in progress.old) progress.old.committed (progress.old.committed + 1)) }
     ensures stay { D.tells → L.tells → (job : Job) (cuts : Cuts) (written : ℕ) → IsJobOf job prepared.now.bound (L.lines log.old) →
         IsReady job cuts written progress.old (D.history disk.old) →
-        IsNext job cuts (epoch_end sight.most sight.seen progress.old) (L.shown log.old) progress.old →
+        IsNext job cuts (epoch_end sight.most sight.seen progress.old) (L.available log.old) progress.old →
         FilesStay (D.history disk.old) (D.history disk.new) }
     ensures stop { D.tells → L.tells → (job : Job) (cuts : Cuts) (written : ℕ) → IsJobOf job prepared.now.bound (L.lines log.old) →
         IsReady job cuts written progress.old (D.history disk.old) →
-        IsNext job cuts (epoch_end sight.most sight.seen progress.old) (L.shown log.old) progress.old →
+        IsNext job cuts (epoch_end sight.most sight.seen progress.old) (L.available log.old) progress.old →
         IfErr result (EpochCause job cuts progress.old.committed (D.history disk.new)) }
     ensures only { IfErr result IsRoundFault }
     ensures same { L.tells → L.lines log.new ≡ L.lines log.old }
-    ensures grown { L.tells → L.shown log.old ≤ L.shown log.new }
+    ensures grown { L.tells → L.available log.old ≤ L.available log.new }
     ensures disk_counted { D.faults disk.old ≤ D.faults disk.new }
     ensures log_counted { L.faults log.old ≤ L.faults log.new }
     ensures disk_cause { IfErr result (DiskRises (D.faults disk.old) (D.faults disk.new)) }
@@ -142,7 +142,7 @@ pub fn step<D: Disk, L: Log>(
     // Whatever the checkpoint holds: an epoch that is done had good lines, and one that stopped has its reason.
     ensures read { L.tells → OnOk result (AreGood prepared.now.bound (L.lines log.old) progress.old.end (epoch_end sight.most sight.seen progress.old)) }
     ensures reason { L.tells → IfErr result (EpochReason prepared.now.bound (L.lines log.old) progress.old.end (epoch_end sight.most sight.seen progress.old)
-        progress.old.committed (L.shown log.old)) }
+        progress.old.committed (L.available log.old)) }
 {
     let epoch = planned_epoch(alloc, disk, sight, progress)?;
     let rows = run_planned(alloc, disk, log, prepared, epoch)?;

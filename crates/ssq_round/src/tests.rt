@@ -8,10 +8,10 @@ ghost use Rattle.ssq_meaning.specs.Meaning.{layout_of};
 ghost use Rattle.ssq_shape.specs.Plain.{output_names};
 
 use crate::{Prepared, Progress, run_round};
-use ssq_settle::settle;
 use ssq_fakes::{MemDisk, MemLog};
 use ssq_outside::{Disk, DiskError, Name};
 use ssq_query::{bind, read_query};
+use ssq_settle::settle;
 use std::alloc::Global;
 use std::test::Fail;
 

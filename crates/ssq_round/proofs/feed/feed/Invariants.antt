@@ -9,6 +9,6 @@ abbrev pub invariant-loop-at : goal.invariant-loop-at
 invariant-loop-at g l = record {
   so_far : g.L.Log.tells → SoFar l.prepared.bound (g.L.Log.lines l.initial.log) (g.L.Log.lines l.log) l.from l.at l.end l.rows.items;
   years : All (All (IfTime IsStampTime)) l.rows.items;
-  grown : g.L.Log.tells → g.L.Log.shown l.initial.log ≤ g.L.Log.shown l.log;
+  grown : g.L.Log.tells → g.L.Log.available l.initial.log ≤ g.L.Log.available l.log;
   counted : g.L.Log.faults l.initial.log ≤ g.L.Log.faults l.log;
 }

@@ -22,9 +22,9 @@ loop-alloc-preserved g c = record {
       let so_far = c.loop-alloc.invariant.so_far tells told job cuts written of_job ready goes enough there in
       let behind : is_behind c.loop-alloc.progress c.args.sight.seen ≡ true = sym c.is_behind.ensures ∙ c.loop-alloc-test.true in
       let of_job' : IsJobOf job c.args.prepared.now.bound (g.L.Log.lines c.loop-alloc.log) = record { same_query = of_job.same_query; same_lines = of_job.same_lines ∙ sym (c.loop-alloc.invariant.same told) } in
-      let there' : c.args.sight.seen ≤ g.L.Log.shown c.loop-alloc.log = omega (arith, there, c.loop-alloc.invariant.grown told) in
-      let next = round_next job cuts c.args.progress.now.committed (planned_in c.args.progress.now) c.args.sight.seen (g.L.Log.shown c.loop-alloc.log) c.args.sight.most _ _ _ _ c.loop-alloc.progress so_far goes c.requires.some behind enough.inside there' in
-      round_goes_on job cuts c.args.progress.now.committed (planned_in c.args.progress.now) c.args.sight.seen (g.L.Log.shown c.loop-alloc.log) c.args.sight.most _ _ _ _ _ _ c.loop-alloc.progress c.step.new.progress so_far goes c.requires.some behind enough.inside there'
+      let there' : c.args.sight.seen ≤ g.L.Log.available c.loop-alloc.log = omega (arith, there, c.loop-alloc.invariant.grown told) in
+      let next = round_next job cuts c.args.progress.now.committed (planned_in c.args.progress.now) c.args.sight.seen (g.L.Log.available c.loop-alloc.log) c.args.sight.most _ _ _ _ c.loop-alloc.progress so_far goes c.requires.some behind enough.inside there' in
+      round_goes_on job cuts c.args.progress.now.committed (planned_in c.args.progress.now) c.args.sight.seen (g.L.Log.available c.loop-alloc.log) c.args.sight.most _ _ _ _ _ _ c.loop-alloc.progress c.step.new.progress so_far goes c.requires.some behind enough.inside there'
       c.in_ok-step.ensures.moved (c.in_ok-step.ensures.done tells told job cuts so_far.written of_job' so_far.ready next) (c.in_ok-step.ensures.told tells told job cuts so_far.written of_job' so_far.ready next)
       (c.step.ensures.any_moment tells told job cuts so_far.written of_job' so_far.ready next) (c.in_ok-step.ensures.settled tells told job cuts so_far.written of_job' so_far.ready next) (c.step.ensures.stay tells told job cuts so_far.written of_job' so_far.ready next);
   same = λ told. c.step.ensures.same told ∙ c.loop-alloc.invariant.same told;
@@ -42,10 +42,10 @@ returns-in_err-step-clause-stop g c = λ tells told job cuts written of_job read
     let so_far = c.loop-alloc.invariant.so_far tells told job cuts written of_job ready goes enough there in
     let behind : is_behind c.loop-alloc.progress c.args.sight.seen ≡ true = sym c.is_behind.ensures ∙ c.loop-alloc-test.true in
     let of_job' : IsJobOf job c.args.prepared.now.bound (g.L.Log.lines c.loop-alloc.log) = record { same_query = of_job.same_query; same_lines = of_job.same_lines ∙ sym (c.loop-alloc.invariant.same told) } in
-    let there' : c.args.sight.seen ≤ g.L.Log.shown c.loop-alloc.log = omega (arith, there, c.loop-alloc.invariant.grown told) in
-    let next = round_next job cuts c.args.progress.now.committed (planned_in c.args.progress.now) c.args.sight.seen (g.L.Log.shown c.loop-alloc.log) c.args.sight.most _ _ _ _ c.loop-alloc.progress so_far goes c.requires.some behind enough.inside there' in
+    let there' : c.args.sight.seen ≤ g.L.Log.available c.loop-alloc.log = omega (arith, there, c.loop-alloc.invariant.grown told) in
+    let next = round_next job cuts c.args.progress.now.committed (planned_in c.args.progress.now) c.args.sight.seen (g.L.Log.available c.loop-alloc.log) c.args.sight.most _ _ _ _ c.loop-alloc.progress so_far goes c.requires.some behind enough.inside there' in
     let p = err_from_is_err_and c.from_residual.result c.from_residual.ensures.1 in
-    rw (p.1, p.2) (round_stops job cuts c.args.progress.now.committed (planned_in c.args.progress.now) c.args.sight.seen (g.L.Log.shown c.loop-alloc.log) c.args.sight.most _ _ _ _ _ _ c.loop-alloc.progress _ so_far goes c.requires.some behind enough.inside there'
+    rw (p.1, p.2) (round_stops job cuts c.args.progress.now.committed (planned_in c.args.progress.now) c.args.sight.seen (g.L.Log.available c.loop-alloc.log) c.args.sight.most _ _ _ _ _ _ c.loop-alloc.progress _ so_far goes c.requires.some behind enough.inside there'
     c.in_err-step.ensures.untold (c.step.ensures.any_moment tells told job cuts so_far.written of_job' so_far.ready next) (c.step.ensures.stay tells told job cuts so_far.written of_job' so_far.ready next) (c.in_err-step.ensures.stop tells told job cuts so_far.written of_job' so_far.ready next))
 
 pub returns-clause-done : goal.returns-clause-done
@@ -56,7 +56,7 @@ returns-clause-done g c = λ tells told job cuts written of_job ready goes enoug
 pub returns-in_err-step-clause-reason : goal.returns-in_err-step-clause-reason
 returns-in_err-step-clause-reason g c = λ told ahead bound there.
     let behind : is_behind c.loop-alloc.progress c.args.sight.seen ≡ true = sym c.is_behind.ensures ∙ c.loop-alloc-test.true in
-    let there' : c.args.sight.seen ≤ g.L.Log.shown c.loop-alloc.log = omega (arith, there, c.loop-alloc.invariant.grown told) in
+    let there' : c.args.sight.seen ≤ g.L.Log.available c.loop-alloc.log = omega (arith, there, c.loop-alloc.invariant.grown told) in
     let p = err_from_is_err_and c.from_residual.result c.from_residual.ensures.1 in
     rw (p.1, p.2) (read_stops _ _ (g.L.Log.lines c.loop-alloc.log) c.args.sight.most c.args.sight.seen _ _ c.args.progress.now c.loop-alloc.progress _ (c.loop-alloc.invariant.read told ahead bound) (c.loop-alloc.invariant.same told) c.requires.some behind there'
     c.in_err-step.ensures.only (c.in_err-step.ensures.reason told))

@@ -12,10 +12,10 @@ abbrev pub invariant-loop-alloc : goal.invariant-loop-alloc
 invariant-loop-alloc g l = record {
   so_far : g.D.Disk.tells → g.L.Log.tells → (job : Job) (cuts : Cuts) (written : ℕ) → IsJobOf job l.prepared.bound (g.L.Log.lines l.initial.log)
       → IsReady job cuts written l.initial.progress (g.D.Disk.history l.initial.disk) → GoesOn cuts (planned_in l.initial.progress) l.sight.most l.sight.seen
-      → IsEnough l.sight.seen job l.initial.progress → l.sight.seen ≤ g.L.Log.shown l.initial.log
+      → IsEnough l.sight.seen job l.initial.progress → l.sight.seen ≤ g.L.Log.available l.initial.log
       → RoundSoFar job cuts l.initial.progress.committed (planned_in l.initial.progress) l.sight.seen (g.D.Disk.history l.initial.disk) (g.D.Disk.history l.disk) (string_bytes l.initial.told) (string_bytes l.told) l.progress;
   same : g.L.Log.tells → g.L.Log.lines l.log ≡ g.L.Log.lines l.initial.log;
-  grown : g.L.Log.tells → g.L.Log.shown l.initial.log ≤ g.L.Log.shown l.log;
+  grown : g.L.Log.tells → g.L.Log.available l.initial.log ≤ g.L.Log.available l.log;
   disk_counted : g.D.Disk.faults l.initial.disk ≤ g.D.Disk.faults l.disk;
   log_counted : g.L.Log.faults l.initial.log ≤ g.L.Log.faults l.log;
   read : g.L.Log.tells → l.initial.progress.end ≤ planned_end l.initial.progress → planned_end l.initial.progress ≤ l.sight.seen

@@ -23,7 +23,7 @@ returns-clause-done g c = λ tells told job cuts written of_job ready.
     let found = c.in_ok-seen.ensures.found told in
     let of_job' : IsJobOf job c.args.prepared.now.bound (g.L.Log.lines c.see.new.log) = record { same_query = of_job.same_query; same_lines = of_job.same_lines ∙ sym (c.see.ensures.same told) } in
     let enough : IsEnough seen job from = enough_is job from seen _ (length (g.L.Log.lines c.see.new.log)) c.planned_end.ensures c.in_ok-seen.ensures.enough (ap (λ (ls : List Line). length ls) (sym of_job'.same_lines)) found.1 in
-    let there : seen ≤ g.L.Log.shown c.see.new.log = omega (arith, found.0) in
+    let there : seen ≤ g.L.Log.available c.see.new.log = omega (arith, found.0) in
     on_ok c.cover.result (c.cover.ensures.done tells told job cuts' written of_job' (ready_continued job cuts written from _ c.args.most seen ready) (continued_next cuts (planned_in from) c.args.most seen) enough there)
     (λ done. round_done job cuts from _ c.args.most _ _ _ seen _ _ _ _ (c.see.ensures.grown told) found.0 (c.cover.ensures.grown told) enough done)
 
@@ -35,7 +35,7 @@ returns-clause-stop g c = λ tells told job cuts written of_job ready.
     let found = c.in_ok-seen.ensures.found told in
     let of_job' : IsJobOf job c.args.prepared.now.bound (g.L.Log.lines c.see.new.log) = record { same_query = of_job.same_query; same_lines = of_job.same_lines ∙ sym (c.see.ensures.same told) } in
     let enough : IsEnough seen job from = enough_is job from seen _ (length (g.L.Log.lines c.see.new.log)) c.planned_end.ensures c.in_ok-seen.ensures.enough (ap (λ (ls : List Line). length ls) (sym of_job'.same_lines)) found.1 in
-    let there : seen ≤ g.L.Log.shown c.see.new.log = omega (arith, found.0) in
+    let there : seen ≤ g.L.Log.available c.see.new.log = omega (arith, found.0) in
     if_err c.cover.result (c.cover.ensures.stop tells told job cuts' written of_job' (ready_continued job cuts written from _ c.args.most seen ready) (continued_next cuts (planned_in from) c.args.most seen) enough there)
     (λ fault end. round_stopped job cuts from c.args.most _ _ _ seen _ _ _ _ fault (c.see.ensures.grown told) found.0 (c.cover.ensures.grown told) enough end)
 
@@ -64,6 +64,6 @@ returns-clause-reason g c = λ told ahead.
     let seen = c.in_ok-seen.seen in
     let found = c.in_ok-seen.ensures.found told in
     let enough : planned_end from ≤ seen = omega (arith, c.planned_end.ensures, c.in_ok-seen.ensures.enough.0) in
-    let there : seen ≤ g.L.Log.shown c.see.new.log = omega (arith, found.0) in
+    let there : seen ≤ g.L.Log.available c.see.new.log = omega (arith, found.0) in
     if_err c.cover.result (c.cover.ensures.reason told ahead enough there)
     (λ fault why. round_reason _ _ (g.L.Log.lines c.see.new.log) _ _ _ seen from fault (c.see.ensures.same told) (c.see.ensures.grown told) found.0 (c.cover.ensures.grown told) why)

@@ -31,7 +31,7 @@ returns-in_err-rows-clause-stop g c = λ tells told job cuts written of_job read
     let is = c.in_ok-epoch.ensures in
     let epoch = epoch_is job cuts written _ _ _ _ _ c.args.progress.now _ is.number is.from is.end ready next in
     let planned = planned_is job cuts written _ c.args.progress.now _ is.number (is.done tells job cuts written _ ready next) in
-    let there : c.in_ok-epoch.epoch.end ≤ g.L.Log.shown c.args.log.now = omega (arith, is.end, next.there) in
+    let there : c.in_ok-epoch.epoch.end ≤ g.L.Log.available c.args.log.now = omega (arith, is.end, next.there) in
     let p = err_from_is_err_and c.from_residual-in_err-rows.result c.from_residual-in_err-rows.ensures.1 in
     rw (p.1, p.2) (epoch_stops job cuts _ c.args.progress.now _ _ is.number (c.in_err-rows.ensures.stop tells told job cuts written of_job epoch planned there))
 
