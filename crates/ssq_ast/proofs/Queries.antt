@@ -62,7 +62,7 @@ regular_stream stream places h =
 regular_named : (e : Expr) (at : ℕ) (label : Ident) → IsFit (plain e) → IsRegularItem (plain_item (item_of e at label))
 regular_named (expr.Column column) at label h = regular_column (bytes_eq column.column.text label.text)
   where
-    regular_column : (b : Bool) → IsRegularItem (plain_item (cond b (item.Column column label.at) (item.Named (expr.Column column) at label)))
+    regular_column : (b : Bool) → IsRegularItem (plain_item (cond b (item.Column column at label.at) (item.Named (expr.Column column) at label)))
     regular_column true = tt
     regular_column false = h
 regular_named (expr.Number n at') at label h = h
@@ -151,7 +151,7 @@ abbrev IsApart : Expr → List ℕ → Type 0
 IsApart (expr.Column column) label = bytes_eq column.column.text label ≡ false
 IsApart other label = Unit {0}
 
-same_named_column : (column : ColumnRef) (at named_at : ℕ) (label : Ident) (b : Bool) → b ≡ false → (made : ColumnRef) → erased_column made ≡ erased_column column → erased_item (cond b (item.Column made named_at) (item.Named (expr.Column made) at (record { text = label.text; at = named_at }))) ≡ item.Named (expr.Column (erased_column column)) 0 (erased_ident label)
+same_named_column : (column : ColumnRef) (at named_at : ℕ) (label : Ident) (b : Bool) → b ≡ false → (made : ColumnRef) → erased_column made ≡ erased_column column → erased_item (cond b (item.Column made at named_at) (item.Named (expr.Column made) at (record { text = label.text; at = named_at }))) ≡ item.Named (expr.Column (erased_column column)) 0 (erased_ident label)
 same_named_column column at named_at label true is made same = cc
 same_named_column column at named_at label false is made same = ap (λ c. item.Named (expr.Column c) 0 (erased_ident label)) same
 
@@ -170,14 +170,14 @@ same_named (expr.IsNull' s (only a) at test) label h places rest = ap (λ e. ite
 same_named (expr.Binary' left_at s (only a) o at right_at t (only b)) label h places rest = ap (λ e. item.Named e 0 (erased_ident label)) (erased_tree (expr.Binary' left_at s (only a) o at right_at t (only b)) places)
 same_named (expr.Between' s (only a) at t (only b) u (only c)) label h places rest = ap (λ e. item.Named e 0 (erased_ident label)) (erased_tree (expr.Between' s (only a) at t (only b) u (only c)) places)
 
-same_column_item : (column : ColumnRef) (named_at : ℕ) → Same item_tree plain_item erased_item (item.Column column named_at)
-same_column_item column named_at places = ap (λ c. item.Column c 0) (erased_column_tree column places)
+same_column_item : (column : ColumnRef) (at named_at : ℕ) → Same item_tree plain_item erased_item (item.Column column at named_at)
+same_column_item column at named_at places = ap (λ c. item.Column c 0 0) (erased_column_tree column places)
 
 same_named_item : (e : Expr) (at : ℕ) (label : Ident) → IsApart e label.text → Same item_tree plain_item erased_item (item.Named e at label)
 same_named_item e at label h places = same_named e label h places (drop 1 (behind (words (plain e)) places))
 
-same_item_by : (column : ColumnRef) (at : ℕ) (label : Ident) (b : Bool) → bytes_eq column.column.text label.text ≡ b → Same item_tree plain_item erased_item (cond b (item.Column column label.at) (item.Named (expr.Column column) at label))
-same_item_by column at label true is = same_column_item column label.at
+same_item_by : (column : ColumnRef) (at : ℕ) (label : Ident) (b : Bool) → bytes_eq column.column.text label.text ≡ b → Same item_tree plain_item erased_item (cond b (item.Column column at label.at) (item.Named (expr.Column column) at label))
+same_item_by column at label true is = same_column_item column at label.at
 same_item_by column at label false is = same_named_item (expr.Column column) at label is
 
 same_item_of : (e : Expr) (at : ℕ) (label : Ident) → Same item_tree plain_item erased_item (item_of e at label)
@@ -195,7 +195,7 @@ same_item_of (expr.Binary' left_at s a o at' right_at t b) at label = same_named
 same_item_of (expr.Between' s a at' t b u c) at label = same_named_item (expr.Between' s a at' t b u c) at label tt
 
 same_item : (i : WrittenItem) (places : List ℕ) → Same item_tree plain_item erased_item (item_tree i places)
-same_item (bare_item column) places = same_column_item (column_tree column places) (column_tree column places).column.at
+same_item (bare_item column) places = same_column_item (column_tree column places) (first places) (column_tree column places).column.at
 same_item (named_item value label) places = same_item_of (tree value places) (first places) (ident label (drop 1 (behind (words value) places)))
 
 same_items : (items : List WrittenItem) (places : List ℕ) → Each (Same item_tree plain_item erased_item) (each_tree item_words item_tree 1 items places)

@@ -170,7 +170,7 @@ module _ (P : Lexeme → Type 0) (K : (k : Keyword) → P (keyword k)) (S : (s :
   named_has : (e : Expr) (label : Ident) → Has (words (plain e)) → P (name label.text) → Has (item_words (named_item (plain e) label.text))
   named_has e label h n = append (words (plain e)) (keyword key.As ∷ name label.text ∷ []) h (K key.As, (n, tt))
 
-  column_item_has : (column : ColumnRef) (at : ℕ) (label : Ident) (b : Bool) → Has (column_words (plain_column column)) → P (name label.text) → Has (item_words (plain_item (cond b (item.Column column label.at) (item.Named (expr.Column column) at label))))
+  column_item_has : (column : ColumnRef) (at : ℕ) (label : Ident) (b : Bool) → Has (column_words (plain_column column)) → P (name label.text) → Has (item_words (plain_item (cond b (item.Column column at label.at) (item.Named (expr.Column column) at label))))
   column_item_has column at label true h n = h
   column_item_has column at label false h n = named_has (expr.Column column) label h n
 

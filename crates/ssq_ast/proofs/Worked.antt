@@ -84,7 +84,7 @@ its_tree : query_tree written (starts (tokens_of text)) ≡ record {
   } ∷ [];
   select = record {
     distinct = None;
-    items = item.Column (column_at (codes "id") 55) 55
+    items = item.Column (column_at (codes "id") 55) 55 55
         ∷ item.Named (binary 59 (expr.Column (column_at (codes "v") 59)) op.Add 61 63 (expr.Number (pos 1) 63)) 59 (named (codes "w") 68) ∷ [];
     from = named (codes "s") 75;
     join = None;

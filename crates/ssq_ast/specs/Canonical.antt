@@ -39,7 +39,7 @@ plain_stream stream = record {
 
 -- no AS where the item is the bare column of that name
 abbrev pub plain_item : Item → WrittenItem
-plain_item (item.Column column named_at) = bare_item (plain_column column)
+plain_item (item.Column column at named_at) = bare_item (plain_column column)
 plain_item (item.Named value at label) = named_item (plain value) label.text
 
 -- no INNER and no OUTER

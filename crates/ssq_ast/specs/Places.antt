@@ -35,7 +35,7 @@ erased_stream stream = record {
 }
 
 abbrev pub erased_item : Item → Item
-erased_item (item.Column column named_at) = item.Column (erased_column column) 0
+erased_item (item.Column column at named_at) = item.Column (erased_column column) 0 0
 erased_item (item.Named value at label) = item.Named (erased_expr value) 0 (erased_ident label)
 
 abbrev pub erased_condition : Condition → Condition

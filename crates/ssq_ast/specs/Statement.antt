@@ -255,11 +255,11 @@ declared_tree stream places =
 -- `v AS v` is the column v alone
 abbrev pub item_of : Expr → ℕ → Ident → Item
 item_of (expr.Column column) at label =
-    if bytes_eq column.column.text label.text then item.Column column label.at else item.Named (expr.Column column) at label
+    if bytes_eq column.column.text label.text then item.Column column at label.at else item.Named (expr.Column column) at label
 item_of value at label = item.Named value at label
 
 abbrev pub item_tree : WrittenItem → List ℕ → Item
-item_tree (bare_item column) places = let made = column_tree column places in item.Column made made.column.at
+item_tree (bare_item column) places = let made = column_tree column places in item.Column made (first places) made.column.at
 item_tree (named_item value label) places =
     item_of (tree value places) (first places) (ident label (drop 1 (behind (words value) places)))
 

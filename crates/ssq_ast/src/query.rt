@@ -60,12 +60,15 @@ pub enum Item {
     /// A column under its own name, `v`, `s.v` or `(v) AS v`.
     Column {
         column: ColumnRef,
+        /// The place of its first token, brackets included.
+        at: usize,
         /// Where its name is written: behind AS where that stands, and else in the column.
         named_at: usize,
     },
-    /// `v + 1 AS w`, at its first token, brackets included.
+    /// `v + 1 AS w`
     Named {
         value: Expr,
+        /// The place of its first token, brackets included.
         at: usize,
         name: Ident,
     },

@@ -79,14 +79,14 @@ stream_local at =
 
 -- ---- items
 
-bare_local : (named : Bool) (value : Expr) → Local (bare_at named value)
-bare_local true (expr.Column column) = pure _
-bare_local named other = nothing
+bare_local : (named : Bool) (value : Expr) (at : ℕ) → Local (bare_at named value at)
+bare_local true (expr.Column column) at = pure _
+bare_local named other at = nothing
 
 item_local : Local item_at
 unfolding item_at
 item_local = if_sees is_name (λ named tokens. whole_at tokens >>= (λ value. item_by named value.0 (seen (is_keyword key.As) value.1) value.1))
-    (λ named. followed whole_local (λ tree. if_seen (is_keyword key.As) (item_by named tree) (bare_local named tree.value) (λ at. skip (followed name_local (λ label. pure _)))))
+    (λ named. followed whole_local (λ tree. if_seen (is_keyword key.As) (item_by named tree) (bare_local named tree.value tree.at) (λ at. skip (followed name_local (λ label. pure _)))))
 
 item_none : item_at [] ≡ expected []
 unfolding item_at

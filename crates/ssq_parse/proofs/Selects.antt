@@ -14,7 +14,7 @@ use Rattle.ssq_ast.specs.declared.query.Item.TheVariants as item
 use Rattle.ssq_ast.specs.declared.query.Query.{Query}
 use Rattle.ssq_ast.specs.declared.query.Select.{Select}
 use Rattle.ssq_ast.specs.declared.query.Stream.{Stream}
-use Rattle.ssq_ast.specs.Expression.{Words, Written, words, tree, ident, of_number, of_text, of_truth, of_moment, of_span, of_column, of_rows, of_function, bracketed, prefixed, null_tested, infixed, between}
+use Rattle.ssq_ast.specs.Expression.{Words, Written, words, tree, first, ident, of_number, of_text, of_truth, of_moment, of_span, of_column, of_rows, of_function, bracketed, prefixed, null_tested, infixed, between}
 use Rattle.ssq_ast.specs.Statement.{WrittenStream, bare_item, named_item, WrittenSelect, WrittenQuery, Each, IsRegularStream, IsRegularItem, IsRegularSelect, IsRegularQuery, IsWritten, separated, each_tree, declared_words, declared_tree, distinct_words, distinct_tree, item_words, item_of, item_tree, join_words, condition_words, deduplicate_words, group_words, order_words, select_words, select_tree, query_words, query_tree}
 use Rattle.ssq_lex.specs.declared.fault.Refusal.{Refusal as LexRefusal}
 use Rattle.ssq_lex.specs.declared.keyword.Keyword.TheVariants as key
@@ -99,35 +99,35 @@ plain_name at true is = refl
 plain_name at false is = absurd (cc)
 
 -- what is a column by its tree and begins with a name is written as a column
-bare_column : (w : Written) (tokens rest : Ahead) (column : ColumnRef) → Took tokens rest (words w) → tree w (starts tokens) ≡ e.Column column
-    → sees is_name tokens ≡ true → Itemed tokens (item.Column column column.column.at, rest)
-bare_column (of_column c) tokens rest column took same is = record {
+bare_column : (w : Written) (tokens rest : Ahead) (column : ColumnRef) (at : ℕ) → Took tokens rest (words w) → tree w (starts tokens) ≡ e.Column column
+    → first (starts tokens) ≡ at → sees is_name tokens ≡ true → Itemed tokens (item.Column column at column.column.at, rest)
+bare_column (of_column c) tokens rest column at took same begins is = record {
   written = bare_item c;
   took = took;
   is_good = tt;
-  meant = ap (λ x. item.Column (column_of column x) (column_of column x).column.at) same;
+  meant = λ i. item.Column (column_of column (same i)) (begins i) (column_of column (same i)).column.at;
 }
-bare_column (bracketed inner) [] rest column took same is = absurd (cc)
-bare_column (bracketed inner) (t ∷ ts) rest column took same is =
+bare_column (bracketed inner) [] rest column at took same begins is = absurd (cc)
+bare_column (bracketed inner) (t ∷ ts) rest column at took same begins is =
     let bad : false ≡ true = sym (ap opening took.said) ∙ plain_name t.start (is_name t.said) is in
     absurd (cc)
-bare_column (of_number n) tokens rest column took same is = let bad : false ≡ true = ap is_column same in absurd (cc)
-bare_column (of_text text) tokens rest column took same is = let bad : false ≡ true = ap is_column same in absurd (cc)
-bare_column (of_truth truth) tokens rest column took same is = let bad : false ≡ true = ap is_column same in absurd (cc)
-bare_column (of_moment moment) tokens rest column took same is = let bad : false ≡ true = ap is_column same in absurd (cc)
-bare_column (of_span span) tokens rest column took same is = let bad : false ≡ true = ap is_column same in absurd (cc)
-bare_column of_rows tokens rest column took same is = let bad : false ≡ true = ap is_column same in absurd (cc)
-bare_column (of_function f argument) tokens rest column took same is = let bad : false ≡ true = ap is_column same in absurd (cc)
-bare_column (prefixed o operand) tokens rest column took same is = let bad : false ≡ true = ap is_column same in absurd (cc)
-bare_column (null_tested operand test) tokens rest column took same is = let bad : false ≡ true = ap is_column same in absurd (cc)
-bare_column (infixed o left right) tokens rest column took same is = let bad : false ≡ true = ap is_column same in absurd (cc)
-bare_column (between operand low high) tokens rest column took same is = let bad : false ≡ true = ap is_column same in absurd (cc)
+bare_column (of_number n) tokens rest column at took same begins is = let bad : false ≡ true = ap is_column same in absurd (cc)
+bare_column (of_text text) tokens rest column at took same begins is = let bad : false ≡ true = ap is_column same in absurd (cc)
+bare_column (of_truth truth) tokens rest column at took same begins is = let bad : false ≡ true = ap is_column same in absurd (cc)
+bare_column (of_moment moment) tokens rest column at took same begins is = let bad : false ≡ true = ap is_column same in absurd (cc)
+bare_column (of_span span) tokens rest column at took same begins is = let bad : false ≡ true = ap is_column same in absurd (cc)
+bare_column of_rows tokens rest column at took same begins is = let bad : false ≡ true = ap is_column same in absurd (cc)
+bare_column (of_function f argument) tokens rest column at took same begins is = let bad : false ≡ true = ap is_column same in absurd (cc)
+bare_column (prefixed o operand) tokens rest column at took same begins is = let bad : false ≡ true = ap is_column same in absurd (cc)
+bare_column (null_tested operand test) tokens rest column at took same begins is = let bad : false ≡ true = ap is_column same in absurd (cc)
+bare_column (infixed o left right) tokens rest column at took same begins is = let bad : false ≡ true = ap is_column same in absurd (cc)
+bare_column (between operand low high) tokens rest column at took same begins is = let bad : false ≡ true = ap is_column same in absurd (cc)
 
-bare_by_sound : (flag : Bool) (start : Ahead) → sees is_name start ≡ flag → (w : Written) (value : Expr) → tree w (starts start) ≡ value → (us : Ahead)
-    → IfRead (bare_at flag value us) (λ found. Took start us (words w) → Itemed start found)
-bare_by_sound true start is w (e.Column column) same us = λ took. bare_column w start us column took same is
-bare_by_sound true start is w other same us = tt
-bare_by_sound false start is w other same us = tt
+bare_by_sound : (flag : Bool) (start : Ahead) → sees is_name start ≡ flag → (w : Written) (value : Expr) (at : ℕ) → tree w (starts start) ≡ value → first (starts start) ≡ at → (us : Ahead)
+    → IfRead (bare_at flag value at us) (λ found. Took start us (words w) → Itemed start found)
+bare_by_sound true start is w (e.Column column) at same begins us = λ took. bare_column w start us column at took same begins is
+bare_by_sound true start is w other at same begins us = tt
+bare_by_sound false start is w other at same begins us = tt
 
 abbrev Behind : Ahead → Written → Ahead → Item × Ahead → Type 0
 Behind start w us found = Took start us (words w) → Itemed start found
@@ -135,7 +135,7 @@ Behind start w us found = Took start us (words w) → Itemed start found
 item_on : (start : Ahead) (value : Tree) (rest : Ahead) (s : Spelled 0 64 start value rest) → (us : Ahead)
     → IfRead (item_by (sees is_name start) value (seen (is_keyword key.As) us) us) (Behind start s.written us)
 item_on start value rest s us = clause (Behind start s.written) key.As (item_by (sees is_name start) value)
-    (λ us. bare_by_sound (sees is_name start) start refl s.written value.value s.meant us)
+    (λ us. bare_by_sound (sees is_name start) start refl s.written value.value value.at s.meant s.at us)
     (λ t ts word. thus (Behind start s.written (t ∷ ts)) (name_at ts) (λ label. Ok (item_of value.value value.at label.0, label.1)) (name_sound ts) (λ label n took.
     let here : drop 1 (drop (length (words s.written)) (starts start)) ≡ starts ts = ap (drop 1) took.left in
     let label_is : ident label.0.text (drop 1 (drop (length (words s.written)) (starts start))) ≡ label.0 = name_there ts label _ here n in

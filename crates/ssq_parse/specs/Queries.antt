@@ -118,16 +118,16 @@ abbrev pub item_of : Expr → ℕ → Ident → Item
 item_of = statement.item_of
 
 -- an item without AS is a column, whose first token is a name
-abbrev pub bare_by : Bool → Expr → Stop → Result Item Stop
-bare_by true (expr.Column column) fault = Ok (item.Column column column.column.at)
-bare_by is_name other fault = Err fault
+abbrev pub bare_by : Bool → Expr → ℕ → Stop → Result Item Stop
+bare_by true (expr.Column column) at fault = Ok (item.Column column at column.column.at)
+bare_by is_name other at fault = Err fault
 
-abbrev pub bare_at : Bool → Expr → Ahead → Read Item
-bare_at true (expr.Column column) tokens = Ok (item.Column column column.column.at, tokens)
-bare_at is_name other tokens = expected tokens
+abbrev pub bare_at : Bool → Expr → ℕ → Ahead → Read Item
+bare_at true (expr.Column column) at tokens = Ok (item.Column column at column.column.at, tokens)
+bare_at is_name other at tokens = expected tokens
 
 abbrev pub item_by : Bool → Tree → Option ℕ → Ahead → Read Item
-item_by is_name tree None tokens = bare_at is_name tree.value tokens
+item_by is_name tree None tokens = bare_at is_name tree.value tree.at tokens
 item_by is_name tree (Some at) tokens = do
   label ← name_at (drop 1 tokens)
   Ok (item_of tree.value tree.at label.0, label.1)

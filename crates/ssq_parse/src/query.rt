@@ -137,6 +137,7 @@ fn named_column(column: ColumnRef, at: usize, name: Ident) -> Item
     if column.column.text == name.text {
         Item::Column {
             column,
+            at,
             named_at: name.at,
         }
     } else {
@@ -158,8 +159,8 @@ fn named(value: Expr, at: usize, name: Ident) -> Item
 }
 
 /// An item without a name of its own.
-fn bare(value: Expr, is_name: bool, expected: Stop) -> Result<Item, Stop>
-    ensures { result ≡ spec.bare_by is_name value expected }
+fn bare(value: Expr, at: usize, is_name: bool, expected: Stop) -> Result<Item, Stop>
+    ensures { result ≡ spec.bare_by is_name value at expected }
 {
     if !is_name {
         return Err(expected);
@@ -167,7 +168,11 @@ fn bare(value: Expr, is_name: bool, expected: Stop) -> Result<Item, Stop>
     match value {
         Expr::Column { value: column } => {
             let named_at = column.column.at;
-            Ok(Item::Column { column, named_at })
+            Ok(Item::Column {
+                column,
+                at,
+                named_at,
+            })
         }
         _other => Err(expected),
     }
@@ -186,7 +191,7 @@ impl Part for Item {
             let name = reader.name(alloc)?;
             return Ok(named(tree.value, tree.at, name));
         }
-        bare(tree.value, begins_with_name, reader.expected())
+        bare(tree.value, tree.at, begins_with_name, reader.expected())
     }
 }
 

@@ -25,7 +25,7 @@ use crate::prepare::Prepared;
 use ssq_settle::settle;
 use ssq_outside::{Disk, DiskError, Log, Name};
 use ssq_plans::{Commit, PartEnd, Plan, write_commit, write_plan};
-use ssq_sink::epoch_text;
+use ssq_sink::schema_text;
 use ssq_value::{Row, Schema, Sequence};
 use std::alloc::{AllocError, Global};
 
@@ -97,7 +97,7 @@ fn write_rows<D: Disk>(
     ensures counted { D.faults disk.old ≤ D.faults disk.new }
     ensures cause { IsErrOf result DiskError.Fault → Rises (D.faults disk.old) (D.faults disk.new) }
 {
-    let bytes = epoch_text(alloc, shown, rows)?;
+    let bytes = schema_text(alloc, shown, rows)?;
     settle(alloc, disk, Name::Out(number), bytes.as_slice())
 }
 

@@ -1,31 +1,63 @@
 //! The rows of an epoch as the text of its sink file.
 
-ghost use Rattle.std.specs.Prelude.{◌≡◌, ◌++◌, ℕ, Bool, List, IfOk, OnOk, count_by};
+ghost use Rattle.std.specs.Prelude.{◌≡◌, ◌++◌, ℕ, Bool, List, map, IfOk, OnOk, count_by};
 ghost use Rattle.std.specs.List.{All, flat_map};
 ghost use Rattle.std.specs.List.Sorted.{IsPermutation};
+ghost use Rattle.std.specs.Str.{IsUtf8};
 ghost use Rattle.ssq_value.specs.declared.value.Value.{Value as Cell};
 ghost use Rattle.ssq_time.specs.Time.{IsStampTime};
 ghost use Rattle.ssq_value.specs.Kind.{IfTime};
-ghost use Rattle.ssq_json.specs.RowText.{names_of};
+ghost use Rattle.ssq_json.specs.RowText.{heads_of, names_of};
+ghost use Rattle.ssq_shape.specs.Plain.{output_names};
 ghost use Rattle.ssq_sink.specs.Sink.{is_row_below, line_with, sink_text};
 ghost use Rattle.ssq_sink.specs.Sorted.{sorted};
 
-use ssq_json::{Heads, put_row};
-use ssq_value::{Row, Schema};
+use ssq_json::{Heads, put_row, utf8_text};
+use ssq_shape::{Bound, Output};
+use ssq_value::{Row, Schema, Text};
 use std::alloc::{AllocError, Global};
 
 /// The text of an epoch's sink file: the rows sorted value by value from the left, one JSON line each, with a line feed behind
-/// each. Of no rows it is empty. The rows have the columns of the schema, and times of the years 0001 to 9999.
-pub fn epoch_text(alloc: Global, schema: &Schema, rows: Vec<Row>) -> Result<Vec<u8>, AllocError>
+/// each. Of no rows it is empty. The rows have the columns of SELECT, and times of the years 0001 to 9999.
+pub fn epoch_text(alloc: Global, bound: &Bound, rows: Vec<Row>) -> Result<Text, AllocError>
+    requires { All (All (IfTime IsStampTime)) rows.items }
+    ensures { IfOk result (λ text. text ≡ sink_text (output_names bound.now) rows.items) }
+{
+    let heads = output_heads(alloc, bound.outputs.as_slice())?;
+    rows_text(alloc, &heads, rows)
+}
+
+/// The same as bytes, where the rows have the columns of the schema.
+pub fn schema_text(alloc: Global, schema: &Schema, rows: Vec<Row>) -> Result<Vec<u8>, AllocError>
     requires { All (All (IfTime IsStampTime)) rows.items }
     ensures { IfOk result
         (λ text. text.items ≡ sink_text (names_of schema.now.columns) rows.items) }
 {
     let heads = Heads::new(alloc, schema.columns())?;
+    let text = rows_text(alloc, &heads, rows)?;
+    Ok(text.into_string().into_bytes())
+}
+
+/// The heads of the columns of SELECT.
+fn output_heads(alloc: Global, outputs: &[Output]) -> Result<Heads, AllocError>
+    ensures { IfOk result (λ heads. heads ≡ heads_of (map (λ output. output.name) outputs.now)) }
+{
+    let mut heads = Heads::none(alloc);
+    for output in outputs {
+        heads.push(&output.name)?;
+    }
+    Ok(heads)
+}
+
+/// The rows with these heads, sorted, one line each.
+fn rows_text(alloc: Global, heads: &Heads, rows: Vec<Row>) -> Result<Text, AllocError>
+    requires { All (All (IfTime IsStampTime)) rows.items }
+    ensures { (names : List (List ℕ)) → heads.now ≡ heads_of names → IfOk result (λ text. text ≡ sink_text names rows.items) }
+{
     let rows = sort(rows);
     let mut text = Vec::new(alloc);
-    put_lines(&mut text, &heads, rows.as_slice())?;
-    Ok(text)
+    put_lines(&mut text, heads, rows.as_slice())?;
+    Ok(utf8_text(text))
 }
 
 fn sort(mut rows: Vec<Row>) -> Vec<Row>
@@ -38,8 +70,9 @@ fn sort(mut rows: Vec<Row>) -> Vec<Row>
 
 fn put_lines(text: &mut Vec<u8>, heads: &Heads, rows: &[Row]) -> Result<(), AllocError>
     requires { All (All (IfTime IsStampTime)) rows.now }
-    ensures { OnOk result
+    ensures text { OnOk result
         (text.new.items ≡ text.old.items ++ flat_map (line_with heads.now) rows.now) }
+    ensures utf8 { OnOk result (IsUtf8 text.old.items → IsUtf8 text.new.items) }
 {
     for row in rows {
         put_row(text, heads, row)?;

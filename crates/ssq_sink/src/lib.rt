@@ -3,7 +3,7 @@
 
 mod epoch;
 
-pub use epoch::{epoch_text, order_is_free};
+pub use epoch::{epoch_text, order_is_free, schema_text};
 
 #[cfg(test)]
 mod tests;

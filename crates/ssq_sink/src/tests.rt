@@ -61,7 +61,7 @@ fn rows_are_sorted_and_written(rt: HostRuntime) -> Result<(), Fail> {
         ([].as_slice(), ""),
     ] {
         let rows = read_rows(alloc, &schema, lines)?;
-        let text = epoch_text(alloc, &schema, rows)?;
+        let text = schema_text(alloc, &schema, rows)?;
         assert_eq!(rt; text.as_slice(), wanted.as_bytes(), "{lines:?}");
     }
     Ok(())

@@ -1,3 +1,4 @@
+pub mod Ascii
 mod Days
 mod Parts
 pub mod Printed
