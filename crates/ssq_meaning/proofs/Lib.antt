@@ -1,2 +1,5 @@
 pub mod Epochs
 pub mod Years
+pub mod Causal
+pub mod Water
+pub mod Adding

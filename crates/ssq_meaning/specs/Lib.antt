@@ -1,1 +1,8 @@
 pub mod Meaning
+pub mod Parts
+pub mod Cut
+pub mod Times
+pub mod Feeding
+pub mod Operator
+pub mod Epochs
+pub mod Laws

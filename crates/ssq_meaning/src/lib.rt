@@ -5,7 +5,13 @@
 #![tactic(auto)]
 
 mod cuts;
+mod fed_row;
+mod laws;
 mod line;
 
 pub use cuts::{epochs_add_up, next_end};
+pub use fed_row::{FedRow, View};
+pub use laws::{
+    epochs_hang_on_their_cuts, epochs_without_lines_are_quiet, rows_add_up, watermarks_never_fall,
+};
 pub use line::{LineFault, schema_of, show_line};

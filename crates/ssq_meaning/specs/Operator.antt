@@ -1,0 +1,35 @@
+-- What a query does with the rows that are fed: the operator of its shape.
+use Rattle.std.specs.Prelude.{ℕ, ℤ, Bool, false, List, [], map, Option, None}
+use Rattle.ssq_shape.specs.declared.bound.Bound.{Bound}
+use Rattle.ssq_shape.specs.declared.bound.Shape.{Shape}
+use Rattle.ssq_shape.specs.declared.bound.Shape.TheVariants.{Plain}
+use Rattle.ssq_meaning.specs.declared.fed_row.FedRow.{FedRow}
+use Rattle.ssq_meaning.specs.Meaning.{Values}
+
+-- An operator, by the rows that were accepted before an epoch (old) and those of the epoch itself that are not late (new), and by the
+-- watermarks of the epoch before and its own.
+pub record Operator : Type 0 where
+  -- whether a row is late at a watermark
+  pub is_late : Option ℤ → FedRow → Bool
+  -- the rows that the epoch shows
+  pub added : (old new : List FedRow) → (before now : Option ℤ) → List Values
+  -- the least key on which what the epoch shows overflows
+  pub fault : (old new : List FedRow) → (before now : Option ℤ) → Option Values
+  -- the keyed state that accepted rows leave at a watermark: keys ascending, each with its value, both as bytes
+  pub state : (rows : List FedRow) → (now : Option ℤ) → List (List ℕ × List ℕ)
+
+-- Plain: no row is late, the epoch shows the projection of each of its rows, no key overflows, and nothing is kept.
+abbrev pub plain : Operator
+plain = record {
+  is_late = λ now row. false;
+  added = λ old new before now. map (λ row. row.values) new;
+  fault = λ old new before now. None;
+  state = λ rows now. [];
+}
+
+-- the operator of a shape, for a query of that shape
+abbrev pub operator_for : Shape → Bound → Operator
+operator_for Plain query = plain
+
+unfoldable pub operator_of : Bound → Operator
+operator_of query = operator_for query.shape query
