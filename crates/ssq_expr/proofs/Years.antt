@@ -1,13 +1,13 @@
 -- Where each time of a row can be printed, so can each time that is made of it.
-use Rattle.std.proofs.Common.{◌≡◌, ℤ, ◌≤ℤ◌, int_le, true, List, [], ◌∷◌, Result, Ok, Err, arith, subst}
-use Rattle.std.specs.Prelude.{All, IfOk}
+use Rattle.std.proofs.Common.{◌≡◌, ℤ, ◌≤ℤ◌, int_le, true, List, [], ◌∷◌, Option, Result, Ok, Err, arith, subst}
+use Rattle.std.specs.Prelude.{All, IfOk, IfSome}
 use Rattle.std.proofs.lemmas.Int.{ints}
 use Rattle.std.proofs.lemmas.Bool.{and_parts}
-use Rattle.std.proofs.lemmas.List.Elements.{All-nil, All-cons}
+use Rattle.std.proofs.lemmas.List.Elements.{All-nil, All-cons, recursion_from_All}
 use Rattle.ssq_time.specs.Time.{IsStampTime, is_stamp_time}
 use Rattle.ssq_value.specs.declared.value.Value.{Value}
 use Rattle.ssq_value.specs.Kind.{IfTime}
-use Rattle.ssq_shape.specs.Evaluation.{Overflow, Evaluated, and_then, evaluated}
+use Rattle.ssq_shape.specs.Evaluation.{Overflow, Evaluated, and_then, evaluated, evaluated_with}
 use Rattle.ssq_shape.specs.Plain.{projected}
 use Rattle.ssq_shape.specs.Laws.{value_timed}
 use Rattle.ssq_shape.specs.declared.typed.Typed.{Typed}
@@ -31,7 +31,10 @@ told P (Err fault.Overflow) meant is holds = tt
 told P (Err fault.NoMemory) meant is holds = tt
 
 pub value_years : (row : List Value) (x : Typed) → All (IfTime IsStampTime) row → IfOk (evaluated x row) (IfTime IsStampTime)
-value_years row x all = value_timed IsStampTime printable row all x
+value_years row x all = value_timed IsStampTime printable [] tt row all x
+
+pub group_years : (aggregates : List (Option Value)) (keys : List Value) (x : Typed) → All (λ aggregate. IfSome aggregate (IfTime IsStampTime)) aggregates → All (IfTime IsStampTime) keys → IfOk (evaluated_with aggregates x keys) (IfTime IsStampTime)
+group_years aggregates keys x found all = value_timed IsStampTime printable aggregates (recursion_from_All (λ aggregate. IfSome aggregate (IfTime IsStampTime)) aggregates found) keys all x
 
 pub values_years : (row : List Value) (outputs : List Output) → All (IfTime IsStampTime) row → IfOk (projected outputs row) (All (IfTime IsStampTime))
 unfolding projected

@@ -20,7 +20,7 @@ pub fn passes(alloc: Global, filter: &Option<Typed>, row: &[Value]) -> Result<bo
     let Some(condition) = filter else {
         return Ok(true);
     };
-    let truth = truth_in(evaluate(alloc, condition, row)?);
+    let truth = truth_in(evaluate(alloc, condition, row, &[])?);
     Ok(truth == Some(true))
 }
 

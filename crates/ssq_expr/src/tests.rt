@@ -432,12 +432,14 @@ fn outputs(alloc: Global) -> Result<[Output; 2], Fail> {
         name,
         kind: ColType::Bigint,
         value: negated,
+        key: None,
     };
     let name = Text::from_str(alloc, "id")?;
     let id = Output {
         name,
         kind: ColType::Str,
         value: Typed::Column(0),
+        key: None,
     };
     Ok([id, w])
 }

@@ -6,7 +6,7 @@ use Rattle.ssq_value.specs.declared.column.ColType.{ColType}
 use Rattle.ssq_value.specs.declared.column.ColType.TheVariants as type
 use Rattle.ssq_value.specs.declared.column.Column.{Column}
 use Rattle.ssq_shape.specs.declared.typed.Typed.{Typed}
-use Rattle.ssq_shape.specs.Kinds.{are_alike, is_typed, gives, kind_in}
+use Rattle.ssq_shape.specs.Kinds.{are_alike, is_typed, gives, kind_in, kind_with}
 use Rattle.ssq_query.specs.declared.query.Filter.{Filter}
 use Rattle.ssq_query.specs.declared.query.Item.{Item}
 use Rattle.ssq_query.specs.declared.query.Item.TheVariants as item
@@ -26,13 +26,13 @@ kind_there (column ∷ columns) zero = refl
 kind_there (column ∷ columns) (suc at) = kind_there columns at
 
 term_typed : (columns : List Column) (t : Term) → kind_in (column_kinds columns) (typed_term t) ≡ term_kind columns t
-unfolding kind_in
+unfolding kind_with
 term_typed columns (term.Column at) = kind_there columns at
 term_typed columns (term.Number n) = refl
 term_typed columns (term.Text text) = refl
 
 steps_typed : (columns : List Column) (left : Typed) (kind : Option ColType) (steps : List Step) → kind_in (column_kinds columns) left ≡ kind → kind_in (column_kinds columns) (typed_steps left steps) ≡ steps_kind columns kind steps
-unfolding kind_in typed_steps steps_kind
+unfolding kind_with typed_steps steps_kind
 steps_typed columns left kind [] is = is
 steps_typed columns left kind (step ∷ steps) is =
     steps_typed columns (typed_step left step) (added_kind kind (term_kind columns step.term)) steps (λ i. added_kind (is i) (term_typed columns step.term i))
@@ -41,7 +41,7 @@ sum_typed : (columns : List Column) (sum : Sum) → kind_in (column_kinds column
 sum_typed columns sum = steps_typed columns (typed_term sum.first) (term_kind columns sum.first) sum.steps (term_typed columns sum.first)
 
 item_typed : (columns : List Column) (x : Item) → kind_in (column_kinds columns) (typed_item x) ≡ item_kind columns x
-unfolding kind_in
+unfolding kind_with
 item_typed columns (item.Column at) = kind_there columns at
 item_typed columns (item.Named sum name) = sum_typed columns sum
 
@@ -56,7 +56,7 @@ items_typed columns (x ∷ items) all =
     (item_typed columns x ∙ typed_is (item_kind columns x) parts.0, items_typed columns items parts.1)
 
 filter_typed : (columns : List Column) (filter : Option Filter) → is_condition columns filter ≡ true → IfSome (option_map typed_filter filter) (λ x. kind_in (column_kinds columns) x ≡ Some type.Bool)
-unfolding kind_in
+unfolding kind_with
 filter_typed columns None is = tt
 filter_typed columns (Some filter) is =
     (λ i. gives type.Bool (are_alike (sum_typed columns filter.left i) (sum_typed columns filter.right i))) ∙ ap (gives type.Bool) is

@@ -69,6 +69,7 @@ output_of columns item = record {
   name = output_name (column_names columns) item;
   kind = kind_or_bigint (item_kind columns item);
   value = typed_item item;
+  key = None;
 }
 
 -- the one stream, which has no event column
@@ -89,6 +90,7 @@ bound_of query = record {
   shape = Plain;
   filter = option_map typed_filter query.filter;
   outputs = map (output_of query.columns) query.items;
+  order = [];
 }
 
 abbrev pub column_kinds : List Column → List ColType

@@ -96,7 +96,12 @@ fn output(alloc: Global, columns: &[Column], item: &Item) -> Result<Output, Allo
     let name = Text::from_str(alloc, output_name(columns, item))?;
     let kind = kind_or_bigint(item_kind(columns, item));
     let value = typed_item(alloc, item)?;
-    Ok(Output { name, kind, value })
+    Ok(Output {
+        name,
+        kind,
+        value,
+        key: None,
+    })
 }
 
 fn outputs(
@@ -144,6 +149,7 @@ pub fn bind(alloc: Global, query: &Query) -> Result<Bound, AllocError>
         shape: Shape::Plain,
         filter: condition(alloc, &query.filter)?,
         outputs: outputs(alloc, query.columns.as_slice(), query.items.as_slice())?,
+        order: Sequence::new(alloc),
     })
 }
 

@@ -1,7 +1,7 @@
--- What an expression is on a row. Logic is three-valued: TRUE, FALSE and NULL.
+-- What an expression is on a row, and on a group. Logic is three-valued: TRUE, FALSE and NULL.
 --
 -- An operand of another type than the operator's is read as NULL. No expression that was bound has one.
-use Rattle.std.specs.Prelude.{ℕ, ◌+◌, ◌-◌, ◌^◌, ℤ, pos, negsuc, neg_ℤ, ◌+ℤ◌, ◌-ℤ◌, ◌*ℤ◌, int_le, int_div, int_rem, nat_le, Bool, true, false, not, ◌&&◌, ◌||◌, if◌then◌else◌, List, ◌++◌, length, slice_get, Option, Some, None, Result, Ok, Err}
+use Rattle.std.specs.Prelude.{ℕ, ◌+◌, ◌-◌, ◌^◌, ℤ, pos, negsuc, neg_ℤ, ◌+ℤ◌, ◌-ℤ◌, ◌*ℤ◌, int_le, int_div, int_rem, nat_le, Bool, true, false, not, ◌&&◌, ◌||◌, if◌then◌else◌, List, [], ◌++◌, length, slice_get, Option, Some, None, Result, Ok, Err}
 use Rattle.std.specs.Ordering.{int_eq}
 use Rattle.std.specs.declared.cmp.Ordering.{Ordering}
 use Rattle.std.specs.Ordering.{is_eq, is_ne, is_lt, is_le, is_gt, is_ge}
@@ -15,7 +15,7 @@ use Rattle.ssq_shape.specs.declared.typed.Comparison.{Comparison}
 use Rattle.ssq_shape.specs.declared.typed.Comparison.TheVariants.{Equal, NotEqual, Less, AtMost, Greater, AtLeast}
 use Rattle.ssq_shape.specs.declared.typed.Typed.{Typed}
 use Rattle.ssq_shape.specs.Boxes.{only}
-use Rattle.ssq_shape.specs.declared.typed.Typed.TheVariants.{Column, Constant, Negated', Not', IsNull', Arithmetic', Shifted', Joined', Compared', Between', And', Or'}
+use Rattle.ssq_shape.specs.declared.typed.Typed.TheVariants.{Column, Aggregate, Constant, Negated', Not', IsNull', Arithmetic', Shifted', Joined', Compared', Between', And', Or'}
 
 -- The one fault: a number outside 64 bits, a time outside the years 0001 to 9999, or a text that `||` made too long.
 pub data Overflow : Type 0 where
@@ -88,6 +88,15 @@ abbrev pub constant : Value → Evaluated
 constant (Time time) = timestamp time
 constant value = Ok value
 
+-- An aggregate's value, by its number; a sum that is not in 64 bits has none, and overflows where it is evaluated. An
+-- aggregate that is not there counts as NULL.
+abbrev pub aggregate_at : List (Option Value) → ℕ → Evaluated
+aggregate_at aggregates at = told (slice_get aggregates at) where
+  told : Option (Option Value) → Evaluated
+  told None = Ok Null
+  told (Some None) = Err overflow
+  told (Some (Some value)) = Ok value
+
 abbrev pub negated : Option ℤ → Evaluated
 negated None = Ok Null
 negated (Some n) = bigint (neg_ℤ n)
@@ -155,20 +164,26 @@ disjunction left right = and_then right (λ truth. Ok (truth_value (either left 
 abbrev pub truth_of : Evaluated → Result (Option Bool) Overflow
 truth_of side = and_then side (λ value. Ok (truth_in value))
 
--- What an expression is on a row. Operands are evaluated from the left, and the first overflow is the answer.
-unfoldable pub evaluated : Typed → List Value → Evaluated
-evaluated (Column at) row = Ok (cell_at row at)
-evaluated (Constant value) row = constant value
-evaluated (Negated' p (only x)) row = and_then (evaluated x row) (λ value. negated (number_in value))
-evaluated (Not' p (only x)) row = and_then (evaluated x row) (λ value. Ok (truth_value (negation (truth_in value))))
-evaluated (IsNull' p (only x)) row = and_then (evaluated x row) (λ value. Ok (Truth (is_null value)))
-evaluated (Arithmetic' op p (only a) q (only b)) row = and_then (evaluated a row) (λ left. and_then (evaluated b row) (λ right. arithmetic op (number_in left) (number_in right)))
-evaluated (Shifted' p (only x) by) row = and_then (evaluated x row) (λ value. shifted (time_in value) by)
-evaluated (Joined' p (only a) q (only b)) row = and_then (evaluated a row) (λ left. and_then (evaluated b row) (λ right. joined (text_in left) (text_in right)))
-evaluated (Compared' comparison p (only a) q (only b)) row = and_then (evaluated a row) (λ left. and_then (evaluated b row) (λ right. Ok (truth_value (compared comparison left right))))
-evaluated (And' p (only a) q (only b)) row = and_then (evaluated a row) (λ left. conjunction (truth_in left) (truth_of (evaluated b row)))
-evaluated (Or' p (only a) q (only b)) row = and_then (evaluated a row) (λ left. disjunction (truth_in left) (truth_of (evaluated b row)))
+-- What an expression is on a row with these aggregates. Operands are evaluated from the left, and the first overflow is
+-- the answer.
+unfoldable pub evaluated_with : List (Option Value) → Typed → List Value → Evaluated
+evaluated_with aggregates (Column at) row = Ok (cell_at row at)
+evaluated_with aggregates (Aggregate at) row = aggregate_at aggregates at
+evaluated_with aggregates (Constant value) row = constant value
+evaluated_with aggregates (Negated' p (only x)) row = and_then (evaluated_with aggregates x row) (λ value. negated (number_in value))
+evaluated_with aggregates (Not' p (only x)) row = and_then (evaluated_with aggregates x row) (λ value. Ok (truth_value (negation (truth_in value))))
+evaluated_with aggregates (IsNull' p (only x)) row = and_then (evaluated_with aggregates x row) (λ value. Ok (Truth (is_null value)))
+evaluated_with aggregates (Arithmetic' op p (only a) q (only b)) row = and_then (evaluated_with aggregates a row) (λ left. and_then (evaluated_with aggregates b row) (λ right. arithmetic op (number_in left) (number_in right)))
+evaluated_with aggregates (Shifted' p (only x) by) row = and_then (evaluated_with aggregates x row) (λ value. shifted (time_in value) by)
+evaluated_with aggregates (Joined' p (only a) q (only b)) row = and_then (evaluated_with aggregates a row) (λ left. and_then (evaluated_with aggregates b row) (λ right. joined (text_in left) (text_in right)))
+evaluated_with aggregates (Compared' comparison p (only a) q (only b)) row = and_then (evaluated_with aggregates a row) (λ left. and_then (evaluated_with aggregates b row) (λ right. Ok (truth_value (compared comparison left right))))
+evaluated_with aggregates (And' p (only a) q (only b)) row = and_then (evaluated_with aggregates a row) (λ left. conjunction (truth_in left) (truth_of (evaluated_with aggregates b row)))
+evaluated_with aggregates (Or' p (only a) q (only b)) row = and_then (evaluated_with aggregates a row) (λ left. disjunction (truth_in left) (truth_of (evaluated_with aggregates b row)))
 -- `a BETWEEN b AND c` is `a >= b AND a <= c`, with a evaluated once
-evaluated (Between' p (only a) q (only b) r (only c)) row =
-    and_then (evaluated a row) (λ value. and_then (evaluated b row) (λ least.
-    conjunction (compared AtLeast value least) (and_then (evaluated c row) (λ most. Ok (compared AtMost value most)))))
+evaluated_with aggregates (Between' p (only a) q (only b) r (only c)) row =
+    and_then (evaluated_with aggregates a row) (λ value. and_then (evaluated_with aggregates b row) (λ least.
+    conjunction (compared AtLeast value least) (and_then (evaluated_with aggregates c row) (λ most. Ok (compared AtMost value most)))))
+
+-- what an expression is on a row alone
+abbrev pub evaluated : Typed → List Value → Evaluated
+evaluated x row = evaluated_with [] x row

@@ -1,6 +1,6 @@
 -- The value of an expression has the expression's type, and its times are of the years 0001 to 9999.
 use Rattle.std.proofs.Common.{◌≡◌, ℕ, zero, suc, ℤ, pos, neg_ℤ, ◌+ℤ◌, ◌-ℤ◌, ◌*ℤ◌, Bool, true, false, List, [], ◌∷◌, ◌++◌, Option, Some, None, Result, Ok, Err, refl, subst}
-use Rattle.std.specs.Prelude.{All, IfOk, if◌then◌else◌, slice_get, int_div, int_rem}
+use Rattle.std.specs.Prelude.{All, IfOk, IfSome, if◌then◌else◌, slice_get, int_div, int_rem}
 use Rattle.std.specs.List.{AllByRecursion}
 use Rattle.std.specs.Ordering.{int_eq}
 use Rattle.std.proofs.lemmas.List.Elements.{recursion_from_All}
@@ -15,9 +15,9 @@ use Rattle.ssq_shape.specs.declared.typed.Arithmetic.TheVariants.{Plus, Minus, T
 use Rattle.ssq_shape.specs.declared.typed.Comparison.TheVariants.{AtMost, AtLeast}
 use Rattle.ssq_shape.specs.declared.typed.Typed.{Typed}
 use Rattle.ssq_shape.specs.Boxes.{only}
-use Rattle.ssq_shape.specs.declared.typed.Typed.TheVariants.{Column, Constant, Negated', Not', IsNull', Arithmetic', Shifted', Joined', Compared', Between', And', Or'}
-use Rattle.ssq_shape.specs.Evaluation.{Overflow, overflow, Evaluated, and_then, bigint, cell_at, constant, negated, calculated, arithmetic, shifted, joined, compared, number_in, time_in, text_in, truth_in, truth_value, truth_of, negation, both, either, conjunction, disjunction, evaluated}
-use Rattle.ssq_shape.specs.Kinds.{gives, kind_in, AreHeldBy}
+use Rattle.ssq_shape.specs.declared.typed.Typed.TheVariants.{Column, Aggregate, Constant, Negated', Not', IsNull', Arithmetic', Shifted', Joined', Compared', Between', And', Or'}
+use Rattle.ssq_shape.specs.Evaluation.{Overflow, overflow, Evaluated, and_then, bigint, cell_at, aggregate_at, constant, negated, calculated, arithmetic, shifted, joined, compared, number_in, time_in, text_in, truth_in, truth_value, truth_of, negation, both, either, conjunction, disjunction, evaluated_with}
+use Rattle.ssq_shape.specs.Kinds.{gives, kind_with, AreHeldBy, AreFoundIn}
 
 -- ---- what holds of each value that an operator can give
 
@@ -85,6 +85,15 @@ cell_held (own ∷ kinds) (value ∷ row) zero kind held there =
     subst (λ k. IsHeldBy k value) same held.0
 cell_held (own ∷ kinds) (value ∷ row) (suc at) kind held there = cell_held kinds row at kind held.1 there
 
+aggregate_held : (kinds : List ColType) (aggregates : List (Option Value)) (at : ℕ) (kind : ColType) → AreFoundIn kinds aggregates → slice_get kinds at ≡ Some kind → IfOk (aggregate_at aggregates at) (IsHeldBy kind)
+aggregate_held [] aggregates at kind found there = absurd cc
+aggregate_held (own ∷ kinds) [] at kind found there = absurd found
+aggregate_held (own ∷ kinds) (None ∷ aggregates) zero kind found there = tt
+aggregate_held (own ∷ kinds) (Some value ∷ aggregates) zero kind found there =
+    let same : own ≡ kind = cc in
+    subst (λ k. IsHeldBy k value) same found.0
+aggregate_held (own ∷ kinds) (aggregate ∷ aggregates) (suc at) kind found there = aggregate_held kinds aggregates at kind found.1 there
+
 constant_held : (value : Value) (kind : ColType) → kind_of value ≡ Some kind → IfOk (constant value) (IsHeldBy kind)
 constant_held Null kind is = absurd cc
 constant_held (Int n) kind is = cc
@@ -98,20 +107,21 @@ by_kind own kind true r is held =
     let same : own ≡ kind = cc in
     subst (λ k. IfOk r (IsHeldBy k)) same held
 
-pub value_held : (kinds : List ColType) (row : List Value) (x : Typed) (own : ColType) → AreHeldBy kinds row → kind_in kinds x ≡ Some own → IfOk (evaluated x row) (IsHeldBy own)
-unfolding evaluated kind_in
-value_held kinds row (Column at) own held is = cell_held kinds row at own held is
-value_held kinds row (Constant value) own held is = constant_held value own is
-value_held kinds row (Negated' p (only x)) own held is = by_kind kind.Bigint own _ _ is (then_ok (IsHeldBy kind.Bigint) (evaluated x row) _ (λ value. negated_ok (IsHeldBy kind.Bigint) tt (λ _. refl) (number_in value)))
-value_held kinds row (Not' p (only x)) own held is = by_kind kind.Bool own _ _ is (then_ok (IsHeldBy kind.Bool) (evaluated x row) _ (λ value. truth_ok (IsHeldBy kind.Bool) tt (λ _. refl) (negation (truth_in value))))
-value_held kinds row (IsNull' p (only x)) own held is = by_kind kind.Bool own _ _ is (then_ok (IsHeldBy kind.Bool) (evaluated x row) _ (λ _. refl))
-value_held kinds row (Arithmetic' op p (only a) q (only b)) own held is = by_kind kind.Bigint own _ _ is (then_ok (IsHeldBy kind.Bigint) (evaluated a row) _ (λ left. then_ok (IsHeldBy kind.Bigint) (evaluated b row) _ (λ right. arithmetic_ok (IsHeldBy kind.Bigint) tt (λ _. refl) op (number_in left) (number_in right))))
-value_held kinds row (Shifted' p (only x) by) own held is = by_kind kind.Timestamp own _ _ is (then_ok (IsHeldBy kind.Timestamp) (evaluated x row) _ (λ value. shifted_ok (IsHeldBy kind.Timestamp) tt (λ _ _. refl) (time_in value) by))
-value_held kinds row (Joined' p (only a) q (only b)) own held is = by_kind kind.Str own _ _ is (then_ok (IsHeldBy kind.Str) (evaluated a row) _ (λ left. then_ok (IsHeldBy kind.Str) (evaluated b row) _ (λ right. joined_ok (IsHeldBy kind.Str) tt (λ _. refl) (text_in left) (text_in right))))
-value_held kinds row (Compared' comparison p (only a) q (only b)) own held is = by_kind kind.Bool own _ _ is (then_ok (IsHeldBy kind.Bool) (evaluated a row) _ (λ left. then_ok (IsHeldBy kind.Bool) (evaluated b row) _ (λ right. truth_ok (IsHeldBy kind.Bool) tt (λ _. refl) (compared comparison left right))))
-value_held kinds row (Between' p (only a) q (only b) r (only c)) own held is = by_kind kind.Bool own _ _ is (then_ok (IsHeldBy kind.Bool) (evaluated a row) _ (λ value. then_ok (IsHeldBy kind.Bool) (evaluated b row) _ (λ least. conjunction_ok (IsHeldBy kind.Bool) tt (λ _. refl) (compared AtLeast value least) (and_then (evaluated c row) (λ most. Ok (compared AtMost value most))))))
-value_held kinds row (And' p (only a) q (only b)) own held is = by_kind kind.Bool own _ _ is (then_ok (IsHeldBy kind.Bool) (evaluated a row) _ (λ left. conjunction_ok (IsHeldBy kind.Bool) tt (λ _. refl) (truth_in left) (truth_of (evaluated b row))))
-value_held kinds row (Or' p (only a) q (only b)) own held is = by_kind kind.Bool own _ _ is (then_ok (IsHeldBy kind.Bool) (evaluated a row) _ (λ left. disjunction_ok (IsHeldBy kind.Bool) tt (λ _. refl) (truth_in left) (truth_of (evaluated b row))))
+pub value_held : (aggregate_kinds kinds : List ColType) (aggregates : List (Option Value)) (row : List Value) (x : Typed) (own : ColType) → AreFoundIn aggregate_kinds aggregates → AreHeldBy kinds row → kind_with aggregate_kinds kinds x ≡ Some own → IfOk (evaluated_with aggregates x row) (IsHeldBy own)
+unfolding evaluated_with kind_with
+value_held aggregate_kinds kinds aggregates row (Column at) own found held is = cell_held kinds row at own held is
+value_held aggregate_kinds kinds aggregates row (Aggregate at) own found held is = aggregate_held aggregate_kinds aggregates at own found is
+value_held aggregate_kinds kinds aggregates row (Constant value) own found held is = constant_held value own is
+value_held aggregate_kinds kinds aggregates row (Negated' p (only x)) own found held is = by_kind kind.Bigint own _ _ is (then_ok (IsHeldBy kind.Bigint) (evaluated_with aggregates x row) _ (λ value. negated_ok (IsHeldBy kind.Bigint) tt (λ _. refl) (number_in value)))
+value_held aggregate_kinds kinds aggregates row (Not' p (only x)) own found held is = by_kind kind.Bool own _ _ is (then_ok (IsHeldBy kind.Bool) (evaluated_with aggregates x row) _ (λ value. truth_ok (IsHeldBy kind.Bool) tt (λ _. refl) (negation (truth_in value))))
+value_held aggregate_kinds kinds aggregates row (IsNull' p (only x)) own found held is = by_kind kind.Bool own _ _ is (then_ok (IsHeldBy kind.Bool) (evaluated_with aggregates x row) _ (λ _. refl))
+value_held aggregate_kinds kinds aggregates row (Arithmetic' op p (only a) q (only b)) own found held is = by_kind kind.Bigint own _ _ is (then_ok (IsHeldBy kind.Bigint) (evaluated_with aggregates a row) _ (λ left. then_ok (IsHeldBy kind.Bigint) (evaluated_with aggregates b row) _ (λ right. arithmetic_ok (IsHeldBy kind.Bigint) tt (λ _. refl) op (number_in left) (number_in right))))
+value_held aggregate_kinds kinds aggregates row (Shifted' p (only x) by) own found held is = by_kind kind.Timestamp own _ _ is (then_ok (IsHeldBy kind.Timestamp) (evaluated_with aggregates x row) _ (λ value. shifted_ok (IsHeldBy kind.Timestamp) tt (λ _ _. refl) (time_in value) by))
+value_held aggregate_kinds kinds aggregates row (Joined' p (only a) q (only b)) own found held is = by_kind kind.Str own _ _ is (then_ok (IsHeldBy kind.Str) (evaluated_with aggregates a row) _ (λ left. then_ok (IsHeldBy kind.Str) (evaluated_with aggregates b row) _ (λ right. joined_ok (IsHeldBy kind.Str) tt (λ _. refl) (text_in left) (text_in right))))
+value_held aggregate_kinds kinds aggregates row (Compared' comparison p (only a) q (only b)) own found held is = by_kind kind.Bool own _ _ is (then_ok (IsHeldBy kind.Bool) (evaluated_with aggregates a row) _ (λ left. then_ok (IsHeldBy kind.Bool) (evaluated_with aggregates b row) _ (λ right. truth_ok (IsHeldBy kind.Bool) tt (λ _. refl) (compared comparison left right))))
+value_held aggregate_kinds kinds aggregates row (Between' p (only a) q (only b) r (only c)) own found held is = by_kind kind.Bool own _ _ is (then_ok (IsHeldBy kind.Bool) (evaluated_with aggregates a row) _ (λ value. then_ok (IsHeldBy kind.Bool) (evaluated_with aggregates b row) _ (λ least. conjunction_ok (IsHeldBy kind.Bool) tt (λ _. refl) (compared AtLeast value least) (and_then (evaluated_with aggregates c row) (λ most. Ok (compared AtMost value most))))))
+value_held aggregate_kinds kinds aggregates row (And' p (only a) q (only b)) own found held is = by_kind kind.Bool own _ _ is (then_ok (IsHeldBy kind.Bool) (evaluated_with aggregates a row) _ (λ left. conjunction_ok (IsHeldBy kind.Bool) tt (λ _. refl) (truth_in left) (truth_of (evaluated_with aggregates b row))))
+value_held aggregate_kinds kinds aggregates row (Or' p (only a) q (only b)) own found held is = by_kind kind.Bool own _ _ is (then_ok (IsHeldBy kind.Bool) (evaluated_with aggregates a row) _ (λ left. disjunction_ok (IsHeldBy kind.Bool) tt (λ _. refl) (truth_in left) (truth_of (evaluated_with aggregates b row))))
 
 -- ---- times
 
@@ -120,6 +130,12 @@ cell_timed Q [] at all = tt
 cell_timed Q (value ∷ row) zero all = all.0
 cell_timed Q (value ∷ row) (suc at) all = cell_timed Q row at all.1
 
+aggregate_timed : (Q : ℤ → Type 0) (aggregates : List (Option Value)) (at : ℕ) → AllByRecursion (λ aggregate. IfSome aggregate (IfTime Q)) aggregates → IfOk (aggregate_at aggregates at) (IfTime Q)
+aggregate_timed Q [] at all = tt
+aggregate_timed Q (None ∷ aggregates) zero all = tt
+aggregate_timed Q (Some value ∷ aggregates) zero all = all.0
+aggregate_timed Q (aggregate ∷ aggregates) (suc at) all = aggregate_timed Q aggregates at all.1
+
 constant_timed : (Q : ℤ → Type 0) → ((t : ℤ) → is_stamp_time t ≡ true → Q t) → (value : Value) → IfOk (constant value) (IfTime Q)
 constant_timed Q printable Null = tt
 constant_timed Q printable (Int n) = tt
@@ -127,18 +143,20 @@ constant_timed Q printable (Text text) = tt
 constant_timed Q printable (Time t) = if_fits (IfTime Q) _ (Time t) (λ fits. printable t fits)
 constant_timed Q printable (Truth truth) = tt
 
--- what holds of each time of the years 0001 to 9999, and of each time of the row, holds of the value where it is a time
-pub value_timed : (Q : ℤ → Type 0) → ((t : ℤ) → is_stamp_time t ≡ true → Q t) → (row : List Value) → All (IfTime Q) row → (x : Typed) → IfOk (evaluated x row) (IfTime Q)
-unfolding evaluated
-value_timed Q printable row all (Column at) = cell_timed Q row at (recursion_from_All (IfTime Q) row all)
-value_timed Q printable row all (Constant value) = constant_timed Q printable value
-value_timed Q printable row all (Negated' p (only x)) = then_ok (IfTime Q) (evaluated x row) _ (λ value. negated_ok (IfTime Q) tt (λ _. tt) (number_in value))
-value_timed Q printable row all (Not' p (only x)) = then_ok (IfTime Q) (evaluated x row) _ (λ value. truth_ok (IfTime Q) tt (λ _. tt) (negation (truth_in value)))
-value_timed Q printable row all (IsNull' p (only x)) = then_ok (IfTime Q) (evaluated x row) _ (λ _. tt)
-value_timed Q printable row all (Arithmetic' op p (only a) q (only b)) = then_ok (IfTime Q) (evaluated a row) _ (λ left. then_ok (IfTime Q) (evaluated b row) _ (λ right. arithmetic_ok (IfTime Q) tt (λ _. tt) op (number_in left) (number_in right)))
-value_timed Q printable row all (Shifted' p (only x) by) = then_ok (IfTime Q) (evaluated x row) _ (λ value. shifted_ok (IfTime Q) tt printable (time_in value) by)
-value_timed Q printable row all (Joined' p (only a) q (only b)) = then_ok (IfTime Q) (evaluated a row) _ (λ left. then_ok (IfTime Q) (evaluated b row) _ (λ right. joined_ok (IfTime Q) tt (λ _. tt) (text_in left) (text_in right)))
-value_timed Q printable row all (Compared' comparison p (only a) q (only b)) = then_ok (IfTime Q) (evaluated a row) _ (λ left. then_ok (IfTime Q) (evaluated b row) _ (λ right. truth_ok (IfTime Q) tt (λ _. tt) (compared comparison left right)))
-value_timed Q printable row all (Between' p (only a) q (only b) r (only c)) = then_ok (IfTime Q) (evaluated a row) _ (λ value. then_ok (IfTime Q) (evaluated b row) _ (λ least. conjunction_ok (IfTime Q) tt (λ _. tt) (compared AtLeast value least) (and_then (evaluated c row) (λ most. Ok (compared AtMost value most)))))
-value_timed Q printable row all (And' p (only a) q (only b)) = then_ok (IfTime Q) (evaluated a row) _ (λ left. conjunction_ok (IfTime Q) tt (λ _. tt) (truth_in left) (truth_of (evaluated b row)))
-value_timed Q printable row all (Or' p (only a) q (only b)) = then_ok (IfTime Q) (evaluated a row) _ (λ left. disjunction_ok (IfTime Q) tt (λ _. tt) (truth_in left) (truth_of (evaluated b row)))
+-- what holds of each time of the years 0001 to 9999, of each of the row and of each of the aggregates, holds of the
+-- value where it is a time
+pub value_timed : (Q : ℤ → Type 0) → ((t : ℤ) → is_stamp_time t ≡ true → Q t) → (aggregates : List (Option Value)) → AllByRecursion (λ aggregate. IfSome aggregate (IfTime Q)) aggregates → (row : List Value) → All (IfTime Q) row → (x : Typed) → IfOk (evaluated_with aggregates x row) (IfTime Q)
+unfolding evaluated_with
+value_timed Q printable aggregates found row all (Column at) = cell_timed Q row at (recursion_from_All (IfTime Q) row all)
+value_timed Q printable aggregates found row all (Aggregate at) = aggregate_timed Q aggregates at found
+value_timed Q printable aggregates found row all (Constant value) = constant_timed Q printable value
+value_timed Q printable aggregates found row all (Negated' p (only x)) = then_ok (IfTime Q) (evaluated_with aggregates x row) _ (λ value. negated_ok (IfTime Q) tt (λ _. tt) (number_in value))
+value_timed Q printable aggregates found row all (Not' p (only x)) = then_ok (IfTime Q) (evaluated_with aggregates x row) _ (λ value. truth_ok (IfTime Q) tt (λ _. tt) (negation (truth_in value)))
+value_timed Q printable aggregates found row all (IsNull' p (only x)) = then_ok (IfTime Q) (evaluated_with aggregates x row) _ (λ _. tt)
+value_timed Q printable aggregates found row all (Arithmetic' op p (only a) q (only b)) = then_ok (IfTime Q) (evaluated_with aggregates a row) _ (λ left. then_ok (IfTime Q) (evaluated_with aggregates b row) _ (λ right. arithmetic_ok (IfTime Q) tt (λ _. tt) op (number_in left) (number_in right)))
+value_timed Q printable aggregates found row all (Shifted' p (only x) by) = then_ok (IfTime Q) (evaluated_with aggregates x row) _ (λ value. shifted_ok (IfTime Q) tt printable (time_in value) by)
+value_timed Q printable aggregates found row all (Joined' p (only a) q (only b)) = then_ok (IfTime Q) (evaluated_with aggregates a row) _ (λ left. then_ok (IfTime Q) (evaluated_with aggregates b row) _ (λ right. joined_ok (IfTime Q) tt (λ _. tt) (text_in left) (text_in right)))
+value_timed Q printable aggregates found row all (Compared' comparison p (only a) q (only b)) = then_ok (IfTime Q) (evaluated_with aggregates a row) _ (λ left. then_ok (IfTime Q) (evaluated_with aggregates b row) _ (λ right. truth_ok (IfTime Q) tt (λ _. tt) (compared comparison left right)))
+value_timed Q printable aggregates found row all (Between' p (only a) q (only b) r (only c)) = then_ok (IfTime Q) (evaluated_with aggregates a row) _ (λ value. then_ok (IfTime Q) (evaluated_with aggregates b row) _ (λ least. conjunction_ok (IfTime Q) tt (λ _. tt) (compared AtLeast value least) (and_then (evaluated_with aggregates c row) (λ most. Ok (compared AtMost value most)))))
+value_timed Q printable aggregates found row all (And' p (only a) q (only b)) = then_ok (IfTime Q) (evaluated_with aggregates a row) _ (λ left. conjunction_ok (IfTime Q) tt (λ _. tt) (truth_in left) (truth_of (evaluated_with aggregates b row)))
+value_timed Q printable aggregates found row all (Or' p (only a) q (only b)) = then_ok (IfTime Q) (evaluated_with aggregates a row) _ (λ left. disjunction_ok (IfTime Q) tt (λ _. tt) (truth_in left) (truth_of (evaluated_with aggregates b row)))

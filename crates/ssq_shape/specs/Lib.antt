@@ -3,3 +3,4 @@ pub mod Kinds
 pub mod Plain
 pub mod Laws
 pub mod Boxes
+pub mod Late

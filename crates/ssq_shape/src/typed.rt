@@ -31,6 +31,8 @@ pub enum Comparison {
 pub enum Typed {
     /// The column of this index in the row.
     Column(usize),
+    /// The aggregate of this number, in an expression on groups.
+    Aggregate(usize),
     /// A number, text, time or truth value. The language has no constant that is NULL.
     Constant(Value),
     /// `-` before a number.

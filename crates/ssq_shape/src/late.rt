@@ -1,0 +1,125 @@
+//! By what time a row is late, and which queries show more once the watermark rises.
+
+ghost use Rattle.std.specs.Prelude.{◌≡◌};
+ghost use Rattle.std.specs.List.{list_any};
+ghost use Rattle.ssq_shape.specs.Late.{event_of, is_event, is_window_of, is_column_of, time_key_of, grouped_by, repeated_by, time_key, closes};
+
+use crate::bound::{Bound, GroupKey, JoinKind, Mode, Shape, Stream};
+
+/// The time by which lateness is tested.
+#[derive(Clone, Copy, Debug, PartialEq, Eq)]
+pub enum TimeKey {
+    /// The end of the window, which is over the event column.
+    WindowEnd,
+    /// The event time, which is among the columns that rows are grouped by or deduplicated by.
+    EventTime,
+    /// The event time of either stream of a join with a bound.
+    Both,
+}
+
+/// The event column of the stream of FROM, where it is watermarked.
+fn event_of(streams: &[Stream]) -> Option<usize>
+    ensures { result ≡ event_of streams.now }
+{
+    match streams.first() {
+        Some(stream) => stream.schema.event(),
+        None => None,
+    }
+}
+
+fn is_event(event: Option<usize>, column: usize) -> bool
+    ensures { result ≡ is_event event column }
+{
+    match event {
+        Some(at) => at == column,
+        None => false,
+    }
+}
+
+fn is_window_of(event: Option<usize>, key: &GroupKey) -> bool
+    ensures { result ≡ is_window_of event key.now }
+{
+    match key {
+        GroupKey::Window { column, .. } => is_event(event, *column),
+        GroupKey::Column(_) => false,
+    }
+}
+
+fn is_column_of(event: Option<usize>, key: &GroupKey) -> bool
+    ensures { result ≡ is_column_of event key.now }
+{
+    match key {
+        GroupKey::Window { .. } => false,
+        GroupKey::Column(column) => is_event(event, *column),
+    }
+}
+
+fn has_window_of(event: Option<usize>, keys: &[GroupKey]) -> bool
+    ensures { result ≡ list_any (is_window_of event) keys.now }
+{
+    keys.iter().any(|key| is_window_of(event, key))
+}
+
+fn has_column_of(event: Option<usize>, keys: &[GroupKey]) -> bool
+    ensures { result ≡ list_any (is_column_of event) keys.now }
+{
+    keys.iter().any(|key| is_column_of(event, key))
+}
+
+#[tactic(auto, unfolding(crate::specs::Late::grouped_by))]
+fn grouped_by(event: Option<usize>, keys: &[GroupKey]) -> Option<TimeKey>
+    ensures { result ≡ grouped_by event keys.now }
+{
+    if has_window_of(event, keys) {
+        Some(TimeKey::WindowEnd)
+    } else if has_column_of(event, keys) {
+        Some(TimeKey::EventTime)
+    } else {
+        None
+    }
+}
+
+fn has_event(event: Option<usize>, columns: &[usize]) -> bool
+    ensures { result ≡ list_any (is_event event) columns.now }
+{
+    columns.iter().any(|column| is_event(event, *column))
+}
+
+#[tactic(auto, unfolding(crate::specs::Late::repeated_by))]
+fn repeated_by(event: Option<usize>, columns: &[usize]) -> Option<TimeKey>
+    ensures { result ≡ repeated_by event columns.now }
+{
+    if has_event(event, columns) {
+        Some(TimeKey::EventTime)
+    } else {
+        None
+    }
+}
+
+/// The time key of a query, whatever its mode: none where no row is ever late.
+pub fn time_key(bound: &Bound) -> Option<TimeKey>
+    ensures { result ≡ time_key bound.now }
+{
+    let event = event_of(bound.streams.as_slice());
+    match &bound.shape {
+        Shape::Plain => None,
+        Shape::Group(grouping) => grouped_by(event, grouping.keys.as_slice()),
+        Shape::Dedup(columns) => repeated_by(event, columns.as_slice()),
+        Shape::Join(joining) => match joining.bound {
+            Some(_) => Some(TimeKey::Both),
+            None => None,
+        },
+    }
+}
+
+/// Whether a query shows rows once the watermark rises, also where no line comes: groups in Append, and an outer join.
+pub fn closes(bound: &Bound) -> bool
+    ensures { result ≡ closes bound.now }
+{
+    match &bound.shape {
+        Shape::Plain => false,
+        Shape::Group(_) => bound.mode == Mode::Append,
+        Shape::Dedup(_) => false,
+        Shape::Join(joining) => joining.kind != JoinKind::Inner,
+    }
+}
