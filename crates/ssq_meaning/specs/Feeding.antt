@@ -37,9 +37,10 @@ shown_once None = []
 shown_once (Some values) = record { key = []; time = None; values = values } ∷ []
 
 -- What is handed on of a row of a stream, or that evaluating it overflows. Plain: the row as SELECT shows it, where WHERE is TRUE;
--- WHERE and then the items of SELECT are evaluated.
+-- WHERE and then the items of SELECT are evaluated. What the other shapes hand on is to come: nothing is said of them yet.
 abbrev pub handed_by : Shape → Bound → ℕ → Values → Result (List Handed) Excess
 handed_by Plain query stream row = and_then (shown_row query row) (λ values. Ok (shown_once values))
+handed_by _ query stream row = and_then (shown_row query row) (λ values. Ok (shown_once values))
 
 abbrev pub handed : Bound → ℕ → Values → Result (List Handed) Excess
 handed query stream row = handed_by query.shape query stream row

@@ -27,9 +27,10 @@ plain = record {
   state = λ rows now. [];
 }
 
--- the operator of a shape, for a query of that shape
+-- The operator of a shape, for a query of that shape. Those of the shapes that keep state are to come: nothing is said of them yet.
 abbrev pub operator_for : Shape → Bound → Operator
 operator_for Plain query = plain
+operator_for _ query = plain
 
 unfoldable pub operator_of : Bound → Operator
 operator_of query = operator_for query.shape query
