@@ -49,11 +49,11 @@ pub fn run_job<D: Disk, L: Log, O: Output>(
 
     // How it ends: what is left on the disk, what was told and written, and why.
     ensures done { D.tells → L.tells → (job : Job) → IsJobOf job prepared.now.bound (L.lines log.old) → job.text ≡ text.now →
-        OnOk result (JobEnd (record { job = job; most = ask.most; rounds = ask.rounds; known = L.shown log.old; start = D.history disk.old; written = O.content out.old })
-        (L.shown log.new) (D.history disk.new) O.tells (O.content out.new) (string_bytes told.new) None) }
+        OnOk result (JobEnd (record { job = job; most = ask.most; rounds = ask.rounds; known = L.available log.old; start = D.history disk.old; written = O.content out.old })
+        (L.available log.new) (D.history disk.new) O.tells (O.content out.new) (string_bytes told.new) None) }
     ensures stop { D.tells → L.tells → (job : Job) → IsJobOf job prepared.now.bound (L.lines log.old) → job.text ≡ text.now →
-        IfErr result (λ fault. JobEnd (record { job = job; most = ask.most; rounds = ask.rounds; known = L.shown log.old; start = D.history disk.old; written = O.content out.old })
-        (L.shown log.new) (D.history disk.new) O.tells (O.content out.new) (string_bytes told.new) (Some fault)) }
+        IfErr result (λ fault. JobEnd (record { job = job; most = ask.most; rounds = ask.rounds; known = L.available log.old; start = D.history disk.old; written = O.content out.old })
+        (L.available log.new) (D.history disk.new) O.tells (O.content out.new) (string_bytes told.new) (Some fault)) }
 
     // After any crash: where each image was empty or stood for the job, each image of each moment is empty still, or stands for it.
     ensures always { D.tells → L.tells → (job : Job) → IsJobOf job prepared.now.bound (L.lines log.old) → job.text ≡ text.now →
@@ -61,7 +61,7 @@ pub fn run_job<D: Disk, L: Log, O: Output>(
 
     // A checkpoint that stands for the job is not refused, where its log has lost no line.
     ensures goes_on { D.tells → L.tells → (job : Job) → IsJobOf job prepared.now.bound (L.lines log.old) → job.text ≡ text.now →
-        (entry : Entry) → Reads job entry (files_now (D.history disk.old)) → entry.cuts entry.planned ≤ L.shown log.old → IfErr result IsNoRefusal }
+        (entry : Entry) → Reads job entry (files_now (D.history disk.old)) → entry.cuts entry.planned ≤ L.available log.old → IfErr result IsNoRefusal }
 
     // A fault of the outside is answered only where it was counted, and each refusal shows by its numbers why it came.
     ensures only { IfErr result IsJobFault }

@@ -64,17 +64,17 @@ fn next_round<D: Disk, L: Log, O: Output>(
     requires some { ForSome most (λ most. 1 ≤ most) }
 
     ensures done { D.tells → L.tells → (given : Given) (entry : Entry) (found put : ℕ) (rounds : List Round) → IsJobOf given.job prepared.now.bound (L.lines log.old) →
-        given.most ≡ most → length rounds < given.rounds → string_bytes told.old ≡ [] → seen_after found rounds ≤ L.shown log.old →
+        given.most ≡ most → length rounds < given.rounds → string_bytes told.old ≡ [] → seen_after found rounds ≤ L.available log.old →
         SoFar given entry found rounds put progress.old (D.history disk.old) O.tells (O.content out.old) →
-        OnOk result (IsNextRound given entry found (L.shown log.new) rounds progress.new (D.history disk.new) O.tells (O.content out.new)) }
+        OnOk result (IsNextRound given entry found (L.available log.new) rounds progress.new (D.history disk.new) O.tells (O.content out.new)) }
     ensures stop { D.tells → L.tells → (given : Given) (entry : Entry) (found put : ℕ) (rounds : List Round) → IsJobOf given.job prepared.now.bound (L.lines log.old) →
-        given.most ≡ most → length rounds < given.rounds → string_bytes told.old ≡ [] → seen_after found rounds ≤ L.shown log.old →
+        given.most ≡ most → length rounds < given.rounds → string_bytes told.old ≡ [] → seen_after found rounds ≤ L.available log.old →
         SoFar given entry found rounds put progress.old (D.history disk.old) O.tells (O.content out.old) →
-        IfErr result (λ fault. RoundsEnd given entry found (L.shown log.new) (D.history disk.new) O.tells (O.content out.new) (string_bytes told.new) (Some fault)) }
+        IfErr result (λ fault. RoundsEnd given entry found (L.available log.new) (D.history disk.new) O.tells (O.content out.new) (string_bytes told.new) (Some fault)) }
     ensures empty { OnOk result (string_bytes told.new ≡ []) }
     ensures only { IfErr result IsJobFault }
     ensures same { L.tells → L.lines log.new ≡ L.lines log.old }
-    ensures grown { L.tells → L.shown log.old ≤ L.shown log.new }
+    ensures grown { L.tells → L.available log.old ≤ L.available log.new }
     ensures disk_counted { D.faults disk.old ≤ D.faults disk.new }
     ensures log_counted { L.faults log.old ≤ L.faults log.new }
     ensures out_counted { O.faults out.old ≤ O.faults out.new }
@@ -82,9 +82,9 @@ fn next_round<D: Disk, L: Log, O: Output>(
     ensures log_cause { IfErr result (LogRises (L.faults log.old) (L.faults log.new)) }
     ensures out_cause { IfErr result (OutRises (O.faults out.old) (O.faults out.new)) }
     ensures read { L.tells → progress.old.end ≤ planned_end progress.old →
-        OnOk result (HasRead prepared.now.bound (L.lines log.old) (L.shown log.old) (L.shown log.new) progress.old progress.new) }
-    ensures reason { L.tells → progress.old.end ≤ planned_end progress.old → planned_end progress.old ≤ L.shown log.old →
-        IfErr result (FaultReason prepared.now.bound (L.lines log.old) (L.shown log.old) (L.shown log.new) progress.old) }
+        OnOk result (HasRead prepared.now.bound (L.lines log.old) (L.available log.old) (L.available log.new) progress.old progress.new) }
+    ensures reason { L.tells → progress.old.end ≤ planned_end progress.old → planned_end progress.old ≤ L.available log.old →
+        IfErr result (FaultReason prepared.now.bound (L.lines log.old) (L.available log.old) (L.available log.new) progress.old) }
 {
     run_round(alloc, disk, log, prepared, most, progress, told)?;
     put_lines(out, told)
@@ -117,15 +117,15 @@ pub(crate) fn run_rounds<D: Disk, L: Log, O: Output>(
     requires rounds { 1 ≤ ask.rounds }
 
     ensures done { D.tells → L.tells → (given : Given) (entry : Entry) (found : ℕ) → IsJobOf given.job prepared.now.bound (L.lines log.old) →
-        given.most ≡ ask.most → given.rounds ≡ ask.rounds → string_bytes told.old ≡ [] → found ≤ L.shown log.old →
+        given.most ≡ ask.most → given.rounds ≡ ask.rounds → string_bytes told.old ≡ [] → found ≤ L.available log.old →
         SoFar given entry found [] 0 progress (D.history disk.old) O.tells (O.content out.old) →
-        OnOk result (RoundsEnd given entry found (L.shown log.new) (D.history disk.new) O.tells (O.content out.new) (string_bytes told.new) None) }
+        OnOk result (RoundsEnd given entry found (L.available log.new) (D.history disk.new) O.tells (O.content out.new) (string_bytes told.new) None) }
     ensures stop { D.tells → L.tells → (given : Given) (entry : Entry) (found : ℕ) → IsJobOf given.job prepared.now.bound (L.lines log.old) →
-        given.most ≡ ask.most → given.rounds ≡ ask.rounds → string_bytes told.old ≡ [] → found ≤ L.shown log.old →
+        given.most ≡ ask.most → given.rounds ≡ ask.rounds → string_bytes told.old ≡ [] → found ≤ L.available log.old →
         SoFar given entry found [] 0 progress (D.history disk.old) O.tells (O.content out.old) →
-        IfErr result (λ fault. RoundsEnd given entry found (L.shown log.new) (D.history disk.new) O.tells (O.content out.new) (string_bytes told.new) (Some fault)) }
+        IfErr result (λ fault. RoundsEnd given entry found (L.available log.new) (D.history disk.new) O.tells (O.content out.new) (string_bytes told.new) (Some fault)) }
     ensures only { IfErr result IsJobFault }
-    ensures grown { L.tells → L.shown log.old ≤ L.shown log.new }
+    ensures grown { L.tells → L.available log.old ≤ L.available log.new }
     ensures disk_counted { D.faults disk.old ≤ D.faults disk.new }
     ensures log_counted { L.faults log.old ≤ L.faults log.new }
     ensures out_counted { O.faults out.old ≤ O.faults out.new }
@@ -133,10 +133,10 @@ pub(crate) fn run_rounds<D: Disk, L: Log, O: Output>(
     ensures log_cause { IfErr result (LogRises (L.faults log.old) (L.faults log.new)) }
     ensures out_cause { IfErr result (OutRises (O.faults out.old) (O.faults out.new)) }
     // Whatever the checkpoint holds, where no planned epoch ends before it begins, and the log has lost no line.
-    ensures read { L.tells → progress.end ≤ planned_end progress → planned_end progress ≤ L.shown log.old →
-        OnOk result (JobReason prepared.now.bound (L.lines log.old) (L.shown log.old) (L.shown log.new) progress None) }
-    ensures reason { L.tells → progress.end ≤ planned_end progress → planned_end progress ≤ L.shown log.old →
-        IfErr result (λ fault. JobReason prepared.now.bound (L.lines log.old) (L.shown log.old) (L.shown log.new) progress (Some fault)) }
+    ensures read { L.tells → progress.end ≤ planned_end progress → planned_end progress ≤ L.available log.old →
+        OnOk result (JobReason prepared.now.bound (L.lines log.old) (L.available log.old) (L.available log.new) progress None) }
+    ensures reason { L.tells → progress.end ≤ planned_end progress → planned_end progress ≤ L.available log.old →
+        IfErr result (λ fault. JobReason prepared.now.bound (L.lines log.old) (L.available log.old) (L.available log.new) progress (Some fault)) }
 {
     let mut progress = progress;
     for _ in 0..ask.rounds {

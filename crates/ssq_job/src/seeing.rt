@@ -11,13 +11,13 @@ use ssq_round::MOST_LINES;
 
 /// Asks a log for its number of lines.
 pub(crate) fn see_lines<L: Log>(log: &mut L) -> Result<u64, JobFault>
-    ensures found { L.tells → IfOk result (λ n. (L.shown log.new ≡ n) × (n ≤ length (L.lines log.new))) }
+    ensures found { L.tells → IfOk result (λ n. (L.available log.new ≡ n) × (n ≤ length (L.lines log.new))) }
     ensures few { IfOk result (λ n. n ≤ most_lines) }
-    ensures untaken { L.tells → IfErr result (IsUntaken (length (L.lines log.new)) (L.shown log.new)) }
+    ensures untaken { L.tells → IfErr result (IsUntaken (length (L.lines log.new)) (L.available log.new)) }
     ensures only { IfErr result IsJobFault }
     ensures no_refusal { IfErr result IsNoRefusal }
     ensures same { L.tells → L.lines log.new ≡ L.lines log.old }
-    ensures grown { L.tells → L.shown log.old ≤ L.shown log.new }
+    ensures grown { L.tells → L.available log.old ≤ L.available log.new }
     ensures counted { L.faults log.old ≤ L.faults log.new }
     ensures cause { IfErr result (LogRises (L.faults log.old) (L.faults log.new)) }
     ensures not_the_disk { (before now : ℕ) → IfErr result (DiskRises before now) }
