@@ -81,8 +81,8 @@ parts_apart at p q x y of_p of_q e =
 seens_apart : AreLinesApart IsSeen (λ at seen. seen_line seen)
 seens_apart at s t x y of_s of_t e =
     let all = append_cancel_left (codes "seen ") _ _ (sym (seen_split s x) ∙ e ∙ seen_split t y) in
-    let stream = decimals_apart s.stream t.stream _ _ (fits_wide s.stream of_s) (fits_wide t.stream of_t) refl refl all in
-    let time = times s.time t.time _ _ (line_is_stamp s.time s.of_lines) (line_is_stamp t.time t.of_lines) (append_cancel_left (codes " ") _ _ stream.1) in
+    let stream = decimals_apart s.stream t.stream _ _ (fits_wide s.stream of_s.0) (fits_wide t.stream of_t.0) refl refl all in
+    let time = times s.time t.time _ _ (line_is_stamp s.time of_s.1) (line_is_stamp t.time of_t.1) (append_cancel_left (codes " ") _ _ stream.1) in
     (seen_is s t stream.0 time.0, append_cancel_left (codes "\n") _ _ time.1)
 
 commits_apart : (c d : Commit) → IsCommit c → IsCommit d → commit_text c ≡ commit_text d → c ≡ d

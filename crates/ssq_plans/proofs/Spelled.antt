@@ -1,8 +1,5 @@
 -- The texts of records and of their lines, part by part.
 use Rattle.std.proofs.Common.{◌≡◌, ◌≢◌, ℕ, ℤ, List, ◌++◌, length, get_or, codes, decimal, Option, refl, sym, ap, subst, ◌∙◌, append_assoc, arith}
-use Rattle.std.specs.Option.{ForSome}
-use Rattle.std.proofs.Props.{props}
-use Rattle.ssq_time.specs.Time.{IsLineTime}
 use Rattle.ssq_plans.specs.declared.meta.Meta.{Meta}
 use Rattle.ssq_plans.specs.declared.part.PartEnd.{PartEnd}
 use Rattle.ssq_plans.specs.declared.plan.Plan.{Plan}
@@ -73,16 +70,6 @@ query_joined text behind rest query end shown len h1 h2 h3 h4 h5 h6 = rw (h1, h2
 pub seen_split : (s : SeenBy) (rest : List ℕ) → seen_line s ++ rest ≡ codes "seen " ++ (decimal s.stream ++ (codes " " ++ (time_or_none s.time ++ (codes "\n" ++ rest))))
 seen_split s rest = simp append_assoc
 
-of_lines_is_one : (time : Option ℤ) (p q : ForSome time IsLineTime) → p ≡ q
-of_lines_is_one time = let one : IsProp (ForSome time IsLineTime) = hlevel props in one
-
-same_time : (stream : ℕ) (t u : Option ℤ) → t ≡ u → (p : ForSome t IsLineTime) (q : ForSome u IsLineTime) → (let seen : SeenBy = record { stream = stream; time = t; of_lines = p } in seen) ≡ record { stream = stream; time = u; of_lines = q }
-same_time stream t u e p =
-    subst (λ u. (q : ForSome u IsLineTime) → (let seen : SeenBy = record { stream = stream; time = t; of_lines = p } in seen) ≡ record { stream = stream; time = u; of_lines = q }) e
-    (λ q. ap (λ (r : ForSome t IsLineTime). let seen : SeenBy = record { stream = stream; time = t; of_lines = r } in seen) (of_lines_is_one t p q))
-
 -- the stream and the time are all
 pub seen_is : (a b : SeenBy) → a.stream ≡ b.stream → a.time ≡ b.time → a ≡ b
-seen_is a b s t =
-    ap (λ (n : ℕ). let seen : SeenBy = record { stream = n; time = a.time; of_lines = a.of_lines } in seen) s
-    ∙ same_time b.stream a.time b.time t a.of_lines b.of_lines
+seen_is a b s t = λ i. record { stream = s i; time = t i }

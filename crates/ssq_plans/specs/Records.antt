@@ -2,7 +2,7 @@
 use Rattle.std.specs.Prelude.{◌≡◌, ℕ, ◌+◌, ◌<◌, ◌≤◌, ◌^◌, ◌==◌, ℤ, List, [], ◌∷◌, ◌++◌, length, All, Option, Some, None, if◌then◌else◌, codes, decimal}
 use Rattle.std.specs.Option.{ForSome}
 use Rattle.std.specs.Str.{IsUtf8}
-use Rattle.ssq_time.specs.Time.{stamp_text, IsStampTime}
+use Rattle.ssq_time.specs.Time.{stamp_text, IsLineTime, IsStampTime}
 use Rattle.ssq_plans.specs.declared.meta.Meta.{Meta}
 use Rattle.ssq_plans.specs.declared.plan.Plan.{Plan}
 use Rattle.ssq_plans.specs.declared.part.PartEnd.{PartEnd}
@@ -13,6 +13,10 @@ use Rattle.ssq_plans.specs.declared.seen.SeenBy.{SeenBy}
 unfoldable pub lines : {X : Type 0} → (ℕ → X → List ℕ) → ℕ → List X → List ℕ
 lines spelled at [] = []
 lines spelled at (x ∷ xs) = spelled at x ++ lines spelled (at + 1) xs
+
+-- whatever it is
+abbrev pub Any : {X : Type 0} → X → Type 0
+Any x = Unit {0}
 
 -- a time, or `none` where there is none
 abbrev pub time_or_none : Option ℤ → List ℕ
@@ -71,11 +75,15 @@ plan_text p =
 abbrev pub seen_line : SeenBy → List ℕ
 seen_line s = codes "seen " ++ decimal s.stream ++ codes " " ++ time_or_none s.time ++ codes "\n"
 
--- its stream has 32 bits
-abbrev pub IsSeen : SeenBy → Type 0
-IsSeen s = s.stream < 2 ^ 32
+-- its time is none or a line's, of the years 1000 to 9000
+abbrev pub HasLineTime : SeenBy → Type 0
+HasLineTime s = ForSome s.time IsLineTime
 
--- a commit: its numbers have 32 bits
+-- its stream has 32 bits, and its time is such
+abbrev pub IsSeen : SeenBy → Type 0
+IsSeen s = (s.stream < 2 ^ 32) × HasLineTime s
+
+-- a commit: its epoch has 32 bits, and each stream in it is such
 abbrev pub IsCommit : Commit → Type 0
 IsCommit c = (c.epoch < 2 ^ 32) × All IsSeen c.seen
 

@@ -1,12 +1,12 @@
 //! The record of what was read by the end of an epoch.
-ghost use Rattle.std.specs.Prelude.{◌≡◌, ◌++◌, IfOk, IfSome, Some};
+ghost use Rattle.std.specs.Prelude.{◌≡◌, ◌++◌, All, IfOk, IfSome, Some};
 ghost use Rattle.ssq_plans.specs.declared.commit.Commit.{Commit as Record};
-ghost use Rattle.ssq_plans.specs.Records.{IsCommit, commit_text};
+ghost use Rattle.ssq_plans.specs.Records.{HasLineTime, IsCommit, commit_text};
 
 use crate::fields::{is_all, short_line_after};
 use crate::lines::{put_lines, take_lines};
 use crate::seen::SeenBy;
-use ssq_field::put_decimal_to;
+use ssq_field::{Bytes, put_decimal_to};
 use ssq_value::Sequence;
 use std::alloc::{AllocError, Global};
 
@@ -18,9 +18,10 @@ pub struct Commit {
     pub seen: Sequence<SeenBy>,
 }
 
-/// The text of a commit.
-pub fn write_commit(alloc: Global, commit: &Commit) -> Result<Vec<u8>, AllocError>
-    ensures { IfOk result (λ text. text.items ≡ commit_text commit.now) }
+/// The text of a commit, whose times are none or of the years 1000 to 9000.
+pub fn write_commit(alloc: Global, commit: &Commit) -> Result<Bytes, AllocError>
+    requires { All HasLineTime commit.now.seen }
+    ensures { IfOk result (λ text. text ≡ commit_text commit.now) }
 {
     let mut out = Vec::new(alloc);
     out.extend_from_slice(b"v1\ncommit ")?;
@@ -28,7 +29,7 @@ pub fn write_commit(alloc: Global, commit: &Commit) -> Result<Vec<u8>, AllocErro
     out.extend_from_slice(b"\n")?;
     put_lines(&mut out, commit.seen.as_slice())?;
     out.extend_from_slice(b"end\n")?;
-    Ok(out)
+    Ok(Bytes::from_vec(out))
 }
 
 /// The commit whose text these bytes are. `None` where they are no commit's.

@@ -12,11 +12,15 @@ pub(crate) trait Line: Drop {
     /// The line of an item at that place.
     ghost spelled: { ℕ → Self → List ℕ };
 
+    /// Items that have a line.
+    ghost is_written: { Self → Type 0 };
+
     /// Items that are read from lines.
     ghost is_read: { Self → Type 0 };
 
     /// Appends the item's line.
     fn put(&self, at: u64, out: &mut Vec<u8>) -> Result<(), AllocError>
+        requires { is_written self.now }
         ensures { OnOk result (out.new.items ≡ out.old.items ++ spelled at self.now) };
 
     /// The item whose line stands in front, and what follows that line.
@@ -31,6 +35,7 @@ pub(crate) trait Line: Drop {
 /// Appends the lines of all items.
 #[tactic(auto, using(crate::proofs::Listing::line_steps))]
 pub(crate) fn put_lines<L: Line>(out: &mut Vec<u8>, items: &[L]) -> Result<(), AllocError>
+    requires { All L.is_written items.now }
     ensures { OnOk result (out.new.items ≡ out.old.items ++ lines L.spelled 0 items.now) }
 {
     for (at, item) in items.iter().enumerate() {

@@ -2,11 +2,11 @@
 ghost use Rattle.std.specs.Prelude.{◌≡◌, ◌++◌, ◌<◌, ◌≤◌, ◌^◌, List, ℕ, All, IfOk, IfSome, IsSomeAnd, OnOk, Some, codes, decimal, length};
 ghost use Rattle.std.specs.Str.{IsUtf8};
 ghost use Rattle.ssq_plans.specs.declared.meta.Meta.{Meta as Record};
-ghost use Rattle.ssq_plans.specs.Records.{IsCount, IsMeta, IsMetaRecord, meta_text, parts_line};
+ghost use Rattle.ssq_plans.specs.Records.{Any, IsCount, IsMeta, IsMetaRecord, meta_text, parts_line};
 
 use crate::fields::{after, is_all, long_after, short_line_after, split};
 use crate::lines::{Line, put_lines, take_lines};
-use ssq_field::put_decimal_to;
+use ssq_field::{Bytes, put_decimal_to};
 use ssq_value::{Sequence, Text};
 use std::alloc::{AllocError, Global};
 use std::str;
@@ -25,6 +25,8 @@ pub struct Meta {
 /// The line of a stream's number of parts, which tells the stream's place too.
 impl Line for u32 {
     ghost spelled = { parts_line };
+
+    ghost is_written = { Any };
 
     ghost is_read = { IsCount };
 
@@ -48,9 +50,9 @@ impl Line for u32 {
 }
 
 /// The text of a job's record.
-pub fn write_meta(alloc: Global, meta: &Meta) -> Result<Vec<u8>, AllocError>
+pub fn write_meta(alloc: Global, meta: &Meta) -> Result<Bytes, AllocError>
     requires { IsMeta meta.now }
-    ensures { IfOk result (λ text. text.items ≡ meta_text meta.now) }
+    ensures { IfOk result (λ text. text ≡ meta_text meta.now) }
 {
     let mut out = Vec::new(alloc);
     out.extend_from_slice(b"v1\npartitions ")?;
@@ -62,7 +64,7 @@ pub fn write_meta(alloc: Global, meta: &Meta) -> Result<Vec<u8>, AllocError>
     out.extend_from_slice(b"\n")?;
     out.extend_from_slice(meta.query.as_bytes())?;
     out.extend_from_slice(b"\nend\n")?;
-    Ok(out)
+    Ok(Bytes::from_vec(out))
 }
 
 /// The number of partitions in front, and what follows its line.

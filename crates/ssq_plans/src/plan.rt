@@ -3,14 +3,14 @@ ghost use Rattle.std.specs.Prelude.{◌≡◌, ◌++◌, ◌<◌, List, ℕ, IfO
 ghost use Rattle.std.specs.Option.{ForSome};
 ghost use Rattle.ssq_time.specs.Time.{IsStampTime};
 ghost use Rattle.ssq_plans.specs.declared.plan.Plan.{Plan as Record};
-ghost use Rattle.ssq_plans.specs.Records.{part_line, plan_text, time_or_none, epoch_after, IsPart, IsPlan};
+ghost use Rattle.ssq_plans.specs.Records.{part_line, plan_text, time_or_none, epoch_after, Any, IsPart, IsPlan};
 
 use crate::fields::{
     after, is_all, long_after, put_time_or_none, short_after, short_line_after, time_and_rest,
 };
 use crate::lines::{Line, put_lines, take_lines};
 use crate::part::PartEnd;
-use ssq_field::put_decimal_to;
+use ssq_field::{Bytes, put_decimal_to};
 use ssq_value::Sequence;
 use std::alloc::{AllocError, Global};
 
@@ -27,6 +27,8 @@ pub struct Plan {
 /// The line of a part's end.
 impl Line for PartEnd {
     ghost spelled = { λ at part. part_line part };
+
+    ghost is_written = { Any };
 
     ghost is_read = { IsPart };
 
@@ -50,9 +52,9 @@ impl Line for PartEnd {
 }
 
 /// The text of a plan, whose watermark is none or of the years 0001 to 9999.
-pub fn write_plan(alloc: Global, plan: &Plan) -> Result<Vec<u8>, AllocError>
+pub fn write_plan(alloc: Global, plan: &Plan) -> Result<Bytes, AllocError>
     requires { ForSome plan.now.watermark IsStampTime }
-    ensures { IfOk result (λ text. text.items ≡ plan_text plan.now) }
+    ensures { IfOk result (λ text. text ≡ plan_text plan.now) }
 {
     let mut out = Vec::new(alloc);
     out.extend_from_slice(b"v1\nplan ")?;
@@ -62,7 +64,7 @@ pub fn write_plan(alloc: Global, plan: &Plan) -> Result<Vec<u8>, AllocError>
     out.extend_from_slice(b"\n")?;
     put_lines(&mut out, plan.ends.as_slice())?;
     out.extend_from_slice(b"end\n")?;
-    Ok(out)
+    Ok(Bytes::from_vec(out))
 }
 
 /// The watermark that the line in front tells, and what follows that line.

@@ -2,7 +2,7 @@
 ghost use Rattle.std.specs.Prelude.{◌≡◌, ◌++◌, ◌<◌, List, ℕ, IfSome, IsSomeAnd, OnOk, length};
 ghost use Rattle.std.specs.Option.{ForSome};
 ghost use Rattle.ssq_time.specs.Time.{IsLineTime};
-ghost use Rattle.ssq_plans.specs.Records.{seen_line, IsSeen};
+ghost use Rattle.ssq_plans.specs.Records.{seen_line, HasLineTime, IsSeen};
 
 use crate::fields::{after, put_time_or_none, short_after, time_and_rest};
 use crate::lines::Line;
@@ -14,6 +14,7 @@ use std::alloc::AllocError;
 /// The greatest time of a stream, where it is none or of the years 1000 to 9000.
 fn seen_by(stream: u32, time: Option<i64>) -> Option<SeenBy>
     ensures value { IfSome result (λ seen. (seen.stream ≡ stream) × (seen.time ≡ time)) }
+    ensures in_range { IfSome result HasLineTime }
     ensures each { ForSome time IsLineTime → IsSomeAnd result (λ seen. (seen.stream ≡ stream) × (seen.time ≡ time)) }
 {
     match time {
@@ -34,6 +35,8 @@ fn seen_by(stream: u32, time: Option<i64>) -> Option<SeenBy>
 /// The line of a stream's greatest time.
 impl Line for SeenBy {
     ghost spelled = { λ at seen. seen_line seen };
+
+    ghost is_written = { HasLineTime };
 
     ghost is_read = { IsSeen };
 
