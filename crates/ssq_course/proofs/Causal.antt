@@ -1,0 +1,142 @@
+-- The job of each query is causal.
+use Rattle.std.proofs.Common.{◌≡◌, ◌<◌, ◌≤◌, ◌+◌, ◌&&◌, ◌||◌, [], ◌∷◌, ℕ, zero, suc, List, Option, Some, None, Bool, true, false, refl, ap, sym, ◌∙◌, subst, arith, get_or, length, nat_lt}
+use Rattle.std.specs.Prelude.{◌-◌, ℤ, is_some, slice_get, map, take, drop, option_map}
+use Rattle.std.specs.List.{enumerate_from}
+use Rattle.std.proofs.lemmas.Bool.{ltb-false}
+use Rattle.ssq_outside.specs.declared.gate.TaskId.{TaskId}
+use Rattle.ssq_outside.specs.declared.gate.Kind.{Kind}
+use Rattle.ssq_outside.specs.declared.gate.Kind.TheVariants as kind
+use Rattle.ssq_shape.specs.declared.bound.Bound.{Bound}
+use Rattle.ssq_shape.specs.declared.bound.Shape.{Shape}
+use Rattle.ssq_shape.specs.declared.bound.Shape.TheVariants.{Plain}
+use Rattle.ssq_shape.specs.Plain.{output_names}
+use Rattle.ssq_plans.specs.declared.seen.SeenBy.{SeenBy}
+use Rattle.ssq_meaning.specs.declared.fed_row.FedRow.{FedRow}
+use Rattle.ssq_meaning.specs.Meaning.{Line, lines_between}
+use Rattle.ssq_meaning.specs.Parts.{Part}
+use Rattle.ssq_meaning.specs.Cut.{Cut}
+use Rattle.ssq_meaning.specs.Cut.{Cuts as Offsets}
+use Rattle.ssq_meaning.specs.Cut.{AreSameTo, of_parts}
+use Rattle.ssq_meaning.specs.Times.{delays, is_above}
+use Rattle.ssq_meaning.specs.Feeding.{fault_in, fault_at, first_of_all, or_else}
+use Rattle.ssq_meaning.specs.Operator.{operator_for, operator_of}
+use Rattle.ssq_meaning.specs.Epochs.{seen, watermark, watermark_before, accepted, on_time, bucket, out, fault, fault_between, key_fault, of_line, of_key}
+use Rattle.ssq_meaning.specs.Laws.{SaysSame}
+use Rattle.ssq_meaning.proofs.Causal.{says_same}
+use Rattle.ssq_sink.specs.Sink.{sink_text}
+use Rattle.ssq_core.specs.Course.{Ends, Cuts, AreSameUpTo, AgreeUpTo, IsCausal}
+use Rattle.ssq_course.specs.Setting.{Setting, keeping_of, parts_in, cut_of, cuts_of, watermark_at, seen_at, rows_at, has_lines, part_fault, partition_fault, is_task_by, is_fault_by, course_of, is_start, is_within, has_line, closes, is_next_of, job_of}
+use Rattle.ssq_course.specs.Laws.{AreCausal}
+
+cut_same : (one other : Cuts) (n : ℕ) → AreSameUpTo one other n → AreSameTo (cuts_of one) (cuts_of other) n
+cut_same one other n same = λ e le. ap cut_of (same e le)
+
+module _ (s : Setting) (one other : Cuts) (n : ℕ) (same : AreSameUpTo one other n) where
+  says : SaysSame s.job.bound (parts_in s) (cuts_of one) (cuts_of other) n
+  says = says_same s.job.bound (parts_in s) (cuts_of one) (cuts_of other) n (cut_same one other n same)
+
+  task_same : (e number : ℕ) (k : Kind) → e < n → is_task_by s one e number k ≡ is_task_by s other e number k
+  task_same e number kind.Map less =
+      let from = same e (omega (arith, less)) in
+      let to = same (e + 1) (omega (arith, less)) in
+      λ i. has_lines (cut_of (from i)) (cut_of (to i)) number
+  task_same e number kind.Reduce less = refl
+  task_same e number kind.Out less = refl
+  task_same e number kind.Upkeep less = refl
+
+  fault_same : (e number : ℕ) (k : Kind) → e < n → is_fault_by s one e number k ≡ is_fault_by s other e number k
+  fault_same e number kind.Map less =
+      let from = same e (omega (arith, less)) in
+      let to = same (e + 1) (omega (arith, less)) in
+      λ i. part_fault s.job.bound (slice_get (parts_in s) number) (get_or (cut_of (from i)) number 0) (get_or (cut_of (to i)) number 0)
+  fault_same e number kind.Reduce less =
+      let old = says.same_accepted e (omega (arith, less)) in
+      let new = says.same_on_time e less in
+      let before = says.same_watermark_before e (omega (arith, less)) in
+      let now = says.same_watermark e (omega (arith, less)) in
+      λ i. is_some ((operator_of s.job.bound).fault (bucket s.job.partitions number (old i)) (bucket s.job.partitions number (new i)) (before i) (now i))
+  fault_same e number kind.Out less = refl
+  fault_same e number kind.Upkeep less = refl
+
+  seen_same : (e : ℕ) → e ≤ n → seen_at s one e ≡ seen_at s other e
+  seen_same e le = λ i. map (λ stream. (let line : SeenBy = record { stream = stream.0; time = says.same_seen stream.0 e le i } in line)) (delays s.job.bound)
+
+  next_same : (e : ℕ) → e < n → is_next_of s one e ≡ is_next_of s other e
+  next_same e less =
+      let first = same 0 (omega (arith, less)) in
+      let from = same e (omega (arith, less)) in
+      let to = same (e + 1) (omega (arith, less)) in
+      let before = says.same_watermark_before e (omega (arith, less)) in
+      let now = says.same_watermark e (omega (arith, less)) in
+      λ i. is_start (parts_in s) (first i) && (is_within (parts_in s) (from i) (to i) && (has_line (from i) (to i) || (closes s.job.bound.shape && is_above (now i) (before i))))
+
+  agree : AgreeUpTo (course_of s one) (course_of s other) n
+  agree = record {
+    meta = refl;
+    keeping = refl;
+    ends = λ e less. same (e + 1) (omega (arith, less));
+    watermark = λ e less. says.same_watermark e (omega (arith, less));
+    seen = λ e less. seen_same (e + 1) (omega (arith, less));
+    is_faulty = λ e less. ap is_some (says.same_fault e less);
+    rows = λ e less. ap (sink_text (output_names s.job.bound)) (says.same_out e less);
+    state = λ p v le. refl;
+    delta = λ p v less. refl;
+    is_task = λ t less. task_same t.epoch t.number t.kind less;
+    is_fault = λ t less. fault_same t.epoch t.number t.kind less;
+  }
+
+-- a test on an option that is false
+none_of : {A : Type 0} → (x : Option A) → is_some x ≡ false → x ≡ None
+none_of None is = refl
+none_of (Some x) is = cc
+
+-- between an offset and one not behind it there is no line
+no_lines : (from to : ℕ) (lines : List Line) → to ≤ from → lines_between from to lines ≡ []
+no_lines from to lines le = ap (λ (m : ℕ). take m (drop from lines)) (let none : to - from ≡ 0 = omega (arith, le) in none)
+
+no_fault_in : (query : Bound) (part : Part) (from to : ℕ) → to ≤ from → fault_in query part from to ≡ None
+no_fault_in query part from to le = ap (λ (lines : List Line). first_of_all (map (λ line. fault_at query part line.0 line.1) (enumerate_from from lines))) (no_lines from to part.lines le)
+
+-- where no part with new lines has a fault, there is none
+quiet_lines : (query : Bound) (parts : List Part) (froms tos : Cut) → ((i : ℕ) → has_lines froms tos i ≡ true → part_fault query (slice_get parts i) (get_or froms i 0) (get_or tos i 0) ≡ false)
+    → fault_between query parts froms tos ≡ None
+unfolding of_parts
+quiet_lines query [] froms tos quiet = refl
+quiet_lines query (part ∷ parts) [] tos quiet = refl
+quiet_lines query (part ∷ parts) (from ∷ froms) [] quiet = refl
+quiet_lines query (part ∷ parts) (from ∷ froms) (to ∷ tos) quiet =
+    let first : fault_in query part from to ≡ None = by (nat_lt from to) refl in
+    let rest = quiet_lines query parts froms tos (λ i lines. quiet (suc i) lines) in
+    λ i. or_else (first i) (rest i)
+  where
+    by : (b : Bool) → nat_lt from to ≡ b → fault_in query part from to ≡ None
+    by true h = none_of (fault_in query part from to) (quiet 0 h)
+    by false h = no_fault_in query part from to (ltb-false from to h)
+
+-- no key of a query that keeps nothing overflows
+no_key : (shape : Shape) (query : Bound) (old new : List FedRow) (before now : Option ℤ) → (operator_for shape query).fault old new before now ≡ None
+no_key Plain query old new before now = refl
+
+no_key_fault : (query : Bound) (parts : List Part) (cuts : Offsets) (e : ℕ) → key_fault query parts cuts e ≡ None
+unfolding operator_of
+no_key_fault query parts cuts e = no_key query.shape query (accepted query parts cuts e) (on_time query parts cuts e) (watermark_before query parts cuts e) (watermark query parts cuts e)
+
+-- an epoch in which no task has a fault has none
+faultless : (s : Setting) (cuts : Cuts) (e : ℕ) → ((i : ℕ) → has_lines (cut_of (cuts e)) (cut_of (cuts (e + 1))) i ≡ true → is_fault_by s cuts e i kind.Map ≡ false)
+    → is_some (fault s.job.bound (parts_in s) (cuts_of cuts) e) ≡ false
+faultless s cuts e quiet =
+    let lines = quiet_lines s.job.bound (parts_in s) (cut_of (cuts e)) (cut_of (cuts (e + 1))) quiet in
+    let keys = no_key_fault s.job.bound (parts_in s) (cuts_of cuts) e in
+    λ i. is_some (or_else (option_map of_line (lines i)) (option_map of_key (keys i)))
+
+-- each partition that keeps state is one
+kept_is_one : (shape : Shape) (partitions p : ℕ) → p < keeping_of shape partitions → nat_lt p partitions ≡ true
+kept_is_one Plain partitions p less = absurd (omega (arith, less))
+
+pub are_causal : AreCausal
+are_causal s = record {
+  agrees = λ one other n same. agree s one other n same;
+  follows = λ one other n e same less next. sym (next_same s one other n same e less) ∙ next;
+  faults = λ cuts e quiet. faultless s cuts e (λ i lines. quiet (record { epoch = e; kind = kind.Map; number = i }) lines refl refl);
+  reduces = λ cuts e p less. kept_is_one s.job.bound.shape s.job.partitions p less;
+}

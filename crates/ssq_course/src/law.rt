@@ -1,0 +1,9 @@
+//! What holds of the job of each query.
+
+ghost use Rattle.ssq_course.specs.Laws.{AreCausal};
+
+/// The law of jobs: what the files of a query's checkpoint hold of its first epochs hangs on where these end, and on nothing that comes
+/// later; and an epoch has a fault only where one of its tasks has.
+pub fn jobs_are_causal()
+    ensures { AreCausal }
+{}

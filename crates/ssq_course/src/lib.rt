@@ -1,0 +1,9 @@
+//! The job of a query over its logs: what the files of its checkpoint hold, epoch by epoch.
+//!
+//! The definitions are in `specs/`: `Setting` is a query with how its work is divided, over its logs; `course_of` what its files hold
+//! for some cuts of these; `job_of` that, with which cut may follow. Their laws are the contracts of functions that do nothing.
+#![tactic(auto)]
+
+mod law;
+
+pub use law::jobs_are_causal;
