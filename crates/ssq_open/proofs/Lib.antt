@@ -1,0 +1,10 @@
+pub mod Names
+pub mod Walks
+pub mod Finding
+pub mod Planning
+pub mod Others
+pub mod Keeping
+pub mod Beginning
+pub mod Opens
+pub mod Passing
+pub mod Looks

@@ -1,0 +1,96 @@
+-- Walks over the ends of parts.
+use Rattle.std.proofs.Common.{◌≡◌, ◌<◌, ◌≤◌, ◌+◌, ◌∙◌, ◌++◌, ◌∷◌, [], ◌==◌, ◌&&◌, ℕ, Bool, true, false, List, length, drop, get_or, add-one, drop-cons, ap, append_assoc, ℤ, Option, None, refl, sym, arith}
+use Rattle.std.specs.Prelude.{is_some, if◌then◌else◌}
+use Rattle.std.specs.List.{list_all, zip}
+use Rattle.std.proofs.lemmas.List.{drop_all, append-nil}
+use Rattle.std.proofs.Common.{eq-eqb}
+use Rattle.std.proofs.lemmas.Bool.Decides.{nat_tests}
+use Rattle.ssq_plans.specs.declared.part.PartEnd.{PartEnd}
+use Rattle.ssq_open.specs.Epochs.{start_of, starts, keeps_up, follows}
+use Rattle.ssq_plans.specs.declared.seen.SeenBy.{SeenBy}
+use Rattle.ssq_open.specs.declared.streams.Watermarked.{Watermarked}
+use Rattle.ssq_open.specs.Watermarks.{is_line_of, has_lines, mark_of, lower, least_after}
+use Rattle.ssq_open.specs.Opening.{is_short, first_short}
+
+-- a value for places that are not there
+abbrev pub nowhere : PartEnd
+nowhere = record { stream = 0; part = 0; end = 0 }
+
+pub starts-next : (out : List PartEnd) (at : ℕ) (found : List PartEnd) → at < length found → (out ++ start_of (get_or found at nowhere) ∷ []) ++ starts (drop (at + 1) found) ≡ out ++ starts (drop at found)
+starts-next out at found less = rw (add-one, drop-cons found at nowhere) (append_assoc out _ _)
+
+pub starts-end : (out : List PartEnd) (at : ℕ) (found : List PartEnd) → length found ≤ at → out ++ starts (drop at found) ≡ out
+starts-end out at found all = rw (drop_all at found all) (append-nil out)
+
+-- whether the rest keeps up
+abbrev pub keep_up_from : ℕ → List PartEnd → List PartEnd → Bool
+keep_up_from at before ends = list_all keeps_up (zip (drop at before) (drop at ends))
+
+pub keep_up-next : (at : ℕ) (before ends : List PartEnd) → at < length before → length before ≡ length ends
+    → keep_up_from at before ends ≡ (keeps_up (get_or before at nowhere, get_or ends at nowhere) && keep_up_from (at + 1) before ends)
+keep_up-next at before ends less same =
+    let there : at < length ends = omega arith in
+    rw (add-one, drop-cons before at nowhere, drop-cons ends at nowhere) refl
+
+pub keep_up-end : (at : ℕ) (before ends : List PartEnd) → length before ≤ at → keep_up_from at before ends ≡ true
+keep_up-end at before ends all = rw (drop_all at before all) refl
+
+-- the same parts follow where each keeps up
+pub follows-from : (before ends : List PartEnd) → length before ≡ length ends → follows before ends ≡ keep_up_from 0 before ends
+follows-from before ends same = let is : (length before == length ends) ≡ true = eq-eqb (length before) (length ends) same in rw is refl
+
+-- no part is short where nothing is found of it
+pub short-next : (at : ℕ) (ends found : List PartEnd) → at < length ends → at < length found → is_short (get_or ends at nowhere, get_or found at nowhere) ≡ false
+    → first_short (drop at ends) (drop at found) ≡ first_short (drop (at + 1) ends) (drop (at + 1) found)
+short-next at ends found less there long = rw (add-one, drop-cons ends at nowhere, drop-cons found at nowhere) (rw long refl)
+
+pub short-past : (at : ℕ) (ends found : List PartEnd) → length found ≤ at → first_short (drop at ends) (drop at found) ≡ first_short (drop (at + 1) ends) (drop (at + 1) found)
+short-past at ends found past = let here = none_past at ends found past in let next = none_past (at + 1) ends found (omega (arith, past)) in here ∙ sym next
+  where
+    no_pairs : (xs : List PartEnd) → first_short xs [] ≡ None
+    no_pairs [] = refl
+    no_pairs (x ∷ xs) = refl
+
+    none_past : (at : ℕ) (ends found : List PartEnd) → length found ≤ at → first_short (drop at ends) (drop at found) ≡ None
+    none_past at ends found past = rw (drop_all at found past) (no_pairs (drop at ends))
+
+pub long_enough : (end found : PartEnd) → end.end ≤ found.end → is_short (end, found) ≡ false
+long_enough end found enough = grind (arith, nat_tests)
+
+-- whether the rest are lines of their streams
+abbrev pub lines_from : ℕ → List Watermarked → List SeenBy → Bool
+lines_from at streams seen = list_all is_line_of (zip (drop at streams) (drop at seen))
+
+pub lines-next : (at : ℕ) (streams : List Watermarked) (seen : List SeenBy) (w : Watermarked) (s : SeenBy) → at < length streams → length streams ≡ length seen
+    → lines_from at streams seen ≡ (is_line_of (get_or streams at w, get_or seen at s) && lines_from (at + 1) streams seen)
+lines-next at streams seen w s less same =
+    let there : at < length seen = omega arith in
+    rw (add-one, drop-cons streams at w, drop-cons seen at s) refl
+
+pub lines-end : (at : ℕ) (streams : List Watermarked) (seen : List SeenBy) → length streams ≤ at → lines_from at streams seen ≡ true
+lines-end at streams seen all = rw (drop_all at streams all) refl
+
+-- they are lines where each is one of its stream
+pub lines-all : (streams : List Watermarked) (seen : List SeenBy) → length streams ≡ length seen → has_lines streams seen ≡ lines_from 0 streams seen
+lines-all streams seen same = let is : (length streams == length seen) ≡ true = eq-eqb (length streams) (length seen) same in rw is refl
+
+pub least-end : (at : ℕ) (least : Option ℤ) (streams : List Watermarked) (seen : List SeenBy) → length streams ≤ at → least_after least (zip (drop at streams) (drop at seen)) ≡ least
+least-end at least streams seen all = rw (drop_all at streams all) refl
+
+-- a stream that says none, and one that says a time
+pub least-next : (at : ℕ) (least mark : Option ℤ) (streams : List Watermarked) (seen : List SeenBy) (w : Watermarked) (s : SeenBy) → at < length streams → length streams ≡ length seen → s ≡ get_or seen at s
+    → mark ≡ mark_of (get_or streams at w, s)
+    → least_after least (zip (drop at streams) (drop at seen)) ≡ (if is_some mark then least_after (lower least mark) (zip (drop (at + 1) streams) (drop (at + 1) seen)) else None)
+least-next at least mark streams seen w s less same is has =
+    let there : at < length seen = omega arith in
+    let told : mark ≡ mark_of (get_or streams at w, get_or seen at s) = has ∙ ap (λ (x : SeenBy). mark_of (get_or streams at w, x)) is in
+    rw (told, add-one, drop-cons streams at w, drop-cons seen at s) refl
+
+pub least-none : (at : ℕ) (least mark : Option ℤ) (streams : List Watermarked) (seen : List SeenBy) (w : Watermarked) (s : SeenBy) → at < length streams → length streams ≡ length seen → s ≡ get_or seen at s
+    → mark ≡ mark_of (get_or streams at w, s) → is_some mark ≡ false → least_after least (zip (drop at streams) (drop at seen)) ≡ None
+least-none at least mark streams seen w s less same is has none = least-next at least mark streams seen w s less same is has ∙ rw none refl
+
+pub least-some : (at : ℕ) (least mark : Option ℤ) (streams : List Watermarked) (seen : List SeenBy) (w : Watermarked) (s : SeenBy) → at < length streams → length streams ≡ length seen → s ≡ get_or seen at s
+    → mark ≡ mark_of (get_or streams at w, s) → is_some mark ≡ true
+    → least_after least (zip (drop at streams) (drop at seen)) ≡ least_after (lower least mark) (zip (drop (at + 1) streams) (drop (at + 1) seen))
+least-some at least mark streams seen w s less same is has some = least-next at least mark streams seen w s less same is has ∙ rw some refl

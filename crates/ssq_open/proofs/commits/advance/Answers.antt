@@ -1,0 +1,6 @@
+use Rattle.ssq_open.proofs.Planning.{committed_next}
+use Rattle.ssq_open.proofs.commits.advance.Goals as goal
+
+pub returns-clause-committed : goal.returns-clause-committed
+returns-clause-committed g c = λ tells committed.
+    rw (c.in_ok-push.ensures.ok, c.mark_by.ensures, c.as_slice.ensures) (committed_next c.args.streams.now _ c.args.epoch c.args.committed.marks c.args.committed.seen c.in_ok-commit.commit committed (c.in_ok-commit.ensures.commit tells) c.in_ok-commit.ensures.own)

@@ -1,0 +1,5 @@
+use Rattle.ssq_open.proofs.Planning.{AreSame}
+use Rattle.ssq_open.proofs.commits.check_marks.Given as goal
+
+abbrev pub invariant-loop-epoch : goal.invariant-loop-epoch
+invariant-loop-epoch l = AreSame l.plans l.marks l.epoch

@@ -1,0 +1,25 @@
+use Rattle.std.proofs.Common.{◌≡◌, ◌∙◌, List, subst, sym}
+use Rattle.std.proofs.lemmas.Result.{err_from_is_err_and}
+use Rattle.ssq_outside.specs.declared.name.Name.{Name}
+use Rattle.ssq_outside.specs.Files.{AreNames}
+use Rattle.ssq_outside.specs.History.{History, files_now}
+use Rattle.ssq_plans.specs.declared.part.PartEnd.{PartEnd}
+use Rattle.ssq_open.specs.Sought.{Sought, sought}
+use Rattle.ssq_open.specs.Epochs.{starts}
+use Rattle.ssq_open.specs.Refused.{EpochsRefuse}
+use Rattle.ssq_open.proofs.Opens.{epochs_refused}
+use Rattle.ssq_open.proofs.opening.kept.Goals as goal
+
+pub returns-in_err-epochs-clause-refused : goal.returns-in_err-epochs-clause-refused
+returns-in_err-epochs-clause-refused g c = λ tells are.
+    let p = err_from_is_err_and c.from_residual-in_err-epochs.result c.from_residual-in_err-epochs.ensures.1 in
+    let s : Sought = sought c.args.wanted.now in
+    let A : History → Type 0 = λ h. AreNames (files_now h) c.args.names in
+    let N : List Name → Type 0 = λ names. AreNames (files_now (g.D.Disk.history c.kept_job.new.disk)) names in
+    let R : History → Type 0 = λ h. EpochsRefuse s.streams (files_now h) c.as_slice-2.result.now c.in_err-epochs.field-0.0 in
+    let F : List PartEnd → Type 0 = λ first. EpochsRefuse s.streams (files_now (g.D.Disk.history c.args.disk.now)) first c.in_err-epochs.field-0.0 in
+    let same = c.kept_job.ensures.same tells in
+    let here = subst N (sym c.as_slice.ensures) (subst A (sym same) are) in
+    let begin : c.as_slice-2.result.now ≡ starts c.args.wanted.now.found.now = c.as_slice-2.ensures ∙ c.in_ok-first.ensures in
+    rw (p.1, p.2) (epochs_refused s _ c.in_ok-meta.meta c.in_err-epochs.field-0.0 (c.in_ok-meta.ensures.kept tells) c.in_ok-meta.ensures.job
+    (subst F begin (subst R same (c.in_err-epochs.ensures.refused tells here))))

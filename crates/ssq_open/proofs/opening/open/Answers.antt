@@ -1,0 +1,51 @@
+use Rattle.std.proofs.Common.{◌∙◌, ℕ, List, refl, subst, sym}
+use Rattle.std.specs.Prelude.{IfOk, IfErr, OnOk, OnErr}
+use Rattle.std.proofs.lemmas.Result.{err_from_is_err_and}
+use Rattle.ssq_outside.specs.History.{had_now, files_now, LeavesOnly}
+use Rattle.ssq_open.specs.Lens.{asked}
+use Rattle.ssq_open.specs.Sought.{Sought}
+use Rattle.ssq_open.specs.Opening.{CanBeSought, IsOpen, IsRefused, IsImageOpening, SyncedSince, IsBegun, IsOpening}
+use Rattle.ssq_open.proofs.Beginning.{asked_is, can_be_sought}
+use Rattle.ssq_open.proofs.Opens.{not_begun, nothing_new, nothing_opened}
+use Rattle.ssq_open.proofs.opening.open.Goals as goal
+
+pub open_wanted-requires : goal.open_wanted-requires
+open_wanted-requires g c =
+    let P : List ℕ → Type 0 = λ counts. CanBeSought c.args.partitions counts in
+    subst P (sym (c.as_slice-2.ensures ∙ c.in_ok-asked.ensures.parts)) (can_be_sought c.args.bound.now c.args.partitions c.args.lens.now c.requires)
+
+pub returns-clause-opened : goal.returns-clause-opened
+returns-clause-opened g c = λ tells.
+    let P : Sought → Type 0 = λ s. IfOk c.open_wanted.result (IsOpen s (files_now (g.D.Disk.history c.args.disk.now)) (g.D.Disk.history c.open_wanted.new.disk)) in
+    subst P (asked_is c.args.bound.now c.args.partitions c.args.lens.now _ refl (c.as_slice.ensures ∙ c.in_ok-asked.ensures.streams) refl (c.as_slice-2.ensures ∙ c.in_ok-asked.ensures.parts) (c.as_slice-3.ensures ∙ c.in_ok-asked.ensures.found)) (c.open_wanted.ensures.opened tells)
+
+pub returns-clause-refused : goal.returns-clause-refused
+returns-clause-refused g c = λ tells.
+    let P : Sought → Type 0 = λ s. IfErr c.open_wanted.result (IsRefused s (files_now (g.D.Disk.history c.args.disk.now)) (files_now (g.D.Disk.history c.open_wanted.new.disk))) in
+    subst P (asked_is c.args.bound.now c.args.partitions c.args.lens.now _ refl (c.as_slice.ensures ∙ c.in_ok-asked.ensures.streams) refl (c.as_slice-2.ensures ∙ c.in_ok-asked.ensures.parts) (c.as_slice-3.ensures ∙ c.in_ok-asked.ensures.found)) (c.open_wanted.ensures.refused tells)
+
+pub returns-clause-any_moment : goal.returns-clause-any_moment
+returns-clause-any_moment g c = λ tells.
+    let P : Sought → Type 0 = λ s. LeavesOnly (g.D.Disk.history c.args.disk.now) (g.D.Disk.history c.open_wanted.new.disk) (IsImageOpening s (had_now (g.D.Disk.history c.args.disk.now))) in
+    subst P (asked_is c.args.bound.now c.args.partitions c.args.lens.now _ refl (c.as_slice.ensures ∙ c.in_ok-asked.ensures.streams) refl (c.as_slice-2.ensures ∙ c.in_ok-asked.ensures.parts) (c.as_slice-3.ensures ∙ c.in_ok-asked.ensures.found)) (c.open_wanted.ensures.any_moment tells)
+
+pub returns-clause-synced : goal.returns-clause-synced
+returns-clause-synced g c = λ tells.
+    let P : Sought → Type 0 = λ s. OnOk c.open_wanted.result (SyncedSince (g.D.Disk.history c.args.disk.now) (g.D.Disk.history c.open_wanted.new.disk) (IsBegun s (files_now (g.D.Disk.history c.args.disk.now)))) in
+    subst P (asked_is c.args.bound.now c.args.partitions c.args.lens.now _ refl (c.as_slice.ensures ∙ c.in_ok-asked.ensures.streams) refl (c.as_slice-2.ensures ∙ c.in_ok-asked.ensures.parts) (c.as_slice-3.ensures ∙ c.in_ok-asked.ensures.found)) (c.open_wanted.ensures.synced tells)
+
+pub returns-clause-unfinished : goal.returns-clause-unfinished
+returns-clause-unfinished g c = λ tells.
+    let P : Sought → Type 0 = λ s. OnErr c.open_wanted.result (IsOpening s (g.D.Disk.history c.args.disk.now) (g.D.Disk.history c.open_wanted.new.disk)) in
+    subst P (asked_is c.args.bound.now c.args.partitions c.args.lens.now _ refl (c.as_slice.ensures ∙ c.in_ok-asked.ensures.streams) refl (c.as_slice-2.ensures ∙ c.in_ok-asked.ensures.parts) (c.as_slice-3.ensures ∙ c.in_ok-asked.ensures.found)) (c.open_wanted.ensures.unfinished tells)
+
+pub returns-in_err-asked-clause-refused : goal.returns-in_err-asked-clause-refused
+returns-in_err-asked-clause-refused g c = λ tells.
+    let p = err_from_is_err_and c.from_residual.result c.from_residual.ensures.1 in
+    rw (p.1, p.2) (not_begun (asked c.args.bound.now c.args.partitions c.args.lens.now) _)
+
+pub returns-in_err-asked-clause-any_moment : goal.returns-in_err-asked-clause-any_moment
+returns-in_err-asked-clause-any_moment g c = λ tells. nothing_new (asked c.args.bound.now c.args.partitions c.args.lens.now) (g.D.Disk.history c.args.disk.now)
+
+pub returns-in_err-asked-clause-unfinished : goal.returns-in_err-asked-clause-unfinished
+returns-in_err-asked-clause-unfinished g c = λ tells. nothing_opened (asked c.args.bound.now c.args.partitions c.args.lens.now) (g.D.Disk.history c.args.disk.now) c.from_residual.result

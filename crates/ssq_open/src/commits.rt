@@ -1,0 +1,134 @@
+//! The commits of a checkpoint, in order, and the watermarks that they give.
+
+ghost use Rattle.std.specs.Prelude.{◌≡◌, ◌<◌, ◌≤◌, ◌+◌, ℕ, List, length, OnOk, IfOk, IfErr, IsTrue};
+ghost use Rattle.ssq_outside.specs.Files.{Files};
+ghost use Rattle.ssq_outside.specs.History.{files_now};
+ghost use Rattle.ssq_open.specs.Epochs.{is_own, IsMarked, ArePlansOf, AreMarks, AreCommitted};
+ghost use Rattle.ssq_open.specs.Spelled.{IsTheCommit};
+ghost use Rattle.ssq_open.specs.Fault.{DiskRises};
+ghost use Rattle.ssq_open.specs.Refused.{CommitRefuses, CommitsRefuse, MarkRefuses};
+ghost use Rattle.ssq_open.specs.declared.streams.Watermarked.{Watermarked as WatermarkedOf};
+
+use crate::fault::OpenFault;
+use crate::read::commit_of;
+use crate::streams::{Watermarked, has_lines, is_mark, mark_by};
+use ssq_outside::{Disk, Name};
+use ssq_plans::{Commit, Plan, SeenBy};
+use ssq_value::Sequence;
+use std::alloc::Global;
+
+/// Whether this is the commit of that epoch.
+fn is_own(streams: &[Watermarked], epoch: u32, commit: &Commit) -> bool
+    ensures { result ≡ is_own streams.now epoch commit.now }
+{
+    commit.epoch == epoch && has_lines(streams, commit.seen.as_slice())
+}
+
+/// The commit of an epoch.
+fn own_commit<D: Disk>(
+    alloc: Global,
+    disk: &mut D,
+    streams: &[Watermarked],
+    epoch: u32,
+) -> Result<Commit, OpenFault>
+    ensures commit { D.tells → IfOk result (IsTheCommit (files_now (D.history disk.old)) epoch) }
+    ensures own { IfOk result (λ commit. IsTrue (is_own streams.now epoch commit)) }
+    ensures refused { D.tells → IfErr result (CommitRefuses streams.now (files_now (D.history disk.old)) epoch) }
+    ensures same { D.tells → D.history disk.new ≡ D.history disk.old }
+    ensures counted { D.faults disk.old ≤ D.faults disk.new }
+    ensures cause { IfErr result (λ fault. DiskRises fault (D.faults disk.old) (D.faults disk.new)) }
+{
+    match commit_of(alloc, disk, epoch)? {
+        Some(commit) => {
+            if is_own(streams, epoch, &commit) {
+                Ok(commit)
+            } else {
+                Err(OpenFault::Damaged {
+                    name: Name::Commit(epoch),
+                })
+            }
+        }
+        None => Err(OpenFault::Damaged {
+            name: Name::Commit(epoch),
+        }),
+    }
+}
+
+/// What the commits of the first epochs say.
+#[derive(Debug, Drop)]
+pub(crate) struct Committed {
+    /// The watermark of each epoch up to the one after them.
+    pub(crate) marks: Sequence<Option<i128>>,
+    /// The greatest times over these epochs: nothing before the first.
+    pub(crate) seen: Sequence<SeenBy>,
+}
+
+/// One epoch more.
+fn advance<D: Disk>(
+    alloc: Global,
+    disk: &mut D,
+    streams: &[Watermarked],
+    committed: Committed,
+    epoch: u32,
+) -> Result<Committed, OpenFault>
+    ensures committed { D.tells → AreCommitted streams.now (files_now (D.history disk.old)) epoch committed.marks committed.seen →
+        IfOk result (λ next. AreCommitted streams.now (files_now (D.history disk.old)) (epoch + 1) next.marks next.seen) }
+    ensures count { IfOk result (λ next. length next.marks ≡ length committed.marks + 1) }
+    ensures refused { D.tells → IfErr result (CommitRefuses streams.now (files_now (D.history disk.old)) epoch) }
+    ensures same { D.tells → D.history disk.new ≡ D.history disk.old }
+    ensures counted { D.faults disk.old ≤ D.faults disk.new }
+    ensures cause { IfErr result (λ fault. DiskRises fault (D.faults disk.old) (D.faults disk.new)) }
+{
+    let Committed { marks, .. } = committed;
+    let mut marks = marks;
+    let commit = own_commit(alloc, disk, streams, epoch)?;
+    marks.push(mark_by(streams, commit.seen.as_slice()))?;
+    let Commit { seen, .. } = commit;
+    Ok(Committed { marks, seen })
+}
+
+/// What the commits of the first epochs say.
+pub(crate) fn commits_to<D: Disk>(
+    alloc: Global,
+    disk: &mut D,
+    streams: &[Watermarked],
+    count: u32,
+) -> Result<Committed, OpenFault>
+    ensures committed { D.tells → IfOk result (λ found. AreCommitted streams.now (files_now (D.history disk.old)) count found.marks found.seen) }
+    ensures count { IfOk result (λ found. length found.marks ≡ count + 1) }
+    ensures refused { D.tells → IfErr result (CommitsRefuse streams.now (files_now (D.history disk.old)) count) }
+    ensures same { D.tells → D.history disk.new ≡ D.history disk.old }
+    ensures counted { D.faults disk.old ≤ D.faults disk.new }
+    ensures cause { IfErr result (λ fault. DiskRises fault (D.faults disk.old) (D.faults disk.new)) }
+{
+    let mut marks = Sequence::new(alloc);
+    marks.push(None)?;
+    let mut found = Committed {
+        marks,
+        seen: Sequence::new(alloc),
+    };
+    for epoch in 0..count {
+        found = advance(alloc, disk, streams, found, epoch)?;
+    }
+    Ok(found)
+}
+
+/// Checks that each plan has the watermark that is its epoch's.
+pub(crate) fn check_marks(plans: &[Plan], marks: &[Option<i128>]) -> Result<(), OpenFault>
+    requires few { length plans.now ≤ 4294967295 }
+    requires each { length plans.now ≤ length marks.now }
+    ensures ok { (streams : List WatermarkedOf) (files : Files) → ArePlansOf files plans.now → AreMarks streams files marks.now →
+        OnOk result ((e : ℕ) → e < length plans.now → IsMarked streams files e) }
+    ensures err { (streams : List WatermarkedOf) (files : Files) → ArePlansOf files plans.now → AreMarks streams files marks.now →
+        IfErr result (MarkRefuses streams files (length plans.now)) }
+    ensures not_the_disk { (before now : ℕ) → IfErr result (λ fault. DiskRises fault before now) }
+{
+    for (epoch, plan) in plans.iter().enumerate() {
+        if !is_mark(plan.watermark, marks[epoch]) {
+            return Err(OpenFault::Damaged {
+                name: Name::Plan(epoch as u32),
+            });
+        }
+    }
+    Ok(())
+}

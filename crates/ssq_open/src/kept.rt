@@ -1,0 +1,83 @@
+//! The epochs that a checkpoint keeps.
+
+ghost use Rattle.std.specs.Prelude.{◌≡◌, ◌≤◌, ◌+◌, length, IfOk, IfErr};
+ghost use Rattle.ssq_outside.specs.Files.{AreNames};
+ghost use Rattle.ssq_outside.specs.History.{files_now};
+ghost use Rattle.ssq_open.specs.Epochs.{IsProgress, AreEpochs};
+ghost use Rattle.ssq_open.specs.Fault.{DiskRises};
+ghost use Rattle.ssq_open.specs.Refused.{ProgressRefuses, EpochsRefuse};
+
+use crate::commits::{Committed, check_marks, commits_to};
+use crate::fault::OpenFault;
+use crate::listing::{committed, planned};
+use crate::plans::plans_to;
+use crate::streams::Watermarked;
+use crate::unread::{check_last_commit, check_sinks, check_state};
+use ssq_outside::{Disk, Name};
+use ssq_plans::{PartEnd, Plan, SeenBy};
+use ssq_value::Sequence;
+use std::alloc::Global;
+
+/// The epochs of a checkpoint.
+#[derive(Debug, Drop)]
+pub(crate) struct Epochs {
+    /// The plans of the planned ones.
+    pub(crate) plans: Sequence<Plan>,
+    /// How many of these are committed.
+    pub(crate) committed: u32,
+    /// The greatest times over the committed ones.
+    pub(crate) seen: Sequence<SeenBy>,
+}
+
+/// How far a checkpoint whose files have these names has come by its plans and commits, of parts that begin there.
+pub(crate) fn kept_progress<D: Disk>(
+    alloc: Global,
+    disk: &mut D,
+    names: &[Name],
+    streams: &[Watermarked],
+    first: &[PartEnd],
+) -> Result<Epochs, OpenFault>
+    ensures progress { D.tells → AreNames (files_now (D.history disk.old)) names.now →
+        IfOk result (λ epochs. IsProgress streams.now (files_now (D.history disk.old)) first.now epochs.plans epochs.committed epochs.seen) }
+    ensures below { IfOk result (λ epochs. epochs.committed ≤ length epochs.plans) }
+    ensures ahead { IfOk result (λ epochs. length epochs.plans ≤ epochs.committed + 1) }
+    ensures refused { D.tells → AreNames (files_now (D.history disk.old)) names.now → IfErr result (ProgressRefuses streams.now (files_now (D.history disk.old)) first.now) }
+    ensures same { D.tells → D.history disk.new ≡ D.history disk.old }
+    ensures counted { D.faults disk.old ≤ D.faults disk.new }
+    ensures cause { IfErr result (λ fault. DiskRises fault (D.faults disk.old) (D.faults disk.new)) }
+{
+    let planned = planned(names);
+    let committed = committed(names, planned);
+    let plans = plans_to(alloc, disk, first, planned)?;
+    let committed = committed as u32;
+    let commits = commits_to(alloc, disk, streams, committed)?;
+    check_last_commit(names, planned)?;
+    let Committed { marks, seen } = commits;
+    check_marks(plans.as_slice(), marks.as_slice())?;
+    Ok(Epochs {
+        plans,
+        committed,
+        seen,
+    })
+}
+
+/// The epochs of a checkpoint whose files have these names, of parts that begin there.
+pub(crate) fn kept_epochs<D: Disk>(
+    alloc: Global,
+    disk: &mut D,
+    names: &[Name],
+    streams: &[Watermarked],
+    first: &[PartEnd],
+) -> Result<Epochs, OpenFault>
+    ensures kept { D.tells → AreNames (files_now (D.history disk.old)) names.now →
+        IfOk result (λ epochs. AreEpochs streams.now (files_now (D.history disk.old)) first.now epochs.plans epochs.committed epochs.seen) }
+    ensures refused { D.tells → AreNames (files_now (D.history disk.old)) names.now → IfErr result (EpochsRefuse streams.now (files_now (D.history disk.old)) first.now) }
+    ensures same { D.tells → D.history disk.new ≡ D.history disk.old }
+    ensures counted { D.faults disk.old ≤ D.faults disk.new }
+    ensures cause { IfErr result (λ fault. DiskRises fault (D.faults disk.old) (D.faults disk.new)) }
+{
+    let epochs = kept_progress(alloc, disk, names, streams, first)?;
+    check_sinks(names, epochs.plans.len() as u64, epochs.committed)?;
+    check_state(names)?;
+    Ok(epochs)
+}

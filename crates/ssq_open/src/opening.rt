@@ -1,0 +1,171 @@
+//! The opening of a checkpoint.
+
+ghost use Rattle.std.specs.Prelude.{◌≡◌, ◌≤◌, ◌^◌, All, length, IfOk, IfErr, OnOk, OnErr};
+ghost use Rattle.ssq_outside.specs.Files.{AreNames};
+ghost use Rattle.ssq_outside.specs.History.{had_now, files_now, LeavesOnly};
+ghost use Rattle.ssq_open.specs.Fault.{DiskRises};
+ghost use Rattle.ssq_open.specs.Opening.{CanBeSought, Passes, Refuses, IsOpen, IsRefused, IsImageOpening, SyncedSince, IsBegun, IsOpening};
+ghost use Rattle.ssq_open.specs.Sought.{sought};
+ghost use Rattle.ssq_open.specs.Lens.{counts_of, found_from, IsFew, CanBeAsked, asked};
+ghost use Rattle.ssq_open.specs.Watermarks.{watermarked};
+
+use crate::begin::begin;
+use crate::cuts::starts;
+use crate::fault::OpenFault;
+use crate::job::kept_job;
+use crate::kept::kept_epochs;
+use crate::lengths::check_ends;
+use crate::lens::{counts_of, found_in};
+use crate::plans::last_ends;
+use crate::streams::{Watermarked, watermarked_among};
+use crate::wanted::{Lens, Opened, Wanted};
+use ssq_outside::{Disk, Name};
+use ssq_plans::PartEnd;
+use ssq_shape::Bound;
+use ssq_value::Sequence;
+use std::alloc::{AllocError, Global};
+
+/// What a checkpoint holds whose files have these names.
+fn kept<D: Disk>(
+    alloc: Global,
+    disk: &mut D,
+    names: Sequence<Name>,
+    wanted: &Wanted<'_>,
+) -> Result<Opened, OpenFault>
+    ensures passes { D.tells → AreNames (files_now (D.history disk.old)) names →
+        IfOk result (Passes (sought wanted.now) (files_now (D.history disk.old))) }
+    ensures refused { D.tells → AreNames (files_now (D.history disk.old)) names →
+        IfErr result (Refuses (sought wanted.now) (files_now (D.history disk.old))) }
+    ensures same { D.tells → D.history disk.new ≡ D.history disk.old }
+    ensures counted { D.faults disk.old ≤ D.faults disk.new }
+    ensures cause { IfErr result (λ fault. DiskRises fault (D.faults disk.old) (D.faults disk.new)) }
+{
+    let meta = kept_job(alloc, disk, wanted)?;
+    let first = starts(alloc, wanted.found)?;
+    let epochs = kept_epochs(
+        alloc,
+        disk,
+        names.as_slice(),
+        wanted.streams,
+        first.as_slice(),
+    )?;
+    check_ends(
+        last_ends(first.as_slice(), epochs.plans.as_slice()),
+        wanted.found,
+    )?;
+    Ok(Opened {
+        meta,
+        plans: epochs.plans,
+        committed: epochs.committed,
+        seen: epochs.seen,
+        names,
+    })
+}
+
+/// Opens the checkpoint of the job that is wanted.
+pub(crate) fn open_wanted<D: Disk>(
+    alloc: Global,
+    disk: &mut D,
+    wanted: &Wanted<'_>,
+) -> Result<Opened, OpenFault>
+    requires { CanBeSought wanted.now.partitions wanted.now.parts.now }
+    ensures opened { D.tells → IfOk result (IsOpen (sought wanted.now)
+        (files_now (D.history disk.old)) (D.history disk.new)) }
+    ensures refused { D.tells → IfErr result (IsRefused (sought wanted.now)
+        (files_now (D.history disk.old)) (files_now (D.history disk.new))) }
+    ensures any_moment { D.tells → LeavesOnly (D.history disk.old) (D.history disk.new)
+        (IsImageOpening (sought wanted.now) (had_now (D.history disk.old))) }
+    ensures synced { D.tells → OnOk result (SyncedSince (D.history disk.old) (D.history disk.new)
+        (IsBegun (sought wanted.now) (files_now (D.history disk.old)))) }
+    ensures unfinished { D.tells → OnErr result (IsOpening (sought wanted.now)
+        (D.history disk.old) (D.history disk.new)) }
+    ensures counted { D.faults disk.old ≤ D.faults disk.new }
+    ensures cause { IfErr result (λ fault. DiskRises fault (D.faults disk.old) (D.faults disk.new)) }
+{
+    disk.sync_names()?;
+    let names = Sequence::from_vec(disk.names(alloc)?);
+    if names.is_empty() {
+        return begin(alloc, disk, wanted);
+    }
+    kept(alloc, disk, names, wanted)
+}
+
+/// What an opening asks of the query and the logs.
+#[derive(Debug, Drop)]
+struct Asked {
+    streams: Sequence<Watermarked>,
+    parts: Sequence<u32>,
+    found: Sequence<PartEnd>,
+}
+
+fn asked_of(alloc: Global, bound: &Bound, lens: &Lens) -> Result<Asked, AllocError>
+    requires few { All IsFew lens.now.streams }
+    requires each { length lens.now.streams ≡ length bound.now.streams }
+    requires fits { length bound.now.streams ≤ 2 ^ 32 }
+    ensures streams { IfOk result (λ asked. asked.streams ≡ watermarked bound.now.streams) }
+    ensures parts { IfOk result (λ asked. asked.parts ≡ counts_of lens.now.streams) }
+    ensures found { IfOk result (λ asked. asked.found ≡ found_from 0 lens.now.streams) }
+{
+    let streams = watermarked_among(alloc, bound.streams.as_slice())?;
+    let parts = counts_of(alloc, lens.streams.as_slice())?;
+    let found = found_in(alloc, lens.streams.as_slice())?;
+    Ok(Asked {
+        streams,
+        parts,
+        found,
+    })
+}
+
+/// Opens the checkpoint of a query and says what it holds. Where no file is there, the checkpoint is begun: it gets the job's record
+/// alone, with one partition where none are asked for.
+///
+/// The names are synced first. Then each check comes where those before it are met: the job's record is there and canonical
+/// (`Damaged`); it is of this query (`OtherQuery`) and has one number of parts for each stream (`Damaged`), the partitions that
+/// are asked for (`OtherPartitions`), and the parts that are found (`OtherParts`); the plans are there from epoch 0 on without a
+/// gap, canonical, each with its own number below 4294967295 and one end for each part in order, and no end falls (`Damaged`, as
+/// for all files that follow); the commits are there for all planned epochs but the last, and for that or not, canonical, each
+/// with its own number and one line for each watermarked stream in order; each plan has the watermark that the commit before it
+/// gives; the sink files of the committed epochs are there, and no other but that of the epoch which is planned and not committed;
+/// there is no file of the state; and of each part as many lines are found as are planned (`LogShort`). `Damaged` names the first
+/// file in this order, and within a step by number.
+///
+/// The query keeps no state. Each plan and commit is read once, in order, and no sink file and no log is read.
+pub fn open<D: Disk>(
+    alloc: Global,
+    disk: &mut D,
+    bound: &Bound,
+    partitions: Option<u32>,
+    lens: &Lens,
+) -> Result<Opened, OpenFault>
+    requires { CanBeAsked bound.now partitions lens.now }
+
+    // What is found is settled, and no crash can leave anything else.
+    ensures opened { D.tells → IfOk result (IsOpen (asked bound.now partitions lens.now)
+        (files_now (D.history disk.old)) (D.history disk.new)) }
+    ensures refused { D.tells → IfErr result (IsRefused (asked bound.now partitions lens.now)
+        (files_now (D.history disk.old)) (files_now (D.history disk.new))) }
+
+    // A crash at any moment leaves what it might have left before, or, of an empty checkpoint, the job's record alone.
+    ensures any_moment { D.tells → LeavesOnly (D.history disk.old) (D.history disk.new)
+        (IsImageOpening (asked bound.now partitions lens.now) (had_now (D.history disk.old))) }
+
+    // Once the names are synced a crash leaves the files as they were, or, of an empty checkpoint, the job's record alone.
+    ensures synced { D.tells → OnOk result (SyncedSince (D.history disk.old) (D.history disk.new)
+        (IsBegun (asked bound.now partitions lens.now) (files_now (D.history disk.old)))) }
+    ensures unfinished { D.tells → OnErr result (IsOpening (asked bound.now partitions lens.now)
+        (D.history disk.old) (D.history disk.new)) }
+
+    // A fault of the disk is answered only where it was counted.
+    ensures counted { D.faults disk.old ≤ D.faults disk.new }
+    ensures cause { IfErr result (λ fault. DiskRises fault (D.faults disk.old) (D.faults disk.new)) }
+{
+    let asked = asked_of(alloc, bound, lens)?;
+    let wanted = Wanted {
+        query: &bound.text,
+        streams: asked.streams.as_slice(),
+        partitions,
+        parts: asked.parts.as_slice(),
+        found: asked.found.as_slice(),
+    };
+    open_wanted(alloc, disk, &wanted)
+}
