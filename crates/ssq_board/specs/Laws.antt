@@ -1,5 +1,5 @@
 -- What follows of entries: that they are legal events of the machine.
-use Rattle.std.specs.Prelude.{◌≡◌, ◌≤◌, ◌<◌, ◌+◌, ℕ, Bool, true, false, List, [], ◌∷◌, Option, Some, None, is_some}
+use Rattle.std.specs.Prelude.{◌≡◌, ◌≤◌, ◌<◌, ◌+◌, ◌⊎◌, ℕ, Bool, true, false, List, [], ◌∷◌, Option, Some, None, is_some}
 use Rattle.ssq_outside.specs.declared.name.Name.{Name}
 use Rattle.ssq_outside.specs.declared.gate.TaskId.{TaskId}
 use Rattle.ssq_outside.specs.Files.{Files}
@@ -7,8 +7,11 @@ use Rattle.ssq_core.specs.Course.{Cuts, Job}
 use Rattle.ssq_core.specs.Machine.{Desk, opened}
 use Rattle.ssq_core.specs.Machine as machine
 use Rattle.ssq_board.specs.declared.front.Entry.{Entry}
-use Rattle.ssq_board.specs.Core.{Scope, Core, events_of, events_all}
+use Rattle.ssq_board.specs.Core.{Scope, Core, May, IsFull, after, is_open, is_behind, ready_of, events_of, events_all}
 use Rattle.ssq_board.specs.Shown.{Start, IsStart, IsSound, first}
+use Rattle.ssq_board.specs.declared.front.Entry.TheVariants as entry
+use Rattle.ssq_board.specs.declared.front.Ready.TheVariants as ready
+use Rattle.ssq_board.specs.Rounds.{WaitsFor}
 use Rattle.ssq_board.specs.Told.{IsTold}
 use Rattle.ssq_board.specs.Follows.{Terms, State, Step, Leads, Shows, shown}
 
@@ -36,3 +39,22 @@ FirstShows = (job : Job) (r : Scope) (due : Cuts → ℕ → Bool) (terms : Term
 abbrev pub SoundAndTold : Type 0 → Type 0
 SoundAndTold tells = (job : Job) (r : Scope) (due : Cuts → ℕ → Bool) (st : Start) (es : List Entry) (s n : State) → IsStart r st → s.core ≡ first r st → Leads tells job r due s es n
     → IsSound r n.core × IsTold r st es n.core
+
+-- what is so of a desk stays so
+abbrev pub EntryKeepsSound : Type 0
+EntryKeepsSound = (r : Scope) (c : Core) (e : Entry) → May r c e → IsSound r c → IsSound r (after r c e)
+
+abbrev pub FirstIsSound : Type 0
+FirstIsSound = (r : Scope) (s : Start) → IsStart r s → IsSound r (first r s)
+
+-- What is next may come: `ready_of` names an entry that may.
+pub record NamesWhatMay (r : Scope) (c : Core) : Type 0 where
+  pub plan : ready_of r c ≡ ready.Plan → c.front.planned < 4294967295 → May r c (entry.Plan c.front.planned)
+  pub full : ready_of r c ≡ ready.Plan → c.front.planned ≡ 4294967295 → IsFull r c
+  pub task : ready_of r c ≡ ready.Task → WaitsFor c
+  pub commit : ready_of r c ≡ ready.Commit → (due : Bool) → May r c (entry.Commit c.front.committed due)
+  pub sync : ready_of r c ≡ ready.Sync → (c.front.stop ≡ None) × ((c.front.settled ≡ false) ⊎ ((is_open c ≡ true) × (c.front.fresh ≡ false)))
+  pub over : ready_of r c ≡ ready.Over → (c.front.stop ≡ None) × (c.front.planned ≤ c.front.committed) × (c.front.settled ≡ true) × (is_behind c.ends r.available ≡ false) × (c.front.due ≡ false)
+
+abbrev pub ReadyNames : Type 0
+ReadyNames = (r : Scope) (c : Core) → NamesWhatMay r c

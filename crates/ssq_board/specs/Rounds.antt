@@ -1,6 +1,6 @@
 -- What is left of a round, and what each turn of it does on one thread.
 use Rattle.std.specs.Prelude.{◌≡◌, ◌⊎◌, ◌+◌, ◌-◌, ◌*◌, ◌≤◌, ◌<◌, ◌&&◌, not, nat_lt, ℕ, zero, suc, Bool, true, false, List, [], ◌∷◌, length, Option, Some, None, if◌then◌else◌}
-use Rattle.std.specs.List.{list_any}
+use Rattle.std.specs.List.{list_all, list_any}
 use Rattle.ssq_outside.specs.declared.gate.TaskId.{TaskId}
 use Rattle.ssq_plans.specs.declared.part.PartEnd.{PartEnd}
 use Rattle.ssq_core.specs.Course.{Ends}
@@ -9,7 +9,7 @@ use Rattle.ssq_board.specs.declared.front.Place.{Place}
 use Rattle.ssq_board.specs.declared.front.Place.TheVariants as place
 use Rattle.ssq_board.specs.declared.front.Entry.{Entry}
 use Rattle.ssq_board.specs.declared.front.Entry.TheVariants as entry
-use Rattle.ssq_board.specs.Core.{Scope, Core, May, after_all, is_stopped, is_open, need}
+use Rattle.ssq_board.specs.Core.{Scope, Core, May, after_all, is_stopped, is_open, is_waiting, is_fine, need}
 
 -- these entries came, or the desk is stopped
 abbrev pub Comes : Scope → Core → Core → List Entry → Type 0
@@ -55,3 +55,11 @@ is_away _ = false
 
 abbrev pub nobody_away : Core → Bool
 nobody_away c = not (list_any is_away c.maps) && (not (list_any is_away c.reduces) && not (list_any is_away c.outs))
+
+-- Where a task may be handed out, it is the first that waits of the first kind of which one waits.
+pub record WaitsFor (c : Core) : Type 0 where
+  pub running : c.front.stop ≡ None
+  pub opened : is_open c ≡ true
+  pub fresh : c.front.fresh ≡ true
+  pub first : (list_any is_waiting c.maps ≡ true) ⊎ ((list_any is_waiting c.maps ≡ false) × (list_all is_fine c.maps ≡ true)
+      × ((list_any is_waiting c.reduces ≡ true) ⊎ ((list_any is_waiting c.reduces ≡ false) × (list_all is_fine c.reduces ≡ true) × (list_any is_waiting c.outs ≡ true))))

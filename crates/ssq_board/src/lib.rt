@@ -6,5 +6,7 @@
 #![tactic(auto)]
 
 mod front;
+mod law;
 
 pub use front::{Cause, Entry, Front, Place, Ready, RowFault};
+pub use law::follows;
