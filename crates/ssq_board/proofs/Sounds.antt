@@ -72,7 +72,7 @@ and_same a e = ap (λ x. a && x) e
 
 away_here : (ps : List Place) (t : ℕ) → get_elem? ps t ≡ some place.Waits → list_all is_here (set ps t place.Away) ≡ list_all is_here ps
 away_here [] t e = absurd (some-ne-none place.Waits (sym e))
-away_here (p ∷ ps) zero e = ap (λ x. is_here x && list_all is_here ps) (sym (some-injective p place.Waits e)) 
+away_here (p ∷ ps) zero e = ap (λ x. is_here x && list_all is_here ps) (sym (some-injective p place.Waits e))
 away_here (p ∷ ps) (suc t) e = and_same (is_here p) (away_here ps t e)
 
 away_due : (ps : List Place) (t : ℕ) → get_elem? ps t ≡ some place.Waits → due_stop (set ps t place.Away) ≡ due_stop ps

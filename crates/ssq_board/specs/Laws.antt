@@ -1,18 +1,19 @@
 -- What follows of entries: that they are legal events of the machine.
-use Rattle.std.specs.Prelude.{◌≡◌, ◌≤◌, ◌<◌, ◌+◌, ◌⊎◌, ℕ, Bool, true, false, List, [], ◌∷◌, Option, Some, None, is_some}
+use Rattle.std.specs.Prelude.{◌≡◌, ◌≤◌, ◌<◌, ◌+◌, ◌*◌, ◌⊎◌, length, ℕ, Bool, true, false, List, [], ◌∷◌, Option, Some, None, is_some}
 use Rattle.ssq_outside.specs.declared.name.Name.{Name}
 use Rattle.ssq_outside.specs.declared.gate.TaskId.{TaskId}
 use Rattle.ssq_outside.specs.Files.{Files}
+use Rattle.ssq_outside.specs.History.{History}
 use Rattle.ssq_core.specs.Course.{Cuts, Job}
 use Rattle.ssq_core.specs.Machine.{Desk, opened}
 use Rattle.ssq_core.specs.Machine as machine
 use Rattle.ssq_board.specs.declared.front.Entry.{Entry}
-use Rattle.ssq_board.specs.Core.{Scope, Core, May, IsFull, after, is_open, is_behind, ready_of, events_of, events_all}
+use Rattle.ssq_board.specs.Core.{Scope, Core, May, IsFull, after, is_open, is_behind, need, ready_of, events_of, events_all}
 use Rattle.ssq_board.specs.Shown.{Start, IsStart, IsSound, first}
 use Rattle.ssq_board.specs.declared.front.Entry.TheVariants as entry
 use Rattle.ssq_board.specs.declared.front.Ready.TheVariants as ready
-use Rattle.ssq_board.specs.Rounds.{WaitsFor}
-use Rattle.ssq_board.specs.Told.{IsTold}
+use Rattle.ssq_board.specs.Rounds.{WaitsFor, HasCap, Comes, Worked, spends, left}
+use Rattle.ssq_board.specs.Told.{IsTold, IsCovered}
 use Rattle.ssq_board.specs.Follows.{Terms, State, Step, Leads, Shows, shown}
 
 -- From a desk that the state shows, each list of entries that came is a legal list of events of the machine, and leads to a desk that
@@ -35,10 +36,10 @@ pub record IsOpenedAt (job : Job) (r : Scope) (next_due : Cuts → ℕ → Bool)
 abbrev pub FirstShows : Type 0
 FirstShows = (job : Job) (r : Scope) (due : Cuts → ℕ → Bool) (terms : Terms job r due) (s : Start) (files : Files) (d : Desk) → IsOpenedAt job r due terms s d → opened job files d → IsSound r (first r s) × Shows job r due terms (first r s) d
 
--- What is so of every state that entries lead to, whatever the disk and the logs tell.
+-- What is so of every state that entries lead to, whatever the disk and the logs tell; and what it means that a round is over.
 abbrev pub SoundAndTold : Type 0 → Type 0
 SoundAndTold tells = (job : Job) (r : Scope) (due : Cuts → ℕ → Bool) (st : Start) (es : List Entry) (s n : State) → IsStart r st → s.core ≡ first r st → Leads tells job r due s es n
-    → IsSound r n.core × IsTold r st es n.core
+    → IsSound r n.core × IsTold r st es n.core × (ready_of r n.core ≡ ready.Over → IsCovered r st es n.core)
 
 -- what is so of a desk stays so
 abbrev pub EntryKeepsSound : Type 0
@@ -58,3 +59,22 @@ pub record NamesWhatMay (r : Scope) (c : Core) : Type 0 where
 
 abbrev pub ReadyNames : Type 0
 ReadyNames = (r : Scope) (c : Core) → NamesWhatMay r c
+
+-- Room: what an entry spends was kept for it, and a sync spends none.
+pub record Spends (r : Scope) (c : Core) : Type 0 where
+  pub falls : (e : Entry) → May r c e → spends e ≡ true → need (after r c e) + 1 ≤ need c
+  pub sync : (clock : ℕ) → May r c (entry.Sync clock) → need (after r c (entry.Sync clock)) ≡ need c
+  pub bound : need c ≤ 2 * (length r.available + r.partitions) + 5
+
+abbrev pub RoomIsKept : Type 0
+RoomIsKept = (r : Scope) (c : Core) → IsSound r c → Spends r c
+
+-- Each turn of a round on one thread leaves less to do.
+pub record Falls (r : Scope) (c n : Core) : Type 0 where
+  pub plan : HasCap r.cap → (e : ℕ) → May r c (entry.Plan e) → Comes r c n (entry.Plan e ∷ []) → left r n < left r c
+  pub work : Worked r c n → left r n < left r c
+  pub sync : (clock : ℕ) → ready_of r c ≡ ready.Sync → Comes r c n (entry.Sync clock ∷ []) → left r n < left r c
+  pub commit : (e : ℕ) (due : Bool) → May r c (entry.Commit e due) → Comes r c n (entry.Commit e due ∷ []) → left r n < left r c
+
+abbrev pub TurnsFall : Type 0
+TurnsFall = (r : Scope) (c n : Core) → IsSound r c → Falls r c n

@@ -2,6 +2,8 @@
 use Rattle.std.specs.Prelude.{◌≡◌, ◌⊎◌, ◌+◌, ◌-◌, ◌*◌, ◌≤◌, ◌<◌, ◌&&◌, not, nat_lt, ℕ, zero, suc, Bool, true, false, List, [], ◌∷◌, length, Option, Some, None, if◌then◌else◌}
 use Rattle.std.specs.List.{list_all, list_any}
 use Rattle.ssq_outside.specs.declared.gate.TaskId.{TaskId}
+use Rattle.ssq_outside.specs.declared.gate.Kind.{Kind}
+use Rattle.ssq_outside.specs.declared.gate.Kind.TheVariants as kind
 use Rattle.ssq_plans.specs.declared.part.PartEnd.{PartEnd}
 use Rattle.ssq_core.specs.Course.{Ends}
 use Rattle.ssq_board.specs.declared.front.Cause.{Cause}
@@ -9,16 +11,33 @@ use Rattle.ssq_board.specs.declared.front.Place.{Place}
 use Rattle.ssq_board.specs.declared.front.Place.TheVariants as place
 use Rattle.ssq_board.specs.declared.front.Entry.{Entry}
 use Rattle.ssq_board.specs.declared.front.Entry.TheVariants as entry
-use Rattle.ssq_board.specs.Core.{Scope, Core, May, after_all, is_stopped, is_open, is_waiting, is_fine, need}
+use Rattle.ssq_board.specs.Core.{Scope, Core, May, after_all, is_stopped, is_open, is_waiting, is_fine, tasks_of, need}
 
 -- these entries came, or the desk is stopped
 abbrev pub Comes : Scope → Core → Core → List Entry → Type 0
 Comes r c n es = (n ≡ after_all r c es) ⊎ (is_stopped n.front.stop ≡ true)
 
--- a task was claimed, and its result is back; an out task's rows are published
+-- an epoch may take lines
+abbrev pub HasCap : Option ℕ → Type 0
+HasCap None = Unit {0}
+HasCap (Some most) = 0 < most
+
+-- all entries but plans and syncs spend of the room that was taken for them
+abbrev pub spends : Entry → Bool
+spends (entry.Plan e) = false
+spends (entry.Sync clock) = false
+spends _ = true
+
+-- A task was claimed, and its result is back; the rows of an out task without a fault are published.
+abbrev pub brings_rows : Kind → Option Cause → Bool
+brings_rows kind.Out None = true
+brings_rows _ f = false
+
+abbrev pub works : TaskId → Option Cause → ℕ → List Entry
+works t f e = entry.Claim t ∷ entry.Report t f ∷ (if brings_rows t.kind f then entry.OutFile e ∷ [] else [])
+
 abbrev pub Worked : Scope → Core → Core → Type 0
-Worked r c n = (t : TaskId) × (f : Option Cause) × May r c (entry.Claim t)
-    × (Comes r c n (entry.Claim t ∷ entry.Report t f ∷ []) ⊎ ((e : ℕ) × Comes r c n (entry.Claim t ∷ entry.Report t f ∷ entry.OutFile e ∷ [])))
+Worked r c n = (t : TaskId) × (f : Option Cause) × May r c (entry.Claim t) × Comes r c n (works t f c.front.committed)
 
 -- how many lines no plan covers
 abbrev pub lines_left : Ends → List ℕ → ℕ
@@ -48,13 +67,14 @@ weight r = 4 * (length r.available + r.partitions) + 15
 abbrev pub left : Scope → Core → ℕ
 left r c = if is_stopped c.front.stop then 0 else 1 + (weigh (weight r) (epochs_left r c) + 2 * need c + one_if (not c.front.settled) + one_if (is_open c && not c.front.fresh))
 
--- nobody has a task
+-- Between two turns on one thread: nobody has a task, and the rows of an out task that brought them are published.
 abbrev pub is_away : Place → Bool
 is_away place.Away = true
 is_away _ = false
 
-abbrev pub nobody_away : Core → Bool
-nobody_away c = not (list_any is_away c.maps) && (not (list_any is_away c.reduces) && not (list_any is_away c.outs))
+pub record IsAtRest (c : Core) : Type 0 where
+  pub here : (k : Kind) → list_any is_away (tasks_of k c) ≡ false
+  pub outs : is_open c ≡ true → c.front.stop ≡ None → (c.outs ≡ place.Waits ∷ []) ⊎ (c.front.written ≡ true)
 
 -- Where a task may be handed out, it is the first that waits of the first kind of which one waits.
 pub record WaitsFor (c : Core) : Type 0 where

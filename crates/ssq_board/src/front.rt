@@ -25,7 +25,11 @@ pub enum Cause {
         fault: RowFault,
     },
     /// An expression overflowed on the row of this line.
-    Overflow { stream: u32, part: u32, offset: u64 },
+    Overflow {
+        stream: u32,
+        part: u32,
+        offset: u64,
+    },
     /// A log failed.
     LogFault,
     /// A part has fewer lines than a plan says.
@@ -36,7 +40,9 @@ pub enum Cause {
         found: u64,
     },
     /// A file is absent, or not what its name says.
-    Damaged { name: Name },
+    Damaged {
+        name: Name,
+    },
     /// The disk failed.
     DiskFault,
     /// As many epochs are planned as there may be.

@@ -1,12 +1,23 @@
 //! What holds of every list of entries.
 
-ghost use Rattle.ssq_board.specs.Laws.{EntryKeepsSound, FirstIsSound, ReadyNames};
+ghost use Rattle.ssq_board.specs.Laws.{EntryKeepsSound, FirstIsSound, FirstShows, FollowsMachine, ReadyNames, RoomIsKept, SoundAndTold, TurnsFall};
 
 use ssq_outside::{Disk, Log};
 
-/// The law of entries.
-pub fn follows<D: Disk, L: Log>()
+/// The law of one entry: it keeps what is so of a desk, spends of the room that was kept for it, and is what `Desk::ready` names. Each
+/// turn of a round on one thread leaves less to do.
+pub fn entry<D: Disk>()
     ensures begins { FirstIsSound }
     ensures kept { EntryKeepsSound }
     ensures next { ReadyNames }
+    ensures room { RoomIsKept }
+    ensures falls { TurnsFall }
+{}
+
+/// The law of every list of entries that came: it is a legal list of events of the machine, and tells what it acknowledged. What is
+/// said of contents holds where disk and logs tell them.
+pub fn entries<D: Disk, L: Log>()
+    ensures first { FirstShows }
+    ensures legal { FollowsMachine (D.tells × L.tells) }
+    ensures told { SoundAndTold (D.tells × L.tells) }
 {}

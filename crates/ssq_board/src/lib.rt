@@ -9,4 +9,4 @@ mod front;
 mod law;
 
 pub use front::{Cause, Entry, Front, Place, Ready, RowFault};
-pub use law::follows;
+pub use law::{entries, entry};
