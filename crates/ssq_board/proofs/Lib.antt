@@ -8,3 +8,4 @@ pub mod Opening
 pub mod Telling
 pub mod Needs
 pub mod Falls
+pub mod Resting

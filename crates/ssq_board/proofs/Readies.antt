@@ -14,11 +14,11 @@ use Rattle.ssq_board.specs.Rounds.{WaitsFor}
 use Rattle.ssq_board.proofs.Sounds.{running_of, open_not}
 
 -- where a test leads to another answer than the one that came, it failed
-past : (b : Bool) (x y z : Ready) → (if b then x else y) ≡ z → (x ≡ z → ⊥) → (b ≡ false) × (y ≡ z)
+pub past : (b : Bool) (x y z : Ready) → (if b then x else y) ≡ z → (x ≡ z → ⊥) → (b ≡ false) × (y ≡ z)
 past true x y z e never = absurd (never e)
 past false x y z e never = (refl, e)
 
-chosen : (b : Bool) (x y z : Ready) → (if b then x else y) ≡ z → ((b ≡ true) × (x ≡ z)) ⊎ ((b ≡ false) × (y ≡ z))
+pub chosen : (b : Bool) (x y z : Ready) → (if b then x else y) ≡ z → ((b ≡ true) × (x ≡ z)) ⊎ ((b ≡ false) × (y ≡ z))
 chosen true x y z e = inl (refl, e)
 chosen false x y z e = inr (refl, e)
 
@@ -26,7 +26,7 @@ not_false : (b : Bool) → not b ≡ false → b ≡ true
 not_false true e = refl
 not_false false e = absurd (true≢false e)
 
-not_true : (b : Bool) → not b ≡ true → b ≡ false
+pub not_true : (b : Bool) → not b ≡ true → b ≡ false
 not_true false e = refl
 not_true true e = absurd (true≢false (sym e))
 

@@ -8,11 +8,11 @@ use Rattle.ssq_core.specs.Course.{Cuts, Job}
 use Rattle.ssq_core.specs.Machine.{Desk, opened}
 use Rattle.ssq_core.specs.Machine as machine
 use Rattle.ssq_board.specs.declared.front.Entry.{Entry}
-use Rattle.ssq_board.specs.Core.{Scope, Core, May, IsFull, after, is_open, is_behind, need, ready_of, events_of, events_all}
+use Rattle.ssq_board.specs.Core.{Scope, Core, May, IsFull, after, is_open, is_stopped, is_behind, need, ready_of, events_of, events_all}
 use Rattle.ssq_board.specs.Shown.{Start, IsStart, IsSound, first}
 use Rattle.ssq_board.specs.declared.front.Entry.TheVariants as entry
 use Rattle.ssq_board.specs.declared.front.Ready.TheVariants as ready
-use Rattle.ssq_board.specs.Rounds.{WaitsFor, HasCap, Comes, Worked, spends, left}
+use Rattle.ssq_board.specs.Rounds.{WaitsFor, HasCap, Comes, Worked, IsAtRest, spends, left}
 use Rattle.ssq_board.specs.Told.{IsTold, IsCovered}
 use Rattle.ssq_board.specs.Follows.{Terms, State, Step, Leads, Shows, shown}
 
@@ -78,3 +78,15 @@ pub record Falls (r : Scope) (c n : Core) : Type 0 where
 
 abbrev pub TurnsFall : Type 0
 TurnsFall = (r : Scope) (c n : Core) → IsSound r c → Falls r c n
+
+-- On one thread Idle never comes: between two turns nobody has a task, each turn leaves it so or the desk stopped, and then something
+-- can be done, or the round is over.
+pub record Rests (r : Scope) (c n : Core) : Type 0 where
+  pub never_idle : ready_of r c ≡ ready.Idle → ⊥
+  pub plan : (e : ℕ) → Comes r c n (entry.Plan e ∷ []) → IsAtRest n ⊎ (is_stopped n.front.stop ≡ true)
+  pub work : Worked r c n → IsAtRest n ⊎ (is_stopped n.front.stop ≡ true)
+  pub sync : (clock : ℕ) → ready_of r c ≡ ready.Sync → Comes r c n (entry.Sync clock ∷ []) → IsAtRest n ⊎ (is_stopped n.front.stop ≡ true)
+  pub commit : (e : ℕ) (due : Bool) → Comes r c n (entry.Commit e due ∷ []) → IsAtRest n ⊎ (is_stopped n.front.stop ≡ true)
+
+abbrev pub TurnsRest : Type 0
+TurnsRest = ((r : Scope) (s : Start) → IsAtRest (first r s)) × ((r : Scope) (c n : Core) → IsSound r c → IsAtRest c → Rests r c n)
