@@ -1,0 +1,11 @@
+pub mod Lists
+pub mod Sounds
+pub mod Readies
+pub mod Placing
+pub mod Planning
+pub mod Following
+pub mod Opening
+pub mod Telling
+pub mod Needs
+pub mod Falls
+pub mod Resting

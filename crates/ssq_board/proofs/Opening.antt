@@ -1,0 +1,103 @@
+-- What the machine's Open leaves is shown by the first state.
+use Rattle.std.proofs.Common.{◌≡◌, ◌⊎◌, ◌+◌, ◌≤◌, ◌<◌, nat_lt, ℕ, zero, suc, Bool, true, false, true≢false, List, [], ◌∷◌, length, replicate, Option, Some, None, is_some, sym, refl, ap, ◌∙◌, subst, inl, inr, arith}
+use mathlib.Core.Option.{some, some-ne-none}
+use lib.ListN.{get_elem?}
+use Rattle.ssq_outside.specs.declared.name.Name.{Name}
+use Rattle.ssq_outside.specs.declared.name.Name.TheVariants as name
+use Rattle.ssq_outside.specs.declared.gate.TaskId.{TaskId}
+use Rattle.ssq_outside.specs.declared.gate.Kind.{Kind}
+use Rattle.ssq_outside.specs.declared.gate.Kind.TheVariants as kind
+use Rattle.ssq_outside.specs.Files.{Files}
+use Rattle.ssq_core.specs.Course.{Cuts, Job}
+use Rattle.ssq_core.specs.Machine.{Desk, opened, out_task}
+use Rattle.ssq_core.specs.Machine as machine
+use Rattle.ssq_core.specs.Sound.{AreProper}
+use Rattle.ssq_board.specs.declared.front.Place.{Place}
+use Rattle.ssq_board.specs.declared.front.Place.TheVariants as place
+use Rattle.ssq_board.specs.Core.{Scope, Core, dealt, has_line, has_line_at, is_open, tasks_of}
+use Rattle.ssq_board.specs.Shown.{Start, IsStart, planned_by, first_place, first_by}
+use Rattle.ssq_board.specs.Follows.{Terms, map_task, ShowsAt, Shows}
+use Rattle.ssq_board.proofs.Lists.{at_length, replicate_length, replicate_at, one_at, dealt_at, dealt_length, line_below, nat_lt-is, nat_lt-not}
+
+module _ (job : Job) (r : Scope) (next : Cuts → ℕ → Bool) (terms : Terms job r next) (s : Start) (files : Files) (d : Desk) (committed : d.committed ≡ s.committed)
+    (begins : d.cuts 0 ≡ terms.start) (from : d.cuts s.committed ≡ s.from) (op : opened job files d) where
+  there_of : (q : Name) → is_some (files q) ≡ true → d.there q ≡ true
+  there_of q h = op.2 q ∙ h
+
+  sure_of : (q : Name) → is_some (files q) ≡ true → d.sure q ≡ true
+  sure_of q h = op.3 q ∙ h
+
+  plan_file : (b : Bool) → d.planned ≡ planned_by b s.committed → (e : ℕ) → e < planned_by b s.committed → is_some (files (name.Plan e)) ≡ true
+  plan_file b planned e less = op.0.needed (name.Plan e) (nat_lt-is e d.planned (omega (arith, planned)))
+
+  commit_file : (e : ℕ) → e < s.committed → is_some (files (name.Commit e)) ≡ true
+  commit_file e less = op.0.needed (name.Commit e) (nat_lt-is e d.committed (omega (arith, committed)))
+
+  shows_it : (t : TaskId) (p : Place) → p ≡ place.Waits → (job.course d.cuts).is_task t ≡ true → ShowsAt (job.course d.cuts) t (d.tasks t) p
+  shows_it t p is task = subst (ShowsAt (job.course d.cuts) t (d.tasks t)) (sym is) (task, op.4 t)
+
+  pub shows_first : (b : Bool) → d.planned ≡ planned_by b s.committed → d.cuts (planned_by b s.committed) ≡ s.to → (b ≡ false → s.due ≡ next d.cuts s.committed) → Shows job r next terms (first_by b r s) d
+  shows_first false planned to due = record {
+    planned = planned;
+    committed = committed;
+    starts = begins;
+    ends = to;
+    proper = subst (λ (n : ℕ). AreProper job d.cuts n) planned op.1;
+    settled = λ h q there. op.3 q ∙ sym (op.2 q) ∙ there;
+    plan_there = λ e less. there_of (name.Plan e) (plan_file false planned e less);
+    plan_settled = λ o. absurd (true≢false (sym o ∙ closed));
+    commits = λ e less. there_of (name.Commit e) (commit_file e less);
+    written = λ o. absurd (true≢false (sym o ∙ closed));
+    tasks = λ o. absurd (true≢false (sym o ∙ closed));
+    mapped = λ o. absurd (true≢false (sym o ∙ closed));
+    claimed = λ t epoch. inl (op.4 t);
+    later = λ t le. op.4 t;
+    has_lines = λ o. absurd (true≢false (sym o ∙ closed));
+    due = λ h. due refl;
+  }
+    where
+      closed : nat_lt s.committed s.committed ≡ false
+      closed = nat_lt-not s.committed s.committed (omega arith)
+  shows_first true planned to due = record {
+    planned = planned;
+    committed = committed;
+    starts = begins;
+    ends = to;
+    proper = subst (λ (n : ℕ). AreProper job d.cuts n) planned op.1;
+    settled = λ h q there. op.3 q ∙ sym (op.2 q) ∙ there;
+    plan_there = λ e less. there_of (name.Plan e) (plan_file true planned e less);
+    plan_settled = λ o f. sure_of (name.Plan s.committed) (plan_file true planned s.committed (omega arith));
+    commits = λ e less. there_of (name.Commit e) (commit_file e less);
+    written = λ o w. absurd (true≢false (sym w));
+    tasks = λ o t p epoch here. by_kind t.kind t p refl epoch here;
+    mapped = λ o i is. (let b = line_below s.from s.to i (sym (map_is i) ∙ is) in let l = dealt_length s.from s.to in omega arith);
+    claimed = λ t epoch. inl (op.4 t);
+    later = λ t le. op.4 t;
+    has_lines = λ o h. (λ i. has_line (from i) (to i)) ∙ h;
+    due = λ h. absurd (true≢false (sym (nat_lt-is s.committed (s.committed + 1) (omega arith)) ∙ h));
+  }
+    where
+      map_is : (i : ℕ) → (job.course d.cuts).is_task (map_task s.committed i) ≡ has_line_at s.from s.to i
+      map_is i = terms.maps d.cuts s.committed i ∙ (λ j. has_line_at (from j) (to j) i)
+
+      as_task : (k : Kind) (t : TaskId) → t.kind ≡ k → t.epoch ≡ s.committed → t ≡ record { epoch = s.committed; kind = k; number = t.number }
+      as_task k t same epoch = λ i. record { epoch = epoch i; kind = same i; number = t.number }
+
+      by_kind : (k : Kind) (t : TaskId) (p : Place) → t.kind ≡ k → t.epoch ≡ s.committed → get_elem? (tasks_of k (first_by true r s)) t.number ≡ some p → ShowsAt (job.course d.cuts) t (d.tasks t) p
+      by_kind kind.Map t p same epoch here =
+          let it = as_task kind.Map t same epoch in
+          let task_is = ap (job.course d.cuts).is_task it ∙ map_is t.number in
+          elim (dealt_at s.from s.to t.number p here) [
+            | inl x ↦ shows_it t p x.0 (task_is ∙ x.1)
+            | inr x ↦ subst (ShowsAt (job.course d.cuts) t (d.tasks t)) (sym x.0) (task_is ∙ x.1)
+          ]
+      by_kind kind.Reduce t p same epoch here =
+          let it = as_task kind.Reduce t same epoch in
+          let task_is = ap (job.course d.cuts).is_task it ∙ terms.reduces d.cuts s.committed t.number in
+          let below : t.number < r.partitions = (let a = at_length (replicate r.partitions (first_place true)) t.number p here in let l = replicate_length r.partitions (first_place true) in omega arith) in
+          shows_it t p (replicate_at r.partitions t.number (first_place true) p here) (task_is ∙ nat_lt-is t.number r.partitions below)
+      by_kind kind.Out t p same epoch here =
+          let o = one_at place.Waits p t.number here in
+          let it : t ≡ out_task s.committed = (λ i. record { epoch = epoch i; kind = same i; number = o.0 i }) in
+          shows_it t p o.1 (ap (job.course d.cuts).is_task it ∙ terms.outs d.cuts s.committed)
+      by_kind kind.Upkeep t p same epoch here = absurd (some-ne-none p (sym here))

@@ -1,0 +1,215 @@
+-- What is next may come.
+use Rattle.std.proofs.Common.{◌≡◌, ◌⊎◌, ◌<◌, ◌≤◌, ◌&&◌, ◌||◌, not, ℕ, Bool, true, false, true≢false, List, [], ◌∷◌, Option, Some, None, nat_lt, if◌then◌else◌, sym, refl, ap, ◌∙◌, subst, inl, inr, arith, rules}
+use Rattle.std.specs.List.{list_all, list_any}
+use mathlib.Core.Option.{some}
+use lib.ListN.{get_elem?}
+use Rattle.ssq_outside.specs.declared.gate.TaskId.{TaskId}
+use Rattle.ssq_outside.specs.declared.gate.Kind.TheVariants as kind
+use Rattle.ssq_board.specs.declared.front.Place.TheVariants as place
+use Rattle.ssq_board.specs.declared.front.Ready.{Ready}
+use Rattle.ssq_board.specs.declared.front.Ready.TheVariants as ready
+use Rattle.ssq_board.specs.declared.front.Entry.TheVariants as entry
+use Rattle.ssq_board.specs.Core.{Scope, Core, May, IsFull, is_open, is_fine, is_waiting, is_stopped, is_more, is_behind, ready_tasks, ready_of}
+use Rattle.ssq_board.specs.Rounds.{WaitsFor}
+use Rattle.ssq_board.proofs.Sounds.{running_of, open_not}
+
+-- where a test leads to another answer than the one that came, it failed
+pub past : (b : Bool) (x y z : Ready) → (if b then x else y) ≡ z → (x ≡ z → ⊥) → (b ≡ false) × (y ≡ z)
+past true x y z e never = absurd (never e)
+past false x y z e never = (refl, e)
+
+pub chosen : (b : Bool) (x y z : Ready) → (if b then x else y) ≡ z → ((b ≡ true) × (x ≡ z)) ⊎ ((b ≡ false) × (y ≡ z))
+chosen true x y z e = inl (refl, e)
+chosen false x y z e = inr (refl, e)
+
+not_false : (b : Bool) → not b ≡ false → b ≡ true
+not_false true e = refl
+not_false false e = absurd (true≢false e)
+
+pub not_true : (b : Bool) → not b ≡ true → b ≡ false
+not_true false e = refl
+not_true true e = absurd (true≢false (sym e))
+
+or_parts : (a b : Bool) → (a || b) ≡ false → (a ≡ false) × (b ≡ false)
+or_parts false b e = (refl, e)
+or_parts true b e = absurd (true≢false e)
+
+-- the end of the chain where an epoch runs
+tasks_commit : (c : Core) → ready_tasks c ≡ ready.Commit → (c.front.fresh ≡ true) × (c.front.written ≡ true) × (c.front.settled ≡ true)
+tasks_commit c e =
+    let a = past (not c.front.fresh) _ _ _ e (λ x. cc) in
+    let b = past (list_any is_waiting c.maps) _ _ _ a.1 (λ x. cc) in
+    let d = past (not (list_all is_fine c.maps)) _ _ _ b.1 (λ x. cc) in
+    let f = past (list_any is_waiting c.reduces) _ _ _ d.1 (λ x. cc) in
+    let g = past (not (list_all is_fine c.reduces)) _ _ _ f.1 (λ x. cc) in
+    let h = past (list_any is_waiting c.outs) _ _ _ g.1 (λ x. cc) in
+    let k = past (not c.front.written) _ _ _ h.1 (λ x. cc) in
+    elim (chosen c.front.settled ready.Commit ready.Sync ready.Commit k.1) [
+      | inl yes_it ↦ (not_false c.front.fresh a.0, not_false c.front.written k.0, yes_it.0)
+      | inr no_it ↦ absurd (let x = no_it.1 in cc)
+    ]
+
+pub commit_may : (r : Scope) (c : Core) (due : Bool) → ready_of r c ≡ ready.Commit → May r c (entry.Commit c.front.committed due)
+commit_may r c due e =
+    let a = past (is_stopped c.front.stop) _ _ _ e (λ x. cc) in
+    elim (chosen (is_open c) (ready_tasks c) _ _ a.1) [
+      | inl opened ↦ (let t = tasks_commit c opened.1 in (running_of c.front.stop a.0, refl, opened.0, t.0, t.1, t.2))
+      | inr closed ↦
+          let b = past (not c.front.settled) _ _ _ closed.1 (λ x. cc) in
+          absurd (elim (chosen (is_more r c) ready.Plan ready.Over ready.Commit b.1) [ inl x ↦ (let y = x.1 in cc) | inr x ↦ (let y = x.1 in cc) ])
+    ]
+
+tasks_plan : (c : Core) → ready_tasks c ≡ ready.Plan → ⊥
+tasks_plan c e =
+    let a = past (not c.front.fresh) _ _ _ e (λ x. cc) in
+    let b = past (list_any is_waiting c.maps) _ _ _ a.1 (λ x. cc) in
+    let d = past (not (list_all is_fine c.maps)) _ _ _ b.1 (λ x. cc) in
+    let f = past (list_any is_waiting c.reduces) _ _ _ d.1 (λ x. cc) in
+    let g = past (not (list_all is_fine c.reduces)) _ _ _ f.1 (λ x. cc) in
+    let h = past (list_any is_waiting c.outs) _ _ _ g.1 (λ x. cc) in
+    let k = past (not c.front.written) _ _ _ h.1 (λ x. cc) in
+    elim (chosen c.front.settled ready.Commit ready.Sync ready.Plan k.1) [ inl x ↦ (let y = x.1 in cc) | inr x ↦ (let y = x.1 in cc) ]
+
+plan_is : (r : Scope) (c : Core) → ready_of r c ≡ ready.Plan → (c.front.stop ≡ None) × (is_open c ≡ false) × (c.front.settled ≡ true) × (is_more r c ≡ true)
+plan_is r c e =
+    let a = past (is_stopped c.front.stop) _ _ _ e (λ x. cc) in
+    elim (chosen (is_open c) (ready_tasks c) _ _ a.1) [
+      | inl opened ↦ absurd (tasks_plan c opened.1)
+      | inr closed ↦
+          let b = past (not c.front.settled) _ _ _ closed.1 (λ x. cc) in
+          elim (chosen (is_more r c) ready.Plan ready.Over ready.Plan b.1) [
+            | inl more ↦ (running_of c.front.stop a.0, closed.0, not_false c.front.settled b.0, more.0)
+            | inr over ↦ absurd (let x = over.1 in cc)
+          ]
+    ]
+
+pub plan_may : (r : Scope) (c : Core) → ready_of r c ≡ ready.Plan → c.front.planned < 4294967295 → May r c (entry.Plan c.front.planned)
+plan_may r c e few = let p = plan_is r c e in (p.0, refl, p.1, p.2, p.3, few)
+
+-- where as many epochs are planned as there may be
+pub full_is : (r : Scope) (c : Core) → ready_of r c ≡ ready.Plan → c.front.planned ≡ 4294967295 → IsFull r c
+full_is r c e full = let p = plan_is r c e in (full, p.1, p.2, p.3)
+
+tasks_wait : (c : Core) → ready_tasks c ≡ ready.Task → (c.front.fresh ≡ true)
+    × ((list_any is_waiting c.maps ≡ true) ⊎ ((list_any is_waiting c.maps ≡ false) × (list_all is_fine c.maps ≡ true)
+    × ((list_any is_waiting c.reduces ≡ true) ⊎ ((list_any is_waiting c.reduces ≡ false) × (list_all is_fine c.reduces ≡ true) × (list_any is_waiting c.outs ≡ true)))))
+tasks_wait c e =
+    let a = past (not c.front.fresh) _ _ _ e (λ x. cc) in (
+      not_false c.front.fresh a.0,
+      elim (chosen (list_any is_waiting c.maps) _ _ _ a.1) [
+        | inl here ↦ inl here.0
+        | inr no_map ↦
+            let d = past (not (list_all is_fine c.maps)) _ _ _ no_map.1 (λ x. cc) in
+            inr (
+              no_map.0,
+              not_false _ d.0,
+              elim (chosen (list_any is_waiting c.reduces) _ _ _ d.1) [
+                | inl here ↦ inl here.0
+                | inr no_reduce ↦
+                    let f = past (not (list_all is_fine c.reduces)) _ _ _ no_reduce.1 (λ x. cc) in
+                    inr (
+                      no_reduce.0,
+                      not_false _ f.0,
+                      elim (chosen (list_any is_waiting c.outs) _ _ _ f.1) [
+                        | inl here ↦ here.0
+                        | inr none ↦ absurd (
+                            let h = past (not c.front.written) _ _ _ none.1 (λ x. cc) in
+                            elim (chosen c.front.settled ready.Commit ready.Sync ready.Task h.1) [ inl x ↦ (let y = x.1 in cc) | inr x ↦ (let y = x.1 in cc) ])
+                      ],
+                    )
+              ],
+            )
+      ],
+    )
+
+pub waits_for : (r : Scope) (c : Core) → ready_of r c ≡ ready.Task → WaitsFor c
+waits_for r c e =
+    let a = past (is_stopped c.front.stop) _ _ _ e (λ x. cc) in
+    elim (chosen (is_open c) (ready_tasks c) _ _ a.1) [
+      | inl opened ↦ (let t = tasks_wait c opened.1 in record { running = running_of c.front.stop a.0; opened = opened.0; fresh = t.0; first = t.1 })
+      | inr closed ↦ absurd (
+          let b = past (not c.front.settled) _ _ _ closed.1 (λ x. cc) in
+          elim (chosen (is_more r c) ready.Plan ready.Over ready.Task b.1) [ inl x ↦ (let y = x.1 in cc) | inr x ↦ (let y = x.1 in cc) ])
+    ]
+
+-- where it is over
+pub over_is : (r : Scope) (c : Core) → ready_of r c ≡ ready.Over → (c.front.stop ≡ None) × (c.front.planned ≤ c.front.committed) × (c.front.settled ≡ true) × (is_behind c.ends r.available ≡ false) × (c.front.due ≡ false)
+over_is r c e =
+    let a = past (is_stopped c.front.stop) _ _ _ e (λ x. cc) in
+    elim (chosen (is_open c) (ready_tasks c) _ _ a.1) [
+      | inl opened ↦ absurd (tasks_over c opened.1)
+      | inr closed ↦
+          let b = past (not c.front.settled) _ _ _ closed.1 (λ x. cc) in
+          let d = past (is_more r c) _ _ _ b.1 (λ x. cc) in
+          let o = or_parts (is_behind c.ends r.available) c.front.due d.0 in
+          (running_of c.front.stop a.0, open_not c closed.0, not_false c.front.settled b.0, o.0, o.1)
+    ]
+  where
+    tasks_over : (c : Core) → ready_tasks c ≡ ready.Over → ⊥
+    tasks_over c e =
+        let a = past (not c.front.fresh) _ _ _ e (λ x. cc) in
+        let b = past (list_any is_waiting c.maps) _ _ _ a.1 (λ x. cc) in
+        let d = past (not (list_all is_fine c.maps)) _ _ _ b.1 (λ x. cc) in
+        let f = past (list_any is_waiting c.reduces) _ _ _ d.1 (λ x. cc) in
+        let g = past (not (list_all is_fine c.reduces)) _ _ _ f.1 (λ x. cc) in
+        let h = past (list_any is_waiting c.outs) _ _ _ g.1 (λ x. cc) in
+        let k = past (not c.front.written) _ _ _ h.1 (λ x. cc) in
+        elim (chosen c.front.settled ready.Commit ready.Sync ready.Over k.1) [ inl x ↦ (let y = x.1 in cc) | inr x ↦ (let y = x.1 in cc) ]
+
+-- where a sync is next
+pub sync_due : (r : Scope) (c : Core) → ready_of r c ≡ ready.Sync → (c.front.stop ≡ None) × ((c.front.settled ≡ false) ⊎ ((is_open c ≡ true) × (c.front.fresh ≡ false)))
+sync_due r c e =
+    let a = past (is_stopped c.front.stop) _ _ _ e (λ x. cc) in (
+      running_of c.front.stop a.0,
+      elim (chosen (is_open c) (ready_tasks c) _ _ a.1) [
+        | inl opened ↦ by_tasks opened.0 opened.1
+        | inr closed ↦ elim (chosen (not c.front.settled) _ _ _ closed.1) [
+          | inl here ↦ inl (not_true c.front.settled here.0)
+          | inr not_here ↦ absurd (elim (chosen (is_more r c) ready.Plan ready.Over ready.Sync not_here.1) [ inl x ↦ (let y = x.1 in cc) | inr x ↦ (let y = x.1 in cc) ])
+        ]
+      ],
+    )
+  where
+    by_tasks : is_open c ≡ true → ready_tasks c ≡ ready.Sync → (c.front.settled ≡ false) ⊎ ((is_open c ≡ true) × (c.front.fresh ≡ false))
+    by_tasks opened e = elim (chosen (not c.front.fresh) _ _ _ e) [
+      | inl stale ↦ inr (opened, not_true c.front.fresh stale.0)
+      | inr fresh ↦
+          let b = past (list_any is_waiting c.maps) _ _ _ fresh.1 (λ x. cc) in
+          let d = past (not (list_all is_fine c.maps)) _ _ _ b.1 (λ x. cc) in
+          let f = past (list_any is_waiting c.reduces) _ _ _ d.1 (λ x. cc) in
+          let g = past (not (list_all is_fine c.reduces)) _ _ _ f.1 (λ x. cc) in
+          let h = past (list_any is_waiting c.outs) _ _ _ g.1 (λ x. cc) in
+          let k = past (not c.front.written) _ _ _ h.1 (λ x. cc) in
+          inl (past c.front.settled _ _ _ k.1 (λ x. cc)).0
+    ]
+
+module _ (r : Scope) (c : Core) (e : ready_of r c ≡ ready.Task) where
+  and_true : {a b : Bool} → a ≡ true → b ≡ true → (a && b) ≡ true
+  and_true p q = λ i. p i && q i
+
+  pub map_may : (i : ℕ) → get_elem? c.maps i ≡ some place.Waits → May r c (entry.Claim (record { epoch = c.front.committed; kind = kind.Map; number = i }))
+  map_may i here = let w = waits_for r c e in (w.running, w.opened, refl, w.fresh, here)
+
+  pub reduce_may : (i : ℕ) → list_any is_waiting c.maps ≡ false → get_elem? c.reduces i ≡ some place.Waits → May r c (entry.Claim (record { epoch = c.front.committed; kind = kind.Reduce; number = i }))
+  reduce_may i none here = let w = waits_for r c e in elim w.first [
+    | inl some_map ↦ absurd (true≢false (sym some_map ∙ none))
+    | inr rest ↦ (w.running, w.opened, refl, and_true w.fresh rest.1, here)
+  ]
+
+  pub out_may : (i : ℕ) → list_any is_waiting c.maps ≡ false → list_any is_waiting c.reduces ≡ false → get_elem? c.outs i ≡ some place.Waits → May r c (entry.Claim (record { epoch = c.front.committed; kind = kind.Out; number = i }))
+  out_may i none none' here = let w = waits_for r c e in elim w.first [
+    | inl some_map ↦ absurd (true≢false (sym some_map ∙ none))
+    | inr rest ↦ elim rest.2 [
+      | inl some_reduce ↦ absurd (true≢false (sym some_reduce ∙ none'))
+      | inr last ↦ (w.running, w.opened, refl, and_true w.fresh (and_true rest.1 last.1), here)
+    ]
+  ]
+
+  pub some_waits : list_any is_waiting c.maps ≡ false → list_any is_waiting c.reduces ≡ false → list_any is_waiting c.outs ≡ false → ⊥
+  some_waits none none' none'' = let w = waits_for r c e in elim w.first [
+    | inl some_map ↦ true≢false (sym some_map ∙ none)
+    | inr rest ↦ elim rest.2 [
+      | inl some_reduce ↦ true≢false (sym some_reduce ∙ none')
+      | inr last ↦ true≢false (sym last.2 ∙ none'')
+    ]
+  ]

@@ -1,0 +1,6 @@
+pub mod Core
+pub mod Shown
+pub mod Follows
+pub mod Told
+pub mod Rounds
+pub mod Laws

@@ -1,0 +1,122 @@
+//! Places of tasks, what a desk counts, and the entries of its history.
+
+use ssq_outside::{Name, TaskId};
+
+/// Why a line is no row of its stream.
+#[derive(Clone, Copy, Debug, PartialEq, Eq)]
+pub enum RowFault {
+    /// The line has more than 1048576 bytes.
+    TooLong,
+    NotJson,
+    NotObject,
+    /// The first column, in declared order from 0, whose field has a value of another type.
+    WrongType { column: usize },
+    NoEventTime,
+}
+
+/// Why a task or a call brought nothing.
+#[derive(Clone, Copy, Debug, PartialEq, Eq)]
+pub enum Cause {
+    /// This line is no row of its stream.
+    BadLine {
+        stream: u32,
+        part: u32,
+        offset: u64,
+        fault: RowFault,
+    },
+    /// An expression overflowed on the row of this line.
+    Overflow {
+        stream: u32,
+        part: u32,
+        offset: u64,
+    },
+    /// A log failed.
+    LogFault,
+    /// A part has fewer lines than a plan says.
+    LogShort {
+        stream: u32,
+        part: u32,
+        logged: u64,
+        found: u64,
+    },
+    /// A file is absent, or not what its name says.
+    Damaged {
+        name: Name,
+    },
+    /// The disk failed.
+    DiskFault,
+    /// As many epochs are planned as there may be.
+    Full,
+    NoMemory,
+}
+
+/// Where a task of the epoch that runs is.
+#[derive(Clone, Copy, Debug, PartialEq, Eq)]
+pub enum Place {
+    /// There is no task of this number in this epoch.
+    Rests,
+    /// It can be claimed, once its phase begins.
+    Waits,
+    /// A worker has it.
+    Away,
+    /// It was reported: with its result, or with what it met in place of one.
+    Back(Option<Cause>),
+}
+
+/// What a desk counts.
+#[derive(Clone, Copy, Debug, PartialEq, Eq)]
+pub struct Front {
+    /// How many epochs are planned: as many as are committed, or one more.
+    pub planned: u32,
+    pub committed: u32,
+    /// The plan of the epoch that runs is settled.
+    pub fresh: bool,
+    /// No name was changed since the last sync.
+    pub settled: bool,
+    /// The sink file of the epoch that runs is published.
+    pub written: bool,
+    /// The epoch that runs has lines.
+    pub has_lines: bool,
+    /// All planned epochs are committed, and an epoch without lines is due: the watermark rose, and the query has something to
+    /// show by that.
+    pub due: bool,
+    pub stop: Option<Cause>,
+}
+
+/// What may be done next.
+#[derive(Clone, Copy, Debug, PartialEq, Eq)]
+pub enum Ready {
+    /// The next epoch is to be planned.
+    Plan,
+    /// A task can be claimed.
+    Task,
+    /// Names are to be synced.
+    Sync,
+    /// The epoch that runs is to be committed.
+    Commit,
+    /// Tasks are away, and nothing can be done before one is back.
+    Idle,
+    /// All that the round has before it is committed and settled.
+    Over,
+    Stopped,
+}
+
+/// What a call of the desk did.
+#[derive(Clone, Copy, Debug, PartialEq, Eq)]
+pub enum Entry {
+    /// The plan of this epoch was published.
+    Plan(u32),
+    /// A task left the desk.
+    Claim(TaskId),
+    /// A task came back: with its result, or with what it met in place of one. Where that is the fault for which its phase stops,
+    /// the desk is stopped.
+    Report(TaskId, Option<Cause>),
+    /// The rows of this epoch were published.
+    OutFile(u32),
+    /// Names were synced. The disk's clock stood here as it returned.
+    Sync(u64),
+    /// The commit of this epoch was published, and whether by its watermark an epoch without lines is due next.
+    Commit(u32, bool),
+    /// A call failed, or a limit was met.
+    Stop(Cause),
+}
