@@ -5,7 +5,6 @@ ghost use Rattle.std.specs.Prelude.{◌≡◌, ◌+◌, ◌-◌, ◌*◌, ◌/�
 ghost use Rattle.ssq_time.specs.Time.{IsSpan, IsStampTime};
 ghost use Rattle.ssq_window.specs.Window.{rest_of, window_count, first_start, AreWindows, Covers};
 
-
 /// How many windows contain a time whose last window begins `rest` before it.
 fn count_of(rest: u64, size: u64, slide: u64) -> u64
     requires rest { rest < slide }
