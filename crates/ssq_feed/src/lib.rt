@@ -2,9 +2,11 @@
 #![tactic(auto)]
 
 mod fault;
+mod law;
 mod line;
 mod range;
 mod task;
 
 pub use fault::FeedFault;
+pub use law::buckets_are_partitions;
 pub use task::{Fed, FedRows, MapTask, feed};
