@@ -3,3 +3,4 @@ pub mod Years
 pub mod Causal
 pub mod Water
 pub mod Adding
+pub mod Worked

@@ -1,0 +1,266 @@
+-- The lines of a range, one after the other.
+use Rattle.std.proofs.Common.{◌≡◌, ◌<◌, ◌≤◌, ◌+◌, ◌-◌, ◌++◌, [], ◌∷◌, ℕ, zero, suc, ℤ, List, Option, Some, None, Result, Ok, Err, refl, ap, sym, ◌∙◌, subst, inl, inr, arith, take, map, length, append_assoc}
+use Rattle.std.specs.Prelude.{All, OnOk, IfSome, nat_lt, true, slice_get, option_and_then}
+use Rattle.std.specs.List.{flat_map, enumerate_from}
+use Rattle.std.specs.Int.{int_max}
+use Rattle.std.proofs.lemmas.Int.{ints}
+use Rattle.std.proofs.lemmas.Bool.{cases_lt, lt-ltb}
+use Rattle.std.proofs.lemmas.List.{append-nil, map-append, take_all, length-take-le}
+use Rattle.std.proofs.lemmas.List.Elements.{All-nil, All-cons, All-head, All-tail, All-append}
+use Rattle.ssq_outside.specs.Faults.{Rises}
+use Rattle.ssq_time.specs.Time.{IsLineTime, IsStampTime}
+use Rattle.ssq_value.specs.declared.value.Value.{Value}
+use Rattle.ssq_value.specs.declared.value.Value.TheVariants.{Null, Int, Text, Time, Truth}
+use Rattle.ssq_value.specs.Kind.{IfTime}
+use Rattle.ssq_value.specs.Key.{keys_of}
+use Rattle.ssq_value.specs.Layout.{Layout}
+use Rattle.ssq_route.specs.Buckets.{buckets_of}
+use Rattle.ssq_json.specs.Line.{row_of, longest}
+use Rattle.ssq_json.specs.Fits.{FitsSchema}
+use Rattle.ssq_json.specs.declared.bad_row.BadRow.TheVariants.{TooLong}
+use Rattle.ssq_shape.specs.declared.bound.Bound.{Bound}
+use Rattle.ssq_shape.specs.declared.bound.Shape.{Shape}
+use Rattle.ssq_shape.specs.declared.bound.Shape.TheVariants.{Plain}
+use Rattle.ssq_shape.specs.Evaluation.{time_in as time_of_value, and_then}
+use Rattle.ssq_shape.specs.Plain.{shown as shown_row}
+use Rattle.ssq_meaning.specs.declared.fed_row.FedRow.{FedRow}
+use Rattle.ssq_meaning.specs.declared.line.LineFault.{LineFault}
+use Rattle.ssq_meaning.specs.declared.line.LineFault.TheVariants as line
+use Rattle.ssq_meaning.specs.Meaning.{Line, Values, lines_between}
+use Rattle.ssq_meaning.specs.Parts.{Part}
+use Rattle.ssq_meaning.specs.Times.{later, greatest}
+use Rattle.ssq_meaning.specs.Feeding.{layout_at, read_at, handed_by, shown_once, line_evaluated, line_read, line_handed, fed_if, fed_at, time_of_row, time_if, time_at, fault_if, fault_at, first_of_all, or_else, fed_in, time_in, fault_in}
+use Rattle.ssq_meaning.proofs.Epochs.{lines_between-front}
+use Rattle.ssq_feed.specs.declared.fault.FeedFault.{FeedFault}
+use Rattle.ssq_feed.specs.declared.fault.FeedFault.TheVariants.{BadLine, Overflow, LogFault, LogShort, NoMemory}
+use Rattle.ssq_feed.specs.Rows.{keyed, dealt, once, IsPrintable, IsFedFrom, IsRead, GivesOf, LineCause, IsFirst}
+use Rattle.ssq_feed.specs.Causes.{LogWent, FeedCause, ReadCause}
+
+-- ---- one line
+
+time_years : (row : List Value) (at : ℕ) → All (IfTime IsLineTime) row → IfSome (option_and_then time_of_value (slice_get row at)) IsLineTime
+time_years [] at all = tt
+time_years (value ∷ row) zero all = own value (All-head (IfTime IsLineTime) value row all) where
+  own : (value : Value) → IfTime IsLineTime value → IfSome (time_of_value value) IsLineTime
+  own Null is = tt
+  own (Int n) is = tt
+  own (Text text) is = tt
+  own (Time t) is = is
+  own (Truth truth) is = tt
+time_years (value ∷ row) (suc at) all = time_years row at (All-tail (IfTime IsLineTime) value row all)
+
+row_time_years : (schema : Layout) (row : List Value) → All (IfTime IsLineTime) row → IfSome (time_of_row schema row) IsLineTime
+row_time_years schema row all = by_event schema.event where
+  by_event : (event : Option ℕ) → IfSome (option_and_then (λ at. option_and_then time_of_value (slice_get row at)) event) IsLineTime
+  by_event None = tt
+  by_event (Some at) = time_years row at all
+
+handed_plain : (shape : Shape) (query : Bound) (stream : ℕ) (row : Values) → handed_by shape query stream row ≡ and_then (shown_row query row) (λ values. Ok (shown_once values))
+handed_plain Plain query stream row = refl
+
+-- what a row gives that was read and shown
+pub gives : (query : Bound) (stream : ℕ) (bytes : Line) (schema : Layout) (row : Values) (time : Option ℤ) (values : Option Values)
+    → schema ≡ layout_at query stream → row_of schema bytes ≡ Ok (Some row) → shown_row query row ≡ Ok values → time ≡ time_of_row schema row
+    → FitsSchema schema row → IfSome values (All (IfTime IsStampTime)) → GivesOf query stream bytes time values
+gives query stream bytes schema row time values layout read is timed fits printable =
+    let read_is : read_at query stream bytes ≡ Ok (Some row) = ap (λ (l : Layout). row_of l bytes) (sym layout) ∙ read in
+    record {
+      handed = ap (line_read query stream) read_is ∙ ap line_evaluated (handed_plain query.shape query stream row) ∙ ap (λ r. line_evaluated (and_then r (λ values. Ok (shown_once values)))) is;
+      timed = ap (time_if (layout_at query stream)) read_is ∙ ap (λ (l : Layout). time_of_row l row) (sym layout) ∙ sym timed;
+      years = subst (λ (t : Option ℤ). IfSome t IsLineTime) (sym timed) (row_time_years schema row fits.years);
+      printable = printable;
+    }
+
+too_long : (query : Bound) (stream : ℕ) (line : Line) → nat_lt longest (length line) ≡ true → read_at query stream line ≡ Err TooLong
+unfolding row_of
+too_long query stream line long = rw long refl
+
+-- a line that is cut behind its first 1,048,577 bytes is read the same
+read_at-take : (query : Bound) (stream : ℕ) (line : Line) → read_at query stream (take 1048577 line) ≡ read_at query stream line
+read_at-take query stream line =
+    elim (cases_lt 1048577 (length line)) [
+      | inl long ↦
+          let cut : length (take 1048577 line) ≡ 1048577 = length-take-le 1048577 line (omega (arith, long)) in
+          too_long query stream (take 1048577 line) (rw cut refl) ∙ sym (too_long query stream line (lt-ltb _ _ (omega (arith, long))))
+      | inr short ↦ ap (read_at query stream) (take_all 1048577 line short)
+    ]
+
+-- ---- the buckets
+
+pub on_ok : {T E A B : Type 0} (r : Result T E) → OnOk r A → (A → B) → OnOk r B
+on_ok (Ok x) a f = f a
+on_ok (Err e) a f = a
+
+-- a row without a key goes into the bucket of the key that has no bytes
+pub row_added : (partitions : ℕ) (old new : List (List FedRow)) (rows : List FedRow) (stream part at : ℕ) (key values : Values) → key ≡ []
+    → ((added : List (List ℕ × FedRow)) → old ≡ buckets_of partitions added
+    → new ≡ buckets_of partitions (added ++ ([], record { stream = stream; part = part; offset = at; key = key; time = None; values = values }) ∷ []))
+    → old ≡ dealt partitions rows → new ≡ dealt partitions (rows ++ once stream part at (Some values))
+unfolding keys_of
+row_added partitions old new rows stream part at key values none all is =
+    let P : Values → Type 0 = λ k. (added : List (List ℕ × FedRow)) → old ≡ buckets_of partitions added
+    → new ≡ buckets_of partitions (added ++ ([], record { stream = stream; part = part; offset = at; key = k; time = None; values = values }) ∷ []) in
+    let row : List FedRow = once stream part at (Some values) in
+    subst P none all (map keyed rows) is ∙ ap (buckets_of partitions) (sym (map-append keyed rows row))
+
+-- ---- line after line
+
+-- Up to an offset: the rows so far and those of the lines that are left are the rows of the range, the greatest time is that of what was read
+-- and what is left, and the first fault is not before the offset.
+pub record SoFar (tells : Type 0) (query : Bound) (part : Part) (from at to partitions : ℕ) (time : Option ℤ) (buckets : List (List FedRow)) : Type 0 where
+  pub rows : List FedRow
+  pub apart : buckets ≡ dealt partitions rows
+  pub printable : All IsPrintable rows
+  pub years : IfSome time IsLineTime
+  pub left : tells → rows ++ fed_in query part at to ≡ fed_in query part from to
+  pub greatest : tells → later time (time_in query part at to) ≡ time_in query part from to
+  pub good : tells → fault_in query part at to ≡ fault_in query part from to
+
+pub begun : (tells : Type 0) (query : Bound) (part : Part) (from to partitions : ℕ) (buckets : List (List FedRow)) → buckets ≡ buckets_of partitions []
+    → SoFar tells query part from from to partitions None buckets
+begun tells query part from to partitions buckets none = record {
+  rows = [];
+  apart = none;
+  printable = All-nil IsPrintable;
+  years = tt;
+  left = λ tells. refl;
+  greatest = λ tells. refl;
+  good = λ tells. refl;
+}
+
+later_assoc : (r s t : Option ℤ) → later (later r s) t ≡ later r (later s t)
+later_assoc None s t = refl
+later_assoc (Some r) None t = refl
+later_assoc (Some r) (Some s) None = refl
+later_assoc (Some r) (Some s) (Some t) = ap Some (max_assoc r s t) where
+  max_assoc : (a b c : ℤ) → int_max (int_max a b) c ≡ int_max a (int_max b c)
+  max_assoc a b c = grind (arith, ints)
+
+once_is : (part : Part) (at : ℕ) (values : Option Values) → fed_if part at (Ok (shown_once values)) ≡ once part.stream part.part at values
+once_is part at None = refl
+once_is part at (Some values) = refl
+
+unfaulty : (part : Part) (at : ℕ) (values : Option Values) → fault_if part at (Ok (shown_once values)) ≡ None
+unfaulty part at values = refl
+
+once_printable : (stream part at : ℕ) (values : Option Values) → IfSome values (All (IfTime IsStampTime)) → All IsPrintable (once stream part at values)
+once_printable stream part at None is = All-nil IsPrintable
+once_printable stream part at (Some values) is = All-cons IsPrintable (record { stream = stream; part = part; offset = at; key = []; time = None; values = values }) [] is (All-nil IsPrintable)
+
+-- what holds of the line there
+record Front (query : Bound) (part : Part) (at to : ℕ) (bytes : Line) : Type 0 where
+  fed : fed_in query part at to ≡ fed_if part at (line_handed query part.stream bytes) ++ fed_in query part (at + 1) to
+  time : time_in query part at to ≡ later (time_at query part.stream bytes) (time_in query part (at + 1) to)
+  fault : fault_in query part at to ≡ or_else (fault_if part at (line_handed query part.stream bytes)) (fault_in query part (at + 1) to)
+
+in_front : (query : Bound) (part : Part) (at to : ℕ) (bytes : Line) → at < to → IsRead part.lines at bytes → Front query part at to bytes
+in_front query part at to bytes inside is =
+    let front : lines_between at to part.lines ≡ is.line ∷ lines_between (at + 1) to part.lines = lines_between-front at to part.lines is.line inside is.there in
+    let same : read_at query part.stream is.line ≡ read_at query part.stream bytes = sym (ap (read_at query part.stream) is.cut ∙ read_at-take query part.stream is.line) in
+    record {
+      fed = ap (λ (ls : List Line). flat_map (λ (l : ℕ × Line). fed_at query part l.0 l.1) (enumerate_from at ls)) front
+          ∙ ap (λ r. fed_if part at (line_read query part.stream r) ++ fed_in query part (at + 1) to) same;
+      time = ap (λ (ls : List Line). greatest (map (λ (l : Line). time_at query part.stream l) ls)) front
+          ∙ ap (λ r. later (time_if (layout_at query part.stream) r) (time_in query part (at + 1) to)) same;
+      fault = ap (λ (ls : List Line). first_of_all (map (λ (l : ℕ × Line). fault_at query part l.0 l.1) (enumerate_from at ls))) front
+          ∙ ap (λ r. or_else (fault_if part at (line_read query part.stream r)) (fault_in query part (at + 1) to)) same;
+    }
+
+-- one line more
+pub goes_on : (tells : Type 0) (query : Bound) (part : Part) (from at to partitions : ℕ) (time own more : Option ℤ) (values : Option Values) (bytes : Line) (old new : List (List FedRow))
+    → SoFar tells query part from at to partitions time old → at < to → (tells → IsRead part.lines at bytes) → GivesOf query part.stream bytes own values
+    → more ≡ later time own → IfSome more IsLineTime
+    → ((rows : List FedRow) → old ≡ dealt partitions rows → new ≡ dealt partitions (rows ++ once part.stream part.part at values))
+    → SoFar tells query part from (at + 1) to partitions more new
+goes_on tells query part from at to partitions time own more values bytes old new so_far inside read given more_is years added =
+    let row = once part.stream part.part at values in
+    record {
+      rows = so_far.rows ++ row;
+      apart = added so_far.rows so_far.apart;
+      printable = All-append IsPrintable so_far.rows row so_far.printable (once_printable part.stream part.part at values given.printable);
+      years = years;
+      left = λ is.
+          let front = in_front query part at to bytes inside (read is) in
+          let fed : fed_in query part at to ≡ row ++ fed_in query part (at + 1) to = front.fed ∙ ap (λ r. fed_if part at r ++ fed_in query part (at + 1) to) given.handed
+          ∙ ap (λ r. r ++ fed_in query part (at + 1) to) (once_is part at values) in
+          append_assoc so_far.rows row (fed_in query part (at + 1) to) ∙ ap (λ r. so_far.rows ++ r) (sym fed) ∙ so_far.left is;
+      greatest = λ is.
+          let front = in_front query part at to bytes inside (read is) in
+          let rest = time_in query part (at + 1) to in
+          ap (λ t. later t rest) more_is ∙ later_assoc time own rest ∙ ap (λ t. later time (later t rest)) (sym given.timed) ∙ ap (later time) (sym front.time) ∙ so_far.greatest is;
+      good = λ is.
+          let front = in_front query part at to bytes inside (read is) in
+          sym (front.fault ∙ ap (λ r. or_else (fault_if part at r) (fault_in query part (at + 1) to)) given.handed) ∙ so_far.good is;
+    }
+
+none_left : (at to : ℕ) (lines : List Line) → to ≤ at → lines_between at to lines ≡ []
+none_left at to lines le = let e : to - at ≡ 0 = omega (arith, le) in rw e refl
+
+later_none : (t : Option ℤ) → later t None ≡ t
+later_none None = refl
+later_none (Some t) = refl
+
+-- the last line is read
+pub ended : (tells : Type 0) (query : Bound) (part : Part) (from at to partitions : ℕ) (time : Option ℤ) (buckets : List (List FedRow))
+    → SoFar tells query part from at to partitions time buckets → to ≤ at → IsFedFrom tells query part from to partitions time buckets
+ended tells query part from at to partitions time buckets so_far le =
+    let over : lines_between at to part.lines ≡ [] = none_left at to part.lines le in
+    record {
+      rows = so_far.rows;
+      apart = so_far.apart;
+      printable = so_far.printable;
+      years = so_far.years;
+      are = λ is. sym (append-nil so_far.rows)
+          ∙ ap (λ (ls : List Line). so_far.rows ++ flat_map (λ (l : ℕ × Line). fed_at query part l.0 l.1) (enumerate_from at ls)) (sym over) ∙ so_far.left is;
+      greatest = λ is. sym (later_none time)
+          ∙ ap (λ (ls : List Line). later time (greatest (map (λ (l : Line). time_at query part.stream l) ls))) (sym over) ∙ so_far.greatest is;
+      good = λ is. sym (so_far.good is)
+          ∙ ap (λ (ls : List Line). first_of_all (map (λ (l : ℕ × Line). fault_at query part l.0 l.1) (enumerate_from at ls))) over;
+    }
+
+-- ---- the causes on their way up
+
+first_here : (tells : Type 0) (query : Bound) (part : Part) (from at to partitions : ℕ) (time : Option ℤ) (buckets : List (List FedRow)) (bytes : Line) (what : LineFault)
+    → SoFar tells query part from at to partitions time buckets → at < to → (tells → IsRead part.lines at bytes) → line_handed query part.stream bytes ≡ Err what
+    → tells → IsFirst query part from to at what
+first_here tells query part from at to partitions time buckets bytes what so_far inside read wrong is =
+    let front = in_front query part at to bytes inside (read is) in
+    sym (so_far.good is) ∙ front.fault ∙ ap (λ r. or_else (fault_if part at r) (fault_in query part (at + 1) to)) wrong
+
+module _ {L : Type 0} (tells : Type 0) (lines : L → List Line) (available : L → ℕ) (answers : L → List ℕ) (faults : L → ℕ) where
+  -- reading one line after the other
+  pub went_on : (first before after : L) → LogWent tells lines available answers faults first before → LogWent tells lines available answers faults before after
+      → LogWent tells lines available answers faults first after
+  went_on first before after one two = record {
+    same = λ is. two.same is ∙ one.same is;
+    grown = λ is. omega (arith, one.grown is, two.grown is);
+    unasked = λ is. two.unasked is ∙ one.unasked is;
+    counted = omega (arith, one.counted, two.counted);
+  }
+
+  -- a line that was not read
+  pub read_stops : (query : Bound) (stream part from at to : ℕ) (first before after : L) (fault : FeedFault) → LogWent tells lines available answers faults first before → at < to
+      → ReadCause tells lines available answers faults at to before after fault → FeedCause tells lines available answers faults query stream part from to first after fault
+  read_stops query stream part from at to first before after (BadLine offset cause) went inside is = absurd is
+  read_stops query stream part from at to first before after (Overflow offset) went inside is = absurd is
+  read_stops query stream part from at to first before after LogFault went inside is = rises_more (faults first) (faults before) (faults after) went.counted is where
+    rises_more : (a b c : ℕ) → a ≤ b → Rises b c → Rises a c
+    rises_more a b c le rises = grind (arith, le, rises)
+  read_stops query stream part from at to first before after (LogShort logged found) went inside is = (is.0, omega (arith, is.1, inside), is.2)
+  read_stops query stream part from at to first before after NoMemory went inside is = tt
+
+  -- a line that is a fault
+  pub line_stops : (query : Bound) (stream part from at to partitions : ℕ) (time : Option ℤ) (buckets : List (List FedRow)) (bytes : Line) (first after : L) (fault : FeedFault)
+      → SoFar tells query (record { stream = stream; part = part; lines = lines first }) from at to partitions time buckets → at < to → (tells → IsRead (lines first) at bytes)
+      → LineCause query stream bytes at fault → FeedCause tells lines available answers faults query stream part from to first after fault
+  line_stops query stream part from at to partitions time buckets bytes first after (BadLine offset cause) so_far inside read is =
+      let of : Part = record { stream = stream; part = part; lines = lines first } in
+      let P : ℕ → Type 0 = λ o. IsFirst query of from to o (line.Bad cause) in
+      (λ t. subst P (sym is.0) (first_here tells query of from at to partitions time buckets bytes (line.Bad cause) so_far inside read is.1 t), is.2)
+  line_stops query stream part from at to partitions time buckets bytes first after (Overflow offset) so_far inside read is =
+      let of : Part = record { stream = stream; part = part; lines = lines first } in
+      let P : ℕ → Type 0 = λ o. IsFirst query of from to o line.Overflow in
+      λ t. subst P (sym is.0) (first_here tells query of from at to partitions time buckets bytes line.Overflow so_far inside read is.1 t)
+  line_stops query stream part from at to partitions time buckets bytes first after LogFault so_far inside read is = absurd is
+  line_stops query stream part from at to partitions time buckets bytes first after (LogShort logged found) so_far inside read is = absurd is
+  line_stops query stream part from at to partitions time buckets bytes first after NoMemory so_far inside read is = tt

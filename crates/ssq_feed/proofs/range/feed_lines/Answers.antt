@@ -1,0 +1,43 @@
+use Rattle.std.proofs.Common.{◌≡◌, ◌++◌, ◌∙◌, ℕ, List, sym, subst, refl, arith}
+use Rattle.std.proofs.lemmas.Result.{err_from_is_err_and}
+use Rattle.ssq_meaning.specs.declared.fed_row.FedRow.{FedRow}
+use Rattle.ssq_meaning.specs.Meaning.{Line}
+use Rattle.ssq_meaning.specs.Parts.{Part}
+use Rattle.ssq_feed.specs.Rows.{dealt, once, IsRead}
+use Rattle.ssq_feed.proofs.Feeding.{begun, goes_on, went_on, line_stops}
+use Rattle.ssq_feed.proofs.range.feed_lines.Goals as goal
+
+pub loop-at-init : goal.loop-at-init
+loop-at-init g c = record {
+  so_far = begun _ _ _ _ _ _ _ c.in_ok-buckets.ensures.empty;
+  len = c.in_ok-buckets.ensures.len;
+  log = record { same = λ is. refl; grown = λ is. omega arith; unasked = λ is. refl; counted = omega arith };
+}
+
+pub returns-in_err-gift-clause-fault : goal.returns-in_err-gift-clause-fault
+returns-in_err-gift-clause-fault g c =
+    let P : List ℕ → Type 0 = IsRead (g.L.Log.lines c.read_line.new.log) c.loop-at.at in
+    let Q : List Line → Type 0 = λ ls. IsRead ls c.loop-at.at c.as_slice.result.now in
+    let read : g.L.Log.tells → IsRead (g.L.Log.lines c.args.log.now) c.loop-at.at c.as_slice.result.now = λ tells.
+    subst Q (c.read_line.ensures.log.same tells ∙ c.loop-at.invariant.log.same tells) (subst P (sym c.as_slice.ensures.value) (c.in_ok-read_line.ensures.read tells)) in
+    let p = err_from_is_err_and c.from_residual-in_err-gift.result c.from_residual-in_err-gift.ensures.1 in
+    rw (p.1, p.2) (line_stops g.L.Log.tells g.L.Log.lines g.L.Log.available g.L.Log.answers g.L.Log.faults c.args.view.bound.now c.args.stream c.args.part c.args.from c.loop-at.at c.args.to c.args.view.partitions
+    c.loop-at.time c.loop-at.buckets c.as_slice.result.now c.args.log.now c.read_line.new.log _ c.loop-at.invariant.so_far c.loop-at-test.true read c.in_err-gift.ensures.fault)
+
+pub loop-at-preserved : goal.loop-at-preserved
+loop-at-preserved g c =
+    let P : List ℕ → Type 0 = IsRead (g.L.Log.lines c.read_line.new.log) c.loop-at.at in
+    let Q : List Line → Type 0 = λ ls. IsRead ls c.loop-at.at c.as_slice.result.now in
+    let read : g.L.Log.tells → IsRead (g.L.Log.lines c.args.log.now) c.loop-at.at c.as_slice.result.now = λ tells.
+    subst Q (c.read_line.ensures.log.same tells ∙ c.loop-at.invariant.log.same tells) (subst P (sym c.as_slice.ensures.value) (c.in_ok-read_line.ensures.read tells)) in
+    let given = c.in_ok-gift.ensures.gives in
+    let Added : ℕ → Type 0 = λ n. (rows : List FedRow) → c.loop-at.buckets ≡ dealt n rows → c.add_row.new.buckets ≡ dealt n (rows ++ once c.args.stream c.args.part c.loop-at.at c.in_ok-gift.gift.values) in
+    let added : Added c.args.view.partitions = subst Added c.loop-at.invariant.len c.in_ok-add_row.ensures.added in
+    let of : Part = record { stream = c.args.stream; part = c.args.part; lines = g.L.Log.lines c.args.log.now } in
+    record {
+      so_far = goes_on g.L.Log.tells c.args.view.bound.now of c.args.from c.loop-at.at c.args.to c.args.view.partitions c.loop-at.time c.in_ok-gift.gift.time c.later-time.result
+          c.in_ok-gift.gift.values c.as_slice.result.now c.loop-at.buckets c.add_row.new.buckets
+          c.loop-at.invariant.so_far c.loop-at-test.true read given c.later-time.ensures.later (c.later-time.ensures.years c.loop-at.invariant.so_far.years given.years) added;
+      len = c.add_row.ensures.len ∙ c.loop-at.invariant.len;
+      log = went_on g.L.Log.tells g.L.Log.lines g.L.Log.available g.L.Log.answers g.L.Log.faults c.args.log.now c.loop-at.log c.read_line.new.log c.loop-at.invariant.log c.read_line.ensures.log;
+    }

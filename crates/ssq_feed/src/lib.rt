@@ -1,0 +1,12 @@
+//! The map task: the new lines of a part, from its log to the rows that the query's operator takes, apart by partition.
+#![tactic(auto)]
+
+mod fault;
+mod law;
+mod line;
+mod range;
+mod task;
+
+pub use fault::FeedFault;
+pub use law::buckets_are_partitions;
+pub use task::{Fed, FedRows, MapTask, feed};

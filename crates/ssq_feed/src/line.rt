@@ -1,0 +1,83 @@
+//! One line of a part: read from its log, and what it gives.
+
+ghost use Rattle.std.specs.Prelude.{◌≡◌, OnOk, IfOk, IfErr};
+ghost use Rattle.ssq_meaning.specs.Feeding.{layout_at, time_of_row};
+ghost use Rattle.ssq_feed.specs.Rows.{IsRead, GivesOf, LineCause};
+ghost use Rattle.ssq_feed.specs.Causes.{LogWent, ReadCause};
+
+use crate::fault::FeedFault;
+use ssq_expr::{EvalFault, show};
+use ssq_json::{BadRow, read_row};
+use ssq_outside::{LineError, Log};
+use ssq_shape::Bound;
+use ssq_value::{Row, Schema, Value};
+use std::alloc::Global;
+
+/// What a line gives; a blank one gives nothing.
+#[derive(Drop)]
+pub(crate) struct LineGift {
+    /// The event time of its row.
+    pub(crate) time: Option<i64>,
+    /// The row as SELECT shows it, where WHERE is TRUE on it.
+    pub(crate) values: Option<Row>,
+}
+
+/// Reads the line at an offset of a range that ends at `to`, into the buffer.
+pub(crate) fn read_line<L: Log>(
+    log: &mut L,
+    at: u64,
+    to: u64,
+    line: &mut Vec<u8>,
+) -> Result<(), FeedFault>
+    ensures read { L.tells → OnOk result (IsRead (L.lines log.new) at line.new.items) }
+    ensures fault { IfErr result (ReadCause L.tells L.lines L.available L.answers L.faults at to log.old log.new) }
+    ensures log { LogWent L.tells L.lines L.available L.answers L.faults log.old log.new }
+{
+    match log.line(at, line) {
+        Ok(()) => Ok(()),
+        Err(LineError::Fault) => Err(FeedFault::LogFault),
+        Err(LineError::NoMemory) => Err(FeedFault::NoMemory),
+        Err(LineError::Short { found }) => Err(FeedFault::LogShort { logged: to, found }),
+    }
+}
+
+/// The event time of a row, where its stream has an event column.
+fn event_time(schema: &Schema, row: &[Value]) -> Option<i64>
+    ensures { result ≡ time_of_row schema.now row.now }
+{
+    match row.get(schema.event()?) {
+        Some(Value::Time(time)) => Some(*time),
+        _ => None,
+    }
+}
+
+/// What the bytes of the line at an offset give.
+pub(crate) fn take_line(
+    alloc: Global,
+    bound: &Bound,
+    stream: u32,
+    schema: &Schema,
+    at: u64,
+    line: &[u8],
+) -> Result<LineGift, FeedFault>
+    requires { schema.now ≡ layout_at bound.now stream }
+    ensures gives { IfOk result (λ gift. GivesOf bound.now stream line.now gift.time gift.values) }
+    ensures fault { IfErr result (LineCause bound.now stream line.now at) }
+{
+    match read_row(alloc, line, schema) {
+        Ok(None) => Ok(LineGift {
+            time: None,
+            values: None,
+        }),
+        Ok(Some(row)) => {
+            let time = event_time(schema, row.as_slice());
+            match show(alloc, bound, row.as_slice()) {
+                Ok(values) => Ok(LineGift { time, values }),
+                Err(EvalFault::Overflow) => Err(FeedFault::Overflow { offset: at }),
+                Err(EvalFault::NoMemory) => Err(FeedFault::NoMemory),
+            }
+        },
+        Err(BadRow::NoMemory) => Err(FeedFault::NoMemory),
+        Err(cause) => Err(FeedFault::BadLine { offset: at, cause }),
+    }
+}
