@@ -13,9 +13,9 @@ ghost use Rattle.ssq_opening.specs.Sought.{sought};
 use crate::cuts::starts;
 use crate::fault::OpenFault;
 use crate::wanted::{Opened, Wanted};
-use ssq_settle::settle;
 use ssq_outside::{Disk, Name};
 use ssq_plans::{Meta, write_meta};
+use ssq_settle::settle;
 use ssq_value::Sequence;
 use std::alloc::{AllocError, Global};
 

@@ -3,10 +3,10 @@
 ghost use Rattle.ssq_opening.specs.Opening.{CanBeSought};
 
 use crate::{OpenFault, Opened, Wanted, look, open};
-use ssq_settle::settle;
 use ssq_fakes::MemDisk;
 use ssq_outside::{Disk, DiskError, Name};
 use ssq_plans::PartEnd;
+use ssq_settle::settle;
 use ssq_value::Text;
 use std::alloc::{AllocError, Global};
 use std::test::Fail;
