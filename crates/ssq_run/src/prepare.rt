@@ -20,7 +20,7 @@ pub fn read_file<I: Inputs>(alloc: Global, inputs: &mut I, file: &str) -> Result
     ensures stop { I.tells → IfErr result (ReadCause (I.held inputs.old) file.now) }
     ensures only { IfErr result IsPastWords }
     ensures same { I.tells → I.held inputs.new ≡ I.held inputs.old }
-    ensures grown { I.tells → (stream : List ℕ) (part : ℕ) → I.shown inputs.old stream part ≤ I.shown inputs.new stream part }
+    ensures grown { I.tells → (stream : List ℕ) (part : ℕ) → I.available inputs.old stream part ≤ I.available inputs.new stream part }
     ensures counted { I.faults inputs.old ≤ I.faults inputs.new }
     ensures cause { IfErr result (LogRises (I.faults inputs.old) (I.faults inputs.new)) }
     ensures not_the_disk { (before now : ℕ) → IfErr result (DiskRises before now) }

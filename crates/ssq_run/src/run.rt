@@ -35,7 +35,7 @@ pub fn run_source<D: Disk, I: Inputs, O: Output>(
     requires rounds { 1 ≤ ask.rounds }
     requires untold { string_bytes told.old ≡ [] }
 
-    ensures end { D.tells → I.tells → SourceEnd (I.held inputs.old) (I.shown inputs.old) query ask.most ask.rounds
+    ensures end { D.tells → I.tells → SourceEnd (I.held inputs.old) (I.available inputs.old) query ask.most ask.rounds
         (D.history disk.old) (D.history disk.new) O.tells (O.content out.old) (O.content out.new) (string_bytes told.new) (stop_in result) }
     ensures only { IfErr result IsPastWords }
     ensures out_counted { O.faults out.old ≤ O.faults out.new }

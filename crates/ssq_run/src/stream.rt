@@ -45,7 +45,7 @@ fn run_file<D: Disk, I: Inputs, O: Output>(
     requires some { ForSome ask.most (λ most. 1 ≤ most) }
     requires rounds { 1 ≤ ask.rounds }
     requires untold { string_bytes told.old ≡ [] }
-    ensures end { D.tells → I.tells → (given : Given) → given.held ≡ I.held inputs.old → given.shown ≡ I.shown inputs.old →
+    ensures end { D.tells → I.tells → (given : Given) → given.held ≡ I.held inputs.old → given.shown ≡ I.available inputs.old →
         asked given.words ≡ Some (asks_run file.now ask.most ask.rounds) →
         ProgramEnd given (D.history disk.old) (D.history disk.new) O.tells (O.content out.old) (O.content out.new) (string_bytes told.new) (stop_in result) }
     ensures only { IfErr result IsPastWords }
@@ -71,7 +71,7 @@ fn work<D: Disk, I: Inputs, O: Output>(
 ) -> Result<(), Stop>
     requires untold { string_bytes told.old ≡ [] }
     ensures end { D.tells → I.tells → ProgramEnd
-        (record { words = map string_bytes words.now; held = I.held inputs.old; shown = I.shown inputs.old })
+        (record { words = map string_bytes words.now; held = I.held inputs.old; shown = I.available inputs.old })
         (D.history disk.old) (D.history disk.new) O.tells (O.content out.old) (O.content out.new) (string_bytes told.new) (stop_in result) }
     ensures words { IfErr result (WordsCause (map string_bytes words.now)) }
     ensures taken { OnOk result (IsSome (asked (map string_bytes words.now))) }
@@ -118,25 +118,25 @@ pub fn stream_main<R: Threads + Wait + Sync, D: Disk, I: Inputs, O: Output, G: G
 ) -> Ended<D, I, O>
     // How it ends, in the order of its work: what is left on the disk, what was written, and why.
     ensures ending { D.tells → I.tells → ProgramWrote
-        (record { words = map string_bytes words.now; held = I.held inputs; shown = I.shown inputs })
+        (record { words = map string_bytes words.now; held = I.held inputs; shown = I.available inputs })
         (D.history disk) (D.history result.disk) O.tells (O.content out) (O.content result.out) (O.faults out) (O.faults result.out) result.status }
 
     // A checkpoint that stands for the job, whose log has lost no line, is never refused as another's or as damaged.
     ensures goes_on { D.tells → I.tells → CanGoOn
-        (record { words = map string_bytes words.now; held = I.held inputs; shown = I.shown inputs }) (files_now (D.history disk)) → result.status ≢ 9 }
+        (record { words = map string_bytes words.now; held = I.held inputs; shown = I.available inputs }) (files_now (D.history disk)) → result.status ≢ 9 }
 
     // And these are all the ways to end. Where the outside did not fail, it is done to its end, or memory ran out: for a run that can go
     // on with no limit in its way, unless a line is a fault; and for a look at a checkpoint that stands or is empty.
     ensures is_done_to_a_line { D.tells → I.tells → HasRoom
-        (record { words = map string_bytes words.now; held = I.held inputs; shown = I.shown inputs }) (files_now (D.history disk)) →
+        (record { words = map string_bytes words.now; held = I.held inputs; shown = I.available inputs }) (files_now (D.history disk)) →
         NoneFailed (I.faults inputs) (I.faults result.inputs) (D.faults disk) (D.faults result.disk) (O.faults out) (O.faults result.out) →
         IsDoneToALine result.status }
     ensures is_done { D.tells → I.tells → IsFaultless
-        (record { words = map string_bytes words.now; held = I.held inputs; shown = I.shown inputs }) (files_now (D.history disk)) →
+        (record { words = map string_bytes words.now; held = I.held inputs; shown = I.available inputs }) (files_now (D.history disk)) →
         NoneFailed (I.faults inputs) (I.faults result.inputs) (D.faults disk) (D.faults result.disk) (O.faults out) (O.faults result.out) →
         IsDone result.status }
     ensures is_told { D.tells → I.tells → CanLook
-        (record { words = map string_bytes words.now; held = I.held inputs; shown = I.shown inputs }) (files_now (D.history disk)) →
+        (record { words = map string_bytes words.now; held = I.held inputs; shown = I.available inputs }) (files_now (D.history disk)) →
         NoneFailed (I.faults inputs) (I.faults result.inputs) (D.faults disk) (D.faults result.disk) (O.faults out) (O.faults result.out) →
         IsDone result.status }
 

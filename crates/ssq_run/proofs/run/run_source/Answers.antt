@@ -23,9 +23,9 @@ returns-in-Ok-clause-end g c = λ tells told.
     let is = is_job query c.args.prepared.now.bound (g.I.Inputs.held c.args.inputs.now) (g.I.Inputs.held c.parts.new.self) _ _ c.requires.bound c.as_str-source.ensures (c.parts.ensures.same told) (c.in_ok-log.ensures.lines told) in
     let text : job.text ≡ c.args.prepared.now.bound.text = sym (ap (λ (b : Bound). b.text) c.requires.bound) in
     let E : Option JobFault → Type 0 = λ end. JobEnd
-    (record { job = job; most = c.args.ask.most; rounds = c.args.ask.rounds; known = g.I.Log.Log.shown c.in_ok-log.log; start = g.D.Disk.history c.args.disk.now; written = g.O.Output.content c.args.out.now })
-    (g.I.Log.Log.shown c.run_job-done.new.log) (g.D.Disk.history c.run_job-done.new.disk) g.O.Output.tells (g.O.Output.content c.run_job-done.new.out) (string_bytes c.run_job-done.new.told) end in
-    source_ran (g.I.Inputs.held c.args.inputs.now) _ (g.I.Inputs.shown c.parts.new.self) query _ c.args.ask.most c.args.ask.rounds _ _ _ _ _ _ _ _ _ (fault_in c.run_job-done.result) _
+    (record { job = job; most = c.args.ask.most; rounds = c.args.ask.rounds; known = g.I.Log.Log.available c.in_ok-log.log; start = g.D.Disk.history c.args.disk.now; written = g.O.Output.content c.args.out.now })
+    (g.I.Log.Log.available c.run_job-done.new.log) (g.D.Disk.history c.run_job-done.new.disk) g.O.Output.tells (g.O.Output.content c.run_job-done.new.out) (string_bytes c.run_job-done.new.told) end in
+    source_ran (g.I.Inputs.held c.args.inputs.now) _ (g.I.Inputs.available c.parts.new.self) query _ c.args.ask.most c.args.ask.rounds _ _ _ _ _ _ _ _ _ (fault_in c.run_job-done.result) _
     c.as_str-source.ensures (c.in_ok-parts.ensures.found told) c.if-parts-ne1.false (c.in_ok-log.ensures.begins told) (c.parts.ensures.grown told)
     (ended E c.run_job-done.result (c.run_job-done.ensures.done tells tells_log job is text) (c.run_job-done.ensures.stop tells tells_log job is text))
     (c.run_job-done.ensures.always tells tells_log job is text)
@@ -40,9 +40,9 @@ returns-in-Err-clause-end g c = λ tells told.
     let is = is_job query c.args.prepared.now.bound (g.I.Inputs.held c.args.inputs.now) (g.I.Inputs.held c.parts.new.self) _ _ c.requires.bound c.as_str-source.ensures (c.parts.ensures.same told) (c.in_ok-log.ensures.lines told) in
     let text : job.text ≡ c.args.prepared.now.bound.text = sym (ap (λ (b : Bound). b.text) c.requires.bound) in
     let E : Option JobFault → Type 0 = λ end. JobEnd
-    (record { job = job; most = c.args.ask.most; rounds = c.args.ask.rounds; known = g.I.Log.Log.shown c.in_ok-log.log; start = g.D.Disk.history c.args.disk.now; written = g.O.Output.content c.args.out.now })
-    (g.I.Log.Log.shown c.run_job-done.new.log) (g.D.Disk.history c.run_job-done.new.disk) g.O.Output.tells (g.O.Output.content c.run_job-done.new.out) (string_bytes c.run_job-done.new.told) end in
-    source_ran (g.I.Inputs.held c.args.inputs.now) _ (g.I.Inputs.shown c.parts.new.self) query _ c.args.ask.most c.args.ask.rounds _ _ _ _ _ _ _ _ _ (fault_in c.run_job-done.result) _
+    (record { job = job; most = c.args.ask.most; rounds = c.args.ask.rounds; known = g.I.Log.Log.available c.in_ok-log.log; start = g.D.Disk.history c.args.disk.now; written = g.O.Output.content c.args.out.now })
+    (g.I.Log.Log.available c.run_job-done.new.log) (g.D.Disk.history c.run_job-done.new.disk) g.O.Output.tells (g.O.Output.content c.run_job-done.new.out) (string_bytes c.run_job-done.new.told) end in
+    source_ran (g.I.Inputs.held c.args.inputs.now) _ (g.I.Inputs.available c.parts.new.self) query _ c.args.ask.most c.args.ask.rounds _ _ _ _ _ _ _ _ _ (fault_in c.run_job-done.result) _
     c.as_str-source.ensures (c.in_ok-parts.ensures.found told) c.if-parts-ne1.false (c.in_ok-log.ensures.begins told) (c.parts.ensures.grown told)
     (ended E c.run_job-done.result (c.run_job-done.ensures.done tells tells_log job is text) (c.run_job-done.ensures.stop tells tells_log job is text))
     (c.run_job-done.ensures.always tells tells_log job is text)
