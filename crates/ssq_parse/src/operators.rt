@@ -1,6 +1,6 @@
 //! Which tokens are operators.
 
-ghost use Rattle.std.specs.Prelude.{◌≡◌};
+ghost use Rattle.std.specs.Prelude.{◌≡◌, Some, None, if◌then◌else◌};
 ghost use Rattle.ssq_lex.specs.Lexeme.{lexeme};
 ghost use Rattle.ssq_parse.specs.Operators as spec;
 ghost use Rattle.ssq_parse.specs.Reading as reading;
@@ -18,14 +18,21 @@ pub(crate) enum Level {
     Product,
 }
 
+/// The operator, if it is there.
+fn when(is_there: bool, op: BinaryOp) -> Option<BinaryOp>
+    ensures { result ≡ (if is_there then Some op else None) }
+{
+    if is_there { Some(op) } else { None }
+}
+
 /// The operator of a level that a token is.
 #[tactic(auto, unfolding(crate::specs::Operators::operator_of))]
 pub(crate) fn operator_of(level: Level, kind: Kind<'_>) -> Option<BinaryOp>
     ensures { result ≡ spec.operator_of level (lexeme kind.entry) }
 {
     match (level, kind) {
-        (Level::Or, Kind::Keyword(Keyword::Or)) => Some(BinaryOp::Or),
-        (Level::And, Kind::Keyword(Keyword::And)) => Some(BinaryOp::And),
+        (Level::Or, Kind::Keyword(found)) => when(found == Keyword::Or, BinaryOp::Or),
+        (Level::And, Kind::Keyword(found)) => when(found == Keyword::And, BinaryOp::And),
         (Level::Comparison, Kind::Symbol(Symbol::Equal)) => Some(BinaryOp::Equal),
         (Level::Comparison, Kind::Symbol(Symbol::NotEqual)) => Some(BinaryOp::NotEqual),
         (Level::Comparison, Kind::Symbol(Symbol::Less)) => Some(BinaryOp::Less),
@@ -36,7 +43,7 @@ pub(crate) fn operator_of(level: Level, kind: Kind<'_>) -> Option<BinaryOp>
         (Level::Sum, Kind::Symbol(Symbol::Minus)) => Some(BinaryOp::Subtract),
         (Level::Sum, Kind::Symbol(Symbol::Concat)) => Some(BinaryOp::Concat),
         (Level::Product, Kind::Symbol(Symbol::Star)) => Some(BinaryOp::Multiply),
-        (Level::Product, Kind::Keyword(Keyword::Div)) => Some(BinaryOp::Divide),
+        (Level::Product, Kind::Keyword(found)) => when(found == Keyword::Div, BinaryOp::Divide),
         (Level::Product, Kind::Symbol(Symbol::Percent)) => Some(BinaryOp::Remainder),
         _ => None,
     }
@@ -48,8 +55,8 @@ pub(crate) fn is_prefix(op: UnaryOp, kind: Kind<'_>) -> bool
     ensures { result ≡ spec.is_prefix op (lexeme kind.entry) }
 {
     match (op, kind) {
-        (UnaryOp::Not, Kind::Keyword(Keyword::Not)) => true,
-        (UnaryOp::Minus, Kind::Symbol(Symbol::Minus)) => true,
+        (UnaryOp::Not, Kind::Keyword(found)) => found == Keyword::Not,
+        (UnaryOp::Minus, Kind::Symbol(found)) => found == Symbol::Minus,
         _ => false,
     }
 }

@@ -44,21 +44,23 @@ fn plan_bytes(alloc: Global, epoch: u32, end: u64) -> Result<Vec<u8>, AllocError
     let (stream, part) = (0, 0);
     ends.push(PartEnd { stream, part, end })?;
     let watermark = None;
-    write_plan(
+    let text = write_plan(
         alloc,
         &Plan {
             epoch,
             watermark,
             ends,
         },
-    )
+    )?;
+    Ok(text.into_vec())
 }
 
 fn commit_bytes(alloc: Global, epoch: u32) -> Result<Vec<u8>, AllocError>
     ensures { IfOk result (λ bytes. bytes.items ≡ commit_text (commit_at epoch)) }
 {
     let seen = Sequence::new(alloc);
-    write_commit(alloc, &Commit { epoch, seen })
+    let text = write_commit(alloc, &Commit { epoch, seen })?;
+    Ok(text.into_vec())
 }
 
 /// Plans an epoch: settles where its lines end.
