@@ -1,6 +1,6 @@
 //! What holds of the job of each query.
 
-ghost use Rattle.ssq_course.specs.Laws.{AreCausal, FilesSayTheirCourse};
+ghost use Rattle.ssq_course.specs.Laws.{AreCausal, FilesSayTheirCourse, PlansCanBeWritten};
 
 /// The law of jobs: what the files of a query's checkpoint hold of its first epochs hangs on where these end, and on nothing that comes
 /// later; and an epoch has a fault only where one of its tasks has.
@@ -12,4 +12,10 @@ pub fn jobs_are_causal()
 /// determine the cuts as far as epochs are planned.
 pub fn files_say_their_course()
     ensures { FilesSayTheirCourse }
+{}
+
+/// The law of plans: the plan of an epoch that may follow those before it is one that can be written, where its watermark is of the
+/// years 0001 to 9999.
+pub fn plans_can_be_written()
+    ensures { PlansCanBeWritten }
 {}
