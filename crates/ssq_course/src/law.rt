@@ -1,9 +1,21 @@
 //! What holds of the job of each query.
 
-ghost use Rattle.ssq_course.specs.Laws.{AreCausal};
+ghost use Rattle.ssq_course.specs.Laws.{AreCausal, FilesSayTheirCourse, PlansCanBeWritten};
 
 /// The law of jobs: what the files of a query's checkpoint hold of its first epochs hangs on where these end, and on nothing that comes
 /// later; and an epoch has a fault only where one of its tasks has.
 pub fn jobs_are_causal()
     ensures { AreCausal }
+{}
+
+/// The law of files: files that stand say how many epochs are planned and committed, and what each plan and commit holds; so they
+/// determine the cuts as far as epochs are planned.
+pub fn files_say_their_course()
+    ensures { FilesSayTheirCourse }
+{}
+
+/// The law of plans: the plan of an epoch that may follow those before it is one that can be written, where its watermark is of the
+/// years 0001 to 9999.
+pub fn plans_can_be_written()
+    ensures { PlansCanBeWritten }
 {}

@@ -6,4 +6,4 @@
 
 mod law;
 
-pub use law::jobs_are_causal;
+pub use law::{files_say_their_course, jobs_are_causal, plans_can_be_written};
