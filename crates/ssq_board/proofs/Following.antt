@@ -12,7 +12,7 @@ use Rattle.ssq_outside.specs.History.{History, had_now, Elapses}
 use Rattle.ssq_core.specs.declared.event.Event.{Event}
 use Rattle.ssq_core.specs.declared.event.Event.TheVariants as event
 use Rattle.ssq_core.specs.Course.{Course, Cuts, Job, truth}
-use Rattle.ssq_core.specs.Machine.{Desk, placed, seals, result_of, Change, nothing, publishes, removes, syncs, Allows, Leaves, IsMarked, MayOn, MayFail, ComesBack}
+use Rattle.ssq_core.specs.Machine.{Desk, placed, seals, result_of, Change, nothing, misses, publishes, removes, syncs, Allows, Leaves, IsMarked, MayOn, MayFail, ComesBack, OwesNone}
 use Rattle.ssq_core.specs.Machine as machine
 use Rattle.ssq_board.specs.declared.front.Cause.{Cause}
 use Rattle.ssq_board.specs.declared.front.Place.{Place}
@@ -22,15 +22,25 @@ use Rattle.ssq_board.specs.declared.front.Entry.TheVariants as entry
 use Rattle.ssq_board.specs.Core.{Scope, Core, is_fine, is_open, is_stopped, is_of_line, may_start, at, moved, with_front, tasks_of, due, or_stop, stops, stopped_front, May, after, events_of, events_all, cuts_by}
 use Rattle.ssq_board.specs.Core as board
 use Rattle.ssq_board.specs.Shown.{IsSound}
-use Rattle.ssq_board.specs.Follows.{Terms, State, Step, Leads, change_of, Goes, Tries, IsTried, Moves, IsOwnBy, IsOwn, IsRight, IsDone, ShowsAt, Shows, stopped_of, shown}
+use Rattle.ssq_board.specs.Follows.{Terms, State, Step, Leads, change_of, Goes, Tries, IsTried, Moves, IsOwnBy, IsOwn, IsRight, IsDone, ShowsAt, Shows, life_of, shown}
 use Rattle.ssq_board.proofs.Lists.{nat_lt-not}
-use Rattle.ssq_board.proofs.Sounds.{running_of, step_sound}
+use Rattle.ssq_board.proofs.Sounds.{running_of, step_sound, due_none, outside_due}
 use Rattle.ssq_board.proofs.Placing.{placed_at, placed_twice, placed_shows, stopped_shows, maps_back, reduces_back, runs}
-use Rattle.ssq_board.proofs.Planning.{not_stopped, out_desk, out_may_on, out_shows, sync_may_on, sync_shows, commit_desk, commit_may_on, commit_shows, next_cuts, plan_desk, plan_may_on, plan_shows}
+use Rattle.ssq_board.proofs.Planning.{runs_on, goes_on, out_desk, out_may_on, out_shows, sync_may_on, sync_shows, commit_desk, commit_may_on, commit_shows, next_cuts, plan_desk, plan_may_on, plan_shows}
 
 -- a disk to which nothing was done
 elapses_same : (h : History) (P : Had → Type 0) → Elapses h h P
 elapses_same h P = record { later = le_refl h.moment; kept = λ k le. refl; fresh = λ k less le. absurd (omega arith) }
+
+-- a desk never owes a Stop
+owes_none : (o : Option Cause) → OwesNone (life_of o)
+owes_none None t e = cc
+owes_none (Some f) t e = cc
+
+-- a desk that runs is not stopped
+not_over : (o : Option Cause) → o ≡ None → life_of o ≡ machine.stopped → ⊥
+not_over None run e = cc
+not_over (Some f) run e = cc
 
 -- one list of events after another
 pub leads_more : (tells : Type 0) (job : Job) (s : machine.State) (es : List Event) (mid : machine.State) (fs : List Event) (n : machine.State) → machine.Leads tells job s es mid → machine.Leads tells job mid fs n
@@ -41,12 +51,15 @@ leads_more tells job s (e ∷ es) mid fs n l more = (l.0, l.1, leads_more tells 
 -- what a call that is done may leave at each moment, and what it leaves
 pub went : (change : Change) (old new : History) → Goes change old new → Elapses old new (Allows change (had_now old)) × Leaves change (had_now old) (had_now new)
 went nothing old new same = subst (λ (h : History). Elapses old h (Allows nothing (had_now old)) × Leaves nothing (had_now old) (had_now h)) (sym same) (elapses_same old (Allows nothing (had_now old)), refl)
+went (misses t) old new same =
+    subst (λ (h : History). Elapses old h (Allows (misses t) (had_now old)) × Leaves (misses t) (had_now old) (had_now h)) (sym same) (elapses_same old (Allows (misses t) (had_now old)), refl)
 went (publishes q bytes) old new g = g
 went (removes q) old new g = g
 went syncs old new g = g
 
 pub tried : (change : Change) (old new : History) → Tries change old new → Elapses old new (Allows change (had_now old))
 tried nothing old new same = subst (λ (h : History). Elapses old h (Allows nothing (had_now old))) (sym same) (elapses_same old (Allows nothing (had_now old)))
+tried (misses t) old new same = subst (λ (h : History). Elapses old h (Allows (misses t) (had_now old))) (sym same) (elapses_same old (Allows (misses t) (had_now old)))
 tried (publishes q bytes) old new g = g
 tried (removes q) old new g = g
 tried syncs old new g = g
@@ -61,6 +74,9 @@ module _ (told : Type 0) (job : Job) (r : Scope) (next : Cuts → ℕ → Bool) 
 
   waits_back : (b : Content) → machine.waits ≡ machine.back false b → ⊥
   waits_back b e = cc
+
+  out_failed : machine.out ≡ machine.failed → ⊥
+  out_failed e = cc
 
   out_back : (b : Content) → machine.out ≡ machine.back false b → ⊥
   out_back b e = cc
@@ -95,14 +111,14 @@ module _ (told : Type 0) (job : Job) (r : Scope) (next : Cuts → ℕ → Bool) 
       (
         nothing,
         Some (placed t machine.out d),
-        (d, placed t machine.out d, refl, refl, (not_stopped c m.0, (waiting.0, waiting.1, by t.kind m.3), refl, refl)),
+        (d, placed t machine.out d, refl, refl, (goes_on job r next terms c d sound s m.0, (waiting.0, waiting.1, by t.kind m.3), refl, refl)),
         (λ t. (elapses_same disk (Allows nothing (had_now disk)), refl, tt)),
         refl,
       ),
       refl,
     ),
     refl,
-    placed_shows job r next terms c d t place.Waits place.Away machine.out m.1 m.2 fresh m.4 (out_not_done (job.course d.cuts) t (d.tasks t) machine.waits waiting.1 waits_back) refl s,
+    placed_shows job r next terms c d t place.Waits place.Away machine.out c.front.stop m.1 m.2 fresh m.4 (out_not_done (job.course d.cuts) t (d.tasks t) machine.waits waiting.1 waits_back) refl (λ run. (run, out_failed)) s,
   )
     where
       fresh : c.front.fresh ≡ true
@@ -126,11 +142,11 @@ module _ (told : Type 0) (job : Job) (r : Scope) (next : Cuts → ℕ → Bool) 
 
   -- the Stop behind a report
   report_stops : (disk : History) (c : Core) (d n : Desk) (t : TaskId) (f : Option Cause) (pre : List Event) (o : Option Cause) → ((o ≡ None) ⊎ (c.front.stop ≡ None))
-      → machine.Leads told job (shown disk c d) pre (record { disk = disk; desk = Some n; stopped = is_stopped c.front.stop })
-      → machine.Leads told job (shown disk c d) (pre ++ stops o) (record { disk = disk; desk = Some n; stopped = is_stopped (or_stop c.front.stop o) })
+      → machine.Leads told job (shown disk c d) pre (record { disk = disk; desk = Some n; life = life_of c.front.stop })
+      → machine.Leads told job (shown disk c d) (pre ++ stops o) (record { disk = disk; desk = Some n; life = life_of (or_stop c.front.stop o) })
   report_stops disk c d n t f pre None why l =
-      leads_more told job (shown disk c d) pre (record { disk = disk; desk = Some n; stopped = is_stopped c.front.stop }) [] (record { disk = disk; desk = Some n; stopped = is_stopped (or_stop c.front.stop None) }) l
-      (λ i. record { disk = disk; desk = Some n; stopped = is_stopped (or_none c.front.stop i) })
+      leads_more told job (shown disk c d) pre (record { disk = disk; desk = Some n; life = life_of c.front.stop }) [] (record { disk = disk; desk = Some n; life = life_of (or_stop c.front.stop None) }) l
+      (λ i. record { disk = disk; desk = Some n; life = life_of (or_none c.front.stop i) })
     where
       or_none : (o : Option Cause) → o ≡ or_stop o None
       or_none None = refl
@@ -140,10 +156,10 @@ module _ (told : Type 0) (job : Job) (r : Scope) (next : Cuts → ℕ → Bool) 
       some_none : Some g ≡ None → ⊥
       some_none e = cc
   report_stops disk c d n t f pre (Some g) (inr run) l =
-      leads_more told job (shown disk c d) pre (record { disk = disk; desk = Some n; stopped = is_stopped c.front.stop }) (event.Stop ∷ []) (record { disk = disk; desk = Some n; stopped = is_stopped (or_stop c.front.stop (Some g)) }) l (
-        record { disk = disk; desk = Some n; stopped = true },
-        (nothing, ap is_stopped run, inl refl, (λ t. elapses_same disk (Allows nothing (had_now disk))), refl),
-        (λ i. record { disk = disk; desk = Some n; stopped = is_stopped (or_stop (sym run i) (Some g)) }),
+      leads_more told job (shown disk c d) pre (record { disk = disk; desk = Some n; life = life_of c.front.stop }) (event.Stop ∷ []) (record { disk = disk; desk = Some n; life = life_of (or_stop c.front.stop (Some g)) }) l (
+        record { disk = disk; desk = Some n; life = machine.stopped },
+        (nothing, not_over c.front.stop run, inl refl, (λ t. elapses_same disk (Allows nothing (had_now disk))), refl),
+        (λ i. record { disk = disk; desk = Some n; life = life_of (or_stop (sym run i) (Some g)) }),
       )
 
   due_why : (c : Core) (t : TaskId) (f : Option Cause) → (due c t f ≡ None) ⊎ (c.front.stop ≡ None)
@@ -153,16 +169,26 @@ module _ (told : Type 0) (job : Job) (r : Scope) (next : Cuts → ℕ → Bool) 
       by None is = inr is
       by (Some g) is = inl (ap (λ (x : Option Cause). if is_stopped x then None else board.due_stop (set (tasks_of t.kind c) t.number (place.Back f))) is)
 
+  -- where a task failed, its cause is one of the outside
+  abbrev FailedBy : machine.Place → Option Cause → Type 0
+  FailedBy there f = there ≡ machine.failed → (g : Cause) × (f ≡ Some g) × (is_of_line g ≡ false)
+
+  back_failed : {b : Bool} {c : Content} {A : Type 0} → machine.back b c ≡ machine.failed → A
+  back_failed e = absurd (cc)
+
+  out_reduce : {A : Type 0} → kind.Out ≡ kind.Reduce → A
+  out_reduce e = absurd (cc)
+
   -- The report itself: where the task is then, and that its place shows it.
   abbrev ReportLeads : History → Core → Desk → TaskId → Option Cause → Type 0
-  ReportLeads disk c d t f = (there : machine.Place) × ShowsAt (job.course d.cuts) t there (place.Back f)
-      × machine.Leads told job (shown disk c d) (board.seals t.kind t f ++ event.Report t ∷ []) (record { disk = disk; desk = Some (placed t there d); stopped = is_stopped c.front.stop })
+  ReportLeads disk c d t f = (there : machine.Place) × ShowsAt (job.course d.cuts) t there (place.Back f) × FailedBy there f
+      × machine.Leads told job (shown disk c d) (board.seals t.kind t f ++ event.Report t ∷ []) (record { disk = disk; desk = Some (placed t there d); life = life_of c.front.stop })
 
   -- a report that touches the place alone
-  one_report : (disk : History) (c : Core) (d : Desk) (t : TaskId) (there : machine.Place) → MayOn job d (stopped_of c) (event.Report t) nothing (placed t there d)
-      → machine.Leads told job (shown disk c d) (event.Report t ∷ []) (record { disk = disk; desk = Some (placed t there d); stopped = is_stopped c.front.stop })
+  one_report : (disk : History) (c : Core) (d : Desk) (t : TaskId) (there : machine.Place) → MayOn job d (life_of c.front.stop) (event.Report t) nothing (placed t there d)
+      → machine.Leads told job (shown disk c d) (event.Report t ∷ []) (record { disk = disk; desk = Some (placed t there d); life = life_of c.front.stop })
   one_report disk c d t there may = (
-    record { disk = disk; desk = Some (placed t there d); stopped = is_stopped c.front.stop },
+    record { disk = disk; desk = Some (placed t there d); life = life_of c.front.stop },
     (nothing, Some (placed t there d), (d, placed t there d, refl, refl, may), (λ t. (elapses_same disk (Allows nothing (had_now disk)), refl, tt)), refl),
     refl,
   )
@@ -174,19 +200,20 @@ module _ (told : Type 0) (job : Job) (r : Scope) (next : Cuts → ℕ → Bool) 
   not_sealed kind.Upkeep t g = refl
 
   fault_leads : (disk : History) (c : Core) (d : Desk) (t : TaskId) (g : Cause) → d.tasks t ≡ machine.out → IsOwn (job.course d.cuts) t (Some g) → ReportLeads disk c d t (Some g)
-  fault_leads disk c d t g out own = by (is_of_line g) own
+  fault_leads disk c d t g out own = by (is_of_line g) refl own
     where
-      leads : (there : machine.Place) → MayOn job d (stopped_of c) (event.Report t) nothing (placed t there d) → ReportLeads disk c d t (Some g)
-      leads there may = (
+      leads : (there : machine.Place) → FailedBy there (Some g) → MayOn job d (life_of c.front.stop) (event.Report t) nothing (placed t there d) → ReportLeads disk c d t (Some g)
+      leads there why may = (
         there,
         tt,
-        subst (λ (l : List Event). machine.Leads told job (shown disk c d) (l ++ event.Report t ∷ []) (record { disk = disk; desk = Some (placed t there d); stopped = is_stopped c.front.stop }))
+        why,
+        subst (λ (l : List Event). machine.Leads told job (shown disk c d) (l ++ event.Report t ∷ []) (record { disk = disk; desk = Some (placed t there d); life = life_of c.front.stop }))
             (sym (not_sealed t.kind t g)) (one_report disk c d t there may),
       )
 
-      by : (b : Bool) → IsOwnBy ((job.course d.cuts).is_fault t) b → ReportLeads disk c d t (Some g)
-      by false h = leads machine.failed (inl (out, refl, refl))
-      by true fault = leads (machine.back ((job.course d.cuts).is_fault t) None) (inr (None, inl (out, refl, inl fault), inl (refl, refl)))
+      by : (b : Bool) → is_of_line g ≡ b → IsOwnBy ((job.course d.cuts).is_fault t) b → ReportLeads disk c d t (Some g)
+      by false is h = leads machine.failed (λ e. (g, refl, is)) (inl (out, refl, refl, owes_none c.front.stop))
+      by true is fault = leads (machine.back ((job.course d.cuts).is_fault t) None) (λ e. back_failed e) (inr (None, inl (out, refl, inl fault), inl (refl, refl, owes_none c.front.stop, inr (λ k h. refl))))
 
   fine_leads : (disk : History) (c : Core) (d : Desk) (k : Kind) (e i : ℕ) → at c (record { epoch = e; kind = k; number = i }) ≡ some place.Away → d.tasks (record { epoch = e; kind = k; number = i }) ≡ machine.out
       → (job.course d.cuts).is_fault (record { epoch = e; kind = k; number = i }) ≡ false → ReportLeads disk c d (record { epoch = e; kind = k; number = i }) None
@@ -194,14 +221,16 @@ module _ (told : Type 0) (job : Job) (r : Scope) (next : Cuts → ℕ → Bool) 
       let t : TaskId = record { epoch = e; kind = kind.Map; number = i } in (
         machine.back ((job.course d.cuts).is_fault t) None,
         record { bytes = None; is = ap (λ (b : Bool). machine.back b None) own; has = λ h. absurd (true≢false (sym h)) },
-        one_report disk c d t (machine.back ((job.course d.cuts).is_fault t) None) (inr (None, inl (out, refl, inr refl), inl (refl, refl))),
+        (λ e. back_failed e),
+        one_report disk c d t (machine.back ((job.course d.cuts).is_fault t) None) (inr (None, inl (out, refl, inr refl), inl (refl, refl, owes_none c.front.stop, inr (λ k h. refl)))),
       )
   fine_leads disk c d kind.Reduce e i here out own =
       let t : TaskId = record { epoch = e; kind = kind.Reduce; number = i } in
       let none : nat_lt i (job.course d.cuts).keeping ≡ false = nat_lt-not i (job.course d.cuts).keeping (let k = terms.stateless d.cuts in omega arith) in (
         machine.back ((job.course d.cuts).is_fault t) None,
         record { bytes = None; is = ap (λ (b : Bool). machine.back b None) own; has = λ h. absurd (true≢false (sym h ∙ none)) },
-        one_report disk c d t (machine.back ((job.course d.cuts).is_fault t) None) (inr (None, inl (out, refl, inr none), inl (refl, refl))),
+        (λ e. back_failed e),
+        one_report disk c d t (machine.back ((job.course d.cuts).is_fault t) None) (inr (None, inl (out, refl, inr none), inl (refl, refl, owes_none c.front.stop, inr (λ k h. refl)))),
       )
   fine_leads disk c d kind.Out e i here out own =
       let t : TaskId = record { epoch = e; kind = kind.Out; number = i } in
@@ -210,15 +239,16 @@ module _ (told : Type 0) (job : Job) (r : Scope) (next : Cuts → ℕ → Bool) 
       let there = machine.back ((job.course d.cuts).is_fault t) (Some rows) in (
         there,
         record { bytes = Some rows; is = ap (λ (b : Bool). machine.back b (Some rows)) own; has = λ h. refl },
+        (λ e. back_failed e),
         (
-          record { disk = disk; desk = Some sealed_desk; stopped = is_stopped c.front.stop },
-          (nothing, Some sealed_desk, (d, sealed_desk, refl, refl, (rows, out, (refl, refl), refl)), (λ t. (elapses_same disk (Allows nothing (had_now disk)), refl, tt)), refl),
+          record { disk = disk; desk = Some sealed_desk; life = life_of c.front.stop },
+          (nothing, Some sealed_desk, (d, sealed_desk, refl, refl, (rows, out, (refl, refl), refl, owes_none c.front.stop)), (λ t. (elapses_same disk (Allows nothing (had_now disk)), refl, tt)), refl),
           (
-            record { disk = disk; desk = Some (placed t there d); stopped = is_stopped c.front.stop },
+            record { disk = disk; desk = Some (placed t there d); life = life_of c.front.stop },
             (
               nothing,
               Some (placed t there d),
-              (sealed_desk, placed t there d, refl, refl, inr (Some rows, inr (rows, placed_at t (machine.sealed rows) d, refl), inl (refl, sym (placed_twice t (machine.sealed rows) there d)))),
+              (sealed_desk, placed t there d, refl, refl, inr (Some rows, inr (rows, placed_at t (machine.sealed rows) d, refl), inl (refl, sym (placed_twice t (machine.sealed rows) there d), owes_none c.front.stop, inr (λ k h. out_reduce k)))),
               (λ t. (elapses_same disk (Allows nothing (had_now disk)), refl, tt)),
               refl,
             ),
@@ -244,10 +274,14 @@ module _ (told : Type 0) (job : Job) (r : Scope) (next : Cuts → ℕ → Bool) 
       let fresh : c.front.fresh ≡ true = elim (s.claimed t m.1) [ inl waits ↦ absurd (out_waits (sym out ∙ waits)) | inr h ↦ h ] in (
         placed t l.0 d,
         subst (λ (es : List Event). machine.Leads told job (shown disk c d) es (shown disk (after r c (entry.Report t f)) (placed t l.0 d))) (more_of (board.seals t.kind t f) (event.Report t) (stops (due c t f)))
-            (report_stops disk c d (placed t l.0 d) t f (board.seals t.kind t f ++ event.Report t ∷ []) (due c t f) (due_why c t f) l.2),
+            (report_stops disk c d (placed t l.0 d) t f (board.seals t.kind t f ++ event.Report t ∷ []) (due c t f) (due_why c t f) l.3),
         refl,
-        stopped_shows job r next terms (moved c t (place.Back f)) (placed t l.0 d) (or_stop c.front.stop (due c t f))
-            (placed_shows job r next terms c d t place.Away (place.Back f) l.0 m.0 m.1 fresh m.2 (out_not_done (job.course d.cuts) t (d.tasks t) machine.out out out_back) l.1 s),
+        placed_shows job r next terms c d t place.Away (place.Back f) l.0 (or_stop c.front.stop (due c t f)) m.0 m.1 fresh m.2 (out_not_done (job.course d.cuts) t (d.tasks t) machine.out out out_back) l.1
+            (λ run. (let n = due_none c t f run in (
+              n.0,
+              λ e. (let w = l.2 e in
+                  outside_due (tasks_of t.kind c) t.number w.0 place.Away m.2 w.2 (ap (λ (x : Option Cause). board.due_stop (set (tasks_of t.kind c) t.number (place.Back x))) (sym w.1) ∙ n.1)),
+            ))) s,
       )
     where
       out_waits : machine.out ≡ machine.waits → ⊥
@@ -280,7 +314,7 @@ module _ (told : Type 0) (job : Job) (r : Scope) (next : Cuts → ℕ → Bool) 
       shown new (after r c (entry.Stop f)) d,
       (
         moves.0,
-        not_stopped c m.0,
+        not_over c.front.stop m.0,
         elim moves.1 [ inl none ↦ inl none | inr x ↦ tried_fails old c d moves.0 sound s x.0 x.1 x.2 ],
         (λ t. tried moves.0 old new moves.2),
         refl,
@@ -288,7 +322,7 @@ module _ (told : Type 0) (job : Job) (r : Scope) (next : Cuts → ℕ → Bool) 
       refl,
     ),
     refl,
-    stopped_shows job r next terms c d (Some f) s,
+    stopped_shows job r next terms c d f s,
   )
 
   pub plan_follows : (old new : History) (c : Core) (d : Desk) (e : ℕ) → IsSound r c → Shows job r next terms c d → May r c (entry.Plan e) → Moves job r c d.cuts (entry.Plan e) old new
@@ -303,7 +337,7 @@ module _ (told : Type 0) (job : Job) (r : Scope) (next : Cuts → ℕ → Bool) 
             Some n,
             (d, n, refl, refl, plan_may_on job r next terms c d sound s e m),
             (λ t. (let w = went (change_of job (cuts_by r d.cuts c (entry.Plan e)) (entry.Plan e)) old new moves in (w.0, w.1, tt))),
-            (λ i. record { disk = new; desk = Some n; stopped = sym (not_stopped c m.0) i }),
+            (λ i. record { disk = new; desk = Some n; life = sym (runs_on c m.0) i }),
           ),
           refl,
         ),
@@ -323,7 +357,7 @@ module _ (told : Type 0) (job : Job) (r : Scope) (next : Cuts → ℕ → Bool) 
             Some n,
             (d, n, refl, refl, out_may_on job r next terms c d sound s e m),
             (λ t. (let w = went (change_of job d.cuts (entry.OutFile e)) old new moves in (w.0, w.1, tt))),
-            (λ i. record { disk = new; desk = Some n; stopped = sym (not_stopped c m.0) i }),
+            (λ i. record { disk = new; desk = Some n; life = sym (runs_on c m.0) i }),
           ),
           refl,
         ),
@@ -343,7 +377,7 @@ module _ (told : Type 0) (job : Job) (r : Scope) (next : Cuts → ℕ → Bool) 
             Some n,
             (d, n, refl, refl, sync_may_on job r next terms c d sound s clock m),
             (λ t. (moves.0.0, moves.0.1, moves.1)),
-            (λ i. record { disk = new; desk = Some n; stopped = sym (not_stopped c m) i }),
+            (λ i. record { disk = new; desk = Some n; life = sym (runs_on c m) i }),
           ),
           refl,
         ),
@@ -363,7 +397,7 @@ module _ (told : Type 0) (job : Job) (r : Scope) (next : Cuts → ℕ → Bool) 
             Some n,
             (d, n, refl, refl, commit_may_on job r next terms c d sound s e b m),
             (λ t. (let w = went (change_of job d.cuts (entry.Commit e b)) old new moves in (w.0, w.1, tt))),
-            (λ i. record { disk = new; desk = Some n; stopped = sym (not_stopped c m.0) i }),
+            (λ i. record { disk = new; desk = Some n; life = sym (runs_on c m.0) i }),
           ),
           refl,
         ),

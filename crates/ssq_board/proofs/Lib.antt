@@ -9,3 +9,4 @@ pub mod Telling
 pub mod Needs
 pub mod Falls
 pub mod Resting
+pub mod Leasts

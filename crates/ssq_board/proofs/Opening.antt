@@ -33,6 +33,9 @@ module _ (job : Job) (r : Scope) (next : Cuts → ℕ → Bool) (terms : Terms j
   commit_file : (e : ℕ) → e < s.committed → is_some (files (name.Commit e)) ≡ true
   commit_file e less = op.0.needed (name.Commit e) (nat_lt-is e d.committed (omega (arith, committed)))
 
+  waits_failed : machine.waits ≡ machine.failed → ⊥
+  waits_failed e = cc
+
   shows_it : (t : TaskId) (p : Place) → p ≡ place.Waits → (job.course d.cuts).is_task t ≡ true → ShowsAt (job.course d.cuts) t (d.tasks t) p
   shows_it t p is task = subst (ShowsAt (job.course d.cuts) t (d.tasks t)) (sym is) (task, op.4 t)
 
@@ -52,6 +55,7 @@ module _ (job : Job) (r : Scope) (next : Cuts → ℕ → Bool) (terms : Terms j
     mapped = λ o. absurd (true≢false (sym o ∙ closed));
     claimed = λ t epoch. inl (op.4 t);
     later = λ t le. op.4 t;
+    whole = λ run t e. waits_failed (sym (op.4 t) ∙ e);
     has_lines = λ o. absurd (true≢false (sym o ∙ closed));
     due = λ h. due refl;
   }
@@ -73,6 +77,7 @@ module _ (job : Job) (r : Scope) (next : Cuts → ℕ → Bool) (terms : Terms j
     mapped = λ o i is. (let b = line_below s.from s.to i (sym (map_is i) ∙ is) in let l = dealt_length s.from s.to in omega arith);
     claimed = λ t epoch. inl (op.4 t);
     later = λ t le. op.4 t;
+    whole = λ run t e. waits_failed (sym (op.4 t) ∙ e);
     has_lines = λ o h. (λ i. has_line (from i) (to i)) ∙ h;
     due = λ h. absurd (true≢false (sym (nat_lt-is s.committed (s.committed + 1) (omega arith)) ∙ h));
   }

@@ -95,10 +95,12 @@ maps_still c t p = by t.kind
     by kind.Upkeep = refl
 
 module _ (job : Job) (r : Scope) (due : Cuts → ℕ → Bool) (terms : Terms job r due) where
-  -- A task of the epoch that runs goes from one place to another, where it wasn't done.
-  pub placed_shows : (c : Core) (d : Desk) (t : TaskId) (q p : Place) (there : machine.Place) → is_open c ≡ true → t.epoch ≡ c.front.committed → c.front.fresh ≡ true → at c t ≡ some q
-      → (IsDone (job.course d.cuts) t (d.tasks t) → ⊥) → ShowsAt (job.course d.cuts) t there p → Shows job r due terms c d → Shows job r due terms (moved c t p) (placed t there d)
-  placed_shows c d t q p there opened epoch fresh here never shows s = record {
+  -- A task of the epoch that runs goes from one place to another, where it wasn't done, and perhaps brings about a Stop: it does where
+  -- it comes back after a fault of the outside.
+  pub placed_shows : (c : Core) (d : Desk) (t : TaskId) (q p : Place) (there : machine.Place) (o : Option Cause) → is_open c ≡ true → t.epoch ≡ c.front.committed → c.front.fresh ≡ true → at c t ≡ some q
+      → (IsDone (job.course d.cuts) t (d.tasks t) → ⊥) → ShowsAt (job.course d.cuts) t there p → (o ≡ None → (c.front.stop ≡ None) × (there ≡ machine.failed → ⊥)) → Shows job r due terms c d
+      → Shows job r due terms (with_front (moved c t p) (stopped_front c.front o)) (placed t there d)
+  placed_shows c d t q p there o opened epoch fresh here never shows whole s = record {
     planned = s.planned;
     committed = s.committed;
     starts = s.starts;
@@ -109,10 +111,11 @@ module _ (job : Job) (r : Scope) (due : Cuts → ℕ → Bool) (terms : Terms jo
     plan_settled = s.plan_settled;
     commits = s.commits;
     written = λ o w. ((s.written o w).0, still (s.written o w).1);
-    tasks = λ o u x at_epoch found. by_task u x at_epoch found (same_task u t) refl;
+    tasks = λ o' u x at_epoch found. by_task u x at_epoch (same_at u.kind (moved c t p) (stopped_front c.front o) u.number ∙ found) (same_task u t) refl;
     mapped = λ o i is. subst (λ (n : ℕ). i < n) (sym (maps_still c t p)) (s.mapped o i is);
     claimed = λ u at_epoch. inr fresh;
     later = λ u le. later u le (same_task u t) refl;
+    whole = λ run u. whole_at (whole run) u (same_task u t) refl;
     has_lines = s.has_lines;
     due = s.due;
   }
@@ -138,9 +141,13 @@ module _ (job : Job) (r : Scope) (due : Cuts → ℕ → Bool) (terms : Terms jo
       later u le true same = absurd (let o = open_less c opened in let e = ap (λ (x : TaskId). x.epoch) (same_task-true u t same) in omega arith)
       later u le false other = rw other (s.later u le)
 
+      whole_at : (c.front.stop ≡ None) × (there ≡ machine.failed → ⊥) → (u : TaskId) (b : Bool) → same_task u t ≡ b → (if same_task u t then there else d.tasks u) ≡ machine.failed → ⊥
+      whole_at w u true same e = w.1 (sym (ap (λ (b : Bool). if b then there else d.tasks u) same) ∙ e)
+      whole_at w u false other e = s.whole w.0 u (sym (ap (λ (b : Bool). if b then there else d.tasks u) other) ∙ e)
+
   -- a Stop is no other place
-  pub stopped_shows : (c : Core) (d : Desk) (o : Option Cause) → Shows job r due terms c d → Shows job r due terms (with_front c (stopped_front c.front o)) d
-  stopped_shows c d o s = record {
+  pub stopped_shows : (c : Core) (d : Desk) (g : Cause) → Shows job r due terms c d → Shows job r due terms (with_front c (stopped_front c.front (Some g))) d
+  stopped_shows c d g s = record {
     planned = s.planned;
     committed = s.committed;
     starts = s.starts;
@@ -151,13 +158,17 @@ module _ (job : Job) (r : Scope) (due : Cuts → ℕ → Bool) (terms : Terms jo
     plan_settled = s.plan_settled;
     commits = s.commits;
     written = s.written;
-    tasks = λ opened t p epoch here. s.tasks opened t p epoch (same_at t.kind c (stopped_front c.front o) t.number ∙ here);
+    tasks = λ opened t p epoch here. s.tasks opened t p epoch (same_at t.kind c (stopped_front c.front (Some g)) t.number ∙ here);
     mapped = s.mapped;
     claimed = s.claimed;
     later = s.later;
+    whole = λ run. absurd (some_none run);
     has_lines = s.has_lines;
     due = s.due;
   }
+    where
+      some_none : Some g ≡ None → ⊥
+      some_none e = cc
 
   -- the maps of the epoch that runs, and its reduces, are back
   fine_back : (c : Core) (d : Desk) (t : TaskId) (p : Place) → Shows job r due terms c d → is_open c ≡ true → t.epoch ≡ c.front.committed → at c t ≡ some p → is_fine p ≡ true

@@ -12,7 +12,7 @@ use Rattle.ssq_outside.specs.Files.{same_name}
 use Rattle.ssq_outside.proofs.Names.{same_name-same}
 use Rattle.ssq_core.specs.declared.event.Event.TheVariants as event
 use Rattle.ssq_core.specs.Course.{Course, Cuts, Ends, Job, truth, AreSameUpTo}
-use Rattle.ssq_core.specs.Machine.{Desk, with_file, with_plan, with_commit, with_sync, out_task, reduce, publishes, syncs, IsRunning, MayOn}
+use Rattle.ssq_core.specs.Machine.{Desk, with_file, with_plan, with_commit, with_sync, out_task, reduce, publishes, syncs, IsRunning, GoesOn, MayOn}
 use Rattle.ssq_core.specs.Machine as machine
 use Rattle.ssq_core.specs.Sound.{AreProper}
 use Rattle.ssq_board.specs.declared.front.Cause.{Cause}
@@ -21,13 +21,13 @@ use Rattle.ssq_board.specs.declared.front.Place.TheVariants as place
 use Rattle.ssq_board.specs.declared.front.Entry.TheVariants as entry
 use Rattle.ssq_board.specs.Core.{Scope, Core, next_ends, is_behind, is_more, has_line, has_line_at, dealt, is_open, is_stopped, at, tasks_of, extended, cuts_by, May, after}
 use Rattle.ssq_board.specs.Shown.{IsSound}
-use Rattle.ssq_board.specs.Follows.{Terms, map_task, change_of, IsDone, ShowsAt, Shows, stopped_of}
+use Rattle.ssq_board.specs.Follows.{Terms, map_task, change_of, IsDone, ShowsAt, Shows, life_of}
 use Rattle.ssq_board.proofs.Lists.{at_length, const_at, map_length, one_at, dealt_at, dealt_length, line_below, not_behind, nat_lt-is, nat_lt-not, nat_lt-less}
 use Rattle.ssq_board.proofs.Sounds.{open_less, open_not}
 use Rattle.ssq_board.proofs.Placing.{runs}
 
-pub not_stopped : (c : Core) → c.front.stop ≡ None → stopped_of c ≡ false
-not_stopped c e = ap is_stopped e
+pub runs_on : (c : Core) → c.front.stop ≡ None → life_of c.front.stop ≡ machine.running
+runs_on c e = ap life_of e
 
 -- a file that is there is there after a publish
 there_still : (q p : Name) (d : Desk) → d.there q ≡ true → (with_file p d).there q ≡ true
@@ -62,18 +62,22 @@ module _ (job : Job) (r : Scope) (due : Cuts → ℕ → Bool) (terms : Terms jo
   course : Course
   course = job.course d.cuts
 
+  -- the machine's desk goes on
+  pub goes_on : c.front.stop ≡ None → GoesOn (life_of c.front.stop) d
+  goes_on run = record { runs = runs_on c run; whole = s.whole run }
+
   -- the rows of the epoch that runs
   abbrev pub out_desk : ℕ → Desk
   out_desk e = with_file (name.Out e) d
 
-  pub out_may_on : (e : ℕ) → May r c (entry.OutFile e) → MayOn job d (stopped_of c) (event.OutFile e) (change_of job d.cuts (entry.OutFile e)) (out_desk e)
+  pub out_may_on : (e : ℕ) → May r c (entry.OutFile e) → MayOn job d (life_of c.front.stop) (event.OutFile e) (change_of job d.cuts (entry.OutFile e)) (out_desk e)
   out_may_on e m =
       let t = out_task c.front.committed in
       let done : IsDone (job.course d.cuts) t (d.tasks t) = s.tasks m.2 t (place.Back None) refl m.4 in
       let fresh : c.front.fresh ≡ true = elim (s.claimed t refl) [ inl waits ↦ absurd (done_went (job.course d.cuts) t (d.tasks t) done waits) | inr f ↦ f ] in
       let back : d.tasks t ≡ machine.back false (Some ((job.course d.cuts).rows c.front.committed)) = done.is ∙ ap (machine.back false) (done.has refl) in (
         (job.course d.cuts).rows e,
-        not_stopped c m.0,
+        goes_on m.0,
         runs job r due terms c d e sound s m.2 fresh m.1,
         subst (λ (x : ℕ). d.tasks (out_task x) ≡ machine.back false (Some ((job.course d.cuts).rows x))) (sym m.1) back,
         refl,
@@ -99,6 +103,7 @@ module _ (job : Job) (r : Scope) (due : Cuts → ℕ → Bool) (terms : Terms jo
     mapped = s.mapped;
     claimed = s.claimed;
     later = s.later;
+    whole = λ run. s.whole m.0;
     has_lines = s.has_lines;
     due = s.due;
   }
@@ -112,8 +117,8 @@ module _ (job : Job) (r : Scope) (due : Cuts → ℕ → Bool) (terms : Terms jo
           by kind.Out h = h
           by kind.Upkeep h = h
 
-  pub sync_may_on : (clock : ℕ) → May r c (entry.Sync clock) → MayOn job d (stopped_of c) (event.Sync clock) syncs (with_sync d)
-  sync_may_on clock m = (not_stopped c m, refl, refl)
+  pub sync_may_on : (clock : ℕ) → May r c (entry.Sync clock) → MayOn job d (life_of c.front.stop) (event.Sync clock) syncs (with_sync d)
+  sync_may_on clock m = (goes_on m, refl, refl)
 
   pub sync_shows : (clock : ℕ) → May r c (entry.Sync clock) → Shows job r due terms (after r c (entry.Sync clock)) (with_sync d)
   sync_shows clock m = record {
@@ -131,6 +136,7 @@ module _ (job : Job) (r : Scope) (due : Cuts → ℕ → Bool) (terms : Terms jo
     mapped = s.mapped;
     claimed = λ t epoch. inr refl;
     later = s.later;
+    whole = λ run. s.whole m;
     has_lines = s.has_lines;
     due = s.due;
   }
@@ -147,11 +153,11 @@ module _ (job : Job) (r : Scope) (due : Cuts → ℕ → Bool) (terms : Terms jo
   abbrev pub commit_desk : ℕ → Desk
   commit_desk e = with_file (name.Commit e) (with_commit d)
 
-  pub commit_may_on : (e : ℕ) (next : Bool) → May r c (entry.Commit e next) → MayOn job d (stopped_of c) (event.Commit e) (change_of job d.cuts (entry.Commit e next)) (commit_desk e)
+  pub commit_may_on : (e : ℕ) (next : Bool) → May r c (entry.Commit e next) → MayOn job d (life_of c.front.stop) (event.Commit e) (change_of job d.cuts (entry.Commit e next)) (commit_desk e)
   commit_may_on e next m =
       let w = s.written m.2 m.4 in (
         w.1.bytes,
-        not_stopped c m.0,
+        goes_on m.0,
         runs job r due terms c d e sound s m.2 m.3 m.1,
         subst (λ (x : ℕ). d.tasks (out_task x) ≡ machine.back false w.1.bytes) (sym m.1) w.1.is,
         subst (λ (x : ℕ). d.sure (name.Out x) ≡ true) (sym m.1) (s.settled m.5 (name.Out c.front.committed) w.0),
@@ -179,6 +185,7 @@ module _ (job : Job) (r : Scope) (due : Cuts → ℕ → Bool) (terms : Terms jo
     mapped = λ o. absurd (true≢false (sym o ∙ closed));
     claimed = λ t epoch. inl (s.later t (let a = sound.near in omega arith));
     later = s.later;
+    whole = λ run. s.whole m.0;
     has_lines = λ o. absurd (true≢false (sym o ∙ closed));
     due = λ h. by c.front.has_lines refl;
   }
@@ -228,10 +235,10 @@ module _ (job : Job) (r : Scope) (due : Cuts → ℕ → Bool) (terms : Terms jo
   all_committed : (e : ℕ) → May r c (entry.Plan e) → c.front.committed ≡ c.front.planned
   all_committed e m = (let a = open_not c m.2 in let b = sound.before in omega arith)
 
-  pub plan_may_on : (e : ℕ) → May r c (entry.Plan e) → MayOn job d (stopped_of c) (event.Plan e) (change_of job next_cuts (entry.Plan e)) (plan_desk e)
+  pub plan_may_on : (e : ℕ) → May r c (entry.Plan e) → MayOn job d (life_of c.front.stop) (event.Plan e) (change_of job next_cuts (entry.Plan e)) (plan_desk e)
   plan_may_on e m = (
     next_cuts,
-    not_stopped c m.0,
+    goes_on m.0,
     m.1 ∙ sym s.planned,
     s.committed ∙ all_committed e m ∙ sym m.1,
     m.5,
@@ -261,6 +268,7 @@ module _ (job : Job) (r : Scope) (due : Cuts → ℕ → Bool) (terms : Terms jo
     mapped = λ o i is. (let b = line_below c.ends (next_ends r.cap c.ends r.available) i (sym (map_is i) ∙ is) in let l = dealt_length c.ends (next_ends r.cap c.ends r.available) in omega arith);
     claimed = λ t epoch. inl (waiting t epoch);
     later = λ t le. s.later t (omega (arith, le));
+    whole = λ run. s.whole m.0;
     has_lines = λ o h. (λ i. has_line (from_is i) (next_is i)) ∙ not_behind r.cap c.ends r.available h;
     due = λ h. absurd (true≢false (sym (nat_lt-is c.front.committed (c.front.planned + 1) (let a = all_committed e m in omega arith)) ∙ h));
   }

@@ -9,7 +9,7 @@ use Rattle.ssq_outside.specs.declared.gate.Kind.TheVariants as kind
 use Rattle.ssq_outside.specs.Files.{Content, Had}
 use Rattle.ssq_outside.specs.History.{History, had_now, Elapses}
 use Rattle.ssq_core.specs.Course.{Course, Ends, Cuts, Job, truth, IsCausal}
-use Rattle.ssq_core.specs.Machine.{Desk, Change, nothing, publishes, removes, syncs, Allows, Leaves, result_of, reduce, out_task}
+use Rattle.ssq_core.specs.Machine.{Desk, Change, nothing, misses, publishes, removes, syncs, Allows, Leaves, result_of, reduce, out_task}
 use Rattle.ssq_core.specs.Machine as machine
 use Rattle.ssq_core.specs.Sound.{AreProper}
 use Rattle.ssq_board.specs.declared.front.Cause.{Cause}
@@ -17,7 +17,7 @@ use Rattle.ssq_board.specs.declared.front.Place.{Place}
 use Rattle.ssq_board.specs.declared.front.Place.TheVariants as place
 use Rattle.ssq_board.specs.declared.front.Entry.{Entry}
 use Rattle.ssq_board.specs.declared.front.Entry.TheVariants as entry
-use Rattle.ssq_board.specs.Core.{Scope, Core, next_ends, is_behind, has_line, has_line_at, at, is_open, is_stopped, is_of_line, May, after, cuts_by}
+use Rattle.ssq_board.specs.Core.{Scope, Core, next_ends, is_behind, has_line, has_line_at, at, is_open, is_of_line, May, after, cuts_by}
 
 abbrev pub map_task : ℕ → ℕ → TaskId
 map_task e i = record { epoch = e; kind = kind.Map; number = i }
@@ -59,6 +59,7 @@ change_of job cuts (entry.Stop f) = nothing
 -- in a call that is done
 abbrev pub Goes : Change → History → History → Type 0
 Goes nothing old new = new ≡ old
+Goes (misses t) old new = new ≡ old
 Goes (publishes q bytes) old new = Elapses old new (Allows (publishes q bytes) (had_now old)) × Leaves (publishes q bytes) (had_now old) (had_now new)
 Goes (removes q) old new = Elapses old new (Allows (removes q) (had_now old)) × Leaves (removes q) (had_now old) (had_now new)
 Goes syncs old new = Elapses old new (Allows syncs (had_now old)) × Leaves syncs (had_now old) (had_now new)
@@ -66,6 +67,7 @@ Goes syncs old new = Elapses old new (Allows syncs (had_now old)) × Leaves sync
 -- and in one that failed
 abbrev pub Tries : Change → History → History → Type 0
 Tries nothing old new = new ≡ old
+Tries (misses t) old new = new ≡ old
 Tries (publishes q bytes) old new = Elapses old new (Allows (publishes q bytes) (had_now old))
 Tries (removes q) old new = Elapses old new (Allows (removes q) (had_now old))
 Tries syncs old new = Elapses old new (Allows syncs (had_now old))
@@ -141,13 +143,16 @@ pub record Shows (job : Job) (r : Scope) (next_due : Cuts → ℕ → Bool) (ter
   -- tasks were claimed only where the plan is settled, and none of a later epoch
   pub claimed : (t : TaskId) → t.epoch ≡ c.front.committed → (d.tasks t ≡ machine.waits) ⊎ (c.front.fresh ≡ true)
   pub later : (t : TaskId) → c.front.planned ≤ t.epoch → d.tasks t ≡ machine.waits
+  -- as long as the desk runs no task came back after a fault of the outside
+  pub whole : c.front.stop ≡ None → (t : TaskId) → d.tasks t ≡ machine.failed → ⊥
   -- what is due
   pub has_lines : is_open c ≡ true → c.front.has_lines ≡ false → has_line (d.cuts c.front.committed) (d.cuts c.front.planned) ≡ false
   pub due : is_open c ≡ false → c.front.due ≡ next_due d.cuts c.front.planned
 
--- the machine's state that it shows
-abbrev pub stopped_of : Core → Bool
-stopped_of c = is_stopped c.front.stop
+-- the machine's state that it shows: a desk never owes a Stop, since a report is one entry with the Stop that it brings about
+abbrev pub life_of : Option Cause → machine.Life
+life_of None = machine.running
+life_of (Some f) = machine.stopped
 
 abbrev pub shown : History → Core → Desk → machine.State
-shown disk c d = record { disk = disk; desk = Some d; stopped = stopped_of c }
+shown disk c d = record { disk = disk; desk = Some d; life = life_of c.front.stop }

@@ -1,6 +1,6 @@
 //! What holds of every list of entries.
 
-ghost use Rattle.ssq_board.specs.Laws.{EntryKeepsSound, FirstIsSound, FirstShows, FollowsMachine, ReadyNames, RoomIsKept, SoundAndTold, TurnsFall, TurnsRest};
+ghost use Rattle.ssq_board.specs.Laws.{EntryKeepsSound, FirstIsSound, FirstShows, FollowsMachine, ReadyNames, RoomIsKept, SoundAndTold, StopsByTheFirst, TurnsFall, TurnsRest};
 
 use ssq_outside::{Disk, Log};
 
@@ -9,6 +9,7 @@ use ssq_outside::{Disk, Log};
 pub fn entry<D: Disk>()
     ensures begins { FirstIsSound }
     ensures kept { EntryKeepsSound }
+    ensures stops { StopsByTheFirst }
     ensures next { ReadyNames }
     ensures room { RoomIsKept }
     ensures falls { TurnsFall }

@@ -1,3 +1,4 @@
+use Rattle.ssq_board.proofs.Leasts.{cause_counts}
 use Rattle.ssq_board.proofs.Falls.{plan_falls, work_falls, sync_falls, commit_falls}
 use Rattle.ssq_board.proofs.Resting.{first_rests, never_idle, plan_turn, work_turn, sync_turn, commit_turn}
 use Rattle.ssq_board.proofs.Needs.{need_falls, need_sync, need_plan}
@@ -47,3 +48,6 @@ returns-clause-rests g c = (
     commit = λ e due comes. commit_turn r k n e due sound rest comes;
   },
 )
+
+pub returns-clause-stops : goal.returns-clause-stops
+returns-clause-stops g c = cause_counts
