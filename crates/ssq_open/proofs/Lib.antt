@@ -7,4 +7,5 @@ pub mod Keeping
 pub mod Beginning
 pub mod Opens
 pub mod Passing
+pub mod Standings
 pub mod Looks

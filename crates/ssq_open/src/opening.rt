@@ -1,13 +1,16 @@
 //! The opening of a checkpoint.
 
 ghost use Rattle.std.specs.Prelude.{◌≡◌, ◌≤◌, ◌^◌, All, length, IfOk, IfErr, OnOk, OnErr};
-ghost use Rattle.ssq_outside.specs.Files.{AreNames};
-ghost use Rattle.ssq_outside.specs.History.{had_now, files_now, LeavesOnly};
+ghost use Rattle.ssq_outside.specs.Files.{AreNames, IsEmpty};
+ghost use Rattle.ssq_outside.specs.History.{had_now, files_now, LeavesNow, LeavesOnly};
 ghost use Rattle.ssq_open.specs.Fault.{DiskRises};
-ghost use Rattle.ssq_open.specs.Opening.{CanBeSought, Passes, Refuses, IsOpen, IsRefused, IsImageOpening, SyncedSince, IsBegun, IsOpening};
+ghost use Rattle.ssq_open.specs.Opening.{CanBeSought, first_meta, IsOutside, Passes, Refuses, IsOpen, IsRefused, IsImageOpening, SyncedSince, IsBegun, IsOpening};
 ghost use Rattle.ssq_open.specs.Sought.{sought};
 ghost use Rattle.ssq_open.specs.Lens.{counts_of, found_from, IsFew, CanBeAsked, asked};
 ghost use Rattle.ssq_open.specs.Watermarks.{watermarked};
+ghost use Rattle.ssq_open.specs.Jobs.{IsWantedJob, IsJobs, IsDeskOf};
+ghost use Rattle.ssq_core.specs.Course.{Cuts, Job as JobOf};
+ghost use Rattle.ssq_core.specs.Sound.{StandsOrEmpty};
 
 use crate::begin::begin;
 use crate::cuts::starts;
@@ -154,6 +157,18 @@ pub fn open<D: Disk>(
         (IsBegun (asked bound.now partitions lens.now) (files_now (D.history disk.old)))) }
     ensures unfinished { D.tells → OnErr result (IsOpening (asked bound.now partitions lens.now)
         (D.history disk.old) (D.history disk.new)) }
+
+    // Where the checkpoint is the job's, nothing but the outside refuses it, and a desk opens on what is found.
+    ensures desk { D.tells → (job : JobOf) → IsWantedJob (asked bound.now partitions lens.now) job →
+        IsJobs (asked bound.now partitions lens.now) job (files_now (D.history disk.old)) →
+        IfOk result (IsDeskOf (asked bound.now partitions lens.now) job (files_now (D.history disk.new))) }
+    ensures outside { D.tells → (job : JobOf) → IsWantedJob (asked bound.now partitions lens.now) job →
+        IsJobs (asked bound.now partitions lens.now) job (files_now (D.history disk.old)) → IfErr result IsOutside }
+
+    // Where each image stands for the job or stands empty, so does each image of each moment.
+    ensures images { D.tells → (job : JobOf) → IsWantedJob (asked bound.now partitions lens.now) job →
+        (IsEmpty (files_now (D.history disk.old)) → (cuts : Cuts) → (job.course cuts).meta ≡ first_meta (asked bound.now partitions lens.now)) →
+        LeavesNow (D.history disk.old) (StandsOrEmpty job) → LeavesOnly (D.history disk.old) (D.history disk.new) (StandsOrEmpty job) }
 
     // A fault of the disk is answered only where it was counted.
     ensures counted { D.faults disk.old ≤ D.faults disk.new }

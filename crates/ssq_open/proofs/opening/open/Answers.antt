@@ -7,6 +7,7 @@ use Rattle.ssq_open.specs.Sought.{Sought}
 use Rattle.ssq_open.specs.Opening.{CanBeSought, IsOpen, IsRefused, IsImageOpening, SyncedSince, IsBegun, IsOpening}
 use Rattle.ssq_open.proofs.Beginning.{asked_is, can_be_sought}
 use Rattle.ssq_open.proofs.Opens.{not_begun, nothing_new, nothing_opened}
+use Rattle.ssq_open.proofs.Standings.{ok_desk, err_outside, images_stand}
 use Rattle.ssq_open.proofs.opening.open.Goals as goal
 
 pub open_wanted-requires : goal.open_wanted-requires
@@ -49,3 +50,27 @@ returns-in_err-asked-clause-any_moment g c = λ tells. nothing_new (asked c.args
 
 pub returns-in_err-asked-clause-unfinished : goal.returns-in_err-asked-clause-unfinished
 returns-in_err-asked-clause-unfinished g c = λ tells. nothing_opened (asked c.args.bound.now c.args.partitions c.args.lens.now) (g.D.Disk.history c.args.disk.now) c.from_residual.result
+
+pub returns-clause-desk : goal.returns-clause-desk
+returns-clause-desk g c = λ tells job w ours.
+    let P : Sought → Type 0 = λ s. IfOk c.open_wanted.result (IsOpen s (files_now (g.D.Disk.history c.args.disk.now)) (g.D.Disk.history c.open_wanted.new.disk)) in
+    ok_desk (asked c.args.bound.now c.args.partitions c.args.lens.now) job (files_now (g.D.Disk.history c.args.disk.now)) (g.D.Disk.history c.open_wanted.new.disk) c.open_wanted.result (subst P (asked_is c.args.bound.now c.args.partitions c.args.lens.now _ refl (c.as_slice.ensures ∙ c.in_ok-asked.ensures.streams) refl (c.as_slice-2.ensures ∙ c.in_ok-asked.ensures.parts) (c.as_slice-3.ensures ∙ c.in_ok-asked.ensures.found)) (c.open_wanted.ensures.opened tells)) w ours
+
+pub returns-clause-outside : goal.returns-clause-outside
+returns-clause-outside g c = λ tells job w ours.
+    let P : Sought → Type 0 = λ s. IfErr c.open_wanted.result (IsRefused s (files_now (g.D.Disk.history c.args.disk.now)) (files_now (g.D.Disk.history c.open_wanted.new.disk))) in
+    err_outside (asked c.args.bound.now c.args.partitions c.args.lens.now) job (files_now (g.D.Disk.history c.args.disk.now)) (files_now (g.D.Disk.history c.open_wanted.new.disk)) c.open_wanted.result (subst P (asked_is c.args.bound.now c.args.partitions c.args.lens.now _ refl (c.as_slice.ensures ∙ c.in_ok-asked.ensures.streams) refl (c.as_slice-2.ensures ∙ c.in_ok-asked.ensures.parts) (c.as_slice-3.ensures ∙ c.in_ok-asked.ensures.found)) (c.open_wanted.ensures.refused tells)) w ours
+
+pub returns-clause-images : goal.returns-clause-images
+returns-clause-images g c = λ tells job w first standing.
+    let P : Sought → Type 0 = λ s. LeavesOnly (g.D.Disk.history c.args.disk.now) (g.D.Disk.history c.open_wanted.new.disk) (IsImageOpening s (had_now (g.D.Disk.history c.args.disk.now))) in
+    images_stand (asked c.args.bound.now c.args.partitions c.args.lens.now) job (g.D.Disk.history c.args.disk.now) (g.D.Disk.history c.open_wanted.new.disk) w first standing (subst P (asked_is c.args.bound.now c.args.partitions c.args.lens.now _ refl (c.as_slice.ensures ∙ c.in_ok-asked.ensures.streams) refl (c.as_slice-2.ensures ∙ c.in_ok-asked.ensures.parts) (c.as_slice-3.ensures ∙ c.in_ok-asked.ensures.found)) (c.open_wanted.ensures.any_moment tells))
+
+pub returns-in_err-asked-clause-images : goal.returns-in_err-asked-clause-images
+returns-in_err-asked-clause-images g c = λ tells job w first standing.
+    images_stand (asked c.args.bound.now c.args.partitions c.args.lens.now) job (g.D.Disk.history c.args.disk.now) (g.D.Disk.history c.args.disk.now) w first standing (nothing_new (asked c.args.bound.now c.args.partitions c.args.lens.now) (g.D.Disk.history c.args.disk.now))
+
+pub returns-in_err-asked-clause-outside : goal.returns-in_err-asked-clause-outside
+returns-in_err-asked-clause-outside g c = λ tells job w ours.
+    let p = err_from_is_err_and c.from_residual.result c.from_residual.ensures.1 in
+    rw (p.1, p.2) tt

@@ -1,0 +1,395 @@
+-- A checkpoint that stands for the job that is wanted passes, and a desk opens on it with what is found.
+use Rattle.std.proofs.Common.{◌≡◌, ◌⊎◌, ◌<◌, ◌≤◌, ◌+◌, ◌∙◌, ◌==◌, ◌&&◌, ◌++◌, [], ◌∷◌, zero, suc, ℕ, Bool, true, false, List, ℤ, Option, Some, None, Result, Ok, Err, refl, sym, ap, subst, inl, inr, arith, length, get_or, eq-eqb}
+use Rattle.std.specs.Prelude.{IsTrue, IsSome, is_some, nat_lt, IfOk, IfErr}
+use Rattle.std.proofs.lemmas.Bool.{cases_lt}
+use Rattle.std.proofs.lemmas.Bool.Decides.{nat_tests}
+use Rattle.ssq_outside.specs.declared.name.Name.{Name}
+use Rattle.ssq_outside.specs.declared.name.Name.TheVariants as name
+use Rattle.ssq_outside.specs.Files.{Files, IsEmpty}
+use Rattle.ssq_plans.specs.declared.meta.Meta.{Meta}
+use Rattle.ssq_plans.specs.declared.plan.Plan.{Plan}
+use Rattle.ssq_plans.specs.declared.commit.Commit.{Commit}
+use Rattle.ssq_plans.specs.declared.part.PartEnd.{PartEnd}
+use Rattle.ssq_plans.specs.declared.seen.SeenBy.{SeenBy}
+use Rattle.ssq_plans.specs.Records.{meta_text, plan_text, commit_text}
+use Rattle.ssq_plans.proofs.Apart.{records_apart}
+use Rattle.ssq_core.specs.Course.{Course, Cuts, Job, AreSameUpTo, truth, plan_of, commit_of}
+use Rattle.ssq_core.specs.Standing.{Stands, StandsAt, is_needed, is_allowed}
+use Rattle.ssq_core.specs.Staying.{IsNoOther}
+use Rattle.ssq_core.specs.Machine.{waits}
+use Rattle.ssq_core.specs.Sound.{StandsOrEmpty}
+use Rattle.ssq_core.proofs.Files.{true_there, there_of}
+use Rattle.ssq_core.proofs.Holding.{agree_truth}
+use Rattle.ssq_core.proofs.Settling.{settled_files}
+use Rattle.ssq_outside.specs.History.{History, had_now, files_now, LeavesNow, LeavesOnly}
+use Rattle.ssq_outside.proofs.Steps.{weaker}
+use Rattle.ssq_open.specs.Sought.{Sought}
+use Rattle.ssq_open.specs.Spelled.{IsTheMeta, IsThePlan, IsTheCommit}
+use Rattle.ssq_open.specs.Watermarks.{has_lines, mark_by}
+use Rattle.ssq_open.specs.Epochs.{starts, follows, cut_of, last_ends, no_plan, AreEndsAt, at_start, at_plan, IsThere, IsGoodPlan, IsGoodCommit, IsSinkRight, is_state, ArePlansOf, IsSeenAt, none_yet, by_commit, IsMarkAt, unmarked, marked_by, IsProgress}
+use Rattle.ssq_open.specs.declared.fault.OpenFault.{OpenFault}
+use Rattle.ssq_open.specs.declared.wanted.Opened.{Opened}
+use Rattle.ssq_open.specs.Opening.{Finds, Passes, first_short, first_meta, only_meta, IsOpen, kept, begun, IsRefused, unchanged, unfinished, IsOutside, IsImageOpening}
+use Rattle.ssq_open.specs.Jobs.{IsWantedJob, IsJobs, is_empty, stands, IsDeskOf}
+use Rattle.ssq_open.proofs.Planning.{pushed, longer}
+use Rattle.ssq_open.proofs.Passing.{one_finding, not_refused}
+
+some_same : (x y : List ℕ) → Some x ≡ Some y → x ≡ y
+some_same x y e = cc
+
+below : (e n : ℕ) → e < n → nat_lt e n ≡ true
+below e n less = grind (arith, nat_tests)
+
+below_is : (e n : ℕ) → nat_lt e n ≡ true → e < n
+below_is e n is = grind (arith, nat_tests)
+
+next_is : (e n : ℕ) (follow : Bool) → e < n → follow ≡ true → (e == e && nat_lt e n && follow) ≡ true
+next_is e n follow less is = let same : (e == e) ≡ true = eq-eqb e e refl in let lower = below e n less in rw (same, lower, is) refl
+
+own_is : (e : ℕ) (lines : Bool) → lines ≡ true → (e == e && lines) ≡ true
+own_is e lines is = let same : (e == e) ≡ true = eq-eqb e e refl in rw (same, is) refl
+
+-- the plans of the first epochs of a course
+abbrev first_plans : Course → ℕ → List Plan
+first_plans course zero = []
+first_plans course (suc n) = first_plans course n ++ plan_of course n ∷ []
+
+pub plans_count : (course : Course) (n : ℕ) → length (first_plans course n) ≡ n
+plans_count course zero = refl
+plans_count course (suc n) = longer (first_plans course n) (plan_of course n) ∙ ap (λ m. m + 1) (plans_count course n) ∙ omega arith
+
+pub plans_each : (course : Course) (n e : ℕ) (default : Plan) → e < length (first_plans course n) → get_or (first_plans course n) e default ≡ plan_of course e
+plans_each course zero e default less = absurd (omega (arith, less))
+plans_each course (suc n) e default less =
+    pushed (λ f p. p ≡ plan_of course f) (first_plans course n) (plan_of course n) (plans_each course n) (ap (plan_of course) (sym (plans_count course n))) e default less
+
+-- the greatest times over the first epochs
+abbrev first_seen : Course → ℕ → List SeenBy
+first_seen course zero = []
+first_seen course (suc k) = course.seen (k + 1)
+
+module _ (s : Sought) (job : Job) (w : IsWantedJob s job) (files : Files) (st : Stands job files) where
+  abbrev course : Course
+  course = job.course st.cuts
+
+  few : st.planned ≤ 4294967295
+  few = st.at.reached.few
+
+  file : (q : Name) → IsThere files q → files q ≡ Some (truth course q)
+  file q there = true_there files q (truth course q) (st.at.are_true q) there
+
+  the_meta : IsTheMeta files course.meta
+  the_meta =
+      let is = file name.Meta (st.at.needed name.Meta refl) in
+      record {
+        spells = record { canonical = w.record_is st.cuts; text = is };
+        only = λ other spells. records_apart.metas other course.meta spells.canonical (w.record_is st.cuts) (some_same (meta_text other) (meta_text course.meta) (sym spells.text ∙ is));
+      }
+
+  the_plan : (e : ℕ) → e < st.planned → IsThePlan files e (plan_of course e)
+  the_plan e less =
+      let is = file (name.Plan e) (st.at.needed (name.Plan e) (below e st.planned less)) in
+      let can = w.plans st.cuts st.planned e st.proper few less in
+      record {
+        spells = record { canonical = can; text = is };
+        only = λ other spells. records_apart.plans other (plan_of course e) spells.canonical can (some_same (plan_text other) (plan_text (plan_of course e)) (sym spells.text ∙ is));
+      }
+
+  the_commit : (e : ℕ) → e < st.committed → IsTheCommit files e (commit_of course e)
+  the_commit e less =
+      let is = file (name.Commit e) (st.at.needed (name.Commit e) (below e st.committed less)) in
+      let can = w.commits st.cuts st.planned e st.proper few (omega (arith, less, st.at.reached.planned_first)) in
+      record {
+        spells = record { canonical = can; text = is };
+        only = λ other spells. records_apart.commits other (commit_of course e) spells.canonical can (some_same (commit_text other) (commit_text (commit_of course e)) (sym spells.text ∙ is));
+      }
+
+  ends_at : (e : ℕ) → e < st.planned → AreEndsAt files (starts s.found) e (st.cuts e)
+  ends_at zero less = at_start refl (w.start st.cuts 0 (st.proper 0 less))
+  ends_at (suc e) less =
+      let next : suc e ≡ e + 1 = omega arith in
+      at_plan e (plan_of course e) next (the_plan e (omega (arith, less))) (ap st.cuts next ∙ sym (w.ends st.cuts (e + 1)))
+
+  good_plan : (e : ℕ) → e < st.planned → IsGoodPlan files (starts s.found) e
+  good_plan e less =
+      let F : List PartEnd → Type 0 = λ ends. IsTrue (follows (st.cuts e) ends) in
+      record {
+        before = st.cuts e;
+        plan = plan_of course e;
+        after = ends_at e less;
+        is = the_plan e less;
+        next = next_is e 4294967295 (follows (st.cuts e) (course.ends (e + 1))) (omega (arith, less, few)) (subst F (sym (w.ends st.cuts (e + 1))) (w.follow st.cuts e (st.proper e less)));
+      }
+
+  good_commit : (e : ℕ) → e < st.committed → IsGoodCommit s.streams files e
+  good_commit e less = record {
+    commit = commit_of course e;
+    is = the_commit e less;
+    own = own_is e (has_lines s.streams (course.seen (e + 1))) (w.lines st.cuts e);
+  }
+
+  sink_right : (e : ℕ) → IsSinkRight files st.planned st.committed e
+  sink_right e = record {
+    needed = λ less. st.at.needed (name.Out e) (below e st.committed less);
+    taken = λ there. by_place (below_is e st.planned (st.at.allowed (name.Out e) there)) (cases_lt e st.committed);
+  }
+    where
+      by_place : e < st.planned → (e < st.committed) ⊎ (st.committed ≤ e) → (e < st.committed) ⊎ ((e ≡ st.committed) × (st.committed < st.planned))
+      by_place planned (inl less) = inl less
+      by_place planned (inr more) = inr (omega (arith, planned, more, st.at.reached.one_ahead), omega (arith, planned, more))
+
+  -- no partition keeps state
+  none_keeps : (p v : ℕ) → (nat_lt p course.keeping && nat_lt v st.planned) ≡ true → ⊥
+  none_keeps p v is = no_less p (nat_lt v st.planned) (subst (λ (n : ℕ). (nat_lt p n && nat_lt v st.planned) ≡ true) (w.stateless st.cuts) is)
+    where
+      no_less : (p : ℕ) (b : Bool) → (nat_lt p 0 && b) ≡ true → ⊥
+      no_less p b is = grind (arith, nat_tests)
+
+  no_state : (q : Name) → IsTrue (is_state q) → IsThere files q → ⊥
+  no_state name.Meta state there = cc
+  no_state (name.Plan e) state there = cc
+  no_state (name.Commit e) state there = cc
+  no_state (name.Out e) state there = cc
+  no_state (name.Delta p v) state there = none_keeps p v (st.at.allowed (name.Delta p v) there)
+  no_state (name.Snapshot p v) state there = none_keeps p v (st.at.allowed (name.Snapshot p v) there)
+
+  marked_at : (e : ℕ) → e < st.planned → (p : Plan) (mark : Option ℤ) → IsThePlan files e p → IsMarkAt s.streams files e mark → p.watermark ≡ mark
+  marked_at e less p mark is (unmarked first none) =
+      ap (λ (q : Plan). q.watermark) ((the_plan e less).only p is.spells) ∙ ap course.watermark first ∙ w.first_mark st.cuts ∙ sym none
+  marked_at e less p mark is (marked_by last c next the has) =
+      let there : last < st.committed = omega (arith, less, next, st.at.reached.one_ahead) in
+      let same : c ≡ commit_of course last = (the_commit last there).only c the.spells in
+      ap (λ (q : Plan). q.watermark) ((the_plan e less).only p is.spells) ∙ ap course.watermark next ∙ w.next_mark st.cuts last
+      ∙ sym (has ∙ ap (λ (d : Commit). mark_by s.streams d.seen) same)
+
+  abbrev plans : List Plan
+  plans = first_plans course st.planned
+
+  count : length plans ≡ st.planned
+  count = plans_count course st.planned
+
+  spelled : ArePlansOf files plans
+  spelled e default less =
+      let P : Plan → Type 0 = IsThePlan files e in
+      subst P (sym (plans_each course st.planned e default less)) (the_plan e (omega (arith, less, count)))
+
+  seen_at : (k : ℕ) → k ≤ st.committed → IsSeenAt files k (first_seen course k)
+  seen_at zero less = none_yet refl refl
+  seen_at (suc k) less = by_commit k (commit_of course k) (omega arith) (the_commit k (omega (arith, less))) refl
+
+  progress : IsProgress s.streams files (starts s.found) plans st.committed (first_seen course st.committed)
+  progress = record {
+    are_plans = record {
+      all = λ e there. omega (arith, count, below_is e st.planned (st.at.allowed (name.Plan e) there));
+      good = λ e less. good_plan e (omega (arith, less, count));
+    };
+    spelled = spelled;
+    commits = record {
+      below = omega (arith, count, st.at.reached.planned_first);
+      ahead = omega (arith, count, st.at.reached.one_ahead);
+      good = good_commit;
+      all = λ e there. below_is e st.committed (st.at.allowed (name.Commit e) there);
+    };
+    marked = λ e less. marked_at e (omega (arith, less, count));
+    last = seen_at st.committed (omega arith);
+  }
+
+  -- where the planned epochs end
+  cut_is : (e : ℕ) → e < st.planned → cut_of (starts s.found) plans (suc e) ≡ st.cuts (e + 1)
+  cut_is e less = ap (λ (p : Plan). p.ends) (plans_each course st.planned e (no_plan (starts s.found)) (omega (arith, less, count))) ∙ w.ends st.cuts (e + 1)
+
+  cut_upto : (e : ℕ) → e ≤ st.planned → 0 < st.planned → cut_of (starts s.found) plans e ≡ st.cuts e
+  cut_upto zero less some = sym (w.start st.cuts 0 (st.proper 0 some))
+  cut_upto (suc e) less some = cut_is e (omega (arith, less)) ∙ ap st.cuts (omega arith)
+
+  -- a part is not short of no lines
+  none_short : (found : List PartEnd) → first_short (starts found) found ≡ None
+  none_short [] = refl
+  none_short (part ∷ rest) = let long : nat_lt part.end 0 ≡ false = not_below part.end in rw long (none_short rest)
+    where
+      not_below : (n : ℕ) → nat_lt n 0 ≡ false
+      not_below n = grind (arith, nat_tests)
+
+  long_at : first_short (st.cuts st.planned) s.found ≡ None → first_short (last_ends (starts s.found) plans) s.found ≡ None
+  long_at long = by_count (cases_lt 0 st.planned)
+    where
+      by_count : (0 < st.planned) ⊎ (st.planned ≤ 0) → first_short (last_ends (starts s.found) plans) s.found ≡ None
+      by_count (inl some) =
+          ap (λ (n : ℕ). first_short (cut_of (starts s.found) plans n) s.found) count
+          ∙ ap (λ (ends : List PartEnd). first_short ends s.found) (cut_upto st.planned (omega arith) some) ∙ long
+      by_count (inr none) =
+          let is : length plans ≡ 0 = omega (arith, count, none) in
+          ap (λ (n : ℕ). first_short (cut_of (starts s.found) plans n) s.found) is ∙ none_short s.found
+
+  finds : first_short (st.cuts st.planned) s.found ≡ None → Finds s files course.meta plans st.committed (first_seen course st.committed)
+  finds long = record {
+    record_is = the_meta;
+    job = w.wanted st.cuts;
+    epochs = record {
+      progress = progress;
+      sinks = λ e. subst (λ (n : ℕ). IsSinkRight files n st.committed e) (sym count) (sink_right e);
+      stateless = no_state;
+    };
+    long = long_at long;
+  }
+
+  -- what the files of the first epochs hold hangs on the cuts that their plans say
+  abbrev other : Cuts
+  other = cut_of (starts s.found) plans
+
+  same_cuts : 0 < st.planned → AreSameUpTo st.cuts other st.planned
+  same_cuts some e less = sym (cut_upto e less some)
+
+  truth_same : (q : Name) → is_allowed course.keeping st.planned st.committed q ≡ true → truth course q ≡ truth (job.course other) q
+  truth_same q allowed = by_count q allowed (cases_lt 0 st.planned)
+    where
+      no_less : (e n : ℕ) → n ≤ 0 → nat_lt e n ≡ true → ⊥
+      no_less e n none is = grind (arith, nat_tests)
+
+      by_count : (q : Name) → is_allowed course.keeping st.planned st.committed q ≡ true → (0 < st.planned) ⊎ (st.planned ≤ 0) → truth course q ≡ truth (job.course other) q
+      by_count q allowed (inl some) = agree_truth course (job.course other) st.planned st.committed q st.at.reached.planned_first (w.causal.agrees st.cuts other st.planned (same_cuts some)) allowed
+      by_count name.Meta allowed (inr none) = ap meta_text (w.one_record st.cuts other)
+      by_count (name.Plan e) allowed (inr none) = absurd (no_less e st.planned none allowed)
+      by_count (name.Commit e) allowed (inr none) = absurd (no_less e st.committed (omega (arith, none, st.at.reached.planned_first)) allowed)
+      by_count (name.Out e) allowed (inr none) = absurd (no_less e st.planned none allowed)
+      by_count (name.Delta p v) allowed (inr none) = absurd (none_keeps p v allowed)
+      by_count (name.Snapshot p v) allowed (inr none) = absurd (none_keeps p v allowed)
+
+  faulty_same : (e : ℕ) → e < st.planned → course.is_faulty e ≡ (job.course other).is_faulty e
+  faulty_same e less = (w.causal.agrees st.cuts other st.planned (same_cuts (omega (arith, less)))).is_faulty e less
+
+  stands_other : StandsAt (job.course other) st.planned st.committed files
+  stands_other = record {
+    reached = st.at.reached;
+    are_true = λ q. elim (st.at.are_true q) [
+      | inl none ↦ inl none
+      | inr is ↦ inr (is ∙ ap Some (truth_same q (st.at.allowed q (there_of files q (truth course q) is))))
+    ];
+    needed = st.at.needed;
+    allowed = λ q there. subst (λ (n : ℕ). is_allowed n st.planned st.committed q ≡ true) (w.stateless st.cuts ∙ sym (w.stateless other)) (st.at.allowed q there);
+    loads = λ p less. absurd (omega (arith, less, w.stateless other));
+    faultless = λ e there. sym (faulty_same e (below_is e st.planned (st.at.allowed (name.Out e) there))) ∙ st.at.faultless e there;
+  }
+
+  proper_other : (e : ℕ) → e < st.planned → job.is_next other e ≡ true
+  proper_other e less = w.causal.follows st.cuts other st.planned e (same_cuts (omega (arith, less))) less (st.proper e less)
+
+  -- a desk opens with these plans
+  desk_at : (found : Opened) → found.plans ≡ plans → found.committed ≡ st.committed → IsDeskOf s job files found
+  desk_at found same equal =
+      let cuts : Cuts = cut_of (starts s.found) found.plans in
+      let S : List Plan → ℕ → ℕ → Type 0 = λ ps n k. StandsAt (job.course (cut_of (starts s.found) ps)) n k files in
+      let N : List Plan → Type 0 = λ ps. (e : ℕ) → e < length ps → job.is_next (cut_of (starts s.found) ps) e ≡ true in
+      let at : S plans (length plans) st.committed = subst (λ (n : ℕ). S plans n st.committed) (sym count) stands_other in
+      let here : S found.plans (length found.plans) found.committed =
+      subst (λ (k : ℕ). S found.plans (length found.plans) k) (sym equal) (subst (λ (ps : List Plan). S ps (length ps) st.committed) (sym same) at) in
+      let next : N found.plans = subst N (sym same) (λ e less. proper_other e (omega (arith, less, count))) in
+      record {
+        desk = record {
+          cuts = cuts;
+          planned = length found.plans;
+          committed = found.committed;
+          there = λ q. is_some (files q);
+          sure = λ q. is_some (files q);
+          tasks = λ t. waits;
+          stores = λ p. (job.course cuts).state p found.committed;
+        };
+        is = (here, next, (λ q. refl), (λ q. refl), (λ t. refl), (λ p less. refl));
+        cuts = refl;
+        planned = refl;
+        committed = refl;
+      }
+
+  desk_found : (found : Opened) → Passes s files found → IsDeskOf s job files found
+  desk_found found passes =
+      let one = one_finding s.streams files (starts s.found) found.plans plans found.committed st.committed found.seen (first_seen course st.committed) passes.found.epochs.progress progress in
+      desk_at found one.same_plans one.committed
+
+-- the record alone stands for the job
+pub begun_stands : (s : Sought) (job : Job) → IsWantedJob s job → ((cuts : Cuts) → (job.course cuts).meta ≡ first_meta s) → Stands job (only_meta (first_meta s))
+begun_stands s job w first = record {
+  cuts = λ e. starts s.found;
+  planned = 0;
+  committed = 0;
+  proper = λ e less. absurd (omega (arith, less));
+  at = record {
+    reached = record { planned_first = omega arith; one_ahead = omega arith; few = omega arith };
+    are_true = is_true;
+    needed = is_needed_there;
+    allowed = is_allowed_there;
+    loads = λ p less. absurd (omega (arith, less, w.stateless (λ e. starts s.found)));
+    faultless = λ e there. absurd (no_content there);
+  };
+}
+  where
+    no_content : IsSome {T = List ℕ} None → ⊥
+    no_content there = cc
+
+    is_true : (q : Name) → IsNoOther (only_meta (first_meta s)) q (truth (job.course (λ e. starts s.found)) q)
+    is_true name.Meta = inr (ap (λ (m : Meta). Some (meta_text m)) (sym (first (λ e. starts s.found))))
+    is_true (name.Plan e) = inl refl
+    is_true (name.Commit e) = inl refl
+    is_true (name.Out e) = inl refl
+    is_true (name.Delta p v) = inl refl
+    is_true (name.Snapshot p v) = inl refl
+
+    nothing_below : (e : ℕ) → nat_lt e 0 ≡ true → ⊥
+    nothing_below e is = grind (arith, nat_tests)
+
+    is_needed_there : (q : Name) → is_needed 0 0 q ≡ true → IsThere (only_meta (first_meta s)) q
+    is_needed_there name.Meta is = refl
+    is_needed_there (name.Plan e) is = absurd (nothing_below e is)
+    is_needed_there (name.Commit e) is = absurd (nothing_below e is)
+    is_needed_there (name.Out e) is = absurd (nothing_below e is)
+    is_needed_there (name.Delta p v) is = cc
+    is_needed_there (name.Snapshot p v) is = cc
+
+    is_allowed_there : (q : Name) → IsThere (only_meta (first_meta s)) q → is_allowed (job.course (λ e. starts s.found)).keeping 0 0 q ≡ true
+    is_allowed_there name.Meta there = refl
+    is_allowed_there (name.Plan e) there = absurd (no_content there)
+    is_allowed_there (name.Commit e) there = absurd (no_content there)
+    is_allowed_there (name.Out e) there = absurd (no_content there)
+    is_allowed_there (name.Delta p v) there = absurd (no_content there)
+    is_allowed_there (name.Snapshot p v) there = absurd (no_content there)
+
+not_empty : (files : Files) (text : List ℕ) → IsEmpty files → files name.Meta ≡ Some text → ⊥
+not_empty files text empty is = let none : files name.Meta ≡ None = empty name.Meta in cc
+
+stands_some : (job : Job) (files : Files) → Stands job files → IsEmpty files → ⊥
+stands_some job files st empty = not_empty files (truth (job.course st.cuts) name.Meta) empty (true_there files name.Meta (truth (job.course st.cuts) name.Meta) (st.at.are_true name.Meta) (st.at.needed name.Meta refl))
+
+-- a desk opens on what an opening found of the job's checkpoint
+pub desk_opens : (s : Sought) (job : Job) (files : Files) (now : History) (found : Opened) → IsWantedJob s job → IsJobs s job files → IsOpen s files now found → IsDeskOf s job (files_now now) found
+unfolding begun_stands
+desk_opens s job files now found w (is_empty empty first) (kept passes settled) = absurd (not_empty files (meta_text found.meta) empty passes.found.record_is.spells.text)
+desk_opens s job files now found w (is_empty empty first) (begun none is settled) =
+    let D : Files → Type 0 = λ f. IsDeskOf s job f found in
+    subst D (sym (settled_files now (only_meta (first_meta s)) settled)) (desk_at s job w (only_meta (first_meta s)) (begun_stands s job w first) found is.plans is.committed)
+desk_opens s job files now found w (stands st long) (kept passes settled) =
+    let D : Files → Type 0 = λ f. IsDeskOf s job f found in
+    subst D (sym (settled_files now files settled)) (desk_found s job w files st found passes)
+desk_opens s job files now found w (stands st long) (begun none is settled) = absurd (stands_some job files st none)
+
+-- and nothing but the outside refuses it
+pub only_outside : (s : Sought) (job : Job) (files now : Files) (fault : OpenFault) → IsWantedJob s job → IsJobs s job files → IsRefused s files now fault → IsOutside fault
+only_outside s job files now fault w (is_empty empty first) (unchanged same refuses outside) = outside empty
+only_outside s job files now fault w (is_empty empty first) (unfinished none same outside) = outside
+only_outside s job files now fault w (stands st long) (unchanged same refuses outside) =
+    not_refused s files (job.course st.cuts).meta (plans s job w files st) st.committed (first_seen (job.course st.cuts) st.committed) (finds s job w files st long) fault refuses
+only_outside s job files now fault w (stands st long) (unfinished none same outside) = outside
+
+-- each image of each moment stands, or stands empty, where each did before
+pub images_stand : (s : Sought) (job : Job) (old new : History) → IsWantedJob s job → (IsEmpty (files_now old) → (cuts : Cuts) → (job.course cuts).meta ≡ first_meta s) → LeavesNow old (StandsOrEmpty job)
+    → LeavesOnly old new (IsImageOpening s (had_now old)) → LeavesOnly old new (StandsOrEmpty job)
+images_stand s job old new w first standing run = weaker (IsImageOpening s (had_now old)) (StandsOrEmpty job) old new run (λ f image. elim image [
+  | inl is ↦ standing.each f is
+  | inr alone ↦ inr (subst (λ (files : Files). Stands job files) (sym alone.1) (begun_stands s job w (first alone.0)))
+])
+
+pub ok_desk : (s : Sought) (job : Job) (files : Files) (now : History) (r : Result Opened OpenFault) → IfOk r (IsOpen s files now) → IsWantedJob s job → IsJobs s job files → IfOk r (IsDeskOf s job (files_now now))
+ok_desk s job files now (Ok found) is w ours = desk_opens s job files now found w ours is
+ok_desk s job files now (Err fault) is w ours = tt
+
+pub err_outside : (s : Sought) (job : Job) (files now : Files) (r : Result Opened OpenFault) → IfErr r (IsRefused s files now) → IsWantedJob s job → IsJobs s job files → IfErr r IsOutside
+err_outside s job files now (Ok found) is w ours = tt
+err_outside s job files now (Err fault) is w ours = only_outside s job files now fault w ours is
