@@ -1,0 +1,69 @@
+use Rattle.std.proofs.Common.{rules, ◌≡◌, ◌≤◌, ◌<◌, ◌+◌, ◌*◌, ◌^◌, Bool, true, false, true≢false, sym, ap, ◌∙◌, subst, length, List, ◌++◌, ◌∷◌, [], Option, Some, None, set, inl, inr, refl, arith, if◌then◌else◌}
+use mathlib.Core.Option.{some}
+use lib.ListN.{get_elem?}
+use Rattle.std.specs.List.{list_any}
+use Rattle.ssq_outside.specs.declared.gate.TaskId.{TaskId}
+use Rattle.ssq_outside.specs.declared.gate.Kind.{Kind}
+use Rattle.ssq_outside.specs.declared.gate.Kind.TheVariants as kind
+use Rattle.ssq_outside.specs.declared.name.Name.TheVariants as name
+use Rattle.ssq_core.specs.Course.{Cuts, truth}
+use Rattle.ssq_core.specs.Machine.{nothing, publishes, syncs}
+use Rattle.ssq_board.specs.declared.front.Cause.{Cause}
+use Rattle.ssq_board.specs.declared.front.Cause.TheVariants as cause
+use Rattle.ssq_board.specs.declared.front.Front.{Front}
+use Rattle.ssq_board.specs.declared.front.Place.{Place}
+use Rattle.ssq_board.specs.declared.front.Place.TheVariants as place
+use Rattle.ssq_board.specs.declared.front.Ready.TheVariants as ready
+use Rattle.ssq_board.specs.declared.front.Entry.{Entry}
+use Rattle.ssq_board.specs.declared.front.Entry.TheVariants as entry
+use Rattle.ssq_board.specs.Core.{Scope, Core, May, ready_of, need, stop_need, tasks_of, at, moved, after, is_stopped, is_waiting, due, due_stop, or_stop}
+use Rattle.ssq_desk.specs.declared.slot.Slot.TheVariants as slot
+use Rattle.ssq_desk.specs.Slots.{place_of, places}
+use Rattle.ssq_desk.specs.Tasks.{map_id, reduce_id, out_id, cause_of}
+use Rattle.ssq_desk.specs.Shown.{Opening, Shown, IsDesk, HasCommit, did, cuts_after, cuts_of, HasFiles, IsTrue, answer}
+use Rattle.ssq_desk.proofs.Lists.{at_mapped, at_length}
+use Rattle.ssq_desk.proofs.Slots.{only_waits, waits_at, away_at, places_set, moved_maps, moved_reduces, moved_outs}
+use Rattle.ssq_desk.proofs.Rooms.{need_moved, need_report, need_stop, need_sync, need_commit, need_out, need_bound, places_length, open_less, IsSized}
+use Rattle.ssq_desk.proofs.Desks.{one, goes, sized_of, same_cuts}
+use Rattle.ssq_desk.proofs.Moves.{went, tried, pending_is, first_none}
+use Rattle.ssq_desk.proofs.Readies.{commit_may, map_may, reduce_may, out_may, out_last, some_waits, running}
+use Rattle.ssq_desk.proofs.desk.Desk.claim_map.Goals as goal
+
+pub take_out-mapped-requires : goal.take_out-mapped-requires
+take_out-mapped-requires g c =
+    let s = c.self.inside in
+    let core : Core = record { front = s.front; ends = s.ends.items; maps = places s.maps.items; reduces = places s.reduces.items; outs = places s.outs.items } in
+    let scope : Scope = record { partitions = s.partitions; available = s.available.items; cap = s.cap } in
+    let o : Opening = g.O.Opening.opening s.opening.value in
+    let id = c.args.id in
+    let m : May scope core (entry.Claim id) = subst (λ (x : Shown g.row.D.Denot g.row.O.Denot). May x.scope x.core (entry.Claim id)) (sym c.self.view_is) c.requires.may in
+    waits_at s.maps.items id.number (subst (λ (k : Kind). get_elem? (tasks_of k core) id.number ≡ some place.Waits) c.requires.map m.4)
+
+pub invariant_of-self : goal.invariant_of-self
+invariant_of-self g c =
+    let s = c.self.inside in
+    let core : Core = record { front = s.front; ends = s.ends.items; maps = places s.maps.items; reduces = places s.reduces.items; outs = places s.outs.items } in
+    let scope : Scope = record { partitions = s.partitions; available = s.available.items; cap = s.cap } in
+    let o : Opening = g.O.Opening.opening s.opening.value in
+    let id = c.args.id in
+    let m : May scope core (entry.Claim id) = subst (λ (x : Shown g.row.D.Denot g.row.O.Denot). May x.scope x.core (entry.Claim id)) (sym c.self.view_is) c.requires.may in
+    let left = ap places c.take_out-mapped.ensures.left ∙ places_set s.maps.items id.number slot.Away in
+    let is : ◌≡◌ {A = Core} (record { front = s.front; ends = s.ends.items; maps = places c.take_out-mapped.new.slots.items; reduces = places s.reduces.items; outs = places s.outs.items }) (after scope core (entry.Claim id)) = (λ i. record { front = s.front; ends = s.ends.items; maps = left i; reduces = places s.reduces.items; outs = places s.outs.items }) ∙ sym (moved_maps core id place.Away c.requires.map) in
+    let same = same_cuts o scope s.entries.items c.push_reserved.new.self.items (entry.Claim id) c.push_reserved.ensures.items (λ cuts n. refl) in (
+      one (g.D.Disk.tells × g.L.Log.tells) o (g.D.Disk.history s.opened.value) scope (g.D.Disk.history s.disk) core s.entries.items s.entries.cap c.self.invariant.0 (g.D.Disk.history s.disk) (record { front = s.front; ends = s.ends.items; maps = places c.take_out-mapped.new.slots.items; reduces = places s.reduces.items; outs = places s.outs.items }) c.push_reserved.new.self.items c.push_reserved.new.self.cap
+          (entry.Claim id) m (λ t. refl) (λ t. tt) is c.push_reserved.ensures.items
+          (let n = need_moved core id place.Waits place.Away m.4 in let e = ap need is in let r = c.self.invariant.0.room in let k = c.push_reserved.ensures.capacity in omega arith),
+      subst (λ (x : Cuts). HasCommit (g.D.Disk.tells × g.L.Log.tells) g.D.Stage.Stage.sealed o x s.front s.commit) (sym same) c.self.invariant.1,
+    )
+
+pub returns-clause-did : goal.returns-clause-did
+returns-clause-did g c =
+    let s = c.self.inside in
+    let core : Core = record { front = s.front; ends = s.ends.items; maps = places s.maps.items; reduces = places s.reduces.items; outs = places s.outs.items } in
+    let scope : Scope = record { partitions = s.partitions; available = s.available.items; cap = s.cap } in
+    let o : Opening = g.O.Opening.opening s.opening.value in
+    let id = c.args.id in
+    let m : May scope core (entry.Claim id) = subst (λ (x : Shown g.row.D.Denot g.row.O.Denot). May x.scope x.core (entry.Claim id)) (sym c.self.view_is) c.requires.may in
+    let left = ap places c.take_out-mapped.ensures.left ∙ places_set s.maps.items id.number slot.Away in
+    let is : ◌≡◌ {A = Core} (record { front = s.front; ends = s.ends.items; maps = places c.take_out-mapped.new.slots.items; reduces = places s.reduces.items; outs = places s.outs.items }) (after scope core (entry.Claim id)) = (λ i. record { front = s.front; ends = s.ends.items; maps = left i; reduces = places s.reduces.items; outs = places s.outs.items }) ∙ sym (moved_maps core id place.Away c.requires.map) in
+    (λ i. record { opening = s.opening.value; opened = s.opened.value; scope = scope; disk = s.disk; core = is i; history = c.push_reserved.ensures.items i }) ∙ ap (λ (x : Shown g.row.D.Denot g.row.O.Denot). did x x.disk (entry.Claim id ∷ [])) c.self.view_is

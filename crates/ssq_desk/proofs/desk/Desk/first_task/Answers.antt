@@ -1,0 +1,80 @@
+use Rattle.std.proofs.Common.{rules, ◌≡◌, ◌≤◌, ◌<◌, ◌+◌, ◌*◌, ◌^◌, Bool, true, false, true≢false, sym, ap, ◌∙◌, subst, length, List, ◌++◌, ◌∷◌, [], Option, Some, None, set, inl, inr, refl, arith, if◌then◌else◌}
+use mathlib.Core.Option.{some}
+use lib.ListN.{get_elem?}
+use Rattle.std.specs.List.{list_any}
+use Rattle.ssq_outside.specs.declared.gate.TaskId.{TaskId}
+use Rattle.ssq_outside.specs.declared.gate.Kind.{Kind}
+use Rattle.ssq_outside.specs.declared.gate.Kind.TheVariants as kind
+use Rattle.ssq_outside.specs.declared.name.Name.TheVariants as name
+use Rattle.ssq_core.specs.Course.{Cuts, truth}
+use Rattle.ssq_core.specs.Machine.{nothing, publishes, syncs}
+use Rattle.ssq_board.specs.declared.front.Cause.{Cause}
+use Rattle.ssq_board.specs.declared.front.Cause.TheVariants as cause
+use Rattle.ssq_board.specs.declared.front.Front.{Front}
+use Rattle.ssq_board.specs.declared.front.Place.{Place}
+use Rattle.ssq_board.specs.declared.front.Place.TheVariants as place
+use Rattle.ssq_board.specs.declared.front.Ready.TheVariants as ready
+use Rattle.ssq_board.specs.declared.front.Entry.{Entry}
+use Rattle.ssq_board.specs.declared.front.Entry.TheVariants as entry
+use Rattle.ssq_board.specs.Core.{Scope, Core, May, ready_of, need, stop_need, tasks_of, at, moved, after, is_stopped, is_waiting, due, due_stop, or_stop}
+use Rattle.ssq_desk.specs.declared.slot.Slot.TheVariants as slot
+use Rattle.ssq_desk.specs.Slots.{place_of, places}
+use Rattle.ssq_desk.specs.Tasks.{map_id, reduce_id, out_id, cause_of}
+use Rattle.ssq_desk.specs.Shown.{Opening, Shown, IsDesk, HasCommit, did, cuts_after, cuts_of, HasFiles, IsTrue, answer}
+use Rattle.ssq_desk.proofs.Lists.{at_mapped, at_length}
+use Rattle.ssq_desk.proofs.Slots.{only_waits, waits_at, away_at, places_set, moved_maps, moved_reduces, moved_outs}
+use Rattle.ssq_desk.proofs.Rooms.{need_moved, need_report, need_stop, need_sync, need_commit, need_out, need_bound, places_length, open_less, IsSized}
+use Rattle.ssq_desk.proofs.Desks.{one, goes, sized_of, same_cuts}
+use Rattle.ssq_desk.proofs.Moves.{went, tried, pending_is, first_none}
+use Rattle.ssq_desk.proofs.Readies.{commit_may, map_may, reduce_may, out_may, out_last, some_waits, running}
+use Rattle.ssq_desk.proofs.desk.Desk.first_task.Goals as goal
+
+pub overflow_cast-result : goal.overflow_cast-result
+overflow_cast-result g c =
+    let s = c.self.inside in
+    let core : Core = record { front = s.front; ends = s.ends.items; maps = places s.maps.items; reduces = places s.reduces.items; outs = places s.outs.items } in
+    let scope : Scope = record { partitions = s.partitions; available = s.available.items; cap = s.cap } in
+    let o : Opening = g.O.Opening.opening s.opening.value in
+    let d = sized_of (g.D.Disk.tells × g.L.Log.tells) o (g.D.Disk.history s.opened.value) scope (g.D.Disk.history s.disk) core s.entries.items s.entries.cap c.self.invariant.0 in
+    let here : get_elem? s.maps.items c.in-Some.number ≡ some (slot.Waits c.in-Some.ensures.1.0 c.in-Some.ensures.1.1) = (ap (λ l. get_elem? l c.in-Some.number) (sym c.as_slice.ensures.value) ∙ c.in-Some.ensures.1.2) in
+    let l = at_length s.maps.items c.in-Some.number (slot.Waits c.in-Some.ensures.1.0 c.in-Some.ensures.1.1) here in
+    let m = d.maps in let few = c.self.invariant.0.few in let p = places_length s.maps.items in omega arith
+
+pub returns-in-Some-clause-may : goal.returns-in-Some-clause-may
+returns-in-Some-clause-may g c =
+    let s = c.self.inside in
+    let core : Core = record { front = s.front; ends = s.ends.items; maps = places s.maps.items; reduces = places s.reduces.items; outs = places s.outs.items } in
+    let scope : Scope = record { partitions = s.partitions; available = s.available.items; cap = s.cap } in
+    let o : Opening = g.O.Opening.opening s.opening.value in
+    let e : ready_of scope core ≡ ready.Task = subst (λ (x : Shown g.row.D.Denot g.row.O.Denot). ready_of x.scope x.core ≡ ready.Task) (sym c.self.view_is) c.requires in
+    subst (λ (x : Shown g.row.D.Denot g.row.O.Denot). May x.scope x.core (entry.Claim (record { epoch = s.front.committed; kind = kind.Map; number = c.in-Some.number }))) c.self.view_is (map_may scope core e c.in-Some.number (at_mapped place_of s.maps.items c.in-Some.number (slot.Waits c.in-Some.ensures.1.0 c.in-Some.ensures.1.1) (ap (λ l. get_elem? l c.in-Some.number) (sym c.as_slice.ensures.value) ∙ c.in-Some.ensures.1.2)))
+
+pub overflow_cast-result-in-Some-first_waiting : goal.overflow_cast-result-in-Some-first_waiting
+overflow_cast-result-in-Some-first_waiting g c =
+    let s = c.self.inside in
+    let core : Core = record { front = s.front; ends = s.ends.items; maps = places s.maps.items; reduces = places s.reduces.items; outs = places s.outs.items } in
+    let scope : Scope = record { partitions = s.partitions; available = s.available.items; cap = s.cap } in
+    let o : Opening = g.O.Opening.opening s.opening.value in
+    let d = sized_of (g.D.Disk.tells × g.L.Log.tells) o (g.D.Disk.history s.opened.value) scope (g.D.Disk.history s.disk) core s.entries.items s.entries.cap c.self.invariant.0 in
+    let here : get_elem? s.reduces.items c.in-Some-first_waiting.number ≡ some (slot.Waits c.in-Some-first_waiting.ensures.1.0 c.in-Some-first_waiting.ensures.1.1) = (ap (λ l. get_elem? l c.in-Some-first_waiting.number) (sym c.as_slice-2.ensures.value) ∙ c.in-Some-first_waiting.ensures.1.2) in
+    let l = at_length s.reduces.items c.in-Some-first_waiting.number (slot.Waits c.in-Some-first_waiting.ensures.1.0 c.in-Some-first_waiting.ensures.1.1) here in
+    let m = d.reduces in let few = c.self.invariant.0.few in let p = places_length s.reduces.items in omega arith
+
+pub returns-in-Some-first_waiting-clause-may : goal.returns-in-Some-first_waiting-clause-may
+returns-in-Some-first_waiting-clause-may g c =
+    let s = c.self.inside in
+    let core : Core = record { front = s.front; ends = s.ends.items; maps = places s.maps.items; reduces = places s.reduces.items; outs = places s.outs.items } in
+    let scope : Scope = record { partitions = s.partitions; available = s.available.items; cap = s.cap } in
+    let o : Opening = g.O.Opening.opening s.opening.value in
+    let e : ready_of scope core ≡ ready.Task = subst (λ (x : Shown g.row.D.Denot g.row.O.Denot). ready_of x.scope x.core ≡ ready.Task) (sym c.self.view_is) c.requires in
+    subst (λ (x : Shown g.row.D.Denot g.row.O.Denot). May x.scope x.core (entry.Claim (record { epoch = s.front.committed; kind = kind.Reduce; number = c.in-Some-first_waiting.number }))) c.self.view_is (reduce_may scope core e c.in-Some-first_waiting.number (ap (λ l. list_any is_waiting (places l)) (sym c.as_slice.ensures.value) ∙ search rules) (at_mapped place_of s.reduces.items c.in-Some-first_waiting.number (slot.Waits c.in-Some-first_waiting.ensures.1.0 c.in-Some-first_waiting.ensures.1.1) (ap (λ l. get_elem? l c.in-Some-first_waiting.number) (sym c.as_slice-2.ensures.value) ∙ c.in-Some-first_waiting.ensures.1.2)))
+
+pub returns-clause-may : goal.returns-clause-may
+returns-clause-may g c =
+    let s = c.self.inside in
+    let core : Core = record { front = s.front; ends = s.ends.items; maps = places s.maps.items; reduces = places s.reduces.items; outs = places s.outs.items } in
+    let scope : Scope = record { partitions = s.partitions; available = s.available.items; cap = s.cap } in
+    let o : Opening = g.O.Opening.opening s.opening.value in
+    let e : ready_of scope core ≡ ready.Task = subst (λ (x : Shown g.row.D.Denot g.row.O.Denot). ready_of x.scope x.core ≡ ready.Task) (sym c.self.view_is) c.requires in
+    let d = sized_of (g.D.Disk.tells × g.L.Log.tells) o (g.D.Disk.history s.opened.value) scope (g.D.Disk.history s.disk) core s.entries.items s.entries.cap c.self.invariant.0 in
+    subst (λ (x : Shown g.row.D.Denot g.row.O.Denot). May x.scope x.core (entry.Claim (record { epoch = s.front.committed; kind = kind.Out; number = 0 }))) c.self.view_is (out_last scope core e (ap (λ l. list_any is_waiting (places l)) (sym c.as_slice.ensures.value) ∙ search rules) (ap (λ l. list_any is_waiting (places l)) (sym c.as_slice-2.ensures.value) ∙ search rules) (λ any. only_waits (places s.outs.items) d.outs any))
