@@ -1,11 +1,11 @@
 //! Each row is a query, a log, the files of a checkpoint and the words, with the output, the status and the files that have to come
 //! of them.
 
-use ssq_settle::settle;
 use ssq_fakes::{FailAt, MemDisk, MemInputs, MemLog, MemOut, OpenGate};
 use ssq_files::{FolderDisk, FolderInputs};
 use ssq_outside::{Disk, DiskError, Name};
 use ssq_run::{Ended, stream_main};
+use ssq_settle::settle;
 use std::alloc::{AllocError, Global};
 use std::sync::Wait;
 use std::test::Fail;
