@@ -2,9 +2,10 @@
 #![tactic(auto)]
 
 use ssq_files::{FolderDisk, FolderInputs, StandardOutput};
-use ssq_outside::{Gate, TaskId};
+use ssq_outside::{Gate, Output, TaskId};
 use ssq_run::stream_main;
-use std::alloc::Global;
+use std::alloc::{AllocError, Global};
+use std::io::ErrorKind;
 use std::process::ExitCode;
 use std::rt::Env;
 use std::{env, io};
@@ -16,20 +17,27 @@ impl Gate for Open {
     fn at(&self, _task: TaskId) {}
 }
 
-/// The words of the command line, the program's name first.
-fn words(rt: &(impl Env + Alloc<A = Global>)) -> io::Result<Vec<String>> {
+/// The words of the command line, the program's name first. Words that are no text are no command, as no words are.
+fn words(rt: &(impl Env + Alloc<A = Global>)) -> Result<Vec<String>, AllocError> {
     let mut words = Vec::new(rt.alloc());
-    for word in env::args(rt)? {
-        words.push(word)?;
+    match env::args(rt) {
+        Ok(args) => {
+            for word in args {
+                words.push(word)?;
+            }
+            Ok(words)
+        }
+        Err(error) => match error.kind() {
+            ErrorKind::OutOfMemory => Err(AllocError),
+            _ => Ok(words),
+        },
     }
-    Ok(words)
 }
 
 fn main(rt: HostRuntime) -> io::Result<ExitCode> {
-    // Words that are no text are no command, as no words are.
-    let words = match words(&rt) {
-        Ok(words) => words,
-        Err(_) => Vec::new(rt.alloc()),
+    let Ok(words) = words(&rt) else {
+        let _ = StandardOutput::new(rt).put(b"stopped 10 NoMemory\n");
+        return Ok(ExitCode::from(10));
     };
     let disk = FolderDisk::new(rt.clone()?, "checkpoint");
     let inputs = FolderInputs::new(rt.clone()?);
