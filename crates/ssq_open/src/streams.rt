@@ -1,6 +1,6 @@
 //! The watermarked streams, and the watermark that their greatest times give.
 
-ghost use Rattle.std.specs.Prelude.{◌≡◌, ◌↔◌, ◌≤◌, ◌^◌, length, IfOk, IsTrue};
+ghost use Rattle.std.specs.Prelude.{◌≡◌, ◌↔◌, ◌<◌, ◌≤◌, ◌^◌, length, slice_index_or, IfOk, IsTrue};
 ghost use Rattle.ssq_open.specs.Watermarks.{watermarked, is_line_of, has_lines, mark_of, lower, mark_by};
 
 use ssq_plans::SeenBy;
@@ -78,6 +78,14 @@ fn lower(least: Option<i128>, mark: Option<i128>) -> Option<i128>
     }
 }
 
+/// The greatest time at a place.
+fn seen_at(seen: &[SeenBy], at: usize) -> SeenBy
+    requires { at < length seen.now }
+    ensures { result ≡ slice_index_or seen.now at result }
+{
+    seen[at]
+}
+
 /// The watermark that these greatest times give, which are one for each watermarked stream.
 pub(crate) fn mark_by(streams: &[Watermarked], seen: &[SeenBy]) -> Option<i128>
     requires { length streams.now ≡ length seen.now }
@@ -85,7 +93,8 @@ pub(crate) fn mark_by(streams: &[Watermarked], seen: &[SeenBy]) -> Option<i128>
 {
     let mut least = None;
     for (at, stream) in streams.iter().enumerate() {
-        let mark = mark_of(*stream, seen[at]);
+        let own = seen_at(seen, at);
+        let mark = mark_of(*stream, own);
         if mark.is_none() {
             return None;
         }
