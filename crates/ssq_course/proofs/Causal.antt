@@ -8,7 +8,7 @@ use Rattle.ssq_outside.specs.declared.gate.Kind.{Kind}
 use Rattle.ssq_outside.specs.declared.gate.Kind.TheVariants as kind
 use Rattle.ssq_shape.specs.declared.bound.Bound.{Bound}
 use Rattle.ssq_shape.specs.declared.bound.Shape.{Shape}
-use Rattle.ssq_shape.specs.declared.bound.Shape.TheVariants.{Plain}
+use Rattle.ssq_shape.specs.declared.bound.Shape.TheVariants.{Plain, Group, Dedup, Join}
 use Rattle.ssq_shape.specs.Plain.{output_names}
 use Rattle.ssq_plans.specs.declared.seen.SeenBy.{SeenBy}
 use Rattle.ssq_meaning.specs.declared.fed_row.FedRow.{FedRow}
@@ -116,6 +116,9 @@ quiet_lines query (part ∷ parts) (from ∷ froms) (to ∷ tos) quiet =
 -- no key of a query that keeps nothing overflows
 no_key : (shape : Shape) (query : Bound) (old new : List FedRow) (before now : Option ℤ) → (operator_for shape query).fault old new before now ≡ None
 no_key Plain query old new before now = refl
+no_key (Group grouping) query old new before now = refl
+no_key (Dedup columns) query old new before now = refl
+no_key (Join joining) query old new before now = refl
 
 no_key_fault : (query : Bound) (parts : List Part) (cuts : Offsets) (e : ℕ) → key_fault query parts cuts e ≡ None
 unfolding operator_of
@@ -132,6 +135,9 @@ faultless s cuts e quiet =
 -- each partition that keeps state is one
 kept_is_one : (shape : Shape) (partitions p : ℕ) → p < keeping_of shape partitions → nat_lt p partitions ≡ true
 kept_is_one Plain partitions p less = absurd (omega (arith, less))
+kept_is_one (Group grouping) partitions p less = absurd (omega (arith, less))
+kept_is_one (Dedup columns) partitions p less = absurd (omega (arith, less))
+kept_is_one (Join joining) partitions p less = absurd (omega (arith, less))
 
 pub are_causal : AreCausal
 are_causal s = record {

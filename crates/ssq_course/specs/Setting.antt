@@ -66,9 +66,10 @@ rows_at s cuts e = sink_text (output_names s.job.bound) (out s.job.bound (parts_
 abbrev pub is_faulty_at : Setting → Cuts → ℕ → Bool
 is_faulty_at s cuts e = is_some (fault s.job.bound (parts_in s) (cuts_of cuts) e)
 
--- how many partitions keep state: of a query that keeps nothing none
+-- How many partitions keep state: of a query that keeps nothing none. Of the shapes that keep state nothing is said yet.
 abbrev pub keeping_of : Shape → ℕ → ℕ
 keeping_of Plain partitions = 0
+keeping_of _ partitions = 0
 
 -- whether the i-th part has lines between two cuts
 abbrev pub has_lines : Cut → Cut → ℕ → Bool
@@ -143,9 +144,10 @@ has_line [] tos = false
 has_line (from ∷ froms) [] = false
 has_line (from ∷ froms) (to ∷ tos) = nat_lt from.end to.end || has_line froms tos
 
--- whether a query of this shape may have rows to show without new lines
+-- Whether a query of this shape may have rows to show without new lines. Of the shapes that keep state nothing is said yet.
 abbrev pub closes : Shape → Bool
 closes Plain = false
+closes _ = false
 
 -- Epoch e may follow those before it: the cuts begin with no line, no end falls or passes its part's lines, and some part has a new
 -- line, or the query closes and the watermark is above that of the epoch before.

@@ -20,7 +20,7 @@ use Rattle.ssq_json.specs.Fits.{FitsSchema}
 use Rattle.ssq_json.specs.declared.bad_row.BadRow.TheVariants.{TooLong}
 use Rattle.ssq_shape.specs.declared.bound.Bound.{Bound}
 use Rattle.ssq_shape.specs.declared.bound.Shape.{Shape}
-use Rattle.ssq_shape.specs.declared.bound.Shape.TheVariants.{Plain}
+use Rattle.ssq_shape.specs.declared.bound.Shape.TheVariants.{Plain, Group, Dedup, Join}
 use Rattle.ssq_shape.specs.Evaluation.{time_in as time_of_value, and_then}
 use Rattle.ssq_shape.specs.Plain.{shown as shown_row}
 use Rattle.ssq_meaning.specs.declared.fed_row.FedRow.{FedRow}
@@ -57,6 +57,9 @@ row_time_years schema row all = by_event schema.event where
 
 handed_plain : (shape : Shape) (query : Bound) (stream : ℕ) (row : Values) → handed_by shape query stream row ≡ and_then (shown_row query row) (λ values. Ok (shown_once values))
 handed_plain Plain query stream row = refl
+handed_plain (Group grouping) query stream row = refl
+handed_plain (Dedup columns) query stream row = refl
+handed_plain (Join joining) query stream row = refl
 
 -- what a row gives that was read and shown
 pub gives : (query : Bound) (stream : ℕ) (bytes : Line) (schema : Layout) (row : Values) (time : Option ℤ) (values : Option Values)

@@ -3,7 +3,7 @@ use Rattle.std.proofs.Common.{◌≡◌, ◌∷◌, [], List, Option, None, Resu
 use Rattle.std.specs.Prelude.{ℤ, true, not, IfOk, IfErr}
 use Rattle.ssq_shape.specs.declared.bound.Bound.{Bound}
 use Rattle.ssq_shape.specs.declared.bound.Shape.{Shape}
-use Rattle.ssq_shape.specs.declared.bound.Shape.TheVariants.{Plain}
+use Rattle.ssq_shape.specs.declared.bound.Shape.TheVariants.{Plain, Group, Dedup, Join}
 use Rattle.ssq_meaning.specs.declared.fed_row.FedRow.{FedRow}
 use Rattle.ssq_meaning.specs.Operator.{operator_for, operator_of}
 use Rattle.ssq_meaning.specs.Epochs.{timely}
@@ -21,10 +21,16 @@ all_kept (row ∷ rows) = ap (λ more. row ∷ more) (all_kept rows)
 shows : (shape : Shape) (query : Bound) (old rows : List FedRow) (before now : Option ℤ)
     → map (λ row. row.values) rows ≡ (operator_for shape query).added old (filter (λ row. not ((operator_for shape query).is_late now row)) rows) before now
 shows Plain query old rows before now = ap (λ (kept : List FedRow). map (λ row. row.values) kept) (sym (all_kept rows))
+shows (Group grouping) query old rows before now = ap (λ (kept : List FedRow). map (λ row. row.values) kept) (sym (all_kept rows))
+shows (Dedup columns) query old rows before now = ap (λ (kept : List FedRow). map (λ row. row.values) kept) (sym (all_kept rows))
+shows (Join joining) query old rows before now = ap (λ (kept : List FedRow). map (λ row. row.values) kept) (sym (all_kept rows))
 
 no_key : (shape : Shape) (query : Bound) (old rows : List FedRow) (before now : Option ℤ)
     → (operator_for shape query).fault old (filter (λ row. not ((operator_for shape query).is_late now row)) rows) before now ≡ None
 no_key Plain query old rows before now = refl
+no_key (Group grouping) query old rows before now = refl
+no_key (Dedup columns) query old rows before now = refl
+no_key (Join joining) query old rows before now = refl
 
 then_ok : {V E : Type 0} (P Q : V → Type 0) (r : Result V E) → ((v : V) → P v → Q v) → IfOk r P → IfOk r Q
 then_ok P Q (Ok v) so is = so v is
