@@ -17,7 +17,7 @@ use Rattle.ssq_job.specs.Faults.{IsNoRefusal}
 use Rattle.ssq_run.specs.declared.stop.Stop.{Stop}
 use Rattle.ssq_run.specs.declared.stop.Stop.TheVariants.{Usage, Query, LogFault, OtherParts, NoMemory}
 use Rattle.ssq_run.specs.Queries.{IsQueryAt, stream_of, source_of, job_of}
-use Rattle.ssq_run.specs.Stopping.{stop_of_input, stop_of_end, ReadCause, WordsCause, IsPastWords}
+use Rattle.ssq_run.specs.Stopping.{stop_of_input, stop_of_end, ReadCause, WordsCause, IsPastWords, LogRises}
 use Rattle.ssq_run.specs.Looked.{LookEnd}
 use Rattle.ssq_run.specs.Program.{Given, IsIdle, IsOutside, GoesOn, SourceEnd, unstarted, not_one_part, ran, file_of, ProgramEnd, no_file, no_query, query_run, looked}
 
@@ -143,3 +143,12 @@ pub words_taken : (words : List (List ℕ)) (what : Asked) (stop : Stop) → ask
 words_taken words what Usage is past = absurd past
 words_taken words what NoMemory is past = tt
 words_taken words what _ is past = some_asked words what is
+
+-- a fault of the inputs that was counted from a later count on was counted from an earlier one on
+log_earlier : (old mid now : ℕ) (stop : Stop) → old ≤ mid → LogRises mid now stop → LogRises old now stop
+log_earlier old mid now LogFault less rises = omega (arith, less, rises)
+log_earlier old mid now _ less rises = tt
+
+pub logs_earlier : {T : Type 0} (old mid now : ℕ) (result : Result T Stop) → old ≤ mid → IfErr result (LogRises mid now) → IfErr result (LogRises old now)
+logs_earlier old mid now (Ok done) less cause = tt
+logs_earlier old mid now (Err stop) less cause = log_earlier old mid now stop less cause

@@ -1,6 +1,6 @@
 use Rattle.std.proofs.lemmas.Result.{err_from_is_err_and}
 use Rattle.ssq_words.specs.Asking.{asks_run}
-use Rattle.ssq_run.proofs.Passing.{not_read_at, not_prepared, ran_query}
+use Rattle.ssq_run.proofs.Passing.{not_read_at, not_prepared, ran_query, logs_earlier}
 use Rattle.ssq_run.proofs.stream.run_file.Goals as goal
 
 pub returns-in_err-query-clause-end : goal.returns-in_err-query-clause-end
@@ -31,3 +31,6 @@ pub returns-in_err-query-clause-out_cause : goal.returns-in_err-query-clause-out
 returns-in_err-query-clause-out_cause g c =
     let p = err_from_is_err_and c.from_residual.result c.from_residual.ensures.1 in
     rw (p.1, p.2) (c.in_err-query.ensures.not_the_output _ _)
+
+pub returns-clause-inputs_cause : goal.returns-clause-inputs_cause
+returns-clause-inputs_cause g c = logs_earlier _ _ _ c.run_source.result c.read_file.ensures.counted c.run_source.ensures.inputs_cause
