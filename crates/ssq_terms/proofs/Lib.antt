@@ -1,0 +1,7 @@
+pub mod Cutting
+pub mod Dealing
+pub mod Faults
+pub mod Marks
+pub mod Printing
+pub mod Starts
+pub mod Wanted
