@@ -82,11 +82,11 @@ next_longer cap (end ∷ ends) (n ∷ available) some is =
 -- ---- where a cut is
 
 -- an end of the part, which is not above its lines
-record IsEndIn (part : Part) (end : PartEnd) : Type 0 where
-  own : is_end_of part end ≡ true
-  most : end.end ≤ length part.lines
+pub record IsEndIn (part : Part) (end : PartEnd) : Type 0 where
+  pub own : is_end_of part end ≡ true
+  pub most : end.end ≤ length part.lines
 
-abbrev AreEnds : List Part → Ends → Type 0
+abbrev pub AreEnds : List Part → Ends → Type 0
 AreEnds [] [] = Unit {0}
 AreEnds [] (end ∷ ends) = ⊥
 AreEnds (part ∷ parts) [] = ⊥
@@ -127,7 +127,7 @@ next_within cap (part ∷ parts) (f ∷ found) (end ∷ ends) of are =
     (next_within cap parts found ends of.1 are.1))))
 
 -- each proper cut is one of ends of the parts
-cut_ends : (s : Setting) (cuts : Cuts) (found : Ends) (e : ℕ) → AreParts (parts_in s) found → cuts 0 ≡ starts found → AreProper (job_of s) cuts e → AreEnds (parts_in s) (cuts e)
+pub cut_ends : (s : Setting) (cuts : Cuts) (found : Ends) (e : ℕ) → AreParts (parts_in s) found → cuts 0 ≡ starts found → AreProper (job_of s) cuts e → AreEnds (parts_in s) (cuts e)
 cut_ends s cuts found zero are start proper = subst (λ (ends : Ends). AreEnds (parts_in s) ends) (sym start) (starts_are (parts_in s) found are)
 cut_ends s cuts found (suc e) are start proper =
     subst (λ (n : ℕ). AreEnds (parts_in s) (cuts n)) (add-one e) (ends_are (parts_in s) (cuts e) (cuts (e + 1)) (is_next_if s cuts e (proper e (omega arith))).within)

@@ -6,10 +6,12 @@
 
 mod cuts;
 mod job;
+mod opening;
 mod tasks;
 mod times;
 
 pub use cuts::plans_say_their_cuts;
 pub use job::job_is_wanted;
+pub use opening::round_begins_as_found;
 pub use tasks::tasks_have_terms;
 pub use times::times_are_of_lines;
