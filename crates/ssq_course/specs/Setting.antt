@@ -73,7 +73,10 @@ keeping_of _ partitions = 0
 
 -- whether the i-th part has lines between two cuts
 abbrev pub has_lines : Cut → Cut → ℕ → Bool
-has_lines froms tos i = nat_lt (get_or froms i 0) (get_or tos i 0)
+has_lines [] tos i = false
+has_lines (from ∷ froms) [] i = false
+has_lines (from ∷ froms) (to ∷ tos) zero = nat_lt from to
+has_lines (from ∷ froms) (to ∷ tos) (suc i) = has_lines froms tos i
 
 -- the fault of the i-th part between two cuts
 abbrev pub part_fault : Bound → Option Part → ℕ → ℕ → Bool

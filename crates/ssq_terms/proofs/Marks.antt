@@ -1,0 +1,93 @@
+-- The watermarked streams that an opening knows are those with a delay, and their greatest times give the watermark.
+use Rattle.std.proofs.Common.{◌≡◌, ◌+◌, ◌==◌, [], ◌∷◌, ℕ, ℤ, List, Option, Some, None, true, refl, ap, sym, ◌∙◌, map, length}
+use Rattle.std.specs.Prelude.{◌-ℤ◌}
+use Rattle.std.specs.Int.{int_min}
+use Rattle.std.specs.List.{cons_option, list_all, zip}
+use Rattle.std.proofs.lemmas.Bool.{eq-eqb}
+use Rattle.std.proofs.lemmas.List.{length-map}
+use Rattle.ssq_shape.specs.declared.bound.Stream.{Stream}
+use Rattle.ssq_meaning.specs.Times.{Delay, delay_of, delays, delays_from, least, less_delay, watermark_by}
+use Rattle.ssq_meaning.specs.Epochs.{seen}
+use Rattle.ssq_water.proofs.Marks.{with_mark, with_none}
+use Rattle.ssq_plans.specs.declared.seen.SeenBy.{SeenBy}
+use Rattle.ssq_core.specs.Course.{Cuts}
+use Rattle.ssq_core.proofs.Holding.{both_true}
+use Rattle.ssq_course.specs.Setting.{Setting, parts_in, cuts_of, seen_at, watermark_at}
+use Rattle.ssq_open.specs.declared.streams.Watermarked.{Watermarked}
+use Rattle.ssq_open.specs.Watermarks.{watermarked, watermarked_by, watermarked_from, is_line_of, has_lines, least_after, mark_by}
+
+-- a stream with its delay, as the meaning has it
+abbrev delay_in : Watermarked → Delay
+delay_in stream = (stream.stream, stream.delay)
+
+one_more : (at : ℕ) (delay : Option ℤ) (rest : List Delay) (others : List Watermarked) → rest ≡ map delay_in others
+    → cons_option (delay_of at delay) rest ≡ map delay_in (watermarked_by at delay others)
+one_more at None rest others same = same
+one_more at (Some late) rest others same = ap (λ (ds : List Delay). (at, late) ∷ ds) same
+
+delays_are : (at : ℕ) (streams : List Stream) → delays_from at streams ≡ map delay_in (watermarked_from at streams)
+unfolding delays_from
+delays_are at [] = refl
+delays_are at (stream ∷ streams) = one_more at stream.delay (delays_from (at + 1) streams) (watermarked_from (at + 1) streams) (delays_are (at + 1) streams)
+
+-- what is seen of a stream
+abbrev line_of : (ℕ → Option ℤ) → Delay → SeenBy
+line_of of stream = record { stream = stream.0; time = of stream.0 }
+
+abbrev lines_of : (ℕ → Option ℤ) → List Watermarked → List SeenBy
+lines_of of streams = map (line_of of) (map delay_in streams)
+
+abbrev marks_of : (ℕ → Option ℤ) → List Watermarked → List (Option ℤ)
+marks_of of streams = map (λ (stream : Delay). less_delay (of stream.0) stream.1) (map delay_in streams)
+
+each_own : (of : ℕ → Option ℤ) (streams : List Watermarked) → list_all is_line_of (zip streams (lines_of of streams)) ≡ true
+each_own of [] = refl
+each_own of (w ∷ ws) = both_true (w.stream == w.stream) _ (eq-eqb w.stream w.stream refl) (each_own of ws)
+
+lines_own : (of : ℕ → Option ℤ) (streams : List Watermarked) → has_lines streams (lines_of of streams) ≡ true
+lines_own of streams =
+    let same : length streams ≡ length (lines_of of streams) = sym (length-map (map delay_in streams) (line_of of) ∙ length-map streams delay_in) in
+    both_true (length streams == length (lines_of of streams)) _ (eq-eqb (length streams) (length (lines_of of streams)) same) (each_own of streams)
+
+-- the marks that are left, after some
+after_some : (of : ℕ → Option ℤ) (streams : List Watermarked) (a : ℤ) → least_after (Some a) (zip streams (lines_of of streams)) ≡ least (Some a ∷ marks_of of streams)
+after_some of [] a = refl
+after_some of (w ∷ ws) a = by_time (of w.stream) (after_some of ws)
+  where
+    by_time : (time : Option ℤ) → ((a : ℤ) → least_after (Some a) (zip ws (lines_of of ws)) ≡ least (Some a ∷ marks_of of ws))
+        → least_after (Some a) ((w, (let line : SeenBy = record { stream = w.stream; time = time } in line)) ∷ zip ws (lines_of of ws)) ≡ least (Some a ∷ less_delay time w.delay ∷ marks_of of ws)
+    by_time None rest = sym (with_none (Some a) (marks_of of ws))
+    by_time (Some t) rest = rest (int_min a (t -ℤ w.delay)) ∙ sym (with_mark (Some a) (t -ℤ w.delay) (marks_of of ws))
+
+mark_is : (of : ℕ → Option ℤ) (streams : List Watermarked) → mark_by streams (lines_of of streams) ≡ least (marks_of of streams)
+mark_is of [] = refl
+mark_is of (w ∷ ws) = by_time (of w.stream)
+  where
+    by_time : (time : Option ℤ) → least_after None ((w, (let line : SeenBy = record { stream = w.stream; time = time } in line)) ∷ zip ws (lines_of of ws)) ≡ least (less_delay time w.delay ∷ marks_of of ws)
+    by_time None = sym (with_none None (marks_of of ws))
+    by_time (Some t) = after_some of ws (t -ℤ w.delay)
+
+-- each commit has one line for each watermarked stream
+pub lines_there : (s : Setting) (cuts : Cuts) (e : ℕ) → has_lines (watermarked s.job.bound.streams) (seen_at s cuts e) ≡ true
+lines_there s cuts e =
+    let of : ℕ → Option ℤ = λ stream. seen s.job.bound (parts_in s) (cuts_of cuts) stream e in
+    ap (λ (ds : List Delay). has_lines (watermarked s.job.bound.streams) (map (line_of of) ds)) (delays_are 0 s.job.bound.streams) ∙ lines_own of (watermarked s.job.bound.streams)
+
+-- and they give the watermark
+pub mark_by_lines : (s : Setting) (cuts : Cuts) (e : ℕ) → watermark_at s cuts e ≡ mark_by (watermarked s.job.bound.streams) (seen_at s cuts e)
+mark_by_lines s cuts e =
+    let of : ℕ → Option ℤ = λ stream. seen s.job.bound (parts_in s) (cuts_of cuts) stream e in
+    let streams = watermarked s.job.bound.streams in
+    ap (λ (ds : List Delay). least (map (λ (stream : Delay). less_delay (of stream.0) stream.1) ds)) (delays_are 0 s.job.bound.streams)
+    ∙ sym (mark_is of streams)
+    ∙ sym (ap (λ (ds : List Delay). mark_by streams (map (line_of of) ds)) (delays_are 0 s.job.bound.streams))
+
+nothing_seen : (streams : List Delay) → watermark_by streams (λ stream. None) ≡ None
+nothing_seen [] = refl
+nothing_seen (d ∷ []) = refl
+nothing_seen (d ∷ e ∷ ds) = refl
+
+-- before the first epoch there is none
+pub unmarked : (s : Setting) (cuts : Cuts) → watermark_at s cuts 0 ≡ None
+unfolding seen
+unmarked s cuts = nothing_seen (delays s.job.bound)

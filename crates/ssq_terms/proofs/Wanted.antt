@@ -1,0 +1,97 @@
+-- The job of a setting is the one that is wanted.
+use Rattle.std.proofs.Common.{◌≡◌, ◌<◌, ◌≤◌, ◌+◌, ◌^◌, ◌&&◌, ◌||◌, [], ◌∷◌, ℕ, List, Option, true, refl, ap, sym, ◌∙◌, subst, arith, length}
+use Rattle.std.specs.Prelude.{All}
+use Rattle.std.proofs.lemmas.List.Elements.{All-cons, All-nil, All-head, All-tail}
+use Rattle.std.specs.Str.{IsUtf8}
+use Rattle.ssq_water.specs.Water.{HasDelays}
+use Rattle.ssq_plans.specs.declared.meta.Meta.{Meta}
+use Rattle.ssq_plans.specs.Records.{IsCount, IsMetaRecord}
+use Rattle.ssq_shape.specs.declared.bound.Bound.{Bound}
+use Rattle.ssq_shape.specs.declared.bound.Shape.{Shape}
+use Rattle.ssq_meaning.specs.Parts.{parts_of}
+use Rattle.ssq_meaning.specs.Times.{is_above}
+use Rattle.ssq_meaning.specs.Epochs.{watermark_before}
+use Rattle.ssq_core.specs.Course.{Cuts}
+use Rattle.ssq_core.proofs.Holding.{both_are}
+use Rattle.ssq_course.specs.Setting.{Setting, parts_in, meta_of, cuts_of, watermark_at, keeping_of, is_start, is_within, has_line, closes, is_next_of, job_of}
+use Rattle.ssq_course.specs.Laws.{IsFit}
+use Rattle.ssq_course.proofs.Causal.{are_causal}
+use Rattle.ssq_open.specs.declared.wanted.Lens.{Lens}
+use Rattle.ssq_open.specs.Lens.{asked, counts_of, found_from, IsFew}
+use Rattle.ssq_open.specs.Sought.{IsJob}
+use Rattle.ssq_open.specs.Jobs.{IsWantedJob}
+use Rattle.ssq_terms.specs.Setting.{IsSettingOf}
+use Rattle.ssq_terms.specs.Laws.{JobIsWanted, FirstRecordIsJobs, PartsAreFound}
+use Rattle.ssq_terms.proofs.Printing.{commits_written, plans_written}
+use Rattle.ssq_terms.proofs.Marks.{lines_there, mark_by_lines, unmarked}
+use Rattle.ssq_terms.proofs.Starts.{AreParts, are_parts, parts_fit, found_numbers, firsts_are, start_is, within_follows}
+
+few_counted : (streams : List (List ℕ)) → All IsFew streams → All IsCount (counts_of streams)
+few_counted [] few = All-nil IsCount
+few_counted (own ∷ rest) few = All-cons IsCount (length own) (counts_of rest) (All-head IsFew own rest few) (few_counted rest (All-tail IsFew own rest few))
+
+-- what is within an epoch that may come
+pub record IsNext (s : Setting) (cuts : Cuts) (e : ℕ) : Type 0 where
+  pub start : is_start (parts_in s) (cuts 0) ≡ true
+  pub within : is_within (parts_in s) (cuts e) (cuts (e + 1)) ≡ true
+
+pub is_next_if : (s : Setting) (cuts : Cuts) (e : ℕ) → is_next_of s cuts e ≡ true → IsNext s cuts e
+is_next_if s cuts e next =
+    let more = has_line (cuts e) (cuts (e + 1)) || (closes s.job.bound.shape && is_above (watermark_at s cuts e) (watermark_before s.job.bound (parts_in s) (cuts_of cuts) e)) in
+    let first = both_are (is_start (parts_in s) (cuts 0)) (is_within (parts_in s) (cuts e) (cuts (e + 1)) && more) next in
+    let second = both_are (is_within (parts_in s) (cuts e) (cuts (e + 1))) more first.1 in
+    record { start = first.0; within = second.0 }
+
+module _ (s : Setting) (bound : Bound) (partitions : Option ℕ) (lens : Lens) (is : IsSettingOf s bound partitions lens) where
+  query : bound ≡ s.job.bound
+  query = sym is.query
+
+  pub fit : All IsFit (parts_in s)
+  fit =
+      let few : length lens.streams ≤ 2 ^ 32 = subst (λ (n : ℕ). n ≤ 2 ^ 32) (sym is.asked.each_stream) is.asked.few_streams in
+      subst (λ counts. All IsFit (parts_of counts s.lines)) (sym is.parts) (parts_fit lens.streams s.lines is.found is.asked.few_parts few)
+
+  pub parts : AreParts (parts_in s) (found_from 0 lens.streams)
+  parts = subst (λ counts. AreParts (parts_of counts s.lines) (found_from 0 lens.streams)) (sym is.parts) (are_parts lens.streams s.lines is.found)
+
+  record_is : IsMetaRecord (meta_of s)
+  record_is =
+      let counted : All IsCount s.job.parts = subst (λ counts. All IsCount counts) (sym is.parts) (few_counted lens.streams is.asked.few_parts) in
+      ((is.some_partitions, is.few_partitions, counted), subst (λ (b : Bound). IsUtf8 b.text) query is.plain.utf8, subst (λ (b : Bound). length b.text < 2 ^ 64) query is.plain.few)
+
+  wanted : IsJob (asked s.job.bound partitions lens) (meta_of s)
+  wanted = record {
+    ours = record {
+      ours = record { query = refl; streams = ap length is.parts };
+      partitions = λ count asks. is.as_asked count asks;
+    };
+    parts = is.parts;
+  }
+
+  own_job : IsWantedJob (asked s.job.bound partitions lens) (job_of s)
+  own_job = record {
+    causal = are_causal s;
+    record_is = λ cuts. record_is;
+    wanted = λ cuts. wanted;
+    one_record = λ cuts other. refl;
+    stateless = λ cuts. ap (λ (shape : Shape). keeping_of shape s.job.partitions) (ap (λ (b : Bound). b.shape) is.query ∙ is.plain.shape);
+    ends = λ cuts e. refl;
+    start = λ cuts e next. start_is (parts_in s) (found_from 0 lens.streams) (cuts 0) parts (is_next_if s cuts e next).start;
+    follow = λ cuts e next. within_follows (parts_in s) (cuts e) (cuts (e + 1)) (is_next_if s cuts e next).within;
+    plans = λ cuts n e proper few less. plans_written s cuts e (subst HasDelays query is.plain.delays) fit (proper e less) (omega (arith, few, less));
+    commits = λ cuts n e proper few less. commits_written s cuts e (subst (λ (b : Bound). length b.streams ≤ 2 ^ 32) query is.asked.few_streams) (omega (arith, few, less));
+    lines = λ cuts e. lines_there s cuts (e + 1);
+    first_mark = λ cuts. unmarked s cuts;
+    next_mark = λ cuts e. mark_by_lines s cuts (e + 1);
+  }
+
+pub job_wanted : JobIsWanted
+job_wanted s bound partitions lens is = subst (λ (b : Bound). IsWantedJob (asked b partitions lens) (job_of s)) is.query (own_job s bound partitions lens is)
+
+pub first_record : FirstRecordIsJobs
+first_record s bound partitions lens is count cuts =
+    λ i. (let meta : Meta = record { partitions = count i; parts = is.parts i; query = (is.query i).text } in meta)
+
+pub parts_found : PartsAreFound
+parts_found s bound partitions lens is =
+    (fit s bound partitions lens is, firsts_are (parts_in s) (found_from 0 lens.streams) (parts s bound partitions lens is), found_numbers 0 lens.streams)

@@ -1,0 +1,8 @@
+use Rattle.ssq_terms.proofs.Cutting.{plans_say, files_say}
+use Rattle.ssq_terms.proofs.cuts.plans_say_their_cuts.Goals as goal
+
+pub returns-clause-plans : goal.returns-clause-plans
+returns-clause-plans c = plans_say
+
+pub returns-clause-files : goal.returns-clause-files
+returns-clause-files c = files_say

@@ -1,0 +1,11 @@
+use Rattle.ssq_terms.proofs.Wanted.{job_wanted, first_record, parts_found}
+use Rattle.ssq_terms.proofs.job.job_is_wanted.Goals as goal
+
+pub returns-clause-wanted : goal.returns-clause-wanted
+returns-clause-wanted c = job_wanted
+
+pub returns-clause-first : goal.returns-clause-first
+returns-clause-first c = first_record
+
+pub returns-clause-parts : goal.returns-clause-parts
+returns-clause-parts c = parts_found

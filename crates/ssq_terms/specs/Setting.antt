@@ -1,0 +1,42 @@
+-- The setting of a query, with the partitions that it has, over logs of which so many lines were found.
+use Rattle.std.specs.Prelude.{◌≡◌, ◌<◌, ◌≤◌, ◌^◌, ℕ, List, [], ◌∷◌, length, Option}
+use Rattle.std.specs.Option.{ForSome}
+use Rattle.std.specs.Str.{IsUtf8}
+use Rattle.ssq_shape.specs.declared.bound.Bound.{Bound}
+use Rattle.ssq_shape.specs.declared.bound.Shape.TheVariants.{Plain}
+use Rattle.ssq_meaning.specs.Meaning.{Line}
+use Rattle.ssq_meaning.specs.Epochs.{joined}
+use Rattle.ssq_water.specs.Water.{HasDelays}
+use Rattle.ssq_open.specs.declared.wanted.Lens.{Lens}
+use Rattle.ssq_open.specs.Lens.{CanBeAsked, counts_of}
+use Rattle.ssq_course.specs.Setting.{Setting}
+
+-- how many lines were found of each part of the job, in order
+abbrev pub found_lines : Lens → List ℕ
+found_lines lens = joined lens.streams
+
+-- of each part, in order, as many lines are found as it will come to hold, or fewer; and they can be counted in 64 bits
+abbrev pub AreFound : List ℕ → List (List Line) → Type 0
+AreFound [] [] = Unit {0}
+AreFound [] (lines ∷ rest) = ⊥
+AreFound (found ∷ more) [] = ⊥
+AreFound (found ∷ more) (lines ∷ rest) = (found ≤ length lines) × (length lines < 2 ^ 64) × AreFound more rest
+
+-- A query that keeps nothing: its text is UTF-8 of a length of 64 bits, and its delays are ones that the language has.
+pub record IsPlain (bound : Bound) : Type 0 where
+  pub shape : bound.shape ≡ Plain
+  pub utf8 : IsUtf8 bound.text
+  pub few : length bound.text < 2 ^ 64
+  pub delays : HasDelays bound
+
+-- The setting is of this query, with 1 to 64 partitions, which are those that are asked for, where that is asked; and of the parts of
+-- its streams, with at least the lines that were found.
+pub record IsSettingOf (s : Setting) (bound : Bound) (partitions : Option ℕ) (lens : Lens) : Type 0 where
+  pub query : s.job.bound ≡ bound
+  pub plain : IsPlain bound
+  pub asked : CanBeAsked bound partitions lens
+  pub some_partitions : 1 ≤ s.job.partitions
+  pub few_partitions : s.job.partitions ≤ 64
+  pub as_asked : ForSome partitions (λ count. s.job.partitions ≡ count)
+  pub parts : s.job.parts ≡ counts_of lens.streams
+  pub found : AreFound (found_lines lens) s.lines

@@ -1,0 +1,13 @@
+//! The job that a checkpoint is opened for.
+
+ghost use Rattle.ssq_terms.specs.Laws.{JobIsWanted, FirstRecordIsJobs, PartsAreFound};
+
+/// The law of the opening: the job of a query that keeps nothing is the one that is wanted, where its setting is that of the query,
+/// the partitions and the lines that were found.
+pub fn job_is_wanted()
+    ensures wanted { JobIsWanted }
+    // A new checkpoint gets its record.
+    ensures first { FirstRecordIsJobs }
+    // Its parts begin where those that were found do.
+    ensures parts { PartsAreFound }
+{}
