@@ -4,3 +4,5 @@ pub mod Rooms
 pub mod Readies
 pub mod Desks
 pub mod Moves
+pub mod Written
+pub mod Publishing

@@ -8,6 +8,7 @@ ghost use Rattle.ssq_board.specs.declared.front.Entry.TheVariants as entry;
 ghost use Rattle.ssq_board.specs.declared.front.Cause.TheVariants as cause;
 ghost use Rattle.ssq_board.specs.declared.front.Ready.TheVariants as ready;
 ghost use Rattle.ssq_board.specs.Core.{May, ready_of, due, due_stop, or_stop, is_stopped};
+ghost use Rattle.ssq_board.specs.Shown.{IsStart};
 ghost use Rattle.ssq_desk.specs.Slots.{places};
 ghost use Rattle.ssq_desk.specs.Shown.{Shown, IsLegal, IsTrue, HasRisen, did, answer};
 ghost use Rattle.ssq_desk.specs.Tasks.{map_id, reduce_id, out_id, cause_of};
@@ -20,9 +21,10 @@ use ssq_outside::{Disk, DiskFault, Kind, Log, Name, TaskId};
 use std::mem;
 
 impl<D: Disk, L: Log, O: Opening> Desk<D, L, O> {
-    /// The law of the desk: its history is legal.
+    /// The law of the desk: its history is legal from what was opened, which has one end for each part.
     pub fn is_legal(&self)
-        ensures { IsLegal (D.tells × L.tells) D.history O.opening self.now }
+        ensures legal { IsLegal (D.tells × L.tells) D.history O.opening self.now }
+        ensures start { IsStart self.now.scope (O.opening self.now.opening).start }
     {
         let _ = &self.entries;
     }
