@@ -1,6 +1,5 @@
 pub mod Lists
 pub mod Slots
-pub mod Rooms
 pub mod Readies
 pub mod Desks
 pub mod Moves

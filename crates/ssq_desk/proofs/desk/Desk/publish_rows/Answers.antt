@@ -23,10 +23,11 @@ use Rattle.ssq_desk.specs.Tasks.{map_id, reduce_id, out_id, cause_of}
 use Rattle.ssq_desk.specs.Shown.{Opening, Shown, IsDesk, HasCommit, did, cuts_after, cuts_of, HasFiles, IsTrue, answer}
 use Rattle.ssq_desk.proofs.Lists.{at_mapped, at_length}
 use Rattle.ssq_desk.proofs.Slots.{only_waits, waits_at, away_at, places_set, moved_maps, moved_reduces, moved_outs}
-use Rattle.ssq_desk.proofs.Rooms.{need_moved, need_report, need_stop, need_sync, need_commit, need_out, need_bound, places_length, open_less, IsSized}
-use Rattle.ssq_desk.proofs.Desks.{one, goes, sized_of, same_cuts}
+use Rattle.ssq_board.proofs.Needs.{need_claim, need_report, need_falls, need_sync, need_bound}
+use Rattle.ssq_board.proofs.Sounds.{open_less}
+use Rattle.ssq_desk.proofs.Desks.{one, goes, held, same_cuts}
 use Rattle.ssq_desk.proofs.Moves.{went, tried, pending_is, first_none}
-use Rattle.ssq_desk.proofs.Readies.{commit_may, map_may, reduce_may, out_may, out_last, some_waits, running}
+use Rattle.ssq_board.proofs.Readies.{commit_may, map_may, reduce_may, some_waits}
 use Rattle.ssq_desk.proofs.desk.Desk.publish_rows.Goals as goal
 
 pub invariant_of-self : goal.invariant_of-self
@@ -42,7 +43,7 @@ invariant_of-self g c =
     let same = same_cuts o scope s.entries.items c.push_reserved.new.self.items (entry.OutFile s.front.committed) items (λ cuts n. refl) in (
       one (g.D.Disk.tells × g.L.Log.tells) o (g.D.Disk.history s.opened.value) scope (g.D.Disk.history s.disk) core s.entries.items s.entries.cap c.self.invariant.0 (g.D.Disk.history c.publish.new.self) (record { front = record { planned = s.front.planned; committed = s.front.committed; fresh = s.front.fresh; settled = false; written = true; has_lines = s.front.has_lines; due = s.front.due; stop = s.front.stop }; ends = s.ends.items; maps = places s.maps.items; reduces = places s.reduces.items; outs = places s.outs.items }) c.push_reserved.new.self.items c.push_reserved.new.self.cap
           (entry.OutFile s.front.committed) m (λ t. went (name.Out s.front.committed) _ _ _ _ (right t).0 (c.publish.ensures.steps t.0) (c.in-Ok.ensures.ok t.0)) (λ t. tt) (search (m, rules)) items
-          (let n = need_out scope core s.front.committed m in let r = c.self.invariant.0.room in let k = c.push_reserved.ensures.capacity in let q = ap stop_need m.0 in omega arith),
+          (let n = need_falls scope core (entry.OutFile s.front.committed) (held (g.D.Disk.tells × g.L.Log.tells) o (g.D.Disk.history s.opened.value) scope (g.D.Disk.history s.disk) core s.entries.items s.entries.cap c.self.invariant.0) m refl in let r = c.self.invariant.0.room in let k = c.push_reserved.ensures.capacity in let q = ap stop_need m.0 in omega arith),
       subst (λ (x : Cuts). HasCommit (g.D.Disk.tells × g.L.Log.tells) g.D.Stage.Stage.sealed o x (record { planned = s.front.planned; committed = s.front.committed; fresh = s.front.fresh; settled = false; written = true; has_lines = s.front.has_lines; due = s.front.due; stop = s.front.stop }) (Some (record { file = c.args.files.commit; due = c.args.files.due }))) (sym same) (λ running written near. (record { file = c.args.files.commit; due = c.args.files.due }, refl, (λ t. (right t).1), (λ t. (right t).2))),
     )
 
@@ -59,6 +60,6 @@ invariant_of-self-in-Err g c =
     let same = same_cuts o scope s.entries.items c.push_reserved-in-Err.new.self.items (entry.Stop cause.DiskFault) items (λ cuts n. refl) in (
       one (g.D.Disk.tells × g.L.Log.tells) o (g.D.Disk.history s.opened.value) scope (g.D.Disk.history s.disk) core s.entries.items s.entries.cap c.self.invariant.0 (g.D.Disk.history c.publish.new.self) (record { front = record { planned = s.front.planned; committed = s.front.committed; fresh = s.front.fresh; settled = s.front.settled; written = s.front.written; has_lines = s.front.has_lines; due = s.front.due; stop = Some cause.DiskFault }; ends = s.ends.items; maps = places s.maps.items; reduces = places s.reduces.items; outs = places s.outs.items }) c.push_reserved-in-Err.new.self.items c.push_reserved-in-Err.new.self.cap
           (entry.Stop cause.DiskFault) (m.0, tt) (λ t. (publishes (name.Out s.front.committed) (truth (o.job.course (cuts_after o scope s.entries.items)) (name.Out s.front.committed)), inr (entry.OutFile s.front.committed, m, refl), tried (name.Out s.front.committed) _ _ _ _ (right t).0 (c.publish.ensures.steps t.0))) (λ t. tt) refl items
-          (let n = need_stop scope core cause.DiskFault m.0 in let r = c.self.invariant.0.room in let k = c.push_reserved-in-Err.ensures.capacity in omega arith),
+          (let n = need_falls scope core (entry.Stop cause.DiskFault) (held (g.D.Disk.tells × g.L.Log.tells) o (g.D.Disk.history s.opened.value) scope (g.D.Disk.history s.disk) core s.entries.items s.entries.cap c.self.invariant.0) (m.0, tt) refl in let r = c.self.invariant.0.room in let k = c.push_reserved-in-Err.ensures.capacity in omega arith),
       subst (λ (x : Cuts). HasCommit (g.D.Disk.tells × g.L.Log.tells) g.D.Stage.Stage.sealed o x (record { planned = s.front.planned; committed = s.front.committed; fresh = s.front.fresh; settled = s.front.settled; written = s.front.written; has_lines = s.front.has_lines; due = s.front.due; stop = Some cause.DiskFault }) (Some (record { file = c.args.files.commit; due = c.args.files.due }))) (sym same) (λ stopped. absurd (let e = stopped in cc)),
     )
