@@ -7,7 +7,8 @@ use Rattle.ssq_board.specs.Core.{Scope, Core, need, May, after, after_all, cuts_
 use Rattle.ssq_board.specs.Shown.{first}
 use Rattle.ssq_board.specs.Follows.{State, Step, Leads, Moves, IsRight}
 use Rattle.ssq_desk.specs.Shown.{Opening, state, first_state, cuts_after, IsDesk}
-use Rattle.ssq_desk.proofs.Rooms.{IsSized, run_sized, first_sized}
+use Rattle.ssq_board.specs.Shown.{IsSound}
+use Rattle.ssq_board.proofs.Sounds.{run_sound, first_sound}
 
 module _ (tells : Type 0) (job : Job) (r : Scope) (next : Cuts → ℕ → Bool) where
   leads_more : (s : State) (es : List Entry) (mid : State) (fs : List Entry) (n : State) → Leads tells job r next s es mid → Leads tells job r next mid fs n → Leads tells job r next s (es ++ fs) n
@@ -53,5 +54,6 @@ module _ (tells : Type 0) (o : Opening) (opened : History) (r : Scope) (disk : H
   one new n now more e may moves right is here room =
       goes new n (cuts_by r (cuts_after o r entries) c e) now (e ∷ []) more (state new n (cuts_by r (cuts_after o r entries) c e), record { may = may; moves = moves; right = right; core = is; cuts = refl }, refl) here (omega (arith, room))
 
-  pub sized_of : IsSized r c
-  sized_of = run_sized tells o.job r o.due entries (first_state o r opened) (state disk c (cuts_after o r entries)) d.leads (first_sized r o.start d.start)
+  -- what holds of each state that entries lead to
+  pub held : IsSound r c
+  held = run_sound tells o.job r o.due entries (first_state o r opened) (state disk c (cuts_after o r entries)) d.leads (first_sound r o.start d.start)

@@ -1,6 +1,7 @@
 pub mod Lists
 pub mod Slots
-pub mod Rooms
 pub mod Readies
 pub mod Desks
 pub mod Moves
+pub mod Written
+pub mod Publishing

@@ -11,6 +11,7 @@ use Rattle.ssq_desk.specs.Slots.{place_of, places}
 use Rattle.ssq_outside.specs.declared.gate.TaskId.{TaskId}
 use Rattle.ssq_outside.specs.declared.gate.Kind.TheVariants as kind
 use Rattle.ssq_board.specs.Core.{Core, is_waiting, moved, with_tasks, tasks_of}
+use Rattle.ssq_board.proofs.Lists.{map_length}
 use Rattle.ssq_desk.proofs.Lists.{map-set}
 
 module _ {K W : Type 0} where
@@ -29,6 +30,9 @@ module _ {K W : Type 0} where
   away_at (slot.Waits k w ∷ xs) zero e = absurd (let i' = some-injective _ _ e in cc)
   away_at (slot.Rests k ∷ xs) zero e = absurd (let i' = some-injective _ _ e in cc)
   away_at (slot.Back f k ∷ xs) zero e = absurd (let i' = some-injective _ _ e in cc)
+
+  pub places_length : (l : List (Slot K W)) → length (places l) ≡ length l
+  places_length l = map_length place_of l
 
   pub places_set : (l : List (Slot K W)) (t : ℕ) (s : Slot K W) → places (set l t s) ≡ set (places l) t (place_of s)
   places_set l t s = map-set place_of l t s

@@ -1,5 +1,5 @@
 -- What a desk shows, and what is so of every desk.
-use Rattle.std.specs.Prelude.{◌≡◌, ◌⊎◌, ◌+◌, ◌≤◌, ◌^◌, ◌++◌, ◌&&◌, ℕ, Bool, true, false, List, [], ◌∷◌, length, Option, Some, None, Result, Ok, Err}
+use Rattle.std.specs.Prelude.{◌≡◌, ◌⊎◌, ◌+◌, ◌≤◌, ◌^◌, ◌++◌, ◌&&◌, ℕ, Bool, true, false, List, [], ◌∷◌, length, Option, Some, None, Result, Ok, Err, OnOk, IfErr}
 use Rattle.ssq_outside.specs.History.{History}
 use Rattle.ssq_outside.specs.Faults.{Rises}
 use Rattle.ssq_outside.specs.declared.name.Name.TheVariants as name
@@ -75,15 +75,28 @@ module _ {D O : Type 0} where
   abbrev pub did : Shown D O → D → List Entry → Shown D O
   did s disk es = record { opening = s.opening; opened = s.opened; scope = s.scope; disk = disk; core = after_all s.scope s.core es; history = s.history ++ es }
 
--- a fault of the disk is one that the disk counted
-abbrev pub HasRisen : Cause → ℕ → ℕ → Type 0
-HasRisen cause.DiskFault before now = Rises before now
-HasRisen _ before now = Unit {0}
-
 -- a Stop as a call's answer
 abbrev pub answer : Option Cause → Result (Unit {0}) Cause
 answer None = Ok tt
 answer (Some f) = Err f
+
+-- the out task brought its files and the desk runs: its rows are published
+abbrev pub brings : Option Cause → Option Cause → Bool
+brings None None = true
+brings _ fault = false
+
+module _ {D O : Type 0} where
+  -- How the result of an out task is taken. Where it brought its files and the desk runs, the rows are published behind its report, or the
+  -- disk failed at that; else there is its report alone, with the Stop that it brings about.
+  abbrev pub IsOut : Bool → Shown D O → Shown D O → TaskId → Option Cause → Result (Unit {0}) Cause → Type 0 → Type 0
+  IsOut true s n t fault result risen = OnOk result (n ≡ did s n.disk (entry.Report t fault ∷ entry.OutFile s.core.front.committed ∷ []))
+      × IfErr result (λ stop. (stop ≡ cause.DiskFault) × (n ≡ did s n.disk (entry.Report t fault ∷ entry.Stop stop ∷ [])) × risen)
+  IsOut false s n t fault result risen = (n ≡ did s s.disk (entry.Report t fault ∷ [])) × (result ≡ answer (due s.core t fault))
+
+-- a fault of the disk is one that the disk counted
+abbrev pub HasRisen : Cause → ℕ → ℕ → Type 0
+HasRisen cause.DiskFault before now = Rises before now
+HasRisen _ before now = Unit {0}
 
 -- the sealed files are those of the epoch, and it is known whether an epoch without lines is due next
 abbrev pub HasFiles : {F : Type 0} → (F → List ℕ) → Opening → Cuts → ℕ → Sealed F → Type 0

@@ -1,22 +1,30 @@
-//! What changes the desk: reports and syncs.
+//! What changes the desk: reports, syncs and commits.
 
 ghost use Rattle.std.specs.Prelude.{◌≡◌, ◌⊎◌, ◌≤◌, ◌+◌, ◌++◌, ◌&&◌, length, [], ◌∷◌, Some, None, Ok, Err, IfOk, IfErr, OnOk, OnErr, IfSome, ◌*◌, ◌^◌, vec_capacity, if◌then◌else◌};
+ghost use Rattle.ssq_outside.specs.Faults.{Rises};
+ghost use Rattle.ssq_outside.specs.declared.name.Name.TheVariants as name;
+ghost use Rattle.ssq_core.specs.Course.{truth};
 ghost use Rattle.ssq_board.specs.declared.front.Entry.TheVariants as entry;
-ghost use Rattle.ssq_board.specs.Core.{May, due, due_stop, or_stop, is_stopped};
+ghost use Rattle.ssq_board.specs.declared.front.Cause.TheVariants as cause;
+ghost use Rattle.ssq_board.specs.declared.front.Ready.TheVariants as ready;
+ghost use Rattle.ssq_board.specs.Core.{May, ready_of, due, due_stop, or_stop, is_stopped};
+ghost use Rattle.ssq_board.specs.Shown.{IsStart};
 ghost use Rattle.ssq_desk.specs.Slots.{places};
 ghost use Rattle.ssq_desk.specs.Shown.{Shown, IsLegal, IsTrue, HasRisen, did, answer};
-ghost use Rattle.ssq_desk.specs.Tasks.{map_id, reduce_id, cause_of};
+ghost use Rattle.ssq_desk.specs.Tasks.{map_id, reduce_id, out_id, cause_of};
 
-use crate::desk::{Desk, Mapped, Opening};
+use crate::desk::{Desk, Mapped, Opening, Pending};
 use crate::slot::{Slot, due_stop, put_back};
 use crate::task::{Fed, Reduced};
 use ssq_board::{Cause, Entry};
-use ssq_outside::{Disk, Kind, Log, TaskId};
+use ssq_outside::{Disk, DiskFault, Kind, Log, Name, TaskId};
+use std::mem;
 
 impl<D: Disk, L: Log, O: Opening> Desk<D, L, O> {
-    /// The law of the desk: its history is legal.
+    /// The law of the desk: its history is legal from what was opened, which has one end for each part.
     pub fn is_legal(&self)
-        ensures { IsLegal (D.tells × L.tells) D.history O.opening self.now }
+        ensures legal { IsLegal (D.tells × L.tells) D.history O.opening self.now }
+        ensures start { IsStart self.now.scope (O.opening self.now.opening).start }
     {
         let _ = &self.entries;
     }
@@ -110,6 +118,33 @@ impl<D: Disk, L: Log, O: Opening> Desk<D, L, O> {
             }
         }
     }
+
+    /// Publishes the commit of the epoch that runs, whose rows are settled. It takes no memory.
+    pub fn commit(&mut self) -> Result<(), DiskFault>
+        requires { ready_of self.old.scope self.old.core ≡ ready.Commit }
+        ensures done { OnOk result ((next : _) × (self.new ≡ did self.old self.new.disk (entry.Commit self.old.core.front.committed next ∷ []))) }
+        ensures stopped { OnErr result ((self.new ≡ did self.old self.new.disk (entry.Stop cause.DiskFault ∷ [])) × Rises (D.faults self.old.disk) (D.faults self.new.disk)) }
+    {
+        let Some(pending) = mem::replace(&mut self.commit, None) else {
+            unreachable!()
+        };
+        let Pending { file, due } = pending;
+        match self.disk.publish(file, Name::Commit(self.front.committed)) {
+            Ok(()) => {
+                self.entries
+                    .push_reserved(Entry::Commit(self.front.committed, due));
+                self.front.committed += 1;
+                self.front.settled = false;
+                self.front.due = both(due, self.front.has_lines);
+                Ok(())
+            }
+            Err(fault) => {
+                self.front.stop = Some(Cause::DiskFault);
+                self.entries.push_reserved(Entry::Stop(Cause::DiskFault));
+                Err(fault)
+            }
+        }
+    }
 }
 
 /// Makes room for all entries that can come before the next sync.
@@ -123,6 +158,12 @@ fn make_room(entries: &mut Vec<Entry>, tasks: usize) -> Option<()>
         Ok(()) => Some(()),
         Err(_) => None,
     }
+}
+
+fn both(one: bool, other: bool) -> bool
+    ensures { result ≡ (one && other) }
+{
+    one && other
 }
 
 /// What a task brought, and what it met in place of that.

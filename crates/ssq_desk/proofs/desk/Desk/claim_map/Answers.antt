@@ -23,10 +23,11 @@ use Rattle.ssq_desk.specs.Tasks.{map_id, reduce_id, out_id, cause_of}
 use Rattle.ssq_desk.specs.Shown.{Opening, Shown, IsDesk, HasCommit, did, cuts_after, cuts_of, HasFiles, IsTrue, answer}
 use Rattle.ssq_desk.proofs.Lists.{at_mapped, at_length}
 use Rattle.ssq_desk.proofs.Slots.{only_waits, waits_at, away_at, places_set, moved_maps, moved_reduces, moved_outs}
-use Rattle.ssq_desk.proofs.Rooms.{need_moved, need_report, need_stop, need_sync, need_commit, need_out, need_bound, places_length, open_less, IsSized}
-use Rattle.ssq_desk.proofs.Desks.{one, goes, sized_of, same_cuts}
+use Rattle.ssq_board.proofs.Needs.{need_claim, need_report, need_falls, need_sync, need_bound}
+use Rattle.ssq_board.proofs.Sounds.{open_less}
+use Rattle.ssq_desk.proofs.Desks.{one, goes, held, same_cuts}
 use Rattle.ssq_desk.proofs.Moves.{went, tried, pending_is, first_none}
-use Rattle.ssq_desk.proofs.Readies.{commit_may, map_may, reduce_may, out_may, out_last, some_waits, running}
+use Rattle.ssq_board.proofs.Readies.{commit_may, map_may, reduce_may, some_waits}
 use Rattle.ssq_desk.proofs.desk.Desk.claim_map.Goals as goal
 
 pub take_out-mapped-requires : goal.take_out-mapped-requires
@@ -52,7 +53,7 @@ invariant_of-self g c =
     let same = same_cuts o scope s.entries.items c.push_reserved.new.self.items (entry.Claim id) c.push_reserved.ensures.items (λ cuts n. refl) in (
       one (g.D.Disk.tells × g.L.Log.tells) o (g.D.Disk.history s.opened.value) scope (g.D.Disk.history s.disk) core s.entries.items s.entries.cap c.self.invariant.0 (g.D.Disk.history s.disk) (record { front = s.front; ends = s.ends.items; maps = places c.take_out-mapped.new.slots.items; reduces = places s.reduces.items; outs = places s.outs.items }) c.push_reserved.new.self.items c.push_reserved.new.self.cap
           (entry.Claim id) m (λ t. refl) (λ t. tt) is c.push_reserved.ensures.items
-          (let n = need_moved core id place.Waits place.Away m.4 in let e = ap need is in let r = c.self.invariant.0.room in let k = c.push_reserved.ensures.capacity in omega arith),
+          (let n = need_claim scope core id m.4 in let e = ap need is in let r = c.self.invariant.0.room in let k = c.push_reserved.ensures.capacity in omega arith),
       subst (λ (x : Cuts). HasCommit (g.D.Disk.tells × g.L.Log.tells) g.D.Stage.Stage.sealed o x s.front s.commit) (sym same) c.self.invariant.1,
     )
 

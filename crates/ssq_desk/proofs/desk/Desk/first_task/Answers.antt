@@ -22,11 +22,13 @@ use Rattle.ssq_desk.specs.Slots.{place_of, places}
 use Rattle.ssq_desk.specs.Tasks.{map_id, reduce_id, out_id, cause_of}
 use Rattle.ssq_desk.specs.Shown.{Opening, Shown, IsDesk, HasCommit, did, cuts_after, cuts_of, HasFiles, IsTrue, answer}
 use Rattle.ssq_desk.proofs.Lists.{at_mapped, at_length}
-use Rattle.ssq_desk.proofs.Slots.{only_waits, waits_at, away_at, places_set, moved_maps, moved_reduces, moved_outs}
-use Rattle.ssq_desk.proofs.Rooms.{need_moved, need_report, need_stop, need_sync, need_commit, need_out, need_bound, places_length, open_less, IsSized}
-use Rattle.ssq_desk.proofs.Desks.{one, goes, sized_of, same_cuts}
+use Rattle.ssq_desk.proofs.Slots.{only_waits, waits_at, away_at, places_set, moved_maps, moved_reduces, moved_outs, places_length}
+use Rattle.ssq_board.proofs.Needs.{need_claim, need_report, need_falls, need_sync, need_bound}
+use Rattle.ssq_board.proofs.Sounds.{open_less}
+use Rattle.ssq_desk.proofs.Desks.{one, goes, held, same_cuts}
 use Rattle.ssq_desk.proofs.Moves.{went, tried, pending_is, first_none}
-use Rattle.ssq_desk.proofs.Readies.{commit_may, map_may, reduce_may, out_may, out_last, some_waits, running}
+use Rattle.ssq_board.proofs.Readies.{commit_may, map_may, reduce_may, some_waits}
+use Rattle.ssq_desk.proofs.Readies.{out_last}
 use Rattle.ssq_desk.proofs.desk.Desk.first_task.Goals as goal
 
 pub overflow_cast-result : goal.overflow_cast-result
@@ -35,7 +37,7 @@ overflow_cast-result g c =
     let core : Core = record { front = s.front; ends = s.ends.items; maps = places s.maps.items; reduces = places s.reduces.items; outs = places s.outs.items } in
     let scope : Scope = record { partitions = s.partitions; available = s.available.items; cap = s.cap } in
     let o : Opening = g.O.Opening.opening s.opening.value in
-    let d = sized_of (g.D.Disk.tells × g.L.Log.tells) o (g.D.Disk.history s.opened.value) scope (g.D.Disk.history s.disk) core s.entries.items s.entries.cap c.self.invariant.0 in
+    let d = held (g.D.Disk.tells × g.L.Log.tells) o (g.D.Disk.history s.opened.value) scope (g.D.Disk.history s.disk) core s.entries.items s.entries.cap c.self.invariant.0 in
     let here : get_elem? s.maps.items c.in-Some.number ≡ some (slot.Waits c.in-Some.ensures.1.0 c.in-Some.ensures.1.1) = (ap (λ l. get_elem? l c.in-Some.number) (sym c.as_slice.ensures.value) ∙ c.in-Some.ensures.1.2) in
     let l = at_length s.maps.items c.in-Some.number (slot.Waits c.in-Some.ensures.1.0 c.in-Some.ensures.1.1) here in
     let m = d.maps in let few = c.self.invariant.0.few in let p = places_length s.maps.items in omega arith
@@ -55,7 +57,7 @@ overflow_cast-result-in-Some-first_waiting g c =
     let core : Core = record { front = s.front; ends = s.ends.items; maps = places s.maps.items; reduces = places s.reduces.items; outs = places s.outs.items } in
     let scope : Scope = record { partitions = s.partitions; available = s.available.items; cap = s.cap } in
     let o : Opening = g.O.Opening.opening s.opening.value in
-    let d = sized_of (g.D.Disk.tells × g.L.Log.tells) o (g.D.Disk.history s.opened.value) scope (g.D.Disk.history s.disk) core s.entries.items s.entries.cap c.self.invariant.0 in
+    let d = held (g.D.Disk.tells × g.L.Log.tells) o (g.D.Disk.history s.opened.value) scope (g.D.Disk.history s.disk) core s.entries.items s.entries.cap c.self.invariant.0 in
     let here : get_elem? s.reduces.items c.in-Some-first_waiting.number ≡ some (slot.Waits c.in-Some-first_waiting.ensures.1.0 c.in-Some-first_waiting.ensures.1.1) = (ap (λ l. get_elem? l c.in-Some-first_waiting.number) (sym c.as_slice-2.ensures.value) ∙ c.in-Some-first_waiting.ensures.1.2) in
     let l = at_length s.reduces.items c.in-Some-first_waiting.number (slot.Waits c.in-Some-first_waiting.ensures.1.0 c.in-Some-first_waiting.ensures.1.1) here in
     let m = d.reduces in let few = c.self.invariant.0.few in let p = places_length s.reduces.items in omega arith
@@ -76,5 +78,5 @@ returns-clause-may g c =
     let scope : Scope = record { partitions = s.partitions; available = s.available.items; cap = s.cap } in
     let o : Opening = g.O.Opening.opening s.opening.value in
     let e : ready_of scope core ≡ ready.Task = subst (λ (x : Shown g.row.D.Denot g.row.O.Denot). ready_of x.scope x.core ≡ ready.Task) (sym c.self.view_is) c.requires in
-    let d = sized_of (g.D.Disk.tells × g.L.Log.tells) o (g.D.Disk.history s.opened.value) scope (g.D.Disk.history s.disk) core s.entries.items s.entries.cap c.self.invariant.0 in
+    let d = held (g.D.Disk.tells × g.L.Log.tells) o (g.D.Disk.history s.opened.value) scope (g.D.Disk.history s.disk) core s.entries.items s.entries.cap c.self.invariant.0 in
     subst (λ (x : Shown g.row.D.Denot g.row.O.Denot). May x.scope x.core (entry.Claim (record { epoch = s.front.committed; kind = kind.Out; number = 0 }))) c.self.view_is (out_last scope core e (ap (λ l. list_any is_waiting (places l)) (sym c.as_slice.ensures.value) ∙ search rules) (ap (λ l. list_any is_waiting (places l)) (sym c.as_slice-2.ensures.value) ∙ search rules) (λ any. only_waits (places s.outs.items) d.outs any))

@@ -23,10 +23,11 @@ use Rattle.ssq_desk.specs.Tasks.{map_id, reduce_id, out_id, cause_of}
 use Rattle.ssq_desk.specs.Shown.{Opening, Shown, IsDesk, HasCommit, did, cuts_after, cuts_of, HasFiles, IsTrue, answer}
 use Rattle.ssq_desk.proofs.Lists.{at_mapped, at_length}
 use Rattle.ssq_desk.proofs.Slots.{only_waits, waits_at, away_at, places_set, moved_maps, moved_reduces, moved_outs}
-use Rattle.ssq_desk.proofs.Rooms.{need_moved, need_report, need_stop, need_sync, need_commit, need_out, need_bound, places_length, open_less, IsSized}
-use Rattle.ssq_desk.proofs.Desks.{one, goes, sized_of, same_cuts}
+use Rattle.ssq_board.proofs.Needs.{need_claim, need_report, need_falls, need_sync, need_bound}
+use Rattle.ssq_board.proofs.Sounds.{open_less}
+use Rattle.ssq_desk.proofs.Desks.{one, goes, held, same_cuts}
 use Rattle.ssq_desk.proofs.Moves.{went, tried, pending_is, first_none}
-use Rattle.ssq_desk.proofs.Readies.{commit_may, map_may, reduce_may, out_may, out_last, some_waits, running}
+use Rattle.ssq_board.proofs.Readies.{commit_may, map_may, reduce_may, some_waits}
 use Rattle.ssq_desk.proofs.desk.Desk.report_fed.Goals as goal
 
 pub put_back-requires : goal.put_back-requires

@@ -22,11 +22,12 @@ use Rattle.ssq_desk.specs.Slots.{place_of, places}
 use Rattle.ssq_desk.specs.Tasks.{map_id, reduce_id, out_id, cause_of}
 use Rattle.ssq_desk.specs.Shown.{Opening, Shown, IsDesk, HasCommit, did, cuts_after, cuts_of, HasFiles, IsTrue, answer}
 use Rattle.ssq_desk.proofs.Lists.{at_mapped, at_length}
-use Rattle.ssq_desk.proofs.Slots.{only_waits, waits_at, away_at, places_set, moved_maps, moved_reduces, moved_outs}
-use Rattle.ssq_desk.proofs.Rooms.{need_moved, need_report, need_stop, need_sync, need_commit, need_out, need_bound, places_length, open_less, IsSized}
-use Rattle.ssq_desk.proofs.Desks.{one, goes, sized_of, same_cuts}
+use Rattle.ssq_desk.proofs.Slots.{only_waits, waits_at, away_at, places_set, moved_maps, moved_reduces, moved_outs, places_length}
+use Rattle.ssq_board.proofs.Needs.{need_claim, need_report, need_falls, need_sync, need_bound}
+use Rattle.ssq_board.proofs.Sounds.{open_less}
+use Rattle.ssq_desk.proofs.Desks.{one, goes, held, same_cuts}
 use Rattle.ssq_desk.proofs.Moves.{went, tried, pending_is, first_none}
-use Rattle.ssq_desk.proofs.Readies.{commit_may, map_may, reduce_may, out_may, out_last, some_waits, running}
+use Rattle.ssq_board.proofs.Readies.{commit_may, map_may, reduce_may, some_waits}
 use Rattle.ssq_desk.proofs.desk.Desk.sync.Goals as goal
 
 pub overflow_add-tasks-2 : goal.overflow_add-tasks-2
@@ -35,7 +36,7 @@ overflow_add-tasks-2 g c =
     let core : Core = record { front = s.front; ends = s.ends.items; maps = places s.maps.items; reduces = places s.reduces.items; outs = places s.outs.items } in
     let scope : Scope = record { partitions = s.partitions; available = s.available.items; cap = s.cap } in
     let o : Opening = g.O.Opening.opening s.opening.value in
-    let d = sized_of (g.D.Disk.tells × g.L.Log.tells) o (g.D.Disk.history s.opened.value) scope (g.D.Disk.history s.disk) core s.entries.items s.entries.cap c.self.invariant.0 in
+    let d = held (g.D.Disk.tells × g.L.Log.tells) o (g.D.Disk.history s.opened.value) scope (g.D.Disk.history s.disk) core s.entries.items s.entries.cap c.self.invariant.0 in
     omega (arith, ap length c.as_slice.ensures.value, ap length c.as_slice-2.ensures.value, ap length c.as_slice-3.ensures.value, places_length s.maps.items, places_length s.reduces.items, places_length s.outs.items, d.maps, d.reduces, d.outs, c.self.invariant.0.few)
 
 pub make_room-requires : goal.make_room-requires
@@ -44,7 +45,7 @@ make_room-requires g c =
     let core : Core = record { front = s.front; ends = s.ends.items; maps = places s.maps.items; reduces = places s.reduces.items; outs = places s.outs.items } in
     let scope : Scope = record { partitions = s.partitions; available = s.available.items; cap = s.cap } in
     let o : Opening = g.O.Opening.opening s.opening.value in
-    let d = sized_of (g.D.Disk.tells × g.L.Log.tells) o (g.D.Disk.history s.opened.value) scope (g.D.Disk.history s.disk) core s.entries.items s.entries.cap c.self.invariant.0 in
+    let d = held (g.D.Disk.tells × g.L.Log.tells) o (g.D.Disk.history s.opened.value) scope (g.D.Disk.history s.disk) core s.entries.items s.entries.cap c.self.invariant.0 in
     omega (arith, ap length c.as_slice.ensures.value, ap length c.as_slice-2.ensures.value, ap length c.as_slice-3.ensures.value, places_length s.maps.items, places_length s.reduces.items, places_length s.outs.items, d.maps, d.reduces, d.outs, c.self.invariant.0.few)
 
 pub invariant_of-self : goal.invariant_of-self
@@ -58,7 +59,7 @@ invariant_of-self g c =
     let same = same_cuts o scope s.entries.items c.push_reserved.new.self.items (entry.Stop cause.NoMemory) items (λ cuts n. refl) in (
       one (g.D.Disk.tells × g.L.Log.tells) o (g.D.Disk.history s.opened.value) scope (g.D.Disk.history s.disk) core s.entries.items s.entries.cap c.self.invariant.0 (g.D.Disk.history s.disk) (record { front = record { planned = s.front.planned; committed = s.front.committed; fresh = s.front.fresh; settled = s.front.settled; written = s.front.written; has_lines = s.front.has_lines; due = s.front.due; stop = Some cause.NoMemory }; ends = s.ends.items; maps = places s.maps.items; reduces = places s.reduces.items; outs = places s.outs.items }) c.push_reserved.new.self.items c.push_reserved.new.self.cap
           (entry.Stop cause.NoMemory) (running, tt) (λ t. (nothing, inl refl, refl)) (λ t. tt) refl items
-          (let n = need_stop scope core cause.NoMemory running in let r = c.self.invariant.0.room in let k = c.push_reserved.ensures.capacity in let q : s.entries.cap ≤ c.make_room.new.entries.cap = c.make_room.ensures.kept in omega arith),
+          (let n = need_falls scope core (entry.Stop cause.NoMemory) (held (g.D.Disk.tells × g.L.Log.tells) o (g.D.Disk.history s.opened.value) scope (g.D.Disk.history s.disk) core s.entries.items s.entries.cap c.self.invariant.0) (running, tt) refl in let r = c.self.invariant.0.room in let k = c.push_reserved.ensures.capacity in let q : s.entries.cap ≤ c.make_room.new.entries.cap = c.make_room.ensures.kept in omega arith),
       subst (λ (x : Cuts). HasCommit (g.D.Disk.tells × g.L.Log.tells) g.D.Stage.Stage.sealed o x (record { planned = s.front.planned; committed = s.front.committed; fresh = s.front.fresh; settled = s.front.settled; written = s.front.written; has_lines = s.front.has_lines; due = s.front.due; stop = Some cause.NoMemory }) s.commit) (sym same) (λ stopped. absurd (let e = stopped in cc)),
     )
 
@@ -89,6 +90,6 @@ invariant_of-self-in-Err g c =
     let same = same_cuts o scope s.entries.items c.push_reserved-in-Err.new.self.items (entry.Stop cause.DiskFault) items (λ cuts n. refl) in (
       one (g.D.Disk.tells × g.L.Log.tells) o (g.D.Disk.history s.opened.value) scope (g.D.Disk.history s.disk) core s.entries.items s.entries.cap c.self.invariant.0 (g.D.Disk.history c.sync_names.new.self) (record { front = record { planned = s.front.planned; committed = s.front.committed; fresh = s.front.fresh; settled = s.front.settled; written = s.front.written; has_lines = s.front.has_lines; due = s.front.due; stop = Some cause.DiskFault }; ends = s.ends.items; maps = places s.maps.items; reduces = places s.reduces.items; outs = places s.outs.items }) c.push_reserved-in-Err.new.self.items c.push_reserved-in-Err.new.self.cap
           (entry.Stop cause.DiskFault) (running, tt) (λ t. (syncs, inr (entry.Sync 0, running, refl), c.sync_names.ensures.steps t.0)) (λ t. tt) refl items
-          (let n = need_stop scope core cause.DiskFault running in let r = c.self.invariant.0.room in let k = c.push_reserved-in-Err.ensures.capacity in let q : s.entries.cap ≤ c.make_room.new.entries.cap = c.make_room.ensures.kept in omega arith),
+          (let n = need_falls scope core (entry.Stop cause.DiskFault) (held (g.D.Disk.tells × g.L.Log.tells) o (g.D.Disk.history s.opened.value) scope (g.D.Disk.history s.disk) core s.entries.items s.entries.cap c.self.invariant.0) (running, tt) refl in let r = c.self.invariant.0.room in let k = c.push_reserved-in-Err.ensures.capacity in let q : s.entries.cap ≤ c.make_room.new.entries.cap = c.make_room.ensures.kept in omega arith),
       subst (λ (x : Cuts). HasCommit (g.D.Disk.tells × g.L.Log.tells) g.D.Stage.Stage.sealed o x (record { planned = s.front.planned; committed = s.front.committed; fresh = s.front.fresh; settled = s.front.settled; written = s.front.written; has_lines = s.front.has_lines; due = s.front.due; stop = Some cause.DiskFault }) s.commit) (sym same) (λ stopped. absurd (let e = stopped in cc)),
     )
