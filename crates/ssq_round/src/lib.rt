@@ -20,6 +20,3 @@ pub use law::rounds_go_on;
 pub use prepare::Prepared;
 pub use progress::Progress;
 pub use round::{MOST_LINES, run_round};
-
-#[cfg(test)]
-mod tests;
