@@ -3,6 +3,8 @@ pub mod Dealing
 pub mod Faults
 pub mod Marks
 pub mod Printing
+pub mod Raising
 pub mod Rounds
+pub mod Showing
 pub mod Starts
 pub mod Wanted

@@ -1,22 +1,19 @@
 -- What an opening found is the job's, and a round begins on it.
-use Rattle.std.proofs.Common.{◌≡◌, ◌⊎◌, ◌<◌, ◌≤◌, ◌+◌, [], ◌∷◌, ℕ, zero, suc, List, Option, Some, None, Bool, true, false, refl, ap, sym, ◌∙◌, inl, inr, subst, arith, length, nat_lt, get_or}
+use Rattle.std.proofs.Common.{◌≡◌, ◌⊎◌, ◌<◌, ◌≤◌, ◌+◌, [], ◌∷◌, ℕ, suc, List, Option, Some, None, Bool, true, false, refl, ap, sym, ◌∙◌, inl, inr, subst, arith, length, nat_lt, get_or}
 use Rattle.std.specs.Prelude.{IsSome}
 use Rattle.std.proofs.lemmas.Bool.{ltb-true, ltb-false}
 use Rattle.std.proofs.lemmas.List.{length-map}
-use Rattle.ssq_outside.specs.declared.name.Name.{Name}
 use Rattle.ssq_outside.specs.declared.name.Name.TheVariants as name
 use Rattle.ssq_outside.specs.Files.{Content, Files, files_of}
-use Rattle.ssq_outside.specs.History.{History, had_now, files_now}
+use Rattle.ssq_outside.specs.History.{History, files_now}
 use Rattle.ssq_shape.specs.declared.bound.Bound.{Bound}
 use Rattle.ssq_plans.specs.declared.part.PartEnd.{PartEnd}
 use Rattle.ssq_plans.specs.declared.plan.Plan.{Plan}
 use Rattle.ssq_plans.specs.declared.commit.Commit.{Commit}
 use Rattle.ssq_plans.specs.declared.seen.SeenBy.{SeenBy}
-use Rattle.ssq_plans.specs.Records.{plan_text, commit_text}
 use Rattle.ssq_meaning.specs.Parts.{Part}
-use Rattle.ssq_core.specs.Course.{Course, Ends, Cuts, Job, truth, plan_of, commit_of}
+use Rattle.ssq_core.specs.Course.{Ends, Cuts, Job, truth, plan_of, commit_of}
 use Rattle.ssq_core.specs.Machine.{Desk, opened}
-use Rattle.ssq_core.specs.Sound.{AreProper}
 use Rattle.ssq_core.specs.Settled.{IsSettledAs}
 use Rattle.ssq_core.proofs.Holding.{lt_true}
 use Rattle.ssq_course.specs.Setting.{Setting, parts_in, job_of}
@@ -26,17 +23,15 @@ use Rattle.ssq_open.specs.Lens.{asked, found_from}
 use Rattle.ssq_open.specs.Sought.{Sought}
 use Rattle.ssq_open.specs.Spelled.{IsThePlan, IsTheCommit}
 use Rattle.ssq_open.specs.Epochs.{starts, cut_of, last_ends, IsSeenAt, none_yet, by_commit}
-use Rattle.ssq_open.specs.Opening.{IsOpen, kept, begun, Passes}
+use Rattle.ssq_open.specs.Opening.{kept, begun, Passes}
 use Rattle.ssq_open.specs.Jobs.{IsWantedJob, IsDeskOf}
 use Rattle.ssq_board.specs.Core.{Scope}
-use Rattle.ssq_board.specs.Shown.{Start, IsStart, planned_by}
-use Rattle.ssq_board.specs.Follows.{Terms}
-use Rattle.ssq_board.specs.Laws.{IsOpenedAt}
-use Rattle.ssq_terms.specs.Setting.{found_lines, IsSettingOf}
-use Rattle.ssq_terms.specs.Laws.{never, IsScopeOf}
-use Rattle.ssq_terms.specs.Opening.{IsJobsFound, FoundIsJobs, start_of, DeskOpensAsFound}
+use Rattle.ssq_board.specs.Shown.{planned_by}
+use Rattle.ssq_terms.specs.Setting.{IsSettingOf}
+use Rattle.ssq_terms.specs.Laws.{IsScopeOf}
+use Rattle.ssq_terms.specs.Opening.{IsJobsFound, FoundIsJobs, DeskOpensAsFound}
 use Rattle.ssq_terms.proofs.Starts.{AreParts, found_numbers}
-use Rattle.ssq_terms.proofs.Wanted.{parts, job_wanted}
+use Rattle.ssq_terms.proofs.Wanted.{parts}
 use Rattle.ssq_terms.proofs.Dealing.{AreEnds, cut_ends}
 
 -- ---- what was found

@@ -1,5 +1,5 @@
 -- What an opening found of a job's checkpoint, and where the round of a desk begins on it.
-use Rattle.std.specs.Prelude.{◌≡◌, ◌⊎◌, ◌<◌, ◌+◌, nat_lt, ℕ, false, [], length, get_or, Option}
+use Rattle.std.specs.Prelude.{◌≡◌, ◌⊎◌, ◌<◌, nat_lt, ℕ, false, [], length, get_or, Option}
 use Rattle.ssq_outside.specs.History.{History, files_now}
 use Rattle.ssq_outside.specs.Files.{Files}
 use Rattle.ssq_shape.specs.declared.bound.Bound.{Bound}

@@ -5,12 +5,14 @@
 #![tactic(auto)]
 
 mod cuts;
+mod epoch;
 mod job;
 mod opening;
 mod tasks;
 mod times;
 
 pub use cuts::plans_say_their_cuts;
+pub use epoch::tasks_bring_the_epoch;
 pub use job::job_is_wanted;
 pub use opening::round_begins_as_found;
 pub use tasks::tasks_have_terms;

@@ -1,0 +1,68 @@
+-- What the tasks of an epoch bring, put together.
+use Rattle.std.specs.Prelude.{◌≡◌, ◌<◌, ◌≤◌, ◌+◌, ◌==◌, ℕ, ℤ, List, [], ◌∷◌, length, get_or, Option, None, if◌then◌else◌}
+use Rattle.std.specs.List.Sorted.{IsPermutation}
+use Rattle.ssq_shape.specs.declared.bound.Bound.{Bound}
+use Rattle.ssq_shape.specs.declared.bound.Shape.TheVariants.{Plain}
+use Rattle.ssq_shape.specs.Plain.{output_names}
+use Rattle.ssq_meaning.specs.declared.fed_row.FedRow.{FedRow}
+use Rattle.ssq_meaning.specs.Meaning.{Values}
+use Rattle.ssq_meaning.specs.Parts.{Part}
+use Rattle.ssq_meaning.specs.Cut.{Cut, of_parts}
+use Rattle.ssq_meaning.specs.Cut.{Cuts as Offsets}
+use Rattle.ssq_meaning.specs.Times.{later}
+use Rattle.ssq_meaning.specs.Feeding.{fed_in, time_in, fault_in}
+use Rattle.ssq_meaning.specs.Operator.{operator_of}
+use Rattle.ssq_meaning.specs.Epochs.{joined, fed_between, fed, seen, timely, bucket}
+use Rattle.ssq_sink.specs.Sink.{sink_text}
+use Rattle.ssq_core.specs.Course.{Cuts}
+use Rattle.ssq_course.specs.Setting.{Setting, parts_in, cuts_of, watermark_at, rows_at}
+
+-- what the lines of a part feed to a partition
+abbrev pub bucket_in : Bound → (partitions p : ℕ) → Part → (from to : ℕ) → List FedRow
+bucket_in query partitions p part from to = bucket partitions p (fed_in query part from to)
+
+-- a partition is fed the rows of each part, part by part in order
+abbrev pub PartsFeedPartitions : Type 0
+PartsFeedPartitions = (query : Bound) (parts : List Part) (froms tos : Cut) (partitions p : ℕ) → joined (of_parts (bucket_in query partitions p) parts froms tos) ≡ bucket partitions p (fed_between query parts froms tos)
+
+-- a part without lines in an epoch feeds nothing, and has no time and no fault
+pub record IsQuiet (query : Bound) (part : Part) (from to : ℕ) : Type 0 where
+  pub rows : fed_in query part from to ≡ []
+  pub time : time_in query part from to ≡ None
+  pub fault : fault_in query part from to ≡ None
+
+abbrev pub PartsWithoutLinesAreQuiet : Type 0
+PartsWithoutLinesAreQuiet = (query : Bound) (part : Part) (from to : ℕ) → to ≤ from → IsQuiet query part from to
+
+-- A reduce task of a partition took its rows of the epoch, in any order, and showed these rows of them: those that the operator shows,
+-- whatever was accepted before, and whatever the watermark before was.
+pub record IsShownOf (s : Setting) (cuts : Cuts) (e p : ℕ) (rows : List Values) : Type 0 where
+  pub taken : List FedRow
+  pub are : IsPermutation taken (bucket s.job.partitions p (fed s.job.bound (parts_in s) (cuts_of cuts) e))
+  pub shows : (old : List FedRow) (before : Option ℤ) → rows ≡ (operator_of s.job.bound).added old (timely s.job.bound (watermark_at s cuts e) taken) before (watermark_at s cuts e)
+
+-- of each partition, in order, the rows that its task showed
+pub record AreShown (s : Setting) (cuts : Cuts) (e : ℕ) (shown : List (List Values)) : Type 0 where
+  pub count : length shown ≡ s.job.partitions
+  pub each : (p : ℕ) → p < s.job.partitions → IsShownOf s cuts e p (get_or shown p [])
+
+-- their text is that of the epoch's sink file
+abbrev pub PartitionsShowRows : Type 0
+PartitionsShowRows = (s : Setting) (cuts : Cuts) (e : ℕ) (shown : List (List Values)) → s.job.bound.shape ≡ Plain → 1 ≤ s.job.partitions → AreShown s cuts e shown
+    → sink_text (output_names s.job.bound) (joined shown) ≡ rows_at s cuts e
+
+-- the greatest times of the streams, once the greatest time of a part of this stream is taken in
+abbrev pub raised_by : ℕ → Option ℤ → (ℕ → Option ℤ) → ℕ → Option ℤ
+raised_by stream time known other = if other == stream then later (known other) time else known other
+
+-- and once that of each part is, one after the other
+unfoldable pub raised : Bound → List Part → Cut → Cut → (ℕ → Option ℤ) → ℕ → Option ℤ
+raised query [] froms tos known = known
+raised query (part ∷ parts) [] tos known = known
+raised query (part ∷ parts) (from ∷ froms) [] known = known
+raised query (part ∷ parts) (from ∷ froms) (to ∷ tos) known = raised query parts froms tos (raised_by part.stream (time_in query part from to) known)
+
+-- they are those at the end of the epoch
+abbrev pub PartsRaiseTimes : Type 0
+PartsRaiseTimes = (query : Bound) (parts : List Part) (cuts : Offsets) (e : ℕ) (known : ℕ → Option ℤ) → ((stream : ℕ) → known stream ≡ seen query parts cuts stream e)
+    → (stream : ℕ) → raised query parts (cuts e) (cuts (e + 1)) known stream ≡ seen query parts cuts stream (e + 1)
