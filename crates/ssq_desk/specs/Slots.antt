@@ -1,5 +1,5 @@
 -- Where the task of a slot is.
-use Rattle.std.specs.Prelude.{Bool, true, false, List, map, Option, Some, None}
+use Rattle.std.specs.Prelude.{Bool, true, false, List, map}
 use Rattle.ssq_board.specs.declared.front.Place.{Place}
 use Rattle.ssq_board.specs.declared.front.Place.TheVariants as place
 use Rattle.ssq_desk.specs.declared.slot.Slot.{Slot}
