@@ -5,7 +5,7 @@ use Rattle.ssq_core.specs.Course.{Cuts, Job}
 use Rattle.ssq_board.specs.declared.front.Entry.{Entry}
 use Rattle.ssq_board.specs.Core.{Scope, Core, need, May, after, after_all, cuts_by, cuts_all}
 use Rattle.ssq_board.specs.Shown.{first}
-use Rattle.ssq_board.specs.Follows.{State, Step, Leads, Moves, IsRight}
+use Rattle.ssq_board.specs.Follows.{State, Leads, Moves, IsRight}
 use Rattle.ssq_desk.specs.Shown.{Opening, state, first_state, cuts_after, IsDesk}
 use Rattle.ssq_board.specs.Shown.{IsSound}
 use Rattle.ssq_board.proofs.Sounds.{run_sound, first_sound}

@@ -5,3 +5,4 @@ pub mod Desks
 pub mod Moves
 pub mod Written
 pub mod Publishing
+pub mod Closings

@@ -1,8 +1,8 @@
 -- What the disk's calls give of an entry.
-use Rattle.std.proofs.Common.{◌≡◌, ◌+◌, ℕ, Bool, true, List, Option, Some, None, sym, refl, ap, ◌∙◌, subst}
+use Rattle.std.proofs.Common.{◌≡◌, ◌+◌, ℕ, true, List, Option, Some, None, sym, refl, ap, ◌∙◌, subst}
 use Rattle.ssq_outside.specs.declared.name.Name.{Name}
 use Rattle.ssq_outside.specs.declared.name.Name.TheVariants as name
-use Rattle.ssq_outside.specs.Files.{Had, added}
+use Rattle.ssq_outside.specs.Files.{added}
 use Rattle.ssq_outside.specs.History.{History, had_now, Elapses}
 use Rattle.ssq_core.specs.Course.{Cuts, truth}
 use Rattle.ssq_core.specs.Machine.{publishes}

@@ -1,5 +1,5 @@
 -- What is next may come.
-use Rattle.std.proofs.Common.{◌≡◌, ◌⊎◌, true, false, true≢false, sym, ◌∙◌, inl, inr}
+use Rattle.std.proofs.Common.{◌≡◌, true, false, true≢false, sym, ◌∙◌, inl, inr}
 use mathlib.Core.Option.{some}
 use lib.ListN.{get_elem?}
 use Rattle.std.specs.List.{list_any}

@@ -1,6 +1,6 @@
 -- Slots and places.
-use Rattle.std.proofs.Common.{◌≡◌, ℕ, zero, suc, true, false, true≢false, ◌≤◌, length, arith, List, [], ◌∷◌, set, sym, refl, ap, ◌∙◌}
-use mathlib.Core.Option.{some, none, some-injective, some-ne-none}
+use Rattle.std.proofs.Common.{◌≡◌, ℕ, zero, suc, true, true≢false, ◌≤◌, length, arith, List, [], ◌∷◌, set, sym, refl, ap}
+use mathlib.Core.Option.{some, some-injective, some-ne-none}
 use lib.ListN.{get_elem?}
 use Rattle.std.specs.List.{list_any}
 use Rattle.ssq_desk.specs.declared.slot.Slot.{Slot}

@@ -1,5 +1,5 @@
 -- The rows of an epoch are published only once its out task is back.
-use Rattle.std.proofs.Common.{◌≡◌, ℕ, zero, suc, Bool, true, false, true≢false, List, [], ◌∷◌, Option, Some, None, set, sym, refl, ap, ◌∙◌, subst}
+use Rattle.std.proofs.Common.{◌≡◌, ℕ, zero, suc, Bool, true, false, true≢false, List, [], ◌∷◌, Option, None, set, sym, refl, ◌∙◌, subst}
 use mathlib.Core.Option.{some, some-injective, some-ne-none}
 use lib.ListN.{get_elem?}
 use Rattle.ssq_outside.specs.declared.gate.Kind.{Kind}
@@ -43,7 +43,7 @@ reported_back c n f stop kind.Reduce here d = d
 reported_back c n f stop kind.Out here d = λ written. kept c.outs n place.Away (place.Back f) away_other here (d written)
 reported_back c n f stop kind.Upkeep here d = absurd (some-ne-none place.Away (sym here))
 
-step_back : (r : Scope) (c : Core) (e : Entry) → May r c e → IsBackWritten c → IsBackWritten (after r c e)
+pub step_back : (r : Scope) (c : Core) (e : Entry) → May r c e → IsBackWritten c → IsBackWritten (after r c e)
 step_back r c (entry.Plan e) m d = λ written. absurd (true≢false (sym written))
 step_back r c (entry.Claim t) m d = moved_back c t.number place.Waits place.Away waits_other t.kind m.4 d
 step_back r c (entry.Report t f) m d = reported_back c t.number f (or_stop c.front.stop (due c t f)) t.kind m.2 d
@@ -52,7 +52,7 @@ step_back r c (entry.Sync clock) m d = d
 step_back r c (entry.Commit e next) m d = d
 step_back r c (entry.Stop f) m d = d
 
-first_back : (r : Scope) (s : Start) → IsBackWritten (first r s)
+pub first_back : (r : Scope) (s : Start) → IsBackWritten (first r s)
 first_back r s = by_planned s.is_planned
   where
     by_planned : (b : Bool) → IsBackWritten (first_by b r s)

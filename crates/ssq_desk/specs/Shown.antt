@@ -1,5 +1,5 @@
 -- What a desk shows, and what is so of every desk.
-use Rattle.std.specs.Prelude.{◌≡◌, ◌⊎◌, ◌+◌, ◌≤◌, ◌^◌, ◌++◌, ◌&&◌, ℕ, Bool, true, false, List, [], ◌∷◌, length, Option, Some, None, Result, Ok, Err, OnOk, IfErr}
+use Rattle.std.specs.Prelude.{◌≡◌, ◌+◌, ◌≤◌, ◌^◌, ◌++◌, ℕ, Bool, true, false, List, [], ◌∷◌, length, Option, Some, None, Result, Ok, Err, OnOk, IfErr}
 use Rattle.ssq_outside.specs.History.{History}
 use Rattle.ssq_outside.specs.Faults.{Rises}
 use Rattle.ssq_outside.specs.declared.name.Name.TheVariants as name
@@ -10,7 +10,7 @@ use Rattle.ssq_board.specs.declared.front.Cause.TheVariants as cause
 use Rattle.ssq_board.specs.declared.front.Front.{Front}
 use Rattle.ssq_board.specs.declared.front.Entry.{Entry}
 use Rattle.ssq_board.specs.declared.front.Entry.TheVariants as entry
-use Rattle.ssq_board.specs.Core.{Scope, Core, need, after, after_all, cuts_all, due}
+use Rattle.ssq_board.specs.Core.{Scope, Core, need, after_all, cuts_all, due}
 use Rattle.ssq_board.specs.Shown.{Start, IsStart, first}
 use Rattle.ssq_board.specs.Follows.{State, Leads, IsOwn}
 use Rattle.ssq_desk.specs.declared.desk.Pending.{Pending}

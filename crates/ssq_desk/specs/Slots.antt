@@ -1,5 +1,5 @@
 -- Where the task of a slot is.
-use Rattle.std.specs.Prelude.{List, map, Option, Some, None}
+use Rattle.std.specs.Prelude.{Bool, true, false, List, map}
 use Rattle.ssq_board.specs.declared.front.Place.{Place}
 use Rattle.ssq_board.specs.declared.front.Place.TheVariants as place
 use Rattle.ssq_desk.specs.declared.slot.Slot.{Slot}
@@ -14,3 +14,8 @@ module _ {K W : Type 0} where
 
   abbrev pub places : List (Slot K W) → List Place
   places slots = map place_of slots
+
+-- the slot has what its tasks keep from one epoch to the next: it is with no worker
+abbrev pub is_kept : Place → Bool
+is_kept place.Away = false
+is_kept _ = true

@@ -6,6 +6,7 @@
 
 mod calls;
 mod claims;
+mod deal;
 mod desk;
 mod outs;
 mod slot;

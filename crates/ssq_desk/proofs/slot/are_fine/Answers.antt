@@ -1,13 +1,12 @@
-use Rattle.std.proofs.Common.{rules, ◌≡◌, ◌<◌, true, false, sym, ap, ◌∙◌, subst, refl, arith, ℕ, List, set, length}
+use Rattle.std.proofs.Common.{rules, ◌≡◌, sym, ap, ◌∙◌, subst, arith, ℕ}
 use mathlib.Core.Logic.{dite}
 use native.Mathlib.Decide.{ℕ_discrete}
 use mathlib.Core.Option.{some, some-injective}
 use lib.ListN.{get_elem?}
 use Rattle.ssq_desk.proofs.Lists.{at_index}
-use Rattle.ssq_desk.specs.declared.slot.Slot.TheVariants.{Waits, Away, Back}
-use Rattle.ssq_desk.specs.Slots.{place_of, places}
-use Rattle.ssq_board.specs.Core.{is_waiting, is_fine}
-use Rattle.ssq_desk.proofs.Lists.{at_length, at_get, any_at, none_at, not_all, all_at, at_mapped}
+use Rattle.ssq_desk.specs.Slots.{place_of}
+use Rattle.ssq_board.specs.Core.{is_fine}
+use Rattle.ssq_desk.proofs.Lists.{at_length, not_all, all_at}
 use Rattle.ssq_desk.proofs.slot.are_fine.Goals as goal
 
 pub returns-then-not-fine : goal.returns-then-not-fine

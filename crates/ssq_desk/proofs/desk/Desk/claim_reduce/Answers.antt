@@ -1,33 +1,17 @@
-use Rattle.std.proofs.Common.{rules, ◌≡◌, ◌≤◌, ◌<◌, ◌+◌, ◌*◌, ◌^◌, Bool, true, false, true≢false, sym, ap, ◌∙◌, subst, length, List, ◌++◌, ◌∷◌, [], Option, Some, None, set, inl, inr, refl, arith, if◌then◌else◌}
+use Rattle.std.proofs.Common.{◌≡◌, sym, ap, ◌∙◌, subst, ◌∷◌, [], refl, arith}
 use mathlib.Core.Option.{some}
 use lib.ListN.{get_elem?}
-use Rattle.std.specs.List.{list_any}
-use Rattle.ssq_outside.specs.declared.gate.TaskId.{TaskId}
 use Rattle.ssq_outside.specs.declared.gate.Kind.{Kind}
-use Rattle.ssq_outside.specs.declared.gate.Kind.TheVariants as kind
-use Rattle.ssq_outside.specs.declared.name.Name.TheVariants as name
-use Rattle.ssq_core.specs.Course.{Cuts, truth}
-use Rattle.ssq_core.specs.Machine.{nothing, publishes, syncs}
-use Rattle.ssq_board.specs.declared.front.Cause.{Cause}
-use Rattle.ssq_board.specs.declared.front.Cause.TheVariants as cause
-use Rattle.ssq_board.specs.declared.front.Front.{Front}
-use Rattle.ssq_board.specs.declared.front.Place.{Place}
+use Rattle.ssq_core.specs.Course.{Cuts}
 use Rattle.ssq_board.specs.declared.front.Place.TheVariants as place
-use Rattle.ssq_board.specs.declared.front.Ready.TheVariants as ready
-use Rattle.ssq_board.specs.declared.front.Entry.{Entry}
 use Rattle.ssq_board.specs.declared.front.Entry.TheVariants as entry
-use Rattle.ssq_board.specs.Core.{Scope, Core, May, ready_of, need, stop_need, tasks_of, at, moved, after, is_stopped, is_waiting, due, due_stop, or_stop}
+use Rattle.ssq_board.specs.Core.{Scope, Core, May, need, tasks_of, after}
 use Rattle.ssq_desk.specs.declared.slot.Slot.TheVariants as slot
-use Rattle.ssq_desk.specs.Slots.{place_of, places}
-use Rattle.ssq_desk.specs.Tasks.{map_id, reduce_id, out_id, cause_of}
-use Rattle.ssq_desk.specs.Shown.{Opening, Shown, IsDesk, HasCommit, did, cuts_after, cuts_of, HasFiles, IsTrue, answer}
-use Rattle.ssq_desk.proofs.Lists.{at_mapped, at_length}
-use Rattle.ssq_desk.proofs.Slots.{only_waits, waits_at, away_at, places_set, moved_maps, moved_reduces, moved_outs}
-use Rattle.ssq_board.proofs.Needs.{need_claim, need_report, need_falls, need_sync, need_bound}
-use Rattle.ssq_board.proofs.Sounds.{open_less}
-use Rattle.ssq_desk.proofs.Desks.{one, goes, held, same_cuts}
-use Rattle.ssq_desk.proofs.Moves.{went, tried, pending_is, first_none}
-use Rattle.ssq_board.proofs.Readies.{commit_may, map_may, reduce_may, some_waits}
+use Rattle.ssq_desk.specs.Slots.{places}
+use Rattle.ssq_desk.specs.Shown.{Opening, Shown, HasCommit, did}
+use Rattle.ssq_desk.proofs.Slots.{waits_at, places_set, moved_reduces}
+use Rattle.ssq_board.proofs.Needs.{need_claim}
+use Rattle.ssq_desk.proofs.Desks.{one, same_cuts}
 use Rattle.ssq_desk.proofs.desk.Desk.claim_reduce.Goals as goal
 
 pub take_out-rows-requires : goal.take_out-rows-requires
