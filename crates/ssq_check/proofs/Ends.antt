@@ -1,0 +1,137 @@
+-- What a clause or a query breaks, put together from its parts.
+use Rattle.std.proofs.Common.{◌≡◌, ◌∙◌, ap, sym, subst, ℕ, Bool, false, List, [], ◌++◌, map, Option}
+use Rattle.std.specs.List.{flat_map}
+use Rattle.ssq_ast.specs.declared.expr.Ident.{Ident}
+use Rattle.ssq_ast.specs.declared.query.Deduplicate.{Deduplicate}
+use Rattle.ssq_ast.specs.declared.query.Group.{Group}
+use Rattle.ssq_ast.specs.declared.query.Item.{Item}
+use Rattle.ssq_ast.specs.declared.query.Join.{Join}
+use Rattle.ssq_ast.specs.declared.query.OrderBy.{OrderBy}
+use Rattle.ssq_ast.specs.declared.query.Query.{Query}
+use Rattle.ssq_ast.specs.declared.query.Select.{Select}
+use Rattle.ssq_ast.specs.declared.query.Stream.{Stream}
+use Rattle.ssq_check.specs.declared.fault.BindFault.{BindFault}
+use Rattle.ssq_check.specs.declared.fault.Cause.TheVariants as cause
+use Rattle.ssq_check.specs.declared.scope.Key.{Key}
+use Rattle.ssq_check.specs.declared.scope.Scope.{Scope}
+use Rattle.ssq_check.specs.declared.scope.Within.{Within}
+use Rattle.ssq_check.specs.declared.scope.Within.TheVariants as within
+use Rattle.ssq_check.specs.Fault.{Faults, FirstOf, sooner}
+use Rattle.ssq_check.specs.Broken.{Either, Rule}
+use Rattle.ssq_check.specs.Lists.{Where, Each, Doubled, Past, Beyond, item_first, ItemsFaults}
+use Rattle.ssq_check.specs.Names.{is_there, row_scope, group_keys, scope_of}
+use Rattle.ssq_check.specs.Shown.{item_aggregates, having_aggregates, shown_aggregates, group_place_by, group_place, within_by}
+use Rattle.ssq_check.specs.Clauses.{ConditionFaults, HavingFaults, StreamsFaults, JoinedFaults, OnFaults, JoinFaults, ident_name, ident_place, IdentFaults, DeduplicateFaults, GroupItemFaults, group_columns, group_windows, group_first, GroupFaults, OrderFaults}
+use Rattle.ssq_check.specs.Whole.{DistinctFaults, LimitFaults, StatefulFaults, WordFaults, RowFaults, ShownFaults, QueryFaults}
+use Rattle.ssq_check.proofs.First.{first_sooner}
+
+pub first_of_two : (P Q : Faults) (a b o : Option BindFault) → o ≡ sooner a b → FirstOf P a → FirstOf Q b → FirstOf (Either P Q) o
+first_of_two P Q a b o is p q = subst (λ (v : Option BindFault). FirstOf (Either P Q) v) (sym is) (first_sooner P Q a b p q)
+
+pub join_first : (scope : Scope) (from : List ℕ) (join : Join) (right : Bool) (a b o : Option BindFault)
+    → right ≡ is_there scope.right → o ≡ sooner a b
+    → FirstOf (JoinedFaults right from join.stream) a → FirstOf (OnFaults scope join.on) b
+    → FirstOf (JoinFaults scope from join) o
+join_first scope from join right a b o right_is o_is ha hb =
+    first_of_two (JoinedFaults (is_there scope.right) from join.stream) (OnFaults scope join.on) a b o o_is
+    (subst (λ (v : Bool). FirstOf (JoinedFaults v from join.stream) a) right_is ha) hb
+
+pub columns_first : (scope : Scope) (deduplicate : Deduplicate) (xs : List Ident) (a b c p o : Option BindFault)
+    → xs ≡ deduplicate.columns → p ≡ sooner b c → o ≡ sooner a p
+    → FirstOf (Each (IdentFaults scope) xs) a → FirstOf (Doubled ident_name ident_place [] xs) b → FirstOf (Beyond (map ident_place xs)) c
+    → FirstOf (DeduplicateFaults scope deduplicate) o
+columns_first scope deduplicate xs a b c p o xs_is p_is o_is ha hb hc =
+    subst (λ (v : List Ident). FirstOf (Either (Each (IdentFaults scope) v) (Either (Doubled ident_name ident_place [] v) (Beyond (map ident_place v)))) o) xs_is
+    (first_of_two (Each (IdentFaults scope) xs) (Either (Doubled ident_name ident_place [] xs) (Beyond (map ident_place xs))) a p o o_is ha
+    (first_of_two (Doubled ident_name ident_place [] xs) (Beyond (map ident_place xs)) b c p p_is hb hc))
+
+abbrev AllGroups : Scope → List Group → Faults
+AllGroups scope xs =
+    Either (Each (GroupItemFaults scope) xs)
+    (Either (Doubled ident_name ident_place [] (flat_map group_columns xs))
+    (Either (Past cause.BadWindow 1 (flat_map group_windows xs))
+    (Beyond (map group_first xs))))
+
+pub groups_first_of : (scope : Scope) (xs items : List Group) (windows ws : List ℕ) (a b c d p q o : Option BindFault)
+    → xs ≡ items → windows ≡ flat_map group_windows xs → ws ≡ windows
+    → p ≡ sooner c d → q ≡ sooner b p → o ≡ sooner a q
+    → FirstOf (Each (GroupItemFaults scope) xs) a → FirstOf (Doubled ident_name ident_place [] (flat_map group_columns xs)) b → FirstOf (Past cause.BadWindow 1 ws) c → FirstOf (Beyond (map group_first xs)) d
+    → FirstOf (AllGroups scope items) o
+groups_first_of scope xs items windows ws a b c d p q o xs_is windows_is ws_is p_is q_is o_is ha hb hc hd =
+    subst (λ (v : List Group). FirstOf (AllGroups scope v) o) xs_is
+    (first_of_two (Each (GroupItemFaults scope) xs) _ a q o o_is ha
+    (first_of_two (Doubled ident_name ident_place [] (flat_map group_columns xs)) _ b p q q_is hb
+    (first_of_two (Past cause.BadWindow 1 (flat_map group_windows xs)) (Beyond (map group_first xs)) c d p p_is
+    (subst (λ (v : List ℕ). FirstOf (Past cause.BadWindow 1 v) c) (ws_is ∙ windows_is) hc) hd)))
+
+pub words_first : (select : Select) (grouped : Option ℕ) (joins : Bool) (a b c p o : Option BindFault)
+    → joins ≡ is_there select.join → p ≡ sooner b c → o ≡ sooner a p
+    → FirstOf (Where DistinctFaults select.distinct) a → FirstOf (Where LimitFaults select.limit) b → FirstOf (StatefulFaults joins select.deduplicate grouped) c
+    → FirstOf (WordFaults select grouped) o
+words_first select grouped joins a b c p o joins_is p_is o_is ha hb hc =
+    first_of_two (Where DistinctFaults select.distinct) _ a p o o_is ha
+    (first_of_two (Where LimitFaults select.limit) (StatefulFaults (is_there select.join) select.deduplicate grouped) b c p p_is hb
+    (subst (λ (v : Bool). FirstOf (StatefulFaults v select.deduplicate grouped) c) joins_is hc))
+
+pub rows_first : (scope : Scope) (select : Select) (left : Bool) (from : List ℕ) (a b c d e p q r o : Option BindFault)
+    → left ≡ is_there scope.left → from ≡ select.from.text
+    → p ≡ sooner d e → q ≡ sooner c p → r ≡ sooner b q → o ≡ sooner a r
+    → FirstOf (Rule cause.UnknownName select.from.at (left ≡ false)) a → FirstOf (Where (JoinFaults scope from) select.join) b
+    → FirstOf (Where (ConditionFaults scope within.Row) select.filter) c → FirstOf (Where (DeduplicateFaults scope) select.deduplicate) d
+    → FirstOf (Where (GroupFaults scope) select.group) e
+    → FirstOf (RowFaults scope select) o
+rows_first scope select left from a b c d e p q r o left_is from_is p_is q_is r_is o_is ha hb hc hd he =
+    first_of_two (Rule cause.UnknownName select.from.at (is_there scope.left ≡ false)) _ a r o o_is
+    (subst (λ (v : Bool). FirstOf (Rule cause.UnknownName select.from.at (v ≡ false)) a) left_is ha)
+    (first_of_two (Where (JoinFaults scope select.from.text) select.join) _ b q r r_is
+    (subst (λ (v : List ℕ). FirstOf (Where (JoinFaults scope v) select.join) b) from_is hb)
+    (first_of_two (Where (ConditionFaults scope within.Row) select.filter) _ c p q q_is hc
+    (first_of_two (Where (DeduplicateFaults scope) select.deduplicate) (Where (GroupFaults scope) select.group) d e p p_is hd he)))
+
+pub shown_first : (scope : Scope) (grouped : Option ℕ) (places : List ℕ) (select : Select) (is_group : Bool) (w : Within) (xs ys zs : List Item) (os : List OrderBy) (a b c d e p q r o : Option BindFault)
+    → is_group ≡ is_there grouped → w ≡ within_by is_group → xs ≡ select.items → ys ≡ select.items → zs ≡ select.items → os ≡ select.order
+    → p ≡ sooner d e → q ≡ sooner c p → r ≡ sooner b q → o ≡ sooner a r
+    → FirstOf (ItemsFaults scope w xs) a → FirstOf (Beyond (map item_first ys)) b → FirstOf (Past cause.TooMany 64 places) c
+    → FirstOf (Where (HavingFaults scope w is_group) select.having) d → FirstOf (Each (OrderFaults zs) os) e
+    → FirstOf (ShownFaults scope grouped places select) o
+shown_first scope grouped places select is_group w xs ys zs os a b c d e p q r o group_is within_is xs_is ys_is zs_is os_is p_is q_is r_is o_is ha hb hc hd he =
+    let w_is : w ≡ within_by (is_there grouped) = within_is ∙ ap within_by group_is in
+    first_of_two (ItemsFaults scope (within_by (is_there grouped)) select.items) _ a r o o_is
+    (subst (λ (v : Within). FirstOf (ItemsFaults scope v select.items) a) w_is (subst (λ (v : List Item). FirstOf (ItemsFaults scope w v) a) xs_is ha))
+    (first_of_two (Beyond (map item_first select.items)) _ b q r r_is
+    (subst (λ (v : List Item). FirstOf (Beyond (map item_first v)) b) ys_is hb)
+    (first_of_two (Beyond places) _ c p q q_is hc
+    (first_of_two (Where (HavingFaults scope (within_by (is_there grouped)) (is_there grouped)) select.having) (Each (OrderFaults select.items) select.order) d e p p_is
+    (subst (λ (v : Within). FirstOf (Where (HavingFaults scope v (is_there grouped)) select.having) d) w_is
+    (subst (λ (v : Bool). FirstOf (Where (HavingFaults scope w v) select.having) d) group_is hd))
+    (subst (λ (v : List OrderBy). FirstOf (Each (OrderFaults select.items) v) e) os_is
+    (subst (λ (v : List Item). FirstOf (Each (OrderFaults v) os) e) zs_is he)))))
+
+scope_is : (query : Query) (names scope : Scope) (keys : List Key) → names ≡ row_scope query → keys ≡ group_keys names query.select.group
+    → scope ≡ record { left = names.left; right = names.right; keys = keys } → scope ≡ scope_of query
+scope_is query names scope keys names_is keys_is is =
+    let keys_are : keys ≡ group_keys (row_scope query) query.select.group = keys_is ∙ ap (λ (v : Scope). group_keys v query.select.group) names_is in
+    is ∙ ap (λ (v : Scope). record { left = v.left; right = v.right; keys = keys }) names_is
+    ∙ ap (λ (v : List Key). record { left = (row_scope query).left; right = (row_scope query).right; keys = v }) keys_are
+
+pub query_first : (query : Query) (streams : List Stream) (names scope : Scope) (keys : List Key) (items : List Item) (places ps qs : List ℕ) (grouped : Option ℕ) (a b c d p q o : Option BindFault)
+    → streams ≡ query.streams → names ≡ row_scope query → keys ≡ group_keys names query.select.group
+    → scope ≡ record { left = names.left; right = names.right; keys = keys }
+    → items ≡ query.select.items → places ≡ flat_map item_aggregates items ++ having_aggregates query.select.having
+    → ps ≡ places → grouped ≡ group_place_by query.select.group ps → qs ≡ places
+    → p ≡ sooner c d → q ≡ sooner b p → o ≡ sooner a q
+    → FirstOf (StreamsFaults streams) a → FirstOf (RowFaults names query.select) b → FirstOf (ShownFaults scope grouped qs query.select) c → FirstOf (WordFaults query.select grouped) d
+    → FirstOf (QueryFaults query) o
+query_first query streams names scope keys items places ps qs grouped a b c d p q o streams_is names_is keys_is is items_is places_is ps_is grouped_is qs_is p_is q_is o_is ha hb hc hd =
+    let places_are : places ≡ shown_aggregates query = places_is ∙ ap (λ (v : List Item). flat_map item_aggregates v ++ having_aggregates query.select.having) items_is in
+    let grouped_at : grouped ≡ group_place query = grouped_is ∙ ap (group_place_by query.select.group) (ps_is ∙ places_are) in
+    let own : scope ≡ scope_of query = scope_is query names scope keys names_is keys_is is in
+    first_of_two (StreamsFaults query.streams) _ a q o o_is
+    (subst (λ (v : List Stream). FirstOf (StreamsFaults v) a) streams_is ha)
+    (first_of_two (RowFaults (row_scope query) query.select) _ b p q q_is
+    (subst (λ (v : Scope). FirstOf (RowFaults v query.select) b) names_is hb)
+    (first_of_two (ShownFaults (scope_of query) (group_place query) (shown_aggregates query) query.select) (WordFaults query.select (group_place query)) c d p p_is
+    (subst (λ (v : Scope). FirstOf (ShownFaults v (group_place query) (shown_aggregates query) query.select) c) own
+    (subst (λ (v : Option ℕ). FirstOf (ShownFaults scope v (shown_aggregates query) query.select) c) grouped_at
+    (subst (λ (v : List ℕ). FirstOf (ShownFaults scope grouped v query.select) c) (qs_is ∙ places_are) hc)))
+    (subst (λ (v : Option ℕ). FirstOf (WordFaults query.select v) d) grouped_at hd)))

@@ -1,0 +1,11 @@
+pub mod Opened
+pub mod First
+pub mod Nodes
+pub mod Found
+pub mod Lists
+pub mod Clauses
+pub mod OnWay
+pub mod Places
+pub mod Ends
+pub mod SoundLemmas
+pub mod Erased

@@ -1,0 +1,16 @@
+pub mod Fault
+pub mod Scope
+pub mod Rules
+pub mod Broken
+pub mod Checked
+pub mod Lists
+pub mod Names
+pub mod Shown
+pub mod Joined
+pub mod Walked
+pub mod Clauses
+pub mod Firsts
+pub mod Whole
+pub mod Sound
+pub mod Erased
+pub mod Worked

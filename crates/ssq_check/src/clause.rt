@@ -1,0 +1,359 @@
+//! The clauses of a query: the first of the rules that each of them breaks.
+
+ghost use Rattle.std.specs.Prelude.{◌≡◌, ◌++◌, ◌*ℤ◌, pos, int_lt, None, [], IfOk, OnOk};
+ghost use Rattle.std.specs.List.{flat_map};
+ghost use Rattle.ssq_check.specs.Fault.{FirstOf};
+ghost use Rattle.ssq_check.specs.Lists.{Each, Where, has_name, names_from, each_from, item_name};
+ghost use Rattle.ssq_check.specs.Rules.{type_of};
+ghost use Rattle.ssq_check.specs.Clauses as clause;
+ghost use Rattle.ssq_check.specs.Clauses.{ConditionFaults, HavingFaults, JoinedFaults, JoinFaults, IdentFaults, DeduplicateFaults, GroupItemFaults, GroupFaults, OrderFaults, group_windows, slide_of};
+ghost use Rattle.ssq_check.specs.Firsts.{ident_fault, size_fault, window_fault, group_fault, order_fault};
+ghost use Rattle.ssq_check.specs.Scope.{is_window_name};
+ghost use Rattle.ssq_check.specs.declared.scope.Within.TheVariants as within;
+
+use crate::expr::check_expr;
+use crate::fault::{BindFault, Cause, fault_in, rule, sooner, unless};
+use crate::joined::{check_on, spot_in};
+use crate::list::{Named, beyond, first_double, first_double_column, past_places};
+use crate::scope::{Scope, Source, Spot, Within, bare_spot, is_window_name};
+use indexmap::IndexSet;
+use ssq_ast::{Condition, Deduplicate, Group, GroupBy, Ident, Item, Join, OrderBy, Window};
+use ssq_value::{ColType, Column, Sequence, Text};
+use std::alloc::{AllocError, Global};
+
+fn is_no_truth(kind: Result<ColType, BindFault>) -> bool
+    ensures { result ≡ clause.is_no_truth (type_of kind) }
+{
+    match kind {
+        Ok(ColType::Bool) => false,
+        Ok(_) => true,
+        Err(_) => false,
+    }
+}
+
+/// WHERE, ON or HAVING.
+#[tactic(auto, using(crate::proofs::First::first_sooner))]
+pub(crate) fn check_condition(
+    scope: &Scope,
+    within: Within,
+    condition: &Condition,
+) -> Option<BindFault>
+    ensures { FirstOf (ConditionFaults scope.now within condition.now) result }
+{
+    let kind = check_expr(scope, within, &condition.value);
+    let own = rule(Cause::WrongType, condition.at, is_no_truth(kind));
+    sooner(fault_in(kind), own)
+}
+
+/// WHERE.
+pub(crate) fn check_filter(scope: &Scope, filter: &Option<Condition>) -> Option<BindFault>
+    ensures { FirstOf (Where (ConditionFaults scope.now within.Row) filter.now) result }
+{
+    match filter {
+        Some(condition) => check_condition(scope, Within::Row, condition),
+        None => None,
+    }
+}
+
+#[tactic(auto, using(crate::proofs::First::first_sooner))]
+fn check_grouped(
+    scope: &Scope,
+    within: Within,
+    is_group: bool,
+    condition: &Condition,
+) -> Option<BindFault>
+    ensures { FirstOf (HavingFaults scope.now within is_group condition.now) result }
+{
+    let own = unless(Cause::NotGrouped, condition.at, is_group);
+    sooner(check_condition(scope, within, condition), own)
+}
+
+/// HAVING.
+pub(crate) fn check_having(
+    scope: &Scope,
+    within: Within,
+    is_group: bool,
+    having: &Option<Condition>,
+) -> Option<BindFault>
+    ensures { FirstOf (Where (HavingFaults scope.now within is_group) having.now) result }
+{
+    match having {
+        Some(condition) => check_grouped(scope, within, is_group, condition),
+        None => None,
+    }
+}
+
+#[tactic(auto, using(crate::proofs::First::first_sooner))]
+fn check_joined(is_declared: bool, from: &str, stream: &Ident) -> Option<BindFault>
+    ensures { FirstOf (JoinedFaults is_declared from.now stream.now) result }
+{
+    let unknown = unless(Cause::UnknownName, stream.at, is_declared);
+    let itself = rule(Cause::DoubleName, stream.at, stream.text.as_str() == from);
+    sooner(unknown, itself)
+}
+
+#[tactic(auto, using(crate::proofs::First::first_sooner))]
+fn check_whole_join(scope: &Scope, from: &str, join: &Join) -> Option<BindFault>
+    ensures { FirstOf (JoinFaults scope.now from.now join.now) result }
+{
+    let stream = check_joined(scope.right.is_some(), from, &join.stream);
+    sooner(stream, check_on(scope, &join.on))
+}
+
+/// JOIN.
+pub(crate) fn check_join(scope: &Scope, from: &str, join: &Option<Join>) -> Option<BindFault>
+    ensures { FirstOf (Where (JoinFaults scope.now from.now) join.now) result }
+{
+    match join {
+        Some(join) => check_whole_join(scope, from, join),
+        None => None,
+    }
+}
+
+fn ident_fault(scope: &Scope, ident: &Ident) -> Option<BindFault>
+    ensures { result ≡ ident_fault scope.now ident.now }
+{
+    fault_in(bare_spot(scope, ident))
+}
+
+#[tactic(auto, unfolding(crate::specs::Lists::each_from))]
+fn first_of_idents(scope: &Scope, idents: &[Ident]) -> Option<BindFault>
+    ensures { result ≡ each_from (ident_fault scope.now) None idents.now }
+{
+    let mut first = None;
+    for ident in idents {
+        first = sooner(first, ident_fault(scope, ident));
+    }
+    first
+}
+
+#[tactic(auto, using(crate::proofs::Clauses::idents_first))]
+fn check_idents(scope: &Scope, idents: &[Ident]) -> Option<BindFault>
+    ensures { FirstOf (Each (IdentFaults scope.now) idents.now) result }
+{
+    first_of_idents(scope, idents)
+}
+
+#[tactic(auto, using(crate::proofs::First::first_sooner))]
+fn check_columns(
+    alloc: Global,
+    scope: &Scope,
+    deduplicate: &Deduplicate,
+) -> Result<Option<BindFault>, AllocError>
+    ensures { IfOk result (FirstOf (DeduplicateFaults scope.now deduplicate.now)) }
+{
+    let columns = deduplicate.columns.as_slice();
+    let doubled = first_double(alloc, columns)?;
+    let known = check_idents(scope, columns);
+    Ok(sooner(known, sooner(doubled, beyond(columns))))
+}
+
+/// DEDUPLICATE.
+pub(crate) fn check_deduplicate(
+    alloc: Global,
+    scope: &Scope,
+    deduplicate: &Option<Deduplicate>,
+) -> Result<Option<BindFault>, AllocError>
+    ensures { IfOk result (FirstOf (Where (DeduplicateFaults scope.now) deduplicate.now)) }
+{
+    match deduplicate {
+        Some(deduplicate) => check_columns(alloc, scope, deduplicate),
+        None => Ok(None),
+    }
+}
+
+pub(crate) fn is_no_time(spot: Option<Spot>) -> bool
+    ensures { result ≡ clause.is_no_time spot }
+{
+    match spot {
+        Some(spot) => match spot.kind {
+            ColType::Timestamp => false,
+            _ => true,
+        },
+        None => false,
+    }
+}
+
+fn slide_of(window: &Window) -> i64
+    ensures { result ≡ slide_of window.now }
+{
+    match &window.slide {
+        Some(slide) => slide.micros,
+        None => window.size.micros,
+    }
+}
+
+/// Whether more than 64 windows hold one time.
+fn are_many(size: i64, slide: i64) -> bool
+    ensures { result ≡ int_lt (pos 64 *ℤ slide) size }
+{
+    64 * i128::from(slide) < i128::from(size)
+}
+
+fn size_fault(at: usize, size: i64, slide: i64) -> Option<BindFault>
+    ensures { result ≡ size_fault at size slide }
+{
+    let apart = rule(Cause::BadWindow, at, size < slide);
+    let many = rule(Cause::TooMany, at, are_many(size, slide));
+    sooner(apart, many)
+}
+
+fn has_window_name(columns: &[Column]) -> bool
+    ensures { result ≡ Rattle.std.specs.List.list_any clause.has_window_name columns.now }
+{
+    columns
+        .iter()
+        .any(|column| is_window_name(column.name.as_str()))
+}
+
+fn has_window_column(source: &Option<Source>) -> bool
+    ensures { result ≡ clause.has_window_column source.now }
+{
+    match source {
+        Some(source) => has_window_name(source.columns.as_slice()),
+        None => false,
+    }
+}
+
+fn has_window_columns(scope: &Scope) -> bool
+    ensures { result ≡ clause.has_window_columns scope.now }
+{
+    has_window_column(&scope.left) || has_window_column(&scope.right)
+}
+
+fn window_fault(scope: &Scope, window: &Window) -> Option<BindFault>
+    ensures { result ≡ window_fault scope.now window.now }
+{
+    let spot = bare_spot(scope, &window.column);
+    let known = fault_in(spot);
+    let typed = rule(
+        Cause::WrongType,
+        window.column.at,
+        is_no_time(spot_in(spot)),
+    );
+    let size = size_fault(window.at, window.size.micros, slide_of(window));
+    let named = rule(Cause::DoubleName, window.at, has_window_columns(scope));
+    sooner(known, sooner(typed, sooner(size, named)))
+}
+
+fn group_fault(scope: &Scope, item: &Group) -> Option<BindFault>
+    ensures { result ≡ group_fault scope.now item.now }
+{
+    match item {
+        Group::Column(ident) => ident_fault(scope, ident),
+        Group::Window(window) => window_fault(scope, window),
+    }
+}
+
+#[tactic(auto, unfolding(crate::specs::Lists::each_from))]
+fn first_of_groups(scope: &Scope, items: &[Group]) -> Option<BindFault>
+    ensures { result ≡ each_from (group_fault scope.now) None items.now }
+{
+    let mut first = None;
+    for item in items {
+        first = sooner(first, group_fault(scope, item));
+    }
+    first
+}
+
+#[tactic(auto, using(crate::proofs::Clauses::groups_first))]
+fn check_group_items(scope: &Scope, items: &[Group]) -> Option<BindFault>
+    ensures { FirstOf (Each (GroupItemFaults scope.now) items.now) result }
+{
+    first_of_groups(scope, items)
+}
+
+fn add_window(item: &Group, places: &mut Sequence<usize>) -> Result<(), AllocError>
+    ensures { OnOk result (places.new ≡ places.old ++ group_windows item.now) }
+{
+    match item {
+        Group::Column(_) => Ok(()),
+        Group::Window(window) => places.push(window.at),
+    }
+}
+
+fn window_places(alloc: Global, items: &[Group]) -> Result<Sequence<usize>, AllocError>
+    ensures { IfOk result (λ places. places ≡ flat_map group_windows items.now) }
+{
+    let mut places = Sequence::new(alloc);
+    for item in items {
+        add_window(item, &mut places)?;
+    }
+    Ok(places)
+}
+
+#[tactic(auto, using(crate::proofs::First::first_sooner))]
+fn check_groups(alloc: Global, scope: &Scope, by: &GroupBy) -> Result<Option<BindFault>, AllocError>
+    ensures { IfOk result (FirstOf (GroupFaults scope.now by.now)) }
+{
+    let items = by.items.as_slice();
+    let doubled = first_double_column(alloc, items)?;
+    let windows = window_places(alloc, items)?;
+    let second = past_places(Cause::BadWindow, 1, windows.as_slice());
+    let each = check_group_items(scope, items);
+    Ok(sooner(each, sooner(doubled, sooner(second, beyond(items)))))
+}
+
+/// GROUP BY.
+pub(crate) fn check_group(
+    alloc: Global,
+    scope: &Scope,
+    group: &Option<GroupBy>,
+) -> Result<Option<BindFault>, AllocError>
+    ensures { IfOk result (FirstOf (Where (GroupFaults scope.now) group.now)) }
+{
+    match group {
+        Some(by) => check_groups(alloc, scope, by),
+        None => Ok(None),
+    }
+}
+
+/// The names of outputs.
+#[tactic(auto, unfolding(crate::specs::Lists::names_from))]
+fn output_names(alloc: Global, items: &[Item]) -> Result<IndexSet<Text>, AllocError>
+    ensures { IfOk result (λ names. names.keys ≡ names_from item_name [] items.now) }
+{
+    let mut names: IndexSet<Text> = IndexSet::new(alloc);
+    for item in items {
+        let name = Text::from_str(alloc, item.name())?;
+        names.insert(name)?;
+    }
+    Ok(names)
+}
+
+fn is_output(names: &IndexSet<Text>, name: &Text) -> bool
+    ensures { result ≡ has_name name.now names.now.keys }
+{
+    names.contains(name)
+}
+
+fn order_fault(names: &IndexSet<Text>, order: &OrderBy) -> Option<BindFault>
+    ensures { result ≡ order_fault names.now.keys order.now }
+{
+    let is_output = is_output(names, &order.name.text);
+    unless(Cause::UnknownName, order.name.at, is_output)
+}
+
+#[tactic(auto, unfolding(crate::specs::Lists::each_from))]
+fn first_of_orders(names: &IndexSet<Text>, orders: &[OrderBy]) -> Option<BindFault>
+    ensures { result ≡ each_from (order_fault names.now.keys) None orders.now }
+{
+    let mut first = None;
+    for order in orders {
+        first = sooner(first, order_fault(names, order));
+    }
+    first
+}
+
+/// ORDER BY.
+pub(crate) fn check_order(
+    alloc: Global,
+    items: &[Item],
+    orders: &[OrderBy],
+) -> Result<Option<BindFault>, AllocError>
+    ensures { IfOk result (FirstOf (Each (OrderFaults items.now) orders.now)) }
+{
+    let names = output_names(alloc, items)?;
+    let first = first_of_orders(&names, orders);
+    Ok(first)
+}

@@ -1,0 +1,385 @@
+//! ON: its key equalities, and which of its parts is the bound on times.
+
+ghost use Rattle.std.specs.Prelude.{◌≡◌, ◌&&◌};
+ghost use Rattle.ssq_check.specs.Fault.{FirstOf};
+ghost use Rattle.ssq_check.specs.Names.{is_there};
+ghost use Rattle.ssq_check.specs.Rules.{is_interval, kind};
+ghost use Rattle.ssq_check.specs.Joined as on;
+ghost use Rattle.ssq_check.specs.Joined.{conjuncts, looked, bare_column, ConjunctFaults};
+ghost use Rattle.ssq_check.specs.Walked as way;
+ghost use Rattle.ssq_check.specs.Walked.{walked};
+ghost use Rattle.ssq_check.specs.Clauses.{OnFaults};
+ghost use Rattle.ssq_check.specs.declared.scope.Within.TheVariants as within;
+
+use crate::clause::check_condition;
+use crate::expr::{check_expr, is_interval};
+use crate::fault::{BindFault, Cause, sooner};
+use crate::scope::{
+    Scope, Side, Source, Spot, Within, bare_spot, in_columns, is_same_side, named_spot,
+};
+use ssq_ast::{BinaryOp, ColumnRef, Condition, Expr};
+use ssq_value::{ColType, Text};
+
+/// What was met on the way through ON.
+#[derive(Clone, Copy, Debug, PartialEq, Eq)]
+pub struct Walk {
+    /// Whether a BETWEEN was met.
+    pub seen: bool,
+    /// The first BETWEEN that may not stand there.
+    pub bound: Option<BindFault>,
+    /// How many more key equalities there may be, as long as there are not too many.
+    pub more: Option<usize>,
+    /// The key equality that is one too many.
+    pub key: Option<BindFault>,
+}
+
+/// A side of a bound on times.
+#[derive(Clone, Copy, Debug, PartialEq, Eq)]
+pub enum Edge {
+    /// `l.t - INTERVAL 'a'`
+    Low,
+    /// `l.t + INTERVAL 'b'`
+    High,
+}
+
+fn is_and(op: BinaryOp) -> bool
+    ensures { result ≡ on.is_and op }
+{
+    match op {
+        BinaryOp::And => true,
+        _ => false,
+    }
+}
+
+fn is_equal(op: BinaryOp) -> bool
+    ensures { result ≡ on.is_equal op }
+{
+    match op {
+        BinaryOp::Equal => true,
+        _ => false,
+    }
+}
+
+fn is_edge(edge: Edge, op: BinaryOp) -> bool
+    ensures { result ≡ on.is_edge edge op }
+{
+    match (edge, op) {
+        (Edge::Low, BinaryOp::Subtract) => true,
+        (Edge::High, BinaryOp::Add) => true,
+        _ => false,
+    }
+}
+
+fn spot_of(scope: &Scope, column: &ColumnRef) -> Result<Spot, BindFault>
+    ensures { result ≡ on.spot_of scope.now column.now }
+{
+    match &column.stream {
+        Some(stream) => named_spot(scope, stream, &column.column),
+        None => bare_spot(scope, &column.column),
+    }
+}
+
+pub(crate) fn spot_in(found: Result<Spot, BindFault>) -> Option<Spot>
+    ensures { result ≡ on.spot_in found }
+{
+    match found {
+        Ok(spot) => Some(spot),
+        Err(_) => None,
+    }
+}
+
+/// The column that an expression is.
+fn column_spot(scope: &Scope, value: &Expr) -> Option<Spot>
+    ensures { result ≡ looked scope.now (bare_column value.now) }
+{
+    match value {
+        Expr::Column { value } => spot_in(spot_of(scope, value)),
+        _ => None,
+    }
+}
+
+fn are_across(left: Option<Spot>, right: Option<Spot>) -> bool
+    ensures { result ≡ on.are_across left right }
+{
+    match (left, right) {
+        (Some(left), Some(right)) => !is_same_side(left.side, right.side),
+        _ => false,
+    }
+}
+
+/// `l.a = r.b`
+fn is_pair(scope: &Scope, op: BinaryOp, left: &Expr, right: &Expr) -> bool
+    ensures { result ≡ on.is_pair scope.now op left.now right.now }
+{
+    is_equal(op) && are_across(column_spot(scope, left), column_spot(scope, right))
+}
+
+fn spot_if(scope: &Scope, is_so: bool, value: &Expr) -> Option<Spot>
+    ensures { result ≡ looked scope.now (on.if_so is_so (bare_column value.now)) }
+{
+    if is_so {
+        column_spot(scope, value)
+    } else {
+        None
+    }
+}
+
+fn is_side(edge: Edge, op: BinaryOp, right: &Expr) -> bool
+    ensures { result ≡ (on.is_edge edge op && is_interval right.now) }
+{
+    is_edge(edge, op) && is_interval(right)
+}
+
+/// The column of a bound's side.
+#[tactic(auto, unfolding(crate::specs::Joined::edge_column))]
+fn edge_spot(scope: &Scope, edge: Edge, value: &Expr) -> Option<Spot>
+    ensures { result ≡ looked scope.now (on.edge_column edge value.now) }
+{
+    match value {
+        Expr::Column { value } => spot_in(spot_of(scope, value)),
+        Expr::Binary {
+            left,
+            op,
+            right,
+            ..
+        } => {
+            let is_so = is_side(edge, *op, right.get());
+            spot_if(scope, is_so, left.get())
+        }
+        Expr::Number { .. } => None,
+        Expr::Text { .. } => None,
+        Expr::Truth { .. } => None,
+        Expr::Timestamp { .. } => None,
+        Expr::Interval { .. } => None,
+        Expr::CountRows { .. } => None,
+        Expr::Aggregate { .. } => None,
+        Expr::Unary { .. } => None,
+        Expr::IsNull { .. } => None,
+        Expr::Between { .. } => None,
+    }
+}
+
+fn is_at(spot: Option<Spot>, index: usize) -> bool
+    ensures { result ≡ on.is_at spot index }
+{
+    match spot {
+        Some(spot) => spot.index == index,
+        None => false,
+    }
+}
+
+fn is_time_spot(spot: Spot) -> bool
+    ensures { result ≡ on.is_time_spot spot }
+{
+    match spot.kind {
+        ColType::Timestamp => true,
+        _ => false,
+    }
+}
+
+fn is_event_of(source: &Source, spot: Spot) -> bool
+    ensures { result ≡ on.is_event_by source.now.watermark source.now.columns spot }
+{
+    match &source.watermark {
+        Some(name) => is_at(
+            in_columns(spot.side, source.columns.as_slice(), name.as_str()),
+            spot.index,
+        ),
+        None => is_time_spot(spot),
+    }
+}
+
+fn is_event(source: &Option<Source>, spot: Spot) -> bool
+    ensures { result ≡ on.is_event source.now spot }
+{
+    match source {
+        Some(source) => is_event_of(source, spot),
+        None => false,
+    }
+}
+
+fn is_right(side: Side) -> bool
+    ensures { result ≡ on.is_right side }
+{
+    match side {
+        Side::Right => true,
+        Side::Left => false,
+    }
+}
+
+fn are_bound(scope: &Scope, time: Option<Spot>, low: Option<Spot>, high: Option<Spot>) -> bool
+    ensures { result ≡ on.are_bound scope.now time low high }
+{
+    match (time, low, high) {
+        (Some(time), Some(low), Some(high)) => {
+            is_right(time.side)
+                && !is_right(low.side)
+                && !is_right(high.side)
+                && low.index == high.index
+                && is_event(&scope.right, time)
+                && is_event(&scope.left, low)
+        }
+        _ => false,
+    }
+}
+
+/// `r.t BETWEEN l.t - INTERVAL 'a' AND l.t + INTERVAL 'b'`
+fn is_bound(scope: &Scope, time: &Expr, low: &Expr, high: &Expr) -> bool
+    ensures { result ≡ on.is_bound scope.now time.now low.now high.now }
+{
+    let time = column_spot(scope, time);
+    let low = edge_spot(scope, Edge::Low, low);
+    let high = edge_spot(scope, Edge::High, high);
+    are_bound(scope, time, low, high)
+}
+
+fn is_typed(scope: &Scope, value: &Expr) -> bool
+    ensures { result ≡ is_there (kind scope.now within.Row value.now) }
+{
+    match check_expr(scope, Within::Row, value) {
+        Ok(_) => true,
+        Err(_) => false,
+    }
+}
+
+fn are_typed(scope: &Scope, time: &Expr, low: &Expr, high: &Expr) -> bool
+    ensures { result ≡ on.are_typed scope.now time.now low.now high.now }
+{
+    is_typed(scope, time) && is_typed(scope, low) && is_typed(scope, high)
+}
+
+fn is_misplaced(scope: &Scope, seen: bool, time: &Expr, low: &Expr, high: &Expr) -> bool
+    ensures { result ≡ on.is_misplaced_by scope.now seen time.now low.now high.now }
+{
+    let is_no_bound = seen || !is_bound(scope, time, low, high);
+    is_no_bound && are_typed(scope, time, low, high)
+}
+
+fn bound_fault(bad: bool, at: usize) -> Option<BindFault>
+    ensures { result ≡ way.bound_fault bad at }
+{
+    if bad {
+        Some(BindFault {
+            at,
+            cause: Cause::BadBound,
+        })
+    } else {
+        None
+    }
+}
+
+fn bound_met(walk: Walk, at: usize, misplaced: bool) -> Walk
+    ensures { result ≡ way.bound_met at misplaced walk }
+{
+    Walk {
+        seen: true,
+        bound: sooner(walk.bound, bound_fault(misplaced, at)),
+        more: walk.more,
+        key: walk.key,
+    }
+}
+
+fn key_met(walk: Walk, at: usize) -> Walk
+    ensures { result ≡ way.key_met at walk.more walk }
+{
+    match walk.more {
+        Some(0) => Walk {
+            seen: walk.seen,
+            bound: walk.bound,
+            more: None,
+            key: sooner(
+                walk.key,
+                Some(BindFault {
+                    at,
+                    cause: Cause::TooMany,
+                }),
+            ),
+        },
+        Some(more) => Walk {
+            seen: walk.seen,
+            bound: walk.bound,
+            more: Some(more - 1),
+            key: walk.key,
+        },
+        None => walk,
+    }
+}
+
+fn key_step(walk: Walk, at: usize, is_key: bool) -> Walk
+    ensures { result ≡ way.key_step is_key at walk }
+{
+    if is_key { key_met(walk, at) } else { walk }
+}
+
+/// What is met in an expression that stands at the first token `at`.
+#[tactic(auto, unfolding(crate::specs::Walked::walked, crate::specs::Walked::stepped, crate::specs::Joined::conjuncts, crate::specs::Joined::is_key_equality, crate::specs::Joined::between_at))]
+fn walked(scope: &Scope, walk: Walk, at: usize, value: &Expr) -> Walk
+    ensures { result ≡ walked scope.now walk (conjuncts at value.now) }
+{
+    match value {
+        Expr::Binary {
+            left_at,
+            left,
+            op,
+            right_at,
+            right,
+            ..
+        } => {
+            if is_and(*op) {
+                let half = walked(scope, walk, *left_at, left.get());
+                walked(scope, half, *right_at, right.get())
+            } else {
+                key_step(walk, at, is_pair(scope, *op, left.get(), right.get()))
+            }
+        }
+        Expr::Between {
+            operand,
+            at: between_at,
+            low,
+            high,
+        } => {
+            let misplaced = is_misplaced(scope, walk.seen, operand.get(), low.get(), high.get());
+            bound_met(walk, *between_at, misplaced)
+        }
+        Expr::Number { .. } => walk,
+        Expr::Text { .. } => walk,
+        Expr::Truth { .. } => walk,
+        Expr::Timestamp { .. } => walk,
+        Expr::Interval { .. } => walk,
+        Expr::Column { .. } => walk,
+        Expr::CountRows { .. } => walk,
+        Expr::Aggregate { .. } => walk,
+        Expr::Unary { .. } => walk,
+        Expr::IsNull { .. } => walk,
+    }
+}
+
+fn start() -> Walk
+    ensures { result ≡ way.start }
+{
+    Walk {
+        seen: false,
+        bound: None,
+        more: Some(64),
+        key: None,
+    }
+}
+
+#[tactic(auto, using(crate::proofs::OnWay::conjuncts_first))]
+fn check_conjuncts(scope: &Scope, on: &Condition) -> Option<BindFault>
+    ensures { FirstOf (ConjunctFaults scope.now (conjuncts on.now.at on.now.value)) result }
+{
+    let walk = walked(scope, start(), on.at, &on.value);
+    sooner(walk.key, walk.bound)
+}
+
+/// ON.
+#[tactic(auto, using(crate::proofs::First::first_sooner))]
+pub(crate) fn check_on(scope: &Scope, on: &Condition) -> Option<BindFault>
+    ensures { FirstOf (OnFaults scope.now on.now) result }
+{
+    sooner(
+        check_condition(scope, Within::Row, on),
+        check_conjuncts(scope, on),
+    )
+}

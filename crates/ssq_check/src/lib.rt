@@ -1,0 +1,25 @@
+//! What binding asks of a query: the types of its expressions, and the first of the rules that it breaks.
+//!
+//! The definitions stand in `specs/`: `Fault` says which of several faults is told, `Scope` what a name means, `Rules`
+//! which types operators ask for, `Broken` what is wrong in an expression, `Lists` what is wrong in a list, `Names` which
+//! names a query may use, `Shown` which aggregates it shows, `Joined` what ON is made of, `Clauses` what is wrong in each
+//! clause, `Whole` what is wrong in a query, and `Sound` what holds of one in which nothing is wrong. The others speak of
+//! the code's own steps.
+#![tactic(auto)]
+
+mod clause;
+mod expr;
+mod fault;
+mod item;
+mod joined;
+mod list;
+mod names;
+mod scope;
+mod shown;
+mod stream;
+mod whole;
+
+pub use expr::check_expr;
+pub use fault::{BindFault, Cause, Refusal};
+pub use scope::{Key, Scope, Side, Source, Spot, Within};
+pub use whole::{check, small_values, types_stay};

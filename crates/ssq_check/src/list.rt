@@ -1,0 +1,313 @@
+//! Lists of a query: names that are given twice, and what stands beyond a limit.
+
+ghost use Rattle.std.specs.Prelude.{◌≡◌, ℕ, None, [], map, slice_get, IfOk};
+ghost use Rattle.std.specs.List.{flat_map};
+ghost use Rattle.ssq_check.specs.Fault.{sooner, FirstOf};
+ghost use Rattle.ssq_check.specs.Broken.{Rule};
+ghost use Rattle.ssq_check.specs.declared.fault.Cause.TheVariants as cause;
+ghost use Rattle.ssq_check.specs.Firsts.{fault_at, past_fault};
+ghost use Rattle.ssq_check.specs.Lists.{doubled_from, fault_if, Where, Doubled, Past, Beyond};
+ghost use Rattle.ssq_check.specs.Clauses.{ident_name, ident_place, group_columns};
+
+use crate::fault::{BindFault, Cause, sooner};
+use indexmap::IndexSet;
+use ssq_ast::{ColumnDecl, Group, Ident, Item, Stream};
+use ssq_value::Text;
+use std::alloc::{AllocError, Global};
+
+/// What stands at a place.
+pub(crate) trait Placed {
+    ghost use Rattle.std.specs.Prelude.{ℕ};
+
+    ghost place: { Self → ℕ };
+
+    /// Its first token.
+    fn place(&self) -> usize
+        ensures { result ≡ place self.now };
+}
+
+/// What has a name.
+pub(crate) trait Named {
+    ghost use Rattle.std.specs.Prelude.{List, ℕ};
+
+    ghost name: { Self → List ℕ };
+
+    ghost named_at: { Self → ℕ };
+
+    fn name(&self) -> &str
+        ensures { result.now ≡ name self.now };
+
+    /// Where the name is written.
+    fn named_at(&self) -> usize
+        ensures { result ≡ named_at self.now };
+}
+
+impl Placed for Ident {
+    ghost use Rattle.ssq_check.specs.Clauses.{ident_place};
+
+    ghost place = { ident_place };
+
+    fn place(&self) -> usize {
+        self.at
+    }
+}
+
+impl Named for Ident {
+    ghost use Rattle.ssq_check.specs.Clauses.{ident_name, ident_place};
+
+    ghost name = { ident_name };
+
+    ghost named_at = { ident_place };
+
+    fn name(&self) -> &str {
+        self.text.as_str()
+    }
+
+    fn named_at(&self) -> usize {
+        self.at
+    }
+}
+
+impl Placed for ColumnDecl {
+    ghost use Rattle.ssq_check.specs.Clauses.{decl_place};
+
+    ghost place = { decl_place };
+
+    fn place(&self) -> usize {
+        self.name.at
+    }
+}
+
+impl Named for ColumnDecl {
+    ghost use Rattle.ssq_check.specs.Clauses.{decl_name, decl_place};
+
+    ghost name = { decl_name };
+
+    ghost named_at = { decl_place };
+
+    fn name(&self) -> &str {
+        self.name.text.as_str()
+    }
+
+    fn named_at(&self) -> usize {
+        self.name.at
+    }
+}
+
+impl Placed for Stream {
+    ghost use Rattle.ssq_check.specs.Clauses.{stream_first};
+
+    ghost place = { stream_first };
+
+    fn place(&self) -> usize {
+        self.at
+    }
+}
+
+impl Named for Stream {
+    ghost use Rattle.ssq_check.specs.Clauses.{stream_name, stream_name_place};
+
+    ghost name = { stream_name };
+
+    ghost named_at = { stream_name_place };
+
+    fn name(&self) -> &str {
+        self.name.text.as_str()
+    }
+
+    fn named_at(&self) -> usize {
+        self.name.at
+    }
+}
+
+impl Placed for Item {
+    ghost use Rattle.ssq_check.specs.declared.fault.Cause.TheVariants as cause;
+    ghost use Rattle.ssq_check.specs.Firsts.{fault_at, past_fault};
+    ghost use Rattle.ssq_check.specs.Lists.{item_first};
+
+    ghost place = { item_first };
+
+    fn place(&self) -> usize {
+        match self {
+            Item::Column { at, .. } => *at,
+            Item::Named { at, .. } => *at,
+        }
+    }
+}
+
+impl Named for Item {
+    ghost use Rattle.ssq_check.specs.declared.fault.Cause.TheVariants as cause;
+    ghost use Rattle.ssq_check.specs.Firsts.{fault_at, past_fault};
+    ghost use Rattle.ssq_check.specs.Lists.{item_name, item_place};
+
+    ghost name = { item_name };
+
+    ghost named_at = { item_place };
+
+    fn name(&self) -> &str {
+        match self {
+            Item::Column { column, .. } => column.column.text.as_str(),
+            Item::Named { name, .. } => name.text.as_str(),
+        }
+    }
+
+    fn named_at(&self) -> usize {
+        match self {
+            Item::Column { named_at, .. } => *named_at,
+            Item::Named { name, .. } => name.at,
+        }
+    }
+}
+
+impl Placed for Group {
+    ghost use Rattle.ssq_check.specs.Clauses.{group_first};
+
+    ghost place = { group_first };
+
+    fn place(&self) -> usize {
+        match self {
+            Group::Column(ident) => ident.at,
+            Group::Window(window) => window.at,
+        }
+    }
+}
+
+fn fault_if(is_new: bool, at: usize) -> Option<BindFault>
+    ensures { result ≡ fault_if is_new at }
+{
+    if is_new {
+        None
+    } else {
+        Some(BindFault {
+            at,
+            cause: Cause::DoubleName,
+        })
+    }
+}
+
+#[tactic(auto, unfolding(crate::specs::Lists::doubled_from))]
+pub(crate) fn first_double_of<N: Named>(
+    alloc: Global,
+    items: &[N],
+) -> Result<Option<BindFault>, AllocError>
+    ensures { IfOk result (λ first. first ≡ doubled_from N.name N.named_at None [] items.now) }
+{
+    let mut seen: IndexSet<Text> = IndexSet::new(alloc);
+    let mut first = None;
+    for item in items {
+        let name = Text::from_str(alloc, item.name())?;
+        let (_, is_new) = seen.insert_full(name)?;
+        first = sooner(first, fault_if(is_new, item.named_at()));
+    }
+    Ok(first)
+}
+
+/// The first of the names that one in front of it has.
+#[tactic(auto, using(crate::proofs::Lists::doubled_is_first))]
+pub(crate) fn first_double<N: Named>(
+    alloc: Global,
+    items: &[N],
+) -> Result<Option<BindFault>, AllocError>
+    ensures { IfOk result (FirstOf (Doubled N.name N.named_at [] items.now)) }
+{
+    let first = first_double_of(alloc, items)?;
+    Ok(first)
+}
+
+#[tactic(auto, unfolding(crate::specs::Lists::doubled_from))]
+fn first_double_column_of(alloc: Global, items: &[Group]) -> Result<Option<BindFault>, AllocError>
+    ensures { IfOk result (λ first. first
+        ≡ doubled_from ident_name ident_place None [] (flat_map group_columns items.now)) }
+{
+    let mut seen: IndexSet<Text> = IndexSet::new(alloc);
+    let mut first = None;
+    for item in items {
+        match item {
+            Group::Column(ident) => {
+                let name = Text::from_str(alloc, ident.text.as_str())?;
+                let (_, is_new) = seen.insert_full(name)?;
+                first = sooner(first, fault_if(is_new, ident.at));
+            }
+            Group::Window(_) => {}
+        }
+    }
+    Ok(first)
+}
+
+/// The first column of GROUP BY that stands there for a second time.
+#[tactic(auto, using(crate::proofs::Lists::doubled_is_first))]
+pub(crate) fn first_double_column(
+    alloc: Global,
+    items: &[Group],
+) -> Result<Option<BindFault>, AllocError>
+    ensures { IfOk result (FirstOf
+        (Doubled ident_name ident_place [] (flat_map group_columns items.now))) }
+{
+    let first = first_double_column_of(alloc, items)?;
+    Ok(first)
+}
+
+fn fault_at(cause: Cause, at: Option<usize>) -> Option<BindFault>
+    ensures { result ≡ fault_at cause at }
+{
+    match at {
+        Some(at) => Some(BindFault { at, cause }),
+        None => None,
+    }
+}
+
+/// A rule that is broken by what stands at a place, where something stands there.
+#[tactic(auto, using(crate::proofs::Nodes::first_rule))]
+pub(crate) fn standing(cause: Cause, at: Option<usize>) -> Option<BindFault>
+    ensures { FirstOf (Where (λ (place : ℕ). Rule cause place (Unit {0})) at) result }
+{
+    match at {
+        Some(at) => Some(BindFault { at, cause }),
+        None => None,
+    }
+}
+
+fn nth(places: &[usize], at: usize) -> Option<usize>
+    ensures { result ≡ slice_get places.now at }
+{
+    match places.get(at) {
+        Some(place) => Some(*place),
+        None => None,
+    }
+}
+
+/// A rule that is broken by what stands behind the first so many.
+pub(crate) fn past_places(cause: Cause, most: usize, places: &[usize]) -> Option<BindFault>
+    ensures { FirstOf (Past cause most places.now) result }
+{
+    standing(cause, nth(places, most))
+}
+
+fn place_of<P: Placed>(items: &[P], at: usize) -> Option<usize>
+    ensures { result ≡ slice_get (map P.place items.now) at }
+{
+    match items.get(at) {
+        Some(item) => Some(item.place()),
+        None => None,
+    }
+}
+
+/// A rule that is broken by what stands behind the first so many.
+pub(crate) fn past<P: Placed>(cause: Cause, most: usize, items: &[P]) -> Option<BindFault>
+    ensures { FirstOf (Past cause most (map P.place items.now)) result }
+{
+    standing(cause, place_of(items, most))
+}
+
+pub(crate) fn beyond_fault<P: Placed>(items: &[P]) -> Option<BindFault>
+    ensures { result ≡ past_fault cause.TooMany 64 (map P.place items.now) }
+{
+    fault_at(Cause::TooMany, place_of(items, 64))
+}
+
+/// A 65th of a list.
+pub(crate) fn beyond<P: Placed>(items: &[P]) -> Option<BindFault>
+    ensures { FirstOf (Beyond (map P.place items.now)) result }
+{
+    past(Cause::TooMany, 64, items)
+}

@@ -1,0 +1,137 @@
+//! The streams of a query, and the names that its expressions may use.
+
+ghost use Rattle.std.specs.Prelude.{◌≡◌, ◌++◌, map, IfOk, OnOk};
+ghost use Rattle.std.specs.List.{flat_map};
+ghost use Rattle.std.specs.Option.{option_map};
+ghost use Rattle.ssq_check.specs.Names.{column_of, watermark_name, source_of, declared, join_stream, row_scope, keys_of, group_keys};
+
+use crate::scope::{Key, Scope, Source, bare_spot};
+use ssq_ast::{ColumnDecl, Group, GroupBy, Join, Query, Stream, Watermark};
+use ssq_value::{Column, Sequence, Text};
+use std::alloc::{AllocError, Global};
+
+pub(crate) fn column_of(decl: &ColumnDecl) -> Result<Column, AllocError>
+    ensures { IfOk result (λ column. column ≡ column_of decl.now) }
+{
+    let name = decl.name.text.clone()?;
+    Ok(Column {
+        name,
+        kind: decl.kind,
+    })
+}
+
+pub(crate) fn columns_of(
+    alloc: Global,
+    decls: &[ColumnDecl],
+) -> Result<Sequence<Column>, AllocError>
+    ensures { IfOk result (λ columns. columns ≡ map column_of decls.now) }
+{
+    let mut columns = Sequence::new(alloc);
+    for decl in decls {
+        let column = column_of(decl)?;
+        columns.push(column)?;
+    }
+    Ok(columns)
+}
+
+fn watermark_name(watermark: &Option<Watermark>) -> Result<Option<Text>, AllocError>
+    ensures { IfOk result (λ name. name ≡ option_map watermark_name watermark.now) }
+{
+    match watermark {
+        Some(watermark) => {
+            let name = watermark.column.text.clone()?;
+            Ok(Some(name))
+        }
+        None => Ok(None),
+    }
+}
+
+/// What expressions see of a stream.
+fn source_of(alloc: Global, stream: &Stream) -> Result<Source, AllocError>
+    ensures { IfOk result (λ source. source ≡ source_of stream.now) }
+{
+    let name = stream.name.text.clone()?;
+    let columns = columns_of(alloc, stream.columns.as_slice())?;
+    let watermark = watermark_name(&stream.watermark)?;
+    Ok(Source {
+        name,
+        columns,
+        watermark,
+    })
+}
+
+/// The first stream that is declared under the name.
+fn declared(alloc: Global, streams: &[Stream], name: &str) -> Result<Option<Source>, AllocError>
+    ensures { IfOk result (λ source. source ≡ option_map source_of (declared streams.now name.now)) }
+{
+    for stream in streams {
+        if stream.name.text.as_str() == name {
+            let source = source_of(alloc, stream)?;
+            return Ok(Some(source));
+        }
+    }
+    Ok(None)
+}
+
+fn joined(
+    alloc: Global,
+    streams: &[Stream],
+    join: &Option<Join>,
+) -> Result<Option<Source>, AllocError>
+    ensures { IfOk result (λ source. source ≡ option_map source_of (join_stream streams.now join.now)) }
+{
+    match join {
+        Some(join) => declared(alloc, streams, join.stream.text.as_str()),
+        None => Ok(None),
+    }
+}
+
+/// The names of a query's rows.
+pub(crate) fn row_scope(alloc: Global, query: &Query) -> Result<Scope, AllocError>
+    ensures { IfOk result (λ scope. scope ≡ row_scope query.now) }
+{
+    let streams = query.streams.as_slice();
+    let left = declared(alloc, streams, query.select.from.text.as_str())?;
+    let right = joined(alloc, streams, &query.select.join)?;
+    Ok(Scope {
+        left,
+        right,
+        keys: Sequence::new(alloc),
+    })
+}
+
+fn push_key(scope: &Scope, item: &Group, keys: &mut Sequence<Key>) -> Result<(), AllocError>
+    ensures { OnOk result (keys.new ≡ keys.old ++ keys_of scope.now item.now) }
+{
+    match item {
+        Group::Column(ident) => match bare_spot(scope, ident) {
+            Ok(spot) => keys.push(Key::Column(spot)),
+            Err(_) => Ok(()),
+        },
+        Group::Window(_) => keys.push(Key::Window),
+    }
+}
+
+fn keys_in(alloc: Global, scope: &Scope, items: &[Group]) -> Result<Sequence<Key>, AllocError>
+    ensures { IfOk result (λ keys. keys ≡ flat_map (keys_of scope.now) items.now) }
+{
+    let mut keys = Sequence::new(alloc);
+    for item in items {
+        push_key(scope, item, &mut keys)?;
+    }
+    Ok(keys)
+}
+
+/// What GROUP BY lists, as far as its names are known.
+pub(crate) fn group_keys(
+    alloc: Global,
+    scope: &Scope,
+    group: &Option<GroupBy>,
+) -> Result<Sequence<Key>, AllocError>
+    ensures { IfOk result (λ keys. keys ≡ group_keys scope.now group.now) }
+{
+    match group {
+        Some(by) => keys_in(alloc, scope, by.items.as_slice()),
+        None => Ok(Sequence::new(alloc)),
+    }
+}

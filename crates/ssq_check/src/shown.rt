@@ -1,0 +1,115 @@
+//! The aggregates of SELECT and HAVING, and whether a query groups its rows.
+
+ghost use Rattle.std.specs.Prelude.{◌≡◌, ◌++◌, IfOk, OnOk};
+ghost use Rattle.std.specs.List.{flat_map};
+ghost use Rattle.ssq_check.specs.Shown.{aggregates, item_aggregates, having_aggregates, group_place_by, within_by};
+
+use crate::scope::Within;
+use ssq_ast::{Condition, Expr, GroupBy, Item};
+use ssq_value::Sequence;
+use std::alloc::{AllocError, Global};
+
+/// Adds the places of the aggregates that stand in no other.
+#[tactic(auto, unfolding(crate::specs::Shown::aggregates))]
+fn add_aggregates(value: &Expr, places: &mut Sequence<usize>) -> Result<(), AllocError>
+    ensures { OnOk result (places.new ≡ places.old ++ aggregates value.now) }
+{
+    match value {
+        Expr::Number { .. } => Ok(()),
+        Expr::Text { .. } => Ok(()),
+        Expr::Truth { .. } => Ok(()),
+        Expr::Timestamp { .. } => Ok(()),
+        Expr::Interval { .. } => Ok(()),
+        Expr::Column { .. } => Ok(()),
+        Expr::CountRows { at } => {
+            places.push(*at)?;
+            Ok(())
+        }
+        Expr::Aggregate { at, .. } => {
+            places.push(*at)?;
+            Ok(())
+        }
+        Expr::Unary { operand, .. } => {
+            add_aggregates(operand.get(), places)?;
+            Ok(())
+        }
+        Expr::IsNull { operand, .. } => {
+            add_aggregates(operand.get(), places)?;
+            Ok(())
+        }
+        Expr::Binary { left, right, .. } => {
+            add_aggregates(left.get(), places)?;
+            add_aggregates(right.get(), places)?;
+            Ok(())
+        }
+        Expr::Between {
+            operand,
+            low,
+            high,
+            ..
+        } => {
+            add_aggregates(operand.get(), places)?;
+            add_aggregates(low.get(), places)?;
+            add_aggregates(high.get(), places)?;
+            Ok(())
+        }
+    }
+}
+
+fn add_of_item(item: &Item, places: &mut Sequence<usize>) -> Result<(), AllocError>
+    ensures { OnOk result (places.new ≡ places.old ++ item_aggregates item.now) }
+{
+    match item {
+        Item::Column { .. } => Ok(()),
+        Item::Named { value, .. } => add_aggregates(value, places),
+    }
+}
+
+fn add_of_items(items: &[Item], places: &mut Sequence<usize>) -> Result<(), AllocError>
+    ensures { OnOk result (places.new ≡ places.old ++ flat_map item_aggregates items.now) }
+{
+    for item in items {
+        add_of_item(item, places)?;
+    }
+    Ok(())
+}
+
+fn add_of_having(having: &Option<Condition>, places: &mut Sequence<usize>) -> Result<(), AllocError>
+    ensures { OnOk result (places.new ≡ places.old ++ having_aggregates having.now) }
+{
+    match having {
+        Some(condition) => add_aggregates(&condition.value, places),
+        None => Ok(()),
+    }
+}
+
+/// The places of the aggregates that SELECT and HAVING show.
+pub(crate) fn shown_aggregates(
+    alloc: Global,
+    items: &[Item],
+    having: &Option<Condition>,
+) -> Result<Sequence<usize>, AllocError>
+    ensures { IfOk result (λ places. places
+        ≡ flat_map item_aggregates items.now ++ having_aggregates having.now) }
+{
+    let mut places = Sequence::new(alloc);
+    add_of_items(items, &mut places)?;
+    add_of_having(having, &mut places)?;
+    Ok(places)
+}
+
+/// Where a query says that it groups its rows.
+pub(crate) fn group_place(group: &Option<GroupBy>, aggregates: &[usize]) -> Option<usize>
+    ensures { result ≡ group_place_by group.now aggregates.now }
+{
+    match group {
+        Some(by) => Some(by.at),
+        None => aggregates.first().copied(),
+    }
+}
+
+pub(crate) fn within(is_group: bool) -> Within
+    ensures { result ≡ within_by is_group }
+{
+    if is_group { Within::Group } else { Within::Row }
+}

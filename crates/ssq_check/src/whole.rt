@@ -1,0 +1,185 @@
+//! A whole query: the first of the rules that it breaks.
+
+ghost use Rattle.std.specs.Prelude.{◌≡◌, ◌||◌, Option, OnOk, IfOk, IfErr};
+ghost use Rattle.ssq_check.specs.Erased.{TypesStay};
+ghost use Rattle.ssq_check.specs.Worked.{AreWorked};
+ghost use Rattle.ssq_check.specs.Fault.{AreNone, FirstOf};
+ghost use Rattle.ssq_check.specs.Lists.{Where};
+ghost use Rattle.ssq_check.specs.Names.{is_there};
+ghost use Rattle.ssq_check.specs.Sound.{IsSound};
+ghost use Rattle.ssq_check.specs.Whole.{LimitFaults, DeduplicatedTwice, GroupedTwice, StatefulFaults, WordFaults, RowFaults, ShownFaults, QueryFaults, IsRefusedBy};
+
+use crate::clause::{
+    check_deduplicate, check_filter, check_group, check_having, check_join, check_order,
+};
+use crate::fault::{BindFault, Cause, Refusal, rule, sooner, unless};
+use crate::item::check_items;
+use crate::list::{beyond, past_places, standing};
+use crate::names::{group_keys, row_scope};
+use crate::scope::{Key, Scope};
+use crate::shown::{group_place, shown_aggregates, within};
+use crate::stream::check_streams;
+use ssq_ast::{Deduplicate, Limit, Query, Select};
+use ssq_value::Sequence;
+use std::alloc::{AllocError, Global};
+
+fn with_keys(scope: Scope, keys: Sequence<Key>) -> Scope
+    ensures { result ≡ record { left = scope.left; right = scope.right; keys = keys } }
+{
+    Scope {
+        left: scope.left,
+        right: scope.right,
+        keys,
+    }
+}
+
+fn is_either(is_join: bool, deduplicate: &Option<Deduplicate>) -> bool
+    ensures { result ≡ (is_join || is_there deduplicate.now) }
+{
+    is_join || deduplicate.is_some()
+}
+
+#[tactic(auto, using(crate::proofs::Nodes::first_rule))]
+fn check_limit(limit: &Option<Limit>) -> Option<BindFault>
+    ensures { FirstOf (Where LimitFaults limit.now) result }
+{
+    match limit {
+        Some(limit) => Some(BindFault {
+            at: limit.at,
+            cause: Cause::Limit,
+        }),
+        None => None,
+    }
+}
+
+fn check_twice(is_join: bool, deduplicate: &Option<Deduplicate>) -> Option<BindFault>
+    ensures { FirstOf (Where (DeduplicatedTwice is_join) deduplicate.now) result }
+{
+    match deduplicate {
+        Some(deduplicate) => rule(Cause::TwoStateful, deduplicate.at, is_join),
+        None => None,
+    }
+}
+
+fn check_grouped(is_other: bool, grouped: Option<usize>) -> Option<BindFault>
+    ensures { FirstOf (Where (GroupedTwice is_other) grouped) result }
+{
+    match grouped {
+        Some(at) => rule(Cause::TwoStateful, at, is_other),
+        None => None,
+    }
+}
+
+#[tactic(auto, using(crate::proofs::First::first_sooner))]
+fn check_stateful(
+    is_join: bool,
+    deduplicate: &Option<Deduplicate>,
+    grouped: Option<usize>,
+) -> Option<BindFault>
+    ensures { FirstOf (StatefulFaults is_join deduplicate.now grouped) result }
+{
+    let is_other = is_either(is_join, deduplicate);
+    sooner(
+        check_twice(is_join, deduplicate),
+        check_grouped(is_other, grouped),
+    )
+}
+
+#[tactic(auto, using(crate::proofs::First::first_sooner))]
+fn check_words(select: &Select, grouped: Option<usize>) -> Option<BindFault>
+    ensures { FirstOf (WordFaults select.now grouped) result }
+{
+    let distinct = standing(Cause::Distinct, select.distinct);
+    let limit = check_limit(&select.limit);
+    let stateful = check_stateful(select.join.is_some(), &select.deduplicate, grouped);
+    sooner(distinct, sooner(limit, stateful))
+}
+
+#[tactic(auto, using(crate::proofs::First::first_sooner))]
+fn check_rows(
+    alloc: Global,
+    scope: &Scope,
+    select: &Select,
+) -> Result<Option<BindFault>, AllocError>
+    ensures { IfOk result (FirstOf (RowFaults scope.now select.now)) }
+{
+    let from = unless(Cause::UnknownName, select.from.at, scope.left.is_some());
+    let join = check_join(scope, select.from.text.as_str(), &select.join);
+    let filter = check_filter(scope, &select.filter);
+    let deduplicate = check_deduplicate(alloc, scope, &select.deduplicate)?;
+    let group = check_group(alloc, scope, &select.group)?;
+    Ok(sooner(
+        from,
+        sooner(join, sooner(filter, sooner(deduplicate, group))),
+    ))
+}
+
+#[tactic(auto, using(crate::proofs::First::first_sooner))]
+fn check_shown(
+    alloc: Global,
+    scope: &Scope,
+    grouped: Option<usize>,
+    places: &[usize],
+    select: &Select,
+) -> Result<Option<BindFault>, AllocError>
+    ensures { IfOk result (FirstOf (ShownFaults scope.now grouped places.now select.now)) }
+{
+    let is_group = grouped.is_some();
+    let within = within(is_group);
+    let items = check_items(alloc, scope, within, select.items.as_slice())?;
+    let many = beyond(select.items.as_slice());
+    let aggregates = past_places(Cause::TooMany, 64, places);
+    let having = check_having(scope, within, is_group, &select.having);
+    let order = check_order(alloc, select.items.as_slice(), select.order.as_slice())?;
+    Ok(sooner(
+        items,
+        sooner(many, sooner(aggregates, sooner(having, order))),
+    ))
+}
+
+/// The first fault of a query.
+#[tactic(auto, using(crate::proofs::First::first_sooner))]
+fn check_query(alloc: Global, query: &Query) -> Result<Option<BindFault>, AllocError>
+    ensures { IfOk result (FirstOf (QueryFaults query.now)) }
+{
+    let select = &query.select;
+    let streams = check_streams(alloc, query.streams.as_slice())?;
+    let names = row_scope(alloc, query)?;
+    let rows = check_rows(alloc, &names, select)?;
+    let keys = group_keys(alloc, &names, &select.group)?;
+    let scope = with_keys(names, keys);
+    let places = shown_aggregates(alloc, select.items.as_slice(), &select.having)?;
+    let grouped = group_place(&select.group, places.as_slice());
+    let shown = check_shown(alloc, &scope, grouped, places.as_slice(), select)?;
+    let words = check_words(select, grouped);
+    Ok(sooner(streams, sooner(rows, sooner(shown, words))))
+}
+
+/// Whether a query breaks no rule of binding.
+///
+/// # Errors
+///
+/// [`Refusal::Broken`] is the first of the rules that it breaks: the one with the least place, and of several at one
+/// place the one that stands first in [`Cause`]. [`Refusal::NoMemory`] is want of memory alone.
+#[tactic(auto, using(crate::proofs::SoundLemmas::sound_where_none))]
+pub fn check(alloc: Global, query: &Query) -> Result<(), Refusal>
+    ensures taken { OnOk result (AreNone (QueryFaults query.now)) }
+    ensures sound { OnOk result (IsSound query.now) }
+    ensures refused { IfErr result (IsRefusedBy (QueryFaults query.now)) }
+{
+    match check_query(alloc, query) {
+        Ok(None) => Ok(()),
+        Ok(Some(fault)) => Err(Refusal::Broken(fault)),
+        Err(_) => Err(Refusal::NoMemory),
+    }
+}
+
+/// Small values.
+pub fn small_values()
+    ensures { AreWorked }
+{}
+
+/// The law of places: the type of an expression doesn't depend on them.
+pub fn types_stay()
+    ensures { TypesStay }
+{}
