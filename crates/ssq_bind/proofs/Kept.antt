@@ -1,0 +1,266 @@
+-- What is bound has the type that it has where it is written.
+use Rattle.std.proofs.Common.{◌≡◌, ◌∙◌, ap, sym, refl, ℕ, zero, suc, ◌+◌, ◌<◌, ℤ, Bool, true, false, ◌&&◌, nat_lt, List, [], ◌∷◌, ◌++◌, length, Option, Some, None, Result, Ok, Err, arith}
+use Rattle.std.specs.Prelude.{slice_get, position, if◌then◌else◌, IfSome, IfOk}
+use Rattle.std.specs.Option.{option_map}
+use Rattle.std.proofs.lemmas.Option.{slice_get-map, slice_get_within}
+use Rattle.std.proofs.lemmas.Bool.{lt-ltb}
+use Rattle.ssq_value.specs.declared.column.ColType.{ColType}
+use Rattle.ssq_value.specs.declared.column.ColType.TheVariants as type
+use Rattle.ssq_value.specs.declared.column.Column.{Column}
+use Rattle.ssq_shape.specs.Kinds.{is_kind, gives, kind_with}
+use Rattle.ssq_shape.specs.declared.typed.Typed.{Typed}
+use Rattle.ssq_shape.specs.declared.typed.Typed.TheVariants as typed
+use Rattle.ssq_ast.specs.declared.expr.BinaryOp.{BinaryOp}
+use Rattle.ssq_ast.specs.declared.expr.BinaryOp.TheVariants as op
+use Rattle.ssq_ast.specs.declared.expr.Expr.{Expr}
+use Rattle.ssq_ast.specs.declared.expr.Expr.TheVariants as expr
+use Rattle.ssq_ast.specs.declared.expr.Ident.{Ident}
+use Rattle.ssq_ast.specs.declared.expr.NullTest.{NullTest}
+use Rattle.ssq_ast.specs.declared.expr.NullTest.TheVariants as null_test
+use Rattle.ssq_ast.specs.declared.expr.UnaryOp.{UnaryOp}
+use Rattle.ssq_ast.specs.declared.expr.UnaryOp.TheVariants as unary_op
+use Rattle.ssq_ast.specs.Expression.{only}
+use Rattle.ssq_check.specs.declared.fault.BindFault.{BindFault}
+use Rattle.ssq_check.specs.declared.scope.Key.{Key}
+use Rattle.ssq_check.specs.declared.scope.Scope.{Scope}
+use Rattle.ssq_check.specs.declared.scope.Side.TheVariants as side
+use Rattle.ssq_check.specs.declared.scope.Source.{Source}
+use Rattle.ssq_check.specs.declared.scope.Spot.{Spot}
+use Rattle.ssq_check.specs.declared.scope.Within.TheVariants as within
+use Rattle.ssq_check.specs.Joined.{spot_in, spot_by}
+use Rattle.ssq_check.specs.Rules.{operands_of, operator_kind, unary_kind, between_kind, divides, is_sum, is_shift, type_of, of_one, together, if_divides, kind}
+use Rattle.ssq_check.specs.Scope.{spot_from, spot_where, in_source, only_one, known, source_named, bare_spot, named_spot, grouped, column_kind_by}
+use Rattle.ssq_bind.specs.declared.context.Context.{Context}
+use Rattle.ssq_bind.specs.Typed.{column_kinds, source_kinds, row_kinds}
+use Rattle.ssq_bind.specs.Value.{width, behind, row_index, unary_value, null_value, binary_value, between_value, shift_of, shift_by, shifted_or, shifted_value, count, value_of}
+
+-- ---- columns
+
+in_left : {A : Type 0} (xs ys : List A) (k : ℕ) (x : A) → slice_get xs k ≡ Some x → slice_get (xs ++ ys) k ≡ Some x
+in_left [] ys k x is = absurd cc
+in_left (z ∷ xs) ys zero x is = is
+in_left (z ∷ xs) ys (suc k) x is = in_left xs ys k x is
+
+one_more : (n m k : ℕ) → n ≡ suc m → n + k ≡ suc (m + k)
+one_more n m k is = omega (arith, is)
+
+none_more : (k : ℕ) → 0 + k ≡ k
+none_more k = omega arith
+
+in_right : {A : Type 0} (xs ys : List A) (k : ℕ) → slice_get (xs ++ ys) (length xs + k) ≡ slice_get ys k
+in_right [] ys k = ap (slice_get ys) (none_more k)
+in_right (x ∷ xs) ys k = ap (slice_get (x ∷ (xs ++ ys))) (one_more (length (x ∷ xs)) (length xs) k refl) ∙ in_right xs ys k
+
+length_kinds : (columns : List Column) → length (column_kinds columns) ≡ length columns
+length_kinds [] = refl
+length_kinds (column ∷ columns) = ap suc (length_kinds columns)
+
+width_is : (source : Option Source) → length (source_kinds source) ≡ width source
+width_is None = refl
+width_is (Some source) = length_kinds source.columns
+
+module _ (scope : Scope) where
+  -- a column stands in the row where it is looked up, with its type
+  abbrev Stands : Spot → Type 0
+  Stands spot = slice_get (row_kinds scope) (row_index scope (Some spot)) ≡ Some spot.kind
+
+  on_left : (source : Source) (at : ℕ) (got : Option Column) → scope.left ≡ Some source → slice_get source.columns at ≡ got → IfSome (spot_from side.Left at got) Stands
+  on_left source at None stands is = tt
+  on_left source at (Some column) stands is =
+      in_left (source_kinds scope.left) (source_kinds scope.right) at column.kind
+      (rw stands (slice_get-map (λ (x : Column). x.kind) source.columns at ∙ ap (option_map (λ (x : Column). x.kind)) is))
+
+  if_true : {A : Type 0} (b : Bool) (x y : A) → b ≡ true → (if b then x else y) ≡ x
+  if_true true x y is = refl
+  if_true false x y is = absurd cc
+
+  lt_true : (m n : ℕ) → m < n → nat_lt m n ≡ true
+  lt_true m n less = lt-ltb m n less
+
+  on_right : (source : Source) (at : ℕ) (got : Option Column) → scope.right ≡ Some source → slice_get source.columns at ≡ got → IfSome (spot_from side.Right at got) Stands
+  on_right source at None stands is = tt
+  on_right source at (Some column) stands is =
+      let within : at < width scope.right = rw stands (slice_get_within source.columns at column is) in
+      let index : behind (width scope.left) (width scope.right) at ≡ length (source_kinds scope.left) + at = if_true (nat_lt at (width scope.right)) (width scope.left + at) 0 (lt_true at (width scope.right) within) ∙ (λ i. sym (width_is scope.left) i + at) in
+      ap (slice_get (row_kinds scope)) index
+      ∙ in_right (source_kinds scope.left) (source_kinds scope.right) at
+      ∙ rw stands (slice_get-map (λ (x : Column). x.kind) source.columns at ∙ ap (option_map (λ (x : Column). x.kind)) is)
+
+  left_place : (source : Source) (place : Option ℕ) → scope.left ≡ Some source → IfSome (spot_where side.Left source.columns place) Stands
+  left_place source None stands = tt
+  left_place source (Some at) stands = on_left source at (slice_get source.columns at) stands refl
+
+  right_place : (source : Source) (place : Option ℕ) → scope.right ≡ Some source → IfSome (spot_where side.Right source.columns place) Stands
+  right_place source None stands = tt
+  right_place source (Some at) stands = on_right source at (slice_get source.columns at) stands refl
+
+  in_left_source : (source : Option Source) (name : List ℕ) → scope.left ≡ source → IfSome (in_source side.Left source name) Stands
+  in_left_source None name is = tt
+  in_left_source (Some source) name is = left_place source (position (λ (column : Column). Rattle.std.specs.Str.bytes_eq column.name name) source.columns) is
+
+  in_right_source : (source : Option Source) (name : List ℕ) → scope.right ≡ source → IfSome (in_source side.Right source name) Stands
+  in_right_source None name is = tt
+  in_right_source (Some source) name is = right_place source (position (λ (column : Column). Rattle.std.specs.Str.bytes_eq column.name name) source.columns) is
+
+  only_stands : (left right : Option Spot) (at : ℕ) → IfSome left Stands → IfSome right Stands → IfOk (only_one left right at) Stands
+  only_stands (Some left) (Some right) at a b = tt
+  only_stands (Some left) None at a b = a
+  only_stands None (Some right) at a b = b
+  only_stands None None at a b = tt
+
+  known_stands : (spot : Option Spot) (at : ℕ) → IfSome spot Stands → IfOk (known spot at) Stands
+  known_stands None at is = tt
+  known_stands (Some spot) at is = is
+
+  one_stands : (a b : Bool) (x y z : Result Spot BindFault) → IfOk x Stands → IfOk y Stands → IfOk z Stands → IfOk (if a then x else if b then y else z) Stands
+  one_stands true b x y z p q r = p
+  one_stands false true x y z p q r = q
+  one_stands false false x y z p q r = r
+
+  spot_stands : (stream : Option Ident) (column : Ident) → IfOk (spot_by scope stream column) Stands
+  spot_stands None column = only_stands (in_source side.Left scope.left column.text) (in_source side.Right scope.right column.text) column.at (in_left_source scope.left column.text refl) (in_right_source scope.right column.text refl)
+  spot_stands (Some stream) column =
+      one_stands (source_named scope.left stream.text) (source_named scope.right stream.text) _ _ _
+      (known_stands (in_source side.Left scope.left column.text) column.at (in_left_source scope.left column.text refl))
+      (known_stands (in_source side.Right scope.right column.text) column.at (in_right_source scope.right column.text refl))
+      tt
+
+-- ---- operators
+
+module _ (aggregates kinds : List ColType) where
+  -- the expression has this type, where there is one
+  abbrev Has : Option ColType → Typed → Type 0
+  Has own x = IfSome own (λ t. kind_with aggregates kinds x ≡ Some t)
+
+  has : (own : Option ColType) (x : Typed) → kind_with aggregates kinds x ≡ own → Has own x
+  has None x is = tt
+  has (Some t) x is = is
+
+  unary_has : (o : UnaryOp) (own : Option ColType) (x : Typed) → Has own x → Has (of_one (unary_kind o) own) (unary_value o x)
+  unfolding kind_with
+  unary_has o None x is = tt
+  unary_has unary_op.Not (Some t) x is = has (gives type.Bool (is_kind type.Bool (Some t))) (unary_value unary_op.Not x) (rw is refl)
+  unary_has unary_op.Minus (Some t) x is = has (gives type.Bigint (is_kind type.Bigint (Some t))) (unary_value unary_op.Minus x) (rw is refl)
+
+  null_has : (test : NullTest) (own : Option ColType) (x : Typed) → Has own x → Has (of_one (λ t. Some type.Bool) own) (null_value test x)
+  unfolding kind_with
+  null_has test None x is = tt
+  null_has null_test.Null (Some t) x is = rw is refl
+  null_has null_test.NotNull (Some t) x is = rw is refl
+
+  operator_has : (o : BinaryOp) (a b : ColType) (x y : Typed) → kind_with aggregates kinds x ≡ Some a → kind_with aggregates kinds y ≡ Some b → kind_with aggregates kinds (binary_value o x y) ≡ operator_kind (operands_of o) a b
+  unfolding kind_with
+  operator_has op.Or a b x y p q = rw (p, q) refl
+  operator_has op.And a b x y p q = rw (p, q) refl
+  operator_has op.Equal a b x y p q = rw (p, q) refl
+  operator_has op.NotEqual a b x y p q = rw (p, q) refl
+  operator_has op.Less a b x y p q = rw (p, q) refl
+  operator_has op.AtMost a b x y p q = rw (p, q) refl
+  operator_has op.Greater a b x y p q = rw (p, q) refl
+  operator_has op.AtLeast a b x y p q = rw (p, q) refl
+  operator_has op.Add a b x y p q = rw (p, q) refl
+  operator_has op.Subtract a b x y p q = rw (p, q) refl
+  operator_has op.Concat a b x y p q = rw (p, q) refl
+  operator_has op.Multiply a b x y p q = rw (p, q) refl
+  operator_has op.Divide a b x y p q = rw (p, q) refl
+  operator_has op.Remainder a b x y p q = rw (p, q) refl
+
+  binary_has : (o : BinaryOp) (divided : Bool) (a b : Option ColType) (x y : Typed) → Has a x → Has b y → Has (if_divides divided (of_one (λ pair. operator_kind (operands_of o) pair.0 pair.1) (together a b))) (binary_value o x y)
+  binary_has o false a b x y p q = tt
+  binary_has o true None b x y p q = tt
+  binary_has o true (Some a) None x y p q = tt
+  binary_has o true (Some a) (Some b) x y p q = has (operator_kind (operands_of o) a b) (binary_value o x y) (operator_has o a b x y p q)
+
+  between_has : (a b c : Option ColType) (x y z : Typed) → Has a x → Has b y → Has c z → Has (of_one (λ triple. between_kind triple.0.0 triple.0.1 triple.1) (together (together a b) c)) (between_value x y z)
+  unfolding kind_with
+  between_has None b c x y z p q r = tt
+  between_has (Some a) None c x y z p q r = tt
+  between_has (Some a) (Some b) None x y z p q r = tt
+  between_has (Some a) (Some b) (Some c) x y z p q r = has (between_kind a b c) (between_value x y z) (rw (p, q, r) refl)
+
+  shifted_has : (own : Option ColType) (x : Typed) (by : ℤ) → Has own x → is_kind type.Timestamp own ≡ true → kind_with aggregates kinds (shifted_value x by) ≡ Some type.Timestamp
+  unfolding kind_with
+  shifted_has None x by is time = absurd cc
+  shifted_has (Some own) x by is time = rw (is, time) refl
+
+  none_has : (o : BinaryOp) (divided : Bool) (a : Option ColType) (x : Typed) → Has (if_divides divided (of_one (λ pair. operator_kind (operands_of o) pair.0 pair.1) (together {B = ColType} a None))) x
+  none_has o false a x = tt
+  none_has o true None x = tt
+  none_has o true (Some a) x = tt
+
+  -- a span behind an operator: a time in front of `+` and `-` is shifted, and nothing else has a type
+  span_has : (o : BinaryOp) (time divided : Bool) (a : Option ColType) (x y : Typed) (by : ℤ) → is_kind type.Timestamp a ≡ time → Has a x →
+      Has (if is_sum o && true && time then Some type.Timestamp else if_divides divided (of_one (λ pair. operator_kind (operands_of o) pair.0 pair.1) (together {B = ColType} a None))) (shifted_or (shift_by o by) x (binary_value o x y))
+  span_has op.Add true divided a x y by is p = shifted_has a x by p is
+  span_has op.Add false divided a x y by is p = none_has op.Add divided a _
+  span_has op.Subtract true divided a x y by is p = shifted_has a x _ p is
+  span_has op.Subtract false divided a x y by is p = none_has op.Subtract divided a _
+  span_has op.Or time divided a x y by is p = none_has op.Or divided a _
+  span_has op.And time divided a x y by is p = none_has op.And divided a _
+  span_has op.Equal time divided a x y by is p = none_has op.Equal divided a _
+  span_has op.NotEqual time divided a x y by is p = none_has op.NotEqual divided a _
+  span_has op.Less time divided a x y by is p = none_has op.Less divided a _
+  span_has op.AtMost time divided a x y by is p = none_has op.AtMost divided a _
+  span_has op.Greater time divided a x y by is p = none_has op.Greater divided a _
+  span_has op.AtLeast time divided a x y by is p = none_has op.AtLeast divided a _
+  span_has op.Concat time divided a x y by is p = none_has op.Concat divided a _
+  span_has op.Multiply time divided a x y by is p = none_has op.Multiply divided a _
+  span_has op.Divide time divided a x y by is p = none_has op.Divide divided a _
+  span_has op.Remainder time divided a x y by is p = none_has op.Remainder divided a _
+
+  no_shift : (sum time : Bool) → (sum && false && time) ≡ false
+  no_shift true time = refl
+  no_shift false time = refl
+
+  -- anything else behind it
+  other_has : (o : BinaryOp) (time divided : Bool) (a b : Option ColType) (x y : Typed) → Has a x → Has b y →
+      Has (if is_sum o && false && time then Some type.Timestamp else if_divides divided (of_one (λ pair. operator_kind (operands_of o) pair.0 pair.1) (together a b))) (binary_value o x y)
+  other_has o time divided a b x y p q = rw (no_shift (is_sum o) time) (binary_has o divided a b x y p q)
+
+  module _ (scope : Scope) (o : BinaryOp) (divided : Bool) (a : Option ColType) (x y : Typed) where
+    behind_has : (b : Expr) → Has a x → Has (kind scope within.Row b) y →
+        Has (if is_shift o a b then Some type.Timestamp else if_divides divided (of_one (λ pair. operator_kind (operands_of o) pair.0 pair.1) (together a (kind scope within.Row b)))) (shifted_or (shift_of o b) x (binary_value o x y))
+    unfolding kind shift_of
+    behind_has (expr.Interval span at) p q = span_has o (is_kind type.Timestamp a) divided a x y span.micros refl p
+    behind_has (expr.Number n at) p q = other_has o (is_kind type.Timestamp a) divided a _ x y p q
+    behind_has (expr.Text text at) p q = other_has o (is_kind type.Timestamp a) divided a _ x y p q
+    behind_has (expr.Truth truth at) p q = other_has o (is_kind type.Timestamp a) divided a _ x y p q
+    behind_has (expr.Timestamp moment at) p q = other_has o (is_kind type.Timestamp a) divided a _ x y p q
+    behind_has (expr.Column column) p q = other_has o (is_kind type.Timestamp a) divided a (kind scope within.Row (expr.Column column)) x y p q
+    behind_has (expr.CountRows at) p q = other_has o (is_kind type.Timestamp a) divided a (kind scope within.Row (expr.CountRows at)) x y p q
+    behind_has (expr.Aggregate' f at r (only e)) p q = other_has o (is_kind type.Timestamp a) divided a (kind scope within.Row (expr.Aggregate' f at r (only e))) x y p q
+    behind_has (expr.Unary' u at r (only e)) p q = other_has o (is_kind type.Timestamp a) divided a (kind scope within.Row (expr.Unary' u at r (only e))) x y p q
+    behind_has (expr.IsNull' r (only e) at test) p q = other_has o (is_kind type.Timestamp a) divided a (kind scope within.Row (expr.IsNull' r (only e) at test)) x y p q
+    behind_has (expr.Binary' left_at r (only e) u at right_at s (only f)) p q = other_has o (is_kind type.Timestamp a) divided a (kind scope within.Row (expr.Binary' left_at r (only e) u at right_at s (only f))) x y p q
+    behind_has (expr.Between' r (only e) at s (only f) u (only g)) p q = other_has o (is_kind type.Timestamp a) divided a (kind scope within.Row (expr.Between' r (only e) at s (only f) u (only g))) x y p q
+
+-- ---- the whole
+
+spot_has : (scope : Scope) (keys : List Key) (at : ℕ) (r : Result Spot BindFault) → IfOk r (Stands scope) → Has [] (row_kinds scope) (type_of (grouped keys within.Row at r)) (typed.Column (row_index scope (spot_in r)))
+unfolding kind_with
+spot_has scope keys at (Err f) is = tt
+spot_has scope keys at (Ok spot) is = is
+
+column_has : (scope : Scope) (stream : Option Ident) (column : Ident) → Has [] (row_kinds scope) (type_of (column_kind_by scope within.Row stream column)) (typed.Column (row_index scope (spot_in (spot_by scope stream column))))
+column_has scope None column = spot_has scope scope.keys column.at (bare_spot scope column) (spot_stands scope None column)
+column_has scope (Some stream) column = spot_has scope scope.keys stream.at (named_spot scope stream column) (spot_stands scope (Some stream) column)
+
+pub row_typed : (context : Context) (n : ℕ) (e : Expr) → Has [] (row_kinds context.scope) (kind context.scope within.Row e) (value_of context within.Row n e)
+unfolding kind value_of kind_with
+row_typed context n (expr.Number m at) = refl
+row_typed context n (expr.Text text at) = refl
+row_typed context n (expr.Truth truth at) = refl
+row_typed context n (expr.Timestamp moment at) = refl
+row_typed context n (expr.Interval span at) = tt
+row_typed context n (expr.Column column) = column_has context.scope column.stream column.column
+row_typed context n (expr.CountRows at) = tt
+row_typed context n (expr.Aggregate' f at p (only x)) = tt
+row_typed context n (expr.Unary' o at p (only x)) = unary_has [] (row_kinds context.scope) o (kind context.scope within.Row x) (value_of context within.Row n x) (row_typed context n x)
+row_typed context n (expr.IsNull' p (only x) at test) = null_has [] (row_kinds context.scope) test (kind context.scope within.Row x) (value_of context within.Row n x) (row_typed context n x)
+row_typed context n (expr.Binary' left_at p (only a) o at right_at q (only b)) =
+    behind_has [] (row_kinds context.scope) context.scope o (divides o b) (kind context.scope within.Row a) (value_of context within.Row n a) (value_of context within.Row (n + count within.Row a) b) b
+    (row_typed context n a) (row_typed context (n + count within.Row a) b)
+row_typed context n (expr.Between' p (only a) at q (only b) r (only c)) =
+    between_has [] (row_kinds context.scope) (kind context.scope within.Row a) (kind context.scope within.Row b) (kind context.scope within.Row c)
+    (value_of context within.Row n a) (value_of context within.Row (n + count within.Row a) b) (value_of context within.Row (n + (count within.Row a + count within.Row b)) c)
+    (row_typed context n a) (row_typed context (n + count within.Row a) b) (row_typed context (n + (count within.Row a + count within.Row b)) c)

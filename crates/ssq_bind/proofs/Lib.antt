@@ -1,0 +1,9 @@
+pub mod Boxed
+pub mod Events
+pub mod Filled
+pub mod Joined
+pub mod Kept
+pub mod Made
+pub mod Opened
+pub mod TimedLemmas
+pub mod Grown

@@ -1,0 +1,57 @@
+use Rattle.std.proofs.Common.{refl, length}
+use Rattle.ssq_bind.specs.Value.{unary_value, null_value, shift_of, value_of, aggregates_of}
+use Rattle.ssq_bind.proofs.Opened.{on_ok, one_value, two_values, three_values, found_one, found_given, found_both, found_three, value_aggregate, found_aggregate, value_unary, found_unary, value_null, found_null, value_binary, found_binary, value_between, found_between}
+use Rattle.ssq_bind.proofs.value.+value_of.Goals as goal
+
+pub returns-in_ok-argument-in-Aggregate-clause-value : goal.returns-in_ok-argument-in-Aggregate-clause-value
+returns-in_ok-argument-in-Aggregate-clause-value t c =
+    rw (value_aggregate c.args.context.now c.args.within (length c.args.found.now) c.args.value.now c.in-Aggregate.function c.in-Aggregate.at c.in-Aggregate.argument c.in-Aggregate.is) c.numbered-in-Aggregate.ensures.value
+
+pub returns-in_ok-argument-in-Aggregate-clause-found : goal.returns-in_ok-argument-in-Aggregate-clause-found
+returns-in_ok-argument-in-Aggregate-clause-found t c =
+    found_given c.numbered-in-Aggregate.result c.args.context.now c.args.within c.numbered-in-Aggregate.new.found c.args.found.now (aggregates_of c.args.context.now c.args.within c.args.value.now) _ c.in-Aggregate.function c.function_of.result c.in_ok-argument-in-Aggregate.argument c.get.result.now
+    (found_aggregate c.args.context.now c.args.within (length c.args.found.now) c.args.value.now c.in-Aggregate.function c.in-Aggregate.at c.in-Aggregate.argument c.get.result.now c.in-Aggregate.is c.get.ensures)
+    c.function_of.ensures c.new-none.ensures c.in_ok-argument-in-Aggregate.ensures.value c.numbered-in-Aggregate.ensures.found
+
+pub returns-in_ok-operand-in-Unary-clause-value : goal.returns-in_ok-operand-in-Unary-clause-value
+returns-in_ok-operand-in-Unary-clause-value t c =
+    one_value c.unary_value.result (unary_value c.in-Unary.op) (value_of c.args.context.now c.args.within (length c.args.found.now) c.args.value.now) c.in_ok-operand-in-Unary.operand (value_of c.args.context.now c.args.within (length c.args.found.now) c.get-in-Unary.result.now)
+    (value_unary c.args.context.now c.args.within (length c.args.found.now) c.args.value.now c.in-Unary.op c.in-Unary.at c.in-Unary.operand c.get-in-Unary.result.now c.in-Unary.is c.get-in-Unary.ensures)
+    c.in_ok-operand-in-Unary.ensures.value c.unary_value.ensures
+
+pub returns-in_ok-operand-in-Unary-clause-found : goal.returns-in_ok-operand-in-Unary-clause-found
+returns-in_ok-operand-in-Unary-clause-found t c =
+    on_ok c.unary_value.result _ (found_one c.args.found.now c.value_of-in-Unary.new.found _ (aggregates_of c.args.context.now c.args.within c.args.value.now) c.in_ok-operand-in-Unary.ensures.found
+    (found_unary c.args.context.now c.args.within (length c.args.found.now) c.args.value.now c.in-Unary.op c.in-Unary.at c.in-Unary.operand c.get-in-Unary.result.now c.in-Unary.is c.get-in-Unary.ensures))
+
+pub returns-in_ok-operand-in-IsNull-clause-value : goal.returns-in_ok-operand-in-IsNull-clause-value
+returns-in_ok-operand-in-IsNull-clause-value t c =
+    one_value c.null_value.result (null_value c.in-IsNull.test) (value_of c.args.context.now c.args.within (length c.args.found.now) c.args.value.now) c.in_ok-operand-in-IsNull.operand (value_of c.args.context.now c.args.within (length c.args.found.now) c.get-in-IsNull.result.now)
+    (value_null c.args.context.now c.args.within (length c.args.found.now) c.args.value.now c.in-IsNull.operand c.get-in-IsNull.result.now c.in-IsNull.at c.in-IsNull.test c.in-IsNull.is c.get-in-IsNull.ensures)
+    c.in_ok-operand-in-IsNull.ensures.value c.null_value.ensures
+
+pub returns-in_ok-operand-in-IsNull-clause-found : goal.returns-in_ok-operand-in-IsNull-clause-found
+returns-in_ok-operand-in-IsNull-clause-found t c =
+    on_ok c.null_value.result _ (found_one c.args.found.now c.value_of-in-IsNull.new.found _ (aggregates_of c.args.context.now c.args.within c.args.value.now) c.in_ok-operand-in-IsNull.ensures.found
+    (found_null c.args.context.now c.args.within (length c.args.found.now) c.args.value.now c.in-IsNull.operand c.get-in-IsNull.result.now c.in-IsNull.at c.in-IsNull.test c.in-IsNull.is c.get-in-IsNull.ensures))
+
+pub returns-in_ok-b-in-Binary-clause-value : goal.returns-in_ok-b-in-Binary-clause-value
+returns-in_ok-b-in-Binary-clause-value t c =
+    two_values c.shifted_or.result c.in-Binary.op (value_of c.args.context.now c.args.within (length c.args.found.now) c.args.value.now) c.shift_of.result (shift_of c.in-Binary.op c.get-in-Binary-3.result.now) c.in_ok-a-in-Binary.a _ c.in_ok-b-in-Binary.b _
+    (value_binary c.args.context.now c.args.within (length c.args.found.now) c.args.value.now c.args.found.now c.value_of-in-Binary.new.found c.in-Binary.left_at c.in-Binary.left c.get-in-Binary.result.now c.in-Binary.op c.in-Binary.at c.in-Binary.right_at c.in-Binary.right c.get-in-Binary-2.result.now c.get-in-Binary-3.result.now c.in-Binary.is c.get-in-Binary.ensures c.get-in-Binary-2.ensures c.get-in-Binary-3.ensures refl c.in_ok-a-in-Binary.ensures.found)
+    c.shift_of.ensures c.in_ok-a-in-Binary.ensures.value c.in_ok-b-in-Binary.ensures.value c.shifted_or.ensures
+
+pub returns-in_ok-b-in-Binary-clause-found : goal.returns-in_ok-b-in-Binary-clause-found
+returns-in_ok-b-in-Binary-clause-found t c =
+    on_ok c.shifted_or.result _ (found_both c.args.found.now c.value_of-in-Binary.new.found c.value_of-in-Binary-2.new.found _ _ (aggregates_of c.args.context.now c.args.within c.args.value.now) c.in_ok-a-in-Binary.ensures.found c.in_ok-b-in-Binary.ensures.found
+    (found_binary c.args.context.now c.args.within (length c.args.found.now) c.args.value.now c.in-Binary.left_at c.in-Binary.left c.get-in-Binary.result.now c.in-Binary.op c.in-Binary.at c.in-Binary.right_at c.in-Binary.right c.get-in-Binary-2.result.now c.in-Binary.is c.get-in-Binary.ensures c.get-in-Binary-2.ensures))
+
+pub returns-in_ok-most-in-Between-clause-value : goal.returns-in_ok-most-in-Between-clause-value
+returns-in_ok-most-in-Between-clause-value t c =
+    rw (value_between c.args.context.now c.args.within (length c.args.found.now) c.args.value.now c.args.found.now c.value_of-in-Between.new.found c.value_of-in-Between-2.new.found c.in-Between.operand c.get-in-Between.result.now c.in-Between.at c.in-Between.low c.get-in-Between-2.result.now c.in-Between.high c.get-in-Between-3.result.now c.in-Between.is c.get-in-Between.ensures c.get-in-Between-2.ensures c.get-in-Between-3.ensures refl c.in_ok-tested-in-Between.ensures.found c.in_ok-least-in-Between.ensures.found)
+    (three_values c.between_value.result _ _ _ _ _ _ c.in_ok-tested-in-Between.ensures.value c.in_ok-least-in-Between.ensures.value c.in_ok-most-in-Between.ensures.value c.between_value.ensures)
+
+pub returns-in_ok-most-in-Between-clause-found : goal.returns-in_ok-most-in-Between-clause-found
+returns-in_ok-most-in-Between-clause-found t c =
+    on_ok c.between_value.result _ (found_three c.args.found.now c.value_of-in-Between.new.found c.value_of-in-Between-2.new.found c.value_of-in-Between-3.new.found _ _ _ (aggregates_of c.args.context.now c.args.within c.args.value.now) c.in_ok-tested-in-Between.ensures.found c.in_ok-least-in-Between.ensures.found c.in_ok-most-in-Between.ensures.found
+    (found_between c.args.context.now c.args.within (length c.args.found.now) c.args.value.now c.in-Between.operand c.get-in-Between.result.now c.in-Between.at c.in-Between.low c.get-in-Between-2.result.now c.in-Between.high c.get-in-Between-3.result.now c.in-Between.is c.get-in-Between.ensures c.get-in-Between-2.ensures c.get-in-Between-3.ensures))

@@ -1,0 +1,9 @@
+pub mod Lists
+pub mod Value
+pub mod Streams
+pub mod Shapes
+pub mod Joins
+pub mod Bound
+pub mod Explained
+pub mod Typed
+pub mod Timed

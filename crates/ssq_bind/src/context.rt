@@ -1,0 +1,206 @@
+//! What names mean where expressions are built.
+
+ghost use Rattle.std.specs.Prelude.{◌≡◌, ◌<◌, ◌^◌, position};
+ghost use Rattle.std.specs.Str.{bytes_eq};
+ghost use Rattle.ssq_check.specs.Scope.{spot_at, in_columns, in_source, bare_spot, source_named, named_spot, is_window_key, has_window, is_key_of, is_window_name};
+ghost use Rattle.ssq_check.specs.Joined.{spot_in, spot_of};
+ghost use Rattle.ssq_bind.specs.Value.{width, behind, row_index, is_window_column, key_spot, key_index};
+
+use ssq_ast::{ColumnRef, Ident};
+use ssq_check::{Key, Scope, Side, Source, Spot};
+use ssq_value::Column;
+
+/// What expressions rest on: the names that they may use, and the size of the query's window in microseconds.
+#[derive(Debug, Drop)]
+pub struct Context {
+    pub scope: Scope,
+    /// 0 where rows are not grouped by a window.
+    pub size: i64,
+}
+
+fn position_of(columns: &[Column], name: &str) -> Option<usize>
+    ensures { result ≡ position (λ column. bytes_eq column.name name.now) columns.now }
+{
+    columns
+        .iter()
+        .position(|column| column.name.as_str() == name)
+}
+
+fn spot_at(side: Side, columns: &[Column], at: usize) -> Option<Spot>
+    ensures { result ≡ spot_at side columns.now at }
+{
+    match columns.get(at) {
+        Some(column) => Some(Spot {
+            side,
+            index: at,
+            kind: column.kind,
+        }),
+        None => None,
+    }
+}
+
+pub(crate) fn in_columns(side: Side, columns: &[Column], name: &str) -> Option<Spot>
+    ensures { result ≡ in_columns side columns.now name.now }
+{
+    match position_of(columns, name) {
+        Some(at) => spot_at(side, columns, at),
+        None => None,
+    }
+}
+
+fn in_source(side: Side, source: &Option<Source>, name: &str) -> Option<Spot>
+    ensures { result ≡ in_source side source.now name.now }
+{
+    match source {
+        Some(source) => in_columns(side, source.columns.as_slice(), name),
+        None => None,
+    }
+}
+
+/// A column by its bare name: none where no stream has it, or both.
+pub(crate) fn bare_spot(scope: &Scope, name: &Ident) -> Option<Spot>
+    ensures { result ≡ spot_in (bare_spot scope.now name.now) }
+{
+    let left = in_source(Side::Left, &scope.left, name.text.as_str());
+    let right = in_source(Side::Right, &scope.right, name.text.as_str());
+    match (left, right) {
+        (Some(_), Some(_)) => None,
+        (Some(spot), None) => Some(spot),
+        (None, Some(spot)) => Some(spot),
+        (None, None) => None,
+    }
+}
+
+fn is_named(source: &Option<Source>, name: &str) -> bool
+    ensures { result ≡ source_named source.now name.now }
+{
+    match source {
+        Some(source) => source.name.as_str() == name,
+        None => false,
+    }
+}
+
+fn named_spot(scope: &Scope, stream: &Ident, column: &Ident) -> Option<Spot>
+    ensures { result ≡ spot_in (named_spot scope.now stream.now column.now) }
+{
+    if is_named(&scope.left, stream.text.as_str()) {
+        in_source(Side::Left, &scope.left, column.text.as_str())
+    } else if is_named(&scope.right, stream.text.as_str()) {
+        in_source(Side::Right, &scope.right, column.text.as_str())
+    } else {
+        None
+    }
+}
+
+/// The column that is meant.
+pub(crate) fn spot_of(scope: &Scope, column: &ColumnRef) -> Option<Spot>
+    ensures { result ≡ spot_in (spot_of scope.now column.now) }
+{
+    match &column.stream {
+        Some(stream) => named_spot(scope, stream, &column.column),
+        None => bare_spot(scope, &column.column),
+    }
+}
+
+fn width(source: &Option<Source>) -> usize
+    ensures width { result ≡ width source.now }
+    ensures small { result < 2 ^ 63 }
+{
+    match source {
+        Some(source) => source.columns.as_slice().len(),
+        None => 0,
+    }
+}
+
+fn behind(left: usize, right: usize, index: usize) -> usize
+    requires left { left < 2 ^ 63 }
+    requires right { right < 2 ^ 63 }
+    ensures { result ≡ behind left right index }
+{
+    if index < right { left + index } else { 0 }
+}
+
+/// The index of a column in the row: the left columns come first.
+pub(crate) fn row_index(scope: &Scope, spot: Option<Spot>) -> usize
+    ensures { result ≡ row_index scope.now spot }
+{
+    match spot {
+        Some(spot) => match spot.side {
+            Side::Left => spot.index,
+            Side::Right => behind(width(&scope.left), width(&scope.right), spot.index),
+        },
+        None => 0,
+    }
+}
+
+fn is_window_name(name: &str) -> bool
+    ensures { result ≡ is_window_name name.now }
+{
+    name == "window_start" || name == "window_end"
+}
+
+fn is_window_key(key: &Key) -> bool
+    ensures { result ≡ is_window_key key.now }
+{
+    match key {
+        Key::Window => true,
+        Key::Column(_) => false,
+    }
+}
+
+fn window_index(keys: &[Key]) -> Option<usize>
+    ensures { result ≡ position is_window_key keys.now }
+{
+    keys.iter().position(|key| is_window_key(key))
+}
+
+fn is_key_of(spot: Spot, key: &Key) -> bool
+    ensures { result ≡ is_key_of spot key.now }
+{
+    match key {
+        Key::Window => false,
+        Key::Column(own) => own.side == spot.side && own.index == spot.index,
+    }
+}
+
+fn spot_index(keys: &[Key], spot: Spot) -> Option<usize>
+    ensures { result ≡ position (is_key_of spot) keys.now }
+{
+    keys.iter().position(|key| is_key_of(spot, key))
+}
+
+fn key_spot(scope: &Scope, spot: Option<Spot>) -> Option<usize>
+    ensures { result ≡ key_spot scope.now spot }
+{
+    match spot {
+        Some(spot) => spot_index(scope.keys.as_slice(), spot),
+        None => None,
+    }
+}
+
+fn has_window(keys: &[Key]) -> bool
+    ensures { result ≡ has_window keys.now }
+{
+    keys.iter().any(|key| is_window_key(key))
+}
+
+/// Whether a column is `window_start` or `window_end`, where rows are grouped by a window.
+pub(crate) fn is_window_column(scope: &Scope, column: &ColumnRef) -> bool
+    ensures { result ≡ is_window_column scope.now column.now }
+{
+    match &column.stream {
+        Some(_) => false,
+        None => has_window(scope.keys.as_slice()) && is_window_name(column.column.text.as_str()),
+    }
+}
+
+/// The index of the key that a column is, where it is one.
+pub(crate) fn key_index(scope: &Scope, column: &ColumnRef) -> Option<usize>
+    ensures { result ≡ key_index scope.now column.now }
+{
+    if is_window_column(scope, column) {
+        window_index(scope.keys.as_slice())
+    } else {
+        key_spot(scope, spot_of(scope, column))
+    }
+}

@@ -1,0 +1,291 @@
+//! JOIN and ON.
+
+ghost use Rattle.std.specs.Prelude.{◌≡◌, [], ◌∷◌, IfOk, OnOk};
+ghost use Rattle.std.specs.Option.{option_copied};
+ghost use Rattle.ssq_check.specs.Joined.{looked};
+ghost use Rattle.ssq_bind.specs.Joins.{parts_of, pair_on, pair_by, pair_of, key_pair, spot_index, shifted_column, or_none, span_of, bound_by, time_bound, rest_by, parts_with, kind_of, joining_of};
+ghost use Rattle.ssq_bind.specs.Lists.{listed};
+ghost use Rattle.ssq_bind.specs.Value.{row_value};
+
+use crate::context::{Context, spot_of};
+use crate::list::push_some;
+use crate::output::bare_column;
+use crate::value::{row_value, shift_of};
+use ssq_ast::{BinaryOp, ColumnRef, Expr, Join};
+use ssq_check::{Scope, Side, Spot};
+use ssq_shape::{JoinKind, Joining, KeyPair, TimeBound, Typed};
+use ssq_value::Sequence;
+use std::alloc::{AllocError, Global};
+
+/// What ON joins by AND, by its kind.
+#[derive(Debug, Drop)]
+pub struct Parts {
+    pub keys: Sequence<KeyPair>,
+    /// The BETWEENs. A query without a fault has one at most.
+    pub bounds: Sequence<TimeBound>,
+    pub rest: Sequence<Typed>,
+}
+
+fn looked(scope: &Scope, column: Option<&ColumnRef>) -> Option<Spot>
+    ensures { result ≡ looked scope.now (option_copied column.entry) }
+{
+    match column {
+        Some(column) => spot_of(scope, column),
+        None => None,
+    }
+}
+
+fn pair_on(side: Side, a: usize, b: usize) -> KeyPair
+    ensures { result ≡ pair_on side a b }
+{
+    match side {
+        Side::Left => KeyPair { left: a, right: b },
+        Side::Right => KeyPair { left: b, right: a },
+    }
+}
+
+/// The columns that are compared, where they are of different streams.
+fn pair_of(op: BinaryOp, a: Option<Spot>, b: Option<Spot>) -> Option<KeyPair>
+    ensures { result ≡ pair_of op a b }
+{
+    match (a, b) {
+        (Some(a), Some(b)) => {
+            if op == BinaryOp::Equal && a.side != b.side {
+                Some(pair_on(a.side, a.index, b.index))
+            } else {
+                None
+            }
+        }
+        _ => None,
+    }
+}
+
+#[tactic(auto, using(ssq_ast::proofs::Boxes::boxes), unfolding(crate::specs::Joins::key_pair))]
+fn key_pair(scope: &Scope, value: &Expr) -> Option<KeyPair>
+    ensures { result ≡ key_pair scope.now value.now }
+{
+    match value {
+        Expr::Binary {
+            left,
+            op,
+            right,
+            ..
+        } => {
+            let a = looked(scope, bare_column(left.get()));
+            let b = looked(scope, bare_column(right.get()));
+            pair_of(*op, a, b)
+        }
+        Expr::Number { .. } => None,
+        Expr::Text { .. } => None,
+        Expr::Truth { .. } => None,
+        Expr::Timestamp { .. } => None,
+        Expr::Interval { .. } => None,
+        Expr::Column { .. } => None,
+        Expr::CountRows { .. } => None,
+        Expr::Aggregate { .. } => None,
+        Expr::Unary { .. } => None,
+        Expr::IsNull { .. } => None,
+        Expr::Between { .. } => None,
+    }
+}
+
+fn spot_index(spot: Option<Spot>) -> usize
+    ensures { result ≡ spot_index spot }
+{
+    match spot {
+        Some(spot) => spot.index,
+        None => 0,
+    }
+}
+
+#[tactic(auto, using(ssq_ast::proofs::Boxes::boxes), unfolding(crate::specs::Joins::shifted_column))]
+fn shifted_column(value: &Expr) -> Option<&ColumnRef>
+    ensures { option_copied result ≡ shifted_column value.now }
+{
+    match value {
+        Expr::Column { value } => Some(value),
+        Expr::Binary { left, .. } => bare_column(left.get()),
+        Expr::Number { .. } => None,
+        Expr::Text { .. } => None,
+        Expr::Truth { .. } => None,
+        Expr::Timestamp { .. } => None,
+        Expr::Interval { .. } => None,
+        Expr::CountRows { .. } => None,
+        Expr::Aggregate { .. } => None,
+        Expr::Unary { .. } => None,
+        Expr::IsNull { .. } => None,
+        Expr::Between { .. } => None,
+    }
+}
+
+fn or_none(shift: Option<i64>) -> i64
+    ensures { result ≡ or_none shift }
+{
+    match shift {
+        Some(by) => by,
+        None => 0,
+    }
+}
+
+#[tactic(auto, using(ssq_ast::proofs::Boxes::boxes), unfolding(crate::specs::Joins::span_of))]
+fn span_of(value: &Expr) -> i64
+    ensures { result ≡ span_of value.now }
+{
+    match value {
+        Expr::Binary { op, right, .. } => or_none(shift_of(*op, right.get())),
+        Expr::Number { .. } => 0,
+        Expr::Text { .. } => 0,
+        Expr::Truth { .. } => 0,
+        Expr::Timestamp { .. } => 0,
+        Expr::Interval { .. } => 0,
+        Expr::Column { .. } => 0,
+        Expr::CountRows { .. } => 0,
+        Expr::Aggregate { .. } => 0,
+        Expr::Unary { .. } => 0,
+        Expr::IsNull { .. } => 0,
+        Expr::Between { .. } => 0,
+    }
+}
+
+/// The bound that a BETWEEN of these operands is.
+fn bound_by(scope: &Scope, value: &Expr, low: &Expr, high: &Expr) -> TimeBound
+    ensures { result ≡ bound_by scope.now value.now low.now high.now }
+{
+    TimeBound {
+        left: spot_index(looked(scope, shifted_column(low))),
+        right: spot_index(looked(scope, bare_column(value))),
+        lo: span_of(low),
+        hi: span_of(high),
+    }
+}
+
+#[tactic(auto, using(ssq_ast::proofs::Boxes::boxes), unfolding(crate::specs::Joins::time_bound))]
+fn time_bound(scope: &Scope, value: &Expr) -> Option<TimeBound>
+    ensures { result ≡ time_bound scope.now value.now }
+{
+    match value {
+        Expr::Between {
+            operand,
+            low,
+            high,
+            ..
+        } => Some(bound_by(scope, operand.get(), low.get(), high.get())),
+        Expr::Number { .. } => None,
+        Expr::Text { .. } => None,
+        Expr::Truth { .. } => None,
+        Expr::Timestamp { .. } => None,
+        Expr::Interval { .. } => None,
+        Expr::Column { .. } => None,
+        Expr::CountRows { .. } => None,
+        Expr::Aggregate { .. } => None,
+        Expr::Unary { .. } => None,
+        Expr::IsNull { .. } => None,
+        Expr::Binary { .. } => None,
+    }
+}
+
+/// What is neither a key equality nor the bound.
+fn rest_of(
+    alloc: Global,
+    context: &Context,
+    pair: Option<KeyPair>,
+    bound: Option<TimeBound>,
+    value: &Expr,
+) -> Result<Option<Typed>, AllocError>
+    ensures { IfOk result (λ rest. listed rest ≡ rest_by pair bound (row_value context.now value.now)) }
+{
+    match (pair, bound) {
+        (None, None) => Ok(Some(row_value(alloc, context, value)?)),
+        _ => Ok(None),
+    }
+}
+
+/// Puts what ON joins by AND behind what stands in front of it.
+fn put(alloc: Global, context: &Context, parts: &mut Parts, value: &Expr) -> Result<(), AllocError>
+    ensures { OnOk result (parts.new ≡ parts_with context.now parts.old (value.now ∷ [])) }
+{
+    let pair = key_pair(&context.scope, value);
+    let bound = time_bound(&context.scope, value);
+    let rest = rest_of(alloc, context, pair, bound, value)?;
+    push_some(&mut parts.keys, pair)?;
+    push_some(&mut parts.bounds, bound)?;
+    push_some(&mut parts.rest, rest)
+}
+
+/// Takes ON apart where it joins by AND.
+#[tactic(auto, using(ssq_ast::proofs::Boxes::boxes), unfolding(crate::specs::Joins::parts_of))]
+fn take_apart(
+    alloc: Global,
+    context: &Context,
+    parts: &mut Parts,
+    value: &Expr,
+) -> Result<(), AllocError>
+    ensures { OnOk result (parts.new ≡ parts_with context.now parts.old (parts_of value.now)) }
+{
+    match value {
+        Expr::Binary {
+            left,
+            op,
+            right,
+            ..
+        } => {
+            if *op == BinaryOp::And {
+                take_apart(alloc, context, parts, left.get())?;
+                take_apart(alloc, context, parts, right.get())
+            } else {
+                put(alloc, context, parts, value)
+            }
+        }
+        Expr::Number { .. } => put(alloc, context, parts, value),
+        Expr::Text { .. } => put(alloc, context, parts, value),
+        Expr::Truth { .. } => put(alloc, context, parts, value),
+        Expr::Timestamp { .. } => put(alloc, context, parts, value),
+        Expr::Interval { .. } => put(alloc, context, parts, value),
+        Expr::Column { .. } => put(alloc, context, parts, value),
+        Expr::CountRows { .. } => put(alloc, context, parts, value),
+        Expr::Aggregate { .. } => put(alloc, context, parts, value),
+        Expr::Unary { .. } => put(alloc, context, parts, value),
+        Expr::IsNull { .. } => put(alloc, context, parts, value),
+        Expr::Between { .. } => put(alloc, context, parts, value),
+    }
+}
+
+fn kind_of(kind: ssq_ast::JoinKind) -> JoinKind
+    ensures { result ≡ kind_of kind }
+{
+    match kind {
+        ssq_ast::JoinKind::Inner => JoinKind::Inner,
+        ssq_ast::JoinKind::Left => JoinKind::Left,
+        ssq_ast::JoinKind::Right => JoinKind::Right,
+    }
+}
+
+fn apart(alloc: Global, context: &Context, value: &Expr) -> Result<Parts, AllocError>
+    ensures { IfOk result (λ parts. parts ≡ parts_with context.now (record { keys = []; bounds = []; rest = [] }) (parts_of value.now)) }
+{
+    let mut parts = Parts {
+        keys: Sequence::new(alloc),
+        bounds: Sequence::new(alloc),
+        rest: Sequence::new(alloc),
+    };
+    take_apart(alloc, context, &mut parts, value)?;
+    Ok(parts)
+}
+
+/// The bound join.
+pub(crate) fn joining_of(
+    alloc: Global,
+    context: &Context,
+    join: &Join,
+) -> Result<Joining, AllocError>
+    ensures { IfOk result (λ joining. joining ≡ joining_of context.now join.now) }
+{
+    let parts = apart(alloc, context, &join.on.value)?;
+    let bound = parts.bounds.as_slice().first().copied();
+    Ok(Joining {
+        kind: kind_of(join.kind),
+        keys: parts.keys,
+        bound,
+        rest: parts.rest,
+    })
+}

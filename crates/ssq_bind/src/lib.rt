@@ -1,0 +1,25 @@
+//! Binding: the bound query that a query is, where it breaks no rule, and what is told of it.
+//!
+//! The definitions stand in `specs/`. `Bound` is the bound query, a function of the query; it is put together from
+//! `Value` (which typed expression an expression is), `Streams` (what is read), `Shapes` (what is shown, what rows are
+//! grouped by, and the order) and `Joins`. `Typed` is the law of types, `Timed` that of event columns, and `Explained` what is told. Which rules there
+//! are, and what names mean, stands in `ssq_check`.
+#![tactic(auto)]
+
+mod context;
+mod group;
+mod join;
+mod laws;
+mod list;
+mod output;
+mod shown;
+mod stream;
+mod told;
+mod value;
+mod whole;
+
+pub use context::Context;
+pub use join::Parts;
+pub use laws::{events_have_delays, rows_are_typed};
+pub use told::explain;
+pub use whole::{bind, build};

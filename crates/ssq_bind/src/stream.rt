@@ -1,0 +1,172 @@
+//! The streams of a query: what is read of them, and what expressions see of them.
+
+ghost use Rattle.std.specs.Prelude.{◌≡◌, ◌≤◌, ◌++◌, length, map, take, IfOk, OnOk};
+ghost use Rattle.std.specs.Option.{ForSome, option_copied, option_map};
+ghost use Rattle.ssq_value.specs.Layout.{IsEvent};
+ghost use Rattle.ssq_check.specs.Names.{declared, column_of, source_of, watermark_name};
+ghost use Rattle.ssq_bind.specs.Streams.{kept_columns, timed, event_in, delay_of, stream_of, listed};
+
+use crate::context::in_columns;
+use ssq_ast::{ColumnDecl, Watermark};
+use ssq_check::{Side, Source, Spot};
+use ssq_shape::Stream;
+use ssq_value::{ColType, Column, Schema, Sequence, Text};
+use std::alloc::{AllocError, Global};
+
+/// The first stream that is declared under the name.
+pub(crate) fn declared<'a>(
+    streams: &'a [ssq_ast::Stream],
+    name: &str,
+) -> Option<&'a ssq_ast::Stream>
+    ensures { option_copied result ≡ declared streams.now name.now }
+{
+    for stream in streams {
+        if stream.name.text.as_str() == name {
+            return Some(stream);
+        }
+    }
+    None
+}
+
+fn column_of(decl: &ColumnDecl) -> Result<Column, AllocError>
+    ensures { IfOk result (λ column. column ≡ column_of decl.now) }
+{
+    Ok(Column {
+        name: decl.name.text.clone()?,
+        kind: decl.kind,
+    })
+}
+
+fn columns_of(alloc: Global, decls: &[ColumnDecl]) -> Result<Vec<Column>, AllocError>
+    ensures { IfOk result (λ columns. columns.items ≡ map column_of decls.now) }
+{
+    let mut columns = Vec::new(alloc);
+    for decl in decls {
+        columns.push(column_of(decl)?)?;
+    }
+    Ok(columns)
+}
+
+fn first(decls: &[ColumnDecl], most: usize) -> &[ColumnDecl]
+    ensures first { result.now ≡ take most decls.now }
+    ensures few { length result.now ≤ most }
+{
+    if decls.len() <= most {
+        decls
+    } else {
+        &decls[..most]
+    }
+}
+
+/// The columns of a stream, of which there are 64 at most.
+fn kept_columns(alloc: Global, decls: &[ColumnDecl]) -> Result<Vec<Column>, AllocError>
+    ensures columns { IfOk result (λ columns. columns.items ≡ kept_columns decls.now) }
+    ensures few { IfOk result (λ columns. length columns.items ≤ 64) }
+{
+    columns_of(alloc, first(decls, Schema::MAX_COLUMNS))
+}
+
+fn timed(spot: Option<Spot>) -> Option<usize>
+    ensures { result ≡ timed spot }
+{
+    match spot {
+        Some(spot) => match spot.kind {
+            ColType::Timestamp => Some(spot.index),
+            ColType::Bigint => None,
+            ColType::Str => None,
+            ColType::Bool => None,
+        },
+        None => None,
+    }
+}
+
+#[tactic(auto, using(crate::proofs::Events::event_of_columns))]
+fn event_in(columns: &[Column], watermark: &Option<Watermark>) -> Option<usize>
+    ensures event { result ≡ event_in columns.now watermark.now }
+    ensures time { ForSome result (IsEvent columns.now) }
+{
+    match watermark {
+        Some(watermark) => timed(in_columns(Side::Left, columns, watermark.column.text.as_str())),
+        None => None,
+    }
+}
+
+fn delay_of(watermark: &Option<Watermark>) -> Option<i64>
+    ensures { result ≡ option_map delay_of watermark.now }
+{
+    match watermark {
+        Some(watermark) => Some(watermark.delay.micros),
+        None => None,
+    }
+}
+
+fn schema_of(alloc: Global, stream: &ssq_ast::Stream) -> Result<Schema, AllocError>
+    ensures { IfOk result (λ schema. schema ≡ (stream_of stream.now).schema) }
+{
+    let columns = kept_columns(alloc, stream.columns.as_slice())?;
+    let event = event_in(columns.as_slice(), &stream.watermark);
+    Ok(Schema::new(columns, event))
+}
+
+fn stream_of(alloc: Global, stream: &ssq_ast::Stream) -> Result<Stream, AllocError>
+    ensures { IfOk result (λ bound. bound ≡ stream_of stream.now) }
+{
+    let name = stream.name.text.clone()?;
+    let source = stream.source.clone()?;
+    let schema = schema_of(alloc, stream)?;
+    Ok(Stream {
+        name,
+        source,
+        schema,
+        delay: delay_of(&stream.watermark),
+    })
+}
+
+/// Puts a stream behind those that are read already, where it is declared.
+pub(crate) fn list(
+    alloc: Global,
+    streams: &mut Sequence<Stream>,
+    stream: Option<&ssq_ast::Stream>,
+) -> Result<(), AllocError>
+    ensures { OnOk result (streams.new ≡ streams.old ++ listed (option_copied stream.entry)) }
+{
+    if let Some(stream) = stream {
+        streams.push(stream_of(alloc, stream)?)?;
+    }
+    Ok(())
+}
+
+fn watermark_name(watermark: &Option<Watermark>) -> Result<Option<Text>, AllocError>
+    ensures { IfOk result (λ name. name ≡ option_map watermark_name watermark.now) }
+{
+    match watermark {
+        Some(watermark) => Ok(Some(watermark.column.text.clone()?)),
+        None => Ok(None),
+    }
+}
+
+fn known_source(alloc: Global, stream: &ssq_ast::Stream) -> Result<Source, AllocError>
+    ensures { IfOk result (λ source. source ≡ source_of stream.now) }
+{
+    let name = stream.name.text.clone()?;
+    let columns = columns_of(alloc, stream.columns.as_slice())?;
+    let watermark = watermark_name(&stream.watermark)?;
+    Ok(Source {
+        name,
+        columns: Sequence::from_vec(columns),
+        watermark,
+    })
+}
+
+/// What expressions see of a stream.
+pub(crate) fn source_of(
+    alloc: Global,
+    stream: Option<&ssq_ast::Stream>,
+) -> Result<Option<Source>, AllocError>
+    ensures { IfOk result (λ source. source ≡ option_map source_of (option_copied stream.entry)) }
+{
+    match stream {
+        Some(stream) => Ok(Some(known_source(alloc, stream)?)),
+        None => Ok(None),
+    }
+}

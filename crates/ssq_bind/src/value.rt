@@ -1,0 +1,300 @@
+//! The typed expression that an expression is, and the aggregates in it.
+
+ghost use Rattle.std.specs.Prelude.{◌≡◌, ◌++◌, length, IfOk, OnOk};
+ghost use Rattle.ssq_bind.specs.Value.{or_zero, window_value, column_value, unary_value, null_value, compared_value, arithmetic_value, shifted_value, binary_value, between_value, shift_by, shift_of, shifted_or, function_of, numbered, given, value_of, aggregates_of, row_value};
+
+use crate::context::{Context, is_window_column, key_index, row_index, spot_of};
+use sqlite_items::Boxed;
+use ssq_ast::{BinaryOp, ColumnRef, Expr, NullTest, UnaryOp};
+use ssq_check::Within;
+use ssq_shape::{Aggregate, Arithmetic, Comparison, Function, Typed};
+use ssq_value::{Sequence, Value};
+use std::alloc::{AllocError, Global};
+
+/// The first where there is none, which is only in a query with a fault.
+pub(crate) fn or_zero(index: Option<usize>) -> usize
+    ensures { result ≡ or_zero index }
+{
+    match index {
+        Some(index) => index,
+        None => 0,
+    }
+}
+
+/// A time, so many microseconds later.
+#[tactic(auto, using(ssq_shape::specs::Boxes::boxes))]
+fn shifted(alloc: Global, time: Typed, by: i64) -> Result<Typed, AllocError>
+    ensures { IfOk result (λ typed. typed ≡ shifted_value time by) }
+{
+    let boxed = Boxed::new(alloc, time)?;
+    Ok(Typed::Shifted(boxed, by))
+}
+
+/// The start of a window, which is kept of it, or its end.
+fn window_value(alloc: Global, size: i64, at: usize, name: &str) -> Result<Typed, AllocError>
+    ensures { IfOk result (λ typed. typed ≡ window_value size at name.now) }
+{
+    if name == "window_end" {
+        shifted(alloc, Typed::Column(at), size)
+    } else {
+        Ok(Typed::Column(at))
+    }
+}
+
+pub(crate) fn column_value(
+    alloc: Global,
+    context: &Context,
+    within: Within,
+    column: &ColumnRef,
+) -> Result<Typed, AllocError>
+    ensures { IfOk result (λ typed. typed ≡ column_value context.now within column.now) }
+{
+    let scope = &context.scope;
+    match within {
+        Within::Row => Ok(Typed::Column(row_index(scope, spot_of(scope, column)))),
+        Within::Group => {
+            let at = or_zero(key_index(scope, column));
+            if is_window_column(scope, column) {
+                window_value(alloc, context.size, at, column.column.text.as_str())
+            } else {
+                Ok(Typed::Column(at))
+            }
+        }
+    }
+}
+
+#[tactic(auto, using(ssq_shape::specs::Boxes::boxes))]
+fn unary_value(alloc: Global, op: UnaryOp, operand: Typed) -> Result<Typed, AllocError>
+    ensures { IfOk result (λ typed. typed ≡ unary_value op operand) }
+{
+    let boxed = Boxed::new(alloc, operand)?;
+    match op {
+        UnaryOp::Not => Ok(Typed::Not(boxed)),
+        UnaryOp::Minus => Ok(Typed::Negated(boxed)),
+    }
+}
+
+#[tactic(auto, using(ssq_shape::specs::Boxes::boxes))]
+fn null_value(alloc: Global, test: NullTest, operand: Typed) -> Result<Typed, AllocError>
+    ensures { IfOk result (λ typed. typed ≡ null_value test operand) }
+{
+    let is_null = Typed::IsNull(Boxed::new(alloc, operand)?);
+    match test {
+        NullTest::Null => Ok(is_null),
+        NullTest::NotNull => Ok(Typed::Not(Boxed::new(alloc, is_null)?)),
+    }
+}
+
+#[tactic(auto, using(ssq_shape::specs::Boxes::boxes))]
+fn compared(comparison: Comparison, a: Boxed<Typed>, b: Boxed<Typed>) -> Typed
+    ensures { result ≡ compared_value comparison a b }
+{
+    Typed::Compared(comparison, a, b)
+}
+
+#[tactic(auto, using(ssq_shape::specs::Boxes::boxes))]
+fn calculated(operation: Arithmetic, a: Boxed<Typed>, b: Boxed<Typed>) -> Typed
+    ensures { result ≡ arithmetic_value operation a b }
+{
+    Typed::Arithmetic(operation, a, b)
+}
+
+/// An operator that makes no shift.
+#[tactic(auto, using(ssq_shape::specs::Boxes::boxes))]
+fn operated(op: BinaryOp, a: Boxed<Typed>, b: Boxed<Typed>) -> Typed
+    ensures { result ≡ binary_value op a b }
+{
+    match op {
+        BinaryOp::Or => Typed::Or(a, b),
+        BinaryOp::And => Typed::And(a, b),
+        BinaryOp::Equal => compared(Comparison::Equal, a, b),
+        BinaryOp::NotEqual => compared(Comparison::NotEqual, a, b),
+        BinaryOp::Less => compared(Comparison::Less, a, b),
+        BinaryOp::AtMost => compared(Comparison::AtMost, a, b),
+        BinaryOp::Greater => compared(Comparison::Greater, a, b),
+        BinaryOp::AtLeast => compared(Comparison::AtLeast, a, b),
+        BinaryOp::Add => calculated(Arithmetic::Plus, a, b),
+        BinaryOp::Subtract => calculated(Arithmetic::Minus, a, b),
+        BinaryOp::Concat => Typed::Joined(a, b),
+        BinaryOp::Multiply => calculated(Arithmetic::Times, a, b),
+        BinaryOp::Divide => calculated(Arithmetic::Quotient, a, b),
+        BinaryOp::Remainder => calculated(Arithmetic::Remainder, a, b),
+    }
+}
+
+fn operator(alloc: Global, op: BinaryOp, left: Typed, right: Typed) -> Result<Typed, AllocError>
+    ensures { IfOk result (λ typed. typed ≡ binary_value op left right) }
+{
+    let a = Boxed::new(alloc, left)?;
+    let b = Boxed::new(alloc, right)?;
+    Ok(operated(op, a, b))
+}
+
+fn shifted_or(
+    alloc: Global,
+    shift: Option<i64>,
+    op: BinaryOp,
+    left: Typed,
+    right: Typed,
+) -> Result<Typed, AllocError>
+    ensures { IfOk result (λ typed. typed ≡ shifted_or shift left (binary_value op left right)) }
+{
+    match shift {
+        Some(by) => shifted(alloc, left, by),
+        None => operator(alloc, op, left, right),
+    }
+}
+
+#[tactic(auto, using(ssq_shape::specs::Boxes::boxes))]
+fn between_value(alloc: Global, value: Typed, low: Typed, high: Typed) -> Result<Typed, AllocError>
+    ensures { IfOk result (λ typed. typed ≡ between_value value low high) }
+{
+    let a = Boxed::new(alloc, value)?;
+    let b = Boxed::new(alloc, low)?;
+    let c = Boxed::new(alloc, high)?;
+    Ok(Typed::Between(a, b, c))
+}
+
+fn shift_by(op: BinaryOp, span: i64) -> Option<i64>
+    ensures { result ≡ shift_by op span }
+{
+    match op {
+        BinaryOp::Add => Some(span),
+        BinaryOp::Subtract => Some(span.wrapping_neg()),
+        _ => None,
+    }
+}
+
+/// By how much an operator shifts the time in front of it, where a span stands behind it.
+#[tactic(auto, using(ssq_ast::proofs::Boxes::boxes), unfolding(crate::specs::Value::shift_of))]
+pub(crate) fn shift_of(op: BinaryOp, right: &Expr) -> Option<i64>
+    ensures { result ≡ shift_of op right.now }
+{
+    match right {
+        Expr::Interval { value, .. } => shift_by(op, value.micros),
+        Expr::Number { .. } => None,
+        Expr::Text { .. } => None,
+        Expr::Truth { .. } => None,
+        Expr::Timestamp { .. } => None,
+        Expr::Column { .. } => None,
+        Expr::CountRows { .. } => None,
+        Expr::Aggregate { .. } => None,
+        Expr::Unary { .. } => None,
+        Expr::IsNull { .. } => None,
+        Expr::Binary { .. } => None,
+        Expr::Between { .. } => None,
+    }
+}
+
+fn function_of(function: ssq_ast::Function) -> Function
+    ensures { result ≡ function_of function }
+{
+    match function {
+        ssq_ast::Function::Count => Function::Count,
+        ssq_ast::Function::Sum => Function::Sum,
+        ssq_ast::Function::Min => Function::Min,
+        ssq_ast::Function::Max => Function::Max,
+    }
+}
+
+/// The number of an aggregate, once it stands behind those that were found. On rows there is none.
+fn numbered(
+    within: Within,
+    found: &mut Sequence<Aggregate>,
+    aggregate: Aggregate,
+) -> Result<Typed, AllocError>
+    ensures value { IfOk result (λ typed. typed ≡ numbered within (length found.old)) }
+    ensures found { OnOk result (found.new ≡ found.old ++ given within aggregate) }
+{
+    match within {
+        Within::Row => Ok(Typed::Constant(Value::Null)),
+        Within::Group => {
+            let number = found.len();
+            found.push(aggregate)?;
+            Ok(Typed::Aggregate(number))
+        }
+    }
+}
+
+/// The expression whose names are bound. Its aggregates go behind those that were found in front of it.
+#[tactic(auto, using(ssq_ast::proofs::Boxes::boxes), unfolding(crate::specs::Value::value_of, crate::specs::Value::aggregates_of))]
+pub(crate) fn value_of(
+    alloc: Global,
+    context: &Context,
+    within: Within,
+    found: &mut Sequence<Aggregate>,
+    value: &Expr,
+) -> Result<Typed, AllocError>
+    ensures value { IfOk result (λ typed. typed ≡ value_of context.now within (length found.old) value.now) }
+    ensures found { OnOk result (found.new ≡ found.old ++ aggregates_of context.now within value.now) }
+{
+    match value {
+        Expr::Number { value, .. } => Ok(Typed::Constant(Value::Int(*value))),
+        Expr::Text { value, .. } => Ok(Typed::Constant(Value::Text(value.clone()?))),
+        Expr::Truth { value, .. } => Ok(Typed::Constant(Value::Truth(*value))),
+        Expr::Timestamp { value, .. } => Ok(Typed::Constant(Value::Time(value.micros))),
+        Expr::Interval { .. } => Ok(Typed::Constant(Value::Null)),
+        Expr::Column { value } => column_value(alloc, context, within, value),
+        Expr::CountRows { .. } => numbered(
+            within,
+            found,
+            Aggregate {
+                function: Function::Count,
+                argument: None,
+            },
+        ),
+        Expr::Aggregate {
+            function,
+            argument,
+            ..
+        } => {
+            let mut none = Sequence::new(alloc);
+            let argument = value_of(alloc, context, Within::Row, &mut none, argument.get())?;
+            numbered(
+                within,
+                found,
+                Aggregate {
+                    function: function_of(*function),
+                    argument: Some(argument),
+                },
+            )
+        }
+        Expr::Unary { op, operand, .. } => {
+            let operand = value_of(alloc, context, within, found, operand.get())?;
+            unary_value(alloc, *op, operand)
+        }
+        Expr::IsNull { operand, test, .. } => {
+            let operand = value_of(alloc, context, within, found, operand.get())?;
+            null_value(alloc, *test, operand)
+        }
+        Expr::Binary {
+            left,
+            op,
+            right,
+            ..
+        } => {
+            let a = value_of(alloc, context, within, found, left.get())?;
+            let b = value_of(alloc, context, within, found, right.get())?;
+            shifted_or(alloc, shift_of(*op, right.get()), *op, a, b)
+        }
+        Expr::Between {
+            operand,
+            low,
+            high,
+            ..
+        } => {
+            let tested = value_of(alloc, context, within, found, operand.get())?;
+            let least = value_of(alloc, context, within, found, low.get())?;
+            let most = value_of(alloc, context, within, found, high.get())?;
+            between_value(alloc, tested, least, most)
+        }
+    }
+}
+
+/// The expression on rows.
+pub(crate) fn row_value(alloc: Global, context: &Context, value: &Expr) -> Result<Typed, AllocError>
+    ensures { IfOk result (λ typed. typed ≡ row_value context.now value.now) }
+{
+    let mut none = Sequence::new(alloc);
+    value_of(alloc, context, Within::Row, &mut none, value)
+}

@@ -1,0 +1,254 @@
+//! The whole query, once it is bound.
+
+ghost use Rattle.std.specs.Prelude.{◌≡◌, ◌++◌, length, IfOk, IfErr, OnOk};
+ghost use Rattle.std.specs.Option.{option_copied, option_map};
+ghost use Rattle.ssq_check.specs.Fault.{AreNone};
+ghost use Rattle.ssq_check.specs.Names.{left_stream, right_stream, row_scope, scope_of};
+ghost use Rattle.ssq_check.specs.Whole.{QueryFaults, IsRefusedBy};
+ghost use Rattle.ssq_bind.specs.Bound.{context_of, shown_of, grouping_of, kept_by, shape_of, mode_of, filter_value, bound_of};
+ghost use Rattle.ssq_bind.specs.Streams.{streams_of};
+
+use crate::context::Context;
+use crate::group::{columns_by, group_keys, keys_by, order_by, window_size};
+use crate::join::joining_of;
+use crate::output::{having_of, outputs_of};
+use crate::shown::{is_group, shown_within};
+use crate::stream::{declared, list, source_of};
+use crate::value::row_value;
+use ssq_ast::{Condition, Deduplicate, Join, Query, text};
+use ssq_check::{Refusal, Scope, check};
+use ssq_shape::{Aggregate, Bound, Grouping, Mode, Output, Shape, Stream, Typed};
+use ssq_value::Sequence;
+use std::alloc::{AllocError, Global};
+
+fn left_stream(query: &Query) -> Option<&ssq_ast::Stream>
+    ensures { option_copied result ≡ left_stream query.now }
+{
+    declared(query.streams.as_slice(), query.select.from.text.as_str())
+}
+
+fn right_stream(query: &Query) -> Option<&ssq_ast::Stream>
+    ensures { option_copied result ≡ right_stream query.now }
+{
+    match &query.select.join {
+        Some(join) => declared(query.streams.as_slice(), join.stream.text.as_str()),
+        None => None,
+    }
+}
+
+fn streams_of(alloc: Global, query: &Query) -> Result<Sequence<Stream>, AllocError>
+    ensures { IfOk result (λ streams. streams ≡ streams_of query.now) }
+{
+    let mut streams = Sequence::new(alloc);
+    list(alloc, &mut streams, left_stream(query))?;
+    list(alloc, &mut streams, right_stream(query))?;
+    Ok(streams)
+}
+
+fn row_scope(alloc: Global, query: &Query) -> Result<Scope, AllocError>
+    ensures { IfOk result (λ scope. scope ≡ row_scope query.now) }
+{
+    let left = source_of(alloc, left_stream(query))?;
+    let right = source_of(alloc, right_stream(query))?;
+    Ok(Scope {
+        left,
+        right,
+        keys: Sequence::new(alloc),
+    })
+}
+
+fn scope_of(alloc: Global, query: &Query) -> Result<Scope, AllocError>
+    ensures { IfOk result (λ scope. scope ≡ scope_of query.now) }
+{
+    let mut scope = row_scope(alloc, query)?;
+    scope.keys = group_keys(alloc, &scope, &query.select.group)?;
+    Ok(scope)
+}
+
+#[tactic(auto, unfolding(crate::specs::Bound::context_of))]
+fn context_of(alloc: Global, query: &Query) -> Result<Context, AllocError>
+    ensures { IfOk result (λ context. context ≡ context_of query.now) }
+{
+    Ok(Context {
+        scope: scope_of(alloc, query)?,
+        size: window_size(&query.select.group),
+    })
+}
+
+fn kept_by(
+    alloc: Global,
+    context: &Context,
+    join: &Option<Join>,
+    deduplicate: &Option<Deduplicate>,
+) -> Result<Shape, AllocError>
+    ensures { IfOk result (λ shape. shape ≡ kept_by context.now join.now deduplicate.now) }
+{
+    match (join, deduplicate) {
+        (Some(join), _) => Ok(Shape::Join(joining_of(alloc, context, join)?)),
+        (None, Some(deduplicate)) => Ok(Shape::Dedup(columns_by(
+            alloc,
+            &context.scope,
+            deduplicate.columns.as_slice(),
+        )?)),
+        (None, None) => Ok(Shape::Plain),
+    }
+}
+
+/// What is shown, and what groups must meet.
+#[derive(Debug, Drop)]
+pub struct Shown {
+    pub outputs: Sequence<Output>,
+    /// Those of SELECT, then those of HAVING.
+    pub aggregates: Sequence<Aggregate>,
+    pub having: Option<Typed>,
+}
+
+fn shown_of(alloc: Global, query: &Query, context: &Context) -> Result<Shown, AllocError>
+    requires context { context.now ≡ context_of query.now }
+    ensures { IfOk result (λ shown. shown ≡ shown_of query.now) }
+{
+    let within = shown_within(query);
+    let mut aggregates = Sequence::new(alloc);
+    let items = query.select.items.as_slice();
+    let outputs = outputs_of(alloc, context, within, &mut aggregates, items)?;
+    let having = &query.select.having;
+    let having = having_of(alloc, context, within, &mut aggregates, having)?;
+    Ok(Shown {
+        outputs,
+        aggregates,
+        having,
+    })
+}
+
+fn grouping_of(
+    alloc: Global,
+    query: &Query,
+    context: &Context,
+    aggregates: Sequence<Aggregate>,
+    having: Option<Typed>,
+) -> Result<Grouping, AllocError>
+    requires context { context.now ≡ context_of query.now }
+    requires aggregates { aggregates ≡ (shown_of query.now).aggregates }
+    requires having { having ≡ (shown_of query.now).having }
+    ensures { IfOk result (λ grouping. grouping ≡ grouping_of query.now) }
+{
+    let keys = keys_by(alloc, &context.scope, &query.select.group)?;
+    Ok(Grouping {
+        keys,
+        aggregates,
+        having,
+    })
+}
+
+/// What the query keeps. `aggregates` are those of SELECT and HAVING.
+#[tactic(auto, unfolding(crate::specs::Bound::shape_of))]
+fn shape_of(
+    alloc: Global,
+    query: &Query,
+    context: &Context,
+    aggregates: Sequence<Aggregate>,
+    having: Option<Typed>,
+) -> Result<Shape, AllocError>
+    requires context { context.now ≡ context_of query.now }
+    requires aggregates { aggregates ≡ (shown_of query.now).aggregates }
+    requires having { having ≡ (shown_of query.now).having }
+    ensures { IfOk result (λ shape. shape ≡ shape_of query.now) }
+{
+    if is_group(query) {
+        Ok(Shape::Group(grouping_of(alloc, query, context, aggregates, having)?))
+    } else {
+        let select = &query.select;
+        kept_by(alloc, context, &select.join, &select.deduplicate)
+    }
+}
+
+fn mode_of(mode: ssq_ast::Mode) -> Mode
+    ensures { result ≡ mode_of mode }
+{
+    match mode {
+        ssq_ast::Mode::Append => Mode::Append,
+        ssq_ast::Mode::Update => Mode::Update,
+        ssq_ast::Mode::Complete => Mode::Complete,
+    }
+}
+
+fn filter_of(
+    alloc: Global,
+    context: &Context,
+    filter: &Option<Condition>,
+) -> Result<Option<Typed>, AllocError>
+    ensures { IfOk result (λ typed. typed ≡ option_map (filter_value context.now) filter.now) }
+{
+    match filter {
+        Some(condition) => Ok(Some(row_value(alloc, context, &condition.value)?)),
+        None => Ok(None),
+    }
+}
+
+/// What the query shows and what it keeps.
+fn kept_of(
+    alloc: Global,
+    query: &Query,
+    context: &Context,
+) -> Result<(Sequence<Output>, Shape), AllocError>
+    requires context { context.now ≡ context_of query.now }
+    ensures outputs { IfOk result (λ kept. kept.0 ≡ (shown_of query.now).outputs) }
+    ensures shape { IfOk result (λ kept. kept.1 ≡ shape_of query.now) }
+{
+    let Shown {
+        outputs,
+        aggregates,
+        having,
+    } = shown_of(alloc, query, context)?;
+    let shape = shape_of(alloc, query, context, aggregates, having)?;
+    Ok((outputs, shape))
+}
+
+/// The bound query, once its names are known.
+#[tactic(auto, unfolding(crate::specs::Bound::bound_of))]
+fn bound_in(alloc: Global, query: &Query, context: &Context) -> Result<Bound, AllocError>
+    requires context { context.now ≡ context_of query.now }
+    ensures { IfOk result (λ bound. bound ≡ bound_of query.now) }
+{
+    let select = &query.select;
+    let text = text(alloc, query)?;
+    let streams = streams_of(alloc, query)?;
+    let order = order_by(alloc, select.items.as_slice(), select.order.as_slice())?;
+    let filter = filter_of(alloc, context, &select.filter)?;
+    let (outputs, shape) = kept_of(alloc, query, context)?;
+    Ok(Bound {
+        text,
+        streams,
+        mode: mode_of(select.mode),
+        shape,
+        filter,
+        outputs,
+        order,
+    })
+}
+
+/// The bound query that a query is: a function of the query, also of one that breaks a rule.
+pub fn build(alloc: Global, query: &Query) -> Result<Bound, AllocError>
+    ensures bound { IfOk result (λ bound. bound ≡ bound_of query.now) }
+{
+    let context = context_of(alloc, query)?;
+    bound_in(alloc, query, &context)
+}
+
+/// The bound query that a query is, where it breaks no rule of binding.
+///
+/// # Errors
+///
+/// [`Refusal::Broken`] is the first of the rules that it breaks: the one with the least place, and of several at one
+/// place the one that stands first in [`ssq_check::Cause`]. [`Refusal::NoMemory`] is want of memory alone.
+pub fn bind(alloc: Global, query: &Query) -> Result<Bound, Refusal>
+    ensures bound { IfOk result (λ bound. bound ≡ bound_of query.now) }
+    ensures taken { OnOk result (AreNone (QueryFaults query.now)) }
+    ensures refused { IfErr result (IsRefusedBy (QueryFaults query.now)) }
+{
+    check(alloc, query)?;
+    match build(alloc, query) {
+        Ok(bound) => Ok(bound),
+        Err(_) => Err(Refusal::NoMemory),
+    }
+}
