@@ -1,0 +1,4 @@
+pub mod Parts
+pub mod Asked
+pub mod Went
+pub mod Opened
