@@ -1,0 +1,15 @@
+use Rattle.ssq_promise.proofs.Joining.{nothing_is_run, round_is_run, runs_are_joined}
+use Rattle.ssq_promise.proofs.Leaving.{round_leaves_found}
+use Rattle.ssq_promise.proofs.law.rounds.Goals as goal
+
+pub returns-clause-nothing : goal.returns-clause-nothing
+returns-clause-nothing g c = nothing_is_run (g.D.Disk.tells × g.L.Log.tells)
+
+pub returns-clause-round : goal.returns-clause-round
+returns-clause-round g c = round_is_run (g.D.Disk.tells × g.L.Log.tells)
+
+pub returns-clause-joined : goal.returns-clause-joined
+returns-clause-joined g c = runs_are_joined (g.D.Disk.tells × g.L.Log.tells)
+
+pub returns-clause-over : goal.returns-clause-over
+returns-clause-over g c = round_leaves_found (g.D.Disk.tells × g.L.Log.tells)

@@ -1,0 +1,82 @@
+-- A run as a list of events of the machine, and what that promises.
+use Rattle.std.specs.Prelude.{◌≡◌, ◌<◌, ◌≤◌, ◌+◌, ◌++◌, ℕ, Bool, true, false, List, [], ◌∷◌, Option, None, Contains}
+use Rattle.ssq_outside.specs.declared.name.Name.{Name}
+use Rattle.ssq_outside.specs.Files.{Files}
+use Rattle.ssq_outside.specs.History.{History, files_now, LeavesOnly}
+use Rattle.ssq_core.specs.declared.event.Event.{Event}
+use Rattle.ssq_core.specs.Course.{Cuts, Job, IsCausal, AreSameUpTo}
+use Rattle.ssq_core.specs.Standing.{IsThere, StandsAt, Stands}
+use Rattle.ssq_core.specs.Settled.{IsSettledAs}
+use Rattle.ssq_core.specs.Machine as machine
+use Rattle.ssq_core.specs.Machine.{Desk, running, opened}
+use Rattle.ssq_core.specs.Sound.{StandsOrEmpty, is_state}
+use Rattle.ssq_core.specs.Laws.{acknowledged, HasEpoch}
+use Rattle.ssq_board.specs.declared.front.Entry.{Entry}
+use Rattle.ssq_board.specs.Core.{Scope, is_open}
+use Rattle.ssq_board.specs.Shown.{Start, IsStart, first}
+use Rattle.ssq_board.specs.Follows.{Terms, State, Leads}
+use Rattle.ssq_board.specs.Laws.{IsOpenedAt}
+use Rattle.ssq_board.specs.Told.{acknowledged_of}
+
+-- the machine between two rounds: there is no desk
+abbrev pub closed : History → machine.State
+closed disk = record { disk = disk; desk = None; life = running }
+
+-- From one time to a later one these events came, and these epochs were acknowledged by them, whatever events come later.
+pub record WasRun (tells : Type 0) (job : Job) (start now : History) (told : List ℕ) : Type 0 where
+  pub events : List Event
+  pub leads : machine.Leads tells job (closed start) events (closed now)
+  pub tells_of : (more : List Event) → acknowledged None (events ++ more) ≡ told ++ acknowledged None more
+
+-- where nothing was done
+abbrev pub NothingIsRun : Type 0 → Type 0
+NothingIsRun tells = (job : Job) (disk : History) → WasRun tells job disk disk []
+
+-- What a round begins on: the files are settled, and a desk of the machine opens on them with the numbers of the round.
+pub record Begins (job : Job) (r : Scope) (due : Cuts → ℕ → Bool) (terms : Terms job r due) (st : Start) (s : State) : Type 0 where
+  pub files : Files
+  pub settled : IsSettledAs s.disk files
+  pub desk : Desk
+  pub is : opened job files desk
+  pub at : IsOpenedAt job r due terms st desk
+  pub core : s.core ≡ first r st
+  pub cuts : s.cuts ≡ desk.cuts
+
+-- the entries of a round's desk are a run
+abbrev pub RoundIsRun : Type 0 → Type 0
+RoundIsRun tells = tells → (job : Job) (r : Scope) (due : Cuts → ℕ → Bool) (terms : Terms job r due) (st : Start) (es : List Entry) (s n : State) → Begins job r due terms st s
+    → Leads tells job r due s es n → WasRun tells job s.disk n.disk (acknowledged_of r st es)
+
+abbrev pub RunsAreJoined : Type 0 → Type 0
+RunsAreJoined tells = (job : Job) (start mid now : History) (told more : List ℕ) → WasRun tells job start mid told → WasRun tells job mid now more → WasRun tells job start now (told ++ more)
+
+-- What a round left that is over: its files are settled, and for any cuts that are the round's as far as epochs are planned, a desk of the
+-- machine opens on them.
+pub record IsLeft (job : Job) (n : State) (cuts : Cuts) : Type 0 where
+  pub settled : IsSettledAs n.disk (files_now n.disk)
+  pub desk : Desk
+  pub is : opened job (files_now n.disk) desk
+  pub are : desk.cuts ≡ cuts
+  pub planned : desk.planned ≡ n.core.front.planned
+  pub committed : desk.committed ≡ n.core.front.committed
+
+abbrev pub RoundLeavesFound : Type 0 → Type 0
+RoundLeavesFound tells = tells → (job : Job) (r : Scope) (due : Cuts → ℕ → Bool) (terms : Terms job r due) (st : Start) (es : List Entry) (s n : State) → Begins job r due terms st s
+    → Leads tells job r due s es n → n.core.front.stop ≡ None → n.core.front.settled ≡ true → is_open n.core ≡ false
+    → (cuts : Cuts) → AreSameUpTo cuts n.cuts n.core.front.planned → IsLeft job n cuts
+
+-- Each epoch that was acknowledged by some time of a run is in each image from then on.
+abbrev pub AcknowledgedAreKept : {tells : Type 0} {job : Job} {start now : History} {told : List ℕ} → WasRun tells job start now told → Type 0
+AcknowledgedAreKept {tells} {job} {start} {now} run = (before after : List Event) (at : machine.State) → run.events ≡ before ++ after → machine.Leads tells job (closed start) before at → machine.Leads tells job at after (closed now)
+    → (e : ℕ) → Contains (acknowledged None before) e → LeavesOnly at.disk now (HasEpoch (files_now at.disk) e)
+
+-- What a run promises that began on these files: each image of each moment stands, or stands empty; a file that was there is in each image,
+-- as it was, but for files of the state; and each epoch that was acknowledged is in each image from then on.
+pub record IsKept (tells : Type 0) (job : Job) (start now : History) (files : Files) (told : List ℕ) (run : WasRun tells job start now told) : Type 0 where
+  pub stands : LeavesOnly start now (StandsOrEmpty job)
+  pub stays : (q : Name) → is_state q ≡ false → IsThere files q → LeavesOnly start now (λ image. image q ≡ files q)
+  pub acknowledged_stay : AcknowledgedAreKept run
+
+abbrev pub RunIsKept : Type 0 → Type 0
+RunIsKept tells = tells → (job : Job) (start now : History) (files : Files) (told : List ℕ) → IsCausal job → IsSettledAs start files → StandsOrEmpty job files → (run : WasRun tells job start now told)
+    → IsKept tells job start now files told run

@@ -1,0 +1,20 @@
+//! What holds of every run.
+
+ghost use Rattle.ssq_promise.specs.Run.{NothingIsRun, RoundIsRun, RunsAreJoined, RoundLeavesFound, RunIsKept};
+
+use ssq_outside::{Disk, Log};
+
+/// The law of rounds: a round's entries are a run; rounds are joined to one run; and what a round that is over leaves is settled and
+/// stands, so that the next may begin on it.
+pub fn rounds<D: Disk, L: Log>()
+    ensures nothing { NothingIsRun (D.tells × L.tells) }
+    ensures round { RoundIsRun (D.tells × L.tells) }
+    ensures joined { RunsAreJoined (D.tells × L.tells) }
+    ensures over { RoundLeavesFound (D.tells × L.tells) }
+{}
+
+/// The law of runs: from a checkpoint that stands, and is settled, each image of each moment stands; each file that was there stays as it
+/// was, but for files of the state; and each epoch that was told is in each image from when it was acknowledged.
+pub fn run<D: Disk, L: Log>()
+    ensures { RunIsKept (D.tells × L.tells) }
+{}
