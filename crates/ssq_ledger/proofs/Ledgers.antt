@@ -1,0 +1,75 @@
+-- What is so of each ledger stays so after the entries of a call.
+use Rattle.std.proofs.Common.{◌≡◌, ◌+◌, ◌≤◌, ◌<◌, ◌++◌, ◌∷◌, [], ℕ, Bool, true, List, length, length-append, sym, refl, ap, ◌∙◌, subst, arith}
+use Rattle.ssq_outside.specs.History.{History}
+use Rattle.ssq_core.specs.Course.{Cuts, Job}
+use Rattle.ssq_board.specs.declared.front.Entry.{Entry}
+use Rattle.ssq_board.specs.Core.{Scope, Core, need, May, after, after_all, cuts_by, cuts_all}
+use Rattle.ssq_board.specs.Rounds.{spends}
+use Rattle.ssq_board.specs.Shown.{IsSound, first}
+use Rattle.ssq_board.specs.Follows.{State, Leads, Moves, IsRight}
+use Rattle.ssq_board.proofs.Needs.{need_falls}
+use Rattle.ssq_board.proofs.Sounds.{run_sound, first_sound}
+use Rattle.ssq_ledger.specs.Shown.{Opening, state, first_state, cuts_after, IsLedger}
+
+module _ (tells : Type 0) (job : Job) (r : Scope) (next : Cuts → ℕ → Bool) where
+  leads_more : (s : State) (es : List Entry) (mid : State) (fs : List Entry) (n : State) → Leads tells job r next s es mid → Leads tells job r next mid fs n → Leads tells job r next s (es ++ fs) n
+  leads_more s [] mid fs n l more = subst (λ x. Leads tells job r next x fs n) (sym l) more
+  leads_more s (e ∷ es) mid fs n l more = (l.0, l.1, leads_more l.0 es mid fs n l.2 more)
+
+  -- the cuts follow from the entries
+  leads_cuts : (s : State) (es : List Entry) (n : State) → Leads tells job r next s es n → n.cuts ≡ cuts_all r s.cuts s.core es
+  leads_cuts s [] n l = ap (λ x. x.cuts) (sym l)
+  leads_cuts s (e ∷ es) n l = leads_cuts l.0 es n l.2 ∙ (λ i. cuts_all r (l.1.cuts i) (l.1.core i) es)
+
+  -- and so does what the ledger knows
+  leads_core : (s : State) (es : List Entry) (n : State) → Leads tells job r next s es n → n.core ≡ after_all r s.core es
+  leads_core s [] n l = ap (λ x. x.core) (sym l)
+  leads_core s (e ∷ es) n l = leads_core l.0 es n l.2 ∙ (λ i. after_all r (l.1.core i) es)
+
+-- the cuts after one entry more
+pub cuts_more : (r : Scope) (cuts : Cuts) (c : Core) (es : List Entry) (e : Entry) → cuts_all r cuts c (es ++ e ∷ []) ≡ cuts_by r (cuts_all r cuts c es) (after_all r c es) e
+cuts_more r cuts c [] e = refl
+cuts_more r cuts c (x ∷ es) e = cuts_more r (cuts_by r cuts c x) (after r c x) es e
+
+module _ (tells : Type 0) (o : Opening) (opened : History) (r : Scope) (disk : History) (c : Core) (entries : List Entry) (capacity : ℕ) (d : IsLedger tells o opened r disk c entries capacity) where
+  -- one entry more
+  pub one : (new : History) (n : Core) (now : List Entry) (more : ℕ) (e : Entry) → May r c e → (tells → Moves o.job r c (cuts_after o r entries) e disk new)
+      → (tells → IsRight o.job o.due (cuts_after o r entries) e) → n ≡ after r c e → now ≡ entries ++ e ∷ [] → length entries + 1 + need n ≤ more → IsLedger tells o opened r new n now more
+  one new n now more e may moves right is here room =
+      let next : State = state new n (cuts_by r (cuts_after o r entries) c e) in
+      let moved : tells → Moves o.job r c (cuts_after o r entries) e d.until new = (λ t. subst (λ (x : History). Moves o.job r c (cuts_after o r entries) e x new) (sym (d.is_disk t)) (moves t)) in
+      let last : Leads tells o.job r o.due (state d.until c (cuts_after o r entries)) (e ∷ []) next = (next, record { may = may; moves = moved; right = right; core = is; cuts = refl }, refl) in
+      let all = leads_more tells o.job r o.due (first_state o r opened) entries (state d.until c (cuts_after o r entries)) (e ∷ []) next d.leads last in
+      let same = leads_cuts tells o.job r o.due (first_state o r opened) (entries ++ e ∷ []) next all in record {
+        until = new;
+        is_disk = λ t. refl;
+        leads = subst (λ (x : List Entry). Leads tells o.job r o.due (first_state o r opened) x (state new n (cuts_after o r x))) (sym here)
+            (subst (λ (x : Cuts). Leads tells o.job r o.due (first_state o r opened) (entries ++ e ∷ []) (state new n x)) same all);
+        start = d.start;
+        terms = d.terms;
+        plans = d.plans;
+        room = (let a = ap length here in let b = length-append entries (e ∷ []) in omega arith);
+        few = d.few;
+      }
+
+  -- none, with a call of the disk that changes nothing
+  pub still : (new : History) → (tells → new ≡ disk) → IsLedger tells o opened r new c entries capacity
+  still new same = record { until = d.until; is_disk = λ t. d.is_disk t ∙ sym (same t); leads = d.leads; start = d.start; terms = d.terms; plans = d.plans; room = d.room; few = d.few }
+
+  -- what it knows follows from its entries
+  pub known : c ≡ after_all r (first r o.start) entries
+  known = leads_core tells o.job r o.due (first_state o r opened) entries (state d.until c (cuts_after o r entries)) d.leads
+
+  -- what holds of each state that entries lead to
+  pub held : IsSound r c
+  held = run_sound tells o.job r o.due entries (first_state o r opened) (state d.until c (cuts_after o r entries)) d.leads (first_sound r o.start d.start)
+
+  -- there is room for an entry that spends of it
+  pub has_room : (e : Entry) → May r c e → spends e ≡ true → length entries < capacity
+  has_room e may is = (let n = need_falls r c e held may is in let k = d.room in omega arith)
+
+  -- and after it for all that can still come
+  pub spent : (new : History) (n : Core) (now : List Entry) (more : ℕ) (e : Entry) → spends e ≡ true → May r c e → (tells → Moves o.job r c (cuts_after o r entries) e disk new)
+      → (tells → IsRight o.job o.due (cuts_after o r entries) e) → n ≡ after r c e → now ≡ entries ++ e ∷ [] → capacity ≤ more → IsLedger tells o opened r new n now more
+  spent new n now more e is may moves right to here kept =
+      one new n now more e may moves right to here (let n = need_falls r c e held may is in let k = d.room in let q = ap need to in omega arith)

@@ -1,0 +1,218 @@
+//! The ledger's type.
+
+ghost use Rattle.std.specs.Prelude.{◌≡◌, ◌≤◌, ◌<◌, ◌+◌, ◌^◌, true, length, [], ◌∷◌, IfOk, IfErr, IsErrOf, vec_capacity};
+ghost use Rattle.ssq_outside.specs.Faults.{Rises};
+ghost use Rattle.ssq_board.specs.declared.front.Entry.{Entry};
+ghost use Rattle.ssq_board.specs.Core.{need, after_all, cuts_by, ready_of};
+ghost use Rattle.ssq_board.specs.Shown.{IsStart, first};
+ghost use Rattle.ssq_board.specs.Follows.{Terms};
+ghost use Rattle.ssq_ledger.specs.Shown.{Shown, IsLedger, IsLegal, LeadsHere, IsInOrder, TellsPlans, did, cuts_of};
+
+use crate::board::Board;
+use crate::calls::room_of;
+use crate::scope::{Scope, Start};
+use ssq_board::{Entry, Front, Place, Ready};
+use ssq_outside::{Disk, DiskError, Stage};
+use ssq_plans::PartEnd;
+use std::alloc::{AllocError, Global};
+use std::marker::Model;
+use std::snapshot::Snapshot;
+
+/// What was opened, as contracts see it.
+pub trait Opening: Drop {
+    ghost use Rattle.ssq_ledger.specs.Shown.{Opening};
+
+    /// Whether the logs tell what they hold.
+    ghost tells: { Type 0 };
+    /// The job, its cuts so far, when an epoch without lines is due, and where the round begins.
+    ghost opening: { Self → Opening };
+}
+
+/// The disk, where the tasks of the epoch that runs are, and the history of what was done.
+#[derive(Drop)]
+pub struct Ledger<D: Disk, O: Opening> {
+    pub(crate) opening: Snapshot<O>,
+    pub(crate) opened: Snapshot<D>,
+    pub(crate) scope: Scope,
+    pub(crate) disk: D,
+    pub(crate) board: Board,
+    pub(crate) entries: Vec<Entry>,
+}
+
+impl<D: Disk, O: Opening> Model for Ledger<D, O> {
+    ghost Value = { Shown D O };
+
+    ghost view = { λ s. record { opening = s.opening.value; opened = s.opened.value; scope = s.scope; disk = s.disk; core = s.board; history = s.entries.items } };
+
+    ghost invariant = { λ s. IsLedger (D.tells × O.tells) (O.opening s.opening.value) (D.history s.opened.value) s.scope (D.history s.disk) s.board s.entries.items (vec_capacity s.entries) };
+}
+
+impl<D: Disk, O: Opening> Ledger<D, O> {
+    /// The ledger of a round that begins here. The disk comes back where memory ran out.
+    pub fn new(
+        alloc: Global,
+        opening: Snapshot<O>,
+        disk: D,
+        scope: Scope,
+        start: Start,
+    ) -> Result<Ledger<D, O>, D>
+        requires start { IsStart scope start }
+        requires opened { start ≡ (O.opening opening.value).start }
+        requires numbers { start.is_planned ≡ true → start.committed < 4294967295 }
+        requires few { length scope.available + scope.partitions ≤ 2 ^ 32 }
+        requires terms { Terms (O.opening opening.value).job scope (O.opening opening.value).due }
+        requires plans { TellsPlans (O.opening opening.value).job }
+        ensures made { IfOk result (λ made. made ≡ record { opening = opening.value; opened = disk; scope = scope; disk = disk; core = first scope (O.opening opening.value).start; history = [] }) }
+        ensures back { IfErr result (λ back. back ≡ disk) }
+    {
+        let opened = Snapshot::of(&disk);
+        match begin(alloc, &scope, start) {
+            Ok((board, entries)) => Ok(Ledger {
+                opening,
+                opened,
+                scope,
+                disk,
+                board,
+                entries,
+            }),
+            Err(_) => Err(disk),
+        }
+    }
+
+    /// The law of the ledger: its history is legal from what was opened, and its numbers rest on what the job owes.
+    pub fn is_legal(&self)
+        ensures legal { IsLegal (D.tells × O.tells) D.history O.opening self.now }
+        ensures here { (D.tells × O.tells) → LeadsHere (D.tells × O.tells) D.history O.opening self.now }
+        // What it knows and which cuts are planned follow from its entries, one by one.
+        ensures core { self.now.core ≡ after_all self.now.scope (first self.now.scope (O.opening self.now.opening).start) self.now.history }
+        ensures cuts { (disk : _) (e : Entry) → cuts_of O.opening (did self.now disk (e ∷ [])) ≡ cuts_by self.now.scope (cuts_of O.opening self.now) self.now.core e }
+        ensures start { IsStart self.now.scope (O.opening self.now.opening).start }
+        ensures terms { Terms (O.opening self.now.opening).job self.now.scope (O.opening self.now.opening).due }
+        ensures plans { TellsPlans (O.opening self.now.opening).job }
+    {
+        let _ = &self.entries;
+    }
+
+    /// The law of its tasks: what is so of each ledger, by its history.
+    pub fn is_in_order(&self)
+        ensures { IsInOrder self.now.scope self.now.core }
+    {
+        let _ = &self.entries;
+    }
+
+    /// Begins a file aside.
+    pub fn stage(&mut self, alloc: Global) -> Result<D::Stage, DiskError>
+        ensures did { self.new ≡ did self.old self.new.disk [] }
+        ensures same { D.tells → D.history self.new.disk ≡ D.history self.old.disk }
+        ensures empty { D.tells → IfOk result (λ stage. D.Stage.written stage ≡ []) }
+        ensures fresh { IfOk result (λ stage. D.Stage.faults stage ≡ 0) }
+        ensures counted { D.faults self.old.disk ≤ D.faults self.new.disk }
+        ensures cause { IsErrOf result DiskError.Fault → Rises (D.faults self.old.disk) (D.faults self.new.disk) }
+    {
+        self.disk.stage(alloc)
+    }
+
+    /// Takes a file away that was begun aside. Its faults count as the disk's.
+    pub fn discard(&mut self, stage: D::Stage)
+        ensures did { self.new ≡ did self.old self.new.disk [] }
+        ensures same { D.tells → D.history self.new.disk ≡ D.history self.old.disk }
+        ensures counted { D.faults self.old.disk ≤ D.faults self.new.disk }
+        ensures cause { 0 < D.Stage.faults stage → Rises (D.faults self.old.disk) (D.faults self.new.disk) }
+        ensures unfailed { D.Stage.faults stage ≡ 0 → D.faults self.new.disk ≡ D.faults self.old.disk }
+    {
+        self.disk.discard(stage);
+    }
+
+    /// The disk, and the history of what was done.
+    pub fn closed(self) -> (D, Vec<Entry>)
+        ensures disk { result.0 ≡ self.disk }
+        ensures history { result.1.items ≡ self.history }
+    {
+        let Ledger { disk, entries, .. } = self;
+        (disk, entries)
+    }
+
+    /// What is next.
+    pub fn ready(&self) -> Ready
+        ensures { result ≡ ready_of self.now.scope self.now.core }
+    {
+        self.board.ready(&self.scope)
+    }
+
+    /// The counts.
+    pub fn front(&self) -> Front
+        ensures { result ≡ self.now.core.front }
+    {
+        self.board.front()
+    }
+
+    /// Where the lines of the planned epochs end.
+    pub fn ends(&self) -> &[PartEnd]
+        ensures { result.now ≡ self.now.core.ends }
+    {
+        self.board.ends()
+    }
+
+    /// How many partitions there are.
+    pub fn partitions(&self) -> u32
+        ensures { result ≡ self.now.scope.partitions }
+    {
+        self.scope.partitions
+    }
+
+    /// How many lines of a part an epoch may take.
+    pub fn cap(&self) -> Option<u64>
+        ensures { result ≡ self.now.scope.cap }
+    {
+        self.scope.cap
+    }
+
+    /// What was done so far.
+    pub fn history(&self) -> &[Entry]
+        ensures { result.now ≡ self.now.history }
+    {
+        self.entries.as_slice()
+    }
+
+    /// How many lines each part was found to have.
+    pub fn available(&self) -> &[u64]
+        ensures { result.now ≡ self.now.scope.available }
+    {
+        self.scope.available.as_slice()
+    }
+
+    /// Where the map tasks are.
+    pub fn maps(&self) -> &[Place]
+        ensures { result.now ≡ self.now.core.maps }
+    {
+        self.board.maps()
+    }
+
+    /// Where the reduce tasks are.
+    pub fn reduces(&self) -> &[Place]
+        ensures { result.now ≡ self.now.core.reduces }
+    {
+        self.board.reduces()
+    }
+
+    /// Where the out task is.
+    pub fn outs(&self) -> &[Place]
+        ensures { result.now ≡ self.now.core.outs }
+    {
+        self.board.outs()
+    }
+}
+
+/// What a ledger knows where its round begins, and a history with room for all entries that can come before the next sync.
+fn begin(alloc: Global, scope: &Scope, start: Start) -> Result<(Board, Vec<Entry>), AllocError>
+    requires numbers { start.is_planned ≡ true → start.committed < 4294967295 }
+    requires start { IsStart scope.now start }
+    requires few { length scope.now.available + scope.now.partitions ≤ 2 ^ 32 }
+    ensures board { IfOk result (λ made. made.0 ≡ first scope.now start) }
+    ensures entries { IfOk result (λ made. made.1.items ≡ []) }
+    ensures room { IfOk result (λ made. need made.0 ≤ vec_capacity made.1) }
+{
+    let board = Board::first(alloc, scope, start)?;
+    let entries = Vec::with_capacity(alloc, room_of(board.count()))?;
+    Ok((board, entries))
+}
