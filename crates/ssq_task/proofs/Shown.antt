@@ -10,7 +10,8 @@ use Rattle.ssq_meaning.specs.Epochs.{timely}
 use Rattle.ssq_task.specs.declared.partition.ReduceTask.{ReduceTask}
 use Rattle.ssq_task.specs.declared.partition.Reduced.{Reduced}
 use Rattle.ssq_task.specs.declared.partition.ReduceFault.TheVariants.{NoMemory}
-use Rattle.ssq_task.specs.Reducing.{IsReduced}
+use Rattle.ssq_task.specs.Reducing.{IsReduced, values_of}
+use Rattle.ssq_task.specs.Lists.{joined_vecs}
 
 -- all rows are kept
 all_kept : (rows : List FedRow) → filter (λ row. true) rows ≡ rows
@@ -37,16 +38,16 @@ then_ok P Q (Ok v) so is = so v is
 then_ok P Q (Err e) so is = tt
 
 pub reduced_is : (task : ReduceTask) (done : Reduced) → done.view ≡ task.view → done.epoch ≡ task.epoch → done.partition ≡ task.partition → done.watermark ≡ task.watermark
-    → IfOk done.outcome (λ values. values.items ≡ map (λ row. row.values) task.rows.items) → IfErr done.outcome (λ fault. fault ≡ NoMemory) → IsReduced task done
+    → IfOk done.outcome (λ values. values.items ≡ values_of (joined_vecs task.rows.items)) → IfErr done.outcome (λ fault. fault ≡ NoMemory) → IsReduced task done
 unfolding operator_of
 reduced_is task done view epoch partition watermark rows cause = record {
   view = view;
   epoch = epoch;
   partition = partition;
   watermark = watermark;
-  rows = λ old before. then_ok (λ values. values.items ≡ map (λ row. row.values) task.rows.items)
-      (λ values. values.items ≡ (operator_of task.view.bound.now).added old (timely task.view.bound.now task.watermark task.rows.items) before task.watermark)
-      done.outcome (λ values is. is ∙ shows task.view.bound.now.shape task.view.bound.now old task.rows.items before task.watermark) rows;
-  faultless = λ old before. no_key task.view.bound.now.shape task.view.bound.now old task.rows.items before task.watermark;
+  rows = λ old before. then_ok (λ values. values.items ≡ values_of (joined_vecs task.rows.items))
+      (λ values. values.items ≡ (operator_of task.view.bound.now).added old (timely task.view.bound.now task.watermark (joined_vecs task.rows.items)) before task.watermark)
+      done.outcome (λ values is. is ∙ shows task.view.bound.now.shape task.view.bound.now old (joined_vecs task.rows.items) before task.watermark) rows;
+  faultless = λ old before. no_key task.view.bound.now.shape task.view.bound.now old (joined_vecs task.rows.items) before task.watermark;
   cause = cause;
 }

@@ -1,11 +1,13 @@
 -- What an out task does.
-use Rattle.std.specs.Prelude.{◌≡◌, ◌⊎◌, ◌≤◌, ◌++◌, ℕ, List, length, Result, Ok, Err, IfOk, IfErr}
+use Rattle.std.specs.Prelude.{◌≡◌, ◌⊎◌, ◌++◌, ℕ, List, length, IfOk, IfErr}
 use Rattle.ssq_outside.specs.declared.disk.StageError.{StageError}
 use Rattle.ssq_outside.specs.declared.disk.StageError.TheVariants as error
 use Rattle.ssq_outside.specs.Faults.{Rises}
 use Rattle.ssq_shape.specs.Plain.{output_names}
 use Rattle.ssq_plans.specs.Records.{commit_text}
 use Rattle.ssq_sink.specs.Sink.{sink_text}
+use Rattle.ssq_task.specs.Lists.{joined_vecs}
+use Rattle.ssq_task.specs.Committing.{commit_at}
 use Rattle.ssq_task.specs.declared.out.GatherFault.{GatherFault}
 use Rattle.ssq_task.specs.declared.out.GatherFault.TheVariants as fault
 use Rattle.ssq_task.specs.declared.out.OutTask.{OutTask}
@@ -55,14 +57,15 @@ module _ {S F : Type 0} (written : S → List ℕ) (sealed : F → List ℕ) whe
 module _ {S F : Type 0} (tells : Type 0) (written : S → List ℕ) (sealed : F → List ℕ) (faults : S → ℕ) where
   -- the sealed files: the text of the rows, and that of the commit, behind what the files had
   pub record HasEpoch (task : OutTask S F) (files : SealedEpoch F) : Type 0 where
-    pub rows : sealed files.rows ≡ written task.stages.rows ++ sink_text (output_names task.view.bound.now) task.rows.items
-    pub commit : sealed files.commit ≡ written task.stages.commit ++ commit_text task.commit
+    pub rows : sealed files.rows ≡ written task.stages.rows ++ sink_text (output_names task.view.bound.now) (joined_vecs task.rows.items)
+    pub commit : sealed files.commit ≡ written task.stages.commit ++ commit_text (commit_at task.view.bound.now task.epoch task.seen)
 
-  -- It names its task, and brings both files of the epoch with the number of its rows; or what is left of them, and why.
+  -- It names its task and gives back its greatest times, and brings both files of the epoch with the number of its rows; or what is left
+  -- of them, and why.
   pub record IsGathered (task : OutTask S F) (done : Gathered S F) : Type 0 where
     pub view : done.view ≡ task.view
     pub epoch : done.epoch ≡ task.epoch
-    pub commit : done.commit ≡ task.commit
+    pub seen : done.seen ≡ task.seen
     pub files : tells → IfOk done.outcome (HasEpoch task)
-    pub count : IfOk done.outcome (λ files. files.count ≡ length task.rows.items)
+    pub count : IfOk done.outcome (λ files. files.count ≡ length (joined_vecs task.rows.items))
     pub cause : IfErr done.outcome (λ failed. GatherCause faults failed.0 task.stages failed.1)

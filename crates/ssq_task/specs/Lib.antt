@@ -1,2 +1,4 @@
+pub mod Lists
 pub mod Reducing
+pub mod Committing
 pub mod Gathering

@@ -1,22 +1,25 @@
 //! The out task: the rows of all partitions as the text of the epoch's sink file, and the epoch's commit.
 
-ghost use Rattle.std.specs.Prelude.{◌≡◌, ◌≤◌, OnOk, IfOk, IfErr, All};
+ghost use Rattle.std.specs.Prelude.{◌≡◌, ◌≤◌, ◌^◌, ◌++◌, length, OnOk, IfOk, IfErr, All};
 ghost use Rattle.ssq_time.specs.Time.{IsStampTime};
 ghost use Rattle.ssq_value.specs.Kind.{IfTime};
 ghost use Rattle.ssq_shape.specs.Plain.{output_names};
-ghost use Rattle.ssq_plans.specs.Records.{HasLineTime, commit_text};
+ghost use Rattle.ssq_plans.specs.Records.{commit_text};
 ghost use Rattle.ssq_sink.specs.Sink.{sink_text};
 ghost use Rattle.ssq_task.specs.declared.out.GatherFault.TheVariants.{DiskFault};
 ghost use Rattle.ssq_task.specs.declared.stages.Aside.TheVariants.{Open};
+ghost use Rattle.ssq_task.specs.Lists.{joined_vecs};
+ghost use Rattle.ssq_task.specs.Committing.{commit_at};
 ghost use Rattle.ssq_task.specs.Gathering.{HasWritten, WriteCause, IsSealed, SealCause, IsGathered};
 
+use crate::commit::commit_record;
 use crate::stages::{Aside, Remnant, SealedEpoch, Stages};
 use ssq_meaning::View;
 use ssq_outside::{Stage, StageError};
-use ssq_plans::{Commit, write_commit};
 use ssq_shape::Bound;
 use ssq_sink::epoch_text;
-use ssq_value::Row;
+use ssq_value::{Row, Text};
+use ssq_water::Seen;
 use std::alloc::{AllocError, Global};
 use thiserror::Error;
 
@@ -61,42 +64,84 @@ impl From<StageError> for GatherFault {
 pub struct OutTask<'a, S: Stage> {
     pub view: View<'a>,
     pub epoch: u32,
-    pub commit: Commit,
-    /// The rows of all partitions, in any order.
-    pub rows: Vec<Row>,
+    /// The greatest event times over all epochs up to and with this one.
+    pub seen: Seen,
+    /// The rows that the epoch shows: those of each partition, in the order of partitions.
+    pub rows: Vec<Vec<Row>>,
     /// Two files aside, in which nothing is written yet.
     pub stages: Stages<S>,
 }
 
-/// The result of an out task: the task's view, epoch and commit, and both files sealed, or why not and what is left of them.
+/// The result of an out task: the task's view, epoch and greatest times, and both files sealed, or why not and what is left of them.
 #[derive(Drop)]
 pub struct Gathered<'a, S: Stage> {
     pub view: View<'a>,
     pub epoch: u32,
-    pub commit: Commit,
+    pub seen: Seen,
     pub outcome: Result<SealedEpoch<S::Sealed>, (GatherFault, Remnant<S, S::Sealed>)>,
 }
 
-/// Writes the text of the rows and that of the commit, each to its file.
+/// Puts the rows of a partition behind those that are there.
+fn push_rows(all: &mut Vec<Row>, rows: Vec<Row>) -> Result<(), AllocError>
+    ensures { OnOk result (all.new.items ≡ all.old.items ++ rows.items) }
+{
+    all.reserve(rows.len())?;
+    for row in rows {
+        all.push(row)?;
+    }
+    Ok(())
+}
+
+/// The rows of all partitions, one partition after the other.
+fn all_rows(alloc: Global, partitions: Vec<Vec<Row>>) -> Result<Vec<Row>, AllocError>
+    ensures { IfOk result (λ all. all.items ≡ joined_vecs partitions.items) }
+{
+    let mut all = Vec::new(alloc);
+    for rows in partitions {
+        push_rows(&mut all, rows)?;
+    }
+    Ok(all)
+}
+
+/// The text of the rows of all partitions, and how many there are.
+fn rows_record(
+    alloc: Global,
+    bound: &Bound,
+    partitions: Vec<Vec<Row>>,
+) -> Result<(Text, u64), AllocError>
+    requires { All (All (IfTime IsStampTime)) (joined_vecs partitions.items) }
+    ensures text { IfOk result (λ told. told.0 ≡ sink_text (output_names bound.now) (joined_vecs partitions.items)) }
+    ensures count { IfOk result (λ told. told.1 ≡ length (joined_vecs partitions.items)) }
+{
+    let rows = all_rows(alloc, partitions)?;
+    let count = rows.len() as u64;
+    let text = epoch_text(alloc, bound, rows)?;
+    Ok((text, count))
+}
+
+/// Writes the text of the rows and that of the commit, each to its file, and tells how many rows there are.
 fn write_both<S: Stage>(
     alloc: Global,
     bound: &Bound,
-    rows: Vec<Row>,
-    commit: &Commit,
+    epoch: u32,
+    seen: &Seen,
+    rows: Vec<Vec<Row>>,
     stages: &mut Stages<S>,
-) -> Result<(), GatherFault>
-    requires printable { All (All (IfTime IsStampTime)) rows.items }
-    requires timely { All HasLineTime commit.now.seen }
+) -> Result<u64, GatherFault>
+    requires printable { All (All (IfTime IsStampTime)) (joined_vecs rows.items) }
+    requires each { length seen.now ≡ length bound.now.streams }
+    requires few { length bound.now.streams ≤ 2 ^ 32 }
     ensures written { S.tells → OnOk result
-        (HasWritten S.written (sink_text (output_names bound.now) rows.items) (commit_text commit.now) stages.old stages.new) }
+        (HasWritten S.written (sink_text (output_names bound.now) (joined_vecs rows.items)) (commit_text (commit_at bound.now epoch seen.now)) stages.old stages.new) }
+    ensures count { IfOk result (λ count. count ≡ length (joined_vecs rows.items)) }
     ensures counted { (S.faults stages.old.rows ≤ S.faults stages.new.rows) × (S.faults stages.old.commit ≤ S.faults stages.new.commit) }
     ensures cause { IfErr result (λ fault. WriteCause S.faults fault stages.old stages.new) }
 {
-    let text = epoch_text(alloc, bound, rows)?;
+    let (text, count) = rows_record(alloc, bound, rows)?;
     stages.rows.write(text.as_bytes())?;
-    let record = write_commit(alloc, commit)?;
+    let record = commit_record(alloc, bound, epoch, seen)?;
     stages.commit.write(record.as_slice())?;
-    Ok(())
+    Ok(count)
 }
 
 /// Seals both files.
@@ -159,29 +204,29 @@ fn seal_epoch<S: Stage>(
 
 /// Sorts the rows and writes them as the text of the epoch's sink file, writes the epoch's commit, and seals both.
 ///
-/// The rows have the columns of SELECT and times of the years 0001 to 9999, the times of the commit are of the years 1000 to 9000.
-/// A file that failed, and want of memory, are told with what is left of the files.
+/// The rows have the columns of SELECT and times of the years 0001 to 9999. There are as many greatest times as the query has streams,
+/// and these are at most 2^32. A file that failed, and want of memory, are told with what is left of the files.
 pub fn gather<'a, S: Stage>(alloc: Global, task: OutTask<'a, S>) -> Gathered<'a, S>
-    requires printable { All (All (IfTime IsStampTime)) task.rows.items }
-    requires timely { All HasLineTime task.commit.seen }
+    requires printable { All (All (IfTime IsStampTime)) (joined_vecs task.rows.items) }
+    requires each { length task.seen ≡ length task.view.bound.now.streams }
+    requires few { length task.view.bound.now.streams ≤ 2 ^ 32 }
     ensures { IsGathered S.tells S.written S.sealed S.faults task.entry result }
 {
     let OutTask {
         view,
         epoch,
-        commit,
+        seen,
         rows,
         mut stages,
     } = task;
-    let count = rows.len() as u64;
-    let outcome = match write_both(alloc, view.bound, rows, &commit, &mut stages) {
-        Ok(()) => seal_epoch(stages, count),
+    let outcome = match write_both(alloc, view.bound, epoch, &seen, rows, &mut stages) {
+        Ok(count) => seal_epoch(stages, count),
         Err(fault) => Err((fault, remnant(stages))),
     };
     Gathered {
         view,
         epoch,
-        commit,
+        seen,
         outcome,
     }
 }

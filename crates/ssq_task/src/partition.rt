@@ -1,8 +1,9 @@
-//! The reduce task of a query without state: the rows of a bucket as they are shown.
+//! The reduce task of a query without state: the rows of a partition as they are shown.
 
-ghost use Rattle.std.specs.Prelude.{◌≡◌, map, IfOk, IfErr};
+ghost use Rattle.std.specs.Prelude.{◌≡◌, ◌++◌, map, IfOk, IfErr, OnOk};
 ghost use Rattle.ssq_task.specs.declared.partition.ReduceFault.TheVariants.{NoMemory};
-ghost use Rattle.ssq_task.specs.Reducing.{IsReduced};
+ghost use Rattle.ssq_task.specs.Reducing.{IsReduced, values_of};
+ghost use Rattle.ssq_task.specs.Lists.{joined_vecs};
 
 use ssq_meaning::{FedRow, View};
 use ssq_value::Row;
@@ -43,8 +44,8 @@ pub struct ReduceTask<'a> {
     pub partition: u32,
     /// The watermark of the epoch, in microseconds since 1970.
     pub watermark: Option<i64>,
-    /// The rows of the partition, in the order of streams, parts and lines.
-    pub rows: Vec<FedRow>,
+    /// The rows of the partition: those of each part, in the order of streams and parts, each in the order of lines.
+    pub rows: Vec<Vec<FedRow>>,
 }
 
 /// The result of a reduce task: the task's own fields, and what came of it.
@@ -58,23 +59,34 @@ pub struct Reduced<'a> {
     pub outcome: Result<Vec<Row>, ReduceFault>,
 }
 
-/// The values of each row, in order.
-fn values_of(alloc: Global, rows: Vec<FedRow>) -> Result<Vec<Row>, AllocError>
-    ensures { IfOk result (λ values. values.items ≡ map (λ row. row.values) rows.items) }
+/// Puts the values of each row of a part behind those that are there.
+fn push_values(values: &mut Vec<Row>, rows: Vec<FedRow>) -> Result<(), AllocError>
+    ensures { OnOk result (values.new.items ≡ values.old.items ++ values_of rows.items) }
 {
-    let mut values = Vec::with_capacity(alloc, rows.len())?;
+    values.reserve(rows.len())?;
     for row in rows {
         values.push(row.values)?;
+    }
+    Ok(())
+}
+
+/// The values of each row, part by part.
+fn values_of_all(alloc: Global, parts: Vec<Vec<FedRow>>) -> Result<Vec<Row>, AllocError>
+    ensures { IfOk result (λ values. values.items ≡ values_of (joined_vecs parts.items)) }
+{
+    let mut values = Vec::new(alloc);
+    for rows in parts {
+        push_values(&mut values, rows)?;
     }
     Ok(values)
 }
 
 /// The same, where want of memory is the fault of a task.
-fn shown_rows(alloc: Global, rows: Vec<FedRow>) -> Result<Vec<Row>, ReduceFault>
-    ensures rows { IfOk result (λ values. values.items ≡ map (λ row. row.values) rows.items) }
+fn shown_rows(alloc: Global, parts: Vec<Vec<FedRow>>) -> Result<Vec<Row>, ReduceFault>
+    ensures rows { IfOk result (λ values. values.items ≡ values_of (joined_vecs parts.items)) }
     ensures cause { IfErr result (λ fault. fault ≡ NoMemory) }
 {
-    Ok(values_of(alloc, rows)?)
+    Ok(values_of_all(alloc, parts)?)
 }
 
 /// Shows the rows of the task's partition. A query without state shows each as it is.
