@@ -43,8 +43,8 @@ fn push_parts(ends: &mut Sequence<PartEnd>, stream: u32, count: u32) -> Result<(
     Ok(())
 }
 
-/// Where the parts of all streams begin, each of which has so many.
-pub(crate) fn begins(alloc: Global, parts: &[u32]) -> Result<Sequence<PartEnd>, AllocError>
+/// Where the parts of all streams begin, each of which has so many: no line of any part is before it.
+pub fn begins(alloc: Global, parts: &[u32]) -> Result<Sequence<PartEnd>, AllocError>
     requires { length parts.now ≤ 2 ^ 32 }
     ensures { IfOk result (λ ends. ends ≡ begins parts.now) }
 {

@@ -18,6 +18,7 @@ mod streams;
 mod unread;
 mod wanted;
 
+pub use cuts::begins;
 pub use fault::OpenFault;
 pub use looking::look;
 pub use opening::open;

@@ -7,4 +7,5 @@ pub mod Raising
 pub mod Rounds
 pub mod Showing
 pub mod Starts
+pub mod Unmarked
 pub mod Wanted

@@ -96,7 +96,7 @@ are_times query parts cuts stream e = for_some (seen query parts cuts stream e) 
 -- ---- the streams of delays
 
 -- they are numbered from this one on
-numbered : (at : ℕ) (streams : List Stream) (n : ℕ) → at + length streams ≤ n → All (λ (stream : Delay). stream.0 < n) (delays_from at streams)
+pub numbered : (at : ℕ) (streams : List Stream) (n : ℕ) → at + length streams ≤ n → All (λ (stream : Delay). stream.0 < n) (delays_from at streams)
 unfolding delays_from
 numbered at [] n few = All-nil (λ (stream : Delay). stream.0 < n)
 numbered at (stream ∷ streams) n few = first stream.delay (delays_from (at + 1) streams) (numbered (at + 1) streams n (omega (arith, few)))

@@ -1,5 +1,5 @@
 -- What holds of the job of each query, and of each that keeps nothing.
-use Rattle.std.specs.Prelude.{◌≡◌, ◌<◌, ◌≤◌, ◌+◌, ◌^◌, ℕ, List, All, Bool, true, false, length, get_or, slice_get, Option, Some, is_some, unwrap_or}
+use Rattle.std.specs.Prelude.{◌≡◌, ◌<◌, ◌≤◌, ◌+◌, ◌^◌, ℕ, List, All, Bool, true, false, length, get_or, slice_get, Option, Some, None, IfSome, is_some, unwrap_or}
 use Rattle.std.specs.Option.{ForSome}
 use Rattle.ssq_outside.specs.Files.{Files}
 use Rattle.ssq_time.specs.Time.{IsLineTime, IsStampTime}
@@ -27,11 +27,16 @@ use Rattle.ssq_open.specs.Jobs.{IsWantedJob}
 use Rattle.ssq_board.specs.Core.{Scope}
 use Rattle.ssq_board.specs.Rounds.{HasCap}
 use Rattle.ssq_board.specs.Follows.{Terms, map_task}
-use Rattle.ssq_terms.specs.Setting.{found_lines, IsSettingOf}
+use Rattle.ssq_terms.specs.Setting.{found_lines, HasEventIfDelayed, IsSettingOf}
 
 -- the greatest event time of a stream over the first epochs is that of a line
 abbrev pub TimesAreOfLines : Type 0
 TimesAreOfLines = (query : Bound) (parts : List Part) (cuts : Offsets) (stream e : ℕ) → ForSome (seen query parts cuts stream e) IsLineTime
+
+-- a stream without a delay has no greatest event time, where it has no event column
+abbrev pub UnmarkedHaveNoTimes : Type 0
+UnmarkedHaveNoTimes = (query : Bound) (parts : List Part) (cuts : Offsets) (stream e : ℕ) → All HasEventIfDelayed query.streams → IfSome (slice_get query.streams stream) (λ s. s.delay ≡ None)
+    → seen query parts cuts stream e ≡ None
 
 -- the commit of an epoch can be written, where its number and those of the streams have 32 bits
 abbrev pub CommitsCanBeWritten : Type 0

@@ -1,8 +1,9 @@
 -- The setting of a query, with the partitions that it has, over logs of which so many lines were found.
-use Rattle.std.specs.Prelude.{◌≡◌, ◌<◌, ◌≤◌, ◌^◌, ℕ, List, [], ◌∷◌, length, Option}
+use Rattle.std.specs.Prelude.{◌≡◌, ◌<◌, ◌≤◌, ◌^◌, ℕ, List, [], ◌∷◌, length, Option, None, All}
 use Rattle.std.specs.Option.{ForSome}
 use Rattle.std.specs.Str.{IsUtf8}
 use Rattle.ssq_shape.specs.declared.bound.Bound.{Bound}
+use Rattle.ssq_shape.specs.declared.bound.Stream.{Stream}
 use Rattle.ssq_shape.specs.declared.bound.Shape.TheVariants.{Plain}
 use Rattle.ssq_meaning.specs.Meaning.{Line}
 use Rattle.ssq_meaning.specs.Epochs.{joined}
@@ -22,12 +23,18 @@ AreFound [] (lines ∷ rest) = ⊥
 AreFound (found ∷ more) [] = ⊥
 AreFound (found ∷ more) (lines ∷ rest) = (found ≤ length lines) × (length lines < 2 ^ 64) × AreFound more rest
 
--- A query that keeps nothing: its text is UTF-8 of a length of 64 bits, and its delays are ones that the language has.
+-- a stream without a delay has no event column: the language declares both together
+abbrev pub HasEventIfDelayed : Stream → Type 0
+HasEventIfDelayed stream = stream.delay ≡ None → stream.schema.event ≡ None
+
+-- A query that keeps nothing: its text is UTF-8 of a length of 64 bits, its delays are ones that the language has, and a stream has an
+-- event column only with one.
 pub record IsPlain (bound : Bound) : Type 0 where
   pub shape : bound.shape ≡ Plain
   pub utf8 : IsUtf8 bound.text
   pub few : length bound.text < 2 ^ 64
   pub delays : HasDelays bound
+  pub events : All HasEventIfDelayed bound.streams
 
 -- The setting is of this query, with 1 to 64 partitions, which are those that are asked for, where that is asked; and of the parts of
 -- its streams, with at least the lines that were found.
