@@ -1,3 +1,11 @@
-pub mod Slots
+pub mod Round
+pub mod Contents
+pub mod Handing
 pub mod Tasks
-pub mod Shown
+pub mod Results
+pub mod Whole
+pub mod Handed
+pub mod Room
+pub mod Making
+pub mod First
+pub mod Published

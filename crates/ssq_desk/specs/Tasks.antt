@@ -1,10 +1,24 @@
--- Which task a task or a result is, and the cause that a result brings.
-use Rattle.std.specs.Prelude.{ℕ, Option, Some, None, Result, Ok, Err}
+-- The tasks that a desk hands out.
+use Rattle.std.specs.Prelude.{◌≡◌, ◌<◌, ◌+◌, ℕ, List, [], map, get_or, slice_get, All, Some}
+use Rattle.ssq_time.specs.Time.{IsStampTime}
+use Rattle.ssq_value.specs.Kind.{IfTime}
 use Rattle.ssq_outside.specs.declared.gate.TaskId.{TaskId}
 use Rattle.ssq_outside.specs.declared.gate.Kind.TheVariants as kind
-use Rattle.ssq_board.specs.declared.front.Cause.{Cause}
+use Rattle.ssq_meaning.specs.declared.fed_row.View.{View}
+use Rattle.ssq_meaning.specs.Meaning.{Line}
+use Rattle.ssq_meaning.specs.Parts.{Part}
+use Rattle.ssq_meaning.specs.Epochs.{bucket, fed}
+use Rattle.ssq_feed.specs.declared.task.MapTask.{MapTask}
+use Rattle.ssq_feed.specs.Rows.{IsPrintable}
+use Rattle.ssq_task.specs.declared.partition.ReduceTask.{ReduceTask}
+use Rattle.ssq_task.specs.declared.out.OutTask.{OutTask}
+use Rattle.ssq_task.specs.Lists.{joined_vecs}
+use Rattle.ssq_core.specs.Course.{Cuts}
+use Rattle.ssq_course.specs.Setting.{Setting, parts_in, cut_of, cuts_of, watermark_at}
+use Rattle.ssq_terms.specs.Rows.{AreShown}
 use Rattle.ssq_desk.specs.declared.task.Task.{Task}
 use Rattle.ssq_desk.specs.declared.task.Task.TheVariants as task
+use Rattle.ssq_desk.specs.Contents.{IsLogOf, AreSeen}
 
 abbrev pub map_id : ℕ → ℕ → TaskId
 map_id e i = record { epoch = e; kind = kind.Map; number = i }
@@ -15,13 +29,44 @@ reduce_id e p = record { epoch = e; kind = kind.Reduce; number = p }
 abbrev pub out_id : ℕ → TaskId
 out_id e = record { epoch = e; kind = kind.Out; number = 0 }
 
+-- the view is of this setting
+pub record IsViewOf (s : Setting) (view : View) : Type 0 where
+  pub bound : view.bound.now ≡ s.job.bound
+  pub partitions : view.partitions ≡ s.job.partitions
+
+-- a map task is that of its part in epoch e: with the part's log, from where the epoch before ended
+pub record IsMapTask {L : Type 0} (tells : Type 0) (lines : L → List Line) (available : L → ℕ) (s : Setting) (cuts : Cuts) (e : ℕ) (found : List ℕ) (task : MapTask L) : Type 0 where
+  pub part : Part
+  pub there : slice_get (parts_in s) task.number ≡ Some part
+  pub view : IsViewOf s task.view
+  pub epoch : task.epoch ≡ e
+  pub stream : part.stream ≡ task.stream
+  pub number : part.part ≡ task.part
+  pub from : task.from ≡ get_or (cut_of (cuts e)) task.number 0
+  pub to : task.to ≡ get_or (cut_of (cuts (e + 1))) task.number 0
+  pub log : IsLogOf tells lines available part (get_or found task.number 0) task.log
+
+-- a reduce task is that of its partition in epoch e: with the rows that the parts feed to it
+pub record IsReduceTask (tells : Type 0) (s : Setting) (cuts : Cuts) (e : ℕ) (task : ReduceTask) : Type 0 where
+  pub below : task.partition < s.job.partitions
+  pub view : IsViewOf s task.view
+  pub epoch : task.epoch ≡ e
+  pub watermark : tells → task.watermark ≡ watermark_at s cuts e
+  pub printable : All IsPrintable (joined_vecs task.rows.items)
+  pub rows : tells → joined_vecs task.rows.items ≡ bucket s.job.partitions task.partition (fed s.job.bound (parts_in s) (cuts_of cuts) e)
+
+-- the out task is that of epoch e: with the rows that the partitions show, the greatest times up to it, and two files that are empty
+pub record IsOutTask {S F : Type 0} (tells : Type 0) (written : S → List ℕ) (s : Setting) (cuts : Cuts) (e : ℕ) (task : OutTask S F) : Type 0 where
+  pub view : IsViewOf s task.view
+  pub epoch : task.epoch ≡ e
+  pub times : AreSeen tells s cuts (e + 1) task.seen
+  pub printable : All (All (IfTime IsStampTime)) (joined_vecs task.rows.items)
+  pub rows : tells → AreShown s cuts e (map (λ rows. rows.items) task.rows.items)
+  pub rows_empty : tells → written task.stages.rows ≡ []
+  pub commit_empty : tells → written task.stages.commit ≡ []
+
 module _ {L S F : Type 0} where
   abbrev pub id_of : Task L S F → TaskId
   id_of (task.Map t) = map_id t.epoch t.number
   id_of (task.Reduce t) = reduce_id t.epoch t.partition
   id_of (task.Out t) = out_id t.epoch
-
--- the cause that a result brings in place of what it was to bring
-abbrev pub cause_of : {F : Type 0} → Result F Cause → Option Cause
-cause_of (Ok brought) = None
-cause_of (Err f) = Some f

@@ -1,87 +1,93 @@
 //! The desk's type.
 
-ghost use Rattle.std.specs.Prelude.{vec_capacity};
-ghost use Rattle.ssq_board.specs.Core.{Core, Scope};
-ghost use Rattle.ssq_desk.specs.Slots.{places};
-ghost use Rattle.ssq_desk.specs.Shown.{Shown, IsDesk, HasCommit, cuts_after};
-
-use crate::slot::Slot;
-use crate::task::{Part, Span, Stages};
-use ssq_board::{Entry, Front};
+use crate::round::Round;
+use ssq_feed::FedRows;
+use ssq_ledger::Ledger;
+use ssq_meaning::{FedRow, View};
 use ssq_outside::{Disk, Log, Stage};
-use ssq_plans::PartEnd;
+use ssq_plans::Plan;
+use ssq_task::Stages;
 use ssq_value::Row;
+use ssq_water::Seen;
+use std::alloc::Global;
 use std::marker::Model;
-use std::snapshot::Snapshot;
 
-/// What was opened, as contracts see it.
-pub trait Opening: Drop {
-    ghost use Rattle.ssq_desk.specs.Shown.{Opening};
+/// A part of a stream.
+#[derive(Drop)]
+pub(crate) struct Source<L: Log> {
+    pub(crate) stream: u32,
+    pub(crate) part: u32,
+    /// The offset of the first line that the epoch that runs has of it.
+    pub(crate) from: u64,
+    /// Its log, where no worker has it.
+    pub(crate) log: Option<L>,
+    /// What its map task brought.
+    pub(crate) fed: Option<FedRows>,
+}
 
-    /// The job, its cuts so far, when an epoch without lines is due, and where the round begins.
-    ghost opening: { Self → Opening };
+/// A partition of the epoch that runs.
+#[derive(Drop)]
+pub(crate) struct Share {
+    /// What its reduce task is to take: room for one bucket from each part.
+    pub(crate) buckets: Vec<Vec<FedRow>>,
+    /// What its reduce task brought.
+    pub(crate) rows: Vec<Row>,
+}
+
+/// What the out task of the epoch that runs is to take.
+#[derive(Drop)]
+pub(crate) struct OutWork<S: Stage> {
+    /// Room for the rows of each partition.
+    pub(crate) rows: Vec<Vec<Row>>,
+    /// The greatest times over the epochs before.
+    pub(crate) seen: Seen,
+    pub(crate) stages: Stages<S>,
 }
 
 /// The commit of the epoch that runs, to be published.
 #[derive(Drop)]
-pub struct Pending<F: Drop> {
-    pub(crate) file: F,
-    /// Whether an epoch without lines is due next.
-    pub(crate) due: bool,
+pub(crate) struct Pending<F: Drop> {
+    pub(crate) commit: F,
+    /// The greatest times over the epochs up to this one.
+    pub(crate) seen: Seen,
+    /// How many rows the epoch has.
+    pub(crate) count: u64,
 }
 
-/// The disk, the tasks of the epoch that runs, and the history of what was done.
+/// What a desk holds beside the ledger.
 #[derive(Drop)]
-pub struct Desk<D: Disk, L: Log, O: Opening> {
-    pub(crate) opening: Snapshot<O>,
-    pub(crate) opened: Snapshot<D>,
-    pub(crate) disk: D,
-    pub(crate) partitions: u32,
-    /// How many lines each part was found to have.
-    pub(crate) available: Vec<u64>,
-    /// How many lines of a part an epoch may take.
-    pub(crate) cap: Option<u64>,
-    pub(crate) front: Front,
-    /// Where the lines of the planned epochs end.
-    pub(crate) ends: Vec<PartEnd>,
-    pub(crate) maps: Vec<Slot<Mapped<L>, Span>>,
-    /// With the rows that each partition gave.
-    pub(crate) reduces: Vec<Slot<Option<Vec<Row>>, Vec<Row>>>,
-    pub(crate) outs: Vec<Slot<(), Gather<D::Stage>>>,
-    pub(crate) commit: Option<Pending<<D::Stage as Stage>::Sealed>>,
-    pub(crate) entries: Vec<Entry>,
+pub(crate) struct Load<'a, L: Log, S: Stage> {
+    pub(crate) view: View<'a>,
+    /// The plans of all planned epochs.
+    pub(crate) plans: Vec<Plan>,
+    pub(crate) sources: Vec<Source<L>>,
+    pub(crate) shares: Vec<Share>,
+    pub(crate) out: Option<OutWork<S>>,
+    /// The greatest times over the committed epochs.
+    pub(crate) seen: Seen,
+    pub(crate) pending: Option<Pending<S::Sealed>>,
 }
 
-/// A part, with what its map task brought until that is handed on.
+/// The coordinator of a round: the disk, the logs, the tasks of the epoch that runs, and the history of what was done.
 #[derive(Drop)]
-pub(crate) struct Mapped<L: Log> {
-    pub(crate) part: Part<L>,
-    pub(crate) rows: Option<Vec<Row>>,
+pub struct Desk<'a, D: Disk, L: Log> {
+    pub(crate) alloc: Global,
+    pub(crate) ledger: Ledger<D, Round<'a, L>>,
+    pub(crate) load: Load<'a, L, D::Stage>,
 }
 
-/// What an out task is to write, and where.
-#[derive(Drop)]
-pub(crate) struct Gather<S: Stage> {
-    pub(crate) rows: Vec<Row>,
-    pub(crate) stages: Stages<S>,
-}
+impl<'a, D: Disk, L: Log> Model for Desk<'a, D, L> {
+    ghost use Rattle.ssq_ledger.specs.Shown.{Shown};
+    ghost use Rattle.ssq_desk.specs.declared.round.Round.{Round};
+    ghost use Rattle.ssq_desk.specs.Whole.{IsWhole};
+    ghost use Rattle.ssq_shape.specs.contracts.typed.Typed as typed;
+    ghost use Rattle.std.specs.Coded.{codes};
 
-impl<D: Disk, L: Log, O: Opening> Model for Desk<D, L, O> {
-    ghost Value = { Shown D O };
+    ghost Value = { Shown D (Round L) };
 
-    ghost view = { λ s. record {
-      opening = s.opening.value;
-      opened = s.opened.value;
-      scope = record { partitions = s.partitions; available = s.available.items; cap = s.cap };
-      disk = s.disk;
-      core = record { front = s.front; ends = s.ends.items; maps = places s.maps.items; reduces = places s.reduces.items; outs = places s.outs.items };
-      history = s.entries.items;
-    } };
+    ghost coded = { Prim.hlevel (codes, typed.the_row.coded) };
 
-    ghost invariant = { λ s. IsDesk (D.tells × L.tells) (O.opening s.opening.value) (D.history s.opened.value)
-        (record { partitions = s.partitions; available = s.available.items; cap = s.cap }) (D.history s.disk)
-        (record { front = s.front; ends = s.ends.items; maps = places s.maps.items; reduces = places s.reduces.items; outs = places s.outs.items })
-        s.entries.items (vec_capacity s.entries)
-        × HasCommit (D.tells × L.tells) D.Stage.sealed (O.opening s.opening.value)
-        (cuts_after (O.opening s.opening.value) (record { partitions = s.partitions; available = s.available.items; cap = s.cap }) s.entries.items) s.front s.commit };
+    ghost view = { λ s. s.ledger };
+
+    ghost invariant = { λ s. IsWhole (D.tells × L.tells) L.lines L.available D.history D.Stage.written D.Stage.sealed s.ledger s.load };
 }

@@ -1,19 +1,26 @@
 //! The coordinator's desk: it hands out the tasks of a round, takes their results and publishes them, one epoch after another.
 //!
-//! Each call that changes the desk is one entry of its history, or two where it brings about a Stop, and does at most one `publish` or
-//! `sync_names`. The type says that the history is legal from what was opened.
+//! Beneath it lies the ledger, whose history says what was done to the disk. The desk adds what the tasks own: logs, rows and
+//! files aside. The definitions are in `specs/`: `Round` says what a desk was made of, `Contents` what it holds, `Whole` what is so of every
+//! desk, `First` what a round begins with, `Room` and `Making` what is made for an epoch before its plan is published, `Tasks` what it hands out,
+//! `Results` what it takes back, and `Published` what becomes of the rows of an epoch.
 #![tactic(auto)]
 
 mod calls;
 mod claims;
-mod deal;
 mod desk;
+mod first;
+mod hand;
+mod make;
+mod new;
 mod outs;
-mod slot;
+mod plan;
+mod reduced;
+mod reports;
+mod room;
+mod round;
 mod task;
 
-pub use desk::{Desk, Opening};
-pub use slot::Slot;
-pub use task::{
-    Fed, Gathered, MapTask, OutTask, Part, ReduceTask, Reduced, Sealed, Span, Stages, Task,
-};
+pub use desk::Desk;
+pub use round::Round;
+pub use task::Task;

@@ -1,54 +1,90 @@
-use Rattle.std.proofs.Common.{◌≡◌, sym, ap, ◌∙◌, subst, ◌∷◌, [], refl, arith}
-use mathlib.Core.Option.{some}
-use lib.ListN.{get_elem?}
-use Rattle.ssq_outside.specs.declared.gate.Kind.{Kind}
-use Rattle.ssq_core.specs.Course.{Cuts}
-use Rattle.ssq_board.specs.declared.front.Place.TheVariants as place
+use Rattle.std.proofs.Common.{None, List, ◌≡◌, ◌<◌, ◌+◌, [], ◌∷◌, ℕ, length, get_or, refl, sym, ap, ◌∙◌, subst, arith}
+use Rattle.ssq_outside.specs.declared.gate.Kind.TheVariants as kind
 use Rattle.ssq_board.specs.declared.front.Entry.TheVariants as entry
-use Rattle.ssq_board.specs.Core.{Scope, Core, May, need, tasks_of, after}
-use Rattle.ssq_desk.specs.declared.slot.Slot.TheVariants as slot
-use Rattle.ssq_desk.specs.Slots.{places}
-use Rattle.ssq_desk.specs.Shown.{Opening, Shown, HasCommit, did}
-use Rattle.ssq_desk.proofs.Slots.{waits_at, places_set, moved_maps}
-use Rattle.ssq_board.proofs.Needs.{need_claim}
-use Rattle.ssq_desk.proofs.Desks.{one, same_cuts}
+use Rattle.ssq_core.specs.Course.{Cuts}
+use Rattle.ssq_board.specs.Core.{May}
+use Rattle.ssq_feed.specs.declared.task.MapTask.{MapTask}
+use Rattle.ssq_ledger.specs.Shown.{Shown, did}
+use Rattle.std.specs.Vec.{with_item}
+use Rattle.ssq_plans.specs.declared.part.PartEnd.{PartEnd}
+use Rattle.ssq_desk.specs.declared.desk.Load.{Load}
+use Rattle.ssq_desk.specs.declared.desk.Source.{Source}
+use Rattle.ssq_desk.specs.declared.round.Round.{Round}
+use Rattle.ssq_desk.specs.Round.{setting_of}
+use Rattle.ssq_desk.specs.Handed.{IsMapOf}
+use Rattle.ssq_desk.specs.Tasks.{IsMapTask, map_id}
+use Rattle.ssq_desk.specs.Whole.{IsWhole}
+use Rattle.ssq_desk.proofs.Planned.{at_get}
+use Rattle.ssq_desk.proofs.Handing.{map_here, map_claimed, map_task, moved_whole, after_claim, may_report}
 use Rattle.ssq_desk.proofs.desk.Desk.claim_map.Goals as goal
 
-pub take_out-mapped-requires : goal.take_out-mapped-requires
-take_out-mapped-requires g c =
-    let s = c.self.inside in
-    let core : Core = record { front = s.front; ends = s.ends.items; maps = places s.maps.items; reduces = places s.reduces.items; outs = places s.outs.items } in
-    let scope : Scope = record { partitions = s.partitions; available = s.available.items; cap = s.cap } in
-    let o : Opening = g.O.Opening.opening s.opening.value in
-    let id = c.args.id in
-    let m : May scope core (entry.Claim id) = subst (λ (x : Shown g.row.D.Denot g.row.O.Denot). May x.scope x.core (entry.Claim id)) (sym c.self.view_is) c.requires.may in
-    waits_at s.maps.items id.number (subst (λ (k : Kind). get_elem? (tasks_of k core) id.number ≡ some place.Waits) c.requires.map m.4)
+pub bounds-ends-number : goal.bounds-ends-number
+bounds-ends-number g c =
+    let m = subst (λ (x : Shown g.row.D.Denot (Round g.row.L.Denot)). May x.scope x.core (entry.Claim c.args.id)) (sym c.self.view_is) c.requires.may in
+    let h = map_here _ _ _ _ _ _ _ _ c.self.invariant c.is_legal.ensures.legal c.is_in_order.ensures c.args.id c.requires.map m in
+    let e = ap length c.ends.ensures in omega (arith, h.ends_below, e)
+
+pub index_mut-source-requires : goal.index_mut-source-requires
+index_mut-source-requires g c =
+    let m = subst (λ (x : Shown g.row.D.Denot (Round g.row.L.Denot)). May x.scope x.core (entry.Claim c.args.id)) (sym c.self.view_is) c.requires.may in
+    let h = map_here _ _ _ _ _ _ _ _ c.self.invariant c.is_legal.ensures.legal c.is_in_order.ensures c.args.id c.requires.map m in
+    let n = c.self.inside.load.sources.ok.0 in omega (arith, h.below, n)
+
+pub take_log-log-requires : goal.take_log-log-requires
+take_log-log-requires g c =
+    let m = subst (λ (x : Shown g.row.D.Denot (Round g.row.L.Denot)). May x.scope x.core (entry.Claim c.args.id)) (sym c.self.view_is) c.requires.may in
+    let h = map_here _ _ _ _ _ _ _ _ c.self.invariant c.is_legal.ensures.legal c.is_in_order.ensures c.args.id c.requires.map m in
+    let log = h.is.log (λ away. away) in
+    let same = c.index_mut-source.ensures.value ∙ at_get c.self.inside.load.sources.items c.args.id.number h.source _ h.here in
+    (log.0, ap (λ x. x.log) same ∙ log.1)
 
 pub invariant_of-self : goal.invariant_of-self
 invariant_of-self g c =
+    let m = subst (λ (x : Shown g.row.D.Denot (Round g.row.L.Denot)). May x.scope x.core (entry.Claim c.args.id)) (sym c.self.view_is) c.requires.may in
+    let h = map_here _ _ _ _ _ _ _ _ c.self.invariant c.is_legal.ensures.legal c.is_in_order.ensures c.args.id c.requires.map m in
+    let same = c.index_mut-source.ensures.value ∙ at_get c.self.inside.load.sources.items c.args.id.number h.source _ h.here in
+    let left = c.take_log-log.ensures.rest ∙ (λ i. record { stream = (same i).stream; part = (same i).part; from = (same i).from; log = None; fed = (same i).fed }) in
     let s = c.self.inside in
-    let core : Core = record { front = s.front; ends = s.ends.items; maps = places s.maps.items; reduces = places s.reduces.items; outs = places s.outs.items } in
-    let scope : Scope = record { partitions = s.partitions; available = s.available.items; cap = s.cap } in
-    let o : Opening = g.O.Opening.opening s.opening.value in
-    let id = c.args.id in
-    let m : May scope core (entry.Claim id) = subst (λ (x : Shown g.row.D.Denot g.row.O.Denot). May x.scope x.core (entry.Claim id)) (sym c.self.view_is) c.requires.may in
-    let left = ap places c.take_out-mapped.ensures.left ∙ places_set s.maps.items id.number slot.Away in
-    let is : ◌≡◌ {A = Core} (record { front = s.front; ends = s.ends.items; maps = places c.take_out-mapped.new.slots.items; reduces = places s.reduces.items; outs = places s.outs.items }) (after scope core (entry.Claim id)) = (λ i. record { front = s.front; ends = s.ends.items; maps = left i; reduces = places s.reduces.items; outs = places s.outs.items }) ∙ sym (moved_maps core id place.Away c.requires.map) in
-    let same = same_cuts o scope s.entries.items c.push_reserved.new.self.items (entry.Claim id) c.push_reserved.ensures.items (λ cuts n. refl) in (
-      one (g.D.Disk.tells × g.L.Log.tells) o (g.D.Disk.history s.opened.value) scope (g.D.Disk.history s.disk) core s.entries.items s.entries.cap c.self.invariant.0 (g.D.Disk.history s.disk) (record { front = s.front; ends = s.ends.items; maps = places c.take_out-mapped.new.slots.items; reduces = places s.reduces.items; outs = places s.outs.items }) c.push_reserved.new.self.items c.push_reserved.new.self.cap
-          (entry.Claim id) m (λ t. refl) (λ t. tt) is c.push_reserved.ensures.items
-          (let n = need_claim scope core id m.4 in let e = ap need is in let r = c.self.invariant.0.room in let k = c.push_reserved.ensures.capacity in omega arith),
-      subst (λ (x : Cuts). HasCommit (g.D.Disk.tells × g.L.Log.tells) g.D.Stage.Stage.sealed o x s.front s.commit) (sym same) c.self.invariant.1,
-    )
+    let n : Load g.row.L.Denot g.row.D-Stage.Denot g.row.D-Stage-Sealed.Denot = record { view = s.load.view; plans = s.load.plans; sources = with_item s.load.sources c.args.id.number c.take_log-log.new.source; shares = s.load.shares; out = s.load.out; seen = s.load.seen; pending = s.load.pending } in
+    subst (λ (x : Shown g.row.D.Denot (Round g.row.L.Denot)). IsWhole (g.D.Disk.tells × g.L.Log.tells) g.L.Log.lines g.L.Log.available g.D.Disk.history g.D.Stage.Stage.written g.D.Stage.Stage.sealed x n) (sym c.claim.ensures)
+    (moved_whole _ _ _ _ _ _ s.ledger s.load c.self.invariant s.ledger.disk (entry.Claim c.args.id) n (λ cuts n. refl) refl refl refl
+    (map_claimed _ _ _ _ _ _ _ _ c.self.invariant c.is_legal.ensures.legal c.is_in_order.ensures c.args.id c.take_log-log.new.source c.requires.map m h left))
 
-pub returns-clause-did : goal.returns-clause-did
-returns-clause-did g c =
+pub returns-clause-task : goal.returns-clause-task
+returns-clause-task g c =
+    let m = subst (λ (x : Shown g.row.D.Denot (Round g.row.L.Denot)). May x.scope x.core (entry.Claim c.args.id)) (sym c.self.view_is) c.requires.may in
+    let h = map_here _ _ _ _ _ _ _ _ c.self.invariant c.is_legal.ensures.legal c.is_in_order.ensures c.args.id c.requires.map m in
+    let same = c.index_mut-source.ensures.value ∙ at_get c.self.inside.load.sources.items c.args.id.number h.source _ h.here in
     let s = c.self.inside in
-    let core : Core = record { front = s.front; ends = s.ends.items; maps = places s.maps.items; reduces = places s.reduces.items; outs = places s.outs.items } in
-    let scope : Scope = record { partitions = s.partitions; available = s.available.items; cap = s.cap } in
-    let o : Opening = g.O.Opening.opening s.opening.value in
-    let id = c.args.id in
-    let m : May scope core (entry.Claim id) = subst (λ (x : Shown g.row.D.Denot g.row.O.Denot). May x.scope x.core (entry.Claim id)) (sym c.self.view_is) c.requires.may in
-    let left = ap places c.take_out-mapped.ensures.left ∙ places_set s.maps.items id.number slot.Away in
-    let is : ◌≡◌ {A = Core} (record { front = s.front; ends = s.ends.items; maps = places c.take_out-mapped.new.slots.items; reduces = places s.reduces.items; outs = places s.outs.items }) (after scope core (entry.Claim id)) = (λ i. record { front = s.front; ends = s.ends.items; maps = left i; reduces = places s.reduces.items; outs = places s.outs.items }) ∙ sym (moved_maps core id place.Away c.requires.map) in
-    (λ i. record { opening = s.opening.value; opened = s.opened.value; scope = scope; disk = s.disk; core = is i; history = c.push_reserved.ensures.items i }) ∙ ap (λ (x : Shown g.row.D.Denot g.row.O.Denot). did x x.disk (entry.Claim id ∷ [])) c.self.view_is
+    let task = map_task _ _ _ _ _ _ _ _ c.self.invariant c.is_legal.ensures.legal c.is_in_order.ensures c.args.id s.load.view
+    (get_or c.ends.result.now c.args.id.number (record { stream = 0; part = 0; end = 0 })).end c.take_log-log.result c.requires.map m h refl (sym (ap (λ x. x.log) same) ∙ c.take_log-log.ensures.log)
+    (ap (λ (l : List PartEnd). (get_or l c.args.id.number (record { stream = 0; part = 0; end = 0 })).end) c.ends.ensures) in
+    let handed : MapTask g.row.L.Denot = (record {
+      view = s.load.view;
+      epoch = c.args.id.epoch;
+      number = c.args.id.number;
+      stream = c.index_mut-source.result.now.stream;
+      part = c.index_mut-source.result.now.part;
+      from = c.index_mut-source.result.now.from;
+      to = (get_or c.ends.result.now c.args.id.number (record { stream = 0; part = 0; end = 0 })).end;
+      log = c.take_log-log.result;
+    }) in
+    subst (λ (x : Shown g.row.D.Denot (Round g.row.L.Denot)). IsMapOf (g.D.Disk.tells × g.L.Log.tells) g.L.Log.lines g.L.Log.available x handed) (sym c.claim.ensures)
+    (after_claim g.L.Log.lines s.ledger s.ledger.disk c.args.id (λ (cuts : Cuts). IsMapTask (g.D.Disk.tells × g.L.Log.tells) g.L.Log.lines g.L.Log.available (setting_of g.L.Log.lines s.ledger.opening) cuts s.ledger.core.front.committed s.ledger.scope.available handed)
+    (subst (λ (x : Source g.row.L.Denot). IsMapOf (g.D.Disk.tells × g.L.Log.tells) g.L.Log.lines g.L.Log.available s.ledger
+    (record {
+      view = s.load.view;
+      epoch = c.args.id.epoch;
+      number = c.args.id.number;
+      stream = x.stream;
+      part = x.part;
+      from = x.from;
+      to = (get_or c.ends.result.now c.args.id.number (record { stream = 0; part = 0; end = 0 })).end;
+      log = c.take_log-log.result;
+    })) (sym same) task))
+
+pub returns-clause-back : goal.returns-clause-back
+returns-clause-back g c fault =
+    let s = c.self.inside in
+    let m = subst (λ (x : Shown g.row.D.Denot (Round g.row.L.Denot)). May x.scope x.core (entry.Claim c.args.id)) (sym c.self.view_is) c.requires.may in
+    subst (λ (x : Shown g.row.D.Denot (Round g.row.L.Denot)). May x.scope x.core (entry.Report (map_id c.args.id.epoch c.args.id.number) fault)) (sym c.claim.ensures) (may_report s.ledger.scope s.ledger.core c.args.id kind.Map fault c.requires.map m)

@@ -1,54 +1,81 @@
-use Rattle.std.proofs.Common.{◌≡◌, sym, ap, ◌∙◌, subst, ◌∷◌, [], refl, arith}
-use mathlib.Core.Option.{some}
-use lib.ListN.{get_elem?}
-use Rattle.ssq_outside.specs.declared.gate.Kind.{Kind}
-use Rattle.ssq_core.specs.Course.{Cuts}
-use Rattle.ssq_board.specs.declared.front.Place.TheVariants as place
+use Rattle.std.proofs.Common.{None, List, Option, ◌≡◌, ◌<◌, ◌≤◌, ◌+◌, ◌++◌, [], ◌∷◌, ℕ, ℤ, Some, map, length, get_or, refl, sym, ap, ◌∙◌, subst, arith}
+use Rattle.std.specs.Prelude.{All}
+use Rattle.std.specs.Vec.{with_items}
+use Rattle.std.proofs.lemmas.List.{with_items_is}
+use Rattle.ssq_time.specs.Time.{IsStampTime}
+use Rattle.ssq_value.specs.Kind.{IfTime}
+use Rattle.ssq_meaning.specs.Epochs.{joined}
+use Rattle.ssq_meaning.specs.Meaning.{Values}
+use Rattle.ssq_water.specs.Water.{seen_at}
+use Rattle.ssq_outside.specs.declared.gate.Kind.TheVariants as kind
 use Rattle.ssq_board.specs.declared.front.Entry.TheVariants as entry
-use Rattle.ssq_board.specs.Core.{Scope, Core, May, need, tasks_of, after}
-use Rattle.ssq_desk.specs.declared.slot.Slot.TheVariants as slot
-use Rattle.ssq_desk.specs.Slots.{places}
-use Rattle.ssq_desk.specs.Shown.{Opening, Shown, HasCommit, did}
-use Rattle.ssq_desk.proofs.Slots.{waits_at, places_set, moved_outs}
-use Rattle.ssq_board.proofs.Needs.{need_claim}
-use Rattle.ssq_desk.proofs.Desks.{one, same_cuts}
+use Rattle.ssq_core.specs.Course.{Cuts}
+use Rattle.ssq_board.specs.Core.{May, after}
+use Rattle.ssq_task.specs.declared.out.OutTask.{OutTask}
+use Rattle.ssq_ledger.specs.Shown.{Shown, cuts_of, did}
+use Rattle.ssq_terms.specs.Rows.{AreShown}
+use Rattle.ssq_desk.specs.declared.desk.Load.{Load}
+use Rattle.ssq_desk.specs.declared.desk.OutWork.{OutWork}
+use Rattle.ssq_desk.specs.declared.desk.Share.{Share}
+use Rattle.ssq_desk.specs.declared.desk.Source.{Source}
+use Rattle.ssq_desk.specs.declared.round.Round.{Round}
+use Rattle.ssq_desk.specs.Round.{setting_of}
+use Rattle.ssq_desk.specs.Contents.{Holds, IsOutWork}
+use Rattle.ssq_desk.specs.Handing.{CanRaise, raised_in}
+use Rattle.ssq_desk.specs.Handed.{IsOutOf}
+use Rattle.ssq_desk.specs.Tasks.{IsOutTask, out_id}
+use Rattle.ssq_desk.specs.Whole.{IsWhole, opening_in}
+use Rattle.ssq_desk.proofs.Handing.{out_here, out_claimed, some_work, moved_whole, after_claim, may_report}
 use Rattle.ssq_desk.proofs.desk.Desk.claim_out.Goals as goal
 
-pub take_out-gather-requires : goal.take_out-gather-requires
-take_out-gather-requires g c =
+pub raise_all-requires : goal.raise_all-requires
+raise_all-requires g c =
     let s = c.self.inside in
-    let core : Core = record { front = s.front; ends = s.ends.items; maps = places s.maps.items; reduces = places s.reduces.items; outs = places s.outs.items } in
-    let scope : Scope = record { partitions = s.partitions; available = s.available.items; cap = s.cap } in
-    let o : Opening = g.O.Opening.opening s.opening.value in
-    let id = c.args.id in
-    let m : May scope core (entry.Claim id) = subst (λ (x : Shown g.row.D.Denot g.row.O.Denot). May x.scope x.core (entry.Claim id)) (sym c.self.view_is) c.requires.may in
-    waits_at s.outs.items id.number (subst (λ (k : Kind). get_elem? (tasks_of k core) id.number ≡ some place.Waits) c.requires.out.0 m.4)
+    let m = subst (λ (x : Shown g.row.D.Denot (Round g.row.L.Denot)). May x.scope x.core (entry.Claim c.args.id)) (sym c.self.view_is) c.requires.may in
+    let h = out_here _ _ _ _ _ _ _ _ c.self.invariant c.is_legal.ensures.legal c.is_in_order.ensures c.args.id c.requires.out.0 c.requires.out.1 m in
+    let same = some_work h.work c.in-Some.work (sym h.here ∙ sym c.replace.ensures.value ∙ c.in-Some.is) in
+    subst (λ (w : OutWork g.row.D-Stage.Denot g.row.D-Stage-Sealed.Denot). CanRaise (length w.seen) c.as_slice.result.now) same
+    (subst (λ (l : List (Source g.row.L.Denot)). CanRaise (length h.work.seen) l) (sym c.as_slice.ensures.value) h.raise)
 
 pub invariant_of-self : goal.invariant_of-self
 invariant_of-self g c =
     let s = c.self.inside in
-    let core : Core = record { front = s.front; ends = s.ends.items; maps = places s.maps.items; reduces = places s.reduces.items; outs = places s.outs.items } in
-    let scope : Scope = record { partitions = s.partitions; available = s.available.items; cap = s.cap } in
-    let o : Opening = g.O.Opening.opening s.opening.value in
-    let id = c.args.id in
-    let m : May scope core (entry.Claim id) = subst (λ (x : Shown g.row.D.Denot g.row.O.Denot). May x.scope x.core (entry.Claim id)) (sym c.self.view_is) c.requires.may in
-    let left = ap places c.take_out-gather.ensures.left ∙ places_set s.outs.items id.number slot.Away in
-    let is : ◌≡◌ {A = Core} (record { front = s.front; ends = s.ends.items; maps = places s.maps.items; reduces = places s.reduces.items; outs = places c.take_out-gather.new.slots.items }) (after scope core (entry.Claim id)) = (λ i. record { front = s.front; ends = s.ends.items; maps = places s.maps.items; reduces = places s.reduces.items; outs = left i }) ∙ sym (moved_outs core id place.Away c.requires.out.0) in
-    let same = same_cuts o scope s.entries.items c.push_reserved.new.self.items (entry.Claim id) c.push_reserved.ensures.items (λ cuts n. refl) in (
-      one (g.D.Disk.tells × g.L.Log.tells) o (g.D.Disk.history s.opened.value) scope (g.D.Disk.history s.disk) core s.entries.items s.entries.cap c.self.invariant.0 (g.D.Disk.history s.disk) (record { front = s.front; ends = s.ends.items; maps = places s.maps.items; reduces = places s.reduces.items; outs = places c.take_out-gather.new.slots.items }) c.push_reserved.new.self.items c.push_reserved.new.self.cap
-          (entry.Claim id) m (λ t. refl) (λ t. tt) is c.push_reserved.ensures.items
-          (let n = need_claim scope core id m.4 in let e = ap need is in let r = c.self.invariant.0.room in let k = c.push_reserved.ensures.capacity in omega arith),
-      subst (λ (x : Cuts). HasCommit (g.D.Disk.tells × g.L.Log.tells) g.D.Stage.Stage.sealed o x s.front s.commit) (sym same) c.self.invariant.1,
-    )
+    let more = c.take_rows.new.shares in
+    let count = c.take_rows.ensures.count ∙ ap length c.deref_mut.ensures.value in
+    let items : (with_items s.load.shares more).items ≡ more = with_items_is s.load.shares more (count ∙ sym s.load.shares.ok.0) in
+    let n : Load g.row.L.Denot g.row.D-Stage.Denot g.row.D-Stage-Sealed.Denot = record { view = s.load.view; plans = s.load.plans; sources = s.load.sources; shares = with_items s.load.shares more; out = c.replace.new.dest; seen = s.load.seen; pending = s.load.pending } in
+    let held = out_claimed _ _ _ _ _ _ _ _ c.self.invariant c.is_legal.ensures.legal c.is_in_order.ensures c.args.id more c.replace.new.dest c.requires.out.0 c.requires.out.1 (subst (λ (x : Shown g.row.D.Denot (Round g.row.L.Denot)). May x.scope x.core (entry.Claim c.args.id)) (sym c.self.view_is) c.requires.may) count in
+    subst (λ (x : Shown g.row.D.Denot (Round g.row.L.Denot)). IsWhole (g.D.Disk.tells × g.L.Log.tells) g.L.Log.lines g.L.Log.available g.D.Disk.history g.D.Stage.Stage.written g.D.Stage.Stage.sealed x n) (sym c.claim.ensures)
+    (moved_whole _ _ _ _ _ _ s.ledger s.load c.self.invariant s.ledger.disk (entry.Claim c.args.id) n (λ cuts m. refl) refl refl refl
+    (subst (λ (l : List Share). Holds (g.D.Disk.tells × g.L.Log.tells) g.L.Log.lines g.L.Log.available g.D.Stage.Stage.written g.D.Stage.Stage.sealed (setting_of g.L.Log.lines s.ledger.opening) (cuts_of (opening_in g.L.Log.lines) s.ledger) s.ledger.scope.available
+    (after s.ledger.scope s.ledger.core (entry.Claim c.args.id)) s.load.sources.items l c.replace.new.dest s.load.seen s.load.pending) (sym items) held))
 
-pub returns-clause-did : goal.returns-clause-did
-returns-clause-did g c =
+pub returns-clause-task : goal.returns-clause-task
+returns-clause-task g c =
     let s = c.self.inside in
-    let core : Core = record { front = s.front; ends = s.ends.items; maps = places s.maps.items; reduces = places s.reduces.items; outs = places s.outs.items } in
-    let scope : Scope = record { partitions = s.partitions; available = s.available.items; cap = s.cap } in
-    let o : Opening = g.O.Opening.opening s.opening.value in
-    let id = c.args.id in
-    let m : May scope core (entry.Claim id) = subst (λ (x : Shown g.row.D.Denot g.row.O.Denot). May x.scope x.core (entry.Claim id)) (sym c.self.view_is) c.requires.may in
-    let left = ap places c.take_out-gather.ensures.left ∙ places_set s.outs.items id.number slot.Away in
-    let is : ◌≡◌ {A = Core} (record { front = s.front; ends = s.ends.items; maps = places s.maps.items; reduces = places s.reduces.items; outs = places c.take_out-gather.new.slots.items }) (after scope core (entry.Claim id)) = (λ i. record { front = s.front; ends = s.ends.items; maps = places s.maps.items; reduces = places s.reduces.items; outs = left i }) ∙ sym (moved_outs core id place.Away c.requires.out.0) in
-    (λ i. record { opening = s.opening.value; opened = s.opened.value; scope = scope; disk = s.disk; core = is i; history = c.push_reserved.ensures.items i }) ∙ ap (λ (x : Shown g.row.D.Denot g.row.O.Denot). did x x.disk (entry.Claim id ∷ [])) c.self.view_is
+    let m = subst (λ (x : Shown g.row.D.Denot (Round g.row.L.Denot)). May x.scope x.core (entry.Claim c.args.id)) (sym c.self.view_is) c.requires.may in
+    let h = out_here _ _ _ _ _ _ _ _ c.self.invariant c.is_legal.ensures.legal c.is_in_order.ensures c.args.id c.requires.out.0 c.requires.out.1 m in
+    let same = some_work h.work c.in-Some.work (sym h.here ∙ sym c.replace.ensures.value ∙ c.in-Some.is) in
+    let is = subst (λ (w : OutWork g.row.D-Stage.Denot g.row.D-Stage-Sealed.Denot). IsOutWork (g.D.Disk.tells × g.L.Log.tells) g.D.Stage.Stage.written (setting_of g.L.Log.lines s.ledger.opening) (cuts_of (opening_in g.L.Log.lines) s.ledger) s.ledger.core.front.committed w) same h.is in
+    let rows : map (λ v. v.items) c.take_rows.new.into.items ≡ map (λ (x : Share). x.rows.items) s.load.shares.items = c.take_rows.ensures.rows ∙ (λ i. map (λ v. v.items) (is.none i) ++ map (λ (x : Share). x.rows.items) (c.deref_mut.ensures.value i)) in
+    let handed : OutTask g.row.D-Stage.Denot g.row.D-Stage-Sealed.Denot = (record { view = s.load.view; epoch = c.args.id.epoch; seen = c.raise_all.new.seen; rows = c.take_rows.new.into; stages = c.in-Some.work.stages }) in
+    subst (λ (x : Shown g.row.D.Denot (Round g.row.L.Denot)). IsOutOf (g.D.Disk.tells × g.L.Log.tells) g.L.Log.lines g.L.Log.available g.D.Stage.Stage.written x handed) (sym c.claim.ensures)
+    (after_claim g.L.Log.lines s.ledger s.ledger.disk c.args.id (λ (cuts : Cuts). IsOutTask (g.D.Disk.tells × g.L.Log.tells) g.D.Stage.Stage.written (setting_of g.L.Log.lines s.ledger.opening) cuts s.ledger.core.front.committed handed)
+    (record {
+      view = c.self.invariant.view;
+      epoch = m.2;
+      times = record {
+        streams = c.raise_all.ensures.streams ∙ is.times.streams;
+        are = λ y stream. c.raise_all.ensures.times stream ∙ (λ i. raised_in (c.as_slice.ensures.value i) (seen_at ((sym same i).seen)) stream) ∙ h.times y stream;
+      };
+      printable = subst (λ (l : List (List Values)). All (All (IfTime IsStampTime)) (joined l)) (sym rows) h.printable;
+      rows = λ y. subst (λ (l : List (List Values)). AreShown (setting_of g.L.Log.lines s.ledger.opening) (cuts_of (opening_in g.L.Log.lines) s.ledger) s.ledger.core.front.committed l) (sym rows) (h.rows y);
+      rows_empty = is.rows_empty;
+      commit_empty = is.commit_empty;
+    }))
+
+pub returns-clause-back : goal.returns-clause-back
+returns-clause-back g c fault =
+    let s = c.self.inside in
+    let m = subst (λ (x : Shown g.row.D.Denot (Round g.row.L.Denot)). May x.scope x.core (entry.Claim c.args.id)) (sym c.self.view_is) c.requires.may in
+    subst (λ (x : Shown g.row.D.Denot (Round g.row.L.Denot)). May x.scope x.core (entry.Report (out_id c.args.id.epoch) fault)) (sym c.claim.ensures) (subst (λ (n : ℕ). May s.ledger.scope (after s.ledger.scope s.ledger.core (entry.Claim c.args.id)) (entry.Report (record { epoch = c.args.id.epoch; kind = kind.Out; number = n }) fault)) c.requires.out.1 (may_report s.ledger.scope s.ledger.core c.args.id kind.Out fault c.requires.out.0 m))

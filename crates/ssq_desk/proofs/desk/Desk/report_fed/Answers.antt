@@ -1,94 +1,62 @@
-use Rattle.std.proofs.Common.{◌≡◌, ◌<◌, sym, ap, ◌∙◌, subst, length, List, ◌∷◌, [], Option, None, set, refl, arith, if◌then◌else◌}
+use Rattle.std.proofs.Common.{None, List, Option, Some, ◌≡◌, ◌<◌, ◌+◌, [], ◌∷◌, ℕ, length, get_or, refl, sym, ap, ◌∙◌, subst, arith}
+use Rattle.std.specs.Vec.{with_item}
+use lib.ListN.{get_elem?}
+use mathlib.Core.Option.{some}
 use Rattle.ssq_outside.specs.declared.gate.TaskId.{TaskId}
-use Rattle.ssq_core.specs.Course.{Cuts}
 use Rattle.ssq_board.specs.declared.front.Cause.{Cause}
-use Rattle.ssq_board.specs.declared.front.Place.{Place}
-use Rattle.ssq_board.specs.declared.front.Place.TheVariants as place
 use Rattle.ssq_board.specs.declared.front.Entry.TheVariants as entry
-use Rattle.ssq_board.specs.Core.{Scope, Core, May, need, after, is_stopped, due, due_stop, or_stop}
-use Rattle.ssq_desk.specs.declared.slot.Slot.TheVariants as slot
-use Rattle.ssq_desk.specs.Slots.{places}
-use Rattle.ssq_desk.specs.Tasks.{map_id, cause_of}
-use Rattle.ssq_desk.specs.Shown.{Opening, Shown, HasCommit, did, IsTrue, answer}
-use Rattle.ssq_desk.proofs.Slots.{away_at, places_set}
-use Rattle.ssq_board.proofs.Needs.{need_report}
-use Rattle.ssq_desk.proofs.Desks.{one, same_cuts}
-use Rattle.ssq_desk.proofs.Moves.{first_none}
+use Rattle.ssq_board.specs.Core.{May}
+use Rattle.ssq_board.proofs.Lists.{at_length}
+use Rattle.ssq_feed.specs.declared.task.MapTask.{MapTask}
+use Rattle.ssq_feed.specs.Outcome.{IsFed}
+use Rattle.ssq_ledger.specs.Shown.{Shown, IsTrue, did}
+use Rattle.ssq_desk.specs.declared.desk.Load.{Load}
+use Rattle.ssq_desk.specs.declared.desk.Source.{Source}
+use Rattle.ssq_desk.specs.declared.round.Round.{Round}
+use Rattle.ssq_desk.specs.Tasks.{map_id}
+use Rattle.ssq_desk.specs.Handed.{IsMapOf}
+use Rattle.ssq_desk.specs.Results.{cause_of_feed, fault_of}
+use Rattle.ssq_desk.specs.Whole.{IsWhole, opening_in}
+use Rattle.ssq_desk.proofs.Planned.{at_get}
+use Rattle.ssq_desk.proofs.Handing.{moved_whole, sources_count}
+use Rattle.ssq_desk.proofs.Returning.{map_right, map_back, old_source}
 use Rattle.ssq_desk.proofs.desk.Desk.report_fed.Goals as goal
 
-pub put_back-requires : goal.put_back-requires
-put_back-requires g c =
+pub index_mut-source-requires : goal.index_mut-source-requires
+index_mut-source-requires g c =
     let s = c.self.inside in
-    let core : Core = record { front = s.front; ends = s.ends.items; maps = places s.maps.items; reduces = places s.reduces.items; outs = places s.outs.items } in
-    let scope : Scope = record { partitions = s.partitions; available = s.available.items; cap = s.cap } in
-    let o : Opening = g.O.Opening.opening s.opening.value in
-    let t : TaskId = map_id c.args.done.epoch c.args.done.number in
-    let f = c.split-rows.result.1 in
-    let m : May scope core (entry.Report t f) = subst (λ (x : Shown g.row.D.Denot g.row.O.Denot). May x.scope x.core (entry.Report t f)) (sym c.self.view_is) c.requires.may in
-    away_at s.maps.items t.number m.2
+    let i = c.args.done.number in
+    let f = fault_of (cause_of_feed c.args.done.stream c.args.done.part) c.args.done.outcome in
+    let m = subst (λ (x : Shown g.row.D.Denot (Round g.row.L.Denot)). May x.scope x.core (entry.Report (map_id c.args.done.epoch i) f)) (sym c.self.view_is) c.requires.may in
+    let old = old_source s.ledger.core s.load.sources.items i (c.is_in_order.ensures.sound.maps ∙ sym (sources_count _ _ _ _ _ _ _ _ c.self.invariant c.is_legal.ensures.legal c.is_in_order.ensures)) m.2 in
+    let less = at_length s.load.sources.items i old.0 old.1 in
+    let n = s.load.sources.ok.0 in omega (arith, less, n)
+
+pub report-requires-clause-right : goal.report-requires-clause-right
+report-requires-clause-right g c =
+    let s = c.self.inside in
+    let tells = g.D.Disk.tells × g.L.Log.tells in
+    let f = fault_of (cause_of_feed c.args.done.stream c.args.done.part) c.args.done.outcome in
+    let m = subst (λ (x : Shown g.row.D.Denot (Round g.row.L.Denot)). May x.scope x.core (entry.Report (map_id c.args.done.epoch c.args.done.number) f)) (sym c.self.view_is) c.requires.may in
+    let of = subst (λ (x : Shown g.row.D.Denot (Round g.row.L.Denot)). IsMapOf tells g.L.Log.lines g.L.Log.available x c.requires.of.0) (sym c.self.view_is) c.requires.of.1 in
+    λ t. subst (λ (o : Option Cause). IsTrue (opening_in g.L.Log.lines) s.ledger (map_id c.args.done.epoch c.args.done.number) o) (sym c.split_fed-fed.ensures.cause)
+    (subst (λ (e : ℕ). IsTrue (opening_in g.L.Log.lines) s.ledger (map_id e c.args.done.number) f) (sym m.1)
+    (map_right tells g.L.Log.tells (λ both. both.1) g.L.Log.lines g.L.Log.available g.L.Log.answers g.L.Log.faults g.D.Disk.history g.D.Stage.Stage.written g.D.Stage.Stage.sealed s.ledger s.load c.self.invariant c.is_legal.ensures.legal c.is_in_order.ensures c.requires.of.0 c.args.done of c.requires.of.2 t))
 
 pub invariant_of-self : goal.invariant_of-self
 invariant_of-self g c =
     let s = c.self.inside in
-    let core : Core = record { front = s.front; ends = s.ends.items; maps = places s.maps.items; reduces = places s.reduces.items; outs = places s.outs.items } in
-    let scope : Scope = record { partitions = s.partitions; available = s.available.items; cap = s.cap } in
-    let o : Opening = g.O.Opening.opening s.opening.value in
-    let t : TaskId = map_id c.args.done.epoch c.args.done.number in
-    let f = c.split-rows.result.1 in
-    let m : May scope core (entry.Report t f) = subst (λ (x : Shown g.row.D.Denot g.row.O.Denot). May x.scope x.core (entry.Report t f)) (sym c.self.view_is) c.requires.may in
-    let left : ◌≡◌ {A = List Place} (places c.put_back.new.slots.items) (set (places s.maps.items) t.number (place.Back f)) = ap places c.put_back.ensures ∙ places_set s.maps.items t.number (slot.Back f (record { part = c.args.done.part; rows = c.split-rows.result.0 })) in
-    let is : c.due-stop.result ≡ due core t f = c.due-stop.ensures ∙ ap (λ l. if is_stopped s.front.stop then None else due_stop l) (ap places c.as_slice.ensures.value ∙ left) in
-    let new : ◌≡◌ {A = Core} (record { front = record { planned = s.front.planned; committed = s.front.committed; fresh = s.front.fresh; settled = s.front.settled; written = s.front.written; has_lines = s.front.has_lines; due = s.front.due; stop = c.or_stop-self-inside.result }; ends = s.ends.items; maps = places c.put_back.new.slots.items; reduces = places s.reduces.items; outs = places s.outs.items }) (after scope core (entry.Report t f)) = (λ i. record { front = record { planned = s.front.planned; committed = s.front.committed; fresh = s.front.fresh; settled = s.front.settled; written = s.front.written; has_lines = s.front.has_lines; due = s.front.due; stop = (c.or_stop-self-inside.ensures ∙ ap (or_stop s.front.stop) is) i }; ends = s.ends.items; maps = left i; reduces = places s.reduces.items; outs = places s.outs.items }) in
-    let right : g.D.Disk.tells × g.L.Log.tells → IsTrue g.O.Opening.opening (record { opening = s.opening.value; opened = s.opened.value; scope = scope; disk = s.disk; core = core; history = s.entries.items }) t f =
-    (λ tells. subst (λ (h : Option Cause). IsTrue g.O.Opening.opening (record { opening = s.opening.value; opened = s.opened.value; scope = scope; disk = s.disk; core = core; history = s.entries.items }) t h) (sym c.split-rows.ensures) (subst (λ (x : Shown g.row.D.Denot g.row.O.Denot). IsTrue g.O.Opening.opening x t (cause_of c.args.done.outcome)) (sym c.self.view_is) (c.requires.right tells))) in
-    let same = same_cuts o scope s.entries.items c.push_reserved.new.self.items (entry.Report t f) c.push_reserved.ensures.items (λ cuts n. refl) in (
-      one (g.D.Disk.tells × g.L.Log.tells) o (g.D.Disk.history s.opened.value) scope (g.D.Disk.history s.disk) core s.entries.items s.entries.cap c.self.invariant.0 (g.D.Disk.history s.disk) (record { front = record { planned = s.front.planned; committed = s.front.committed; fresh = s.front.fresh; settled = s.front.settled; written = s.front.written; has_lines = s.front.has_lines; due = s.front.due; stop = c.or_stop-self-inside.result }; ends = s.ends.items; maps = places c.put_back.new.slots.items; reduces = places s.reduces.items; outs = places s.outs.items }) c.push_reserved.new.self.items c.push_reserved.new.self.cap
-          (entry.Report t f) m (λ t. refl) right new c.push_reserved.ensures.items
-          (let n = need_report scope core t f m.2 in let e = ap need new in let r = c.self.invariant.0.room in let k = c.push_reserved.ensures.capacity in omega arith),
-      subst (λ (x : Cuts). HasCommit (g.D.Disk.tells × g.L.Log.tells) g.D.Stage.Stage.sealed o x (record { planned = s.front.planned; committed = s.front.committed; fresh = s.front.fresh; settled = s.front.settled; written = s.front.written; has_lines = s.front.has_lines; due = s.front.due; stop = c.or_stop-self-inside.result }) s.commit) (sym same)
-          (λ running. c.self.invariant.1 (first_none s.front.stop c.due-stop.result (sym c.or_stop-self-inside.ensures ∙ running))),
-    )
-
-pub returns-clause-did : goal.returns-clause-did
-returns-clause-did g c =
-    let s = c.self.inside in
-    let core : Core = record { front = s.front; ends = s.ends.items; maps = places s.maps.items; reduces = places s.reduces.items; outs = places s.outs.items } in
-    let scope : Scope = record { partitions = s.partitions; available = s.available.items; cap = s.cap } in
-    let o : Opening = g.O.Opening.opening s.opening.value in
-    let t : TaskId = map_id c.args.done.epoch c.args.done.number in
-    let f = c.split-rows.result.1 in
-    let m : May scope core (entry.Report t f) = subst (λ (x : Shown g.row.D.Denot g.row.O.Denot). May x.scope x.core (entry.Report t f)) (sym c.self.view_is) c.requires.may in
-    let left : ◌≡◌ {A = List Place} (places c.put_back.new.slots.items) (set (places s.maps.items) t.number (place.Back f)) = ap places c.put_back.ensures ∙ places_set s.maps.items t.number (slot.Back f (record { part = c.args.done.part; rows = c.split-rows.result.0 })) in
-    let is : c.due-stop.result ≡ due core t f = c.due-stop.ensures ∙ ap (λ l. if is_stopped s.front.stop then None else due_stop l) (ap places c.as_slice.ensures.value ∙ left) in
-    let new : ◌≡◌ {A = Core} (record { front = record { planned = s.front.planned; committed = s.front.committed; fresh = s.front.fresh; settled = s.front.settled; written = s.front.written; has_lines = s.front.has_lines; due = s.front.due; stop = c.or_stop-self-inside.result }; ends = s.ends.items; maps = places c.put_back.new.slots.items; reduces = places s.reduces.items; outs = places s.outs.items }) (after scope core (entry.Report t f)) = (λ i. record { front = record { planned = s.front.planned; committed = s.front.committed; fresh = s.front.fresh; settled = s.front.settled; written = s.front.written; has_lines = s.front.has_lines; due = s.front.due; stop = (c.or_stop-self-inside.ensures ∙ ap (or_stop s.front.stop) is) i }; ends = s.ends.items; maps = left i; reduces = places s.reduces.items; outs = places s.outs.items }) in
-    (λ i. record { opening = s.opening.value; opened = s.opened.value; scope = scope; disk = s.disk; core = new i; history = c.push_reserved.ensures.items i })
-    ∙ (λ i. did {D = g.row.D.Denot} {O = g.row.O.Denot} (record { opening = s.opening.value; opened = s.opened.value; scope = scope; disk = s.disk; core = core; history = s.entries.items }) s.disk (entry.Report t (c.split-rows.ensures i) ∷ []))
-    ∙ ap (λ (x : Shown g.row.D.Denot g.row.O.Denot). did x x.disk (entry.Report t (cause_of c.args.done.outcome) ∷ [])) c.self.view_is
-
-pub returns-clause-answer : goal.returns-clause-answer
-returns-clause-answer g c =
-    let s = c.self.inside in
-    let core : Core = record { front = s.front; ends = s.ends.items; maps = places s.maps.items; reduces = places s.reduces.items; outs = places s.outs.items } in
-    let scope : Scope = record { partitions = s.partitions; available = s.available.items; cap = s.cap } in
-    let o : Opening = g.O.Opening.opening s.opening.value in
-    let t : TaskId = map_id c.args.done.epoch c.args.done.number in
-    let f = c.split-rows.result.1 in
-    let m : May scope core (entry.Report t f) = subst (λ (x : Shown g.row.D.Denot g.row.O.Denot). May x.scope x.core (entry.Report t f)) (sym c.self.view_is) c.requires.may in
-    let left : ◌≡◌ {A = List Place} (places c.put_back.new.slots.items) (set (places s.maps.items) t.number (place.Back f)) = ap places c.put_back.ensures ∙ places_set s.maps.items t.number (slot.Back f (record { part = c.args.done.part; rows = c.split-rows.result.0 })) in
-    let is : c.due-stop.result ≡ due core t f = c.due-stop.ensures ∙ ap (λ l. if is_stopped s.front.stop then None else due_stop l) (ap places c.as_slice.ensures.value ∙ left) in
-    let new : ◌≡◌ {A = Core} (record { front = record { planned = s.front.planned; committed = s.front.committed; fresh = s.front.fresh; settled = s.front.settled; written = s.front.written; has_lines = s.front.has_lines; due = s.front.due; stop = c.or_stop-self-inside.result }; ends = s.ends.items; maps = places c.put_back.new.slots.items; reduces = places s.reduces.items; outs = places s.outs.items }) (after scope core (entry.Report t f)) = (λ i. record { front = record { planned = s.front.planned; committed = s.front.committed; fresh = s.front.fresh; settled = s.front.settled; written = s.front.written; has_lines = s.front.has_lines; due = s.front.due; stop = (c.or_stop-self-inside.ensures ∙ ap (or_stop s.front.stop) is) i }; ends = s.ends.items; maps = left i; reduces = places s.reduces.items; outs = places s.outs.items }) in
-    c.answer.ensures ∙ ap answer is ∙ (λ i. answer (due core t (c.split-rows.ensures i))) ∙ ap (λ (x : Shown g.row.D.Denot g.row.O.Denot). answer (due x.core t (cause_of c.args.done.outcome))) c.self.view_is
-
-pub push_reserved-requires : goal.push_reserved-requires
-push_reserved-requires g c =
-    let s = c.self.inside in
-    let core : Core = record { front = s.front; ends = s.ends.items; maps = places s.maps.items; reduces = places s.reduces.items; outs = places s.outs.items } in
-    let scope : Scope = record { partitions = s.partitions; available = s.available.items; cap = s.cap } in
-    let o : Opening = g.O.Opening.opening s.opening.value in
-    let t : TaskId = map_id c.args.done.epoch c.args.done.number in
-    let f = c.split-rows.result.1 in
-    let m : May scope core (entry.Report t f) = subst (λ (x : Shown g.row.D.Denot g.row.O.Denot). May x.scope x.core (entry.Report t f)) (sym c.self.view_is) c.requires.may in
-    let n = need_report scope core t f m.2 in
-    let r = c.self.invariant.0.room in
-    let less : length s.entries.items < s.entries.cap = omega arith in
-    subst (λ n. n < s.entries.cap) (sym s.entries.ok.0) less
+    let tells = g.D.Disk.tells × g.L.Log.tells in
+    let i = c.args.done.number in
+    let f = fault_of (cause_of_feed c.args.done.stream c.args.done.part) c.args.done.outcome in
+    let m = subst (λ (x : Shown g.row.D.Denot (Round g.row.L.Denot)). May x.scope x.core (entry.Report (map_id c.args.done.epoch i) f)) (sym c.self.view_is) c.requires.may in
+    let of = subst (λ (x : Shown g.row.D.Denot (Round g.row.L.Denot)). IsMapOf tells g.L.Log.lines g.L.Log.available x c.requires.of.0) (sym c.self.view_is) c.requires.of.1 in
+    let old = old_source s.ledger.core s.load.sources.items i (c.is_in_order.ensures.sound.maps ∙ sym (sources_count _ _ _ _ _ _ _ _ c.self.invariant c.is_legal.ensures.legal c.is_in_order.ensures)) m.2 in
+    let same = c.index_mut-source.ensures.value ∙ at_get s.load.sources.items i old.0 _ old.1 in
+    let x : Source g.row.L.Denot = record { stream = c.index_mut-source.result.now.stream; part = c.index_mut-source.result.now.part; from = c.index_mut-source.result.now.from; log = Some c.args.done.log; fed = c.split_fed-fed.result.0 } in
+    let n : Load g.row.L.Denot g.row.D-Stage.Denot g.row.D-Stage-Sealed.Denot = record { view = s.load.view; plans = s.load.plans; sources = with_item s.load.sources i x; shares = s.load.shares; out = s.load.out; seen = s.load.seen; pending = s.load.pending } in
+    let held = map_back tells g.L.Log.tells (λ both. both.1) g.L.Log.lines g.L.Log.available g.L.Log.answers g.L.Log.faults g.D.Disk.history g.D.Stage.Stage.written g.D.Stage.Stage.sealed s.ledger s.load c.self.invariant c.is_legal.ensures.legal c.is_in_order.ensures c.requires.of.0 c.args.done of c.requires.of.2
+    old.0 x m old.1 (ap (λ z. z.stream) same) (ap (λ z. z.part) same) (ap (λ z. z.from) same) refl c.split_fed-fed.ensures.brought in
+    let reported = c.report.ensures.did ∙ ap (λ o. did s.ledger s.ledger.disk (entry.Report (map_id c.args.done.epoch i) o ∷ [])) c.split_fed-fed.ensures.cause in
+    subst (λ (y : Shown g.row.D.Denot (Round g.row.L.Denot)). IsWhole tells g.L.Log.lines g.L.Log.available g.D.Disk.history g.D.Stage.Stage.written g.D.Stage.Stage.sealed y n) (sym reported)
+    (moved_whole _ _ _ _ _ _ s.ledger s.load c.self.invariant s.ledger.disk (entry.Report (map_id c.args.done.epoch i) f) n (λ cuts k. refl) refl refl refl held)

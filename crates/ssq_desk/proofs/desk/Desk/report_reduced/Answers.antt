@@ -1,94 +1,32 @@
-use Rattle.std.proofs.Common.{◌≡◌, ◌<◌, sym, ap, ◌∙◌, subst, length, List, ◌∷◌, [], Option, None, set, refl, arith, if◌then◌else◌}
-use Rattle.ssq_outside.specs.declared.gate.TaskId.{TaskId}
-use Rattle.ssq_core.specs.Course.{Cuts}
-use Rattle.ssq_board.specs.declared.front.Cause.{Cause}
-use Rattle.ssq_board.specs.declared.front.Place.{Place}
-use Rattle.ssq_board.specs.declared.front.Place.TheVariants as place
+use Rattle.std.proofs.Common.{◌≡◌, [], ◌∷◌, refl, sym, subst}
+use Rattle.std.specs.Vec.{with_item}
 use Rattle.ssq_board.specs.declared.front.Entry.TheVariants as entry
-use Rattle.ssq_board.specs.Core.{Scope, Core, May, need, after, is_stopped, due, due_stop, or_stop}
-use Rattle.ssq_desk.specs.declared.slot.Slot.TheVariants as slot
-use Rattle.ssq_desk.specs.Slots.{places}
-use Rattle.ssq_desk.specs.Tasks.{reduce_id, cause_of}
-use Rattle.ssq_desk.specs.Shown.{Opening, Shown, HasCommit, did, IsTrue, answer}
-use Rattle.ssq_desk.proofs.Slots.{away_at, places_set}
-use Rattle.ssq_board.proofs.Needs.{need_report}
-use Rattle.ssq_desk.proofs.Desks.{one, same_cuts}
-use Rattle.ssq_desk.proofs.Moves.{first_none}
+use Rattle.ssq_board.specs.Core.{May}
+use Rattle.ssq_ledger.specs.Shown.{Shown, did}
+use Rattle.ssq_desk.specs.declared.desk.Load.{Load}
+use Rattle.ssq_desk.specs.declared.desk.Share.{Share}
+use Rattle.ssq_desk.specs.declared.round.Round.{Round}
+use Rattle.ssq_desk.specs.Tasks.{reduce_id}
+use Rattle.ssq_desk.specs.Handed.{IsReduceOf}
+use Rattle.ssq_desk.specs.Results.{cause_of_reduce, fault_of}
+use Rattle.ssq_desk.specs.Whole.{IsWhole}
+use Rattle.ssq_desk.proofs.Handing.{moved_whole}
+use Rattle.ssq_desk.proofs.Reducing.{reduced_right, reduced_back}
 use Rattle.ssq_desk.proofs.desk.Desk.report_reduced.Goals as goal
 
-pub put_back-requires : goal.put_back-requires
-put_back-requires g c =
-    let s = c.self.inside in
-    let core : Core = record { front = s.front; ends = s.ends.items; maps = places s.maps.items; reduces = places s.reduces.items; outs = places s.outs.items } in
-    let scope : Scope = record { partitions = s.partitions; available = s.available.items; cap = s.cap } in
-    let o : Opening = g.O.Opening.opening s.opening.value in
-    let t : TaskId = reduce_id c.args.done.epoch c.args.done.partition in
-    let f = c.split-rows.result.1 in
-    let m : May scope core (entry.Report t f) = subst (λ (x : Shown g.row.D.Denot g.row.O.Denot). May x.scope x.core (entry.Report t f)) (sym c.self.view_is) c.requires.may in
-    away_at s.reduces.items t.number m.2
+pub report-requires-clause-right : goal.report-requires-clause-right
+report-requires-clause-right g c =
+    reduced_right _ _ _ _ _ _ _ _ c.self.invariant c.is_legal.ensures.legal c.is_in_order.ensures c.args.done c.split_reduced-rows.result.1 c.split_reduced-rows.ensures.cause
 
 pub invariant_of-self : goal.invariant_of-self
 invariant_of-self g c =
     let s = c.self.inside in
-    let core : Core = record { front = s.front; ends = s.ends.items; maps = places s.maps.items; reduces = places s.reduces.items; outs = places s.outs.items } in
-    let scope : Scope = record { partitions = s.partitions; available = s.available.items; cap = s.cap } in
-    let o : Opening = g.O.Opening.opening s.opening.value in
-    let t : TaskId = reduce_id c.args.done.epoch c.args.done.partition in
-    let f = c.split-rows.result.1 in
-    let m : May scope core (entry.Report t f) = subst (λ (x : Shown g.row.D.Denot g.row.O.Denot). May x.scope x.core (entry.Report t f)) (sym c.self.view_is) c.requires.may in
-    let left : ◌≡◌ {A = List Place} (places c.put_back.new.slots.items) (set (places s.reduces.items) t.number (place.Back f)) = ap places c.put_back.ensures ∙ places_set s.reduces.items t.number (slot.Back f c.split-rows.result.0) in
-    let is : c.due-stop.result ≡ due core t f = c.due-stop.ensures ∙ ap (λ l. if is_stopped s.front.stop then None else due_stop l) (ap places c.as_slice.ensures.value ∙ left) in
-    let new : ◌≡◌ {A = Core} (record { front = record { planned = s.front.planned; committed = s.front.committed; fresh = s.front.fresh; settled = s.front.settled; written = s.front.written; has_lines = s.front.has_lines; due = s.front.due; stop = c.or_stop-self-inside.result }; ends = s.ends.items; maps = places s.maps.items; reduces = places c.put_back.new.slots.items; outs = places s.outs.items }) (after scope core (entry.Report t f)) = (λ i. record { front = record { planned = s.front.planned; committed = s.front.committed; fresh = s.front.fresh; settled = s.front.settled; written = s.front.written; has_lines = s.front.has_lines; due = s.front.due; stop = (c.or_stop-self-inside.ensures ∙ ap (or_stop s.front.stop) is) i }; ends = s.ends.items; maps = places s.maps.items; reduces = left i; outs = places s.outs.items }) in
-    let right : g.D.Disk.tells × g.L.Log.tells → IsTrue g.O.Opening.opening (record { opening = s.opening.value; opened = s.opened.value; scope = scope; disk = s.disk; core = core; history = s.entries.items }) t f =
-    (λ tells. subst (λ (h : Option Cause). IsTrue g.O.Opening.opening (record { opening = s.opening.value; opened = s.opened.value; scope = scope; disk = s.disk; core = core; history = s.entries.items }) t h) (sym c.split-rows.ensures) (subst (λ (x : Shown g.row.D.Denot g.row.O.Denot). IsTrue g.O.Opening.opening x t (cause_of c.args.done.outcome)) (sym c.self.view_is) (c.requires.right tells))) in
-    let same = same_cuts o scope s.entries.items c.push_reserved.new.self.items (entry.Report t f) c.push_reserved.ensures.items (λ cuts n. refl) in (
-      one (g.D.Disk.tells × g.L.Log.tells) o (g.D.Disk.history s.opened.value) scope (g.D.Disk.history s.disk) core s.entries.items s.entries.cap c.self.invariant.0 (g.D.Disk.history s.disk) (record { front = record { planned = s.front.planned; committed = s.front.committed; fresh = s.front.fresh; settled = s.front.settled; written = s.front.written; has_lines = s.front.has_lines; due = s.front.due; stop = c.or_stop-self-inside.result }; ends = s.ends.items; maps = places s.maps.items; reduces = places c.put_back.new.slots.items; outs = places s.outs.items }) c.push_reserved.new.self.items c.push_reserved.new.self.cap
-          (entry.Report t f) m (λ t. refl) right new c.push_reserved.ensures.items
-          (let n = need_report scope core t f m.2 in let e = ap need new in let r = c.self.invariant.0.room in let k = c.push_reserved.ensures.capacity in omega arith),
-      subst (λ (x : Cuts). HasCommit (g.D.Disk.tells × g.L.Log.tells) g.D.Stage.Stage.sealed o x (record { planned = s.front.planned; committed = s.front.committed; fresh = s.front.fresh; settled = s.front.settled; written = s.front.written; has_lines = s.front.has_lines; due = s.front.due; stop = c.or_stop-self-inside.result }) s.commit) (sym same)
-          (λ running. c.self.invariant.1 (first_none s.front.stop c.due-stop.result (sym c.or_stop-self-inside.ensures ∙ running))),
-    )
-
-pub returns-clause-did : goal.returns-clause-did
-returns-clause-did g c =
-    let s = c.self.inside in
-    let core : Core = record { front = s.front; ends = s.ends.items; maps = places s.maps.items; reduces = places s.reduces.items; outs = places s.outs.items } in
-    let scope : Scope = record { partitions = s.partitions; available = s.available.items; cap = s.cap } in
-    let o : Opening = g.O.Opening.opening s.opening.value in
-    let t : TaskId = reduce_id c.args.done.epoch c.args.done.partition in
-    let f = c.split-rows.result.1 in
-    let m : May scope core (entry.Report t f) = subst (λ (x : Shown g.row.D.Denot g.row.O.Denot). May x.scope x.core (entry.Report t f)) (sym c.self.view_is) c.requires.may in
-    let left : ◌≡◌ {A = List Place} (places c.put_back.new.slots.items) (set (places s.reduces.items) t.number (place.Back f)) = ap places c.put_back.ensures ∙ places_set s.reduces.items t.number (slot.Back f c.split-rows.result.0) in
-    let is : c.due-stop.result ≡ due core t f = c.due-stop.ensures ∙ ap (λ l. if is_stopped s.front.stop then None else due_stop l) (ap places c.as_slice.ensures.value ∙ left) in
-    let new : ◌≡◌ {A = Core} (record { front = record { planned = s.front.planned; committed = s.front.committed; fresh = s.front.fresh; settled = s.front.settled; written = s.front.written; has_lines = s.front.has_lines; due = s.front.due; stop = c.or_stop-self-inside.result }; ends = s.ends.items; maps = places s.maps.items; reduces = places c.put_back.new.slots.items; outs = places s.outs.items }) (after scope core (entry.Report t f)) = (λ i. record { front = record { planned = s.front.planned; committed = s.front.committed; fresh = s.front.fresh; settled = s.front.settled; written = s.front.written; has_lines = s.front.has_lines; due = s.front.due; stop = (c.or_stop-self-inside.ensures ∙ ap (or_stop s.front.stop) is) i }; ends = s.ends.items; maps = places s.maps.items; reduces = left i; outs = places s.outs.items }) in
-    (λ i. record { opening = s.opening.value; opened = s.opened.value; scope = scope; disk = s.disk; core = new i; history = c.push_reserved.ensures.items i })
-    ∙ (λ i. did {D = g.row.D.Denot} {O = g.row.O.Denot} (record { opening = s.opening.value; opened = s.opened.value; scope = scope; disk = s.disk; core = core; history = s.entries.items }) s.disk (entry.Report t (c.split-rows.ensures i) ∷ []))
-    ∙ ap (λ (x : Shown g.row.D.Denot g.row.O.Denot). did x x.disk (entry.Report t (cause_of c.args.done.outcome) ∷ [])) c.self.view_is
-
-pub returns-clause-answer : goal.returns-clause-answer
-returns-clause-answer g c =
-    let s = c.self.inside in
-    let core : Core = record { front = s.front; ends = s.ends.items; maps = places s.maps.items; reduces = places s.reduces.items; outs = places s.outs.items } in
-    let scope : Scope = record { partitions = s.partitions; available = s.available.items; cap = s.cap } in
-    let o : Opening = g.O.Opening.opening s.opening.value in
-    let t : TaskId = reduce_id c.args.done.epoch c.args.done.partition in
-    let f = c.split-rows.result.1 in
-    let m : May scope core (entry.Report t f) = subst (λ (x : Shown g.row.D.Denot g.row.O.Denot). May x.scope x.core (entry.Report t f)) (sym c.self.view_is) c.requires.may in
-    let left : ◌≡◌ {A = List Place} (places c.put_back.new.slots.items) (set (places s.reduces.items) t.number (place.Back f)) = ap places c.put_back.ensures ∙ places_set s.reduces.items t.number (slot.Back f c.split-rows.result.0) in
-    let is : c.due-stop.result ≡ due core t f = c.due-stop.ensures ∙ ap (λ l. if is_stopped s.front.stop then None else due_stop l) (ap places c.as_slice.ensures.value ∙ left) in
-    let new : ◌≡◌ {A = Core} (record { front = record { planned = s.front.planned; committed = s.front.committed; fresh = s.front.fresh; settled = s.front.settled; written = s.front.written; has_lines = s.front.has_lines; due = s.front.due; stop = c.or_stop-self-inside.result }; ends = s.ends.items; maps = places s.maps.items; reduces = places c.put_back.new.slots.items; outs = places s.outs.items }) (after scope core (entry.Report t f)) = (λ i. record { front = record { planned = s.front.planned; committed = s.front.committed; fresh = s.front.fresh; settled = s.front.settled; written = s.front.written; has_lines = s.front.has_lines; due = s.front.due; stop = (c.or_stop-self-inside.ensures ∙ ap (or_stop s.front.stop) is) i }; ends = s.ends.items; maps = places s.maps.items; reduces = left i; outs = places s.outs.items }) in
-    c.answer.ensures ∙ ap answer is ∙ (λ i. answer (due core t (c.split-rows.ensures i))) ∙ ap (λ (x : Shown g.row.D.Denot g.row.O.Denot). answer (due x.core t (cause_of c.args.done.outcome))) c.self.view_is
-
-pub push_reserved-requires : goal.push_reserved-requires
-push_reserved-requires g c =
-    let s = c.self.inside in
-    let core : Core = record { front = s.front; ends = s.ends.items; maps = places s.maps.items; reduces = places s.reduces.items; outs = places s.outs.items } in
-    let scope : Scope = record { partitions = s.partitions; available = s.available.items; cap = s.cap } in
-    let o : Opening = g.O.Opening.opening s.opening.value in
-    let t : TaskId = reduce_id c.args.done.epoch c.args.done.partition in
-    let f = c.split-rows.result.1 in
-    let m : May scope core (entry.Report t f) = subst (λ (x : Shown g.row.D.Denot g.row.O.Denot). May x.scope x.core (entry.Report t f)) (sym c.self.view_is) c.requires.may in
-    let n = need_report scope core t f m.2 in
-    let r = c.self.invariant.0.room in
-    let less : length s.entries.items < s.entries.cap = omega arith in
-    subst (λ n. n < s.entries.cap) (sym s.entries.ok.0) less
+    let f = c.split_reduced-rows.result.1 in
+    let id = reduce_id c.args.done.epoch c.args.done.partition in
+    let own : Share = record { buckets = c.index_mut.result.now.buckets; rows = c.split_reduced-rows.result.0 } in
+    let n : Load g.row.L.Denot g.row.D-Stage.Denot g.row.D-Stage-Sealed.Denot = record { view = s.load.view; plans = s.load.plans; sources = s.load.sources; shares = with_item s.load.shares c.args.done.partition own; out = s.load.out; seen = s.load.seen; pending = s.load.pending } in
+    let of = subst (λ (x : Shown g.row.D.Denot (Round g.row.L.Denot)). IsReduceOf (g.D.Disk.tells × g.L.Log.tells) g.L.Log.lines g.L.Log.available x c.requires.of.0) (sym c.self.view_is) c.requires.of.1 in
+    let m = subst (λ (x : Shown g.row.D.Denot (Round g.row.L.Denot)). May x.scope x.core (entry.Report id (fault_of cause_of_reduce c.args.done.outcome))) (sym c.self.view_is) c.requires.may in
+    subst (λ (x : Shown g.row.D.Denot (Round g.row.L.Denot)). IsWhole (g.D.Disk.tells × g.L.Log.tells) g.L.Log.lines g.L.Log.available g.D.Disk.history g.D.Stage.Stage.written g.D.Stage.Stage.sealed x n) (sym c.report.ensures.did)
+    (moved_whole _ _ _ _ _ _ s.ledger s.load c.self.invariant s.ledger.disk (entry.Report id f) n (λ cuts m. refl) refl refl refl
+    (reduced_back _ _ _ _ _ _ _ _ c.self.invariant c.is_legal.ensures.legal c.is_in_order.ensures c.requires.of.0 c.args.done f own of c.requires.of.2 c.split_reduced-rows.ensures.cause c.split_reduced-rows.ensures.brought m))

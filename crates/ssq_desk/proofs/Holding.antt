@@ -1,0 +1,254 @@
+-- What a desk holds, after one of its slots was changed.
+use Rattle.std.proofs.Common.{◌≡◌, ◌⊎◌, ◌<◌, ◌≤◌, ◌+◌, ℕ, ℤ, zero, suc, true≢false, List, [], ◌∷◌, length, get_or, set, Option, Some, None, inl, inr, refl, sym, ap, ◌∙◌, subst, arith}
+use Rattle.std.specs.Prelude.{All, slice_get, IfSome, true}
+use Rattle.ssq_time.specs.Time.{IsLineTime}
+use Rattle.ssq_terms.specs.Rows.{bucket_in}
+use Rattle.std.proofs.lemmas.List.Elements.{All-set}
+use mathlib.Core.Option.{some, some-injective, some-ne-none}
+use lib.ListN.{get_elem?}
+use Rattle.ssq_route.specs.Buckets.{bucket_at}
+use Rattle.ssq_shape.specs.declared.bound.Bound.{Bound}
+use Rattle.ssq_meaning.specs.Meaning.{Line}
+use Rattle.ssq_meaning.specs.Parts.{Part}
+use Rattle.ssq_feed.specs.declared.task.FedRows.{FedRows}
+use Rattle.ssq_feed.specs.Rows.{IsPrintable}
+use Rattle.ssq_core.specs.Course.{Cuts}
+use Rattle.ssq_course.specs.Setting.{Setting, parts_in, cut_of}
+use Rattle.ssq_board.specs.declared.front.Cause.{Cause}
+use Rattle.ssq_board.specs.declared.front.Place.{Place}
+use Rattle.ssq_board.specs.declared.front.Place.TheVariants as place
+use Rattle.std.specs.List.{list_all}
+use Rattle.ssq_board.specs.Core.{Core, is_open, is_fine, stopped_front}
+use Rattle.ssq_board.proofs.Lists.{put_else, set_length, all_fine}
+use Rattle.ssq_desk.specs.declared.desk.Source.{Source}
+use Rattle.ssq_desk.specs.declared.desk.Share.{Share}
+use Rattle.ssq_desk.specs.declared.desk.OutWork.{OutWork}
+use Rattle.ssq_desk.specs.declared.desk.Pending.{Pending}
+use Rattle.ssq_desk.specs.Handing.{IsTaken}
+use Rattle.ssq_desk.specs.Contents.{IsSourceOf, IsMapped, IsBrought, IsShare, IsOutWork, IsEpoch, IsStopOf, Holds}
+
+-- what is put into a list is there
+pub put_is : {A : Type 0} (l : List A) (i : ℕ) (a x : A) → get_elem? (set l i a) i ≡ some x → a ≡ x
+put_is [] i a x e = absurd (some-ne-none x (sym e))
+put_is (y ∷ l) zero a x e = some-injective a x e
+put_is (y ∷ l) (suc i) a x e = put_is l i a x e
+
+same_or_not : (i j : ℕ) → (i ≡ j) ⊎ (j ≡ i → ⊥)
+same_or_not zero zero = inl refl
+same_or_not zero (suc j) = inr (λ e. omega (arith, e))
+same_or_not (suc i) zero = inr (λ e. omega (arith, e))
+same_or_not (suc i) (suc j) = elim (same_or_not i j) [ inl e ↦ inl (ap suc e) | inr n ↦ inr (λ e. n (omega (arith, e))) ]
+
+-- what holds of both lists at each place holds after both are changed at one, where it holds of what is put there
+pub put_both : {A B : Type 0} (P : ℕ → A → B → Type 0) (l : List A) (m : List B) (i : ℕ) (a : A) (b : B) → ((j : ℕ) (x : A) (y : B) → get_elem? l j ≡ some x → get_elem? m j ≡ some y → P j x y) → P i a b
+    → (j : ℕ) (x : A) (y : B) → get_elem? (set l i a) j ≡ some x → get_elem? (set m i b) j ≡ some y → P j x y
+put_both {A} {B} P l m i a b each here j x y ex ey = elim (same_or_not i j) [
+  | inl same ↦ (let px = put_is l i a x (subst (λ (k : ℕ). get_elem? (set l i a) k ≡ some x) (sym same) ex) in
+      let py = put_is m i b y (subst (λ (k : ℕ). get_elem? (set m i b) k ≡ some y) (sym same) ey) in
+      subst (λ (k : ℕ). P k x y) same (subst (λ (z : B). P i x z) py (subst (λ (z : A). P i z b) px here)))
+  | inr other ↦ each j x y (sym (put_else l i j a other) ∙ ex) (sym (put_else m i j b other) ∙ ey)
+]
+
+-- the same of one list beside another that stays
+pub put_one : {A B : Type 0} (P : ℕ → A → B → Type 0) (l : List A) (m : List B) (i : ℕ) (a : A) → ((j : ℕ) (x : A) (y : B) → get_elem? l j ≡ some x → get_elem? m j ≡ some y → P j x y) → ((y : B) → P i a y)
+    → (j : ℕ) (x : A) (y : B) → get_elem? (set l i a) j ≡ some x → get_elem? m j ≡ some y → P j x y
+put_one {A} {B} P l m i a each here j x y ex ey = elim (same_or_not i j) [
+  | inl same ↦ (let px = put_is l i a x (subst (λ (k : ℕ). get_elem? (set l i a) k ≡ some x) (sym same) ex) in
+      subst (λ (k : ℕ). P k x y) same (subst (λ (z : A). P i z y) px (here y)))
+  | inr other ↦ each j x y (sym (put_else l i j a other) ∙ ex) ey
+]
+
+-- a map task was moved, and its source is another
+abbrev pub with_map : Core → Option Cause → ℕ → Place → Core
+with_map c stop i p = record { front = stopped_front c.front stop; ends = c.ends; maps = set c.maps i p; reduces = c.reduces; outs = c.outs }
+
+abbrev pub with_reduce : Core → Option Cause → ℕ → Place → Core
+with_reduce c stop i p = record { front = stopped_front c.front stop; ends = c.ends; maps = c.maps; reduces = set c.reduces i p; outs = c.outs }
+
+abbrev pub with_out : Core → Option Cause → Place → Core
+with_out c stop p = record { front = stopped_front c.front stop; ends = c.ends; maps = c.maps; reduces = c.reduces; outs = set c.outs 0 p }
+
+bucket_else : {T : Type 0} (l : List (List T)) (p q : ℕ) → (q ≡ p → ⊥) → bucket_at (set l p []) q ≡ bucket_at l q
+bucket_else [] p q n = refl
+bucket_else (x ∷ l) zero zero n = absurd (n refl)
+bucket_else (x ∷ l) zero (suc q) n = refl
+bucket_else (x ∷ l) (suc p) zero n = refl
+bucket_else (x ∷ l) (suc p) (suc q) n = bucket_else l p q (λ e. n (ap suc e))
+
+away_not_waits : place.Away ≡ place.Waits → ⊥
+away_not_waits e = cc
+
+no_rows : All IsPrintable []
+no_rows = λ k d less. absurd (omega (arith, less))
+
+-- what was brought, less the bucket of a partition that was handed out
+brought_less : (tells : Type 0) (query : Bound) (part : Part) (from to partitions : ℕ) (reduces : List Place) (p : ℕ) (fed left : FedRows) → left.time ≡ fed.time → left.buckets ≡ set fed.buckets p []
+    → IsBrought tells query part from to partitions reduces fed → IsBrought tells query part from to partitions (set reduces p place.Away) left
+brought_less tells query part from to partitions reduces p fed left time buckets b = record {
+  count = ap length buckets ∙ set_length fed.buckets p [] ∙ b.count;
+  years = subst (λ (t : Option ℤ). IfSome t IsLineTime) (sym time) b.years;
+  printable = subst (λ l. All (All IsPrintable) l) (sym buckets) (All-set (All IsPrintable) fed.buckets p [] no_rows b.printable);
+  time = λ t. time ∙ b.time t;
+  good = b.good;
+  rows = λ t q waits. by t q waits (same_or_not p q);
+}
+  where
+    by : tells → (q : ℕ) → get_elem? (set reduces p place.Away) q ≡ some place.Waits → (p ≡ q) ⊎ (q ≡ p → ⊥) → bucket_at left.buckets q ≡ bucket_in query partitions q part from to
+    by t q waits (inl same) = absurd (away_not_waits (put_is reduces p place.Away place.Waits (subst (λ (k : ℕ). get_elem? (set reduces p place.Away) k ≡ some place.Waits) (sym same) waits)))
+    by t q waits (inr other) = ap (λ l. bucket_at l q) buckets ∙ bucket_else fed.buckets p q other ∙ b.rows t q (sym (put_else reduces p q place.Away other) ∙ waits)
+
+mapped_less : {L : Type 0} (tells : Type 0) (query : Bound) (part : Part) (from to partitions : ℕ) (reduces : List Place) (p : ℕ) (at : Place) (old new : Source L) → IsTaken p old new
+    → IsMapped tells query part from to partitions reduces at old → IsMapped tells query part from to partitions (set reduces p place.Away) at new
+mapped_less tells query part from to partitions reduces p at old new taken m = record {
+  begins = taken.from_is ∙ m.begins;
+  quiet = m.quiet;
+  none = λ rests. taken.none (m.none rests);
+  brought = λ back. (let b = m.brought back in let l = taken.taken b.0 b.1 in (l.0, l.1, brought_less tells query part from to partitions reduces p b.0 l.0 l.2 l.3 b.2));
+  fault = m.fault;
+}
+
+source_less : {L : Type 0} (tells : Type 0) (lines : L → List Line) (available : L → ℕ) (part : Part) (found p : ℕ) (at : Place) (old new : Source L) → IsTaken p old new
+    → IsSourceOf tells lines available part found at old → IsSourceOf tells lines available part found at new
+source_less tells lines available part found p at old new taken s = record {
+  stream = s.stream ∙ sym taken.stream_is;
+  number = s.number ∙ sym taken.part_is;
+  log = λ here. (let l = s.log here in (l.0, taken.log_is ∙ l.1, l.2));
+}
+
+-- a place of a list that is as long as another
+there_in : {A B : Type 0} (l : List A) (m : List B) (i : ℕ) (b : B) → length l ≡ length m → get_elem? m i ≡ some b → (a : A) × (get_elem? l i ≡ some a)
+there_in [] [] i b e here = absurd (some-ne-none b (sym here))
+there_in [] (y ∷ m) i b e here = absurd (omega (arith, e))
+there_in (x ∷ l) [] i b e here = absurd (omega (arith, e))
+there_in (x ∷ l) (y ∷ m) zero b e here = (x, refl)
+there_in (x ∷ l) (y ∷ m) (suc i) b e here = there_in l m i b (omega (arith, e)) here
+
+module _ {L S F : Type 0} (tells : Type 0) (lines : L → List Line) (available : L → ℕ) (written : S → List ℕ) (sealed : F → List ℕ) (s : Setting) (cuts : Cuts) (found : List ℕ) where
+  -- a map task is elsewhere
+  pub holds_map : (c : Core) (stop : Option Cause) (i : ℕ) (p : Place) (x : Source L) (sources : List (Source L)) (shares : List Share) (out : Option (OutWork S F)) (times : List (Option ℤ)) (pending : Option (Pending F))
+      → (stop ≡ None → c.front.stop ≡ None) → Holds tells lines available written sealed s cuts found c sources shares out times pending
+      → ((part : Part) → slice_get (parts_in s) i ≡ Some part → IsSourceOf tells lines available part (get_or found i 0) p x)
+      → (c.front.stop ≡ None → is_open c ≡ true → (part : Part) → slice_get (parts_in s) i ≡ Some part
+      → IsMapped tells s.job.bound part (get_or (cut_of (cuts c.front.committed)) i 0) (get_or (cut_of (cuts (c.front.committed + 1))) i 0) s.job.partitions c.reduces p x)
+      → ((f : Cause) → stop ≡ Some f → IsStopOf tells s cuts c.front.committed f)
+      → Holds tells lines available written sealed s cuts found (with_map c stop i p) (set sources i x) shares out times pending
+  holds_map c stop i p x sources shares out times pending runs h source mapped stops = record {
+    parts = set_length sources i x ∙ h.parts;
+    partitions = h.partitions;
+    logs = λ j part at own there place_is own_is.
+        put_both (λ j at own. (part : Part) → slice_get (parts_in s) j ≡ Some part → IsSourceOf tells lines available part (get_or found j 0) at own) c.maps sources i p x
+        (λ j at own place_is own_is part there. h.logs j part at own there place_is own_is) source j at own place_is own_is part there;
+    seen_so_far = λ run. h.seen_so_far (runs run);
+    epoch = λ run opened. (let e = h.epoch (runs run) opened in record {
+      froms = e.froms;
+      mapped = λ j part at own there place_is own_is.
+          put_both (λ j at own. (part : Part) → slice_get (parts_in s) j ≡ Some part
+          → IsMapped tells s.job.bound part (get_or (cut_of (cuts c.front.committed)) j 0) (get_or (cut_of (cuts (c.front.committed + 1))) j 0) s.job.partitions c.reduces at own) c.maps sources i p x
+          (λ j at own place_is own_is part there. e.mapped j part at own there place_is own_is) (mapped (runs run) opened) j at own place_is own_is part there;
+      shared = e.shared;
+      last = e.last;
+      outs = e.outs;
+    });
+    commit = λ run opened written_is. h.commit (runs run) opened written_is;
+    stop = stops;
+  }
+
+  -- a reduce task is handed out, with its buckets
+  pub holds_claimed : (c : Core) (i : ℕ) (x : Share) (sources left : List (Source L)) (shares : List Share) (out : Option (OutWork S F)) (times : List (Option ℤ)) (pending : Option (Pending F))
+      → Holds tells lines available written sealed s cuts found c sources shares out times pending → length left ≡ length sources → get_elem? c.reduces i ≡ some place.Waits
+      → ((j : ℕ) (old new : Source L) → get_elem? sources j ≡ some old → get_elem? left j ≡ some new → IsTaken i old new)
+      → Holds tells lines available written sealed s cuts found (with_reduce c c.front.stop i place.Away) left (set shares i x) out times pending
+  holds_claimed c i x sources left shares out times pending h count waits_there taken = record {
+    parts = count ∙ h.parts;
+    partitions = set_length shares i x ∙ h.partitions;
+    logs = λ j part at own there place_is own_is. (let old = there_in sources left j own (sym count) own_is in
+        source_less tells lines available part (get_or found j 0) i at old.0 own (taken j old.0 own old.1 own_is) (h.logs j part at old.0 there place_is old.1));
+    seen_so_far = h.seen_so_far;
+    epoch = λ run opened. (let e = h.epoch run opened in record {
+      froms = e.froms;
+      mapped = λ j part at own there place_is own_is. (let old = there_in sources left j own (sym count) own_is in
+          mapped_less tells s.job.bound part _ _ s.job.partitions c.reduces i at old.0 own (taken j old.0 own old.1 own_is) (e.mapped j part at old.0 there place_is old.1));
+      shared = λ waits. put_both (λ p at share. IsShare tells s cuts c.front.committed p at share) c.reduces shares i place.Away x (λ j at share. e.shared waits j at share)
+          (record { there = λ r. absurd (away_not_rests r); empty = λ w. absurd (away_not_waits w); shown = λ b. absurd (away_not_back b); printable = λ b. absurd (away_not_back b) });
+      last = elim e.last [ inl w ↦ inl w | inr fine ↦ absurd (true≢false (sym (all_fine is_fine c.reduces i place.Waits fine waits_there))) ];
+      outs = e.outs;
+    });
+    commit = h.commit;
+    stop = h.stop;
+  }
+    where
+      away_not_back : place.Away ≡ place.Back None → ⊥
+      away_not_back e = cc
+
+      away_not_rests : place.Away ≡ place.Rests → ⊥
+      away_not_rests e = cc
+
+  waits_again : (reduces : List Place) (i q : ℕ) (f : Option Cause) → get_elem? (set reduces i (place.Back f)) q ≡ some place.Waits → get_elem? reduces q ≡ some place.Waits
+  waits_again reduces i q f waits = elim (same_or_not i q) [
+    | inl same ↦ absurd (back_not_waits (put_is reduces i (place.Back f) place.Waits (subst (λ (k : ℕ). get_elem? (set reduces i (place.Back f)) k ≡ some place.Waits) (sym same) waits)))
+    | inr other ↦ sym (put_else reduces i q (place.Back f) other) ∙ waits
+  ]
+    where
+      back_not_waits : place.Back f ≡ place.Waits → ⊥
+      back_not_waits e = cc
+
+  -- a reduce task is back
+  pub holds_reduced : (c : Core) (stop f : Option Cause) (i : ℕ) (x : Share) (sources : List (Source L)) (shares : List Share) (out : Option (OutWork S F)) (times : List (Option ℤ)) (pending : Option (Pending F))
+      → (stop ≡ None → c.front.stop ≡ None) → Holds tells lines available written sealed s cuts found c sources shares out times pending
+      → get_elem? c.reduces i ≡ some place.Away → (c.front.stop ≡ None → is_open c ≡ true → IsShare tells s cuts c.front.committed i (place.Back f) x)
+      → ((g : Cause) → stop ≡ Some g → IsStopOf tells s cuts c.front.committed g)
+      → Holds tells lines available written sealed s cuts found (with_reduce c stop i (place.Back f)) sources (set shares i x) out times pending
+  holds_reduced c stop f i x sources shares out times pending runs h away share stops = record {
+    parts = h.parts;
+    partitions = set_length shares i x ∙ h.partitions;
+    logs = h.logs;
+    seen_so_far = λ run. h.seen_so_far (runs run);
+    epoch = λ run opened. (let e = h.epoch (runs run) opened in record {
+      froms = e.froms;
+      mapped = λ j part at own there place_is own_is. (let m = e.mapped j part at own there place_is own_is in record {
+        begins = m.begins;
+        quiet = m.quiet;
+        none = m.none;
+        brought = λ back. (let b = m.brought back in (
+          b.0,
+          b.1,
+          record {
+            count = b.2.count;
+            years = b.2.years;
+            printable = b.2.printable;
+            time = b.2.time;
+            good = b.2.good;
+            rows = λ t q waits. b.2.rows t q (waits_again c.reduces i q f waits);
+          },
+        ));
+        fault = m.fault;
+      });
+      shared = λ waits. put_both (λ p at share. IsShare tells s cuts c.front.committed p at share) c.reduces shares i (place.Back f) x (λ j at share. e.shared waits j at share) (share (runs run) opened);
+      last = elim e.last [ inl w ↦ inl w | inr fine ↦ absurd (true≢false (sym (all_fine is_fine c.reduces i place.Away fine away))) ];
+      outs = e.outs;
+    });
+    commit = λ run opened written_is. h.commit (runs run) opened written_is;
+    stop = stops;
+  }
+
+  -- the out task is elsewhere, and not at the desk
+  pub holds_out : (c : Core) (stop : Option Cause) (p : Place) (sources : List (Source L)) (shares more : List Share) (out left : Option (OutWork S F)) (times : List (Option ℤ)) (pending : Option (Pending F))
+      → (stop ≡ None → c.front.stop ≡ None) → Holds tells lines available written sealed s cuts found c sources shares out times pending → (p ≡ place.Waits → ⊥)
+      → length more ≡ length shares → (c.front.stop ≡ None → is_open c ≡ true → list_all is_fine c.reduces ≡ true)
+      → ((g : Cause) → stop ≡ Some g → IsStopOf tells s cuts c.front.committed g)
+      → Holds tells lines available written sealed s cuts found (with_out c stop p) sources more left times pending
+  holds_out c stop p sources shares more out left times pending runs h gone count fine stops = record {
+    parts = h.parts;
+    partitions = count ∙ h.partitions;
+    logs = h.logs;
+    seen_so_far = λ run. h.seen_so_far (runs run);
+    epoch = λ run opened. (let e = h.epoch (runs run) opened in record {
+      froms = e.froms;
+      mapped = e.mapped;
+      shared = λ waits. absurd (gone (put_is c.outs 0 p place.Waits waits));
+      last = inr (fine (runs run) opened);
+      outs = λ waits. absurd (gone (put_is c.outs 0 p place.Waits waits));
+    });
+    commit = λ run opened written_is. h.commit (runs run) opened written_is;
+    stop = stops;
+  }

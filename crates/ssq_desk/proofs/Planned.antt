@@ -1,0 +1,198 @@
+-- What a desk holds once the next epoch is planned.
+use Rattle.std.proofs.Common.{rules, ◌≡◌, ◌<◌, ◌≤◌, ◌+◌, ℕ, ℤ, zero, suc, Bool, true, false, true≢false, List, [], ◌∷◌, map, length, get_or, Option, Some, None, inl, inr, refl, sym, ap, ◌∙◌, subst, arith}
+use Rattle.std.specs.Prelude.{All, slice_get, if◌then◌else◌, is_some}
+use Rattle.std.specs.List.{list_all}
+use Rattle.std.proofs.lemmas.List.{get_or-map}
+use mathlib.Core.Option.{some, some-injective, some-ne-none}
+use lib.ListN.{get_elem?}
+use Rattle.ssq_meaning.specs.Meaning.{Line}
+use Rattle.ssq_meaning.specs.Parts.{Part}
+use Rattle.ssq_meaning.proofs.Causal.{says_same}
+use Rattle.ssq_plans.specs.declared.part.PartEnd.{PartEnd}
+use Rattle.ssq_core.specs.Course.{Cuts, Ends, AreSameUpTo}
+use Rattle.ssq_course.specs.Setting.{Setting, parts_in, cut_of, cuts_of}
+use Rattle.ssq_board.specs.declared.front.Cause.{Cause}
+use Rattle.ssq_board.specs.declared.front.Place.{Place}
+use Rattle.ssq_board.specs.declared.front.Place.TheVariants as place
+use Rattle.ssq_board.specs.declared.front.Entry.TheVariants as entry
+use Rattle.ssq_board.specs.Core.{Scope, Core, after, dealt, extended, has_line_at, is_fine, next_ends}
+use Rattle.ssq_board.proofs.Lists.{at_length, there_at, all_fine, const_at, dealt_at, nat_lt-not, nat_lt-is}
+use Rattle.ssq_desk.specs.declared.desk.Source.{Source}
+use Rattle.ssq_desk.specs.declared.desk.Share.{Share}
+use Rattle.ssq_desk.specs.declared.desk.OutWork.{OutWork}
+use Rattle.ssq_desk.specs.declared.desk.Pending.{Pending}
+use Rattle.ssq_desk.specs.Contents.{is_away, IsSourceOf, IsMapped, IsShare, AreSeen, IsOutWork, Holds}
+use Rattle.ssq_desk.specs.Room.{IsFresh, AreBegun}
+
+module _ {A : Type 0} where
+  pub at_get : (l : List A) (i : ℕ) (a d : A) → get_elem? l i ≡ some a → get_or l i d ≡ a
+  at_get [] i a d e = absurd (some-ne-none a (sym e))
+  at_get (x ∷ xs) zero a d e = some-injective x a e
+  at_get (x ∷ xs) (suc i) a d e = at_get xs i a d e
+
+  pub slice_below : (l : List A) (i : ℕ) (a : A) → slice_get l i ≡ Some a → i < length l
+  slice_below [] i a e = absurd (true≢false (sym (ap is_some e)))
+  slice_below (x ∷ xs) zero a e = omega arith
+  slice_below (x ∷ xs) (suc i) a e = omega (arith, slice_below xs i a e)
+
+-- a part without new lines
+pub quiet_of : (froms tos : Ends) (i : ℕ) → i < length froms → has_line_at froms tos i ≡ false → get_or (cut_of tos) i 0 ≤ get_or (cut_of froms) i 0
+quiet_of [] tos i less none = absurd (omega (arith, less))
+quiet_of (f ∷ fs) [] i less none = omega arith
+quiet_of (f ∷ fs) (t ∷ ts) zero less none = grind (arith, none, rules)
+quiet_of (f ∷ fs) (t ∷ ts) (suc i) less none = quiet_of fs ts i (omega (arith, less)) none
+
+is_back : Place → Bool
+is_back (place.Back f) = true
+is_back _ = false
+
+pub waits_not_back : (at : Place) (f : Option Cause) → at ≡ place.Waits → at ≡ place.Back f → ⊥
+unfolding is_back
+waits_not_back at f w b = true≢false (sym (ap is_back b) ∙ ap is_back w)
+
+pub rests_not_back : (at : Place) (f : Option Cause) → at ≡ place.Rests → at ≡ place.Back f → ⊥
+unfolding is_back
+rests_not_back at f w b = true≢false (sym (ap is_back b) ∙ ap is_back w)
+
+is_resting : Place → Bool
+is_resting place.Rests = true
+is_resting _ = false
+
+pub waits_not_rests : (at : Place) → at ≡ place.Waits → at ≡ place.Rests → ⊥
+unfolding is_resting
+waits_not_rests at w r = true≢false (sym (ap is_resting r) ∙ ap is_resting w)
+
+-- a task that is back without a fault, or is not there, is with no worker
+fine_not_away : (at : Place) → is_fine at ≡ true → is_away at → ⊥
+fine_not_away place.Rests fine away = away
+fine_not_away place.Waits fine away = away
+fine_not_away place.Away fine away = true≢false (sym fine)
+fine_not_away (place.Back f) fine away = away
+
+-- the source of a part that begins an epoch is its part's as before
+pub begun_source : {L : Type 0} (tells : Type 0) (lines : L → List Line) (available : L → ℕ) (ends : List PartEnd) (olds news : List (Source L)) → AreBegun ends olds news
+    → (i : ℕ) (part : Part) (found : ℕ) (at : Place) (source : Source L) → get_elem? news i ≡ some source → ((old : Source L) → get_elem? olds i ≡ some old → IsSourceOf tells lines available part found at old)
+    → IsSourceOf tells lines available part found at source
+begun_source {L} tells lines available ends olds news begun i part found at source mine was =
+    let before : i < length olds = omega (arith, at_length news i source mine, begun.0) in
+    let end : PartEnd = record { stream = 0; part = 0; end = 0 } in
+    let is = begun.1 i source before end in
+    let old = there_at olds i before in
+    let own = was old.0 old.1 in
+    let same_old : get_or olds i source ≡ old.0 = at_get olds i old.0 source old.1 in
+    let same_new : get_or news i source ≡ source = at_get news i source source mine in record {
+      stream = own.stream ∙ sym (ap (λ (x : Source L). x.stream) (sym same_new) ∙ is.stream_is ∙ ap (λ (x : Source L). x.stream) same_old);
+      number = own.number ∙ sym (ap (λ (x : Source L). x.part) (sym same_new) ∙ is.part_is ∙ ap (λ (x : Source L). x.part) same_old);
+      log = λ here. (let it = own.log here in (it.0, ap (λ (x : Source L). x.log) (sym same_new) ∙ is.log_is ∙ ap (λ (x : Source L). x.log) same_old ∙ it.1, it.2));
+    }
+
+module _ (tells : Type 0) (s : Setting) (cuts other : Cuts) (e : ℕ) (same : AreSameUpTo cuts other e) where
+  -- the greatest times hang on the epochs before
+  pub seen_stay : (times : List (Option ℤ)) → AreSeen tells s cuts e times → AreSeen tells s other e times
+  seen_stay times are = record {
+    streams = are.streams;
+    are = λ t stream. are.are t stream ∙ (says_same s.job.bound (parts_in s) (cuts_of cuts) (cuts_of other) e (λ n le. ap cut_of (same n le))).same_seen stream e (omega arith);
+  }
+
+  out_stays : {S F : Type 0} (written : S → List ℕ) (work : OutWork S F) → IsOutWork tells written s cuts e work → IsOutWork tells written s other e work
+  out_stays written work is = record { none = is.none; room = is.room; times = seen_stay work.seen is.times; rows_empty = is.rows_empty; commit_empty = is.commit_empty }
+
+-- What is made for the next epoch before it is planned.
+pub record IsMade {L S F : Type 0} (tells : Type 0) (written : S → List ℕ) (s : Setting) (cuts : Cuts) (c : Core) (olds news : List (Source L)) (shares : List Share) (work : OutWork S F) : Type 0 where
+  pub begun : AreBegun c.ends olds news
+  pub count : length shares ≡ s.job.partitions
+  pub fresh : All (IsFresh (length (parts_in s))) shares
+  pub out : IsOutWork tells written s cuts c.front.committed work
+
+-- between epochs of a desk that runs
+pub record IsBetween (s : Setting) (cuts : Cuts) (r : Scope) (c : Core) : Type 0 where
+  pub running : c.front.stop ≡ None
+  pub closed : c.front.committed ≡ c.front.planned
+  pub back : list_all is_fine c.maps ≡ true
+  pub ends : cuts c.front.planned ≡ c.ends
+  pub each_end : length c.ends ≡ length (parts_in s)
+  pub each_map : length c.maps ≡ length (parts_in s)
+
+module _ {L S F : Type 0} (tells : Type 0) (lines : L → List Line) (available : L → ℕ) (written : S → List ℕ) (sealed : F → List ℕ) (s : Setting) (cuts : Cuts) (r : Scope) (c : Core)
+    (olds news : List (Source L)) (shares : List Share) (work : OutWork S F) (times : List (Option ℤ)) (made : IsMade tells written s cuts c olds news shares work) (between : IsBetween s cuts r c) where
+  next : Ends
+  next = next_ends r.cap c.ends r.available
+
+  then_cuts : Cuts
+  then_cuts = extended cuts c.front.planned next
+
+  same_cuts : AreSameUpTo cuts then_cuts c.front.committed
+  unfolding then_cuts
+  same_cuts e le = sym (ap (λ (b : Bool). if b then next else cuts e) (nat_lt-not c.front.planned e (omega (arith, le, between.closed))))
+
+  ends_are : then_cuts c.front.committed ≡ c.ends
+  ends_are = sym (same_cuts c.front.committed (omega arith)) ∙ ap cuts between.closed ∙ between.ends
+
+  next_are : then_cuts (c.front.committed + 1) ≡ next
+  unfolding then_cuts
+  next_are = ap (λ (b : Bool). if b then next else cuts (c.front.committed + 1)) (nat_lt-is c.front.planned (c.front.committed + 1) (omega (arith, between.closed)))
+
+  -- the source of a part, as it was
+  begun_of : (i : ℕ) (source : Source L) → get_elem? news i ≡ some source → i < length olds
+  begun_of i source here = omega (arith, at_length news i source here, made.begun.0)
+
+  mapped : (reduces : List Place) (i : ℕ) (part : Part) (at : Place) (source : Source L) → slice_get (parts_in s) i ≡ Some part → get_elem? (dealt c.ends next) i ≡ some at → get_elem? news i ≡ some source
+      → IsMapped tells s.job.bound part (get_or (cut_of (then_cuts c.front.committed)) i 0) (get_or (cut_of (then_cuts (c.front.committed + 1))) i 0) s.job.partitions reduces at source
+  mapped reduces i part at source there here mine =
+      let below : i < length c.ends = omega (arith, slice_below (parts_in s) i part there, between.each_end) in
+      let before : i < length olds = begun_of i source mine in
+      let end : PartEnd = record { stream = 0; part = 0; end = 0 } in
+      let is = made.begun.1 i source before end in
+      let from_is : get_or (cut_of (then_cuts c.front.committed)) i 0 ≡ (get_or c.ends i end).end = ap (λ (ends : Ends). get_or (cut_of ends) i 0) ends_are ∙ get_or-map (λ (e : PartEnd). e.end) c.ends i end 0 below in record {
+        begins = ap (λ (x : Source L). x.from) (sym (at_get news i source source mine)) ∙ is.from_is ∙ sym from_is;
+        quiet = λ rests. elim (dealt_at c.ends next i at here) [
+          | inl w ↦ absurd (waits_not_rests at w.0 rests)
+          | inr q ↦ subst (λ (tos : Ends). get_or (cut_of tos) i 0 ≤ get_or (cut_of (then_cuts c.front.committed)) i 0) (sym next_are)
+              (subst (λ (froms : Ends). get_or (cut_of next) i 0 ≤ get_or (cut_of froms) i 0) (sym ends_are) (quiet_of c.ends next i below q.1))
+        ];
+        none = λ rests. ap (λ (x : Source L). x.fed) (sym (at_get news i source source mine)) ∙ is.nothing;
+        brought = λ back. elim (dealt_at c.ends next i at here) [ inl w ↦ absurd (waits_not_back at None w.0 back) | inr q ↦ absurd (rests_not_back at None q.0 back) ];
+        fault = λ f back. elim (dealt_at c.ends next i at here) [ inl w ↦ absurd (waits_not_back at (Some f) w.0 back) | inr q ↦ absurd (rests_not_back at (Some f) q.0 back) ];
+      }
+
+  shared : (p : ℕ) (at : Place) (share : Share) → get_elem? (map (λ _. place.Waits) c.reduces) p ≡ some at → get_elem? shares p ≡ some share → IsShare tells s then_cuts c.front.committed p at share
+  shared p at share here mine =
+      let waits : at ≡ place.Waits = const_at place.Waits at c.reduces p here in
+      let fresh : IsFresh (length (parts_in s)) share = subst (IsFresh (length (parts_in s))) (at_get shares p share share mine) (made.fresh p share (at_length shares p share mine)) in record {
+        there = λ rests. absurd (waits_not_rests at waits rests);
+        empty = λ w. (fresh.none, fresh.room);
+        shown = λ back. absurd (waits_not_back at None waits back);
+        printable = λ back. absurd (waits_not_back at None waits back);
+      }
+
+  -- the log of a part is where it was
+  logged : (pending : Option (Pending F)) (out : Option (OutWork S F)) (old_shares : List Share) → Holds tells lines available written sealed s cuts r.available c olds old_shares out times pending
+      → (i : ℕ) (part : Part) (at : Place) (source : Source L) → slice_get (parts_in s) i ≡ Some part → get_elem? (dealt c.ends next) i ≡ some at → get_elem? news i ≡ some source
+      → IsSourceOf tells lines available part (get_or r.available i 0) at source
+  logged pending out old_shares holds i part at source there here mine =
+      let placed = there_at c.maps i (omega (arith, slice_below (parts_in s) i part there, between.each_map)) in
+      let back = fine_not_away placed.0 (all_fine is_fine c.maps i placed.0 between.back placed.1) in
+      begun_source tells lines available c.ends olds news made.begun i part (get_or r.available i 0) at source mine (λ old was. by_place placed.0 back (holds.logs i part placed.0 old there placed.1 was))
+    where
+      by_place : (before : Place) → (is_away before → ⊥) → {old : Source L} → IsSourceOf tells lines available part (get_or r.available i 0) before old → IsSourceOf tells lines available part (get_or r.available i 0) at old
+      by_place before back was = record { stream = was.stream; number = was.number; log = λ here. was.log back }
+
+  -- once the epoch is planned, what was made for it is what its tasks are to take
+  pub planned : (pending : Option (Pending F)) (out : Option (OutWork S F)) (old_shares : List Share) → Holds tells lines available written sealed s cuts r.available c olds old_shares out times pending
+      → Holds tells lines available written sealed s (extended cuts c.front.planned (next_ends r.cap c.ends r.available)) r.available (after r c (entry.Plan c.front.planned)) news shares (Some work) times pending
+  unfolding then_cuts next
+  planned pending out old_shares holds = record {
+    parts = made.begun.0 ∙ holds.parts;
+    partitions = made.count;
+    logs = logged pending out old_shares holds;
+    seen_so_far = λ running. seen_stay tells s cuts then_cuts c.front.committed same_cuts times (holds.seen_so_far between.running);
+    epoch = λ running opened. record {
+      froms = ap length ends_are ∙ between.each_end;
+      mapped = mapped (map (λ _. place.Waits) c.reduces);
+      shared = λ waits. shared;
+      last = inl refl;
+      outs = λ waits. (work, refl, out_stays tells s cuts then_cuts c.front.committed same_cuts written work made.out);
+    };
+    commit = λ running opened written_is. absurd (true≢false (sym written_is));
+    stop = λ f stopped. absurd (true≢false (sym (ap is_some stopped)));
+  }

@@ -1,0 +1,147 @@
+-- A desk is whole once the next epoch is planned.
+use Rattle.std.proofs.Common.{◌≡◌, ◌<◌, ◌≤◌, ◌+◌, ◌++◌, [], ◌∷◌, ℕ, ℤ, zero, suc, Bool, List, length, length-append, get_or, Option, inl, inr, refl, sym, ap, ◌∙◌, subst, arith}
+use Rattle.std.specs.Prelude.{All, if◌then◌else◌, vec_capacity}
+use Rattle.std.proofs.lemmas.Bool.{cases_lt}
+use Rattle.ssq_outside.specs.History.{History}
+use Rattle.ssq_meaning.specs.Meaning.{Line}
+use Rattle.ssq_meaning.proofs.Causal.{says_same}
+use Rattle.ssq_plans.specs.declared.plan.Plan.{Plan}
+use Rattle.ssq_plans.specs.declared.part.PartEnd.{PartEnd}
+use Rattle.std.specs.Global.{Vec}
+use Rattle.ssq_core.specs.Course.{Cuts, Ends, AreSameUpTo, plan_of}
+use Rattle.ssq_course.specs.Setting.{Setting, parts_in, cut_of, cuts_of as offsets, watermark_at, course_of}
+use Rattle.ssq_board.specs.declared.front.Entry.TheVariants as entry
+use Rattle.ssq_board.specs.declared.front.Ready.TheVariants as ready
+use Rattle.ssq_board.specs.Core.{Scope, Core, after, after_all, cuts_by, extended, next_ends, ready_of}
+use Rattle.ssq_board.specs.Shown.{first}
+use Rattle.ssq_board.proofs.Lists.{nat_lt-not, nat_lt-is}
+use Rattle.ssq_ledger.specs.Shown.{Shown, IsLegal, IsInOrder, state, first_state, cuts_of, did}
+use Rattle.ssq_desk.specs.declared.desk.Load.{Load}
+use Rattle.ssq_desk.specs.declared.desk.Source.{Source}
+use Rattle.ssq_desk.specs.declared.desk.Share.{Share}
+use Rattle.ssq_desk.specs.declared.desk.OutWork.{OutWork}
+use Rattle.ssq_desk.specs.declared.desk.Pending.{Pending}
+use Rattle.ssq_desk.specs.declared.round.Round.{Round}
+use Rattle.ssq_desk.specs.Round.{setting_of}
+use Rattle.ssq_desk.specs.Contents.{Holds, AreSeen, IsOutWork}
+use Rattle.ssq_desk.specs.Room.{IsFresh}
+use Rattle.ssq_desk.specs.Making.{IsMadeFor, IsWorkFor}
+use Rattle.ssq_desk.specs.Whole.{IsWhole, ArePlans, opening_in}
+use Rattle.ssq_desk.proofs.Planned.{IsMade, IsBetween, planned}
+use Rattle.ssq_desk.proofs.Wholes.{cuts_then, leads_core}
+use Rattle.ssq_desk.proofs.Betweens.{between}
+
+module _ {A : Type 0} where
+  kept_at : (l : List A) (a : A) (i : ℕ) (d : A) → i < length l → get_or (l ++ a ∷ []) i d ≡ get_or l i d
+  kept_at [] a i d less = absurd (omega (arith, less))
+  kept_at (x ∷ xs) a zero d less = refl
+  kept_at (x ∷ xs) a (suc i) d less = kept_at xs a i d (omega (arith, less))
+
+  last_at : (l : List A) (a d : A) → get_or (l ++ a ∷ []) (length l) d ≡ a
+  last_at [] a d = refl
+  last_at (x ∷ xs) a d = last_at xs a d
+
+-- the plans of the first epochs hang on these
+same_plan : (s : Setting) (cuts other : Cuts) (n e : ℕ) → AreSameUpTo cuts other n → e < n → plan_of (course_of s cuts) e ≡ plan_of (course_of s other) e
+same_plan s cuts other n e same less =
+    let mark = (says_same s.job.bound (parts_in s) (offsets cuts) (offsets other) n (λ k le. ap cut_of (same k le))).same_watermark e (omega (arith, less)) in
+    let ends = same (e + 1) (omega (arith, less)) in
+    (λ i. record { epoch = e; watermark = mark i; ends = ends i })
+
+-- one plan more
+one_plan : (tells : Type 0) (s : Setting) (cuts : Cuts) (n : ℕ) (ends : Ends) (plans : List Plan) (plan : Plan) → ArePlans tells s cuts n plans → plan.epoch ≡ n
+    → (tells → plan.watermark ≡ watermark_at s cuts n) → plan.ends ≡ ends → ArePlans tells s (extended cuts n ends) (n + 1) (plans ++ plan ∷ [])
+one_plan tells s cuts n ends plans plan are epoch mark ends_is = record {
+  count = (let a = length-append plans (plan ∷ []) in let b = are.count in omega arith);
+  each = each;
+}
+  where
+    same : AreSameUpTo cuts (extended cuts n ends) n
+    same e le = sym (ap (λ (b : Bool). if b then ends else cuts e) (nat_lt-not n e le))
+
+    next_is : (extended cuts n ends) (n + 1) ≡ ends
+    next_is = ap (λ (b : Bool). if b then ends else cuts (n + 1)) (nat_lt-is n (n + 1) (omega arith))
+
+    own : tells → plan ≡ plan_of (course_of s (extended cuts n ends)) n
+    own t =
+        let marked : plan.watermark ≡ watermark_at s (extended cuts n ends) n =
+        mark t ∙ (says_same s.job.bound (parts_in s) (offsets cuts) (offsets (extended cuts n ends)) n (λ k le. ap cut_of (same k le))).same_watermark n (omega arith) in
+        let ended : plan.ends ≡ (extended cuts n ends) (n + 1) = ends_is ∙ sym next_is in
+        (λ i. record { epoch = epoch i; watermark = marked i; ends = ended i })
+
+    each : tells → (e : ℕ) (default : Plan) → e < n + 1 → get_or (plans ++ plan ∷ []) e default ≡ plan_of (course_of s (extended cuts n ends)) e
+    each t e default less = elim (cases_lt e n) [
+      | inl below ↦ kept_at plans plan e default (omega (arith, below, are.count)) ∙ are.each t e default below ∙ same_plan s cuts (extended cuts n ends) n e same below
+      | inr not ↦ (
+          let is : length plans ≡ e = omega (arith, less, not, are.count) in
+          let here : n ≡ e = omega (arith, less, not) in
+          ap (λ (k : ℕ). get_or (plans ++ plan ∷ []) k default) (sym is) ∙ last_at plans plan default ∙ own t ∙ ap (plan_of (course_of s (extended cuts n ends))) here
+          )
+    ]
+
+-- a load with one plan more than another
+pub record HasPlan {L S F : Type 0} (old new : Load L S F) (plan : Plan) : Type 0 where
+  pub view_is : new.view ≡ old.view
+  pub plans_are : new.plans.items ≡ old.plans.items ++ plan ∷ []
+  pub sources_are : new.sources.items ≡ old.sources.items
+  pub shares_are : new.shares.items ≡ old.shares.items
+  pub out_is : new.out ≡ old.out
+  pub seen_is : new.seen ≡ old.seen
+  pub pending_is : new.pending ≡ old.pending
+
+module _ {D L S F : Type 0} (tells : Type 0) (lines : L → List Line) (available : L → ℕ) (history : D → History) (written : S → List ℕ) (sealed : F → List ℕ) (shown : Shown D (Round L)) (load made now : Load L S F)
+    (whole : IsWhole tells lines available history written sealed shown load) (legal : IsLegal tells history (opening_in lines) shown) (order : IsInOrder shown.scope shown.core)
+    (here : Vec PartEnd) (is_made : IsMadeFor tells written shown.core.ends load made here) (plan : Plan) (has : HasPlan made now plan) where
+  pub planned_whole : (disk : D) → ready_of shown.scope shown.core ≡ ready.Plan → plan.epoch ≡ shown.core.front.planned
+      → (tells → plan.watermark ≡ watermark_at (setting_of lines shown.opening) (cuts_of (opening_in lines) shown) shown.core.front.planned)
+      → plan.ends ≡ next_ends shown.scope.cap shown.core.ends shown.scope.available
+      → IsWhole tells lines available history written sealed (did shown disk (entry.Plan shown.core.front.planned ∷ [])) now
+  planned_whole disk next epoch mark ends =
+      let s : Setting = setting_of lines shown.opening in
+      let r : Scope = shown.scope in
+      let c : Core = shown.core in
+      let cuts : Cuts = cuts_of (opening_in lines) shown in
+      let later : Cuts = extended cuts c.front.planned (next_ends r.cap c.ends r.available) in
+      let core : Core = after r c (entry.Plan c.front.planned) in
+      let b : IsBetween s cuts r c = between tells lines available history written sealed shown load whole legal order next in
+      let known : c ≡ after_all r (first r (opening_in lines shown.opening).start) shown.history =
+      leads_core tells (opening_in lines shown.opening).job r (opening_in lines shown.opening).due (first_state (opening_in lines shown.opening) r (history shown.opened)) shown.history (state legal.0 c cuts) legal.2 in
+      let same : cuts_of (opening_in lines) (did shown disk (entry.Plan c.front.planned ∷ [])) ≡ later =
+      cuts_then (opening_in lines shown.opening) r shown.history (entry.Plan c.front.planned) ∙ ap (λ (x : Core). cuts_by r cuts x (entry.Plan c.front.planned)) (sym known) in
+      let work : OutWork S F = is_made.work.0 in
+      let work_is : IsWorkFor tells written load work = is_made.work.2 in
+      let out : IsOutWork tells written s cuts c.front.committed work = record {
+        none = work_is.no_rows;
+        room = subst (λ (n : ℕ). n ≤ vec_capacity work.rows) whole.view.partitions work_is.room;
+        times = subst (AreSeen tells s cuts c.front.committed) (sym work_is.times) (whole.holds.seen_so_far b.running);
+        rows_empty = work_is.rows_empty;
+        commit_empty = work_is.commit_empty;
+      } in
+      let all : IsMade tells written s cuts c load.sources.items made.sources.items made.shares.items work = record {
+        begun = is_made.begun;
+        count = is_made.count ∙ whole.view.partitions;
+        fresh = subst (λ (n : ℕ). All (IsFresh n) made.shares.items) whole.holds.parts is_made.fresh;
+        out = out;
+      } in
+      let h = planned tells lines available written sealed s cuts r c load.sources.items made.sources.items made.shares.items work load.seen all b load.pending load.out load.shares.items whole.holds in
+      let moved : Holds tells lines available written sealed s (cuts_of (opening_in lines) (did shown disk (entry.Plan c.front.planned ∷ []))) r.available core now.sources.items now.shares.items now.out now.seen now.pending =
+      (let sources = sym has.sources_are in let shares = sym has.shares_are in let outs = sym (has.out_is ∙ is_made.work.1) in let seen = sym (has.seen_is ∙ is_made.seen_is) in let pending = sym (has.pending_is ∙ is_made.pending_is) in
+      transported tells lines available written sealed s r.available core _ _ _ _ _ _ _ _ _ _ _ _ (sym same) sources shares outs seen pending h) in record {
+        round = whole.round;
+        view = record { bound = ap (λ (v : _). v.bound.now) (has.view_is ∙ is_made.view_is) ∙ whole.view.bound; partitions = ap (λ (v : _). v.partitions) (has.view_is ∙ is_made.view_is) ∙ whole.view.partitions };
+        holds = moved;
+        plans = subst (λ (plans : List Plan). ArePlans tells s (cuts_of (opening_in lines) (did shown disk (entry.Plan c.front.planned ∷ []))) (c.front.planned + 1) plans) (sym (has.plans_are ∙ ap (λ (l : List Plan). l ++ plan ∷ []) is_made.plans_are))
+            (subst (λ (x : Cuts). ArePlans tells s x (c.front.planned + 1) (load.plans.items ++ plan ∷ [])) (sym same) (one_plan tells s cuts c.front.planned (next_ends r.cap c.ends r.available) load.plans.items plan whole.plans epoch mark ends));
+      }
+    where
+      transported : {L S F : Type 0} (tells : Type 0) (lines : L → List Line) (available : L → ℕ) (written : S → List ℕ) (sealed : F → List ℕ) (s : Setting) (found : List ℕ) (core : Core)
+          (cuts cuts' : Cuts) (sources sources' : List (Source L)) (shares shares' : List Share) (out out' : Option (OutWork S F)) (seen seen' : List (Option ℤ)) (pending pending' : Option (Pending F))
+          → cuts ≡ cuts' → sources ≡ sources' → shares ≡ shares' → out ≡ out' → seen ≡ seen' → pending ≡ pending'
+          → Holds tells lines available written sealed s cuts found core sources shares out seen pending → Holds tells lines available written sealed s cuts' found core sources' shares' out' seen' pending'
+      transported tells lines available written sealed s found core cuts cuts' sources sources' shares shares' out out' seen seen' pending pending' a b c d e f h =
+          subst (λ (x : Cuts). Holds tells lines available written sealed s x found core sources' shares' out' seen' pending') a
+          (subst (λ (x : List (Source _)). Holds tells lines available written sealed s cuts found core x shares' out' seen' pending') b
+          (subst (λ (x : List Share). Holds tells lines available written sealed s cuts found core sources x out' seen' pending') c
+          (subst (λ (x : Option (OutWork _ _)). Holds tells lines available written sealed s cuts found core sources shares x seen' pending') d
+          (subst (λ (x : List (Option ℤ)). Holds tells lines available written sealed s cuts found core sources shares out x pending') e
+          (subst (λ (x : Option (Pending _)). Holds tells lines available written sealed s cuts found core sources shares out seen x) f h)))))

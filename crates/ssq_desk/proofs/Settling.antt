@@ -1,0 +1,147 @@
+-- What a desk holds after a sync, a commit, or a Stop of either.
+use Rattle.std.proofs.Common.{◌≡◌, ◌≤◌, ◌+◌, [], ◌∷◌, ℕ, Bool, true, false, true≢false, List, Option, Some, None, Result, Ok, Err, refl, sym, ap, ◌∙◌, subst, arith}
+use Rattle.std.specs.Prelude.{is_some, OnOk, IfErr}
+use Rattle.ssq_outside.specs.History.{History}
+use Rattle.ssq_meaning.specs.Meaning.{Line}
+use Rattle.ssq_outside.specs.declared.name.Name.TheVariants as name
+use Rattle.ssq_core.specs.Course.{Cuts, truth}
+use Rattle.ssq_course.specs.Setting.{Setting}
+use Rattle.ssq_board.specs.declared.front.Cause.{Cause}
+use Rattle.ssq_board.specs.declared.front.Cause.TheVariants as cause
+use Rattle.ssq_board.specs.declared.front.Entry.TheVariants as entry
+use Rattle.ssq_board.specs.declared.front.Ready.TheVariants as ready
+use Rattle.ssq_board.specs.Core.{Core, after, ready_of}
+use Rattle.ssq_board.proofs.Readies.{commit_may}
+use Rattle.ssq_board.proofs.Sounds.{open_less}
+use Rattle.ssq_ledger.specs.Shown.{Shown, HasRisen, cuts_of, did}
+use Rattle.ssq_desk.specs.declared.desk.Load.{Load}
+use Rattle.ssq_desk.specs.declared.desk.Pending.{Pending}
+use Rattle.ssq_desk.specs.declared.round.Round.{Round}
+use Rattle.ssq_desk.specs.Round.{setting_of}
+use Rattle.ssq_desk.specs.Contents.{Holds, IsPending, IsStopOf}
+use Rattle.ssq_desk.specs.Whole.{IsWhole, opening_in}
+use Rattle.ssq_desk.proofs.Handing.{moved_whole}
+
+-- for what a call of the disk failed, a desk may be stopped
+pub risen_stops : (tells : Type 0) (s : Setting) (cuts : Cuts) (e : ℕ) (f : Cause) (before now : ℕ) → HasRisen f before now → IsStopOf tells s cuts e f
+risen_stops tells s cuts e cause.DiskFault before now has = tt
+risen_stops tells s cuts e cause.NoMemory before now has = tt
+risen_stops tells s cuts e cause.Full before now has = tt
+risen_stops tells s cuts e cause.LogFault before now has = tt
+risen_stops tells s cuts e (cause.BadLine t p o f) before now has = absurd has
+risen_stops tells s cuts e (cause.Overflow t p o) before now has = absurd has
+risen_stops tells s cuts e (cause.LogShort t p l f) before now has = absurd has
+risen_stops tells s cuts e (cause.Damaged q) before now has = absurd has
+
+cause_or : Cause → Option Cause → Cause
+cause_or d None = d
+cause_or d (Some f) = f
+
+pub some_cause : (f g : Cause) → Some f ≡ Some g → f ≡ g
+unfolding cause_or
+some_cause f g is = ap (cause_or f) is
+
+pending_or : {F : Type 0} → Pending F → Option (Pending F) → Pending F
+pending_or d None = d
+pending_or d (Some p) = p
+
+some_pending : {F : Type 0} (p q : Pending F) → Some p ≡ Some q → p ≡ q
+unfolding pending_or
+some_pending p q is = ap (pending_or p) is
+
+-- with another commit that is to be published
+abbrev pub with_pending : {L S F : Type 0} → Load L S F → Option (Pending F) → Load L S F
+with_pending load pending = record { view = load.view; plans = load.plans; sources = load.sources; shares = load.shares; out = load.out; seen = load.seen; pending = pending }
+
+-- with a commit that was published
+abbrev pub with_commit : {L S F : Type 0} → Load L S F → Pending F → Load L S F
+with_commit load p = record { view = load.view; plans = load.plans; sources = load.sources; shares = load.shares; out = load.out; seen = p.seen; pending = None }
+
+module _ {D L S F : Type 0} (tells : Type 0) (lines : L → List Line) (available : L → ℕ) (history : D → History) (written : S → List ℕ) (sealed : F → List ℕ) (shown : Shown D (Round L)) (load : Load L S F)
+    (whole : IsWhole tells lines available history written sealed shown load) (disk : D) where
+  -- names were synced
+  pub synced_whole : (clock : ℕ) → shown.core.front.stop ≡ None → IsWhole tells lines available history written sealed (did shown disk (entry.Sync clock ∷ [])) load
+  synced_whole clock runs =
+      let h = whole.holds in
+      moved_whole tells lines available history written sealed shown load whole disk (entry.Sync clock) load (λ cuts c. refl) refl refl refl (record {
+        parts = h.parts;
+        partitions = h.partitions;
+        logs = h.logs;
+        seen_so_far = λ run. h.seen_so_far runs;
+        epoch = λ run opened. (let e = h.epoch runs opened in record { froms = e.froms; mapped = e.mapped; shared = e.shared; last = e.last; outs = e.outs });
+        commit = λ run opened written_is. h.commit runs opened written_is;
+        stop = λ f stopped. absurd (true≢false (sym (ap is_some stopped)));
+      })
+
+  -- a Stop, with another commit
+  pub halted_whole : (f : Cause) (pending : Option (Pending F)) → IsStopOf tells (setting_of lines shown.opening) (cuts_of (opening_in lines) shown) shown.core.front.committed f
+      → IsWhole tells lines available history written sealed (did shown disk (entry.Stop f ∷ [])) (with_pending load pending)
+  halted_whole f pending right =
+      let h = whole.holds in
+      moved_whole tells lines available history written sealed shown load whole disk (entry.Stop f) (with_pending load pending) (λ cuts c. refl) refl refl refl (record {
+        parts = h.parts;
+        partitions = h.partitions;
+        logs = h.logs;
+        seen_so_far = λ run. absurd (true≢false (ap is_some run));
+        epoch = λ run opened. absurd (true≢false (ap is_some run));
+        commit = λ run opened written_is. absurd (true≢false (ap is_some run));
+        stop = λ g is. subst (IsStopOf tells (setting_of lines shown.opening) (cuts_of (opening_in lines) shown) shown.core.front.committed) (some_cause f g is) right;
+      })
+
+  -- the epoch is committed, and no other is planned
+  pub committed_whole : (p : Pending F) → shown.core.front.planned ≤ shown.core.front.committed + 1
+      → IsPending tells sealed (setting_of lines shown.opening) (cuts_of (opening_in lines) shown) shown.core.front.committed p
+      → IsWhole tells lines available history written sealed (did shown disk (entry.Commit shown.core.front.committed false ∷ [])) (with_commit load p)
+  committed_whole p near is =
+      let h = whole.holds in
+      let c : Core = after shown.scope shown.core (entry.Commit shown.core.front.committed false) in
+      moved_whole tells lines available history written sealed shown load whole disk (entry.Commit shown.core.front.committed false) (with_commit load p) (λ cuts c. refl) refl refl refl (record {
+        parts = h.parts;
+        partitions = h.partitions;
+        logs = h.logs;
+        seen_so_far = λ run. is.times;
+        epoch = λ run opened. absurd (let less = open_less c opened in omega (arith, less, near));
+        commit = λ run opened written_is. absurd (let less = open_less c opened in omega (arith, less, near));
+        stop = λ f stopped. absurd (true≢false (sym (ap is_some stopped)));
+      })
+
+module _ {D L S F : Type 0} (tells : Type 0) (lines : L → List Line) (available : L → ℕ) (history : D → History) (written : S → List ℕ) (sealed : F → List ℕ) (shown : Shown D (Round L)) (load : Load L S F)
+    (whole : IsWhole tells lines available history written sealed shown load) where
+  -- the commit that is to be published is there
+  pub pending_here : ready_of shown.scope shown.core ≡ ready.Commit
+      → (p : Pending F) × (load.pending ≡ Some p) × IsPending tells sealed (setting_of lines shown.opening) (cuts_of (opening_in lines) shown) shown.core.front.committed p
+  pending_here next = (let m = commit_may shown.scope shown.core false next in whole.holds.commit m.0 m.2 m.4)
+
+  -- names were synced, or that failed
+  pub after_sync : (now : Shown D (Round L)) (result : Result (Unit {0}) Cause) (before later : ℕ) → shown.core.front.stop ≡ None
+      → OnOk result ((clock : ℕ) × (now ≡ did shown now.disk (entry.Sync clock ∷ []))) → IfErr result (λ f. (now ≡ did shown now.disk (entry.Stop f ∷ [])) × HasRisen f before later)
+      → IsWhole tells lines available history written sealed now load
+  after_sync now (Ok x) before later runs done stopped =
+      subst (λ (x : Shown D (Round L)). IsWhole tells lines available history written sealed x load) (sym done.1) (synced_whole tells lines available history written sealed shown load whole now.disk done.0 runs)
+  after_sync now (Err f) before later runs done stopped =
+      subst (λ (x : Shown D (Round L)). IsWhole tells lines available history written sealed x load) (sym stopped.0)
+      (halted_whole tells lines available history written sealed shown load whole now.disk f load.pending
+      (risen_stops tells (setting_of lines shown.opening) (cuts_of (opening_in lines) shown) shown.core.front.committed f before later stopped.1))
+
+  -- the epoch is committed, with what is left of the load
+  pub after_commit : (now : Shown D (Round L)) (p : Pending F) (none : Option (Pending F)) → shown.core.front.planned ≤ shown.core.front.committed + 1 → none ≡ None → load.pending ≡ Some p
+      → ready_of shown.scope shown.core ≡ ready.Commit → now ≡ did shown now.disk (entry.Commit shown.core.front.committed false ∷ [])
+      → IsWhole tells lines available history written sealed now (record { view = load.view; plans = load.plans; sources = load.sources; shares = load.shares; out = load.out; seen = p.seen; pending = none })
+  after_commit now p none near none_is p_is next done =
+      let h = pending_here next in
+      let own = subst (IsPending tells sealed (setting_of lines shown.opening) (cuts_of (opening_in lines) shown) shown.core.front.committed) (some_pending h.0 p (sym h.1 ∙ p_is)) h.2 in
+      subst (λ (x : Shown D (Round L)). IsWhole tells lines available history written sealed x (record { view = load.view; plans = load.plans; sources = load.sources; shares = load.shares; out = load.out; seen = p.seen; pending = none })) (sym done)
+      (subst (λ (o : Option (Pending F)). IsWhole tells lines available history written sealed (did shown now.disk (entry.Commit shown.core.front.committed false ∷ [])) (record { view = load.view; plans = load.plans; sources = load.sources; shares = load.shares; out = load.out; seen = p.seen; pending = o })) (sym none_is)
+      (committed_whole tells lines available history written sealed shown load whole now.disk p near own))
+
+  -- its commit could not be published
+  pub uncommitted : (now : Shown D (Round L)) (none : Option (Pending F)) → now ≡ did shown now.disk (entry.Stop cause.DiskFault ∷ []) → IsWhole tells lines available history written sealed now (with_pending load none)
+  uncommitted now none stopped =
+      subst (λ (x : Shown D (Round L)). IsWhole tells lines available history written sealed x (with_pending load none)) (sym stopped)
+      (halted_whole tells lines available history written sealed shown load whole now.disk cause.DiskFault none tt)
+
+  -- and it is the epoch's
+  pub pending_right : (p : Pending F) → load.pending ≡ Some p → ready_of shown.scope shown.core ≡ ready.Commit
+      → tells → sealed p.commit ≡ truth ((opening_in lines shown.opening).job.course (cuts_of (opening_in lines) shown)) (name.Commit shown.core.front.committed)
+  pending_right p p_is next t =
+      let h = pending_here next in ap (λ (x : Pending F). sealed x.commit) (some_pending p h.0 (sym p_is ∙ h.1)) ∙ h.2.commit t

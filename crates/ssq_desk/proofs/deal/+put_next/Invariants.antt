@@ -1,6 +1,0 @@
-use Rattle.std.proofs.Common.{length}
-use Rattle.ssq_desk.proofs.deal.+put_next.Given as goal
-
--- the parts that are left
-abbrev pub decreases-put_next : goal.decreases-put_next
-decreases-put_next l = length l.ends.now

@@ -1,0 +1,28 @@
+use Rattle.std.proofs.Common.{◌≡◌, List, length, nat_lt, false, sym, ap, ◌∙◌}
+use Rattle.ssq_plans.specs.declared.seen.SeenBy.{SeenBy}
+use Rattle.ssq_task.specs.Committing.{told}
+use Rattle.ssq_open.specs.Looking.{begins}
+use Rattle.ssq_open.specs.Epochs.{cut_of, last_ends}
+use Rattle.ssq_desk.specs.Round.{start_at}
+use Rattle.ssq_desk.proofs.Began.{began}
+use Rattle.ssq_desk.proofs.Placing.{copied}
+use Rattle.ssq_desk.proofs.first.make_first.Goals as goal
+
+pub returns : goal.returns
+returns g c =
+    let found = c.args.opened.now in
+    let plans = c.as_slice-plans.ensures in
+    let parts = c.in_ok-parts.ensures ∙ ap begins c.as_slice.ensures in
+    let from : c.ends_at-from.result.now ≡ (start_at (begins found.meta.parts) found).from = c.ends_at-from.ensures ∙ (λ i. cut_of (parts i) (plans i) found.committed) in
+    let to : c.ends_at.result.now ≡ (start_at (begins found.meta.parts) found).to = c.ends_at.ensures ∙ (λ i. cut_of (parts i) (plans i) (length (plans i))) in
+    let from_is = c.into_vec.ensures ∙ copied _ _ c.in_ok-from.ensures.cases ∙ from in
+    let to_is = c.into_vec-2.ensures ∙ copied _ _ c.in_ok-to.ensures.cases ∙ to in record {
+      parts = c.into_vec-3.ensures ∙ parts;
+      ends = c.into_vec-4.ensures ∙ copied _ _ c.in_ok-ends.ensures.cases ∙ from;
+      start = (λ i. record { committed = found.committed; is_planned = nat_lt found.committed (length (plans i)); from = from_is i; to = to_is i; due = false });
+      no_sources = c.in_ok-sources.ensures.items;
+      sources_room = c.in_ok-sources.ensures.capacity;
+      times = λ stream. c.in_ok-seen.ensures.times stream ∙ ap (λ (lines : List SeenBy). told lines stream) c.as_slice-2.ensures;
+      streams = c.in_ok-seen.ensures.streams;
+      room = c.in_ok-room.ensures;
+    }

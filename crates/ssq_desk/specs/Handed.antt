@@ -1,0 +1,31 @@
+-- The tasks of the epoch that a desk runs.
+use Rattle.std.specs.Prelude.{ℕ, List}
+use Rattle.ssq_meaning.specs.Meaning.{Line}
+use Rattle.ssq_feed.specs.declared.task.MapTask.{MapTask}
+use Rattle.ssq_task.specs.declared.partition.ReduceTask.{ReduceTask}
+use Rattle.ssq_task.specs.declared.out.OutTask.{OutTask}
+use Rattle.ssq_ledger.specs.Shown.{Shown, cuts_of}
+use Rattle.ssq_desk.specs.declared.round.Round.{Round}
+use Rattle.ssq_desk.specs.declared.task.Task.{Task}
+use Rattle.ssq_desk.specs.declared.task.Task.TheVariants as task
+use Rattle.ssq_desk.specs.Round.{setting_of}
+use Rattle.ssq_desk.specs.Tasks.{IsMapTask, IsReduceTask, IsOutTask}
+use Rattle.ssq_desk.specs.Whole.{opening_in}
+
+module _ {D L : Type 0} (tells : Type 0) (lines : L → List Line) (available : L → ℕ) where
+  -- a map task is that of its part in the epoch that a desk runs
+  abbrev pub IsMapOf : Shown D (Round L) → MapTask L → Type 0
+  IsMapOf shown task = IsMapTask tells lines available (setting_of lines shown.opening) (cuts_of (opening_in lines) shown) shown.core.front.committed shown.scope.available task
+
+  -- a reduce task that of its partition
+  abbrev pub IsReduceOf : Shown D (Round L) → ReduceTask → Type 0
+  IsReduceOf shown task = IsReduceTask tells (setting_of lines shown.opening) (cuts_of (opening_in lines) shown) shown.core.front.committed task
+
+  -- and the out task
+  abbrev pub IsOutOf : {S F : Type 0} → (S → List ℕ) → Shown D (Round L) → OutTask S F → Type 0
+  IsOutOf written shown task = IsOutTask tells written (setting_of lines shown.opening) (cuts_of (opening_in lines) shown) shown.core.front.committed task
+
+  abbrev pub IsTaskOf : {S F : Type 0} → (S → List ℕ) → Shown D (Round L) → Task L S F → Type 0
+  IsTaskOf written shown (task.Map t) = IsMapOf shown t
+  IsTaskOf written shown (task.Reduce t) = IsReduceOf shown t
+  IsTaskOf written shown (task.Out t) = IsOutOf written shown t

@@ -1,0 +1,58 @@
+-- What is taken out of a desk for a task.
+use Rattle.std.specs.Prelude.{◌≡◌, ◌<◌, ℕ, ℤ, List, [], ◌∷◌, length, map, set, Option, Some, None, IfSome}
+use Rattle.ssq_time.specs.Time.{IsLineTime}
+use Rattle.ssq_route.specs.Buckets.{bucket_at}
+use Rattle.ssq_meaning.specs.declared.fed_row.FedRow.{FedRow}
+use Rattle.ssq_meaning.specs.Epochs.{joined}
+use Rattle.ssq_feed.specs.declared.task.FedRows.{FedRows}
+use Rattle.ssq_terms.specs.Rows.{raised_by}
+use Rattle.ssq_desk.specs.declared.desk.Source.{Source}
+
+-- a bucket was taken out of what a source has, or it had none
+pub record IsTaken {L : Type 0} (p : ℕ) (old new : Source L) : Type 0 where
+  pub stream_is : new.stream ≡ old.stream
+  pub part_is : new.part ≡ old.part
+  pub from_is : new.from ≡ old.from
+  pub log_is : new.log ≡ old.log
+  pub none : old.fed ≡ None → new.fed ≡ None
+  pub taken : (fed : FedRows) → old.fed ≡ Some fed → (left : FedRows) × (new.fed ≡ Some left) × (left.time ≡ fed.time) × (left.buckets ≡ set fed.buckets p [])
+
+-- the bucket of a partition in what a source has
+abbrev pub bucket_in_fed : ℕ → Option FedRows → List FedRow
+bucket_in_fed p None = []
+bucket_in_fed p (Some fed) = bucket_at fed.buckets p
+
+-- what a source has can be apart by so many partitions
+abbrev pub HasBucket : {L : Type 0} → ℕ → Source L → Type 0
+HasBucket p source = IfSome source.fed (λ fed. p < length fed.buckets)
+
+-- the greatest time of what a source has
+abbrev pub time_of : Option FedRows → Option ℤ
+time_of None = None
+time_of (Some fed) = fed.time
+
+-- the time is one of a line
+abbrev pub HasLineTime : {L : Type 0} → Source L → Type 0
+HasLineTime source = IfSome (time_of source.fed) IsLineTime
+
+module _ {L : Type 0} where
+  -- from each source the bucket was taken
+  abbrev pub AreTaken : ℕ → List (Source L) → List (Source L) → Type 0
+  AreTaken p [] [] = Unit {0}
+  AreTaken p [] (new ∷ news) = ⊥
+  AreTaken p (old ∷ olds) [] = ⊥
+  AreTaken p (old ∷ olds) (new ∷ news) = IsTaken p old new × AreTaken p olds news
+
+  -- each source is of one of the first so many streams, and its greatest time is one of a line
+  abbrev pub CanRaise : ℕ → List (Source L) → Type 0
+  CanRaise streams [] = Unit {0}
+  CanRaise streams (source ∷ sources) = (source.stream < streams) × HasLineTime source × CanRaise streams sources
+
+  -- the buckets of a partition, source by source
+  abbrev pub buckets_in : ℕ → List (Source L) → List FedRow
+  buckets_in p sources = joined (map (λ source. bucket_in_fed p source.fed) sources)
+
+  -- the greatest times, once that of each source is taken in
+  abbrev pub raised_in : List (Source L) → (ℕ → Option ℤ) → ℕ → Option ℤ
+  raised_in [] known = known
+  raised_in (source ∷ sources) known = raised_in sources (raised_by source.stream (time_of source.fed) known)

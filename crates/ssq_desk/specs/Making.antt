@@ -1,0 +1,50 @@
+-- How all that the tasks of an epoch need is made before its plan is published.
+use Rattle.std.specs.Prelude.{◌≡◌, ◌≤◌, ◌<◌, ℕ, List, [], length, All, Some, vec_capacity}
+use Rattle.std.specs.Global.{Vec}
+use Rattle.ssq_plans.specs.declared.part.PartEnd.{PartEnd}
+use Rattle.ssq_board.specs.declared.front.Cause.{Cause}
+use Rattle.ssq_board.specs.declared.front.Cause.TheVariants as cause
+use Rattle.ssq_desk.specs.declared.desk.Load.{Load}
+use Rattle.ssq_desk.specs.declared.desk.OutWork.{OutWork}
+use Rattle.ssq_desk.specs.Room.{IsFresh, AreBegun}
+
+-- why nothing was made, with so many epochs planned: there may be no more, the disk failed, or memory ran out
+abbrev pub IsUnmade : ℕ → Cause → Type 0
+IsUnmade planned cause.Full = planned ≡ 4294967295
+IsUnmade planned cause.DiskFault = planned ≡ 4294967295 → ⊥
+IsUnmade planned cause.NoMemory = planned ≡ 4294967295 → ⊥
+IsUnmade planned _ = ⊥
+
+module _ {L S F : Type 0} where
+  -- nothing was changed but the room for plans
+  pub record IsSameLoad (old new : Load L S F) : Type 0 where
+    pub view_is : new.view ≡ old.view
+    pub plans_are : new.plans.items ≡ old.plans.items
+    pub sources_are : new.sources ≡ old.sources
+    pub shares_are : new.shares ≡ old.shares
+    pub out_is : new.out ≡ old.out
+    pub seen_is : new.seen ≡ old.seen
+    pub pending_is : new.pending ≡ old.pending
+
+  -- an out task's work has its room and its two files, in which nothing is written
+  pub record IsWorkFor (tells : Type 0) (written : S → List ℕ) (load : Load L S F) (work : OutWork S F) : Type 0 where
+    pub no_rows : work.rows.items ≡ []
+    pub room : load.view.partitions ≤ vec_capacity work.rows
+    pub times : work.seen ≡ load.seen
+    pub rows_empty : tells → written work.stages.rows ≡ []
+    pub commit_empty : tells → written work.stages.commit ≡ []
+
+  -- Each source begins where its part ends so far, the partitions and the out task have their room, and there is room for the plan, whose
+  -- ends are to be put here.
+  pub record IsMadeFor (tells : Type 0) (written : S → List ℕ) (ends : List PartEnd) (old new : Load L S F) (here : Vec PartEnd) : Type 0 where
+    pub view_is : new.view ≡ old.view
+    pub plans_are : new.plans.items ≡ old.plans.items
+    pub plan_room : length new.plans.items < vec_capacity new.plans
+    pub begun : AreBegun ends old.sources.items new.sources.items
+    pub count : length new.shares.items ≡ old.view.partitions
+    pub fresh : All (IsFresh (length old.sources.items)) new.shares.items
+    pub work : (w : OutWork S F) × (new.out ≡ Some w) × IsWorkFor tells written old w
+    pub seen_is : new.seen ≡ old.seen
+    pub pending_is : new.pending ≡ old.pending
+    pub no_ends : here.items ≡ []
+    pub ends_room : length ends ≤ vec_capacity here

@@ -1,0 +1,47 @@
+-- The causes that results bring.
+use Rattle.std.specs.Prelude.{ℕ, Option, Some, None, Result, Ok, Err}
+use Rattle.ssq_json.specs.declared.bad_row.BadRow.{BadRow}
+use Rattle.ssq_json.specs.declared.bad_row.BadRow.TheVariants as bad
+use Rattle.ssq_feed.specs.declared.fault.FeedFault.{FeedFault}
+use Rattle.ssq_feed.specs.declared.fault.FeedFault.TheVariants as feed
+use Rattle.ssq_task.specs.declared.partition.ReduceFault.{ReduceFault}
+use Rattle.ssq_task.specs.declared.partition.ReduceFault.TheVariants as reduce
+use Rattle.ssq_task.specs.declared.out.GatherFault.{GatherFault}
+use Rattle.ssq_task.specs.declared.out.GatherFault.TheVariants as gather
+use Rattle.ssq_board.specs.declared.front.Cause.{Cause}
+use Rattle.ssq_board.specs.declared.front.Cause.TheVariants as cause
+use Rattle.ssq_board.specs.declared.front.RowFault.{RowFault}
+use Rattle.ssq_board.specs.declared.front.RowFault.TheVariants as row
+
+-- the cause for which a line is bad; a line is never bad for want of memory
+abbrev pub cause_of_bad : (stream part offset : ℕ) → BadRow → Cause
+cause_of_bad stream part offset bad.TooLong = cause.BadLine stream part offset row.TooLong
+cause_of_bad stream part offset bad.NotJson = cause.BadLine stream part offset row.NotJson
+cause_of_bad stream part offset bad.NotObject = cause.BadLine stream part offset row.NotObject
+cause_of_bad stream part offset (bad.WrongType column) = cause.BadLine stream part offset (row.WrongType column)
+cause_of_bad stream part offset bad.NoEventTime = cause.BadLine stream part offset row.NoEventTime
+cause_of_bad stream part offset bad.NoMemory = cause.NoMemory
+
+-- why a map task of this part brought nothing
+abbrev pub cause_of_feed : (stream part : ℕ) → FeedFault → Cause
+cause_of_feed stream part (feed.BadLine offset what) = cause_of_bad stream part offset what
+cause_of_feed stream part (feed.Overflow offset) = cause.Overflow stream part offset
+cause_of_feed stream part feed.LogFault = cause.LogFault
+cause_of_feed stream part (feed.LogShort logged found) = cause.LogShort stream part logged found
+cause_of_feed stream part feed.NoMemory = cause.NoMemory
+
+-- why a reduce task did; the key on which a query overflows is told by a query that keeps something, which none does yet
+abbrev pub cause_of_reduce : ReduceFault → Cause
+cause_of_reduce (reduce.Overflow key) = cause.NoMemory
+cause_of_reduce reduce.DiskFault = cause.DiskFault
+cause_of_reduce reduce.NoMemory = cause.NoMemory
+
+-- why an out task did
+abbrev pub cause_of_gather : GatherFault → Cause
+cause_of_gather gather.DiskFault = cause.DiskFault
+cause_of_gather gather.NoMemory = cause.NoMemory
+
+-- the cause that a result brings, where it brings one
+abbrev pub fault_of : {A E : Type 0} → (E → Cause) → Result A E → Option Cause
+fault_of cause_of (Ok brought) = None
+fault_of cause_of (Err fault) = Some (cause_of fault)

@@ -1,0 +1,37 @@
+-- What is made for an epoch before its plan is published.
+use Rattle.std.specs.Prelude.{◌≡◌, ◌≤◌, ◌<◌, ℕ, ℤ, List, [], length, get_or, All, Option, None, vec_capacity}
+use Rattle.ssq_plans.specs.declared.part.PartEnd.{PartEnd}
+use Rattle.ssq_desk.specs.declared.desk.Source.{Source}
+use Rattle.ssq_desk.specs.declared.desk.Share.{Share}
+use Rattle.ssq_desk.specs.declared.room.Room.{Room}
+
+-- a partition has room for one bucket from each part, and none yet
+pub record IsFresh (parts : ℕ) (share : Share) : Type 0 where
+  pub none : share.buckets.items ≡ []
+  pub room : parts ≤ vec_capacity share.buckets
+
+-- there is room for so many parts and partitions, with these greatest times
+pub record HasRoom (partitions parts : ℕ) (times : List (Option ℤ)) (room : Room) : Type 0 where
+  pub no_ends : room.ends.items ≡ []
+  pub ends_room : parts ≤ vec_capacity room.ends
+  pub count : length room.shares.items ≡ partitions
+  pub fresh : All (IsFresh parts) room.shares.items
+  pub no_rows : room.rows.items ≡ []
+  pub rows_room : partitions ≤ vec_capacity room.rows
+  pub times_are : room.seen ≡ times
+
+-- a source begins at this offset, nothing was brought of it yet, and all else of it is as it was
+pub record IsBegun {L : Type 0} (offset : ℕ) (old new : Source L) : Type 0 where
+  pub from_is : new.from ≡ offset
+  pub nothing : new.fed ≡ None
+  pub stream_is : new.stream ≡ old.stream
+  pub part_is : new.part ≡ old.part
+  pub log_is : new.log ≡ old.log
+
+-- it begins at the end of the part at this place
+abbrev pub BeginsAt : {L : Type 0} → List PartEnd → ℕ → Source L → Source L → Type 0
+BeginsAt ends i old new = (end : PartEnd) → IsBegun (get_or ends i end).end old new
+
+-- each begins at the end of its part
+abbrev pub AreBegun : {L : Type 0} → List PartEnd → List (Source L) → List (Source L) → Type 0
+AreBegun {L} ends olds news = (length news ≡ length olds) × ((i : ℕ) (source : Source L) → i < length olds → BeginsAt ends i (get_or olds i source) (get_or news i source))

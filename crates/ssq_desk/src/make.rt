@@ -1,0 +1,115 @@
+//! All that the tasks of the next epoch need, put in place before its plan is published.
+
+ghost use Rattle.std.specs.Prelude.{◌≡◌, ◌≤◌, ◌<◌, [], length, vec_capacity, IfOk, IfErr, OnOk, OnErr, None};
+ghost use Rattle.ssq_outside.specs.declared.disk.DiskError.TheVariants as error;
+ghost use Rattle.ssq_ledger.specs.Shown.{IsUnplanned, did, cause_of};
+ghost use Rattle.ssq_desk.specs.Room.{HasRoom};
+ghost use Rattle.ssq_desk.specs.Making.{IsUnmade, IsSameLoad, IsMadeFor};
+
+use crate::desk::{Load, OutWork};
+use crate::room::{Room, begin_at, make_room, stages};
+use ssq_board::Cause;
+use ssq_ledger::{Ledger, Opening};
+use ssq_outside::{Disk, DiskError, Log, Stage};
+use ssq_plans::{PartEnd, next_epoch};
+use ssq_task::Stages;
+use std::alloc::{AllocError, Global};
+use std::mem;
+
+pub(crate) fn cause_of(error: DiskError) -> Cause
+    ensures { result ≡ cause_of error }
+{
+    match error {
+        DiskError::Fault => Cause::DiskFault,
+        DiskError::NoMemory => Cause::NoMemory,
+    }
+}
+
+/// Makes room for one plan more, and for the tasks of its epoch.
+fn room_for<'a, L: Log, S: Stage>(
+    alloc: Global,
+    load: &mut Load<'a, L, S>,
+) -> Result<Room, AllocError>
+    ensures same { IsSameLoad load.old load.new }
+    ensures plan { OnOk result (length load.new.plans.items < vec_capacity load.new.plans) }
+    ensures room { IfOk result (λ room. HasRoom load.old.view.partitions (length load.old.sources.items) load.old.seen room) }
+{
+    load.plans.reserve(1)?;
+    make_room(
+        alloc,
+        load.view.partitions,
+        load.sources.as_slice().len(),
+        &load.seen,
+    )
+}
+
+/// Puts it in place. Answers the room for the ends of the parts.
+fn put<'a, D: Disk, L: Log>(
+    load: &mut Load<'a, L, D::Stage>,
+    ends: &[PartEnd],
+    room: Room,
+    stages: Stages<D::Stage>,
+) -> Vec<PartEnd>
+    requires each { length load.old.sources.items ≡ length ends.now }
+    requires plan { length load.old.plans.items < vec_capacity load.old.plans }
+    requires room { HasRoom load.old.view.partitions (length load.old.sources.items) load.old.seen room }
+    requires empty { D.tells → (D.Stage.written stages.rows ≡ []) × (D.Stage.written stages.commit ≡ []) }
+    ensures { IsMadeFor D.tells D.Stage.written ends.now load.old load.new result }
+{
+    let Room {
+        ends: here,
+        shares,
+        rows,
+        seen,
+    } = room;
+    begin_at(&mut load.sources, ends);
+    load.shares = shares;
+    load.out = Some(OutWork { rows, seen, stages });
+    here
+}
+
+/// Makes all that the tasks of the next epoch need, and puts it in place. Answers the room for the ends of its parts.
+///
+/// No name is changed. Where it fails, nothing is put in place: for `Full` nothing is tried, and begun files are discarded.
+pub(crate) fn make<'a, D: Disk, O: Opening, L: Log>(
+    alloc: Global,
+    ledger: &mut Ledger<D, O>,
+    load: &mut Load<'a, L, D::Stage>,
+) -> Result<Vec<PartEnd>, Cause>
+    requires each { length load.old.sources.items ≡ length ledger.old.core.ends }
+    ensures did { ledger.new ≡ did ledger.old ledger.new.disk [] }
+    ensures same { D.tells → D.history ledger.new.disk ≡ D.history ledger.old.disk }
+    ensures counted { D.faults ledger.old.disk ≤ D.faults ledger.new.disk }
+    ensures made { IfOk result (λ here. IsMadeFor D.tells D.Stage.written ledger.old.core.ends load.old load.new here) }
+    ensures fits { IfOk result (λ here. ledger.old.core.front.planned ≡ 4294967295 → ⊥) }
+    ensures unmade { IfErr result (λ f. IsUnmade ledger.old.core.front.planned f × IsUnplanned ledger.old.core.front.planned (D.faults ledger.old.disk) (D.faults ledger.new.disk) f) }
+    ensures kept { OnErr result (IsSameLoad load.old load.new) }
+{
+    if next_epoch(ledger.front().planned).is_none() {
+        return Err(Cause::Full);
+    }
+    let Ok(room) = room_for(alloc, load) else {
+        return Err(Cause::NoMemory);
+    };
+    match stages(alloc, ledger) {
+        Ok(stages) => Ok(put::<D, L>(load, ledger.ends(), room, stages)),
+        Err(error) => Err(cause_of(error)),
+    }
+}
+
+/// Takes the work of an out task away that is not to come, with its files.
+pub(crate) fn drop_out<'a, D: Disk, O: Opening, L: Log>(
+    ledger: &mut Ledger<D, O>,
+    load: &mut Load<'a, L, D::Stage>,
+)
+    ensures did { ledger.new ≡ did ledger.old ledger.new.disk [] }
+    ensures same { D.tells → D.history ledger.new.disk ≡ D.history ledger.old.disk }
+    ensures counted { D.faults ledger.old.disk ≤ D.faults ledger.new.disk }
+    ensures kept { load.new ≡ record { view = load.old.view; plans = load.old.plans; sources = load.old.sources; shares = load.old.shares; out = None; seen = load.old.seen; pending = load.old.pending } }
+{
+    if let Some(work) = mem::replace(&mut load.out, None) {
+        let OutWork { stages, .. } = work;
+        ledger.discard(stages.rows);
+        ledger.discard(stages.commit);
+    }
+}

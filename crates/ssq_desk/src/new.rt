@@ -1,0 +1,122 @@
+//! How a desk is made.
+
+ghost use Rattle.std.specs.Prelude.{◌≡◌, ◌≤◌, ℕ, get_or, None, IfOk, IfErr};
+ghost use mathlib.Core.Option.{some};
+ghost use lib.ListN.{get_elem?};
+ghost use Rattle.ssq_desk.specs.Round.{IsRound, setting_of};
+ghost use Rattle.ssq_desk.specs.First.{BeginsAs, BeginsWork, first_shown};
+
+use crate::desk::{Desk, Load, OutWork};
+use crate::first::{Made, make_first, with_logs};
+use crate::make::cause_of;
+use crate::room::{Room, stages};
+use crate::round::Round;
+use ssq_ledger::{Ledger, Opening, Scope};
+use ssq_meaning::View;
+use ssq_open::Opened;
+use ssq_outside::{Disk, Log};
+use ssq_value::Row;
+use ssq_water::Seen;
+use std::alloc::Global;
+use std::snapshot::Snapshot;
+
+impl<'a, D: Disk, L: Log> Desk<'a, D, L> {
+    /// The desk of a round that begins on what was opened: with one log for each part, in order, the lines that were found in them, and how
+    /// many lines of a part an epoch may take.
+    ///
+    /// Where an epoch was opened as planned, its two files aside are begun; where that fails, the desk is stopped. Disk and logs come back
+    /// where memory ran out before that.
+    pub fn new(
+        alloc: Global,
+        view: View<'a>,
+        disk: D,
+        logs: Vec<L>,
+        opened: Opened,
+        seen: Vec<u64>,
+        cap: Option<u64>,
+    ) -> Result<Desk<'a, D, L>, (D, Vec<L>)>
+        requires round { IsRound (D.tells × L.tells) (setting_of L.lines (record { view = view; opened = opened; logs = logs })) opened (D.history disk) (record { partitions = view.partitions; available = seen.items; cap = cap }) }
+        requires long { L.tells → (i : ℕ) (own : _) → get_elem? logs.items i ≡ some own → get_or seen.items i 0 ≤ L.available own }
+        ensures made { IfOk result (λ desk. BeginsAs (D.faults disk) (D.faults desk.disk) (first_shown L.lines (record { view = view.entry; opened = opened; logs = logs }) disk (record { partitions = view.entry.partitions; available = seen.items; cap = cap })) desk) }
+        ensures same { D.tells → IfOk result (λ desk. D.history desk.disk ≡ D.history disk) }
+        ensures counted { IfOk result (λ desk. D.faults disk ≤ D.faults desk.disk) }
+        ensures back { IfErr result (λ back. (back.0 ≡ disk) × (back.1 ≡ logs)) }
+    {
+        let Ok(made) = make_first(
+            alloc,
+            view.bound,
+            view.partitions,
+            &opened,
+            logs.as_slice().len(),
+        ) else {
+            return Err((disk, logs));
+        };
+        let round = Round { view, opened, logs };
+        let opening = Snapshot::of(&round);
+        let Round { opened, logs, .. } = round;
+        let scope = Scope {
+            partitions: view.partitions,
+            available: seen,
+            cap,
+        };
+        let Made {
+            start,
+            parts,
+            ends,
+            sources,
+            seen,
+            room,
+        } = made;
+        let is_planned = start.is_planned;
+        let mut ledger = match Ledger::new(alloc, opening, disk, scope, start) {
+            Ok(ledger) => ledger,
+            Err(disk) => return Err((disk, logs)),
+        };
+        let sources = with_logs(sources, parts.as_slice(), ends.as_slice(), logs);
+        let Room {
+            shares,
+            rows,
+            seen: before,
+            ..
+        } = room;
+        let out = begin_out(alloc, &mut ledger, is_planned, rows, before);
+        Ok(Desk {
+            alloc,
+            ledger,
+            load: Load {
+                view,
+                plans: opened.plans.into_vec(),
+                sources,
+                shares,
+                out,
+                seen,
+                pending: None,
+            },
+        })
+    }
+}
+
+/// Begins the files of the out task of an epoch that was opened as planned. Where that fails, the ledger is stopped.
+fn begin_out<D: Disk, O: Opening>(
+    alloc: Global,
+    ledger: &mut Ledger<D, O>,
+    is_planned: bool,
+    rows: Vec<Vec<Row>>,
+    seen: Seen,
+) -> Option<OutWork<D::Stage>>
+    requires { ledger.old.core.front.stop ≡ None }
+    ensures begun { BeginsWork D.tells D.Stage.written is_planned rows seen (D.faults ledger.old.disk) (D.faults ledger.new.disk) ledger.old ledger.new result }
+    ensures same { D.tells → D.history ledger.new.disk ≡ D.history ledger.old.disk }
+    ensures counted { D.faults ledger.old.disk ≤ D.faults ledger.new.disk }
+{
+    if !is_planned {
+        return None;
+    }
+    match stages(alloc, ledger) {
+        Ok(stages) => Some(OutWork { rows, seen, stages }),
+        Err(error) => {
+            ledger.stop(cause_of(error));
+            None
+        }
+    }
+}
