@@ -7,3 +7,9 @@ pub mod Made
 pub mod Opened
 pub mod TimedLemmas
 pub mod Grown
+pub mod SameNames
+pub mod SameText
+pub mod SameValues
+pub mod SameQueries
+pub mod SpanLemmas
+pub mod SoundLemmas

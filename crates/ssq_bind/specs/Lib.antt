@@ -7,3 +7,6 @@ pub mod Bound
 pub mod Explained
 pub mod Typed
 pub mod Timed
+pub mod Delays
+pub mod Places
+pub mod Sound

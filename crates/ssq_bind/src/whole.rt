@@ -6,6 +6,7 @@ ghost use Rattle.ssq_check.specs.Fault.{AreNone};
 ghost use Rattle.ssq_check.specs.Names.{left_stream, right_stream, row_scope, scope_of};
 ghost use Rattle.ssq_check.specs.Whole.{QueryFaults, IsRefusedBy};
 ghost use Rattle.ssq_bind.specs.Bound.{context_of, shown_of, grouping_of, kept_by, shape_of, mode_of, filter_value, bound_of};
+ghost use Rattle.ssq_bind.specs.Sound.{IsSoundBound};
 ghost use Rattle.ssq_bind.specs.Streams.{streams_of};
 
 use crate::context::Context;
@@ -18,7 +19,7 @@ use crate::value::row_value;
 use ssq_ast::{Condition, Deduplicate, Join, Query, text};
 use ssq_check::{Refusal, Scope, check};
 use ssq_shape::{Aggregate, Bound, Grouping, Mode, Output, Shape, Stream, Typed};
-use ssq_value::Sequence;
+use ssq_value::{Sequence, texts_are_utf8};
 use std::alloc::{AllocError, Global};
 
 fn left_stream(query: &Query) -> Option<&ssq_ast::Stream>
@@ -241,14 +242,17 @@ pub fn build(alloc: Global, query: &Query) -> Result<Bound, AllocError>
 ///
 /// [`Refusal::Broken`] is the first of the rules that it breaks: the one with the least place, and of several at one
 /// place the one that stands first in [`ssq_check::Cause`]. [`Refusal::NoMemory`] is want of memory alone.
+#[tactic(auto, using(crate::proofs::SoundLemmas::sound_bound))]
 pub fn bind(alloc: Global, query: &Query) -> Result<Bound, Refusal>
     ensures bound { IfOk result (λ bound. bound ≡ bound_of query.now) }
     ensures taken { OnOk result (AreNone (QueryFaults query.now)) }
+    ensures sound { IfOk result IsSoundBound }
     ensures refused { IfErr result (IsRefusedBy (QueryFaults query.now)) }
 {
     check(alloc, query)?;
-    match build(alloc, query) {
-        Ok(bound) => Ok(bound),
-        Err(_) => Err(Refusal::NoMemory),
-    }
+    let Ok(bound) = build(alloc, query) else {
+        return Err(Refusal::NoMemory);
+    };
+    texts_are_utf8(&bound.text);
+    Ok(bound)
 }
