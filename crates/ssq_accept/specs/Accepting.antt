@@ -1,0 +1,172 @@
+-- Which query files are accepted, and why others are refused: a file is a query or not, its query breaks a rule of binding
+-- or not, it may run in its mode or not, and what it keeps is run now or not. The first of these that refuses is told.
+use Rattle.std.specs.Prelude.{◌≡◌, ◌⊎◌, ℕ, List, Ok, Err}
+use Rattle.std.specs.List.{All}
+use Rattle.ssq_accept.specs.declared.refusal.LaterShape.{LaterShape}
+use Rattle.ssq_accept.specs.declared.refusal.LaterShape.TheVariants as later
+use Rattle.ssq_accept.specs.declared.refusal.Refusal.{Refusal}
+use Rattle.ssq_accept.specs.declared.refusal.Refusal.TheVariants as refusal
+use Rattle.ssq_ast.specs.declared.query.Query.{Query}
+use Rattle.ssq_bind.specs.Bound.{bound_of}
+use Rattle.ssq_bind.specs.Delays.{HasSpan}
+use Rattle.ssq_bind.specs.Sound.{IsSoundBound}
+use Rattle.ssq_check.specs.declared.fault.BindFault.{BindFault}
+use Rattle.ssq_check.specs.Fault as rule
+use Rattle.ssq_check.specs.Fault.{AreNone}
+use Rattle.ssq_check.specs.Whole.{QueryFaults}
+use Rattle.ssq_modes.specs.declared.fault.ModeFault.{ModeFault}
+use Rattle.ssq_modes.specs.Modes as mode
+use Rattle.ssq_modes.specs.Modes.{AppliesNone}
+use Rattle.ssq_parse.specs.declared.fault.ParseCause.{ParseCause}
+use Rattle.ssq_parse.specs.File.{query_of, IsQuery}
+use Rattle.ssq_shape.specs.declared.bound.Bound.{Bound}
+use Rattle.ssq_shape.specs.declared.bound.Shape.{Shape}
+use Rattle.ssq_shape.specs.declared.bound.Shape.TheVariants as shape
+
+-- ---- a file is a query
+
+-- it is read as this query, and so it is written by the grammar
+pub record IsRead (file : List ℕ) (query : Query) : Type 0 where
+  pub read : query_of file ≡ Ok query
+  pub written : IsQuery file query
+
+-- it is read as none: at this place, with this cause
+abbrev pub HasFault : List ℕ → ℕ → ParseCause → Type 0
+HasFault file at cause = query_of file ≡ Err (record { at = at; cause = cause })
+
+abbrev pub IsNoQuery : List ℕ → Refusal → Type 0
+IsNoQuery file (refusal.Parse at cause) = HasFault file at cause
+IsNoQuery file (refusal.Bind fault) = ⊥
+IsNoQuery file (refusal.Mode fault) = ⊥
+IsNoQuery file (refusal.NotYet own) = ⊥
+IsNoQuery file refusal.NoMemory = Unit {0}
+
+-- ---- a query is bound
+
+-- it breaks no rule of binding, and this is its bound query
+pub record IsBoundAs (query : Query) (bound : Bound) : Type 0 where
+  pub is : bound ≡ bound_of query
+  pub unbroken : AreNone (QueryFaults query)
+  pub sound : IsSoundBound bound
+
+-- this is the first of the rules that it breaks
+abbrev pub Breaks : Query → BindFault → Type 0
+Breaks query fault = rule.IsFirst (QueryFaults query) fault
+
+abbrev pub IsUnbound : Query → Refusal → Type 0
+IsUnbound query (refusal.Parse at cause) = ⊥
+IsUnbound query (refusal.Bind fault) = Breaks query fault
+IsUnbound query (refusal.Mode fault) = ⊥
+IsUnbound query (refusal.NotYet own) = ⊥
+IsUnbound query refusal.NoMemory = Unit {0}
+
+-- ---- a bound query may run in its mode
+
+-- no rule of modes forbids it
+abbrev pub MayRun : Bound → Type 0
+MayRun bound = AppliesNone bound
+
+-- this is the first of the rules that forbid it
+abbrev pub Forbids : Bound → ModeFault → Type 0
+Forbids bound fault = mode.IsFirst bound fault
+
+abbrev pub MayNotRun : Bound → Refusal → Type 0
+MayNotRun bound (refusal.Parse at cause) = ⊥
+MayNotRun bound (refusal.Bind fault) = ⊥
+MayNotRun bound (refusal.Mode fault) = Forbids bound fault
+MayNotRun bound (refusal.NotYet own) = ⊥
+MayNotRun bound refusal.NoMemory = ⊥
+
+-- ---- a query that keeps something is not run yet
+
+abbrev pub Keeps : Shape → LaterShape → Type 0
+Keeps shape.Plain own = ⊥
+Keeps (shape.Group grouping) own = own ≡ later.Group
+Keeps (shape.Dedup columns) own = own ≡ later.Dedup
+Keeps (shape.Join joining) own = own ≡ later.Join
+
+abbrev pub IsLater : Shape → Refusal → Type 0
+IsLater kept (refusal.Parse at cause) = ⊥
+IsLater kept (refusal.Bind fault) = ⊥
+IsLater kept (refusal.Mode fault) = ⊥
+IsLater kept (refusal.NotYet own) = Keeps kept own
+IsLater kept refusal.NoMemory = ⊥
+
+-- ---- a bound query is run
+
+-- no rule of modes forbids it, and it keeps nothing
+pub record IsRun (bound : Bound) : Type 0 where
+  pub may_run : MayRun bound
+  pub plain : bound.shape ≡ shape.Plain
+
+-- a rule of modes forbids it; or none does, and it keeps what is not run yet
+abbrev pub IsHeld : Bound → Refusal → Type 0
+IsHeld bound (refusal.Parse at cause) = ⊥
+IsHeld bound (refusal.Bind fault) = ⊥
+IsHeld bound (refusal.Mode fault) = Forbids bound fault
+IsHeld bound (refusal.NotYet own) = MayRun bound × Keeps bound.shape own
+IsHeld bound refusal.NoMemory = ⊥
+
+-- the query breaks no rule of binding, and what it is bound to is run
+pub record IsTaken (query : Query) (bound : Bound) : Type 0 where
+  pub names : IsBoundAs query bound
+  pub run : IsRun bound
+
+-- the query breaks a rule of binding; or it breaks none, and what it is bound to is not run
+abbrev pub IsStopped : Query → Refusal → Type 0
+IsStopped query (refusal.Parse at cause) = ⊥
+IsStopped query (refusal.Bind fault) = Breaks query fault
+IsStopped query (refusal.Mode fault) = AreNone (QueryFaults query) × Forbids (bound_of query) fault
+IsStopped query (refusal.NotYet own) = AreNone (QueryFaults query) × MayRun (bound_of query) × Keeps (bound_of query).shape own
+IsStopped query refusal.NoMemory = Unit {0}
+
+-- ---- the whole
+
+-- The file is this query, written by the grammar; it breaks no rule of binding, no rule of modes forbids it, and it keeps
+-- nothing. So it reads one stream or two, whose delays are 1 second to 366 days long, an event column stands only with a
+-- delay, and the canonical text is UTF-8 of a length of 64 bits.
+pub record IsAccepted (file : List ℕ) (query : Query) (bound : Bound) : Type 0 where
+  pub read : IsRead file query
+  pub names : IsBoundAs query bound
+  pub may_run : MayRun bound
+  pub plain : bound.shape ≡ shape.Plain
+  pub delays : All HasSpan bound.streams
+
+-- the query breaks a rule, and this is the first of them
+pub record IsBroken (file : List ℕ) (fault : BindFault) : Type 0 where
+  pub query : Query
+  pub read : IsRead file query
+  pub breaks : Breaks query fault
+
+-- the query breaks no rule of binding, and this is the first rule of modes that forbids it
+pub record IsForbidden (file : List ℕ) (fault : ModeFault) : Type 0 where
+  pub query : Query
+  pub read : IsRead file query
+  pub unbroken : AreNone (QueryFaults query)
+  pub forbids : Forbids (bound_of query) fault
+
+-- the query breaks no rule and may run in its mode, and keeps what is not run yet
+pub record IsNotYet (file : List ℕ) (own : LaterShape) : Type 0 where
+  pub query : Query
+  pub read : IsRead file query
+  pub unbroken : AreNone (QueryFaults query)
+  pub may_run : MayRun (bound_of query)
+  pub keeps : Keeps (bound_of query).shape own
+
+-- the first step that refuses the file, where all steps before it take it; or want of memory
+abbrev pub IsRefused : List ℕ → Refusal → Type 0
+IsRefused file (refusal.Parse at cause) = HasFault file at cause
+IsRefused file (refusal.Bind fault) = IsBroken file fault
+IsRefused file (refusal.Mode fault) = IsForbidden file fault
+IsRefused file (refusal.NotYet own) = IsNotYet file own
+IsRefused file refusal.NoMemory = Unit {0}
+
+-- ---- a file has one answer
+
+-- a file that is accepted is refused for want of memory alone
+abbrev pub AcceptedAreTaken : Type 0
+AcceptedAreTaken = (file : List ℕ) (query : Query) (bound : Bound) (why : Refusal) → IsAccepted file query bound → IsRefused file why → why ≡ refusal.NoMemory
+
+-- two refusals of a file are one, or memory ran out
+abbrev pub AreRefusedAlike : Type 0
+AreRefusedAlike = (file : List ℕ) (one other : Refusal) → IsRefused file one → IsRefused file other → (one ≡ refusal.NoMemory) ⊎ (other ≡ refusal.NoMemory) ⊎ (one ≡ other)

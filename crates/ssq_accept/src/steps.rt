@@ -1,0 +1,115 @@
+//! The steps from the bytes of a query file to the query as it is run.
+
+ghost use Rattle.std.specs.Prelude.{◌≡◌, IfOk, IfErr, OnOk};
+ghost use Rattle.ssq_shape.specs.declared.bound.Shape.TheVariants as shape;
+ghost use Rattle.ssq_accept.specs.Accepting.{IsRead, IsNoQuery, IsBoundAs, IsUnbound, MayRun, MayNotRun, IsLater, IsRun, IsHeld, IsTaken, IsStopped, IsAccepted, IsRefused, AcceptedAreTaken, AreRefusedAlike};
+
+use crate::refusal::{LaterShape, Refusal};
+use ssq_ast::Query;
+use ssq_bind::bind;
+use ssq_parse::{ParseFault, parse};
+use ssq_shape::{Bound, Shape};
+use std::alloc::Global;
+
+/// A query file that is run.
+#[derive(Debug, Drop)]
+pub struct Accepted {
+    /// The query that the file is.
+    pub query: Query,
+    /// The same with its names bound. It keeps nothing.
+    pub bound: Bound,
+}
+
+fn read(alloc: Global, bytes: &[u8]) -> Result<Query, Refusal>
+    ensures read { IfOk result (IsRead bytes.now) }
+    ensures refused { IfErr result (IsNoQuery bytes.now) }
+{
+    match parse(alloc, bytes) {
+        Ok(query) => Ok(query),
+        Err(ParseFault::Refused { at, cause }) => Err(Refusal::Parse { at, cause }),
+        Err(ParseFault::NoMemory) => Err(Refusal::NoMemory),
+    }
+}
+
+fn bound(alloc: Global, query: &Query) -> Result<Bound, Refusal>
+    ensures bound { IfOk result (IsBoundAs query.now) }
+    ensures refused { IfErr result (IsUnbound query.now) }
+{
+    match bind(alloc, query) {
+        Ok(bound) => Ok(bound),
+        Err(ssq_check::Refusal::Broken(fault)) => Err(Refusal::Bind(fault)),
+        Err(ssq_check::Refusal::NoMemory) => Err(Refusal::NoMemory),
+    }
+}
+
+fn may_run(bound: &Bound) -> Result<(), Refusal>
+    ensures taken { OnOk result (MayRun bound.now) }
+    ensures refused { IfErr result (MayNotRun bound.now) }
+{
+    match ssq_modes::check(bound) {
+        Ok(()) => Ok(()),
+        Err(fault) => Err(Refusal::Mode(fault)),
+    }
+}
+
+fn keeps_nothing(bound: &Bound) -> Result<(), Refusal>
+    ensures taken { OnOk result (bound.now.shape ≡ shape.Plain) }
+    ensures refused { IfErr result (IsLater bound.now.shape) }
+{
+    match &bound.shape {
+        Shape::Plain => Ok(()),
+        Shape::Group(_) => Err(Refusal::NotYet(LaterShape::Group)),
+        Shape::Dedup(_) => Err(Refusal::NotYet(LaterShape::Dedup)),
+        Shape::Join(_) => Err(Refusal::NotYet(LaterShape::Join)),
+    }
+}
+
+#[tactic(auto, using(crate::proofs::Refused::mode_holds, crate::proofs::Refused::shape_holds))]
+fn is_run(bound: &Bound) -> Result<(), Refusal>
+    ensures taken { OnOk result (IsRun bound.now) }
+    ensures refused { IfErr result (IsHeld bound.now) }
+{
+    match may_run(bound) {
+        Ok(()) => keeps_nothing(bound),
+        Err(refusal) => Err(refusal),
+    }
+}
+
+#[tactic(auto, using(crate::proofs::Refused::names_stop, crate::proofs::Refused::held_stops))]
+fn taken(alloc: Global, query: &Query) -> Result<Bound, Refusal>
+    ensures taken { IfOk result (IsTaken query.now) }
+    ensures refused { IfErr result (IsStopped query.now) }
+{
+    let bound = bound(alloc, query)?;
+    match is_run(&bound) {
+        Ok(()) => Ok(bound),
+        Err(refusal) => Err(refusal),
+    }
+}
+
+/// The query that a file is, bound, where it is run: it is written by the grammar, breaks no rule of binding, may run in
+/// its mode, and keeps nothing.
+///
+/// # Errors
+///
+/// The first of these steps that refuses it, where all steps before it take it: [`Refusal::Parse`] where the file is no
+/// query, [`Refusal::Bind`] where the query breaks a rule of binding, [`Refusal::Mode`] where it may not run in its mode,
+/// [`Refusal::NotYet`] where it groups, deduplicates or joins, which is not run yet. [`Refusal::NoMemory`] is want of
+/// memory alone.
+#[tactic(auto, using(crate::proofs::Refused::no_query, crate::proofs::Refused::query_stops, crate::proofs::Refused::is_accepted))]
+pub fn accept(alloc: Global, bytes: &[u8]) -> Result<Accepted, Refusal>
+    ensures accepted { IfOk result (λ accepted. IsAccepted bytes.now accepted.query accepted.bound) }
+    ensures refused { IfErr result (IsRefused bytes.now) }
+{
+    let query = read(alloc, bytes)?;
+    match taken(alloc, &query) {
+        Ok(bound) => Ok(Accepted { query, bound }),
+        Err(refusal) => Err(refusal),
+    }
+}
+
+/// The law of answers: a file that is accepted is refused for want of memory alone, and each file is refused in one way.
+pub fn files_have_one_answer()
+    ensures accepted { AcceptedAreTaken }
+    ensures refused { AreRefusedAlike }
+{}
