@@ -5,6 +5,7 @@ pub mod Planning
 pub mod Others
 pub mod Keeping
 pub mod Beginning
+pub mod InOrder
 pub mod Opens
 pub mod Passing
 pub mod Standings

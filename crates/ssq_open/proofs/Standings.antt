@@ -1,5 +1,5 @@
 -- A checkpoint that stands for the job that is wanted passes, and a desk opens on it with what is found.
-use Rattle.std.proofs.Common.{◌≡◌, ◌⊎◌, ◌<◌, ◌≤◌, ◌+◌, ◌∙◌, ◌==◌, ◌&&◌, ◌++◌, [], ◌∷◌, zero, suc, ℕ, Bool, true, false, List, ℤ, Option, Some, None, Result, Ok, Err, refl, sym, ap, subst, inl, inr, arith, length, get_or, eq-eqb}
+use Rattle.std.proofs.Common.{◌≡◌, ◌⊎◌, ◌<◌, ◌≤◌, ◌+◌, ◌∙◌, ◌==◌, ◌&&◌, ◌++◌, [], ◌∷◌, zero, suc, ℕ, Bool, true, List, ℤ, Option, Some, None, Result, Ok, Err, refl, sym, ap, subst, inl, inr, arith, length, get_or, eq-eqb}
 use Rattle.std.specs.Prelude.{IsTrue, IsSome, is_some, nat_lt, IfOk, IfErr}
 use Rattle.std.proofs.lemmas.Bool.{cases_lt}
 use Rattle.std.proofs.lemmas.Bool.Decides.{nat_tests}
@@ -31,6 +31,7 @@ use Rattle.ssq_open.specs.declared.fault.OpenFault.{OpenFault}
 use Rattle.ssq_open.specs.declared.wanted.Opened.{Opened}
 use Rattle.ssq_open.specs.Opening.{Finds, Passes, first_short, first_meta, only_meta, IsOpen, kept, begun, IsRefused, unchanged, unfinished, IsOutside, IsImageOpening}
 use Rattle.ssq_open.specs.Jobs.{IsWantedJob, IsJobs, is_empty, stands, IsDeskOf}
+use Rattle.ssq_open.proofs.Walks.{short-none}
 use Rattle.ssq_open.proofs.Planning.{pushed, longer}
 use Rattle.ssq_open.proofs.Passing.{one_finding, not_refused}
 
@@ -202,14 +203,6 @@ module _ (s : Sought) (job : Job) (w : IsWantedJob s job) (files : Files) (st : 
   cut_upto zero less some = sym (w.start st.cuts 0 (st.proper 0 some))
   cut_upto (suc e) less some = cut_is e (omega (arith, less)) ∙ ap st.cuts (omega arith)
 
-  -- a part is not short of no lines
-  none_short : (found : List PartEnd) → first_short (starts found) found ≡ None
-  none_short [] = refl
-  none_short (part ∷ rest) = let long : nat_lt part.end 0 ≡ false = not_below part.end in rw long (none_short rest)
-    where
-      not_below : (n : ℕ) → nat_lt n 0 ≡ false
-      not_below n = grind (arith, nat_tests)
-
   long_at : first_short (st.cuts st.planned) s.found ≡ None → first_short (last_ends (starts s.found) plans) s.found ≡ None
   long_at long = by_count (cases_lt 0 st.planned)
     where
@@ -219,7 +212,7 @@ module _ (s : Sought) (job : Job) (w : IsWantedJob s job) (files : Files) (st : 
           ∙ ap (λ (ends : List PartEnd). first_short ends s.found) (cut_upto st.planned (omega arith) some) ∙ long
       by_count (inr none) =
           let is : length plans ≡ 0 = omega (arith, count, none) in
-          ap (λ (n : ℕ). first_short (cut_of (starts s.found) plans n) s.found) is ∙ none_short s.found
+          ap (λ (n : ℕ). first_short (cut_of (starts s.found) plans n) s.found) is ∙ short-none s.found
 
   finds : first_short (st.cuts st.planned) s.found ≡ None → Finds s files course.meta plans st.committed (first_seen course st.committed)
   finds long = record {
@@ -358,17 +351,18 @@ not_empty files text empty is = let none : files name.Meta ≡ None = empty name
 stands_some : (job : Job) (files : Files) → Stands job files → IsEmpty files → ⊥
 stands_some job files st empty = not_empty files (truth (job.course st.cuts) name.Meta) empty (true_there files name.Meta (truth (job.course st.cuts) name.Meta) (st.at.are_true name.Meta) (st.at.needed name.Meta refl))
 
--- a desk opens on what an opening found of the job's checkpoint
-pub desk_opens : (s : Sought) (job : Job) (files : Files) (now : History) (found : Opened) → IsWantedJob s job → IsJobs s job files → IsOpen s files now found → IsDeskOf s job (files_now now) found
+-- a desk opens on what an opening found of a checkpoint that stands for the job, or is empty and gets its record
+pub desk_opens : (s : Sought) (job : Job) (files : Files) (now : History) (found : Opened) → IsWantedJob s job → (IsEmpty files → (cuts : Cuts) → (job.course cuts).meta ≡ first_meta s) → StandsOrEmpty job files → IsOpen s files now found
+    → IsDeskOf s job (files_now now) found
 unfolding begun_stands
-desk_opens s job files now found w (is_empty empty first) (kept passes settled) = absurd (not_empty files (meta_text found.meta) empty passes.found.record_is.spells.text)
-desk_opens s job files now found w (is_empty empty first) (begun none is settled) =
+desk_opens s job files now found w first (inl empty) (kept passes settled) = absurd (not_empty files (meta_text found.meta) empty passes.found.record_is.spells.text)
+desk_opens s job files now found w first (inl empty) (begun none is settled) =
     let D : Files → Type 0 = λ f. IsDeskOf s job f found in
-    subst D (sym (settled_files now (only_meta (first_meta s)) settled)) (desk_at s job w (only_meta (first_meta s)) (begun_stands s job w first) found is.plans is.committed)
-desk_opens s job files now found w (stands st long) (kept passes settled) =
+    subst D (sym (settled_files now (only_meta (first_meta s)) settled)) (desk_at s job w (only_meta (first_meta s)) (begun_stands s job w (first empty)) found is.plans is.committed)
+desk_opens s job files now found w first (inr st) (kept passes settled) =
     let D : Files → Type 0 = λ f. IsDeskOf s job f found in
     subst D (sym (settled_files now files settled)) (desk_found s job w files st found passes)
-desk_opens s job files now found w (stands st long) (begun none is settled) = absurd (stands_some job files st none)
+desk_opens s job files now found w first (inr st) (begun none is settled) = absurd (stands_some job files st none)
 
 -- and nothing but the outside refuses it
 pub only_outside : (s : Sought) (job : Job) (files now : Files) (fault : OpenFault) → IsWantedJob s job → IsJobs s job files → IsRefused s files now fault → IsOutside fault
@@ -386,9 +380,10 @@ images_stand s job old new w first standing run = weaker (IsImageOpening s (had_
   | inr alone ↦ inr (subst (λ (files : Files). Stands job files) (sym alone.1) (begun_stands s job w (first alone.0)))
 ])
 
-pub ok_desk : (s : Sought) (job : Job) (files : Files) (now : History) (r : Result Opened OpenFault) → IfOk r (IsOpen s files now) → IsWantedJob s job → IsJobs s job files → IfOk r (IsDeskOf s job (files_now now))
-ok_desk s job files now (Ok found) is w ours = desk_opens s job files now found w ours is
-ok_desk s job files now (Err fault) is w ours = tt
+pub ok_desk : (s : Sought) (job : Job) (files : Files) (now : History) (r : Result Opened OpenFault) → IfOk r (IsOpen s files now) → IsWantedJob s job → (IsEmpty files → (cuts : Cuts) → (job.course cuts).meta ≡ first_meta s) → StandsOrEmpty job files
+    → IfOk r (IsDeskOf s job (files_now now))
+ok_desk s job files now (Ok found) is w first ours = desk_opens s job files now found w first ours is
+ok_desk s job files now (Err fault) is w first ours = tt
 
 pub err_outside : (s : Sought) (job : Job) (files now : Files) (r : Result Opened OpenFault) → IfErr r (IsRefused s files now) → IsWantedJob s job → IsJobs s job files → IfErr r IsOutside
 err_outside s job files now (Ok found) is w ours = tt

@@ -1,6 +1,6 @@
 -- Walks over the ends of parts.
 use Rattle.std.proofs.Common.{◌≡◌, ◌<◌, ◌≤◌, ◌+◌, ◌∙◌, ◌++◌, ◌∷◌, [], ◌==◌, ◌&&◌, ℕ, Bool, true, false, List, length, drop, get_or, add-one, drop-cons, ap, append_assoc, ℤ, Option, None, refl, sym, arith}
-use Rattle.std.specs.Prelude.{is_some, if◌then◌else◌}
+use Rattle.std.specs.Prelude.{is_some, nat_lt, if◌then◌else◌}
 use Rattle.std.specs.List.{list_all, zip}
 use Rattle.std.proofs.lemmas.List.{drop_all, append-nil}
 use Rattle.std.proofs.Common.{eq-eqb}
@@ -53,6 +53,14 @@ short-past at ends found past = let here = none_past at ends found past in let n
 
     none_past : (at : ℕ) (ends found : List PartEnd) → length found ≤ at → first_short (drop at ends) (drop at found) ≡ None
     none_past at ends found past = rw (drop_all at found past) (no_pairs (drop at ends))
+
+-- and of no lines none is short
+pub short-none : (found : List PartEnd) → first_short (starts found) found ≡ None
+short-none [] = refl
+short-none (part ∷ rest) = let long : nat_lt part.end 0 ≡ false = not_below part.end in rw long (short-none rest)
+  where
+    not_below : (n : ℕ) → nat_lt n 0 ≡ false
+    not_below n = grind (arith, nat_tests)
 
 pub long_enough : (end found : PartEnd) → end.end ≤ found.end → is_short (end, found) ≡ false
 long_enough end found enough = grind (arith, nat_tests)

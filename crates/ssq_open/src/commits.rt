@@ -7,6 +7,8 @@ ghost use Rattle.ssq_open.specs.Epochs.{is_own, IsMarked, ArePlansOf, AreMarks, 
 ghost use Rattle.ssq_open.specs.Spelled.{IsTheCommit};
 ghost use Rattle.ssq_open.specs.Fault.{DiskRises};
 ghost use Rattle.ssq_open.specs.Refused.{CommitRefuses, CommitsRefuse, MarkRefuses};
+ghost use Rattle.ssq_open.specs.Numbers.{AreTimesInOrder};
+ghost use Rattle.ssq_plans.specs.Records.{IsCommit};
 ghost use Rattle.ssq_open.specs.declared.streams.Watermarked.{Watermarked as WatermarkedOf};
 
 use crate::fault::OpenFault;
@@ -33,6 +35,7 @@ fn own_commit<D: Disk>(
 ) -> Result<Commit, OpenFault>
     ensures commit { D.tells → IfOk result (IsTheCommit (files_now (D.history disk.old)) epoch) }
     ensures own { IfOk result (λ commit. IsTrue (is_own streams.now epoch commit)) }
+    ensures in_range { IfOk result IsCommit }
     ensures refused { D.tells → IfErr result (CommitRefuses streams.now (files_now (D.history disk.old)) epoch) }
     ensures same { D.tells → D.history disk.new ≡ D.history disk.old }
     ensures counted { D.faults disk.old ≤ D.faults disk.new }
@@ -74,6 +77,7 @@ fn advance<D: Disk>(
     ensures committed { D.tells → AreCommitted streams.now (files_now (D.history disk.old)) epoch committed.marks committed.seen →
         IfOk result (λ next. AreCommitted streams.now (files_now (D.history disk.old)) (epoch + 1) next.marks next.seen) }
     ensures count { IfOk result (λ next. length next.marks ≡ length committed.marks + 1) }
+    ensures in_order { IfOk result (λ next. AreTimesInOrder streams.now next.seen) }
     ensures refused { D.tells → IfErr result (CommitRefuses streams.now (files_now (D.history disk.old)) epoch) }
     ensures same { D.tells → D.history disk.new ≡ D.history disk.old }
     ensures counted { D.faults disk.old ≤ D.faults disk.new }
@@ -96,6 +100,7 @@ pub(crate) fn commits_to<D: Disk>(
 ) -> Result<Committed, OpenFault>
     ensures committed { D.tells → IfOk result (λ found. AreCommitted streams.now (files_now (D.history disk.old)) count found.marks found.seen) }
     ensures count { IfOk result (λ found. length found.marks ≡ count + 1) }
+    ensures in_order { IfOk result (λ found. AreTimesInOrder streams.now found.seen) }
     ensures refused { D.tells → IfErr result (CommitsRefuse streams.now (files_now (D.history disk.old)) count) }
     ensures same { D.tells → D.history disk.new ≡ D.history disk.old }
     ensures counted { D.faults disk.old ≤ D.faults disk.new }

@@ -2,6 +2,7 @@
 
 ghost use Rattle.std.specs.Prelude.{◌≡◌, ◌≢◌, ◌↔◌, ◌<◌, ◌≤◌, ℕ, length, slice_index, IfOk, IfErr, IfSome, IfNone, IsTrue};
 ghost use Rattle.ssq_outside.specs.History.{files_now};
+ghost use Rattle.ssq_plans.specs.Records.{IsMetaRecord};
 ghost use Rattle.ssq_open.specs.Fault.{DiskRises};
 ghost use Rattle.ssq_open.specs.Sought.{IsJob, sought};
 ghost use Rattle.ssq_open.specs.Spelled.{IsTheMeta};
@@ -62,6 +63,7 @@ pub(crate) fn kept_query<D: Disk>(
     streams: usize,
 ) -> Result<Meta, OpenFault>
     ensures kept { D.tells → IfOk result (IsTheMeta (files_now (D.history disk.old))) }
+    ensures in_range { IfOk result IsMetaRecord }
     ensures ours { IfOk result (IsOf query.now streams) }
     ensures refused { D.tells → IfErr result (MetaRefuses query.now streams (files_now (D.history disk.old))) }
     ensures same { D.tells → D.history disk.new ≡ D.history disk.old }
@@ -106,6 +108,7 @@ pub(crate) fn kept_job<D: Disk>(
     wanted: &Wanted<'_>,
 ) -> Result<Meta, OpenFault>
     ensures kept { D.tells → IfOk result (IsTheMeta (files_now (D.history disk.old))) }
+    ensures in_range { IfOk result IsMetaRecord }
     ensures job { IfOk result (IsJob (sought wanted.now)) }
     ensures refused { D.tells → IfErr result (JobRefuses (sought wanted.now) (files_now (D.history disk.old))) }
     ensures same { D.tells → D.history disk.new ≡ D.history disk.old }

@@ -4,6 +4,7 @@ ghost use Rattle.std.specs.Prelude.{◌≡◌, ◌≤◌, ◌+◌, length, IfOk,
 ghost use Rattle.ssq_outside.specs.Files.{AreNames};
 ghost use Rattle.ssq_outside.specs.History.{files_now};
 ghost use Rattle.ssq_open.specs.Epochs.{IsProgress, AreEpochs};
+ghost use Rattle.ssq_open.specs.Numbers.{AreEpochsInOrder};
 ghost use Rattle.ssq_open.specs.Fault.{DiskRises};
 ghost use Rattle.ssq_open.specs.Refused.{ProgressRefuses, EpochsRefuse};
 
@@ -41,6 +42,7 @@ pub(crate) fn kept_progress<D: Disk>(
         IfOk result (λ epochs. IsProgress streams.now (files_now (D.history disk.old)) first.now epochs.plans epochs.committed epochs.seen) }
     ensures below { IfOk result (λ epochs. epochs.committed ≤ length epochs.plans) }
     ensures ahead { IfOk result (λ epochs. length epochs.plans ≤ epochs.committed + 1) }
+    ensures in_order { IfOk result (AreEpochsInOrder streams.now first.now) }
     ensures refused { D.tells → AreNames (files_now (D.history disk.old)) names.now → IfErr result (ProgressRefuses streams.now (files_now (D.history disk.old)) first.now) }
     ensures same { D.tells → D.history disk.new ≡ D.history disk.old }
     ensures counted { D.faults disk.old ≤ D.faults disk.new }
@@ -71,6 +73,7 @@ pub(crate) fn kept_epochs<D: Disk>(
 ) -> Result<Epochs, OpenFault>
     ensures kept { D.tells → AreNames (files_now (D.history disk.old)) names.now →
         IfOk result (λ epochs. AreEpochs streams.now (files_now (D.history disk.old)) first.now epochs.plans epochs.committed epochs.seen) }
+    ensures in_order { IfOk result (AreEpochsInOrder streams.now first.now) }
     ensures refused { D.tells → AreNames (files_now (D.history disk.old)) names.now → IfErr result (EpochsRefuse streams.now (files_now (D.history disk.old)) first.now) }
     ensures same { D.tells → D.history disk.new ≡ D.history disk.old }
     ensures counted { D.faults disk.old ≤ D.faults disk.new }

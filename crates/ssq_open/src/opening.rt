@@ -1,10 +1,13 @@
 //! The opening of a checkpoint.
 
-ghost use Rattle.std.specs.Prelude.{◌≡◌, ◌≤◌, ◌^◌, All, length, IfOk, IfErr, OnOk, OnErr};
+ghost use Rattle.std.specs.Prelude.{◌≡◌, ◌≤◌, ◌^◌, None, All, length, IfOk, IfErr, OnOk, OnErr};
+ghost use Rattle.std.specs.Option.{ForSome};
 ghost use Rattle.ssq_outside.specs.Files.{AreNames, IsEmpty};
 ghost use Rattle.ssq_outside.specs.History.{had_now, files_now, LeavesNow, LeavesOnly};
 ghost use Rattle.ssq_open.specs.Fault.{DiskRises};
-ghost use Rattle.ssq_open.specs.Opening.{CanBeSought, first_meta, IsOutside, Passes, Refuses, IsOpen, IsRefused, IsImageOpening, SyncedSince, IsBegun, IsOpening};
+ghost use Rattle.ssq_open.specs.Opening.{CanBeSought, first_meta, first_short, IsOutside, Passes, Refuses, IsOpen, IsRefused, IsImageOpening, SyncedSince, IsBegun, IsOpening};
+ghost use Rattle.ssq_open.specs.Epochs.{starts, last_ends};
+ghost use Rattle.ssq_open.specs.Numbers.{HasNumbers, IsInOrder};
 ghost use Rattle.ssq_open.specs.Sought.{sought};
 ghost use Rattle.ssq_open.specs.Lens.{counts_of, found_from, IsFew, CanBeAsked, asked};
 ghost use Rattle.ssq_open.specs.Watermarks.{watermarked};
@@ -37,6 +40,7 @@ fn kept<D: Disk>(
 ) -> Result<Opened, OpenFault>
     ensures passes { D.tells → AreNames (files_now (D.history disk.old)) names →
         IfOk result (Passes (sought wanted.now) (files_now (D.history disk.old))) }
+    ensures in_order { IfOk result (IsInOrder (sought wanted.now)) }
     ensures refused { D.tells → AreNames (files_now (D.history disk.old)) names →
         IfErr result (Refuses (sought wanted.now) (files_now (D.history disk.old))) }
     ensures same { D.tells → D.history disk.new ≡ D.history disk.old }
@@ -72,6 +76,7 @@ pub(crate) fn open_wanted<D: Disk>(
     wanted: &Wanted<'_>,
 ) -> Result<Opened, OpenFault>
     requires { CanBeSought wanted.now.partitions wanted.now.parts.now }
+    ensures in_order { IfOk result (IsInOrder (sought wanted.now)) }
     ensures opened { D.tells → IfOk result (IsOpen (sought wanted.now)
         (files_now (D.history disk.old)) (D.history disk.new)) }
     ensures refused { D.tells → IfErr result (IsRefused (sought wanted.now)
@@ -142,6 +147,11 @@ pub fn open<D: Disk>(
 ) -> Result<Opened, OpenFault>
     requires { CanBeAsked bound.now partitions lens.now }
 
+    // On any disk: what is found is in order.
+    ensures numbers { IfOk result (HasNumbers (watermarked bound.now.streams) (starts (found_from 0 lens.now.streams))) }
+    ensures job { IfOk result (λ found. (found.meta.parts ≡ counts_of lens.now.streams) × (found.meta.query ≡ bound.now.text) × (1 ≤ found.meta.partitions) × (found.meta.partitions ≤ 64) × ForSome partitions (λ count. found.meta.partitions ≡ count)) }
+    ensures long { IfOk result (λ found. first_short (last_ends (starts (found_from 0 lens.now.streams)) found.plans) (found_from 0 lens.now.streams) ≡ None) }
+
     // What is found is settled, and no crash can leave anything else.
     ensures opened { D.tells → IfOk result (IsOpen (asked bound.now partitions lens.now)
         (files_now (D.history disk.old)) (D.history disk.new)) }
@@ -158,10 +168,11 @@ pub fn open<D: Disk>(
     ensures unfinished { D.tells → OnErr result (IsOpening (asked bound.now partitions lens.now)
         (D.history disk.old) (D.history disk.new)) }
 
-    // Where the checkpoint is the job's, nothing but the outside refuses it, and a desk opens on what is found.
+    // Where the checkpoint stands for the job, or is empty and gets the job's record, a desk opens on what is found. Nothing but the outside
+    // refuses it where also of no part fewer lines are found than are planned.
     ensures desk { D.tells → (job : JobOf) → IsWantedJob (asked bound.now partitions lens.now) job →
-        IsJobs (asked bound.now partitions lens.now) job (files_now (D.history disk.old)) →
-        IfOk result (IsDeskOf (asked bound.now partitions lens.now) job (files_now (D.history disk.new))) }
+        (IsEmpty (files_now (D.history disk.old)) → (cuts : Cuts) → (job.course cuts).meta ≡ first_meta (asked bound.now partitions lens.now)) →
+        StandsOrEmpty job (files_now (D.history disk.old)) → IfOk result (IsDeskOf (asked bound.now partitions lens.now) job (files_now (D.history disk.new))) }
     ensures outside { D.tells → (job : JobOf) → IsWantedJob (asked bound.now partitions lens.now) job →
         IsJobs (asked bound.now partitions lens.now) job (files_now (D.history disk.old)) → IfErr result IsOutside }
 

@@ -7,6 +7,8 @@ ghost use Rattle.ssq_open.specs.Epochs.{is_next, last_ends, ArePlannedTo, ArePla
 ghost use Rattle.ssq_open.specs.Spelled.{IsThePlan};
 ghost use Rattle.ssq_open.specs.Fault.{DiskRises};
 ghost use Rattle.ssq_open.specs.Refused.{PlansRefuse};
+ghost use Rattle.ssq_open.specs.Numbers.{ArePlansInOrder};
+ghost use Rattle.ssq_plans.specs.Records.{IsPlan};
 ghost use Rattle.ssq_plans.specs.declared.part.PartEnd.{PartEnd as PartEndOf};
 
 use crate::cuts::is_next;
@@ -26,6 +28,7 @@ fn next_plan<D: Disk>(
 ) -> Result<Plan, OpenFault>
     ensures plan { D.tells → IfOk result (IsThePlan (files_now (D.history disk.old)) epoch) }
     ensures next { IfOk result (λ plan. IsTrue (is_next before.now epoch plan)) }
+    ensures in_range { IfOk result IsPlan }
     ensures refused { D.tells → (first : List PartEndOf) → ArePlannedTo (files_now (D.history disk.old)) first epoch before.now →
         IfErr result (PlansRefuse (files_now (D.history disk.old)) first (epoch + 1)) }
     ensures same { D.tells → D.history disk.new ≡ D.history disk.old }
@@ -72,6 +75,7 @@ fn advance<D: Disk>(
         IfOk result (ArePlanned (files_now (D.history disk.old)) first.now) }
     ensures count { IfOk result (λ next. length next ≡ epoch + 1) }
     ensures few { OnOk result (epoch < 4294967295) }
+    ensures in_order { ArePlansInOrder first.now plans → IfOk result (ArePlansInOrder first.now) }
     ensures refused { D.tells → ArePlanned (files_now (D.history disk.old)) first.now plans →
         IfErr result (PlansRefuse (files_now (D.history disk.old)) first.now (epoch + 1)) }
     ensures same { D.tells → D.history disk.new ≡ D.history disk.old }
@@ -95,6 +99,7 @@ pub(crate) fn plans_to<D: Disk>(
     ensures planned { D.tells → IfOk result (ArePlanned (files_now (D.history disk.old)) first.now) }
     ensures count { IfOk result (λ plans. length plans ≡ count) }
     ensures few { OnOk result (count ≤ 4294967295) }
+    ensures in_order { IfOk result (ArePlansInOrder first.now) }
     ensures refused { D.tells → IfErr result (PlansRefuse (files_now (D.history disk.old)) first.now count) }
     ensures same { D.tells → D.history disk.new ≡ D.history disk.old }
     ensures counted { D.faults disk.old ≤ D.faults disk.new }

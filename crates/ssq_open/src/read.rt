@@ -6,6 +6,7 @@ ghost use Rattle.ssq_outside.specs.History.{files_now};
 ghost use Rattle.ssq_plans.specs.declared.meta.Meta.{Meta as MetaOf};
 ghost use Rattle.ssq_plans.specs.declared.plan.Plan.{Plan as PlanOf};
 ghost use Rattle.ssq_plans.specs.declared.commit.Commit.{Commit as CommitOf};
+ghost use Rattle.ssq_plans.specs.Records.{IsMetaRecord, IsPlan, IsCommit};
 ghost use Rattle.ssq_open.specs.Spelled.{SpellsMeta, SpellsPlan, SpellsCommit, IsTheMeta, IsThePlan, IsTheCommit};
 
 use ssq_outside::{Disk, DiskError, Name};
@@ -15,6 +16,7 @@ use std::alloc::Global;
 /// The record of the job. `None` where it is absent or not canonical.
 pub(crate) fn meta_of<D: Disk>(alloc: Global, disk: &mut D) -> Result<Option<Meta>, DiskError>
     ensures found { D.tells → IfOk result (λ read. IfSome read (IsTheMeta (files_now (D.history disk.old)))) }
+    ensures in_range { IfOk result (λ read. IfSome read IsMetaRecord) }
     ensures none { D.tells → IfOk result (λ read. IfNone read ((m : MetaOf) → SpellsMeta (files_now (D.history disk.old)) m → ⊥)) }
     ensures same { D.tells → D.history disk.new ≡ D.history disk.old }
     ensures counted { D.faults disk.old ≤ D.faults disk.new }
@@ -33,6 +35,7 @@ pub(crate) fn plan_of<D: Disk>(
     epoch: u32,
 ) -> Result<Option<Plan>, DiskError>
     ensures found { D.tells → IfOk result (λ read. IfSome read (IsThePlan (files_now (D.history disk.old)) epoch)) }
+    ensures in_range { IfOk result (λ read. IfSome read IsPlan) }
     ensures none { D.tells → IfOk result (λ read. IfNone read ((p : PlanOf) → SpellsPlan (files_now (D.history disk.old)) epoch p → ⊥)) }
     ensures same { D.tells → D.history disk.new ≡ D.history disk.old }
     ensures counted { D.faults disk.old ≤ D.faults disk.new }
@@ -51,6 +54,7 @@ pub(crate) fn commit_of<D: Disk>(
     epoch: u32,
 ) -> Result<Option<Commit>, DiskError>
     ensures found { D.tells → IfOk result (λ read. IfSome read (IsTheCommit (files_now (D.history disk.old)) epoch)) }
+    ensures in_range { IfOk result (λ read. IfSome read IsCommit) }
     ensures none { D.tells → IfOk result (λ read. IfNone read ((c : CommitOf) → SpellsCommit (files_now (D.history disk.old)) epoch c → ⊥)) }
     ensures same { D.tells → D.history disk.new ≡ D.history disk.old }
     ensures counted { D.faults disk.old ≤ D.faults disk.new }

@@ -20,6 +20,7 @@ loop-epoch-preserved g c = record {
       let N : History → Type 0 = λ h. AreCommitted c.args.streams.now (files_now h) (c.loop-epoch.epoch + 1) c.in_ok-found.found.marks c.in_ok-found.found.seen in
       let same = c.loop-epoch.invariant.same tells in
       subst N same (c.in_ok-found.ensures.committed tells (subst M (sym same) (c.loop-epoch.invariant.committed tells)));
+  in_order = c.in_ok-found.ensures.in_order;
   count = c.in_ok-found.ensures.count ∙ ap (λ n. n + 1) c.loop-epoch.invariant.count;
   same = λ tells. c.advance.ensures.same tells ∙ c.loop-epoch.invariant.same tells;
   counted = omega (arith, c.loop-epoch.invariant.counted, c.advance.ensures.counted);

@@ -5,8 +5,11 @@ use Rattle.ssq_outside.specs.Files.{AreNames}
 use Rattle.ssq_outside.specs.History.{History, files_now}
 use Rattle.ssq_plans.specs.declared.part.PartEnd.{PartEnd}
 use Rattle.ssq_open.specs.Sought.{Sought, sought}
+use Rattle.ssq_open.specs.declared.wanted.Opened.{Opened}
 use Rattle.ssq_open.specs.Epochs.{starts}
+use Rattle.ssq_open.specs.Numbers.{AreEpochsInOrder}
 use Rattle.ssq_open.specs.Refused.{EpochsRefuse}
+use Rattle.ssq_open.proofs.InOrder.{kept_in_order}
 use Rattle.ssq_open.proofs.Opens.{epochs_refused}
 use Rattle.ssq_open.proofs.opening.kept.Goals as goal
 
@@ -23,3 +26,11 @@ returns-in_err-epochs-clause-refused g c = λ tells are.
     let begin : c.as_slice-2.result.now ≡ starts c.args.wanted.now.found.now = c.as_slice-2.ensures ∙ c.in_ok-first.ensures in
     rw (p.1, p.2) (epochs_refused s _ c.in_ok-meta.meta c.in_err-epochs.field-0.0 (c.in_ok-meta.ensures.kept tells) c.in_ok-meta.ensures.job
     (subst F begin (subst R same (c.in_err-epochs.ensures.refused tells here))))
+
+pub returns-clause-in_order : goal.returns-clause-in_order
+returns-clause-in_order g c =
+    let s : Sought = sought c.args.wanted.now in
+    let E : List PartEnd → Type 0 = λ first. AreEpochsInOrder s.streams first c.in_ok-epochs.epochs in
+    let begin : c.as_slice-2.result.now ≡ starts s.found = c.as_slice-2.ensures ∙ c.in_ok-first.ensures in
+    let found : Opened = record { meta = c.in_ok-meta.meta; plans = c.in_ok-epochs.epochs.plans; committed = c.in_ok-epochs.epochs.committed; seen = c.in_ok-epochs.epochs.seen; names = c.args.names } in
+    kept_in_order s found c.in_ok-meta.ensures.in_range c.in_ok-meta.ensures.job (subst E begin c.in_ok-epochs.ensures.in_order) (rw (c.last_ends.ensures, c.as_slice-3.ensures, c.in_ok-first.ensures, c.as_slice-4.ensures) at c.in_ok-check_ends.ensures.ok)

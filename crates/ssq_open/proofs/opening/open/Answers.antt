@@ -1,10 +1,14 @@
-use Rattle.std.proofs.Common.{◌∙◌, ℕ, List, refl, subst, sym}
+use Rattle.std.proofs.Common.{◌≡◌, ◌≤◌, ◌∙◌, ℕ, List, None, refl, subst, sym}
 use Rattle.std.specs.Prelude.{IfOk, IfErr, OnOk, OnErr}
-use Rattle.std.proofs.lemmas.Result.{err_from_is_err_and}
+use Rattle.std.specs.Option.{ForSome}
+use Rattle.std.proofs.lemmas.Result.{IfOk-weaker, err_from_is_err_and}
 use Rattle.ssq_outside.specs.History.{had_now, files_now, LeavesOnly}
 use Rattle.ssq_open.specs.Lens.{asked}
 use Rattle.ssq_open.specs.Sought.{Sought}
-use Rattle.ssq_open.specs.Opening.{CanBeSought, IsOpen, IsRefused, IsImageOpening, SyncedSince, IsBegun, IsOpening}
+use Rattle.ssq_open.specs.declared.wanted.Opened.{Opened}
+use Rattle.ssq_open.specs.Epochs.{starts, last_ends}
+use Rattle.ssq_open.specs.Numbers.{HasNumbers, IsInOrder}
+use Rattle.ssq_open.specs.Opening.{CanBeSought, first_short, IsOpen, IsRefused, IsImageOpening, SyncedSince, IsBegun, IsOpening}
 use Rattle.ssq_open.proofs.Beginning.{asked_is, can_be_sought}
 use Rattle.ssq_open.proofs.Opens.{not_begun, nothing_new, nothing_opened}
 use Rattle.ssq_open.proofs.Standings.{ok_desk, err_outside, images_stand}
@@ -52,9 +56,9 @@ pub returns-in_err-asked-clause-unfinished : goal.returns-in_err-asked-clause-un
 returns-in_err-asked-clause-unfinished g c = λ tells. nothing_opened (asked c.args.bound.now c.args.partitions c.args.lens.now) (g.D.Disk.history c.args.disk.now) c.from_residual.result
 
 pub returns-clause-desk : goal.returns-clause-desk
-returns-clause-desk g c = λ tells job w ours.
+returns-clause-desk g c = λ tells job w first ours.
     let P : Sought → Type 0 = λ s. IfOk c.open_wanted.result (IsOpen s (files_now (g.D.Disk.history c.args.disk.now)) (g.D.Disk.history c.open_wanted.new.disk)) in
-    ok_desk (asked c.args.bound.now c.args.partitions c.args.lens.now) job (files_now (g.D.Disk.history c.args.disk.now)) (g.D.Disk.history c.open_wanted.new.disk) c.open_wanted.result (subst P (asked_is c.args.bound.now c.args.partitions c.args.lens.now _ refl (c.as_slice.ensures ∙ c.in_ok-asked.ensures.streams) refl (c.as_slice-2.ensures ∙ c.in_ok-asked.ensures.parts) (c.as_slice-3.ensures ∙ c.in_ok-asked.ensures.found)) (c.open_wanted.ensures.opened tells)) w ours
+    ok_desk (asked c.args.bound.now c.args.partitions c.args.lens.now) job (files_now (g.D.Disk.history c.args.disk.now)) (g.D.Disk.history c.open_wanted.new.disk) c.open_wanted.result (subst P (asked_is c.args.bound.now c.args.partitions c.args.lens.now _ refl (c.as_slice.ensures ∙ c.in_ok-asked.ensures.streams) refl (c.as_slice-2.ensures ∙ c.in_ok-asked.ensures.parts) (c.as_slice-3.ensures ∙ c.in_ok-asked.ensures.found)) (c.open_wanted.ensures.opened tells)) w first ours
 
 pub returns-clause-outside : goal.returns-clause-outside
 returns-clause-outside g c = λ tells job w ours.
@@ -74,3 +78,23 @@ pub returns-in_err-asked-clause-outside : goal.returns-in_err-asked-clause-outsi
 returns-in_err-asked-clause-outside g c = λ tells job w ours.
     let p = err_from_is_err_and c.from_residual.result c.from_residual.ensures.1 in
     rw (p.1, p.2) tt
+
+pub returns-clause-numbers : goal.returns-clause-numbers
+returns-clause-numbers g c =
+    let s : Sought = asked c.args.bound.now c.args.partitions c.args.lens.now in
+    let P : Sought → Type 0 = λ s. IfOk c.open_wanted.result (IsInOrder s) in
+    IfOk-weaker c.open_wanted.result (IsInOrder s) (HasNumbers s.streams (starts s.found)) (λ found order. order.numbers) (subst P (asked_is c.args.bound.now c.args.partitions c.args.lens.now _ refl (c.as_slice.ensures ∙ c.in_ok-asked.ensures.streams) refl (c.as_slice-2.ensures ∙ c.in_ok-asked.ensures.parts) (c.as_slice-3.ensures ∙ c.in_ok-asked.ensures.found)) c.open_wanted.ensures.in_order)
+
+pub returns-clause-job : goal.returns-clause-job
+returns-clause-job g c =
+    let s : Sought = asked c.args.bound.now c.args.partitions c.args.lens.now in
+    let P : Sought → Type 0 = λ s. IfOk c.open_wanted.result (IsInOrder s) in
+    let J : Opened → Type 0 = λ found. (found.meta.parts ≡ s.parts) × (found.meta.query ≡ s.query) × (1 ≤ found.meta.partitions) × (found.meta.partitions ≤ 64) × ForSome s.partitions (λ count. found.meta.partitions ≡ count) in
+    IfOk-weaker c.open_wanted.result (IsInOrder s) J (λ found order. (order.job.parts, order.job.ours.ours.query, order.range.0, order.range.1, order.job.ours.partitions)) (subst P (asked_is c.args.bound.now c.args.partitions c.args.lens.now _ refl (c.as_slice.ensures ∙ c.in_ok-asked.ensures.streams) refl (c.as_slice-2.ensures ∙ c.in_ok-asked.ensures.parts) (c.as_slice-3.ensures ∙ c.in_ok-asked.ensures.found)) c.open_wanted.ensures.in_order)
+
+pub returns-clause-long : goal.returns-clause-long
+returns-clause-long g c =
+    let s : Sought = asked c.args.bound.now c.args.partitions c.args.lens.now in
+    let P : Sought → Type 0 = λ s. IfOk c.open_wanted.result (IsInOrder s) in
+    let L : Opened → Type 0 = λ found. first_short (last_ends (starts s.found) found.plans) s.found ≡ None in
+    IfOk-weaker c.open_wanted.result (IsInOrder s) L (λ found order. order.long) (subst P (asked_is c.args.bound.now c.args.partitions c.args.lens.now _ refl (c.as_slice.ensures ∙ c.in_ok-asked.ensures.streams) refl (c.as_slice-2.ensures ∙ c.in_ok-asked.ensures.parts) (c.as_slice-3.ensures ∙ c.in_ok-asked.ensures.found)) c.open_wanted.ensures.in_order)

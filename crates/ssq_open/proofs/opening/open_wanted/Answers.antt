@@ -1,9 +1,12 @@
 use Rattle.std.proofs.Common.{◌∙◌, List, refl, subst, sym, ap}
+use Rattle.std.proofs.lemmas.Result.{IfOk-weaker}
 use Rattle.ssq_outside.specs.declared.name.Name.{Name}
 use Rattle.ssq_outside.specs.Files.{Files, IsEmpty, AreNames, files_of}
 use Rattle.ssq_outside.specs.History.{had_now, files_now}
 use Rattle.ssq_open.specs.Sought.{Sought, sought}
-use Rattle.ssq_open.specs.Opening.{IsImageOpening, unsynced, synced}
+use Rattle.ssq_open.specs.Opening.{IsFirst, IsImageOpening, unsynced, synced}
+use Rattle.ssq_open.specs.Numbers.{IsInOrder}
+use Rattle.ssq_open.proofs.InOrder.{first_in_order}
 use Rattle.ssq_open.proofs.Opens.{none_listed, empty_listed, no_items, some_item, settled_since, files_since, sync_leaves, begin_leaves, same_leaves, open_begun, refused_begun, open_kept, refused_kept, on_ok, on_err, sync_images, synced_still, synced_begun}
 use Rattle.ssq_open.proofs.opening.open_wanted.Goals as goal
 
@@ -146,3 +149,8 @@ returns-clause-unfinished g c = λ tells.
     let settled = settled_since h0 h1 h2 ok (c.names.ensures.same tells) in
     let still = synced_still s h0 h1 h2 (g.D.Disk.history c.kept.new.disk) (c.sync_names.ensures.steps tells) (c.names.ensures.same tells) settled (c.kept.ensures.same tells) in
     on_err c.kept.result (synced still)
+
+pub returns-then-is_empty-clause-in_order : goal.returns-then-is_empty-clause-in_order
+returns-then-is_empty-clause-in_order g c =
+    let s : Sought = sought c.args.wanted.now in
+    IfOk-weaker c.begin.result (IsFirst s) (IsInOrder s) (λ found is. first_in_order s found c.requires is) c.begin.ensures.first

@@ -23,6 +23,7 @@ loop-epoch-preserved g c = record {
       let same = c.loop-epoch.invariant.same tells in
       subst N same (c.in_ok-plans.ensures.planned tells (subst M (sym same) (c.loop-epoch.invariant.planned tells)));
   count = c.in_ok-plans.ensures.count;
+  in_order = c.in_ok-plans.ensures.in_order c.loop-epoch.invariant.in_order;
   few = let few : c.loop-epoch.epoch < 4294967295 = c.in_ok-plans.ensures.few in omega (arith, few);
   same = λ tells. c.advance.ensures.same tells ∙ c.loop-epoch.invariant.same tells;
   counted = omega (arith, c.loop-epoch.invariant.counted, c.advance.ensures.counted);
