@@ -32,9 +32,9 @@ lines_at (from ∷ froms) (to ∷ tos) (suc i) = lines_at froms tos i
 -- ---- the next cut
 
 -- the next end is between the end and what was found
-record IsBetween (from end most : ℕ) : Type 0 where
-  low : from ≤ end
-  high : end ≤ most
+pub record IsBetween (from end most : ℕ) : Type 0 where
+  pub low : from ≤ end
+  pub high : end ≤ most
 
 capped : (most end found : ℕ) (b : Bool) (lines : ℕ) → nat_lt (end + most) found ≡ b → end < found → found ≤ lines → IsBetween end (if b then end + most else found) lines
 capped most end found true lines is less le = let below = ltb-true (end + most) found is in record { low = omega arith; high = omega (arith, below, le) }
@@ -48,7 +48,7 @@ next_between_by : (cap : Option ℕ) (end found lines : ℕ) (b : Bool) → nat_
 next_between_by cap end found lines true is le low = within_between cap end found lines (ltb-true end found is) low
 next_between_by cap end found lines false is le low = record { low = omega arith; high = le }
 
-next_between : (cap : Option ℕ) (end found lines : ℕ) → end ≤ lines → found ≤ lines → IsBetween end (next_end cap end found) lines
+pub next_between : (cap : Option ℕ) (end found lines : ℕ) → end ≤ lines → found ≤ lines → IsBetween end (next_end cap end found) lines
 next_between cap end found lines le low = next_between_by cap end found lines (nat_lt end found) refl le low
 
 -- and above the end, where more was found
@@ -166,11 +166,11 @@ end_at (part ∷ parts) (other ∷ ends) (suc i) end are there =
     record { part = rest.part; there = rest.there; stream = rest.stream; number = rest.number; most = rest.most }
 
 pub ends_of_parts : EndsAreOfParts
-ends_of_parts s bound partitions lens cuts e i end is start proper there =
-    end_at (parts_in s) (cuts e) i end (cut_ends s cuts (found_from 0 lens.streams) e (parts s bound partitions lens is) start proper) there
+ends_of_parts s bound partitions lens cuts e i end is lines start proper there =
+    end_at (parts_in s) (cuts e) i end (cut_ends s cuts (found_from 0 lens.streams) e (parts s bound partitions lens is lines) start proper) there
 
 pub have_terms : TasksHaveTerms
-have_terms s bound partitions lens r is of =
+have_terms s bound partitions lens r is lines of =
     let found = found_from 0 lens.streams in
     let numbers : r.available ≡ cut_of found = of.available ∙ sym (found_numbers 0 lens.streams) in (
       record {
@@ -190,6 +190,6 @@ have_terms s bound partitions lens r is of =
     comes : (cuts : Cuts) (e : ℕ) → r.available ≡ cut_of (found_from 0 lens.streams) → cuts 0 ≡ starts (found_from 0 lens.streams) → AreProper (job_of s) cuts e
         → cuts (e + 1) ≡ next_ends r.cap (cuts e) r.available → (is_behind (cuts e) r.available ≡ true) ⊎ (never cuts e ≡ true) → is_next_of s cuts e ≡ true
     comes cuts e numbers start proper next (inl behind) =
-        next_comes s cuts (found_from 0 lens.streams) r.cap e (parts s bound partitions lens is) of.cap start proper (next ∙ ap (next_ends r.cap (cuts e)) numbers)
+        next_comes s cuts (found_from 0 lens.streams) r.cap e (parts s bound partitions lens is lines) of.cap start proper (next ∙ ap (next_ends r.cap (cuts e)) numbers)
         (ap (is_behind (cuts e)) (sym numbers) ∙ behind)
     comes cuts e numbers start proper next (inr due) = cc

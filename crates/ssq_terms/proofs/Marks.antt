@@ -67,11 +67,13 @@ mark_is of (w ∷ ws) = by_time (of w.stream)
     by_time None = sym (with_none None (marks_of of ws))
     by_time (Some t) = after_some of ws (t -ℤ w.delay)
 
--- each commit has one line for each watermarked stream
+-- there is one line for each watermarked stream, whatever its time
+pub lines_of_each : (of : ℕ → Option ℤ) (streams : List Stream) → has_lines (watermarked streams) (map (line_of of) (delays_from 0 streams)) ≡ true
+lines_of_each of streams = ap (λ (ds : List Delay). has_lines (watermarked streams) (map (line_of of) ds)) (delays_are 0 streams) ∙ lines_own of (watermarked streams)
+
+-- so each commit has one
 pub lines_there : (s : Setting) (cuts : Cuts) (e : ℕ) → has_lines (watermarked s.job.bound.streams) (seen_at s cuts e) ≡ true
-lines_there s cuts e =
-    let of : ℕ → Option ℤ = λ stream. seen s.job.bound (parts_in s) (cuts_of cuts) stream e in
-    ap (λ (ds : List Delay). has_lines (watermarked s.job.bound.streams) (map (line_of of) ds)) (delays_are 0 s.job.bound.streams) ∙ lines_own of (watermarked s.job.bound.streams)
+lines_there s cuts e = lines_of_each (λ stream. seen s.job.bound (parts_in s) (cuts_of cuts) stream e) s.job.bound.streams
 
 -- and they give the watermark
 pub mark_by_lines : (s : Setting) (cuts : Cuts) (e : ℕ) → watermark_at s cuts e ≡ mark_by (watermarked s.job.bound.streams) (seen_at s cuts e)

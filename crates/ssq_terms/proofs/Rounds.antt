@@ -27,7 +27,7 @@ use Rattle.ssq_open.specs.Opening.{kept, begun, Passes}
 use Rattle.ssq_open.specs.Jobs.{IsWantedJob, IsDeskOf}
 use Rattle.ssq_board.specs.Core.{Scope}
 use Rattle.ssq_board.specs.Shown.{planned_by}
-use Rattle.ssq_terms.specs.Setting.{IsSettingOf}
+use Rattle.ssq_terms.specs.Setting.{IsSettingOf, AreFound, found_lines}
 use Rattle.ssq_terms.specs.Laws.{IsScopeOf}
 use Rattle.ssq_terms.specs.Opening.{IsJobsFound, FoundIsJobs, DeskOpensAsFound}
 use Rattle.ssq_terms.proofs.Starts.{AreParts, found_numbers}
@@ -97,7 +97,7 @@ planned_is : (k n : ℕ) (b : Bool) → nat_lt k n ≡ b → k ≤ n → n ≤ k
 planned_is k n true is le near = let less = ltb-true k n is in omega (arith, less, near)
 planned_is k n false is le near = let over = ltb-false k n is in omega (arith, over, le)
 
-module _ (s : Setting) (bound : Bound) (partitions : Option ℕ) (lens : Lens) (r : Scope) (files : Files) (found : Opened) (is : IsSettingOf s bound partitions lens) (scope : IsScopeOf r s lens)
+module _ (s : Setting) (bound : Bound) (partitions : Option ℕ) (lens : Lens) (r : Scope) (files : Files) (found : Opened) (is : IsSettingOf s bound partitions lens) (lines : AreFound (found_lines lens) s.lines) (scope : IsScopeOf r s lens)
     (of : IsDeskOf (asked bound partitions lens) (job_of s) files found) where
   first : Ends
   first = starts (found_from 0 lens.streams)
@@ -109,7 +109,7 @@ module _ (s : Setting) (bound : Bound) (partitions : Option ℕ) (lens : Lens) (
   counted : (e : ℕ) → e ≤ of.desk.planned → length (of.desk.cuts e) ≡ length (parts_in s)
   counted e le =
       ends_count (parts_in s) (of.desk.cuts e)
-      (cut_ends s of.desk.cuts (found_from 0 lens.streams) e (parts s bound partitions lens is) begins (λ f less. of.is.1 f (omega (arith, less, le))))
+      (cut_ends s of.desk.cuts (found_from 0 lens.streams) e (parts s bound partitions lens is lines) begins (λ f less. of.is.1 f (omega (arith, less, le))))
 
   from_is : of.desk.cuts found.committed ≡ cut_of (starts (found_from 0 lens.streams)) found.plans found.committed
   from_is = ap (λ (cuts : Cuts). cuts found.committed) of.cuts
@@ -120,7 +120,7 @@ module _ (s : Setting) (bound : Bound) (partitions : Option ℕ) (lens : Lens) (
   available_count : length r.available ≡ length (parts_in s)
   available_count =
       ap length (scope.available ∙ sym (found_numbers 0 lens.streams)) ∙ length-map (found_from 0 lens.streams) (λ (end : PartEnd). end.end)
-      ∙ parts_count (parts_in s) (found_from 0 lens.streams) (parts s bound partitions lens is)
+      ∙ parts_count (parts_in s) (found_from 0 lens.streams) (parts s bound partitions lens is lines)
 
   to_count : length (last_ends (starts (found_from 0 lens.streams)) found.plans) ≡ length (parts_in s)
   to_count = ap length (sym to_is) ∙ counted of.desk.planned (omega arith)
@@ -134,15 +134,15 @@ module _ (s : Setting) (bound : Bound) (partitions : Option ℕ) (lens : Lens) (
       (omega (arith, of.is.0.reached.one_ahead, of.committed, of.planned))
 
 pub opens_as_found : DeskOpensAsFound
-opens_as_found s bound partitions lens r files found is scope terms start of = record {
+opens_as_found s bound partitions lens r files found is lines scope terms start of = record {
   start = record {
-    from = from_count s bound partitions lens r files found is scope of ∙ sym (to_count s bound partitions lens r files found is scope of);
-    available = available_count s bound partitions lens r files found is scope of ∙ sym (to_count s bound partitions lens r files found is scope of);
+    from = from_count s bound partitions lens r files found is lines scope of ∙ sym (to_count s bound partitions lens r files found is lines scope of);
+    available = available_count s bound partitions lens r files found is lines scope of ∙ sym (to_count s bound partitions lens r files found is lines scope of);
   };
   committed = of.committed;
-  planned = planned s bound partitions lens r files found is scope of;
-  begins = begins s bound partitions lens r files found is scope of ∙ sym start;
-  from = from_is s bound partitions lens r files found is scope of;
-  to = ap of.desk.cuts (sym (planned s bound partitions lens r files found is scope of)) ∙ to_is s bound partitions lens r files found is scope of;
+  planned = planned s bound partitions lens r files found is lines scope of;
+  begins = begins s bound partitions lens r files found is lines scope of ∙ sym start;
+  from = from_is s bound partitions lens r files found is lines scope of;
+  to = ap of.desk.cuts (sym (planned s bound partitions lens r files found is lines scope of)) ∙ to_is s bound partitions lens r files found is lines scope of;
   due = λ unplanned. refl;
 }

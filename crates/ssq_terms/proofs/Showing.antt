@@ -7,7 +7,7 @@ use Rattle.std.proofs.Math.Nat.{mod-lt}
 use Rattle.std.proofs.lemmas.Bool.{eq-eqb, ne_eqb, lt-ltb, le-ltb, le-leb, lt-leb, cases_lt, eqb-true}
 use Rattle.std.proofs.lemmas.List.{map-append}
 use Rattle.std.proofs.lemmas.List.Elements.{filter-append}
-use Rattle.std.proofs.lemmas.List.Sorted.{IsPermutation-refl, IsPermutation-sym, IsPermutation-trans, IsPermutation-cons, IsPermutation-append, IsPermutation-middle, IsPermutation-map}
+use Rattle.std.proofs.lemmas.List.Sorted.{IsPermutation-refl, IsPermutation-sym, IsPermutation-trans, IsPermutation-cons, IsPermutation-append, IsPermutation-middle, IsPermutation-map, length_permutation}
 use Rattle.ssq_value.specs.Key.{keys_of}
 use Rattle.ssq_route.specs.Place.{place_of, fnv_1a}
 use Rattle.ssq_shape.specs.declared.bound.Bound.{Bound}
@@ -26,7 +26,7 @@ use Rattle.ssq_sink.specs.Sink.{sink_text}
 use Rattle.ssq_sink.proofs.Rows.{sink_text-permutation}
 use Rattle.ssq_core.specs.Course.{Cuts}
 use Rattle.ssq_course.specs.Setting.{Setting, parts_in, cuts_of, watermark_at}
-use Rattle.ssq_terms.specs.Rows.{bucket_in, PartsFeedPartitions, PartsWithoutLinesAreQuiet, IsShownOf, PartitionsShowRows}
+use Rattle.ssq_terms.specs.Rows.{bucket_in, PartsFeedPartitions, PartsWithoutLinesAreQuiet, IsShownOf, AreShown, PartitionsShowRows, PartitionsCountRows}
 
 -- ---- what the parts feed
 
@@ -160,9 +160,18 @@ shown_is s cuts e p rows plain is =
     subst (λ (values : List Values). IsPermutation values (values_of (bucket s.job.partitions p (fed s.job.bound (parts_in s) (cuts_of cuts) e))))
     (sym (is.shows [] None ∙ plain_shows s.job.bound [] is.taken None (watermark_at s cuts e) plain)) (IsPermutation-map (λ (row : FedRow). row.values) _ _ is.are)
 
+-- the rows of all partitions are those of the epoch, in another order
+rows_together : (s : Setting) (cuts : Cuts) (e : ℕ) (shown : List (List Values)) → s.job.bound.shape ≡ Plain → 1 ≤ s.job.partitions → AreShown s cuts e shown
+    → IsPermutation (joined shown) (values_of (fed s.job.bound (parts_in s) (cuts_of cuts) e))
+rows_together s cuts e shown plain some are =
+    all_together s.job.partitions (fed s.job.bound (parts_in s) (cuts_of cuts) e) shown some are.count (λ p less. shown_is s cuts e p (get_or shown p []) plain (are.each p less))
+
 pub show_rows : PartitionsShowRows
 show_rows s cuts e shown plain some are =
-    let fed_rows = fed s.job.bound (parts_in s) (cuts_of cuts) e in
-    let all = all_together s.job.partitions fed_rows shown some are.count (λ p less. shown_is s cuts e p (get_or shown p []) plain (are.each p less)) in
-    sink_text-permutation (output_names s.job.bound) (joined shown) (values_of fed_rows) all
+    sink_text-permutation (output_names s.job.bound) (joined shown) (values_of (fed s.job.bound (parts_in s) (cuts_of cuts) e)) (rows_together s cuts e shown plain some are)
     ∙ ap (sink_text (output_names s.job.bound)) (sym (out_is s.job.bound plain (parts_in s) (cuts_of cuts) e))
+
+pub count_rows : PartitionsCountRows
+count_rows s cuts e shown plain some are =
+    sym (length_permutation (joined shown) (values_of (fed s.job.bound (parts_in s) (cuts_of cuts) e)) (rows_together s cuts e shown plain some are))
+    ∙ ap length (sym (out_is s.job.bound plain (parts_in s) (cuts_of cuts) e))

@@ -1,8 +1,9 @@
 -- The parts of a setting are those that were found.
-use Rattle.std.proofs.Common.{◌≡◌, ◌<◌, ◌≤◌, ◌+◌, ◌^◌, ◌==◌, ◌&&◌, ◌++◌, [], ◌∷◌, ℕ, zero, suc, List, true, refl, ap, sym, ◌∙◌, arith, length, map}
+use Rattle.std.proofs.Common.{◌≡◌, ◌<◌, ◌≤◌, ◌+◌, ◌^◌, ◌==◌, ◌&&◌, ◌++◌, [], ◌∷◌, ℕ, zero, suc, List, true, refl, ap, sym, ◌∙◌, arith, add-one, length, map}
 use Rattle.std.specs.Prelude.{All, nat_le}
 use Rattle.std.specs.List.{list_all, zip}
 use Rattle.std.proofs.lemmas.Bool.{eqb-true, eq-eqb}
+use Rattle.std.proofs.lemmas.List.{append_assoc, append-nil, map-append}
 use Rattle.std.proofs.lemmas.List.Elements.{All-cons, All-nil, All-head, All-tail}
 use Rattle.ssq_plans.specs.declared.part.PartEnd.{PartEnd}
 use Rattle.ssq_meaning.specs.Meaning.{Line}
@@ -13,6 +14,8 @@ use Rattle.ssq_core.proofs.Holding.{both_are, both_true}
 use Rattle.ssq_course.specs.Setting.{cut_of, end_at, is_end_of, is_start, is_within}
 use Rattle.ssq_course.specs.Laws.{IsFit}
 use Rattle.ssq_open.specs.Lens.{counts_of, found_in, found_from, IsFew}
+use Rattle.ssq_open.specs.Looking.{begins_from}
+use Rattle.ssq_open.specs.Looking.{parts_of as first_of}
 use Rattle.ssq_open.specs.Epochs.{start_of, starts, keeps_up, follows}
 use Rattle.ssq_terms.specs.Setting.{AreFound}
 
@@ -28,6 +31,39 @@ AreParts [] [] = Unit {0}
 AreParts [] (end ∷ ends) = ⊥
 AreParts (part ∷ parts) [] = ⊥
 AreParts (part ∷ parts) (end ∷ ends) = IsPartOf part end × AreParts parts ends
+
+-- the part is of this number of this stream
+pub record IsNamed (part : Part) (found : PartEnd) : Type 0 where
+  pub stream_is : part.stream ≡ found.stream
+  pub number_is : part.part ≡ found.part
+
+-- part by part in order
+abbrev pub AreNamed : List Part → Ends → Type 0
+AreNamed [] [] = Unit {0}
+AreNamed [] (end ∷ ends) = ⊥
+AreNamed (part ∷ parts) [] = ⊥
+AreNamed (part ∷ parts) (end ∷ ends) = IsNamed part end × AreNamed parts ends
+
+named : (stream part : ℕ) (own : List ℕ) (rest : List (List ℕ)) (lines : List (List Line)) → length lines ≡ length (own ++ joined rest)
+    → AreNamed (parts_from stream part (length own) (counts_of rest) lines) (found_in stream part own ++ found_from (stream + 1) rest)
+unfolding parts_from
+named stream part [] [] [] count = tt
+named stream part [] [] (line ∷ lines) count = absurd (omega (arith, count))
+named stream part [] (next ∷ rest) [] count = named (stream + 1) 0 next rest [] count
+named stream part [] (next ∷ rest) (line ∷ lines) count = named (stream + 1) 0 next rest (line ∷ lines) count
+named stream part (n ∷ own) rest [] count = absurd (omega (arith, count))
+named stream part (n ∷ own) rest (line ∷ lines) count = (record { stream_is = refl; number_is = refl }, named stream (part + 1) own rest lines (omega (arith, count)))
+
+pub are_named : (streams : List (List ℕ)) (lines : List (List Line)) → length lines ≡ length (joined streams) → AreNamed (parts_of (counts_of streams) lines) (found_from 0 streams)
+are_named [] [] count = tt
+are_named [] (line ∷ lines) count = absurd (omega (arith, count))
+are_named (own ∷ rest) lines count = named 0 0 own rest lines count
+
+pub named_count : (parts : List Part) (found : Ends) → AreNamed parts found → length found ≡ length parts
+named_count [] [] are = refl
+named_count [] (end ∷ found) are = absurd are
+named_count (part ∷ parts) [] are = absurd are
+named_count (part ∷ parts) (end ∷ found) are = ap suc (named_count parts found are.1)
 
 dealt : (stream part : ℕ) (own : List ℕ) (rest : List (List ℕ)) (lines : List (List Line)) → AreFound (own ++ joined rest) lines
     → AreParts (parts_from stream part (length own) (counts_of rest) lines) (found_in stream part own ++ found_from (stream + 1) rest)
@@ -124,13 +160,29 @@ starts_start [] (f ∷ found) are = absurd are
 starts_start (part ∷ parts) [] are = absurd are
 starts_start (part ∷ parts) (f ∷ found) are = both_true (is_end_of part (start_of f)) _ (start_of_is part f are.0) (starts_start parts found are.1)
 
-pub firsts_are : (parts : List Part) (found : Ends) → AreParts parts found → map (λ part. end_at part 0) parts ≡ starts found
+pub firsts_are : (parts : List Part) (found : Ends) → AreNamed parts found → map (λ part. end_at part 0) parts ≡ starts found
 firsts_are [] [] are = refl
 firsts_are [] (f ∷ found) are = absurd are
 firsts_are (part ∷ parts) [] are = absurd are
 firsts_are (part ∷ parts) (f ∷ found) are =
     let rest = firsts_are parts found are.1 in
-    λ i. (let end : PartEnd = record { stream = are.0.stream i; part = are.0.number i; end = 0 } in end) ∷ rest i
+    λ i. (let end : PartEnd = record { stream = are.0.stream_is i; part = are.0.number_is i; end = 0 } in end) ∷ rest i
+
+-- they begin as the numbers of the parts of each stream say
+own_begin : (stream at : ℕ) (own : List ℕ) → first_of stream at ++ starts (found_in stream at own) ≡ first_of stream (at + length own)
+own_begin stream at [] = append-nil (first_of stream at) ∙ ap (first_of stream) (let e : at ≡ at + 0 = omega arith in e)
+own_begin stream at (n ∷ own) =
+    let end : PartEnd = record { stream = stream; part = at; end = 0 } in
+    let rest = starts (found_in stream (at + 1) own) in
+    sym (append_assoc (first_of stream at) (end ∷ []) rest) ∙ ap (λ (k : ℕ). first_of stream k ++ rest) (sym (add-one at)) ∙ own_begin stream (at + 1) own
+    ∙ ap (first_of stream) (let e : at + 1 + length own ≡ at + length (n ∷ own) = omega arith in e)
+
+pub all_begin : (stream : ℕ) (streams : List (List ℕ)) → starts (found_from stream streams) ≡ begins_from stream (counts_of streams)
+all_begin stream [] = refl
+all_begin stream (own ∷ rest) =
+    let here : starts (found_in stream 0 own) ≡ first_of stream (length own) = own_begin stream 0 own ∙ ap (first_of stream) (let e : 0 + length own ≡ length own = omega arith in e) in
+    let more = all_begin (stream + 1) rest in
+    map-append start_of (found_in stream 0 own) (found_from (stream + 1) rest) ∙ (λ i. here i ++ more i)
 
 -- ---- how they go on
 

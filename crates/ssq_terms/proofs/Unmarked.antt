@@ -1,5 +1,5 @@
 -- A stream without an event column has no greatest event time.
-use Rattle.std.proofs.Common.{◌≡◌, ◌+◌, ◌==◌, [], ◌∷◌, ℕ, zero, suc, ℤ, List, Option, Some, None, Result, Ok, Err, Bool, true, false, refl, ap, sym, ◌∙◌, subst, map}
+use Rattle.std.proofs.Common.{◌≡◌, ◌+◌, ◌==◌, [], ◌∷◌, ℕ, zero, suc, List, Option, Some, None, Result, Ok, Err, Bool, true, false, refl, ap, sym, subst, map}
 use Rattle.std.specs.Prelude.{All, IfSome, slice_get, option_and_then, if◌then◌else◌}
 use Rattle.std.proofs.lemmas.Bool.{eqb-true}
 use Rattle.std.proofs.lemmas.List.Elements.{All-head, All-tail}
@@ -14,7 +14,7 @@ use Rattle.ssq_meaning.specs.Cut.{Cut, of_parts}
 use Rattle.ssq_meaning.specs.Cut.{Cuts as Offsets}
 use Rattle.ssq_meaning.specs.Times.{later, greatest}
 use Rattle.ssq_meaning.specs.Feeding.{layout_in, layout_at, read_at, time_if, time_at, time_in}
-use Rattle.ssq_meaning.specs.Epochs.{seen, time_between, time_of_stream}
+use Rattle.ssq_meaning.specs.Epochs.{seen, time_between}
 use Rattle.ssq_terms.specs.Setting.{HasEventIfDelayed}
 use Rattle.ssq_terms.specs.Laws.{UnmarkedHaveNoTimes}
 

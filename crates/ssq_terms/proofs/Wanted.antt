@@ -2,9 +2,11 @@
 use Rattle.std.proofs.Common.{◌≡◌, ◌<◌, ◌≤◌, ◌+◌, ◌^◌, ◌&&◌, ◌||◌, [], ◌∷◌, ℕ, List, Option, true, refl, ap, sym, ◌∙◌, subst, arith, length}
 use Rattle.std.specs.Prelude.{All}
 use Rattle.std.proofs.lemmas.List.Elements.{All-cons, All-nil, All-head, All-tail}
+use Rattle.std.proofs.lemmas.List.{length-map}
 use Rattle.std.specs.Str.{IsUtf8}
 use Rattle.ssq_water.specs.Water.{HasDelays}
 use Rattle.ssq_plans.specs.declared.meta.Meta.{Meta}
+use Rattle.ssq_plans.specs.declared.part.PartEnd.{PartEnd}
 use Rattle.ssq_plans.specs.Records.{IsCount, IsMetaRecord}
 use Rattle.ssq_shape.specs.declared.bound.Bound.{Bound}
 use Rattle.ssq_shape.specs.declared.bound.Shape.{Shape}
@@ -18,13 +20,14 @@ use Rattle.ssq_course.specs.Laws.{IsFit}
 use Rattle.ssq_course.proofs.Causal.{are_causal}
 use Rattle.ssq_open.specs.declared.wanted.Lens.{Lens}
 use Rattle.ssq_open.specs.Lens.{asked, counts_of, found_from, IsFew}
+use Rattle.ssq_open.specs.Looking.{begins}
 use Rattle.ssq_open.specs.Sought.{IsJob}
 use Rattle.ssq_open.specs.Jobs.{IsWantedJob}
-use Rattle.ssq_terms.specs.Setting.{IsSettingOf}
+use Rattle.ssq_terms.specs.Setting.{IsSettingOf, AreFound, found_lines}
 use Rattle.ssq_terms.specs.Laws.{JobIsWanted, FirstRecordIsJobs, PartsAreFound}
 use Rattle.ssq_terms.proofs.Printing.{commits_written, plans_written}
 use Rattle.ssq_terms.proofs.Marks.{lines_there, mark_by_lines, unmarked}
-use Rattle.ssq_terms.proofs.Starts.{AreParts, are_parts, parts_fit, found_numbers, firsts_are, start_is, within_follows}
+use Rattle.ssq_terms.proofs.Starts.{AreParts, AreNamed, are_parts, are_named, named_count, parts_fit, found_numbers, firsts_are, all_begin, start_is, within_follows}
 
 few_counted : (streams : List (List ℕ)) → All IsFew streams → All IsCount (counts_of streams)
 few_counted [] few = All-nil IsCount
@@ -43,16 +46,25 @@ is_next_if s cuts e next =
     record { start = first.0; within = second.0 }
 
 module _ (s : Setting) (bound : Bound) (partitions : Option ℕ) (lens : Lens) (is : IsSettingOf s bound partitions lens) where
+  named : AreNamed (parts_in s) (found_from 0 lens.streams)
+  named = subst (λ counts. AreNamed (parts_of counts s.lines) (found_from 0 lens.streams)) (sym is.parts) (are_named lens.streams s.lines is.counted)
+
+  logs_count : length (parts_in s) ≡ length s.lines
+  logs_count =
+      sym (named_count (parts_in s) (found_from 0 lens.streams) named) ∙ sym (length-map (found_from 0 lens.streams) (λ (end : PartEnd). end.end)) ∙ ap length (found_numbers 0 lens.streams)
+      ∙ sym is.counted
+
+module _ (s : Setting) (bound : Bound) (partitions : Option ℕ) (lens : Lens) (is : IsSettingOf s bound partitions lens) (found : AreFound (found_lines lens) s.lines) where
   query : bound ≡ s.job.bound
   query = sym is.query
 
   pub fit : All IsFit (parts_in s)
   fit =
       let few : length lens.streams ≤ 2 ^ 32 = subst (λ (n : ℕ). n ≤ 2 ^ 32) (sym is.asked.each_stream) is.asked.few_streams in
-      subst (λ counts. All IsFit (parts_of counts s.lines)) (sym is.parts) (parts_fit lens.streams s.lines is.found is.asked.few_parts few)
+      subst (λ counts. All IsFit (parts_of counts s.lines)) (sym is.parts) (parts_fit lens.streams s.lines found is.asked.few_parts few)
 
   pub parts : AreParts (parts_in s) (found_from 0 lens.streams)
-  parts = subst (λ counts. AreParts (parts_of counts s.lines) (found_from 0 lens.streams)) (sym is.parts) (are_parts lens.streams s.lines is.found)
+  parts = subst (λ counts. AreParts (parts_of counts s.lines) (found_from 0 lens.streams)) (sym is.parts) (are_parts lens.streams s.lines found)
 
   record_is : IsMetaRecord (meta_of s)
   record_is =
@@ -86,7 +98,7 @@ module _ (s : Setting) (bound : Bound) (partitions : Option ℕ) (lens : Lens) (
   }
 
 pub job_wanted : JobIsWanted
-job_wanted s bound partitions lens is = subst (λ (b : Bound). IsWantedJob (asked b partitions lens) (job_of s)) is.query (own_job s bound partitions lens is)
+job_wanted s bound partitions lens is found = subst (λ (b : Bound). IsWantedJob (asked b partitions lens) (job_of s)) is.query (own_job s bound partitions lens is found)
 
 pub first_record : FirstRecordIsJobs
 first_record s bound partitions lens is count cuts =
@@ -94,4 +106,5 @@ first_record s bound partitions lens is count cuts =
 
 pub parts_found : PartsAreFound
 parts_found s bound partitions lens is =
-    (fit s bound partitions lens is, firsts_are (parts_in s) (found_from 0 lens.streams) (parts s bound partitions lens is), found_numbers 0 lens.streams)
+    let begin = firsts_are (parts_in s) (found_from 0 lens.streams) (named s bound partitions lens is) in
+    (logs_count s bound partitions lens is, begin, found_numbers 0 lens.streams, begin ∙ all_begin 0 lens.streams ∙ ap begins (sym is.parts))

@@ -21,13 +21,14 @@ use Rattle.ssq_course.specs.Laws.{IsFit}
 use Rattle.ssq_open.specs.declared.wanted.Lens.{Lens}
 use Rattle.ssq_open.specs.Lens.{asked, found_from}
 use Rattle.ssq_open.specs.Sought.{Sought}
+use Rattle.ssq_open.specs.Looking.{begins}
 use Rattle.ssq_open.specs.Epochs.{starts}
 use Rattle.ssq_open.specs.Opening.{first_meta}
 use Rattle.ssq_open.specs.Jobs.{IsWantedJob}
 use Rattle.ssq_board.specs.Core.{Scope}
 use Rattle.ssq_board.specs.Rounds.{HasCap}
 use Rattle.ssq_board.specs.Follows.{Terms, map_task}
-use Rattle.ssq_terms.specs.Setting.{found_lines, HasEventIfDelayed, IsSettingOf}
+use Rattle.ssq_terms.specs.Setting.{found_lines, AreFound, HasEventIfDelayed, IsSettingOf}
 
 -- the greatest event time of a stream over the first epochs is that of a line
 abbrev pub TimesAreOfLines : Type 0
@@ -51,19 +52,24 @@ WatermarksCanBePrinted = (s : Setting) (cuts : Cuts) (e : ℕ) → HasDelays s.j
 abbrev pub PlansCanBeWritten : Type 0
 PlansCanBeWritten = (s : Setting) (cuts : Cuts) (e : ℕ) → HasDelays s.job.bound → All IsFit (parts_in s) → (job_of s).is_next cuts e ≡ true → e < 2 ^ 32 → IsPlan (plan_of (course_of s cuts) e)
 
--- the job of the setting is the one that is wanted
+-- where the logs come to hold what was found, the job of the setting is the one that is wanted
 abbrev pub JobIsWanted : Type 0
-JobIsWanted = (s : Setting) (bound : Bound) (partitions : Option ℕ) (lens : Lens) → IsSettingOf s bound partitions lens → IsWantedJob (asked bound partitions lens) (job_of s)
+JobIsWanted = (s : Setting) (bound : Bound) (partitions : Option ℕ) (lens : Lens) → IsSettingOf s bound partitions lens → AreFound (found_lines lens) s.lines → IsWantedJob (asked bound partitions lens) (job_of s)
 
 -- with the partitions that were asked for, or else one, its record is that of a new checkpoint
 abbrev pub FirstRecordIsJobs : Type 0
 FirstRecordIsJobs = (s : Setting) (bound : Bound) (partitions : Option ℕ) (lens : Lens) → IsSettingOf s bound partitions lens → s.job.partitions ≡ unwrap_or partitions 1
     → (cuts : Cuts) → ((job_of s).course cuts).meta ≡ first_meta (asked bound partitions lens)
 
--- the numbers of the parts can be written, and they begin where those that were found do
+-- there is a part for each log, and they begin where those that were found do, and as the job's record says
 abbrev pub PartsAreFound : Type 0
 PartsAreFound = (s : Setting) (bound : Bound) (partitions : Option ℕ) (lens : Lens) → IsSettingOf s bound partitions lens
-    → All IsFit (parts_in s) × (first_ends s ≡ starts (found_from 0 lens.streams)) × (cut_of (found_from 0 lens.streams) ≡ found_lines lens)
+    → (length (parts_in s) ≡ length s.lines) × (first_ends s ≡ starts (found_from 0 lens.streams)) × (cut_of (found_from 0 lens.streams) ≡ found_lines lens)
+    × (first_ends s ≡ begins s.job.parts)
+
+-- the numbers of the parts can be written, where the logs come to hold what was found
+abbrev pub PartsCanBeWritten : Type 0
+PartsCanBeWritten = (s : Setting) (bound : Bound) (partitions : Option ℕ) (lens : Lens) → IsSettingOf s bound partitions lens → AreFound (found_lines lens) s.lines → All IsFit (parts_in s)
 
 -- a query that keeps nothing shows nothing without new lines
 abbrev pub never : Cuts → ℕ → Bool
@@ -80,7 +86,7 @@ abbrev pub HasTerms : Setting → Scope → Lens → Type 0
 HasTerms s r lens = (terms : Terms (job_of s) r never) × (terms.start ≡ starts (found_from 0 lens.streams))
 
 abbrev pub TasksHaveTerms : Type 0
-TasksHaveTerms = (s : Setting) (bound : Bound) (partitions : Option ℕ) (lens : Lens) (r : Scope) → IsSettingOf s bound partitions lens → IsScopeOf r s lens → HasTerms s r lens
+TasksHaveTerms = (s : Setting) (bound : Bound) (partitions : Option ℕ) (lens : Lens) (r : Scope) → IsSettingOf s bound partitions lens → AreFound (found_lines lens) s.lines → IsScopeOf r s lens → HasTerms s r lens
 
 -- an end in a cut is of the part at its place, and not above its lines
 pub record IsEndAt (parts : List Part) (i : ℕ) (end : PartEnd) : Type 0 where
@@ -92,7 +98,7 @@ pub record IsEndAt (parts : List Part) (i : ℕ) (end : PartEnd) : Type 0 where
 
 -- each end of proper cuts is
 abbrev pub EndsAreOfParts : Type 0
-EndsAreOfParts = (s : Setting) (bound : Bound) (partitions : Option ℕ) (lens : Lens) (cuts : Cuts) (e i : ℕ) (end : PartEnd) → IsSettingOf s bound partitions lens
+EndsAreOfParts = (s : Setting) (bound : Bound) (partitions : Option ℕ) (lens : Lens) (cuts : Cuts) (e i : ℕ) (end : PartEnd) → IsSettingOf s bound partitions lens → AreFound (found_lines lens) s.lines
     → cuts 0 ≡ starts (found_from 0 lens.streams) → AreProper (job_of s) cuts e → slice_get (cuts e) i ≡ Some end → IsEndAt (parts_in s) i end
 
 -- Which tasks have a fault: a map task where its part has one between the cuts, and no other.

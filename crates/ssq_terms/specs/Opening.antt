@@ -17,7 +17,7 @@ use Rattle.ssq_board.specs.Core.{Scope}
 use Rattle.ssq_board.specs.Shown.{Start}
 use Rattle.ssq_board.specs.Follows.{Terms}
 use Rattle.ssq_board.specs.Laws.{IsOpenedAt}
-use Rattle.ssq_terms.specs.Setting.{IsSettingOf}
+use Rattle.ssq_terms.specs.Setting.{IsSettingOf, AreFound, found_lines}
 use Rattle.ssq_terms.specs.Laws.{never, IsScopeOf}
 
 -- What was found is what the job's files hold of the epochs so far: each plan, and the greatest times over the committed epochs. Where none
@@ -41,6 +41,6 @@ start_of lens found = record {
 }
 
 abbrev pub DeskOpensAsFound : Type 0
-DeskOpensAsFound = (s : Setting) (bound : Bound) (partitions : Option ℕ) (lens : Lens) (r : Scope) (files : Files) (found : Opened) → IsSettingOf s bound partitions lens → IsScopeOf r s lens
+DeskOpensAsFound = (s : Setting) (bound : Bound) (partitions : Option ℕ) (lens : Lens) (r : Scope) (files : Files) (found : Opened) → IsSettingOf s bound partitions lens → AreFound (found_lines lens) s.lines → IsScopeOf r s lens
     → (terms : Terms (job_of s) r never) → terms.start ≡ starts (found_from 0 lens.streams) → (of : IsDeskOf (asked bound partitions lens) (job_of s) files found)
     → IsOpenedAt (job_of s) r never terms (start_of lens found) of.desk

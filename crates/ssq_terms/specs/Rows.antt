@@ -12,7 +12,7 @@ use Rattle.ssq_meaning.specs.Cut.{Cuts as Offsets}
 use Rattle.ssq_meaning.specs.Times.{later}
 use Rattle.ssq_meaning.specs.Feeding.{fed_in, time_in, fault_in}
 use Rattle.ssq_meaning.specs.Operator.{operator_of}
-use Rattle.ssq_meaning.specs.Epochs.{joined, fed_between, fed, seen, timely, bucket}
+use Rattle.ssq_meaning.specs.Epochs.{joined, fed_between, fed, seen, timely, bucket, out}
 use Rattle.ssq_sink.specs.Sink.{sink_text}
 use Rattle.ssq_core.specs.Course.{Cuts}
 use Rattle.ssq_course.specs.Setting.{Setting, parts_in, cuts_of, watermark_at, rows_at}
@@ -50,6 +50,11 @@ pub record AreShown (s : Setting) (cuts : Cuts) (e : ℕ) (shown : List (List Va
 abbrev pub PartitionsShowRows : Type 0
 PartitionsShowRows = (s : Setting) (cuts : Cuts) (e : ℕ) (shown : List (List Values)) → s.job.bound.shape ≡ Plain → 1 ≤ s.job.partitions → AreShown s cuts e shown
     → sink_text (output_names s.job.bound) (joined shown) ≡ rows_at s cuts e
+
+-- and there are as many as the epoch shows
+abbrev pub PartitionsCountRows : Type 0
+PartitionsCountRows = (s : Setting) (cuts : Cuts) (e : ℕ) (shown : List (List Values)) → s.job.bound.shape ≡ Plain → 1 ≤ s.job.partitions → AreShown s cuts e shown
+    → length (joined shown) ≡ length (out s.job.bound (parts_in s) (cuts_of cuts) e)
 
 -- the greatest times of the streams, once the greatest time of a part of this stream is taken in
 abbrev pub raised_by : ℕ → Option ℤ → (ℕ → Option ℤ) → ℕ → Option ℤ

@@ -37,7 +37,7 @@ pub record IsPlain (bound : Bound) : Type 0 where
   pub events : All HasEventIfDelayed bound.streams
 
 -- The setting is of this query, with 1 to 64 partitions, which are those that are asked for, where that is asked; and of the parts of
--- its streams, with at least the lines that were found.
+-- its streams, with one log for each.
 pub record IsSettingOf (s : Setting) (bound : Bound) (partitions : Option ℕ) (lens : Lens) : Type 0 where
   pub query : s.job.bound ≡ bound
   pub plain : IsPlain bound
@@ -46,4 +46,4 @@ pub record IsSettingOf (s : Setting) (bound : Bound) (partitions : Option ℕ) (
   pub few_partitions : s.job.partitions ≤ 64
   pub as_asked : ForSome partitions (λ count. s.job.partitions ≡ count)
   pub parts : s.job.parts ≡ counts_of lens.streams
-  pub found : AreFound (found_lines lens) s.lines
+  pub counted : length s.lines ≡ length (found_lines lens)

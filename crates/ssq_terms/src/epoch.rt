@@ -1,6 +1,6 @@
 //! What the tasks of an epoch bring, put together.
 
-ghost use Rattle.ssq_terms.specs.Rows.{PartsFeedPartitions, PartsWithoutLinesAreQuiet, PartitionsShowRows, PartsRaiseTimes};
+ghost use Rattle.ssq_terms.specs.Rows.{PartsFeedPartitions, PartsWithoutLinesAreQuiet, PartitionsShowRows, PartitionsCountRows, PartsRaiseTimes};
 
 /// The law of the epoch's tasks: what the map tasks bring is what each partition is fed and what the commit tells, and what the reduce
 /// tasks of a query that keeps nothing show is what the epoch shows.
@@ -8,5 +8,6 @@ pub fn tasks_bring_the_epoch()
     ensures fed { PartsFeedPartitions }
     ensures quiet { PartsWithoutLinesAreQuiet }
     ensures shown { PartitionsShowRows }
+    ensures counted { PartitionsCountRows }
     ensures seen { PartsRaiseTimes }
 {}

@@ -1,6 +1,6 @@
 //! The job that a checkpoint is opened for.
 
-ghost use Rattle.ssq_terms.specs.Laws.{JobIsWanted, FirstRecordIsJobs, PartsAreFound};
+ghost use Rattle.ssq_terms.specs.Laws.{JobIsWanted, FirstRecordIsJobs, PartsAreFound, PartsCanBeWritten};
 
 /// The law of the opening: the job of a query that keeps nothing is the one that is wanted, where its setting is that of the query,
 /// the partitions and the lines that were found.
@@ -10,4 +10,5 @@ pub fn job_is_wanted()
     ensures first { FirstRecordIsJobs }
     // Its parts begin where those that were found do.
     ensures parts { PartsAreFound }
+    ensures fit { PartsCanBeWritten }
 {}

@@ -1,4 +1,4 @@
-use Rattle.ssq_terms.proofs.Wanted.{job_wanted, first_record, parts_found}
+use Rattle.ssq_terms.proofs.Wanted.{job_wanted, first_record, parts_found, fit}
 use Rattle.ssq_terms.proofs.job.job_is_wanted.Goals as goal
 
 pub returns-clause-wanted : goal.returns-clause-wanted
@@ -9,3 +9,6 @@ returns-clause-first c = first_record
 
 pub returns-clause-parts : goal.returns-clause-parts
 returns-clause-parts c = parts_found
+
+pub returns-clause-fit : goal.returns-clause-fit
+returns-clause-fit c = fit
