@@ -66,7 +66,7 @@ pub record IsLedger (tells : Type 0) (o : Opening) (opened : History) (r : Scope
   pub leads : Leads tells o.job r o.due (first_state o r opened) entries (state until core (cuts_after o r entries))
   pub start : IsStart r o.start
   -- what its numbers rest on
-  pub terms : Terms o.job r o.due
+  pub terms : tells → Terms o.job r o.due
   pub plans : TellsPlans o.job
   -- there is room for all entries that can still come
   pub room : length entries + need core ≤ capacity

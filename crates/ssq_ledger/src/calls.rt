@@ -45,7 +45,7 @@ impl<D: Disk, O: Opening> Ledger<D, O> {
     /// Takes a task back: with its result, or with what it met in place of one. Answers the Stop that this brings about.
     pub fn report(&mut self, id: TaskId, fault: Option<Cause>) -> Result<(), Cause>
         requires may { May self.old.scope self.old.core (entry.Report id fault) }
-        requires right { (D.tells × O.tells) → IsTrue O.opening self.old id fault }
+        requires right { (D.tells × O.tells self.old.opening self.old.scope) → IsTrue O.opening self.old id fault }
         ensures did { self.new ≡ did self.old self.old.disk (entry.Report id fault ∷ []) }
         ensures answer { result ≡ answer (due self.old.core id fault) }
     {
@@ -57,7 +57,7 @@ impl<D: Disk, O: Opening> Ledger<D, O> {
     /// Publishes the rows of the epoch that runs. It takes no memory.
     pub fn publish_rows(&mut self, file: <D::Stage as Stage>::Sealed) -> Result<(), DiskFault>
         requires may { May self.old.scope self.old.core (entry.OutFile self.old.core.front.committed) }
-        requires right { (D.tells × O.tells) → D.Stage.sealed file ≡ truth ((O.opening self.old.opening).job.course (cuts_of O.opening self.old)) (name.Out self.old.core.front.committed) }
+        requires right { (D.tells × O.tells self.old.opening self.old.scope) → D.Stage.sealed file ≡ truth ((O.opening self.old.opening).job.course (cuts_of O.opening self.old)) (name.Out self.old.core.front.committed) }
         ensures done { OnOk result (self.new ≡ did self.old self.new.disk (entry.OutFile self.old.core.front.committed ∷ [])) }
         ensures stopped { OnErr result ((self.new ≡ did self.old self.new.disk (entry.Stop cause.DiskFault ∷ [])) × Rises (D.faults self.old.disk) (D.faults self.new.disk)) }
         ensures counted { D.faults self.old.disk ≤ D.faults self.new.disk }
@@ -105,8 +105,8 @@ impl<D: Disk, O: Opening> Ledger<D, O> {
     /// no memory.
     pub fn commit(&mut self, file: <D::Stage as Stage>::Sealed, due: bool) -> Result<(), DiskFault>
         requires ready { ready_of self.old.scope self.old.core ≡ ready.Commit }
-        requires right { (D.tells × O.tells) → D.Stage.sealed file ≡ truth ((O.opening self.old.opening).job.course (cuts_of O.opening self.old)) (name.Commit self.old.core.front.committed) }
-        requires due { (D.tells × O.tells) → due ≡ (O.opening self.old.opening).due (cuts_of O.opening self.old) (self.old.core.front.committed + 1) }
+        requires right { (D.tells × O.tells self.old.opening self.old.scope) → D.Stage.sealed file ≡ truth ((O.opening self.old.opening).job.course (cuts_of O.opening self.old)) (name.Commit self.old.core.front.committed) }
+        requires due { (D.tells × O.tells self.old.opening self.old.scope) → due ≡ (O.opening self.old.opening).due (cuts_of O.opening self.old) (self.old.core.front.committed + 1) }
         ensures done { OnOk result (self.new ≡ did self.old self.new.disk (entry.Commit self.old.core.front.committed due ∷ [])) }
         ensures stopped { OnErr result ((self.new ≡ did self.old self.new.disk (entry.Stop cause.DiskFault ∷ [])) × Rises (D.faults self.old.disk) (D.faults self.new.disk)) }
         ensures counted { D.faults self.old.disk ≤ D.faults self.new.disk }
@@ -131,7 +131,7 @@ impl<D: Disk, O: Opening> Ledger<D, O> {
     pub fn plan(&mut self, alloc: Global, watermark: Option<i64>) -> Result<(), Cause>
         requires ready { ready_of self.old.scope self.old.core ≡ ready.Plan }
         requires printed { ForSome watermark IsStampTime }
-        requires right { (D.tells × O.tells) → watermark ≡ ((O.opening self.old.opening).job.course (cuts_of O.opening self.old)).watermark self.old.core.front.planned }
+        requires right { (D.tells × O.tells self.old.opening self.old.scope) → watermark ≡ ((O.opening self.old.opening).job.course (cuts_of O.opening self.old)).watermark self.old.core.front.planned }
         ensures done { OnOk result (self.new ≡ did self.old self.new.disk (entry.Plan self.old.core.front.planned ∷ [])) }
         ensures stopped { IfErr result (λ f. (self.new ≡ did self.old self.new.disk (entry.Stop f ∷ [])) × IsUnplanned self.old.core.front.planned (D.faults self.old.disk) (D.faults self.new.disk) f) }
         ensures full { self.old.core.front.planned ≡ 4294967295 → IsErrOf result cause.Full }
@@ -149,7 +149,7 @@ impl<D: Disk, O: Opening> Ledger<D, O> {
     fn publish_plan(&mut self, alloc: Global, next: Next) -> Result<(), Cause>
         requires may { May self.old.scope self.old.core (entry.Plan self.old.core.front.planned) }
         requires board { next.board ≡ after self.old.scope self.old.core (entry.Plan self.old.core.front.planned) }
-        requires right { (D.tells × O.tells) → next.text ≡ truth ((O.opening self.old.opening).job.course (cuts_by self.old.scope (cuts_of O.opening self.old) self.old.core (entry.Plan self.old.core.front.planned))) (name.Plan self.old.core.front.planned) }
+        requires right { (D.tells × O.tells self.old.opening self.old.scope) → next.text ≡ truth ((O.opening self.old.opening).job.course (cuts_by self.old.scope (cuts_of O.opening self.old) self.old.core (entry.Plan self.old.core.front.planned))) (name.Plan self.old.core.front.planned) }
         ensures done { OnOk result (self.new ≡ did self.old self.new.disk (entry.Plan self.old.core.front.planned ∷ [])) }
         ensures stopped { IfErr result (λ f. (self.new ≡ did self.old self.new.disk (entry.Stop f ∷ [])) × HasRisen f (D.faults self.old.disk) (D.faults self.new.disk)) }
         ensures counted { D.faults self.old.disk ≤ D.faults self.new.disk }

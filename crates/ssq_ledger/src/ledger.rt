@@ -20,10 +20,11 @@ use std::snapshot::Snapshot;
 
 /// What was opened, as contracts see it.
 pub trait Opening: Drop {
+    ghost use Rattle.ssq_board.specs.Core.{Scope};
     ghost use Rattle.ssq_ledger.specs.Shown.{Opening};
 
-    /// Whether the logs tell what they hold.
-    ghost tells: { Type 0 };
+    /// Whether the logs tell what they hold, and what was opened is the job's own, with this before the round.
+    ghost tells: { Self → Scope → Type 0 };
     /// The job, its cuts so far, when an epoch without lines is due, and where the round begins.
     ghost opening: { Self → Opening };
 }
@@ -44,7 +45,7 @@ impl<D: Disk, O: Opening> Model for Ledger<D, O> {
 
     ghost view = { λ s. record { opening = s.opening.value; opened = s.opened.value; scope = s.scope; disk = s.disk; core = s.board; history = s.entries.items } };
 
-    ghost invariant = { λ s. IsLedger (D.tells × O.tells) (O.opening s.opening.value) (D.history s.opened.value) s.scope (D.history s.disk) s.board s.entries.items (vec_capacity s.entries) };
+    ghost invariant = { λ s. IsLedger (D.tells × O.tells s.opening.value s.scope) (O.opening s.opening.value) (D.history s.opened.value) s.scope (D.history s.disk) s.board s.entries.items (vec_capacity s.entries) };
 }
 
 impl<D: Disk, O: Opening> Ledger<D, O> {
@@ -60,7 +61,7 @@ impl<D: Disk, O: Opening> Ledger<D, O> {
         requires opened { start ≡ (O.opening opening.value).start }
         requires numbers { start.is_planned ≡ true → start.committed < 4294967295 }
         requires few { length scope.available + scope.partitions ≤ 2 ^ 32 }
-        requires terms { Terms (O.opening opening.value).job scope (O.opening opening.value).due }
+        requires terms { (D.tells × O.tells opening.value scope) → Terms (O.opening opening.value).job scope (O.opening opening.value).due }
         requires plans { TellsPlans (O.opening opening.value).job }
         ensures made { IfOk result (λ made. made ≡ record { opening = opening.value; opened = disk; scope = scope; disk = disk; core = first scope (O.opening opening.value).start; history = [] }) }
         ensures back { IfErr result (λ back. back ≡ disk) }
@@ -81,13 +82,13 @@ impl<D: Disk, O: Opening> Ledger<D, O> {
 
     /// The law of the ledger: its history is legal from what was opened, and its numbers rest on what the job owes.
     pub fn is_legal(&self)
-        ensures legal { IsLegal (D.tells × O.tells) D.history O.opening self.now }
-        ensures here { (D.tells × O.tells) → LeadsHere (D.tells × O.tells) D.history O.opening self.now }
+        ensures legal { IsLegal (D.tells × O.tells self.now.opening self.now.scope) D.history O.opening self.now }
+        ensures here { (D.tells × O.tells self.now.opening self.now.scope) → LeadsHere (D.tells × O.tells self.now.opening self.now.scope) D.history O.opening self.now }
         // What it knows and which cuts are planned follow from its entries, one by one.
         ensures core { self.now.core ≡ after_all self.now.scope (first self.now.scope (O.opening self.now.opening).start) self.now.history }
         ensures cuts { (disk : _) (e : Entry) → cuts_of O.opening (did self.now disk (e ∷ [])) ≡ cuts_by self.now.scope (cuts_of O.opening self.now) self.now.core e }
         ensures start { IsStart self.now.scope (O.opening self.now.opening).start }
-        ensures terms { Terms (O.opening self.now.opening).job self.now.scope (O.opening self.now.opening).due }
+        ensures terms { (D.tells × O.tells self.now.opening self.now.scope) → Terms (O.opening self.now.opening).job self.now.scope (O.opening self.now.opening).due }
         ensures plans { TellsPlans (O.opening self.now.opening).job }
     {
         let _ = &self.entries;

@@ -8,7 +8,7 @@ use Rattle.ssq_ledger.proofs.ledger.Ledger.new.Goals as goal
 pub invariant_of-result : goal.invariant_of-result
 invariant_of-result g c =
     let o = g.O.Opening.opening c.args.opening.value in
-    let tells = g.D.Disk.tells × g.O.Opening.tells in
+    let tells = g.D.Disk.tells × g.O.Opening.tells c.args.opening.value c.args.scope in
     let r = c.args.scope in
     let disk = g.D.Disk.history c.args.disk in
     let core : first r o.start ≡ c.in-Ok.board = sym (c.in-Ok.ensures.board ∙ ap (first r) c.requires.opened) in

@@ -55,14 +55,14 @@ invariant_of-self-in-Ok-publish g c =
     let m : May s.scope s.board (entry.Plan s.board.front.planned) = subst (λ (x : Shown g.row.D.Denot g.row.O.Denot). May x.scope x.core (entry.Plan x.core.front.planned)) (sym c.self.view_is) c.requires.may in
     let is : c.args.next.board ≡ after s.scope s.board (entry.Plan s.board.front.planned) = subst (λ (x : Shown g.row.D.Denot g.row.O.Denot). c.args.next.board ≡ after x.scope x.core (entry.Plan x.core.front.planned)) (sym c.self.view_is) c.requires.board in
     let o = g.O.Opening.opening s.opening.value in
-    let tells = g.D.Disk.tells × g.O.Opening.tells in
+    let tells = g.D.Disk.tells × g.O.Opening.tells s.opening.value s.scope in
     let cuts = cuts_by s.scope (cuts_after o s.scope s.entries.items) s.board (entry.Plan s.board.front.planned) in
     let epoch = ap (λ (f : Front). f.planned) c.front-epoch.ensures in
     let e = entry.Plan c.front-epoch.result.planned in
     let m' : May s.scope s.board e = (m.0, epoch, m.2, m.3, m.4, subst (λ (n : ℕ). n < 4294967295) (sym epoch) m.5) in
     let right : tells → g.D.Stage.Stage.sealed c.in-Ok.file ≡ truth (o.job.course cuts) (name.Plan c.front-epoch.result.planned) =
     (λ t. c.in-Ok.ensures.sealed t.0 ∙ c.as_slice.ensures
-    ∙ subst (λ (x : Shown g.row.D.Denot g.row.O.Denot). c.args.next.text ≡ truth ((g.O.Opening.opening x.opening).job.course (cuts_by x.scope (cuts_of g.O.Opening.opening x) x.core (entry.Plan x.core.front.planned))) (name.Plan x.core.front.planned)) (sym c.self.view_is) (c.requires.right t)
+    ∙ subst (λ (x : Shown g.row.D.Denot g.row.O.Denot). g.D.Disk.tells × g.O.Opening.tells x.opening x.scope → c.args.next.text ≡ truth ((g.O.Opening.opening x.opening).job.course (cuts_by x.scope (cuts_of g.O.Opening.opening x) x.core (entry.Plan x.core.front.planned))) (name.Plan x.core.front.planned)) (sym c.self.view_is) c.requires.right t
     ∙ ap (λ n. truth (o.job.course cuts) (name.Plan n)) (sym epoch)) in
     let items = c.push_reserved.ensures.items ∙ ap (λ (l : List Entry). l ++ e ∷ []) c.make_room.ensures.items in
     let q = c.in-Some.ensures.room in
@@ -76,14 +76,14 @@ invariant_of-self-in-Err-publish g c =
     let s = c.self.inside in
     let m : May s.scope s.board (entry.Plan s.board.front.planned) = subst (λ (x : Shown g.row.D.Denot g.row.O.Denot). May x.scope x.core (entry.Plan x.core.front.planned)) (sym c.self.view_is) c.requires.may in
     let o = g.O.Opening.opening s.opening.value in
-    let tells = g.D.Disk.tells × g.O.Opening.tells in
+    let tells = g.D.Disk.tells × g.O.Opening.tells s.opening.value s.scope in
     let cuts = cuts_by s.scope (cuts_after o s.scope s.entries.items) s.board (entry.Plan s.board.front.planned) in
     let epoch = ap (λ (f : Front). f.planned) c.front-epoch.ensures in
     let e = entry.Plan c.front-epoch.result.planned in
     let m' : May s.scope s.board e = (m.0, epoch, m.2, m.3, m.4, subst (λ (n : ℕ). n < 4294967295) (sym epoch) m.5) in
     let right : tells → g.D.Stage.Stage.sealed c.in-Ok.file ≡ truth (o.job.course cuts) (name.Plan c.front-epoch.result.planned) =
     (λ t. c.in-Ok.ensures.sealed t.0 ∙ c.as_slice.ensures
-    ∙ subst (λ (x : Shown g.row.D.Denot g.row.O.Denot). c.args.next.text ≡ truth ((g.O.Opening.opening x.opening).job.course (cuts_by x.scope (cuts_of g.O.Opening.opening x) x.core (entry.Plan x.core.front.planned))) (name.Plan x.core.front.planned)) (sym c.self.view_is) (c.requires.right t)
+    ∙ subst (λ (x : Shown g.row.D.Denot g.row.O.Denot). g.D.Disk.tells × g.O.Opening.tells x.opening x.scope → c.args.next.text ≡ truth ((g.O.Opening.opening x.opening).job.course (cuts_by x.scope (cuts_of g.O.Opening.opening x) x.core (entry.Plan x.core.front.planned))) (name.Plan x.core.front.planned)) (sym c.self.view_is) c.requires.right t
     ∙ ap (λ n. truth (o.job.course cuts) (name.Plan n)) (sym epoch)) in
     let items = c.halt-in-Err-publish.ensures.items ∙ ap (λ (l : List Entry). l ++ entry.Stop cause.DiskFault ∷ []) c.make_room.ensures.items in
     let kept : s.entries.cap ≤ c.halt-in-Err-publish.new.entries.cap = (let k = c.halt-in-Err-publish.ensures.capacity in let q : s.entries.cap ≤ c.make_room.new.entries.cap = c.make_room.ensures.kept in omega arith) in
