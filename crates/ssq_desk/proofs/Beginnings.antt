@@ -1,80 +1,49 @@
 -- What is so of a desk where its round begins.
-use Rattle.std.proofs.Common.{◌≡◌, ◌⊎◌, ◌<◌, ◌≤◌, ◌+◌, ◌-◌, ◌^◌, ◌++◌, ◌==◌, [], ◌∷◌, ℕ, ℤ, zero, suc, Bool, true, false, true≢false, List, map, length, get_or, nat_lt, Option, Some, None, inl, inr, refl, sym, ap, ◌∙◌, subst, arith, add-one}
-use Rattle.std.specs.Prelude.{All, IfSome, slice_get, is_some}
-use Rattle.std.specs.List.{cons_option}
-use Rattle.std.proofs.lemmas.Bool.{eq-eqb, ne_eqb, cases_lt, ltb-true}
-use Rattle.std.proofs.lemmas.List.{append_assoc, append-nil, map-append, length-map, get_or-map}
+use Rattle.std.proofs.Common.{◌≡◌, ◌<◌, ◌≤◌, ◌+◌, ◌-◌, ◌^◌, ◌==◌, [], ◌∷◌, ℕ, ℤ, zero, suc, true, false, true≢false, List, map, length, get_or, nat_lt, Option, Some, None, inl, inr, refl, sym, ap, ◌∙◌, subst, arith, add-one}
+use Rattle.std.specs.Prelude.{All, IfSome, IsTrue, slice_get, is_some}
+use Rattle.std.specs.List.{cons_option, list_all, zip}
+use Rattle.std.proofs.lemmas.Bool.{eq-eqb, eqb-true, ne_eqb, cases_lt, ltb-true}
+use Rattle.std.proofs.lemmas.List.{append-nil, length-map, get_or_default}
 use Rattle.std.proofs.lemmas.List.Elements.{All-nil, All-cons, All-head, All-tail}
 use mathlib.Core.Option.{some, some-injective, some-ne-none}
 use lib.ListN.{get_elem?}
-use Rattle.ssq_outside.specs.History.{History, files_now}
 use Rattle.ssq_shape.specs.declared.bound.Bound.{Bound}
 use Rattle.ssq_shape.specs.declared.bound.Stream.{Stream}
 use Rattle.ssq_meaning.specs.Meaning.{Line}
 use Rattle.ssq_meaning.specs.Parts.{Part, parts_from, parts_of}
 use Rattle.ssq_meaning.specs.Cut.{Cuts as Offsets}
-use Rattle.ssq_meaning.specs.Times.{Delay, delay_of, delays, delays_from, later}
+use Rattle.ssq_meaning.specs.Times.{Delay, delay_of, delays_from, later}
 use Rattle.ssq_meaning.specs.Epochs.{seen}
+use Rattle.ssq_meaning.proofs.Causal.{says_same}
 use Rattle.ssq_water.specs.Water.{seen_at}
 use Rattle.ssq_plans.specs.declared.plan.Plan.{Plan}
 use Rattle.ssq_plans.specs.declared.part.PartEnd.{PartEnd}
 use Rattle.ssq_plans.specs.declared.seen.SeenBy.{SeenBy}
 use Rattle.ssq_core.specs.Course.{Cuts, Ends, plan_of}
-use Rattle.ssq_course.specs.Setting.{Setting, parts_in, end_at, first_ends, course_of, job_of, seen_at as lines_at, cuts_of as offsets}
-use Rattle.ssq_open.specs.declared.wanted.Lens.{Lens}
+use Rattle.ssq_core.proofs.Holding.{both_are}
+use Rattle.ssq_course.specs.Setting.{Setting, parts_in, end_at, first_ends, course_of, job_of, seen_at as lines_at, cuts_of as offsets, cut_of as cut_numbers}
+use Rattle.ssq_open.specs.declared.streams.Watermarked.{Watermarked}
 use Rattle.ssq_open.specs.declared.wanted.Opened.{Opened}
-use Rattle.ssq_open.specs.Lens.{asked, counts_of, found_in, found_from}
-use Rattle.ssq_open.specs.Looking.{begins, begins_from}
-use Rattle.ssq_open.specs.Looking.{parts_of as first_of}
-use Rattle.ssq_open.specs.Epochs.{start_of, starts, cut_of, last_ends, no_plan}
-use Rattle.ssq_open.specs.Watermarks.{mark_by}
-use Rattle.ssq_task.specs.Committing.{told, AreOwn}
+use Rattle.ssq_open.specs.Epochs.{cut_of, no_plan, follows, keeps_up}
+use Rattle.ssq_open.specs.Watermarks.{watermarked, watermarked_from, watermarked_by, is_line_of}
+use Rattle.ssq_task.specs.Committing.{told}
 use Rattle.ssq_task.proofs.Commits.{told_more, none_before, later_none, streams_of, places_of}
-use Rattle.ssq_terms.specs.Setting.{AreFound, HasEventIfDelayed, found_lines}
 use Rattle.ssq_terms.specs.Laws.{never}
-use Rattle.ssq_terms.proofs.Wanted.{job_wanted, parts_found}
+use Rattle.ssq_terms.proofs.Wanted.{parts_found}
 use Rattle.ssq_terms.proofs.Dealing.{have_terms}
-use Rattle.ssq_terms.proofs.Printing.{numbered}
 use Rattle.ssq_terms.proofs.Unmarked.{unmarked_none}
 use Rattle.ssq_board.specs.Core.{Scope}
-use Rattle.ssq_board.specs.Shown.{Start, IsStart, first, planned_by}
+use Rattle.ssq_board.specs.Shown.{IsStart, first, planned_by}
 use Rattle.ssq_board.specs.Follows.{Terms}
-use Rattle.ssq_board.specs.declared.front.Place.TheVariants as place
-use Rattle.ssq_board.proofs.Lists.{at_length}
 use Rattle.ssq_ledger.specs.Shown.{TellsPlans}
-use Rattle.ssq_ledger.proofs.Planning.{marks_follow}
 use Rattle.ssq_desk.specs.declared.desk.Source.{Source}
-use Rattle.ssq_desk.specs.Round.{IsRound, start_at}
+use Rattle.ssq_desk.specs.Round.{IsRound, IsOwned, start_at}
 use Rattle.ssq_desk.specs.First.{sources_of}
-use Rattle.ssq_desk.specs.Contents.{AreSeen, IsLogOf, IsSourceOf}
+use Rattle.ssq_desk.specs.Contents.{AreSeen}
 use Rattle.ssq_desk.specs.Whole.{ArePlans}
-use Rattle.ssq_desk.proofs.Betweens.{available_count}
 use Rattle.ssq_desk.proofs.Ends.{planned_first}
 
--- ---- where the parts begin
-
-own_begin : (stream at : ℕ) (own : List ℕ) → first_of stream at ++ starts (found_in stream at own) ≡ first_of stream (at + length own)
-own_begin stream at [] = append-nil (first_of stream at) ∙ ap (first_of stream) (let e : at ≡ at + 0 = omega arith in e)
-own_begin stream at (n ∷ own) =
-    let end : PartEnd = record { stream = stream; part = at; end = 0 } in
-    let rest = starts (found_in stream (at + 1) own) in
-    sym (append_assoc (first_of stream at) (end ∷ []) rest) ∙ ap (λ (k : ℕ). first_of stream k ++ rest) (sym (add-one at)) ∙ own_begin stream (at + 1) own
-    ∙ ap (first_of stream) (let e : at + 1 + length own ≡ at + length (n ∷ own) = omega arith in e)
-
-all_begin : (stream : ℕ) (streams : List (List ℕ)) → starts (found_from stream streams) ≡ begins_from stream (counts_of streams)
-all_begin stream [] = refl
-all_begin stream (own ∷ rest) =
-    let here : starts (found_in stream 0 own) ≡ first_of stream (length own) = own_begin stream 0 own ∙ ap (first_of stream) (let e : 0 + length own ≡ length own = omega arith in e) in
-    let more = all_begin (stream + 1) rest in
-    map-append start_of (found_in stream 0 own) (found_from (stream + 1) rest) ∙ (λ i. here i ++ more i)
-
 -- ---- the parts and their lines
-
-found_count : (found : List ℕ) (lines : List (List Line)) → AreFound found lines → length lines ≡ length found
-found_count [] [] are = refl
-found_count [] (own ∷ lines) are = absurd are
-found_count (n ∷ found) [] are = absurd are
-found_count (n ∷ found) (own ∷ lines) are = omega (arith, found_count found lines are.2)
 
 abbrev part_or : Part → Option Part → Part
 part_or d None = d
@@ -203,93 +172,113 @@ nothing_seen : (query : Bound) (parts : List Part) (cuts : Offsets) (stream : �
 unfolding seen
 nothing_seen query parts cuts stream = refl
 
--- lines that are one for each watermarked stream are of streams of the query
-own_below : (lines : List SeenBy) (ds : List Delay) (n : ℕ) → streams_of lines ≡ places_of ds → All (λ (d : Delay). d.0 < n) ds → All (λ (line : SeenBy). line.stream < n) lines
-own_below [] ds n own below = All-nil (λ (line : SeenBy). line.stream < n)
-own_below (line ∷ lines) [] n own below = absurd (let e = ap length own in omega arith)
-own_below (line ∷ lines) (d ∷ ds) n own below =
-    All-cons (λ (line : SeenBy). line.stream < n) line lines (let e = ap (λ (l : List ℕ). get_or l 0 0) own in let b = All-head (λ (d : Delay). d.0 < n) d ds below in subst (λ (m : ℕ). m < n) (sym e) b)
-    (own_below lines ds n (ap (λ (l : List ℕ). rest_of l) own) (All-tail (λ (d : Delay). d.0 < n) d ds below))
+-- a watermarked stream is one of the query
+abbrev IsBelow : ℕ → Watermarked → Type 0
+IsBelow n w = w.stream < n
+
+marked_below : (at : ℕ) (streams : List Stream) (n : ℕ) → at + length streams ≤ n → All (IsBelow n) (watermarked_from at streams)
+marked_below at [] n le = All-nil (IsBelow n)
+marked_below at (s ∷ rest) n le = by s.delay (marked_below (at + 1) rest n (omega (arith, le)))
   where
-    rest_of : List ℕ → List ℕ
-    rest_of [] = []
-    rest_of (x ∷ xs) = xs
+    by : (delay : Option ℤ) → All (IsBelow n) (watermarked_from (at + 1) rest) → All (IsBelow n) (watermarked_by at delay (watermarked_from (at + 1) rest))
+    by None more = more
+    by (Some late) more = All-cons (IsBelow n) (record { stream = at; delay = late }) (watermarked_from (at + 1) rest) (omega (arith, le)) more
+
+-- lines that are one for each of these are of streams of the query
+own_below : (ws : List Watermarked) (lines : List SeenBy) (n : ℕ) → length ws ≡ length lines → list_all is_line_of (zip ws lines) ≡ true → All (IsBelow n) ws → All (λ (line : SeenBy). line.stream < n) lines
+own_below ws [] n count own below = All-nil (λ (line : SeenBy). line.stream < n)
+own_below [] (line ∷ lines) n count own below = absurd (omega (arith, count))
+own_below (w ∷ ws) (line ∷ lines) n count own below =
+    let both = both_are (w.stream == line.stream) (list_all is_line_of (zip ws lines)) own in
+    All-cons (λ (line : SeenBy). line.stream < n) line lines (subst (λ (m : ℕ). m < n) (eqb-true w.stream line.stream both.0) (All-head (IsBelow n) w ws below))
+    (own_below ws lines n (omega (arith, count)) both.1 (All-tail (IsBelow n) w ws below))
 
 -- ---- the round
 
+-- the same parts have as many ends
+followed : (before ends : Ends) → IsTrue (follows before ends) → length ends ≡ length before
+followed before ends is = (let both = both_are (length before == length ends) (list_all keeps_up (zip before ends)) is in sym (eqb-true (length before) (length ends) both.0))
+
 -- each cut that was opened has one end for each part
-long_ends : (firsts : Ends) (plans : List Plan) (n k : ℕ) → length firsts ≡ n → All (λ (plan : Plan). length plan.ends ≡ n) plans → k ≤ length plans → length (cut_of firsts plans k) ≡ n
-long_ends firsts plans n zero count all le = count
-long_ends firsts plans n (suc k) count all le = all k (no_plan firsts) (omega (arith, le))
+long_ends : (firsts : Ends) (plans : List Plan) (n k : ℕ) → length firsts ≡ n → ((e : ℕ) → e < length plans → IsTrue (follows (cut_of firsts plans e) (cut_of firsts plans (e + 1)))) → k ≤ length plans
+    → length (cut_of firsts plans k) ≡ n
+long_ends firsts plans n zero count follow le = count
+long_ends firsts plans n (suc k) count follow le =
+    subst (λ (m : ℕ). length (cut_of firsts plans m) ≡ n) (add-one k)
+    (followed (cut_of firsts plans k) (cut_of firsts plans (k + 1)) (follow k (omega (arith, le))) ∙ long_ends firsts plans n k count follow (omega (arith, le)))
 
-module _ (tells : Type 0) (s : Setting) (found : Opened) (opened : History) (r : Scope) (is : IsRound tells s found opened r) where
-  pub firsts : first_ends s ≡ begins s.job.parts
-  firsts = (parts_found s s.job.bound is.asks is.lens is.setting).1 ∙ all_begin 0 is.lens.streams ∙ ap begins (sym is.setting.parts)
+-- the plans of a job tell where its cuts end, and a watermark that hangs on the epochs before
+pub tells_plans : (s : Setting) → TellsPlans (job_of s)
+tells_plans s = record {
+  ends = λ cuts e. refl;
+  watermark = λ cuts other e same. (says_same s.job.bound (parts_in s) (offsets cuts) (offsets other) e (λ k le. ap cut_numbers (same k le))).same_watermark e (omega arith);
+}
 
+module _ (s : Setting) (found : Opened) (r : Scope) (is : IsRound s found r) where
   firsts_count : length (first_ends s) ≡ length (parts_in s)
   firsts_count = length-map (parts_in s) (λ (part : Part). end_at part 0)
 
-  pub logs_count : length s.lines ≡ length (parts_in s)
-  logs_count =
-      found_count (found_lines is.lens) s.lines is.setting.found ∙ ap length (sym is.scope.available) ∙ available_count s is.asks is.lens r is.setting is.scope
-
   ends_count : (k : ℕ) → k ≤ length found.plans → length (cut_of (first_ends s) found.plans k) ≡ length (parts_in s)
-  ends_count k le = long_ends (first_ends s) found.plans (length (parts_in s)) k firsts_count is.ends le
+  ends_count k le = long_ends (first_ends s) found.plans (length (parts_in s)) k firsts_count is.numbers.follow le
 
   pub from_count : length (start_at (first_ends s) found).from ≡ length (parts_in s)
-  from_count = ends_count found.committed is.before
+  from_count = ends_count found.committed is.numbers.before
 
   pub start_is : IsStart r (start_at (first_ends s) found)
-  start_is =
-      let to = ends_count (length found.plans) (omega arith) in record {
-        from = from_count ∙ sym to;
-        available = available_count s is.asks is.lens r is.setting is.scope ∙ sym to;
-      }
+  start_is = (let to = ends_count (length found.plans) (omega arith) in record { from = from_count ∙ sym to; available = is.parts ∙ sym to })
 
   pub few_planned : nat_lt found.committed (length found.plans) ≡ true → found.committed < 4294967295
-  few_planned planned = (let less = ltb-true found.committed (length found.plans) planned in let few = is.few_plans in omega (arith, less, few))
+  few_planned planned = (let less = ltb-true found.committed (length found.plans) planned in let few = is.numbers.few_plans in omega (arith, less, few))
 
-  pub few_streams : length s.job.parts ≤ 2 ^ 32
-  few_streams = subst (λ (n : ℕ). n ≤ 2 ^ 32) (sym (ap length is.setting.parts ∙ length-map is.lens.streams length ∙ is.setting.asked.each_stream)) is.setting.asked.few_streams
-
-  pub terms : Terms (job_of s) r never
-  terms = (have_terms s s.job.bound is.asks is.lens r is.setting is.scope).0
-
-  pub tells_plans : TellsPlans (job_of s)
-  tells_plans =
-      let w = job_wanted s s.job.bound is.asks is.lens is.setting in
-      let streams = (asked s.job.bound is.asks is.lens).streams in
-      marks_follow (job_of s) (mark_by streams) w.causal w.ends w.first_mark w.next_mark
+  pub few_parts : length s.job.parts ≤ 2 ^ 32
+  few_parts = subst (λ (n : ℕ). n ≤ 2 ^ 32) (sym is.streams) is.few_streams
 
   pub lines_below : All (λ (line : SeenBy). line.stream < length s.job.bound.streams) found.seen
-  lines_below = elim is.seen [
+  lines_below = elim is.numbers.seen [
     | inl none ↦ subst (λ (lines : List SeenBy). All (λ (line : SeenBy). line.stream < length s.job.bound.streams) lines) (sym none) (All-nil (λ (line : SeenBy). line.stream < length s.job.bound.streams))
-    | inr own ↦ own_below found.seen (delays s.job.bound) (length s.job.bound.streams) own (numbered 0 s.job.bound.streams (length s.job.bound.streams) (omega arith))
+    | inr own ↦ (let both = both_are (length (watermarked s.job.bound.streams) == length found.seen) (list_all is_line_of (zip (watermarked s.job.bound.streams) found.seen)) own in
+        own_below (watermarked s.job.bound.streams) found.seen (length s.job.bound.streams) (eqb-true (length (watermarked s.job.bound.streams)) (length found.seen) both.0) both.1
+        (marked_below 0 s.job.bound.streams (length s.job.bound.streams) (omega arith)))
   ]
 
-  -- the cuts that a desk of the machine opens with are those that were opened
-  same_cuts : (t : tells) → (is.desk t).desk.cuts ≡ cut_of (first_ends s) found.plans
-  same_cuts t = (is.desk t).cuts ∙ ap (λ (ends : Ends). cut_of ends found.plans) (sym (parts_found s s.job.bound is.asks is.lens is.setting).1)
+  -- each plan ends where the next cut is
+  pub planned_ends : (e : ℕ) (default : Plan) → e < length found.plans → (get_or found.plans e default).ends ≡ cut_of (first_ends s) found.plans (e + 1)
+  planned_ends e default less =
+      subst (λ (n : ℕ). (get_or found.plans e default).ends ≡ cut_of (first_ends s) found.plans n) (sym (add-one e))
+      (ap (λ (p : Plan). p.ends) (get_or_default found.plans e default (no_plan (first_ends s)) less))
 
-  pub plans_are : ArePlans tells s (cut_of (first_ends s) found.plans) (planned_by (nat_lt found.committed (length found.plans)) found.committed) found.plans
+module _ (owned : Type 0) (s : Setting) (found : Opened) (r : Scope) (is : IsRound s found r) (own : owned → IsOwned s found r) where
+  pub terms : owned → Terms (job_of s) r never
+  terms t = (let o = own t in (have_terms s s.job.bound o.asks o.lens r o.setting o.lines o.scope).0)
+
+  -- the cuts that a desk of the machine opens with are those that were opened
+  same_cuts : (t : owned) → (own t).desk.desk.cuts ≡ cut_of (first_ends s) found.plans
+  same_cuts t = (let o = own t in o.desk.cuts ∙ ap (λ (ends : Ends). cut_of ends found.plans) (sym (parts_found s s.job.bound o.asks o.lens o.setting).1))
+
+  pub plans_are : ArePlans owned found.plans s (cut_of (first_ends s) found.plans) (planned_by (nat_lt found.committed (length found.plans)) found.committed) found.plans
   plans_are =
-      let count = planned_first found.committed (length found.plans) (nat_lt found.committed (length found.plans)) refl is.before is.near in record {
+      let count = planned_first found.committed (length found.plans) (nat_lt found.committed (length found.plans)) refl is.numbers.before is.numbers.near in record {
         count = sym count;
-        each = λ t e default less. (is.jobs t).plans e default (subst (λ (n : ℕ). e < n) count less) ∙ ap (λ (cuts : Cuts). plan_of (course_of s cuts) e) (same_cuts t);
+        on = ([], sym (append-nil found.plans));
+        begins = refl;
+        follow = λ e less. is.numbers.follow e (subst (λ (n : ℕ). e < n) count less);
+        ends = λ e default less. planned_ends s found r is e default (subst (λ (n : ℕ). e < n) count less);
+        marks = is.numbers.marks;
+        each = λ t e default less. (own t).jobs.plans e default (subst (λ (n : ℕ). e < n) count less) ∙ ap (λ (cuts : Cuts). plan_of (course_of s cuts) e) (same_cuts t);
       }
 
   pub times_are : (times : List (Option ℤ)) → length times ≡ length s.job.bound.streams → ((stream : ℕ) → seen_at times stream ≡ told found.seen stream)
-      → AreSeen tells s (cut_of (first_ends s) found.plans) found.committed times
+      → AreSeen owned s (cut_of (first_ends s) found.plans) found.committed times
   times_are times count are = record { streams = count; are = λ t stream. are stream ∙ told_is t stream }
     where
-      told_is : tells → (stream : ℕ) → told found.seen stream ≡ seen s.job.bound (parts_in s) (offsets (cut_of (first_ends s) found.plans)) stream found.committed
-      told_is t stream = elim (is.jobs t).seen [
+      told_is : owned → (stream : ℕ) → told found.seen stream ≡ seen s.job.bound (parts_in s) (offsets (cut_of (first_ends s) found.plans)) stream found.committed
+      told_is t stream = elim (own t).jobs.seen [
         | inl none ↦ ap (λ (lines : List SeenBy). told lines stream) none.1 ∙ nothing_seen s.job.bound (parts_in s) (offsets (cut_of (first_ends s) found.plans)) stream ∙ ap (seen s.job.bound (parts_in s) (offsets (cut_of (first_ends s) found.plans)) stream) (sym none.0)
-        | inr own ↦ (
+        | inr mine ↦ (
             let of : ℕ → Option ℤ = λ stream. seen s.job.bound (parts_in s) (offsets (cut_of (first_ends s) found.plans)) stream found.committed in
-            ap (λ (lines : List SeenBy). told lines stream) (own ∙ ap (λ (cuts : Cuts). lines_at s cuts found.committed) (same_cuts t))
+            ap (λ (lines : List SeenBy). told lines stream) (mine ∙ ap (λ (cuts : Cuts). lines_at s cuts found.committed) (same_cuts t))
             ∙ told_from of 0 s.job.bound.streams stream (omega arith)
-            (λ j e unmarked. unmarked_none s.job.bound (parts_in s) (offsets (cut_of (first_ends s) found.plans)) stream found.committed is.setting.plain.events
+            (λ j e unmarked. unmarked_none s.job.bound (parts_in s) (offsets (cut_of (first_ends s) found.plans)) stream found.committed is.plain.events
             (subst (λ (n : ℕ). IfSome (slice_get s.job.bound.streams n) (λ s. s.delay ≡ None)) (let same : j ≡ stream = omega (arith, e) in same) unmarked))
             )
       ]

@@ -1,25 +1,16 @@
 -- What a desk knows where the next epoch is to be planned, and what it holds once that is done.
-use Rattle.std.proofs.Common.{◌≡◌, ◌≤◌, ◌+◌, [], ◌∷◌, ℕ, Bool, true, false, not, true≢false, List, length, nat_lt, Option, Some, None, refl, sym, ap, ◌∙◌, arith, ltb-false}
+use Rattle.std.proofs.Common.{◌≡◌, ◌≤◌, ◌+◌, ℕ, Bool, true, false, not, true≢false, List, length, nat_lt, Option, Some, None, refl, sym, ap, ◌∙◌, arith, ltb-false}
 use Rattle.std.specs.Prelude.{if◌then◌else◌}
 use Rattle.std.specs.List.{list_all, list_any}
-use Rattle.std.proofs.lemmas.List.{length-map}
 use Rattle.ssq_outside.specs.History.{History}
 use Rattle.ssq_meaning.specs.Meaning.{Line}
-use Rattle.ssq_meaning.specs.Parts.{Part}
 use Rattle.ssq_meaning.specs.Times.{delays, watermark_by}
 use Rattle.ssq_meaning.specs.declared.fed_row.View.{View}
 use Rattle.ssq_water.specs.Water.{seen_at}
-use Rattle.ssq_plans.specs.declared.part.PartEnd.{PartEnd}
-use Rattle.ssq_core.specs.Course.{Cuts, Ends}
+use Rattle.ssq_core.specs.Course.{Cuts}
 use Rattle.ssq_course.specs.Setting.{Setting, parts_in, first_ends, watermark_at}
-use Rattle.ssq_open.specs.declared.wanted.Lens.{Lens}
 use Rattle.ssq_open.specs.declared.wanted.Opened.{Opened}
-use Rattle.ssq_open.specs.Lens.{found_from}
 use Rattle.ssq_open.specs.Epochs.{cut_of}
-use Rattle.ssq_terms.specs.Setting.{IsSettingOf}
-use Rattle.ssq_terms.specs.Laws.{IsScopeOf}
-use Rattle.ssq_terms.proofs.Starts.{AreParts, found_numbers}
-use Rattle.ssq_terms.proofs.Wanted.{parts}
 use Rattle.ssq_board.specs.declared.front.Cause.{Cause}
 use Rattle.ssq_board.specs.declared.front.Ready.{Ready}
 use Rattle.ssq_board.specs.declared.front.Ready.TheVariants as ready
@@ -28,9 +19,9 @@ use Rattle.ssq_board.specs.Shown.{first}
 use Rattle.ssq_ledger.specs.Shown.{Shown, IsLegal, IsInOrder, state, first_state, cuts_of}
 use Rattle.ssq_desk.specs.declared.desk.Load.{Load}
 use Rattle.ssq_desk.specs.declared.round.Round.{Round}
-use Rattle.ssq_desk.specs.Round.{setting_of, opening_of}
+use Rattle.ssq_desk.specs.Round.{setting_of, opening_of, Owns}
 use Rattle.ssq_desk.specs.Whole.{IsWhole, opening_in}
-use Rattle.ssq_desk.proofs.Ends.{AreEnds, run_ends, planned_first}
+use Rattle.ssq_desk.proofs.Ends.{AreEnds, AreWithin, run_ends, run_within, planned_first}
 use Rattle.ssq_desk.proofs.Planned.{IsBetween}
 
 -- ---- where the next epoch is to be planned
@@ -81,18 +72,6 @@ unopened r c true e is =
 pub plan_runs : (r : Scope) (c : Core) → ready_of r c ≡ ready.Plan → (c.front.stop ≡ None) × (is_open c ≡ false)
 plan_runs r c e = (runs r c c.front.stop e refl, unopened r c (is_open c) e refl)
 
-parts_count : (parts : List Part) (found : Ends) → AreParts parts found → length found ≡ length parts
-parts_count [] [] are = refl
-parts_count [] (end ∷ found) are = absurd are
-parts_count (part ∷ parts) [] are = absurd are
-parts_count (part ∷ parts) (end ∷ found) are = omega (arith, parts_count parts found are.1)
-
--- as many lengths were found as there are parts
-pub available_count : (s : Setting) (asks : Option ℕ) (lens : Lens) (r : Scope) → IsSettingOf s s.job.bound asks lens → IsScopeOf r s lens → length r.available ≡ length (parts_in s)
-available_count s asks lens r is scope =
-    ap length (scope.available ∙ sym (found_numbers 0 lens.streams)) ∙ length-map (found_from 0 lens.streams) (λ (end : PartEnd). end.end)
-    ∙ parts_count (parts_in s) (found_from 0 lens.streams) (parts s s.job.bound asks lens is)
-
 -- where the round begins its cuts end where it says
 first_ends_are : (s : Setting) (found : Opened) (r : Scope) → found.committed ≤ length found.plans → length found.plans ≤ found.committed + 1
     → AreEnds (opening_of s found).cuts (first r (opening_of s found).start)
@@ -102,17 +81,23 @@ first_ends_are s found r before near =
 closed_is : (c : Core) → is_open c ≡ false → c.front.committed ≤ c.front.planned → c.front.committed ≡ c.front.planned
 closed_is c closed before = let over = ltb-false c.front.committed c.front.planned closed in omega (arith, over, before)
 
-module _ {D L S F : Type 0} (tells : Type 0) (lines : L → List Line) (available : L → ℕ) (history : D → History) (written : S → List ℕ) (sealed : F → List ℕ) (shown : Shown D (Round L)) (load : Load L S F)
-    (whole : IsWhole tells lines available history written sealed shown load) (legal : IsLegal tells history (opening_in lines) shown) (order : IsInOrder shown.scope shown.core) where
+module _ {D L S F : Type 0} (stores logs : Type 0) (lines : L → List Line) (available : L → ℕ) (answers : L → List ℕ) (faults : L → ℕ) (history : D → History) (written : S → List ℕ) (sealed : F → List ℕ) (shown : Shown D (Round L)) (load : Load L S F)
+    (whole : IsWhole stores logs lines available answers faults written sealed shown load) (legal : IsLegal (Owns stores logs lines shown) history (opening_in lines) shown) (order : IsInOrder shown.scope shown.core) where
   -- the lines of the planned epochs end where the cuts say
   pub ends_are : AreEnds (cuts_of (opening_in lines) shown) shown.core
   ends_are =
-      run_ends tells (opening_in lines shown.opening).job shown.scope (opening_in lines shown.opening).due shown.history (first_state (opening_in lines shown.opening) shown.scope (history shown.opened))
+      run_ends (Owns stores logs lines shown) (opening_in lines shown.opening).job shown.scope (opening_in lines shown.opening).due shown.history (first_state (opening_in lines shown.opening) shown.scope (history shown.opened))
       (state legal.0 shown.core (cuts_of (opening_in lines) shown)) legal.2
-      (first_ends_are (setting_of lines shown.opening) shown.opening.opened shown.scope whole.round.before whole.round.near)
+      (first_ends_are (setting_of lines shown.opening) shown.opening.opened shown.scope whole.round.numbers.before whole.round.numbers.near)
+
+  -- and of no part more is planned than was found
+  pub ends_within : AreWithin shown.scope.available shown.core.ends
+  ends_within =
+      run_within (Owns stores logs lines shown) (opening_in lines shown.opening).job shown.scope (opening_in lines shown.opening).due shown.history (first_state (opening_in lines shown.opening) shown.scope (history shown.opened))
+      (state legal.0 shown.core (cuts_of (opening_in lines) shown)) legal.2 whole.round.long
 
   pub each_end : length shown.core.ends ≡ length (parts_in (setting_of lines shown.opening))
-  each_end = order.sound.ends ∙ available_count (setting_of lines shown.opening) whole.round.asks whole.round.lens shown.scope whole.round.setting whole.round.scope
+  each_end = order.sound.ends ∙ whole.round.parts
 
   pub between : ready_of shown.scope shown.core ≡ ready.Plan → IsBetween (setting_of lines shown.opening) (cuts_of (opening_in lines) shown) shown.scope shown.core
   between next =
@@ -122,14 +107,14 @@ module _ {D L S F : Type 0} (tells : Type 0) (lines : L → List Line) (availabl
         back = (order.between runs.1).maps;
         ends = ends_are;
         each_end = each_end;
-        each_map = order.sound.maps ∙ available_count (setting_of lines shown.opening) whole.round.asks whole.round.lens shown.scope whole.round.setting whole.round.scope;
+        each_map = order.sound.maps ∙ whole.round.parts;
       }
 
 -- the watermark by the greatest times of a desk that runs, between epochs
-pub marked : {D L S F : Type 0} (tells : Type 0) (lines : L → List Line) (available : L → ℕ) (history : D → History) (written : S → List ℕ) (sealed : F → List ℕ) (shown : Shown D (Round L)) (load now : Load L S F)
-    → IsWhole tells lines available history written sealed shown load → shown.core.front.stop ≡ None → shown.core.front.committed ≡ shown.core.front.planned → now.view ≡ load.view → now.seen ≡ load.seen
-    → tells → watermark_by (delays now.view.bound.now) (seen_at now.seen) ≡ watermark_at (setting_of lines shown.opening) (cuts_of (opening_in lines) shown) shown.core.front.planned
-marked tells lines available history written sealed shown load now whole running closed view times t =
+pub marked : {D L S F : Type 0} (stores logs : Type 0) (lines : L → List Line) (available : L → ℕ) (answers : L → List ℕ) (faults : L → ℕ) (written : S → List ℕ) (sealed : F → List ℕ) (shown : Shown D (Round L)) (load now : Load L S F)
+    → IsWhole stores logs lines available answers faults written sealed shown load → shown.core.front.stop ≡ None → shown.core.front.committed ≡ shown.core.front.planned → now.view ≡ load.view → now.seen ≡ load.seen
+    → Owns stores logs lines shown → watermark_by (delays now.view.bound.now) (seen_at now.seen) ≡ watermark_at (setting_of lines shown.opening) (cuts_of (opening_in lines) shown) shown.core.front.planned
+marked stores logs lines available answers faults written sealed shown load now whole running closed view times t =
     let s : Setting = setting_of lines shown.opening in
     let cuts : Cuts = cuts_of (opening_in lines) shown in
     let are = (whole.holds.seen_so_far running).are t in

@@ -1,29 +1,25 @@
 -- What the map tasks of an epoch brought, put together.
-use Rattle.std.proofs.Common.{◌≡◌, ◌⊎◌, ◌<◌, ◌≤◌, ◌+◌, ◌++◌, ℕ, ℤ, zero, suc, Bool, true, false, true≢false, List, [], ◌∷◌, map, length, get_or, Option, Some, None, inl, inr, refl, sym, ap, ◌∙◌, subst, arith}
+use Rattle.std.proofs.Common.{◌≡◌, ◌<◌, ◌++◌, ℕ, ℤ, zero, suc, true, true≢false, List, [], ◌∷◌, map, length, get_or, Option, Some, None, refl, sym, ap, ◌∙◌, subst, arith}
 use Rattle.std.specs.Prelude.{All, slice_get, IfSome}
-use Rattle.std.specs.List.{list_all}
 use Rattle.std.proofs.lemmas.List.Elements.{All-append}
-use mathlib.Core.Option.{some, some-injective, some-ne-none}
+use mathlib.Core.Option.{some}
 use lib.ListN.{get_elem?}
 use Rattle.ssq_time.specs.Time.{IsLineTime}
-use Rattle.ssq_route.specs.Buckets.{bucket_at}
 use Rattle.ssq_shape.specs.declared.bound.Bound.{Bound}
-use Rattle.ssq_meaning.specs.declared.fed_row.FedRow.{FedRow}
 use Rattle.ssq_meaning.specs.Parts.{Part}
 use Rattle.ssq_meaning.specs.Cut.{Cut, of_parts}
-use Rattle.ssq_meaning.specs.Feeding.{fed_in, time_in, fault_in}
+use Rattle.ssq_meaning.specs.Feeding.{time_in}
 use Rattle.ssq_meaning.specs.Epochs.{joined, bucket}
 use Rattle.ssq_feed.specs.declared.task.FedRows.{FedRows}
 use Rattle.ssq_feed.specs.Rows.{IsPrintable}
-use Rattle.ssq_board.specs.declared.front.Cause.{Cause}
 use Rattle.ssq_board.specs.declared.front.Place.{Place}
 use Rattle.ssq_board.specs.declared.front.Place.TheVariants as place
 use Rattle.ssq_board.specs.Core.{is_fine}
-use Rattle.ssq_terms.specs.Rows.{IsQuiet, bucket_in, raised, raised_by}
+use Rattle.ssq_terms.specs.Rows.{bucket_in, raised, raised_by}
 use Rattle.ssq_terms.proofs.Showing.{are_quiet}
 use Rattle.ssq_desk.specs.declared.desk.Source.{Source}
-use Rattle.ssq_desk.specs.Handing.{HasBucket, HasLineTime, CanRaise, bucket_in_fed, buckets_in, time_of, raised_in}
-use Rattle.ssq_desk.specs.Contents.{IsSourceOf, IsMapped, IsBrought}
+use Rattle.ssq_desk.specs.Handing.{HasBucket, HasLineTime, CanRaise, bucket_in_fed, time_of, raised_in}
+use Rattle.ssq_desk.specs.Contents.{IsMapped, IsBrought}
 
 -- what a part that was read, or had no new lines, has for a partition whose task waits
 pub bucket_is : {L : Type 0} (tells : Type 0) (query : Bound) (part : Part) (from to partitions p : ℕ) (reduces : List Place) (at : Place) (source : Source L) → tells → is_fine at ≡ true → get_elem? reduces p ≡ some place.Waits

@@ -1,5 +1,5 @@
 -- What a desk holds where a task is claimed.
-use Rattle.std.proofs.Common.{◌≡◌, ◌⊎◌, ◌<◌, ◌≤◌, ◌+◌, ◌&&◌, [], ◌∷◌, ℕ, ℤ, zero, suc, Bool, true, false, true≢false, List, map, length, get_or, set, Option, Some, None, inl, inr, refl, sym, ap, ◌∙◌, subst, arith}
+use Rattle.std.proofs.Common.{◌≡◌, ◌<◌, ◌≤◌, ◌+◌, ◌&&◌, [], ◌∷◌, ℕ, ℤ, zero, suc, Bool, true, false, true≢false, List, map, length, get_or, set, Option, Some, None, inl, inr, refl, sym, ap, ◌∙◌, subst, arith}
 use Rattle.std.specs.Prelude.{All, slice_get, vec_capacity, is_some}
 use Rattle.ssq_time.specs.Time.{IsStampTime}
 use Rattle.ssq_value.specs.Kind.{IfTime}
@@ -34,8 +34,9 @@ use Rattle.ssq_meaning.specs.Times.{delays, watermark_by}
 use Rattle.ssq_water.specs.Water.{seen_at}
 use Rattle.ssq_course.specs.Setting.{watermark_at}
 use Rattle.ssq_feed.specs.Rows.{IsPrintable}
-use Rattle.ssq_desk.proofs.Feeding.{IsSafe, source_safe, bucket_is, all_parts, all_at, all_joined}
+use Rattle.ssq_desk.proofs.Feeding.{IsSafe, source_safe, bucket_is, all_parts, all_joined}
 use Rattle.ssq_board.specs.declared.front.Cause.{Cause}
+use Rattle.ssq_board.specs.declared.front.Cause.TheVariants as cause
 use Rattle.ssq_board.specs.declared.front.Entry.{Entry}
 use Rattle.ssq_board.specs.declared.front.Entry.TheVariants as entry
 use Rattle.ssq_board.specs.declared.front.Place.{Place}
@@ -48,15 +49,22 @@ use Rattle.ssq_ledger.specs.Shown.{Shown, IsLegal, IsInOrder, cuts_of, did}
 use Rattle.ssq_desk.specs.declared.desk.Load.{Load}
 use Rattle.ssq_desk.specs.declared.desk.Source.{Source}
 use Rattle.ssq_desk.specs.declared.round.Round.{Round}
-use Rattle.ssq_desk.specs.Round.{setting_of}
-use Rattle.ssq_desk.specs.Contents.{is_away, Holds, IsSourceOf, IsLogOf, IsMapped}
+use Rattle.ssq_desk.specs.Round.{setting_of, Owns}
+use Rattle.ssq_feed.specs.Causes.{LogWent}
+use Rattle.ssq_desk.specs.Contents.{IsSourceOf, IsLogOf, IsMapped}
 use Rattle.ssq_meaning.specs.declared.fed_row.View.{View}
 use Rattle.ssq_desk.specs.Tasks.{IsViewOf}
 use Rattle.ssq_desk.specs.Handed.{IsMapOf}
-use Rattle.ssq_desk.specs.Whole.{IsWhole, ArePlans, opening_in}
+use Rattle.ssq_desk.specs.Closing.{AreTold, HasFaulty}
+use Rattle.ssq_desk.specs.Whole.{IsWhole, IsKept, HoldsIn, ArePlans, opening_in}
 use Rattle.ssq_desk.proofs.Holding.{with_map, with_reduce, with_out, holds_map, holds_claimed, holds_out}
+use Rattle.ssq_desk.proofs.Ends.{AreWithin}
 use Rattle.ssq_desk.proofs.Wholes.{cuts_then}
-use Rattle.ssq_desk.proofs.Betweens.{ends_are, each_end, available_count}
+use Rattle.ssq_desk.proofs.Betweens.{ends_are, ends_within, each_end}
+
+-- a desk that runs has no cause
+pub runs_without : (o : Option Cause) (f : Cause) → o ≡ None → o ≡ Some f → ⊥
+runs_without o f runs stopped = true≢false (sym (sym (ap is_some runs) ∙ ap is_some stopped))
 
 pub part_there : {A : Type 0} (l : List A) (i : ℕ) → i < length l → (a : A) × (slice_get l i ≡ Some a)
 part_there [] i less = absurd (omega (arith, less))
@@ -111,12 +119,12 @@ and_left true b e = refl
 and_left false b e = absurd (true≢false (sym e))
 
 -- a reduce task without a fault, in an epoch that runs, is back
-back_of : (tells : Type 0) (s : Setting) (cuts : Cuts) (e p : ℕ) (at : Place) (share : Share) → is_fine at ≡ true → IsShare tells s cuts e p at share → IsShare tells s cuts e p (place.Back None) share
-back_of tells s cuts e p place.Rests share fine is = absurd (is.there refl)
-back_of tells s cuts e p (place.Back None) share fine is = is
-back_of tells s cuts e p (place.Back (Some f)) share fine is = absurd (true≢false (sym fine))
-back_of tells s cuts e p place.Waits share fine is = absurd (true≢false (sym fine))
-back_of tells s cuts e p place.Away share fine is = absurd (true≢false (sym fine))
+back_of : (owned : Type 0) (s : Setting) (cuts : Cuts) (e p : ℕ) (at : Place) (share : Share) → is_fine at ≡ true → IsShare owned s cuts e p at share → IsShare owned s cuts e p (place.Back None) share
+back_of owned s cuts e p place.Rests share fine is = absurd (is.there refl)
+back_of owned s cuts e p (place.Back None) share fine is = is
+back_of owned s cuts e p (place.Back (Some f)) share fine is = absurd (true≢false (sym fine))
+back_of owned s cuts e p place.Waits share fine is = absurd (true≢false (sym fine))
+back_of owned s cuts e p place.Away share fine is = absurd (true≢false (sym fine))
 
 none_there : {A : Type 0} (i : ℕ) (a : A) → slice_get [] i ≡ Some a → ⊥
 none_there i a e = true≢false (sym (ap is_some e))
@@ -145,29 +153,36 @@ work_or d (Some w) = w
 pub some_work : {S F : Type 0} (a b : OutWork S F) → Some a ≡ Some b → a ≡ b
 some_work a b e = ap (λ o. work_or a o) e
 
-module _ {D L S F : Type 0} (tells : Type 0) (lines : L → List Line) (available : L → ℕ) (history : D → History) (written : S → List ℕ) (sealed : F → List ℕ) (shown : Shown D (Round L)) (load : Load L S F)
-    (whole : IsWhole tells lines available history written sealed shown load) where
+module _ {D L S F : Type 0} (stores logs : Type 0) (lines : L → List Line) (available : L → ℕ) (answers : L → List ℕ) (faults : L → ℕ) (written : S → List ℕ) (sealed : F → List ℕ) (shown : Shown D (Round L)) (load : Load L S F)
+    (whole : IsWhole stores logs lines available answers faults written sealed shown load) where
   -- after an entry that plans nothing, with what is held then
   pub moved_whole : (disk : D) (e : Entry) (n : Load L S F) → ((cuts : Cuts) (c : Core) → cuts_by shown.scope cuts c e ≡ cuts) → (after shown.scope shown.core e).front.planned ≡ shown.core.front.planned
-      → n.view ≡ load.view → n.plans.items ≡ load.plans.items
-      → Holds tells lines available written sealed (setting_of lines shown.opening) (cuts_of (opening_in lines) shown) shown.scope.available (after shown.scope shown.core e) n.sources.items n.shares.items n.out n.seen n.pending
-      → IsWhole tells lines available history written sealed (did shown disk (e ∷ [])) n
-  moved_whole disk e n keeps planned view plans h =
+      → n.view ≡ load.view → n.plans.items ≡ load.plans.items → n.kept ≡ load.kept
+      → AreTold (Owns stores logs lines shown) (setting_of lines shown.opening) (cuts_of (opening_in lines) shown) shown.opening.opened.committed (after shown.scope shown.core e).front.committed n.told.items
+      → (is_open (after shown.scope shown.core e) ≡ true → length n.told.items < vec_capacity n.told)
+      → ((after shown.scope shown.core e).front.stop ≡ Some cause.LogFault → HasFaulty faults (after shown.scope shown.core e).maps n.sources.items)
+      → HoldsIn stores logs lines available answers faults written sealed shown (cuts_of (opening_in lines) shown) (after shown.scope shown.core e) n.sources.items n.shares.items n.out n.seen n.pending
+      → IsWhole stores logs lines available answers faults written sealed (did shown disk (e ∷ [])) n
+  moved_whole disk e n keeps planned view plans kept told room faulty h =
       let s : Setting = setting_of lines shown.opening in
       let same : cuts_of (opening_in lines) (did shown disk (e ∷ [])) ≡ cuts_of (opening_in lines) shown = cuts_then (opening_in lines shown.opening) shown.scope shown.history e ∙ keeps (cuts_of (opening_in lines) shown) (after_all shown.scope (first shown.scope (opening_in lines shown.opening).start) shown.history) in record {
         round = whole.round;
         view = subst (λ v. IsViewOf s v) (sym view) whole.view;
-        holds = subst (λ (cuts : Cuts). Holds tells lines available written sealed s cuts shown.scope.available (after shown.scope shown.core e) n.sources.items n.shares.items n.out n.seen n.pending) (sym same) h;
-        plans = subst (λ (cuts : Cuts). ArePlans tells s cuts (after shown.scope shown.core e).front.planned n.plans.items) (sym same)
-            (subst (λ (k : ℕ). ArePlans tells s (cuts_of (opening_in lines) shown) k n.plans.items) (sym planned) (subst (λ l. ArePlans tells s (cuts_of (opening_in lines) shown) shown.core.front.planned l) (sym plans) whole.plans));
+        holds = subst (λ (cuts : Cuts). HoldsIn stores logs lines available answers faults written sealed shown cuts (after shown.scope shown.core e) n.sources.items n.shares.items n.out n.seen n.pending) (sym same) h;
+        plans = subst (λ (cuts : Cuts). ArePlans (Owns stores logs lines shown) shown.opening.opened.plans s cuts (after shown.scope shown.core e).front.planned n.plans.items) (sym same)
+            (subst (λ (k : ℕ). ArePlans (Owns stores logs lines shown) shown.opening.opened.plans s (cuts_of (opening_in lines) shown) k n.plans.items) (sym planned) (subst (λ l. ArePlans (Owns stores logs lines shown) shown.opening.opened.plans s (cuts_of (opening_in lines) shown) shown.core.front.planned l) (sym plans) whole.plans));
+        told = subst (λ (cuts : Cuts). AreTold (Owns stores logs lines shown) s cuts shown.opening.opened.committed (after shown.scope shown.core e).front.committed n.told.items) (sym same) told;
+        told_room = room;
+        faulty = faulty;
+        kept = subst (IsKept s shown.opening.opened) (sym kept) whole.kept;
       }
 
-  module _ (legal : IsLegal tells history (opening_in lines) shown) (order : IsInOrder shown.scope shown.core) where
+  module _ (history : D → History) (legal : IsLegal (Owns stores logs lines shown) history (opening_in lines) shown) (order : IsInOrder shown.scope shown.core) where
     pub sources_count : length load.sources.items ≡ length shown.scope.available
-    sources_count = whole.holds.parts ∙ sym (available_count (setting_of lines shown.opening) whole.round.asks whole.round.lens shown.scope whole.round.setting whole.round.scope)
+    sources_count = whole.holds.parts ∙ sym whole.round.parts
 
     pub parts_count : length (parts_in (setting_of lines shown.opening)) ≡ length shown.scope.available
-    parts_count = sym (available_count (setting_of lines shown.opening) whole.round.asks whole.round.lens shown.scope whole.round.setting whole.round.scope)
+    parts_count = sym whole.round.parts
 
     -- the map task that waits in a slot: its part, and its source with its log
     pub record IsMapHere (i : ℕ) : Type 0 where
@@ -177,8 +192,8 @@ module _ {D L S F : Type 0} (tells : Type 0) (lines : L → List Line) (availabl
       pub there : slice_get (parts_in (setting_of lines shown.opening)) i ≡ Some part
       pub source : Source L
       pub here : get_elem? load.sources.items i ≡ some source
-      pub is : IsSourceOf tells lines available part (get_or shown.scope.available i 0) place.Waits source
-      pub mapped : IsMapped tells (setting_of lines shown.opening).job.bound part (get_or (cut_of (cuts_of (opening_in lines) shown shown.core.front.committed)) i 0) (get_or (cut_of (cuts_of (opening_in lines) shown (shown.core.front.committed + 1))) i 0)
+      pub is : IsSourceOf (stores × logs) lines available (LogWent logs lines available answers faults) shown.opening.logs.items i part (get_or shown.scope.available i 0) place.Waits source
+      pub mapped : IsMapped (stores × logs) (setting_of lines shown.opening).job.bound part (get_or (cut_of (cuts_of (opening_in lines) shown shown.core.front.committed)) i 0) (get_or (cut_of (cuts_of (opening_in lines) shown (shown.core.front.committed + 1))) i 0)
           (setting_of lines shown.opening).job.partitions shown.core.reduces place.Waits source
 
     pub map_here : (t : TaskId) → t.kind ≡ kind.Map → May shown.scope shown.core (entry.Claim t) → IsMapHere t.number
@@ -201,10 +216,10 @@ module _ {D L S F : Type 0} (tells : Type 0) (lines : L → List Line) (availabl
     -- once it is handed out, without its log
     pub map_claimed : (t : TaskId) (x : Source L) → t.kind ≡ kind.Map → May shown.scope shown.core (entry.Claim t) → (h : IsMapHere t.number)
         → x ≡ record { stream = h.source.stream; part = h.source.part; from = h.source.from; log = None; fed = h.source.fed }
-        → Holds tells lines available written sealed (setting_of lines shown.opening) (cuts_of (opening_in lines) shown) shown.scope.available (after shown.scope shown.core (entry.Claim t)) (set load.sources.items t.number x) load.shares.items load.out load.seen load.pending
+        → HoldsIn stores logs lines available answers faults written sealed shown (cuts_of (opening_in lines) shown) (after shown.scope shown.core (entry.Claim t)) (set load.sources.items t.number x) load.shares.items load.out load.seen load.pending
     map_claimed t x is may h x_is =
-        subst (λ (c : Core). Holds tells lines available written sealed (setting_of lines shown.opening) (cuts_of (opening_in lines) shown) shown.scope.available c (set load.sources.items t.number x) load.shares.items load.out load.seen load.pending) (sym (map_moved shown.core t place.Away is))
-        (holds_map tells lines available written sealed (setting_of lines shown.opening) (cuts_of (opening_in lines) shown) shown.scope.available shown.core shown.core.front.stop t.number place.Away x load.sources.items load.shares.items load.out load.seen load.pending
+        subst (λ (c : Core). HoldsIn stores logs lines available answers faults written sealed shown (cuts_of (opening_in lines) shown) c (set load.sources.items t.number x) load.shares.items load.out load.seen load.pending) (sym (map_moved shown.core t place.Away is))
+        (holds_map (stores × logs) (Owns stores logs lines shown) lines available (LogWent logs lines available answers faults) shown.opening.logs.items written sealed (setting_of lines shown.opening) (cuts_of (opening_in lines) shown) shown.scope.available shown.core shown.core.front.stop t.number place.Away x load.sources.items load.shares.items load.out load.seen load.pending
         (λ e. e) whole.holds
         (λ part there. (let same : h.part ≡ part = some_same h.part part (sym h.there ∙ there) in record {
           stream = ap (λ (q : Part). q.stream) (sym same) ∙ h.is.stream ∙ sym (ap (λ (q : Source L). q.stream) x_is);
@@ -236,14 +251,14 @@ module _ {D L S F : Type 0} (tells : Type 0) (lines : L → List Line) (availabl
     -- and its task
     pub map_task : (t : TaskId) (view : View) (to : ℕ) (own : L) → t.kind ≡ kind.Map → May shown.scope shown.core (entry.Claim t) → (h : IsMapHere t.number) → view ≡ load.view → h.source.log ≡ Some own
         → to ≡ (get_or shown.core.ends t.number (record { stream = 0; part = 0; end = 0 })).end
-        → IsMapOf tells lines available shown (record { view = view; epoch = t.epoch; number = t.number; stream = h.source.stream; part = h.source.part; from = h.source.from; to = to; log = own })
+        → IsMapOf stores logs lines available answers faults shown (record { view = view; epoch = t.epoch; number = t.number; stream = h.source.stream; part = h.source.part; from = h.source.from; to = to; log = own })
     map_task t view to own is may h view_is own_is to_is =
         let log = h.is.log (λ away. away) in
         let same : log.0 ≡ own = some_log log.0 own (sym log.1 ∙ own_is) in
         let near = order.sound.near in
         let less = open_less shown.core may.1 in
         let ends : cuts_of (opening_in lines) shown (shown.core.front.committed + 1) ≡ shown.core.ends =
-        ap (cuts_of (opening_in lines) shown) (omega (arith, near, less)) ∙ ends_are tells lines available history written sealed shown load whole legal order in record {
+        ap (cuts_of (opening_in lines) shown) (omega (arith, near, less)) ∙ ends_are stores logs lines available answers faults history written sealed shown load whole legal order in record {
           part = h.part;
           there = h.there;
           view = subst (λ v. IsViewOf (setting_of lines shown.opening) v) (sym view_is) whole.view;
@@ -252,7 +267,7 @@ module _ {D L S F : Type 0} (tells : Type 0) (lines : L → List Line) (availabl
           number = h.is.number;
           from = h.mapped.begins;
           to = to_is ∙ sym (get_or-map (λ (e : PartEnd). e.end) shown.core.ends t.number (record { stream = 0; part = 0; end = 0 }) 0 h.ends_below) ∙ sym (ap (λ (l : Ends). get_or (cut_of l) t.number 0) ends);
-          log = subst (IsLogOf tells lines available h.part (get_or shown.scope.available t.number 0)) same log.2;
+          log = subst (IsLogOf (stores × logs) lines available (LogWent logs lines available answers faults) shown.opening.logs.items t.number h.part (get_or shown.scope.available t.number 0)) same log.2;
         }
       where
         some_log : (a b : L) → Some a ≡ Some b → a ≡ b
@@ -271,7 +286,7 @@ module _ {D L S F : Type 0} (tells : Type 0) (lines : L → List Line) (availabl
       pub none : share.buckets.items ≡ []
       pub room : length load.sources.items ≤ vec_capacity share.buckets
       pub safe : (i : ℕ) (source : Source L) → get_elem? load.sources.items i ≡ some source → IsSafe (setting_of lines shown.opening).job.partitions source
-      pub rows : tells → buckets_in p load.sources.items ≡ bucket (setting_of lines shown.opening).job.partitions p (fed (setting_of lines shown.opening).job.bound (parts_in (setting_of lines shown.opening)) (offsets (cuts_of (opening_in lines) shown)) shown.core.front.committed)
+      pub rows : Owns stores logs lines shown → buckets_in p load.sources.items ≡ bucket (setting_of lines shown.opening).job.partitions p (fed (setting_of lines shown.opening).job.bound (parts_in (setting_of lines shown.opening)) (offsets (cuts_of (opening_in lines) shown)) shown.core.front.committed)
 
     -- the out task waits as long as reduce tasks do
     pub tos_count : is_open shown.core ≡ true → length (cut_of (cuts_of (opening_in lines) shown (shown.core.front.committed + 1))) ≡ length (parts_in (setting_of lines shown.opening))
@@ -279,12 +294,20 @@ module _ {D L S F : Type 0} (tells : Type 0) (lines : L → List Line) (availabl
         let near = order.sound.near in
         let less = open_less shown.core opened in
         length-map (cuts_of (opening_in lines) shown (shown.core.front.committed + 1)) (λ (e : PartEnd). e.end)
-        ∙ ap length (ap (cuts_of (opening_in lines) shown) (omega (arith, near, less)) ∙ ends_are tells lines available history written sealed shown load whole legal order)
-        ∙ each_end tells lines available history written sealed shown load whole legal order
+        ∙ ap length (ap (cuts_of (opening_in lines) shown) (omega (arith, near, less)) ∙ ends_are stores logs lines available answers faults history written sealed shown load whole legal order)
+        ∙ each_end stores logs lines available answers faults history written sealed shown load whole legal order
+
+    -- no more lines of a part are planned than were found
+    pub tos_within : is_open shown.core ≡ true → AreWithin shown.scope.available (cuts_of (opening_in lines) shown (shown.core.front.committed + 1))
+    tos_within opened =
+        let near = order.sound.near in
+        let less = open_less shown.core opened in
+        subst (AreWithin shown.scope.available) (sym (ap (cuts_of (opening_in lines) shown) (omega (arith, near, less)) ∙ ends_are stores logs lines available answers faults history written sealed shown load whole legal order))
+        (ends_within stores logs lines available answers faults history written sealed shown load whole legal order)
 
     -- each source is fine, where all map tasks are
     pub source_here : shown.core.front.stop ≡ None → (opened : is_open shown.core ≡ true) → list_all is_fine shown.core.maps ≡ true → (i : ℕ) (part : Part) (source : Source L) → slice_get (parts_in (setting_of lines shown.opening)) i ≡ Some part → get_elem? load.sources.items i ≡ some source
-        → (at : Place) × (get_elem? shown.core.maps i ≡ some at) × (is_fine at ≡ true) × IsMapped tells (setting_of lines shown.opening).job.bound part (get_or (cut_of (cuts_of (opening_in lines) shown shown.core.front.committed)) i 0) (get_or (cut_of (cuts_of (opening_in lines) shown (shown.core.front.committed + 1))) i 0)
+        → (at : Place) × (get_elem? shown.core.maps i ≡ some at) × (is_fine at ≡ true) × IsMapped (stores × logs) (setting_of lines shown.opening).job.bound part (get_or (cut_of (cuts_of (opening_in lines) shown shown.core.front.committed)) i 0) (get_or (cut_of (cuts_of (opening_in lines) shown (shown.core.front.committed + 1))) i 0)
         (setting_of lines shown.opening).job.partitions shown.core.reduces at source
     source_here runs opened fine i part source there here =
         let at = there_at shown.core.maps i (let less = at_length load.sources.items i source here in let maps = order.sound.maps in omega (arith, less, maps, sources_count)) in
@@ -298,7 +321,7 @@ module _ {D L S F : Type 0} (tells : Type 0) (lines : L → List Line) (availabl
         let fine = and_right shown.core.front.fresh (list_all is_fine shown.core.maps) starts in
         let less = at_length shown.core.reduces t.number place.Waits waits in
         let reduces = order.sound.reduces in
-        let scoped = whole.round.scope.partitions in
+        let scoped = whole.round.partitions in
         let count = whole.holds.partitions in
         let share = there_at load.shares.items t.number (omega (arith, less, reduces, scoped, count)) in
         let e = whole.holds.epoch may.0 may.1 in
@@ -312,26 +335,26 @@ module _ {D L S F : Type 0} (tells : Type 0) (lines : L → List Line) (availabl
           room = (let parts = whole.holds.parts in let room = fresh.1 in omega (arith, parts, room));
           safe = λ i source here. (let part = part_there (parts_in s) i (let l = at_length load.sources.items i source here in let parts = whole.holds.parts in omega (arith, l, parts)) in
               let m = source_here may.0 may.1 fine i part.0 source part.1 here in
-              source_safe tells s.job.bound part.0 _ _ s.job.partitions shown.core.reduces m.0 source m.2 m.3);
+              source_safe (stores × logs) s.job.bound part.0 _ _ s.job.partitions shown.core.reduces m.0 source m.2 m.3);
           rows = λ y. all_parts (bucket_in s.job.bound s.job.partitions t.number) (λ source. bucket_in_fed t.number source.fed) (parts_in s) load.sources.items
               (cut_of (cuts_of (opening_in lines) shown shown.core.front.committed)) (cut_of (cuts_of (opening_in lines) shown (shown.core.front.committed + 1))) whole.holds.parts
               (length-map (cuts_of (opening_in lines) shown shown.core.front.committed) (λ (e : PartEnd). e.end) ∙ e.froms) (tos_count may.1)
               (λ i part source there here. (let m = source_here may.0 may.1 fine i part source there here in
-              bucket_is tells s.job.bound part _ _ s.job.partitions t.number shown.core.reduces m.0 source y m.2 waits m.3))
+              bucket_is (stores × logs) s.job.bound part _ _ s.job.partitions t.number shown.core.reduces m.0 source (y.0, y.1.0) m.2 waits m.3))
               ∙ parts_feed s.job.bound (parts_in s) (cut_of (cuts_of (opening_in lines) shown shown.core.front.committed)) (cut_of (cuts_of (opening_in lines) shown (shown.core.front.committed + 1))) s.job.partitions t.number;
         }
 
     -- once it is handed out
     pub reduce_claimed : (t : TaskId) (x : Share) (left : List (Source L)) → t.kind ≡ kind.Reduce → May shown.scope shown.core (entry.Claim t) → AreTaken t.number load.sources.items left
-        → Holds tells lines available written sealed (setting_of lines shown.opening) (cuts_of (opening_in lines) shown) shown.scope.available (after shown.scope shown.core (entry.Claim t)) left (set load.shares.items t.number x) load.out load.seen load.pending
+        → HoldsIn stores logs lines available answers faults written sealed shown (cuts_of (opening_in lines) shown) (after shown.scope shown.core (entry.Claim t)) left (set load.shares.items t.number x) load.out load.seen load.pending
     reduce_claimed t x left is may taken =
         let all = taken_at t.number load.sources.items left taken in
-        subst (λ (c : Core). Holds tells lines available written sealed (setting_of lines shown.opening) (cuts_of (opening_in lines) shown) shown.scope.available c left (set load.shares.items t.number x) load.out load.seen load.pending) (sym (reduce_moved shown.core t place.Away is))
-        (holds_claimed tells lines available written sealed (setting_of lines shown.opening) (cuts_of (opening_in lines) shown) shown.scope.available shown.core t.number x load.sources.items left load.shares.items load.out load.seen load.pending whole.holds all.0 (subst (λ k. get_elem? (tasks_of k shown.core) t.number ≡ some place.Waits) is may.4) all.1)
+        subst (λ (c : Core). HoldsIn stores logs lines available answers faults written sealed shown (cuts_of (opening_in lines) shown) c left (set load.shares.items t.number x) load.out load.seen load.pending) (sym (reduce_moved shown.core t place.Away is))
+        (holds_claimed (stores × logs) (Owns stores logs lines shown) lines available (LogWent logs lines available answers faults) shown.opening.logs.items written sealed (setting_of lines shown.opening) (cuts_of (opening_in lines) shown) shown.scope.available shown.core t.number x load.sources.items left load.shares.items load.out load.seen load.pending whole.holds all.0 (subst (λ k. get_elem? (tasks_of k shown.core) t.number ≡ some place.Waits) is may.4) all.1)
 
     -- The watermark of the epoch that runs, by what was seen before it.
     pub watermark_here : shown.core.front.stop ≡ None → (watermark : Option ℤ) → watermark ≡ watermark_by (delays load.view.bound.now) (seen_at load.seen)
-        → tells → watermark ≡ watermark_at (setting_of lines shown.opening) (cuts_of (opening_in lines) shown) shown.core.front.committed
+        → Owns stores logs lines shown → watermark ≡ watermark_at (setting_of lines shown.opening) (cuts_of (opening_in lines) shown) shown.core.front.committed
     watermark_here runs watermark is y =
         let seen = whole.holds.seen_so_far runs in
         is ∙ (λ i. watermark_by (delays (whole.view.bound i)) (λ stream. seen.are y stream i))
@@ -344,20 +367,18 @@ module _ {D L S F : Type 0} (tells : Type 0) (lines : L → List Line) (availabl
     pub streams_below : (i : ℕ) (part : Part) → slice_get (parts_in (setting_of lines shown.opening)) i ≡ Some part → part.stream < length (setting_of lines shown.opening).job.bound.streams
     streams_below i part there =
         let s : Setting = setting_of lines shown.opening in
-        let is = whole.round.setting in
-        let each = is.asked.each_stream in
-        let counts = ap length is.parts ∙ length-map whole.round.lens.streams (λ (parts : List ℕ). length parts) in
-        let below = stream_in s.job.parts s.lines i part there in omega (arith, below, counts, each)
+        let counts = whole.round.streams in
+        let below = stream_in s.job.parts s.lines i part there in omega (arith, below, counts)
 
     -- the out task that waits: what it is to take
     pub record IsOutHere : Type 0 where
       pub work : OutWork S F
       pub here : load.out ≡ Some work
-      pub is : IsOutWork tells written (setting_of lines shown.opening) (cuts_of (opening_in lines) shown) shown.core.front.committed work
+      pub is : IsOutWork (Owns stores logs lines shown) written (setting_of lines shown.opening) (cuts_of (opening_in lines) shown) shown.core.front.committed work
       pub room : length work.rows.items + length load.shares.items ≤ vec_capacity work.rows
       pub raise : CanRaise (length work.seen) load.sources.items
-      pub times : tells → (stream : ℕ) → raised_in load.sources.items (seen_at work.seen) stream ≡ seen (setting_of lines shown.opening).job.bound (parts_in (setting_of lines shown.opening)) (offsets (cuts_of (opening_in lines) shown)) stream (shown.core.front.committed + 1)
-      pub rows : tells → AreShown (setting_of lines shown.opening) (cuts_of (opening_in lines) shown) shown.core.front.committed (map (λ share. share.rows.items) load.shares.items)
+      pub times : Owns stores logs lines shown → (stream : ℕ) → raised_in load.sources.items (seen_at work.seen) stream ≡ seen (setting_of lines shown.opening).job.bound (parts_in (setting_of lines shown.opening)) (offsets (cuts_of (opening_in lines) shown)) stream (shown.core.front.committed + 1)
+      pub rows : Owns stores logs lines shown → AreShown (setting_of lines shown.opening) (cuts_of (opening_in lines) shown) shown.core.front.committed (map (λ share. share.rows.items) load.shares.items)
       pub printable : All (All (IfTime IsStampTime)) (joined (map (λ share. share.rows.items) load.shares.items))
 
     pub out_here : (t : TaskId) → t.kind ≡ kind.Out → t.number ≡ 0 → May shown.scope shown.core (entry.Claim t) → IsOutHere
@@ -372,11 +393,11 @@ module _ {D L S F : Type 0} (tells : Type 0) (lines : L → List Line) (availabl
         let w = e.outs waits in
         let count = whole.holds.partitions in
         let streams = w.2.times.streams in
-        let share_at : (p : ℕ) (share : Share) → get_elem? load.shares.items p ≡ some share → IsShare tells s (cuts_of (opening_in lines) shown) shown.core.front.committed p (place.Back None) share =
+        let share_at : (p : ℕ) (share : Share) → get_elem? load.shares.items p ≡ some share → IsShare (Owns stores logs lines shown) s (cuts_of (opening_in lines) shown) shown.core.front.committed p (place.Back None) share =
         λ p share here. (let reduces = order.sound.reduces in
-        let scoped = whole.round.scope.partitions in
+        let scoped = whole.round.partitions in
         let at = there_at shown.core.reduces p (let l = at_length load.shares.items p share here in omega (arith, l, count, reduces, scoped)) in
-        back_of tells s (cuts_of (opening_in lines) shown) shown.core.front.committed p at.0 share (all_fine is_fine shown.core.reduces p at.0 reduces_fine at.1) (e.shared waits p at.0 share at.1 here)) in record {
+        back_of (Owns stores logs lines shown) s (cuts_of (opening_in lines) shown) shown.core.front.committed p at.0 share (all_fine is_fine shown.core.reduces p at.0 reduces_fine at.1) (e.shared waits p at.0 share at.1 here)) in record {
           work = w.0;
           here = w.1;
           is = w.2;
@@ -386,11 +407,11 @@ module _ {D L S F : Type 0} (tells : Type 0) (lines : L → List Line) (availabl
               let m = source_here may.0 may.1 maps_fine i part.0 source part.1 here in
               let own = whole.holds.logs i part.0 m.0 source part.1 m.1 here in
               let below = streams_below i part.0 part.1 in
-              (omega (arith, below, own.stream, streams), (source_safe tells s.job.bound part.0 _ _ s.job.partitions shown.core.reduces m.0 source m.2 m.3).years)));
+              (omega (arith, below, own.stream, streams), (source_safe (stores × logs) s.job.bound part.0 _ _ s.job.partitions shown.core.reduces m.0 source m.2 m.3).years)));
           times = λ y stream. all_times s.job.bound (parts_in s) load.sources.items (cut_of (cuts_of (opening_in lines) shown shown.core.front.committed)) (cut_of (cuts_of (opening_in lines) shown (shown.core.front.committed + 1))) (seen_at w.0.seen)
               whole.holds.parts (length-map (cuts_of (opening_in lines) shown shown.core.front.committed) (λ (e : PartEnd). e.end) ∙ e.froms) (tos_count may.1)
               (λ i part source there here. (let m = source_here may.0 may.1 maps_fine i part source there here in
-              ((whole.holds.logs i part m.0 source there m.1 here).stream, time_is tells s.job.bound part _ _ s.job.partitions shown.core.reduces m.0 source y m.2 m.3))) stream
+              ((whole.holds.logs i part m.0 source there m.1 here).stream, time_is (stores × logs) s.job.bound part _ _ s.job.partitions shown.core.reduces m.0 source (y.0, y.1.0) m.2 m.3))) stream
               ∙ raise_times s.job.bound (parts_in s) (offsets (cuts_of (opening_in lines) shown)) shown.core.front.committed (seen_at w.0.seen) (λ other. w.2.times.are y other) stream;
           rows = λ y. record {
             count = length-map load.shares.items (λ (share : Share). share.rows.items) ∙ count;
@@ -404,10 +425,10 @@ module _ {D L S F : Type 0} (tells : Type 0) (lines : L → List Line) (availabl
 
     -- once it is handed out
     pub out_claimed : (t : TaskId) (more : List Share) (left : Option (OutWork S F)) → t.kind ≡ kind.Out → t.number ≡ 0 → May shown.scope shown.core (entry.Claim t) → length more ≡ length load.shares.items
-        → Holds tells lines available written sealed (setting_of lines shown.opening) (cuts_of (opening_in lines) shown) shown.scope.available (after shown.scope shown.core (entry.Claim t)) load.sources.items more left load.seen load.pending
+        → HoldsIn stores logs lines available answers faults written sealed shown (cuts_of (opening_in lines) shown) (after shown.scope shown.core (entry.Claim t)) load.sources.items more left load.seen load.pending
     out_claimed t more left is zero_is may count =
-        subst (λ (c : Core). Holds tells lines available written sealed (setting_of lines shown.opening) (cuts_of (opening_in lines) shown) shown.scope.available c load.sources.items more left load.seen load.pending) (sym (out_moved shown.core t place.Away is zero_is))
-        (holds_out tells lines available written sealed (setting_of lines shown.opening) (cuts_of (opening_in lines) shown) shown.scope.available shown.core shown.core.front.stop place.Away load.sources.items load.shares.items more load.out left load.seen load.pending
+        subst (λ (c : Core). HoldsIn stores logs lines available answers faults written sealed shown (cuts_of (opening_in lines) shown) c load.sources.items more left load.seen load.pending) (sym (out_moved shown.core t place.Away is zero_is))
+        (holds_out (stores × logs) (Owns stores logs lines shown) lines available (LogWent logs lines available answers faults) shown.opening.logs.items written sealed (setting_of lines shown.opening) (cuts_of (opening_in lines) shown) shown.scope.available shown.core shown.core.front.stop place.Away load.sources.items load.shares.items more load.out left load.seen load.pending
         (λ e. e) whole.holds (λ e. absurd (away_waits e)) count (λ run opened. and_right (list_all is_fine shown.core.maps) (list_all is_fine shown.core.reduces) (and_right shown.core.front.fresh (list_all is_fine shown.core.maps && list_all is_fine shown.core.reduces) (subst (λ k. may_start shown.core k ≡ true) is may.3))) (λ f stopped. whole.holds.stop f stopped))
       where
         away_waits : place.Away ≡ place.Waits → ⊥

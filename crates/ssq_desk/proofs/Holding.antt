@@ -1,6 +1,6 @@
 -- What a desk holds, after one of its slots was changed.
-use Rattle.std.proofs.Common.{◌≡◌, ◌⊎◌, ◌<◌, ◌≤◌, ◌+◌, ℕ, ℤ, zero, suc, true≢false, List, [], ◌∷◌, length, get_or, set, Option, Some, None, inl, inr, refl, sym, ap, ◌∙◌, subst, arith}
-use Rattle.std.specs.Prelude.{All, slice_get, IfSome, true}
+use Rattle.std.proofs.Common.{◌≡◌, ◌⊎◌, ◌+◌, ℕ, ℤ, zero, suc, true≢false, List, [], ◌∷◌, length, get_or, set, Option, Some, None, inl, inr, refl, sym, ap, ◌∙◌, subst, arith}
+use Rattle.std.specs.Prelude.{All, slice_get, IfSome, true, false}
 use Rattle.ssq_time.specs.Time.{IsLineTime}
 use Rattle.ssq_terms.specs.Rows.{bucket_in}
 use Rattle.std.proofs.lemmas.List.Elements.{All-set}
@@ -18,14 +18,14 @@ use Rattle.ssq_board.specs.declared.front.Cause.{Cause}
 use Rattle.ssq_board.specs.declared.front.Place.{Place}
 use Rattle.ssq_board.specs.declared.front.Place.TheVariants as place
 use Rattle.std.specs.List.{list_all}
-use Rattle.ssq_board.specs.Core.{Core, is_open, is_fine, stopped_front}
+use Rattle.ssq_board.specs.Core.{Core, is_open, is_fine, is_of_line, fault_at, stopped_front}
 use Rattle.ssq_board.proofs.Lists.{put_else, set_length, all_fine}
 use Rattle.ssq_desk.specs.declared.desk.Source.{Source}
 use Rattle.ssq_desk.specs.declared.desk.Share.{Share}
 use Rattle.ssq_desk.specs.declared.desk.OutWork.{OutWork}
 use Rattle.ssq_desk.specs.declared.desk.Pending.{Pending}
 use Rattle.ssq_desk.specs.Handing.{IsTaken}
-use Rattle.ssq_desk.specs.Contents.{IsSourceOf, IsMapped, IsBrought, IsShare, IsOutWork, IsEpoch, IsStopOf, Holds}
+use Rattle.ssq_desk.specs.Contents.{IsSourceOf, IsMapped, IsBrought, IsShare, IsStopOf, Holds}
 
 -- what is put into a list is there
 pub put_is : {A : Type 0} (l : List A) (i : ℕ) (a x : A) → get_elem? (set l i a) i ≡ some x → a ≡ x
@@ -107,9 +107,9 @@ mapped_less tells query part from to partitions reduces p at old new taken m = r
   fault = m.fault;
 }
 
-source_less : {L : Type 0} (tells : Type 0) (lines : L → List Line) (available : L → ℕ) (part : Part) (found p : ℕ) (at : Place) (old new : Source L) → IsTaken p old new
-    → IsSourceOf tells lines available part found at old → IsSourceOf tells lines available part found at new
-source_less tells lines available part found p at old new taken s = record {
+source_less : {L : Type 0} (reads : Type 0) (lines : L → List Line) (available : L → ℕ) (went : L → L → Type 0) (opened : List L) (i : ℕ) (part : Part) (found p : ℕ) (at : Place) (old new : Source L) → IsTaken p old new
+    → IsSourceOf reads lines available went opened i part found at old → IsSourceOf reads lines available went opened i part found at new
+source_less reads lines available went opened i part found p at old new taken s = record {
   stream = s.stream ∙ sym taken.stream_is;
   number = s.number ∙ sym taken.part_is;
   log = λ here. (let l = s.log here in (l.0, taken.log_is ∙ l.1, l.2));
@@ -123,52 +123,62 @@ there_in (x ∷ l) [] i b e here = absurd (omega (arith, e))
 there_in (x ∷ l) (y ∷ m) zero b e here = (x, refl)
 there_in (x ∷ l) (y ∷ m) (suc i) b e here = there_in l m i b (omega (arith, e)) here
 
-module _ {L S F : Type 0} (tells : Type 0) (lines : L → List Line) (available : L → ℕ) (written : S → List ℕ) (sealed : F → List ℕ) (s : Setting) (cuts : Cuts) (found : List ℕ) where
+-- a task that is elsewhere met nothing of a line, nor did the others
+put_reduced : (reduces : List Place) (i : ℕ) (p : Place) → ((q : ℕ) (f : Cause) → get_elem? reduces q ≡ some (place.Back (Some f)) → is_of_line f ≡ false) → ((f : Cause) → p ≡ place.Back (Some f) → is_of_line f ≡ false)
+    → (q : ℕ) (f : Cause) → get_elem? (set reduces i p) q ≡ some (place.Back (Some f)) → is_of_line f ≡ false
+put_reduced reduces i p none own q f here = elim (same_or_not i q) [
+  | inl same ↦ own f (put_is reduces i p (place.Back (Some f)) (subst (λ (k : ℕ). get_elem? (set reduces i p) k ≡ some (place.Back (Some f))) (sym same) here))
+  | inr other ↦ none q f (sym (put_else reduces i q p other) ∙ here)
+]
+
+module _ {L S F : Type 0} (reads owned : Type 0) (lines : L → List Line) (available : L → ℕ) (went : L → L → Type 0) (opened : List L) (written : S → List ℕ) (sealed : F → List ℕ) (s : Setting) (cuts : Cuts) (found : List ℕ) where
   -- a map task is elsewhere
   pub holds_map : (c : Core) (stop : Option Cause) (i : ℕ) (p : Place) (x : Source L) (sources : List (Source L)) (shares : List Share) (out : Option (OutWork S F)) (times : List (Option ℤ)) (pending : Option (Pending F))
-      → (stop ≡ None → c.front.stop ≡ None) → Holds tells lines available written sealed s cuts found c sources shares out times pending
-      → ((part : Part) → slice_get (parts_in s) i ≡ Some part → IsSourceOf tells lines available part (get_or found i 0) p x)
+      → (stop ≡ None → c.front.stop ≡ None) → Holds reads owned lines available went opened written sealed s cuts found c sources shares out times pending
+      → ((part : Part) → slice_get (parts_in s) i ≡ Some part → IsSourceOf reads lines available went opened i part (get_or found i 0) p x)
       → (c.front.stop ≡ None → is_open c ≡ true → (part : Part) → slice_get (parts_in s) i ≡ Some part
-      → IsMapped tells s.job.bound part (get_or (cut_of (cuts c.front.committed)) i 0) (get_or (cut_of (cuts (c.front.committed + 1))) i 0) s.job.partitions c.reduces p x)
-      → ((f : Cause) → stop ≡ Some f → IsStopOf tells s cuts c.front.committed f)
-      → Holds tells lines available written sealed s cuts found (with_map c stop i p) (set sources i x) shares out times pending
+      → IsMapped reads s.job.bound part (get_or (cut_of (cuts c.front.committed)) i 0) (get_or (cut_of (cuts (c.front.committed + 1))) i 0) s.job.partitions c.reduces p x)
+      → ((f : Cause) → stop ≡ Some f → IsStopOf reads s cuts c.front.committed f)
+      → Holds reads owned lines available went opened written sealed s cuts found (with_map c stop i p) (set sources i x) shares out times pending
   holds_map c stop i p x sources shares out times pending runs h source mapped stops = record {
     parts = set_length sources i x ∙ h.parts;
     partitions = h.partitions;
     logs = λ j part at own there place_is own_is.
-        put_both (λ j at own. (part : Part) → slice_get (parts_in s) j ≡ Some part → IsSourceOf tells lines available part (get_or found j 0) at own) c.maps sources i p x
+        put_both (λ j at own. (part : Part) → slice_get (parts_in s) j ≡ Some part → IsSourceOf reads lines available went opened j part (get_or found j 0) at own) c.maps sources i p x
         (λ j at own place_is own_is part there. h.logs j part at own there place_is own_is) source j at own place_is own_is part there;
+    reduced = h.reduced;
     seen_so_far = λ run. h.seen_so_far (runs run);
-    epoch = λ run opened. (let e = h.epoch (runs run) opened in record {
+    epoch = λ run is_opened. (let e = h.epoch (runs run) is_opened in record {
       froms = e.froms;
       mapped = λ j part at own there place_is own_is.
           put_both (λ j at own. (part : Part) → slice_get (parts_in s) j ≡ Some part
-          → IsMapped tells s.job.bound part (get_or (cut_of (cuts c.front.committed)) j 0) (get_or (cut_of (cuts (c.front.committed + 1))) j 0) s.job.partitions c.reduces at own) c.maps sources i p x
-          (λ j at own place_is own_is part there. e.mapped j part at own there place_is own_is) (mapped (runs run) opened) j at own place_is own_is part there;
+          → IsMapped reads s.job.bound part (get_or (cut_of (cuts c.front.committed)) j 0) (get_or (cut_of (cuts (c.front.committed + 1))) j 0) s.job.partitions c.reduces at own) c.maps sources i p x
+          (λ j at own place_is own_is part there. e.mapped j part at own there place_is own_is) (mapped (runs run) is_opened) j at own place_is own_is part there;
       shared = e.shared;
       last = e.last;
       outs = e.outs;
     });
-    commit = λ run opened written_is. h.commit (runs run) opened written_is;
+    commit = λ run is_opened written_is. h.commit (runs run) is_opened written_is;
     stop = stops;
   }
 
   -- a reduce task is handed out, with its buckets
   pub holds_claimed : (c : Core) (i : ℕ) (x : Share) (sources left : List (Source L)) (shares : List Share) (out : Option (OutWork S F)) (times : List (Option ℤ)) (pending : Option (Pending F))
-      → Holds tells lines available written sealed s cuts found c sources shares out times pending → length left ≡ length sources → get_elem? c.reduces i ≡ some place.Waits
+      → Holds reads owned lines available went opened written sealed s cuts found c sources shares out times pending → length left ≡ length sources → get_elem? c.reduces i ≡ some place.Waits
       → ((j : ℕ) (old new : Source L) → get_elem? sources j ≡ some old → get_elem? left j ≡ some new → IsTaken i old new)
-      → Holds tells lines available written sealed s cuts found (with_reduce c c.front.stop i place.Away) left (set shares i x) out times pending
+      → Holds reads owned lines available went opened written sealed s cuts found (with_reduce c c.front.stop i place.Away) left (set shares i x) out times pending
   holds_claimed c i x sources left shares out times pending h count waits_there taken = record {
     parts = count ∙ h.parts;
     partitions = set_length shares i x ∙ h.partitions;
     logs = λ j part at own there place_is own_is. (let old = there_in sources left j own (sym count) own_is in
-        source_less tells lines available part (get_or found j 0) i at old.0 own (taken j old.0 own old.1 own_is) (h.logs j part at old.0 there place_is old.1));
+        source_less reads lines available went opened j part (get_or found j 0) i at old.0 own (taken j old.0 own old.1 own_is) (h.logs j part at old.0 there place_is old.1));
+    reduced = put_reduced c.reduces i place.Away h.reduced (λ f b. absurd (away_not_fault f b));
     seen_so_far = h.seen_so_far;
-    epoch = λ run opened. (let e = h.epoch run opened in record {
+    epoch = λ run is_opened. (let e = h.epoch run is_opened in record {
       froms = e.froms;
       mapped = λ j part at own there place_is own_is. (let old = there_in sources left j own (sym count) own_is in
-          mapped_less tells s.job.bound part _ _ s.job.partitions c.reduces i at old.0 own (taken j old.0 own old.1 own_is) (e.mapped j part at old.0 there place_is old.1));
-      shared = λ waits. put_both (λ p at share. IsShare tells s cuts c.front.committed p at share) c.reduces shares i place.Away x (λ j at share. e.shared waits j at share)
+          mapped_less reads s.job.bound part _ _ s.job.partitions c.reduces i at old.0 own (taken j old.0 own old.1 own_is) (e.mapped j part at old.0 there place_is old.1));
+      shared = λ waits. put_both (λ p at share. IsShare owned s cuts c.front.committed p at share) c.reduces shares i place.Away x (λ j at share. e.shared waits j at share)
           (record { there = λ r. absurd (away_not_rests r); empty = λ w. absurd (away_not_waits w); shown = λ b. absurd (away_not_back b); printable = λ b. absurd (away_not_back b) });
       last = elim e.last [ inl w ↦ inl w | inr fine ↦ absurd (true≢false (sym (all_fine is_fine c.reduces i place.Waits fine waits_there))) ];
       outs = e.outs;
@@ -183,6 +193,9 @@ module _ {L S F : Type 0} (tells : Type 0) (lines : L → List Line) (available 
       away_not_rests : place.Away ≡ place.Rests → ⊥
       away_not_rests e = cc
 
+      away_not_fault : (f : Cause) → place.Away ≡ place.Back (Some f) → ⊥
+      away_not_fault f e = cc
+
   waits_again : (reduces : List Place) (i q : ℕ) (f : Option Cause) → get_elem? (set reduces i (place.Back f)) q ≡ some place.Waits → get_elem? reduces q ≡ some place.Waits
   waits_again reduces i q f waits = elim (same_or_not i q) [
     | inl same ↦ absurd (back_not_waits (put_is reduces i (place.Back f) place.Waits (subst (λ (k : ℕ). get_elem? (set reduces i (place.Back f)) k ≡ some place.Waits) (sym same) waits)))
@@ -194,16 +207,18 @@ module _ {L S F : Type 0} (tells : Type 0) (lines : L → List Line) (available 
 
   -- a reduce task is back
   pub holds_reduced : (c : Core) (stop f : Option Cause) (i : ℕ) (x : Share) (sources : List (Source L)) (shares : List Share) (out : Option (OutWork S F)) (times : List (Option ℤ)) (pending : Option (Pending F))
-      → (stop ≡ None → c.front.stop ≡ None) → Holds tells lines available written sealed s cuts found c sources shares out times pending
-      → get_elem? c.reduces i ≡ some place.Away → (c.front.stop ≡ None → is_open c ≡ true → IsShare tells s cuts c.front.committed i (place.Back f) x)
-      → ((g : Cause) → stop ≡ Some g → IsStopOf tells s cuts c.front.committed g)
-      → Holds tells lines available written sealed s cuts found (with_reduce c stop i (place.Back f)) sources (set shares i x) out times pending
-  holds_reduced c stop f i x sources shares out times pending runs h away share stops = record {
+      → (stop ≡ None → c.front.stop ≡ None) → Holds reads owned lines available went opened written sealed s cuts found c sources shares out times pending
+      → get_elem? c.reduces i ≡ some place.Away → (c.front.stop ≡ None → is_open c ≡ true → IsShare owned s cuts c.front.committed i (place.Back f) x)
+      → ((g : Cause) → f ≡ Some g → is_of_line g ≡ false)
+      → ((g : Cause) → stop ≡ Some g → IsStopOf reads s cuts c.front.committed g)
+      → Holds reads owned lines available went opened written sealed s cuts found (with_reduce c stop i (place.Back f)) sources (set shares i x) out times pending
+  holds_reduced c stop f i x sources shares out times pending runs h away share no_line stops = record {
     parts = h.parts;
     partitions = set_length shares i x ∙ h.partitions;
     logs = h.logs;
+    reduced = put_reduced c.reduces i (place.Back f) h.reduced (λ g b. no_line g (ap fault_at b));
     seen_so_far = λ run. h.seen_so_far (runs run);
-    epoch = λ run opened. (let e = h.epoch (runs run) opened in record {
+    epoch = λ run is_opened. (let e = h.epoch (runs run) is_opened in record {
       froms = e.froms;
       mapped = λ j part at own there place_is own_is. (let m = e.mapped j part at own there place_is own_is in record {
         begins = m.begins;
@@ -223,32 +238,33 @@ module _ {L S F : Type 0} (tells : Type 0) (lines : L → List Line) (available 
         ));
         fault = m.fault;
       });
-      shared = λ waits. put_both (λ p at share. IsShare tells s cuts c.front.committed p at share) c.reduces shares i (place.Back f) x (λ j at share. e.shared waits j at share) (share (runs run) opened);
+      shared = λ waits. put_both (λ p at share. IsShare owned s cuts c.front.committed p at share) c.reduces shares i (place.Back f) x (λ j at share. e.shared waits j at share) (share (runs run) is_opened);
       last = elim e.last [ inl w ↦ inl w | inr fine ↦ absurd (true≢false (sym (all_fine is_fine c.reduces i place.Away fine away))) ];
       outs = e.outs;
     });
-    commit = λ run opened written_is. h.commit (runs run) opened written_is;
+    commit = λ run is_opened written_is. h.commit (runs run) is_opened written_is;
     stop = stops;
   }
 
   -- the out task is elsewhere, and not at the desk
   pub holds_out : (c : Core) (stop : Option Cause) (p : Place) (sources : List (Source L)) (shares more : List Share) (out left : Option (OutWork S F)) (times : List (Option ℤ)) (pending : Option (Pending F))
-      → (stop ≡ None → c.front.stop ≡ None) → Holds tells lines available written sealed s cuts found c sources shares out times pending → (p ≡ place.Waits → ⊥)
+      → (stop ≡ None → c.front.stop ≡ None) → Holds reads owned lines available went opened written sealed s cuts found c sources shares out times pending → (p ≡ place.Waits → ⊥)
       → length more ≡ length shares → (c.front.stop ≡ None → is_open c ≡ true → list_all is_fine c.reduces ≡ true)
-      → ((g : Cause) → stop ≡ Some g → IsStopOf tells s cuts c.front.committed g)
-      → Holds tells lines available written sealed s cuts found (with_out c stop p) sources more left times pending
+      → ((g : Cause) → stop ≡ Some g → IsStopOf reads s cuts c.front.committed g)
+      → Holds reads owned lines available went opened written sealed s cuts found (with_out c stop p) sources more left times pending
   holds_out c stop p sources shares more out left times pending runs h gone count fine stops = record {
     parts = h.parts;
     partitions = count ∙ h.partitions;
     logs = h.logs;
+    reduced = h.reduced;
     seen_so_far = λ run. h.seen_so_far (runs run);
-    epoch = λ run opened. (let e = h.epoch (runs run) opened in record {
+    epoch = λ run is_opened. (let e = h.epoch (runs run) is_opened in record {
       froms = e.froms;
       mapped = e.mapped;
       shared = λ waits. absurd (gone (put_is c.outs 0 p place.Waits waits));
-      last = inr (fine (runs run) opened);
+      last = inr (fine (runs run) is_opened);
       outs = λ waits. absurd (gone (put_is c.outs 0 p place.Waits waits));
     });
-    commit = λ run opened written_is. h.commit (runs run) opened written_is;
+    commit = λ run is_opened written_is. h.commit (runs run) is_opened written_is;
     stop = stops;
   }

@@ -17,3 +17,5 @@ pub mod Reporting
 pub mod Reducing
 pub mod Publishing
 pub mod Returning
+pub mod Telling
+pub mod Closings

@@ -1,5 +1,8 @@
 -- How the parts get their logs.
-use Rattle.std.proofs.Common.{◌≡◌, ◌≤◌, ◌+◌, ◌++◌, ◌∷◌, [], ℕ, List, length, drop, refl}
+use Rattle.std.proofs.Common.{◌≡◌, ◌≤◌, ◌+◌, ◌++◌, ◌∷◌, [], ℕ, List, length, length-append, map, drop, Option, Some, refl, sym, ap, ◌∙◌, arith}
+use Rattle.std.specs.Prelude.{All, IsSome}
+use Rattle.std.proofs.lemmas.List.{append_assoc, map-append}
+use Rattle.std.proofs.lemmas.List.Elements.{All-tail}
 use Rattle.std.specs.List.{AllZip}
 use Rattle.ssq_plans.specs.declared.part.PartEnd.{PartEnd}
 use Rattle.ssq_desk.specs.declared.desk.Source.{Source}
@@ -11,6 +14,23 @@ pub record IsPlacing {L : Type 0} (parts ends : List PartEnd) (logs rest : List 
   pub each_part : length parts ≡ length sources + length rest
   pub each_end : length ends ≡ length sources + length rest
   pub room : length sources + length rest ≤ capacity
+
+-- the logs of these sources are taken, and those of the others are to be
+pub record IsTaking {L : Type 0} (sources rest : List (Source L)) (logs : List L) (capacity : ℕ) : Type 0 where
+  pub items : map (λ (log : L). Some log) logs ++ map (λ (x : Source L). x.log) rest ≡ map (λ (x : Source L). x.log) sources
+  pub there : All (λ (x : Source L). IsSome x.log) rest
+  pub room : length logs + length rest ≤ capacity
+
+-- one log more is taken
+pub one_taken : {L : Type 0} (sources : List (Source L)) (x : Source L) (rest : List (Source L)) (logs : List L) (own : L) (capacity more : ℕ) → x.log ≡ Some own → capacity ≡ more → IsTaking sources (x ∷ rest) logs capacity
+    → IsTaking sources rest (logs ++ own ∷ []) more
+one_taken {L} sources x rest logs own capacity more log_is same is = record {
+  items = ap (λ (l : List (Option L)). l ++ map (λ (y : Source L). y.log) rest) (map-append (λ (log : L). Some log) logs (own ∷ []))
+      ∙ append_assoc (map (λ (log : L). Some log) logs) (Some own ∷ []) (map (λ (y : Source L). y.log) rest)
+      ∙ ap (λ (o : Option L). map (λ (log : L). Some log) logs ++ o ∷ map (λ (y : Source L). y.log) rest) (sym log_is) ∙ is.items;
+  there = All-tail (λ (y : Source L). IsSome y.log) x rest is.there;
+  room = (let room = is.room in let count = length-append logs (own ∷ []) in omega (arith, room, count, same));
+}
 
 -- ends that were copied one by one
 pub copied : {A : Type 0} (xs ys : List A) → AllZip (λ x y. y ≡ x) xs ys → ys ≡ xs

@@ -70,10 +70,10 @@ fine_not_away place.Away fine away = true≢false (sym fine)
 fine_not_away (place.Back f) fine away = away
 
 -- the source of a part that begins an epoch is its part's as before
-pub begun_source : {L : Type 0} (tells : Type 0) (lines : L → List Line) (available : L → ℕ) (ends : List PartEnd) (olds news : List (Source L)) → AreBegun ends olds news
-    → (i : ℕ) (part : Part) (found : ℕ) (at : Place) (source : Source L) → get_elem? news i ≡ some source → ((old : Source L) → get_elem? olds i ≡ some old → IsSourceOf tells lines available part found at old)
-    → IsSourceOf tells lines available part found at source
-begun_source {L} tells lines available ends olds news begun i part found at source mine was =
+pub begun_source : {L : Type 0} (reads : Type 0) (lines : L → List Line) (available : L → ℕ) (went : L → L → Type 0) (opened : List L) (ends : List PartEnd) (olds news : List (Source L)) → AreBegun ends olds news
+    → (i : ℕ) (part : Part) (found : ℕ) (at : Place) (source : Source L) → get_elem? news i ≡ some source → ((old : Source L) → get_elem? olds i ≡ some old → IsSourceOf reads lines available went opened i part found at old)
+    → IsSourceOf reads lines available went opened i part found at source
+begun_source {L} reads lines available went opened ends olds news begun i part found at source mine was =
     let before : i < length olds = omega (arith, at_length news i source mine, begun.0) in
     let end : PartEnd = record { stream = 0; part = 0; end = 0 } in
     let is = begun.1 i source before end in
@@ -86,23 +86,23 @@ begun_source {L} tells lines available ends olds news begun i part found at sour
       log = λ here. (let it = own.log here in (it.0, ap (λ (x : Source L). x.log) (sym same_new) ∙ is.log_is ∙ ap (λ (x : Source L). x.log) same_old ∙ it.1, it.2));
     }
 
-module _ (tells : Type 0) (s : Setting) (cuts other : Cuts) (e : ℕ) (same : AreSameUpTo cuts other e) where
+module _ (owned : Type 0) (s : Setting) (cuts other : Cuts) (e : ℕ) (same : AreSameUpTo cuts other e) where
   -- the greatest times hang on the epochs before
-  pub seen_stay : (times : List (Option ℤ)) → AreSeen tells s cuts e times → AreSeen tells s other e times
+  pub seen_stay : (times : List (Option ℤ)) → AreSeen owned s cuts e times → AreSeen owned s other e times
   seen_stay times are = record {
     streams = are.streams;
     are = λ t stream. are.are t stream ∙ (says_same s.job.bound (parts_in s) (cuts_of cuts) (cuts_of other) e (λ n le. ap cut_of (same n le))).same_seen stream e (omega arith);
   }
 
-  out_stays : {S F : Type 0} (written : S → List ℕ) (work : OutWork S F) → IsOutWork tells written s cuts e work → IsOutWork tells written s other e work
+  out_stays : {S F : Type 0} (written : S → List ℕ) (work : OutWork S F) → IsOutWork owned written s cuts e work → IsOutWork owned written s other e work
   out_stays written work is = record { none = is.none; room = is.room; times = seen_stay work.seen is.times; rows_empty = is.rows_empty; commit_empty = is.commit_empty }
 
 -- What is made for the next epoch before it is planned.
-pub record IsMade {L S F : Type 0} (tells : Type 0) (written : S → List ℕ) (s : Setting) (cuts : Cuts) (c : Core) (olds news : List (Source L)) (shares : List Share) (work : OutWork S F) : Type 0 where
+pub record IsMade {L S F : Type 0} (owned : Type 0) (written : S → List ℕ) (s : Setting) (cuts : Cuts) (c : Core) (olds news : List (Source L)) (shares : List Share) (work : OutWork S F) : Type 0 where
   pub begun : AreBegun c.ends olds news
   pub count : length shares ≡ s.job.partitions
   pub fresh : All (IsFresh (length (parts_in s))) shares
-  pub out : IsOutWork tells written s cuts c.front.committed work
+  pub out : IsOutWork owned written s cuts c.front.committed work
 
 -- between epochs of a desk that runs
 pub record IsBetween (s : Setting) (cuts : Cuts) (r : Scope) (c : Core) : Type 0 where
@@ -113,8 +113,8 @@ pub record IsBetween (s : Setting) (cuts : Cuts) (r : Scope) (c : Core) : Type 0
   pub each_end : length c.ends ≡ length (parts_in s)
   pub each_map : length c.maps ≡ length (parts_in s)
 
-module _ {L S F : Type 0} (tells : Type 0) (lines : L → List Line) (available : L → ℕ) (written : S → List ℕ) (sealed : F → List ℕ) (s : Setting) (cuts : Cuts) (r : Scope) (c : Core)
-    (olds news : List (Source L)) (shares : List Share) (work : OutWork S F) (times : List (Option ℤ)) (made : IsMade tells written s cuts c olds news shares work) (between : IsBetween s cuts r c) where
+module _ {L S F : Type 0} (reads owned : Type 0) (lines : L → List Line) (available : L → ℕ) (went : L → L → Type 0) (opened : List L) (written : S → List ℕ) (sealed : F → List ℕ) (s : Setting) (cuts : Cuts) (r : Scope) (c : Core)
+    (olds news : List (Source L)) (shares : List Share) (work : OutWork S F) (times : List (Option ℤ)) (made : IsMade owned written s cuts c olds news shares work) (between : IsBetween s cuts r c) where
   next : Ends
   next = next_ends r.cap c.ends r.available
 
@@ -137,7 +137,7 @@ module _ {L S F : Type 0} (tells : Type 0) (lines : L → List Line) (available 
   begun_of i source here = omega (arith, at_length news i source here, made.begun.0)
 
   mapped : (reduces : List Place) (i : ℕ) (part : Part) (at : Place) (source : Source L) → slice_get (parts_in s) i ≡ Some part → get_elem? (dealt c.ends next) i ≡ some at → get_elem? news i ≡ some source
-      → IsMapped tells s.job.bound part (get_or (cut_of (then_cuts c.front.committed)) i 0) (get_or (cut_of (then_cuts (c.front.committed + 1))) i 0) s.job.partitions reduces at source
+      → IsMapped reads s.job.bound part (get_or (cut_of (then_cuts c.front.committed)) i 0) (get_or (cut_of (then_cuts (c.front.committed + 1))) i 0) s.job.partitions reduces at source
   mapped reduces i part at source there here mine =
       let below : i < length c.ends = omega (arith, slice_below (parts_in s) i part there, between.each_end) in
       let before : i < length olds = begun_of i source mine in
@@ -155,7 +155,7 @@ module _ {L S F : Type 0} (tells : Type 0) (lines : L → List Line) (available 
         fault = λ f back. elim (dealt_at c.ends next i at here) [ inl w ↦ absurd (waits_not_back at (Some f) w.0 back) | inr q ↦ absurd (rests_not_back at (Some f) q.0 back) ];
       }
 
-  shared : (p : ℕ) (at : Place) (share : Share) → get_elem? (map (λ _. place.Waits) c.reduces) p ≡ some at → get_elem? shares p ≡ some share → IsShare tells s then_cuts c.front.committed p at share
+  shared : (p : ℕ) (at : Place) (share : Share) → get_elem? (map (λ _. place.Waits) c.reduces) p ≡ some at → get_elem? shares p ≡ some share → IsShare owned s then_cuts c.front.committed p at share
   shared p at share here mine =
       let waits : at ≡ place.Waits = const_at place.Waits at c.reduces p here in
       let fresh : IsFresh (length (parts_in s)) share = subst (IsFresh (length (parts_in s))) (at_get shares p share share mine) (made.fresh p share (at_length shares p share mine)) in record {
@@ -166,33 +166,37 @@ module _ {L S F : Type 0} (tells : Type 0) (lines : L → List Line) (available 
       }
 
   -- the log of a part is where it was
-  logged : (pending : Option (Pending F)) (out : Option (OutWork S F)) (old_shares : List Share) → Holds tells lines available written sealed s cuts r.available c olds old_shares out times pending
+  logged : (pending : Option (Pending F)) (out : Option (OutWork S F)) (old_shares : List Share) → Holds reads owned lines available went opened written sealed s cuts r.available c olds old_shares out times pending
       → (i : ℕ) (part : Part) (at : Place) (source : Source L) → slice_get (parts_in s) i ≡ Some part → get_elem? (dealt c.ends next) i ≡ some at → get_elem? news i ≡ some source
-      → IsSourceOf tells lines available part (get_or r.available i 0) at source
+      → IsSourceOf reads lines available went opened i part (get_or r.available i 0) at source
   logged pending out old_shares holds i part at source there here mine =
       let placed = there_at c.maps i (omega (arith, slice_below (parts_in s) i part there, between.each_map)) in
       let back = fine_not_away placed.0 (all_fine is_fine c.maps i placed.0 between.back placed.1) in
-      begun_source tells lines available c.ends olds news made.begun i part (get_or r.available i 0) at source mine (λ old was. by_place placed.0 back (holds.logs i part placed.0 old there placed.1 was))
+      begun_source reads lines available went opened c.ends olds news made.begun i part (get_or r.available i 0) at source mine (λ old was. by_place placed.0 back (holds.logs i part placed.0 old there placed.1 was))
     where
-      by_place : (before : Place) → (is_away before → ⊥) → {old : Source L} → IsSourceOf tells lines available part (get_or r.available i 0) before old → IsSourceOf tells lines available part (get_or r.available i 0) at old
+      by_place : (before : Place) → (is_away before → ⊥) → {old : Source L} → IsSourceOf reads lines available went opened i part (get_or r.available i 0) before old → IsSourceOf reads lines available went opened i part (get_or r.available i 0) at old
       by_place before back was = record { stream = was.stream; number = was.number; log = λ here. was.log back }
 
   -- once the epoch is planned, what was made for it is what its tasks are to take
-  pub planned : (pending : Option (Pending F)) (out : Option (OutWork S F)) (old_shares : List Share) → Holds tells lines available written sealed s cuts r.available c olds old_shares out times pending
-      → Holds tells lines available written sealed s (extended cuts c.front.planned (next_ends r.cap c.ends r.available)) r.available (after r c (entry.Plan c.front.planned)) news shares (Some work) times pending
+  pub planned : (pending : Option (Pending F)) (out : Option (OutWork S F)) (old_shares : List Share) → Holds reads owned lines available went opened written sealed s cuts r.available c olds old_shares out times pending
+      → Holds reads owned lines available went opened written sealed s (extended cuts c.front.planned (next_ends r.cap c.ends r.available)) r.available (after r c (entry.Plan c.front.planned)) news shares (Some work) times pending
   unfolding then_cuts next
   planned pending out old_shares holds = record {
     parts = made.begun.0 ∙ holds.parts;
     partitions = made.count;
     logs = logged pending out old_shares holds;
-    seen_so_far = λ running. seen_stay tells s cuts then_cuts c.front.committed same_cuts times (holds.seen_so_far between.running);
-    epoch = λ running opened. record {
+    reduced = λ p f here. absurd (waits_not_fault f (const_at place.Waits (place.Back (Some f)) c.reduces p here));
+    seen_so_far = λ running. seen_stay owned s cuts then_cuts c.front.committed same_cuts times (holds.seen_so_far between.running);
+    epoch = λ running is_opened. record {
       froms = ap length ends_are ∙ between.each_end;
       mapped = mapped (map (λ _. place.Waits) c.reduces);
       shared = λ waits. shared;
       last = inl refl;
-      outs = λ waits. (work, refl, out_stays tells s cuts then_cuts c.front.committed same_cuts written work made.out);
+      outs = λ waits. (work, refl, out_stays owned s cuts then_cuts c.front.committed same_cuts written work made.out);
     };
     commit = λ running opened written_is. absurd (true≢false (sym written_is));
     stop = λ f stopped. absurd (true≢false (sym (ap is_some stopped)));
   }
+    where
+      waits_not_fault : (f : Cause) → place.Back (Some f) ≡ place.Waits → ⊥
+      waits_not_fault f e = cc

@@ -3,7 +3,6 @@ use Rattle.std.proofs.Common.{◌≡◌, ◌≤◌, ◌+◌, ◌++◌, [], ◌�
 use Rattle.std.specs.Prelude.{is_some, IfOk, IfErr, IfSome, OnOk, OnErr, if◌then◌else◌}
 use mathlib.Core.Option.{some}
 use lib.ListN.{get_elem?}
-use Rattle.ssq_outside.specs.History.{History}
 use Rattle.ssq_outside.specs.Faults.{Rises}
 use Rattle.ssq_shape.specs.declared.bound.Bound.{Bound}
 use Rattle.ssq_shape.specs.declared.bound.Shape.TheVariants.{Plain}
@@ -22,6 +21,7 @@ use Rattle.ssq_task.specs.declared.stages.SealedEpoch.{SealedEpoch}
 use Rattle.ssq_task.specs.declared.stages.Remnant.{Remnant}
 use Rattle.ssq_task.specs.Lists.{joined_vecs}
 use Rattle.ssq_task.specs.Gathering.{HasEpoch, GatherCause, SealCause, IsGathered}
+use Rattle.ssq_feed.specs.Causes.{LogWent}
 use Rattle.ssq_core.specs.Course.{Cuts}
 use Rattle.ssq_course.specs.Setting.{Setting, rows_at}
 use Rattle.ssq_board.specs.declared.front.Cause.{Cause}
@@ -33,11 +33,11 @@ use Rattle.ssq_board.specs.Core.{Scope, Core, May, HasCause, is_stopped, fault_a
 use Rattle.ssq_board.proofs.Leasts.{cause_counts}
 use Rattle.ssq_board.proofs.Lists.{at_length, set_length}
 use Rattle.ssq_ledger.specs.Shown.{Shown, IsInOrder, HasRisen, cuts_of, did, answer}
-use Rattle.ssq_terms.proofs.Showing.{show_rows}
+use Rattle.ssq_terms.proofs.Showing.{show_rows, count_rows}
 use Rattle.ssq_desk.specs.declared.desk.Load.{Load}
 use Rattle.ssq_desk.specs.declared.desk.Pending.{Pending}
 use Rattle.ssq_desk.specs.declared.round.Round.{Round}
-use Rattle.ssq_desk.specs.Round.{setting_of}
+use Rattle.ssq_desk.specs.Round.{setting_of, Owns}
 use Rattle.ssq_desk.specs.Tasks.{IsOutTask, out_id}
 use Rattle.ssq_desk.specs.Handed.{IsOutOf}
 use Rattle.ssq_desk.specs.Results.{cause_of_gather}
@@ -46,30 +46,32 @@ use Rattle.ssq_desk.specs.Whole.{IsWhole, opening_in}
 use Rattle.ssq_desk.specs.Published.{AreRowsOf, IsCommitOf}
 use Rattle.ssq_desk.proofs.Holding.{put_is, holds_out}
 use Rattle.ssq_desk.proofs.Handing.{moved_whole}
-use Rattle.ssq_desk.proofs.Reducing.{same_cause, runs_by, stops_by}
-use Rattle.ssq_desk.proofs.Settling.{with_pending, halted_whole}
+use Rattle.ssq_desk.proofs.Reducing.{same_cause, runs_by, stops_by, faulty_by}
+use Rattle.ssq_desk.proofs.Settling.{with_pending, halted_whole, disk_no_log}
 use Rattle.ssq_desk.proofs.Wholes.{cause_stops, cuts_then}
 
 -- ---- the files of the epoch
 
-module _ {S F : Type 0} (tells stages : Type 0) (so : tells → stages) (written : S → List ℕ) (sealed : F → List ℕ) (faults : S → ℕ) (s : Setting) (cuts : Cuts) (e : ℕ) (task : OutTask S F) (done : Gathered S F)
-    (of : IsOutTask tells written s cuts e task) (is : IsGathered stages written sealed faults task done) (files : SealedEpoch F) (brought : done.outcome ≡ Ok files) where
-  has_epoch : tells → HasEpoch stages written sealed faults task files
+module _ {S F : Type 0} (owned stages : Type 0) (so : owned → stages) (written : S → List ℕ) (sealed : F → List ℕ) (faults : S → ℕ) (s : Setting) (cuts : Cuts) (e : ℕ) (task : OutTask S F) (done : Gathered S F)
+    (of : IsOutTask owned written s cuts e task) (is : IsGathered stages written sealed faults task done) (files : SealedEpoch F) (brought : done.outcome ≡ Ok files) where
+  has_epoch : owned → HasEpoch stages written sealed faults task files
   has_epoch t = subst (λ (o : Result (SealedEpoch F) (GatherFault × Remnant S F)). IfOk o (HasEpoch stages written sealed faults task)) brought (is.files (so t))
 
   -- the rows are those of the epoch
-  pub rows_are : s.job.bound.shape ≡ Plain → 1 ≤ s.job.partitions → tells → sealed files.rows ≡ rows_at s cuts e
+  pub rows_are : s.job.bound.shape ≡ Plain → 1 ≤ s.job.partitions → owned → sealed files.rows ≡ rows_at s cuts e
   rows_are plain many t =
       (has_epoch t).rows ∙ ap (λ (l : List ℕ). l ++ sink_text (output_names task.view.bound.now) (joined_vecs task.rows.items)) (of.rows_empty t)
       ∙ ap (λ (query : Bound). sink_text (output_names query) (joined_vecs task.rows.items)) of.view.bound
       ∙ show_rows s cuts e (map (λ rows. rows.items) task.rows.items) plain many (of.rows t)
 
   -- and the commit is the epoch's
-  pub commit_is : IsPending tells sealed s cuts e (record { commit = files.commit; seen = done.seen; count = files.count })
-  commit_is = record {
+  pub commit_is : s.job.bound.shape ≡ Plain → 1 ≤ s.job.partitions → IsPending owned sealed s cuts e (record { commit = files.commit; seen = done.seen; count = files.count })
+  commit_is plain many = record {
     commit = λ t. (has_epoch t).commit ∙ ap (λ (l : List ℕ). l ++ commit_text (record { epoch = task.epoch; seen = map (λ (d : Delay). record { stream = d.0; time = seen_at task.seen d.0 }) (delays task.view.bound.now) })) (of.commit_empty t)
         ∙ (let query = of.view.bound in let epoch = of.epoch in let times = of.times.are t in λ i. commit_text (record { epoch = epoch i; seen = map (λ (d : Delay). record { stream = d.0; time = times d.0 i }) (delays (query i)) }));
-    times = subst (AreSeen tells s cuts (e + 1)) (sym is.seen) of.times;
+    times = subst (AreSeen owned s cuts (e + 1)) (sym is.seen) of.times;
+    rows = λ t. subst (λ (o : Result (SealedEpoch F) (GatherFault × Remnant S F)). IfOk o (λ files. files.count ≡ length (joined_vecs task.rows.items))) brought is.count
+        ∙ count_rows s cuts e (map (λ rows. rows.items) task.rows.items) plain many (of.rows t);
   }
 
 -- ---- what is held
@@ -82,49 +84,54 @@ out_stops outs f g few is =
     let first : c.place_of ≡ 0 = (let count = set_length outs 0 (place.Back f) in omega (arith, less, few, count)) in
     ap fault_at (put_is outs 0 (place.Back f) (place.Back (Some g)) (subst (λ (k : ℕ). get_elem? (set outs 0 (place.Back f)) k ≡ some (place.Back (Some g))) first c.here))
 
-may_stop : (tells : Type 0) (s : Setting) (cuts : Cuts) (e : ℕ) (r : Scope) (c : Core) (f : Option Cause) (g : Cause) → IfSome f (HasCause r c) → f ≡ Some g → IsStopOf tells s cuts e g
-may_stop tells s cuts e r c f g has is = cause_stops tells s cuts e r c g (subst (λ (o : Option Cause). IfSome o (HasCause r c)) is has)
+may_stop : (reads : Type 0) (s : Setting) (cuts : Cuts) (e : ℕ) (r : Scope) (c : Core) (f : Option Cause) (g : Cause) → IfSome f (HasCause r c) → f ≡ Some g → IsStopOf reads s cuts e g
+may_stop reads s cuts e r c f g has is = cause_stops reads s cuts e r c g (subst (λ (o : Option Cause). IfSome o (HasCause r c)) is has)
 
-module _ {D L F : Type 0} (tells : Type 0) (lines : L → List Line) (sealed : F → List ℕ) (shown now : Shown D (Round L)) (disk : D) (epoch : ℕ) (f : Option Cause) (reported : now ≡ did shown disk (entry.Report (out_id epoch) f ∷ [])) where
+module _ {D L F : Type 0} (stores logs : Type 0) (lines : L → List Line) (sealed : F → List ℕ) (shown now : Shown D (Round L)) (disk : D) (epoch : ℕ) (f : Option Cause) (reported : now ≡ did shown disk (entry.Report (out_id epoch) f ∷ [])) where
   -- the cuts stay as they were by a report
   cuts_kept : cuts_of (opening_in lines) (did shown disk (entry.Report (out_id epoch) f ∷ [])) ≡ cuts_of (opening_in lines) shown
   cuts_kept = cuts_then (opening_in lines shown.opening) shown.scope shown.history (entry.Report (out_id epoch) f)
 
-  pub rows_kept : (file : F) → AreRowsOf tells lines sealed shown file → AreRowsOf tells lines sealed now file
-  rows_kept file are = subst (λ (x : Shown D (Round L)). AreRowsOf tells lines sealed x file) (sym reported)
+  pub rows_kept : (file : F) → AreRowsOf stores logs lines sealed shown file → AreRowsOf stores logs lines sealed now file
+  rows_kept file are = subst (λ (x : Shown D (Round L)). AreRowsOf stores logs lines sealed x file) (sym reported)
       (λ t. are t ∙ ap (λ (cuts : Cuts). rows_at (setting_of lines shown.opening) cuts shown.core.front.committed) (sym cuts_kept))
 
-  pub commit_kept : (p : Pending F) → IsCommitOf tells lines sealed shown p → IsCommitOf tells lines sealed now p
-  commit_kept p is = subst (λ (x : Shown D (Round L)). IsCommitOf tells lines sealed x p) (sym reported)
-      (subst (λ (cuts : Cuts). IsPending tells sealed (setting_of lines shown.opening) cuts shown.core.front.committed p) (sym cuts_kept) is)
+  pub commit_kept : (p : Pending F) → IsCommitOf stores logs lines sealed shown p → IsCommitOf stores logs lines sealed now p
+  commit_kept p is = subst (λ (x : Shown D (Round L)). IsCommitOf stores logs lines sealed x p) (sym reported)
+      (subst (λ (cuts : Cuts). IsPending (Owns stores logs lines shown) sealed (setting_of lines shown.opening) cuts shown.core.front.committed p) (sym cuts_kept) is)
 
-module _ {D L S F : Type 0} (tells : Type 0) (lines : L → List Line) (available : L → ℕ) (history : D → History) (written : S → List ℕ) (sealed : F → List ℕ) (shown : Shown D (Round L)) (load : Load L S F)
-    (whole : IsWhole tells lines available history written sealed shown load) where
+module _ {D L S F : Type 0} (stores logs : Type 0) (lines : L → List Line) (available : L → ℕ) (answers : L → List ℕ) (faults : L → ℕ) (written : S → List ℕ) (sealed : F → List ℕ) (shown : Shown D (Round L)) (load : Load L S F)
+    (whole : IsWhole stores logs lines available answers faults written sealed shown load) where
   -- the files are those of the epoch that runs
-  pub rows_right : (stages : Type 0) (so : tells → stages) (faults : S → ℕ) (task : OutTask S F) (done : Gathered S F) → IsOutOf tells lines available written shown task → IsGathered stages written sealed faults task done → (files : SealedEpoch F) → done.outcome ≡ Ok files
-      → AreRowsOf tells lines sealed shown files.rows
-  rows_right stages so faults task done of is files brought t = rows_are tells stages so written sealed faults (setting_of lines shown.opening) (cuts_of (opening_in lines) shown) shown.core.front.committed task done of is files brought
-      whole.round.setting.plain.shape whole.round.setting.some_partitions t
+  pub rows_right : (stages : Type 0) (so : Owns stores logs lines shown → stages) (faults : S → ℕ) (task : OutTask S F) (done : Gathered S F) → IsOutOf stores logs lines written shown task → IsGathered stages written sealed faults task done → (files : SealedEpoch F) → done.outcome ≡ Ok files
+      → AreRowsOf stores logs lines sealed shown files.rows
+  rows_right stages so faults task done of is files brought t = rows_are (Owns stores logs lines shown) stages so written sealed faults (setting_of lines shown.opening) (cuts_of (opening_in lines) shown) shown.core.front.committed task done of is files brought
+      whole.round.plain.shape whole.round.some_partitions t
 
-  pub commit_right : (stages : Type 0) (so : tells → stages) (faults : S → ℕ) (task : OutTask S F) (done : Gathered S F) → IsOutOf tells lines available written shown task → IsGathered stages written sealed faults task done → (files : SealedEpoch F) → done.outcome ≡ Ok files
-      → IsCommitOf tells lines sealed shown (record { commit = files.commit; seen = done.seen; count = files.count })
-  commit_right stages so faults task done of is files brought = commit_is tells stages so written sealed faults (setting_of lines shown.opening) (cuts_of (opening_in lines) shown) shown.core.front.committed task done of is files brought
+  pub commit_right : (stages : Type 0) (so : Owns stores logs lines shown → stages) (faults : S → ℕ) (task : OutTask S F) (done : Gathered S F) → IsOutOf stores logs lines written shown task → IsGathered stages written sealed faults task done → (files : SealedEpoch F) → done.outcome ≡ Ok files
+      → IsCommitOf stores logs lines sealed shown (record { commit = files.commit; seen = done.seen; count = files.count })
+  commit_right stages so faults task done of is files brought = commit_is (Owns stores logs lines shown) stages so written sealed faults (setting_of lines shown.opening) (cuts_of (opening_in lines) shown) shown.core.front.committed task done of is files brought
+      whole.round.plain.shape whole.round.some_partitions
 
   -- what is held once the out task is back
   pub out_back : (order : IsInOrder shown.scope shown.core) (disk : D) (epoch : ℕ) (f : Option Cause) → May shown.scope shown.core (entry.Report (out_id epoch) f) → IfSome f (HasCause shown.scope shown.core)
-      → IsWhole tells lines available history written sealed (did shown disk (entry.Report (out_id epoch) f ∷ [])) load
+      → IsWhole stores logs lines available answers faults written sealed (did shown disk (entry.Report (out_id epoch) f ∷ [])) load
   out_back order disk epoch f may has =
       let s : Setting = setting_of lines shown.opening in
       let cuts : Cuts = cuts_of (opening_in lines) shown in
       let old : Option Cause = shown.core.front.stop in
       let more : Option Cause = due_stop (set shown.core.outs 0 (place.Back f)) in
-      moved_whole tells lines available history written sealed shown load whole disk (entry.Report (out_id epoch) f) load (λ cuts c. refl) refl refl refl
-      (holds_out tells lines available written sealed s cuts shown.scope.available shown.core (or_stop old (if is_stopped old then None else more)) (place.Back f) load.sources.items load.shares.items load.shares.items load.out load.out load.seen load.pending
+      moved_whole stores logs lines available answers faults written sealed shown load whole disk (entry.Report (out_id epoch) f) load (λ cuts c. refl) refl refl refl refl whole.told whole.told_room
+      (λ stopped. faulty_by old more (λ e. whole.faulty e) (λ run is_due. absurd (no_log (out_stops shown.core.outs f cause.LogFault order.sound.outs is_due))) stopped)
+      (holds_out (stores × logs) (Owns stores logs lines shown) lines available (LogWent logs lines available answers faults) shown.opening.logs.items written sealed s cuts shown.scope.available shown.core (or_stop old (if is_stopped old then None else more)) (place.Back f) load.sources.items load.shares.items load.shares.items load.out load.out load.seen load.pending
       (runs_by old (if is_stopped old then None else more)) whole.holds back_waits refl
       (λ run opened. elim (whole.holds.epoch run opened).last [ inl waits ↦ absurd (waits_away (sym waits ∙ may.2)) | inr fine ↦ fine ])
-      (λ g stopped. stops_by tells s cuts shown.core.front.committed old more g stopped whole.holds.stop
-      (λ run is_due. may_stop tells s cuts shown.core.front.committed shown.scope shown.core f g has (out_stops shown.core.outs f g order.sound.outs is_due))))
+      (λ g stopped. stops_by (stores × logs) s cuts shown.core.front.committed old more g stopped whole.holds.stop
+      (λ run is_due. may_stop (stores × logs) s cuts shown.core.front.committed shown.scope shown.core f g has (out_stops shown.core.outs f g order.sound.outs is_due))))
     where
+      no_log : f ≡ Some cause.LogFault → ⊥
+      no_log is = subst (λ (o : Option Cause). IfSome o (HasCause shown.scope shown.core)) is has
+
       back_waits : place.Back f ≡ place.Waits → ⊥
       back_waits e = cc
 
@@ -132,14 +139,15 @@ module _ {D L S F : Type 0} (tells : Type 0) (lines : L → List Line) (availabl
       waits_away e = cc
 
   -- its rows are published, and its commit is kept
-  pub published_whole : (disk : D) (p : Pending F) → May shown.scope shown.core (entry.OutFile shown.core.front.committed) → IsCommitOf tells lines sealed shown p
-      → IsWhole tells lines available history written sealed (did shown disk (entry.OutFile shown.core.front.committed ∷ [])) (with_pending load (Some p))
+  pub published_whole : (disk : D) (p : Pending F) → May shown.scope shown.core (entry.OutFile shown.core.front.committed) → IsCommitOf stores logs lines sealed shown p
+      → IsWhole stores logs lines available answers faults written sealed (did shown disk (entry.OutFile shown.core.front.committed ∷ [])) (with_pending load (Some p))
   published_whole disk p may is =
       let h = whole.holds in
-      moved_whole tells lines available history written sealed shown load whole disk (entry.OutFile shown.core.front.committed) (with_pending load (Some p)) (λ cuts c. refl) refl refl refl (record {
+      moved_whole stores logs lines available answers faults written sealed shown load whole disk (entry.OutFile shown.core.front.committed) (with_pending load (Some p)) (λ cuts c. refl) refl refl refl refl whole.told whole.told_room (λ e. absurd (true≢false (sym (ap is_some e)))) (record {
         parts = h.parts;
         partitions = h.partitions;
         logs = h.logs;
+        reduced = h.reduced;
         seen_so_far = λ run. h.seen_so_far may.0;
         epoch = λ run opened. (let e = h.epoch may.0 opened in record { froms = e.froms; mapped = e.mapped; shared = e.shared; last = e.last; outs = e.outs });
         commit = λ run opened written_is. (p, refl, is);
@@ -147,12 +155,12 @@ module _ {D L S F : Type 0} (tells : Type 0) (lines : L → List Line) (availabl
       })
 
   -- so it is once they are to be published, or that failed
-  pub after_rows : {E : Type 0} (now : Shown D (Round L)) (result : Result (Unit {0}) E) (risen : Type 0) (p : Pending F) → May shown.scope shown.core (entry.OutFile shown.core.front.committed) → IsCommitOf tells lines sealed shown p
+  pub after_rows : {E : Type 0} (now : Shown D (Round L)) (result : Result (Unit {0}) E) (risen : Type 0) (p : Pending F) → May shown.scope shown.core (entry.OutFile shown.core.front.committed) → IsCommitOf stores logs lines sealed shown p
       → OnOk result (now ≡ did shown now.disk (entry.OutFile shown.core.front.committed ∷ [])) → OnErr result ((now ≡ did shown now.disk (entry.Stop cause.DiskFault ∷ [])) × risen)
-      → IsWhole tells lines available history written sealed now (with_pending load (Some p))
-  after_rows now (Ok x) risen p may is done stopped = subst (λ (x : Shown D (Round L)). IsWhole tells lines available history written sealed x (with_pending load (Some p))) (sym done) (published_whole now.disk p may is)
-  after_rows now (Err f) risen p may is done stopped = subst (λ (x : Shown D (Round L)). IsWhole tells lines available history written sealed x (with_pending load (Some p))) (sym stopped.0)
-      (halted_whole tells lines available history written sealed shown load whole now.disk cause.DiskFault (Some p) tt)
+      → IsWhole stores logs lines available answers faults written sealed now (with_pending load (Some p))
+  after_rows now (Ok x) risen p may is done stopped = subst (λ (x : Shown D (Round L)). IsWhole stores logs lines available answers faults written sealed x (with_pending load (Some p))) (sym done) (published_whole now.disk p may is)
+  after_rows now (Err f) risen p may is done stopped = subst (λ (x : Shown D (Round L)). IsWhole stores logs lines available answers faults written sealed x (with_pending load (Some p))) (sym stopped.0)
+      (halted_whole stores logs lines available answers faults written sealed shown load whole now.disk cause.DiskFault (Some p) disk_no_log tt)
 
 -- ---- how the result is taken
 

@@ -1,5 +1,5 @@
 -- A reduce task is taken back.
-use Rattle.std.proofs.Common.{◌≡◌, ◌<◌, [], ◌∷◌, ℕ, ℤ, zero, suc, Bool, true, false, true≢false, List, map, replicate, length, set, Option, Some, None, Result, Ok, Err, inl, inr, refl, sym, ap, ◌∙◌, subst, arith}
+use Rattle.std.proofs.Common.{◌≡◌, ◌<◌, [], ◌∷◌, ℕ, ℤ, zero, suc, Bool, true, false, true≢false, List, length, set, Option, Some, None, Result, Ok, Err, inl, inr, refl, sym, ap, ◌∙◌, subst, arith}
 use Rattle.std.specs.Prelude.{All, is_some, not, IfOk, if◌then◌else◌}
 use Rattle.std.specs.List.{list_all}
 use Rattle.std.specs.Global.{Vec}
@@ -12,8 +12,6 @@ use lib.ListN.{get_elem?}
 use Rattle.ssq_time.specs.Time.{IsStampTime}
 use Rattle.ssq_value.specs.Kind.{IfTime}
 use Rattle.ssq_outside.specs.History.{History}
-use Rattle.ssq_outside.specs.declared.gate.TaskId.{TaskId}
-use Rattle.ssq_outside.specs.declared.gate.Kind.{Kind}
 use Rattle.ssq_outside.specs.declared.gate.Kind.TheVariants as kind
 use Rattle.ssq_shape.specs.declared.bound.Bound.{Bound}
 use Rattle.ssq_shape.specs.declared.bound.Shape.{Shape}
@@ -29,31 +27,30 @@ use Rattle.ssq_task.specs.declared.partition.ReduceFault.{ReduceFault}
 use Rattle.ssq_task.specs.declared.partition.ReduceFault.TheVariants as reduce
 use Rattle.ssq_task.specs.Lists.{joined_vecs}
 use Rattle.ssq_task.specs.Reducing.{IsReduced}
+use Rattle.ssq_feed.specs.Causes.{LogWent}
 use Rattle.ssq_core.specs.Course.{Cuts}
-use Rattle.ssq_course.specs.Setting.{Setting, first_ends, course_of, job_of, is_fault_by}
+use Rattle.ssq_course.specs.Setting.{Setting, course_of}
 use Rattle.ssq_board.specs.declared.front.Cause.{Cause}
 use Rattle.ssq_board.specs.declared.front.Cause.TheVariants as cause
-use Rattle.ssq_board.specs.declared.front.Entry.{Entry}
 use Rattle.ssq_board.specs.declared.front.Entry.TheVariants as entry
 use Rattle.ssq_board.specs.declared.front.Place.{Place}
 use Rattle.ssq_board.specs.declared.front.Place.TheVariants as place
-use Rattle.ssq_board.specs.Core.{Scope, Core, May, after, is_here, is_of_line, is_stopped, tasks_of, if_reduce, worse, worse_by, fault_at, fault_in, due, due_of, due_stop, or_stop}
-use Rattle.ssq_board.specs.Shown.{first_place}
-use Rattle.ssq_board.specs.Follows.{State, Leads, IsRight, IsOwn, IsOwnBy}
+use Rattle.ssq_board.specs.Core.{May, after, is_here, is_of_line, is_stopped, worse, worse_by, fault_at, fault_in, due_of, due_stop, or_stop}
+use Rattle.ssq_board.specs.Follows.{IsOwn}
 use Rattle.ssq_board.proofs.Leasts.{cause_counts}
-use Rattle.ssq_board.proofs.Lists.{put_else, replicate_at}
+use Rattle.ssq_board.proofs.Lists.{put_else}
 use Rattle.ssq_ledger.specs.Shown.{Shown, IsLegal, IsInOrder, cuts_of}
-use Rattle.ssq_terms.specs.Laws.{never}
 use Rattle.ssq_terms.proofs.Faults.{line_faults}
 use Rattle.ssq_desk.specs.declared.desk.Load.{Load}
 use Rattle.ssq_desk.specs.declared.desk.Share.{Share}
 use Rattle.ssq_desk.specs.declared.round.Round.{Round}
-use Rattle.ssq_desk.specs.Round.{setting_of, start_at}
+use Rattle.ssq_desk.specs.Round.{setting_of, Owns}
 use Rattle.ssq_desk.specs.Tasks.{IsReduceTask, reduce_id}
 use Rattle.ssq_desk.specs.Handed.{IsReduceOf}
 use Rattle.ssq_desk.specs.Results.{cause_of_reduce, fault_of}
-use Rattle.ssq_desk.specs.Contents.{Holds, IsShare, IsStopOf}
-use Rattle.ssq_desk.specs.Whole.{IsWhole, opening_in}
+use Rattle.ssq_desk.specs.Contents.{IsShare, IsStopOf}
+use Rattle.ssq_desk.specs.Closing.{HasFaulty}
+use Rattle.ssq_desk.specs.Whole.{IsWhole, HoldsIn, opening_in}
 use Rattle.ssq_desk.proofs.Holding.{put_is, holds_reduced}
 
 -- ---- what a task shows
@@ -83,11 +80,11 @@ back_waits : (f : Option Cause) → place.Back f ≡ place.Waits → ⊥
 back_waits f e = cc
 
 -- what a desk keeps of a reduce task that is back
-back_share : (tells : Type 0) (s : Setting) (cuts : Cuts) (e : ℕ) (task : ReduceTask) (o : Result (Vec Values) ReduceFault) (f : Option Cause) (x : Share) → s.job.bound.shape ≡ Plain → IsReduceTask tells s cuts e task
+back_share : (owned : Type 0) (s : Setting) (cuts : Cuts) (e : ℕ) (task : ReduceTask) (o : Result (Vec Values) ReduceFault) (f : Option Cause) (x : Share) → s.job.bound.shape ≡ Plain → IsReduceTask owned s cuts e task
     → ((old : List FedRow) (before : Option ℤ)
     → IfOk o (λ rows. rows.items ≡ (operator_of task.view.bound.now).added old (timely task.view.bound.now task.watermark (joined_vecs task.rows.items)) before task.watermark))
-    → f ≡ fault_of cause_of_reduce o → IfOk o (λ rows. x.rows ≡ rows) → IsShare tells s cuts e task.partition (place.Back f) x
-back_share tells s cuts e task (Ok rows) f x keeps_none of shows is brought = record {
+    → f ≡ fault_of cause_of_reduce o → IfOk o (λ rows. x.rows ≡ rows) → IsShare owned s cuts e task.partition (place.Back f) x
+back_share owned s cuts e task (Ok rows) f x keeps_none of shows is brought = record {
   there = λ r. absurd (back_rests f r);
   empty = λ w. absurd (back_waits f w);
   shown = λ b t. record {
@@ -99,7 +96,7 @@ back_share tells s cuts e task (Ok rows) f x keeps_none of shows is brought = re
   printable = λ b. subst (λ (l : List Values). All (All (IfTime IsStampTime)) l) (sym (ap (λ (v : Vec Values). v.items) brought ∙ shows [] None))
       (shows_printable task.view.bound.now [] (joined_vecs task.rows.items) None task.watermark (ap (λ (b : Bound). b.shape) of.view.bound ∙ keeps_none) of.printable);
 }
-back_share tells s cuts e task (Err w) f x keeps_none of shows is brought = record {
+back_share owned s cuts e task (Err w) f x keeps_none of shows is brought = record {
   there = λ r. absurd (back_rests f r);
   empty = λ w. absurd (back_waits f w);
   shown = λ b. absurd (failed b);
@@ -118,64 +115,33 @@ own_reduced s cuts e p (Err reduce.DiskFault) keeps_none = tt
 own_reduced s cuts e p (Err reduce.NoMemory) keeps_none = tt
 
 -- why it brought nothing is no line's
-own_stops : (tells : Type 0) (s : Setting) (cuts : Cuts) (e : ℕ) (o : Result (Vec Values) ReduceFault) (g : Cause) → fault_of cause_of_reduce o ≡ Some g → IsStopOf tells s cuts e g
-own_stops tells s cuts e (Ok rows) g is = absurd (true≢false (sym (ap is_some is)))
-own_stops tells s cuts e (Err (reduce.Overflow key)) g is = subst (IsStopOf tells s cuts e) (same_cause cause.NoMemory g is) tt
-own_stops tells s cuts e (Err reduce.DiskFault) g is = subst (IsStopOf tells s cuts e) (same_cause cause.DiskFault g is) tt
-own_stops tells s cuts e (Err reduce.NoMemory) g is = subst (IsStopOf tells s cuts e) (same_cause cause.NoMemory g is) tt
+own_stops : (reads : Type 0) (s : Setting) (cuts : Cuts) (e : ℕ) (o : Result (Vec Values) ReduceFault) (g : Cause) → fault_of cause_of_reduce o ≡ Some g → IsStopOf reads s cuts e g
+own_stops reads s cuts e (Ok rows) g is = absurd (true≢false (sym (ap is_some is)))
+own_stops reads s cuts e (Err (reduce.Overflow key)) g is = subst (IsStopOf reads s cuts e) (same_cause cause.NoMemory g is) tt
+own_stops reads s cuts e (Err reduce.DiskFault) g is = subst (IsStopOf reads s cuts e) (same_cause cause.DiskFault g is) tt
+own_stops reads s cuts e (Err reduce.NoMemory) g is = subst (IsStopOf reads s cuts e) (same_cause cause.NoMemory g is) tt
 
--- ---- a desk that runs has no fault of a line among its reduce tasks
+-- nor a fault of a log
+own_no_log : (o : Result (Vec Values) ReduceFault) → fault_of cause_of_reduce o ≡ Some cause.LogFault → ⊥
+own_no_log (Ok rows) is = true≢false (sym (ap is_some is))
+own_no_log (Err (reduce.Overflow key)) is = memory_no_log (same_cause cause.NoMemory cause.LogFault is)
+  where
+    memory_no_log : cause.NoMemory ≡ cause.LogFault → ⊥
+    memory_no_log e = cc
+own_no_log (Err reduce.DiskFault) is = disk_no_log (same_cause cause.DiskFault cause.LogFault is)
+  where
+    disk_no_log : cause.DiskFault ≡ cause.LogFault → ⊥
+    disk_no_log e = cc
+own_no_log (Err reduce.NoMemory) is = memory_no_log (same_cause cause.NoMemory cause.LogFault is)
+  where
+    memory_no_log : cause.NoMemory ≡ cause.LogFault → ⊥
+    memory_no_log e = cc
 
-abbrev NoLine : Type 0 → List Place → Type 0
-NoLine tells reduces = (q : ℕ) (g : Cause) → get_elem? reduces q ≡ some (place.Back (Some g)) → is_of_line g ≡ true → tells → ⊥
-
-put_line : (tells : Type 0) (reduces : List Place) (i : ℕ) (p : Place) → NoLine tells reduces → ((g : Cause) → p ≡ place.Back (Some g) → is_of_line g ≡ true → tells → ⊥) → NoLine tells (set reduces i p)
-put_line tells reduces i p none own q g here line t = elim (cases_eq q i) [
-  | inl same ↦ own g (put_is reduces i p (place.Back (Some g)) (subst (λ (k : ℕ). get_elem? (set reduces i p) k ≡ some (place.Back (Some g))) same here)) line t
-  | inr other ↦ none q g (sym (put_else reduces i q p other) ∙ here) line t
-]
-
-moved_line : (tells : Type 0) (c : Core) (k : Kind) (i : ℕ) (p : Place) → NoLine tells c.reduces → ((g : Cause) → k ≡ kind.Reduce → p ≡ place.Back (Some g) → is_of_line g ≡ true → tells → ⊥)
-    → NoLine tells (if_reduce k (set (tasks_of k c) i p) c.reduces)
-moved_line tells c kind.Map i p none own = none
-moved_line tells c kind.Reduce i p none own = put_line tells c.reduces i p none (λ g. own g refl)
-moved_line tells c kind.Out i p none own = none
-moved_line tells c kind.Upkeep i p none own = none
-
-all_waiting : (l : List Place) (q : ℕ) (x : Place) → get_elem? (map (λ (_ : Place). place.Waits) l) q ≡ some x → place.Waits ≡ x
-all_waiting [] q x here = absurd (some-ne-none x (sym here))
-all_waiting (y ∷ l) zero x here = some-injective place.Waits x here
-all_waiting (y ∷ l) (suc q) x here = all_waiting l q x here
-
-not_first : (b : Bool) (g : Cause) → place.Back (Some g) ≡ first_place b → ⊥
-not_first true g e = cc
-not_first false g e = cc
-
-first_line : (tells : Type 0) (b : Bool) (n : ℕ) → NoLine tells (replicate n (first_place b))
-first_line tells b n q g here line t = not_first b g (replicate_at n q (first_place b) (place.Back (Some g)) here)
-
-module _ (tells : Type 0) (s : Setting) (r : Scope) (next : Cuts → ℕ → Bool) (keeps_none : s.job.bound.shape ≡ Plain) where
-  own_line : (cuts : Cuts) (t : TaskId) (f : Option Cause) (g : Cause) → t.kind ≡ kind.Reduce → f ≡ Some g → is_of_line g ≡ true → IsOwn (course_of s cuts) t f → ⊥
-  own_line cuts t f g is same line right =
-      let own : IsOwnBy ((course_of s cuts).is_fault t) (is_of_line g) = subst (IsOwn (course_of s cuts) t) same right in
-      let bad : (course_of s cuts).is_fault t ≡ true = subst (IsOwnBy ((course_of s cuts).is_fault t)) line own in
-      true≢false (sym bad ∙ ap (λ (k : Kind). is_fault_by s cuts t.epoch t.number k) is ∙ (line_faults s cuts t.epoch keeps_none).reduces t.number)
-
-  step_line : (c : Core) (cuts : Cuts) (e : Entry) → (tells → IsRight (job_of s) next cuts e) → NoLine tells c.reduces → NoLine tells (after r c e).reduces
-  step_line c cuts (entry.Plan e) right none = λ q g here line t. back_waits (Some g) (sym (all_waiting c.reduces q (place.Back (Some g)) here))
-  step_line c cuts (entry.Claim t) right none = moved_line tells c t.kind t.number place.Away none (λ g is e. absurd (back_away g (sym e)))
-    where
-      back_away : (g : Cause) → place.Back (Some g) ≡ place.Away → ⊥
-      back_away g e = cc
-  step_line c cuts (entry.Report t f) right none = moved_line tells c t.kind t.number (place.Back f) none (λ g is e line y. own_line cuts t f g is (ap fault_at e) line (right y))
-  step_line c cuts (entry.OutFile e) right none = none
-  step_line c cuts (entry.Sync clock) right none = none
-  step_line c cuts (entry.Commit e due) right none = none
-  step_line c cuts (entry.Stop f) right none = none
-
-  leads_line : (es : List Entry) (a n : State) → Leads tells (job_of s) r next a es n → NoLine tells a.core.reduces → NoLine tells n.core.reduces
-  leads_line [] a n l none = subst (λ (x : State). NoLine tells x.core.reduces) l none
-  leads_line (e ∷ es) a n l none = leads_line es l.0 n l.2 (subst (λ (c : Core). NoLine tells c.reduces) (sym l.1.core) (step_line a.core a.cuts e l.1.right none))
+own_line : (o : Result (Vec Values) ReduceFault) (g : Cause) → fault_of cause_of_reduce o ≡ Some g → is_of_line g ≡ false
+own_line (Ok rows) g is = absurd (true≢false (sym (ap is_some is)))
+own_line (Err (reduce.Overflow key)) g is = ap is_of_line (sym (same_cause cause.NoMemory g is))
+own_line (Err reduce.DiskFault) g is = ap is_of_line (sym (same_cause cause.DiskFault g is))
+own_line (Err reduce.NoMemory) g is = ap is_of_line (sym (same_cause cause.NoMemory g is))
 
 -- ---- for what its phase stops
 
@@ -201,7 +167,7 @@ outside_there (p ∷ ps) (suc i) g here out = by (fault_at p) refl (outside_ther
         by_line false is = (f, (λ i. worse (e i) (l.1 i)) ∙ ap (λ (b : Bool). Some (worse_by b f l.0)) is, is)
 
 -- so its phase has a cause to stop
-not_calm : (ps : List Place) (i : ℕ) (g : Cause) → get_elem? ps i ≡ some (place.Back (Some g)) → is_of_line g ≡ false → due_stop ps ≡ None → ⊥
+pub not_calm : (ps : List Place) (i : ℕ) (g : Cause) → get_elem? ps i ≡ some (place.Back (Some g)) → is_of_line g ≡ false → due_stop ps ≡ None → ⊥
 not_calm ps i g here out calm = (let h = outside_there ps i g here out in by (list_all is_here ps) h.0 h.2 (sym (ap (due_of (list_all is_here ps)) h.1) ∙ calm))
   where
     by : (all : Bool) (h : Cause) → is_of_line h ≡ false → due_of all (Some h) ≡ None → ⊥
@@ -209,18 +175,18 @@ not_calm ps i g here out calm = (let h = outside_there ps i g here out in by (li
     by false h out e = true≢false (ap is_some (sym (ap (λ (b : Bool). if not b then Some h else None) out) ∙ e))
 
 -- a desk that ran stops for what this task met
-reduce_stops : (tells : Type 0) (s : Setting) (cuts : Cuts) (e : ℕ) (reduces : List Place) (p : ℕ) (f : Option Cause) (g : Cause) → due_stop reduces ≡ None → due_stop (set reduces p (place.Back f)) ≡ Some g
-    → ((h : Cause) → f ≡ Some h → IsStopOf tells s cuts e h) → NoLine tells reduces → IsStopOf tells s cuts e g
-reduce_stops tells s cuts e reduces p f g calm is own none =
+reduce_stops : (reads : Type 0) (s : Setting) (cuts : Cuts) (e : ℕ) (reduces : List Place) (p : ℕ) (f : Option Cause) (g : Cause) → due_stop reduces ≡ None → due_stop (set reduces p (place.Back f)) ≡ Some g
+    → ((h : Cause) → f ≡ Some h → IsStopOf reads s cuts e h) → ((q : ℕ) (h : Cause) → get_elem? reduces q ≡ some (place.Back (Some h)) → is_of_line h ≡ false) → IsStopOf reads s cuts e g
+reduce_stops reads s cuts e reduces p f g calm is own none =
     let c = cause_counts (set reduces p (place.Back f)) g is in
     elim (cases_eq c.place_of p) [
       | inl same ↦ own g (ap fault_at (put_is reduces p (place.Back f) (place.Back (Some g)) (subst (λ (k : ℕ). get_elem? (set reduces p (place.Back f)) k ≡ some (place.Back (Some g))) same c.here)))
       | inr other ↦ older c.place_of g (sym (put_else reduces p c.place_of (place.Back f) other) ∙ c.here)
     ]
   where
-    older : (q : ℕ) (h : Cause) → get_elem? reduces q ≡ some (place.Back (Some h)) → IsStopOf tells s cuts e h
-    older q (cause.BadLine t p o w) here = λ y. absurd (none q (cause.BadLine t p o w) here refl y)
-    older q (cause.Overflow t p o) here = λ y. absurd (none q (cause.Overflow t p o) here refl y)
+    older : (q : ℕ) (h : Cause) → get_elem? reduces q ≡ some (place.Back (Some h)) → IsStopOf reads s cuts e h
+    older q (cause.BadLine t p o w) here = absurd (true≢false (none q (cause.BadLine t p o w) here))
+    older q (cause.Overflow t p o) here = absurd (true≢false (none q (cause.Overflow t p o) here))
     older q (cause.LogShort t p l w) here = absurd (not_calm reduces q (cause.LogShort t p l w) here refl calm)
     older q (cause.Damaged w) here = absurd (not_calm reduces q (cause.Damaged w) here refl calm)
     older q cause.LogFault here = tt
@@ -228,43 +194,61 @@ reduce_stops tells s cuts e reduces p f g calm is own none =
     older q cause.DiskFault here = tt
     older q cause.Full here = tt
 
+-- of its phase no task met a fault of a log
+no_log_due : (reduces : List Place) (p : ℕ) (f : Option Cause) → due_stop reduces ≡ None → due_stop (set reduces p (place.Back f)) ≡ Some cause.LogFault → (f ≡ Some cause.LogFault → ⊥) → ⊥
+no_log_due reduces p f calm is own =
+    let c = cause_counts (set reduces p (place.Back f)) cause.LogFault is in
+    elim (cases_eq c.place_of p) [
+      | inl same ↦ own (ap fault_at (put_is reduces p (place.Back f) (place.Back (Some cause.LogFault)) (subst (λ (k : ℕ). get_elem? (set reduces p (place.Back f)) k ≡ some (place.Back (Some cause.LogFault))) same c.here)))
+      | inr other ↦ not_calm reduces c.place_of cause.LogFault (sym (put_else reduces p c.place_of (place.Back f) other) ∙ c.here) refl calm
+    ]
+
 -- a Stop that was due, or one before it
-pub stops_by : (tells : Type 0) (s : Setting) (cuts : Cuts) (e : ℕ) (old more : Option Cause) (g : Cause) → or_stop old (if is_stopped old then None else more) ≡ Some g
-    → ((h : Cause) → old ≡ Some h → IsStopOf tells s cuts e h) → (old ≡ None → more ≡ Some g → IsStopOf tells s cuts e g) → IsStopOf tells s cuts e g
-stops_by tells s cuts e None more g is before own = own refl is
-stops_by tells s cuts e (Some f) more g is before own = before g is
+pub stops_by : (reads : Type 0) (s : Setting) (cuts : Cuts) (e : ℕ) (old more : Option Cause) (g : Cause) → or_stop old (if is_stopped old then None else more) ≡ Some g
+    → ((h : Cause) → old ≡ Some h → IsStopOf reads s cuts e h) → (old ≡ None → more ≡ Some g → IsStopOf reads s cuts e g) → IsStopOf reads s cuts e g
+stops_by reads s cuts e None more g is before own = own refl is
+stops_by reads s cuts e (Some f) more g is before own = before g is
+
+-- a log's fault that stopped it before, or one that was due
+pub faulty_by : {P : Type 0} (old more : Option Cause) → (old ≡ Some cause.LogFault → P) → (old ≡ None → more ≡ Some cause.LogFault → P) → or_stop old (if is_stopped old then None else more) ≡ Some cause.LogFault → P
+faulty_by None more before own is = own refl is
+faulty_by (Some f) more before own is = before is
 
 pub runs_by : (old more : Option Cause) → or_stop old more ≡ None → old ≡ None
 runs_by None more is = refl
 runs_by (Some f) more is = is
 
-module _ {D L S F : Type 0} (tells : Type 0) (lines : L → List Line) (available : L → ℕ) (history : D → History) (written : S → List ℕ) (sealed : F → List ℕ) (shown : Shown D (Round L)) (load : Load L S F)
-    (whole : IsWhole tells lines available history written sealed shown load) (legal : IsLegal tells history (opening_in lines) shown) (order : IsInOrder shown.scope shown.core) where
+module _ {D L S F : Type 0} (stores logs : Type 0) (lines : L → List Line) (available : L → ℕ) (answers : L → List ℕ) (faults : L → ℕ) (history : D → History) (written : S → List ℕ) (sealed : F → List ℕ) (shown : Shown D (Round L)) (load : Load L S F)
+    (whole : IsWhole stores logs lines available answers faults written sealed shown load) (legal : IsLegal (Owns stores logs lines shown) history (opening_in lines) shown) (order : IsInOrder shown.scope shown.core) where
   -- its slot is there
-  pub share_below : (task : ReduceTask) (done : Reduced) → IsReduceOf tells lines available shown task → IsReduced task done → done.partition < length load.shares.items
+  pub share_below : (task : ReduceTask) (done : Reduced) → IsReduceOf stores logs lines shown task → IsReduced task done → done.partition < length load.shares.items
   share_below task done of is = (let count = whole.holds.partitions in let below = of.below in let same = is.partition in omega (arith, count, below, same))
 
   -- the result is the task's own
-  pub reduced_right : (done : Reduced) (f : Option Cause) → f ≡ fault_of cause_of_reduce done.outcome → tells → IsOwn (course_of (setting_of lines shown.opening) (cuts_of (opening_in lines) shown)) (reduce_id done.epoch done.partition) f
-  reduced_right done f is t = subst (IsOwn (course_of (setting_of lines shown.opening) (cuts_of (opening_in lines) shown)) (reduce_id done.epoch done.partition)) (sym is)
-      (own_reduced (setting_of lines shown.opening) (cuts_of (opening_in lines) shown) done.epoch done.partition done.outcome whole.round.setting.plain.shape)
-
-  no_line : NoLine tells shown.core.reduces
-  no_line = leads_line tells (setting_of lines shown.opening) shown.scope never whole.round.setting.plain.shape shown.history _ _ legal.2
-      (first_line tells (start_at (first_ends (setting_of lines shown.opening)) shown.opening.opened).is_planned shown.scope.partitions)
+  pub reduced_right : (done : Reduced) (f : Option Cause) → f ≡ fault_of cause_of_reduce done.outcome → IsOwn (course_of (setting_of lines shown.opening) (cuts_of (opening_in lines) shown)) (reduce_id done.epoch done.partition) f
+  reduced_right done f is = subst (IsOwn (course_of (setting_of lines shown.opening) (cuts_of (opening_in lines) shown)) (reduce_id done.epoch done.partition)) (sym is)
+      (own_reduced (setting_of lines shown.opening) (cuts_of (opening_in lines) shown) done.epoch done.partition done.outcome whole.round.plain.shape)
 
   -- what is held once it is back
-  pub reduced_back : (task : ReduceTask) (done : Reduced) (f : Option Cause) (x : Share) → IsReduceOf tells lines available shown task → IsReduced task done → f ≡ fault_of cause_of_reduce done.outcome → IfOk done.outcome (λ rows. x.rows ≡ rows)
+  pub reduced_back : (task : ReduceTask) (done : Reduced) (f : Option Cause) (x : Share) → IsReduceOf stores logs lines shown task → IsReduced task done → f ≡ fault_of cause_of_reduce done.outcome → IfOk done.outcome (λ rows. x.rows ≡ rows)
       → May shown.scope shown.core (entry.Report (reduce_id done.epoch done.partition) f)
-      → Holds tells lines available written sealed (setting_of lines shown.opening) (cuts_of (opening_in lines) shown) shown.scope.available (after shown.scope shown.core (entry.Report (reduce_id done.epoch done.partition) f)) load.sources.items (set load.shares.items done.partition x) load.out load.seen load.pending
+      → HoldsIn stores logs lines available answers faults written sealed shown (cuts_of (opening_in lines) shown) (after shown.scope shown.core (entry.Report (reduce_id done.epoch done.partition) f)) load.sources.items (set load.shares.items done.partition x) load.out load.seen load.pending
   reduced_back task done f x of is fault brought may =
       let s : Setting = setting_of lines shown.opening in
       let cuts : Cuts = cuts_of (opening_in lines) shown in
       let e : ℕ = shown.core.front.committed in
       let old : Option Cause = shown.core.front.stop in
       let more : Option Cause = due_stop (set shown.core.reduces done.partition (place.Back f)) in
-      holds_reduced tells lines available written sealed s cuts shown.scope.available shown.core (or_stop old (if is_stopped old then None else more)) f done.partition x load.sources.items load.shares.items load.out load.seen load.pending
+      holds_reduced (stores × logs) (Owns stores logs lines shown) lines available (LogWent logs lines available answers faults) shown.opening.logs.items written sealed s cuts shown.scope.available shown.core (or_stop old (if is_stopped old then None else more)) f done.partition x load.sources.items load.shares.items load.out load.seen load.pending
       (runs_by old (if is_stopped old then None else more)) whole.holds may.2
-      (λ run opened. subst (λ (p : ℕ). IsShare tells s cuts e p (place.Back f) x) (sym is.partition) (back_share tells s cuts e task done.outcome f x whole.round.setting.plain.shape of is.rows fault brought))
-      (λ g stopped. stops_by tells s cuts e old more g stopped whole.holds.stop
-      (λ run is_due. reduce_stops tells s cuts e shown.core.reduces done.partition f g (order.sound.calm run kind.Reduce) is_due (λ h met. own_stops tells s cuts e done.outcome h (sym fault ∙ met)) no_line))
+      (λ run opened. subst (λ (p : ℕ). IsShare (Owns stores logs lines shown) s cuts e p (place.Back f) x) (sym is.partition) (back_share (Owns stores logs lines shown) s cuts e task done.outcome f x whole.round.plain.shape of is.rows fault brought))
+      (λ g met. own_line done.outcome g (sym fault ∙ met))
+      (λ g stopped. stops_by (stores × logs) s cuts e old more g stopped whole.holds.stop
+      (λ run is_due. reduce_stops (stores × logs) s cuts e shown.core.reduces done.partition f g (order.sound.calm run kind.Reduce) is_due (λ h met. own_stops (stores × logs) s cuts e done.outcome h (sym fault ∙ met)) whole.holds.reduced))
+
+  -- and where a log stopped the desk, that was before
+  pub reduced_faulty : (done : Reduced) (f : Option Cause) → f ≡ fault_of cause_of_reduce done.outcome → (after shown.scope shown.core (entry.Report (reduce_id done.epoch done.partition) f)).front.stop ≡ Some cause.LogFault
+      → HasFaulty faults shown.core.maps load.sources.items
+  reduced_faulty done f fault stopped =
+      faulty_by shown.core.front.stop (due_stop (set shown.core.reduces done.partition (place.Back f))) whole.faulty
+      (λ run is_due. absurd (no_log_due shown.core.reduces done.partition f (order.sound.calm run kind.Reduce) is_due (λ met. own_no_log done.outcome (sym fault ∙ met)))) stopped

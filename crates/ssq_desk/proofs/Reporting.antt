@@ -1,13 +1,10 @@
 -- What a desk holds once a map task is back.
-use Rattle.std.proofs.Common.{◌≡◌, ◌⊎◌, ◌<◌, ◌≤◌, ◌+◌, [], ◌∷◌, ℕ, ℤ, zero, suc, Bool, true, false, true≢false, List, map, length, get_or, set, Option, Some, None, Ok, Err, inl, inr, refl, sym, ap, ◌∙◌, subst, arith}
-use Rattle.std.specs.Prelude.{All, ◌==◌, slice_get, is_some, option_map, IfOk, IfErr}
-use Rattle.std.specs.List.{list_all}
-use mathlib.Core.Option.{some, some-injective, some-ne-none}
+use Rattle.std.proofs.Common.{◌≡◌, ◌<◌, ◌≤◌, ◌+◌, [], ◌∷◌, ℕ, zero, suc, true, true≢false, List, length, get_or, Option, Some, None, refl, sym, ap, ◌∙◌, subst, arith}
+use Rattle.std.specs.Prelude.{All, ◌==◌, slice_get, option_map}
+use mathlib.Core.Option.{some}
 use lib.ListN.{get_elem?}
-use Rattle.ssq_json.specs.declared.bad_row.BadRow.{BadRow}
 use Rattle.ssq_json.specs.declared.bad_row.BadRow.TheVariants as bad
 use Rattle.ssq_shape.specs.declared.bound.Bound.{Bound}
-use Rattle.ssq_meaning.specs.declared.line.LineFault.TheVariants as line
 use Rattle.ssq_meaning.specs.Parts.{Part}
 use Rattle.ssq_meaning.specs.Cut.{Cut, of_parts}
 use Rattle.ssq_meaning.specs.Feeding.{LineAt, fault_in, or_else}
@@ -18,7 +15,7 @@ use Rattle.ssq_route.specs.Buckets.{bucket_at}
 use Rattle.ssq_feed.specs.declared.task.FedRows.{FedRows}
 use Rattle.ssq_feed.specs.declared.fault.FeedFault.{FeedFault}
 use Rattle.ssq_feed.specs.declared.fault.FeedFault.TheVariants as feed
-use Rattle.ssq_feed.specs.Rows.{IsFedFrom, IsPrintable, dealt}
+use Rattle.ssq_feed.specs.Rows.{IsFedFrom, IsPrintable}
 use Rattle.ssq_core.specs.Course.{Cuts}
 use Rattle.ssq_course.specs.Setting.{Setting, parts_in, cut_of, cuts_of}
 use Rattle.ssq_board.specs.declared.front.Cause.{Cause}
@@ -62,17 +59,18 @@ brought_of tells query part from to partitions reduces brought below f = record 
 
 -- and why it brought nothing
 pub cause_of_fed : {L : Type 0} (tells logs : Type 0) (lines : L → List Line) (available : L → ℕ) (answers : L → List ℕ) (faults : L → ℕ) (query : Bound) (part : Part) (from to : ℕ) (before after : L) (f : FeedFault) → (tells → logs) → (tells → lines before ≡ part.lines)
+    → (tells → to ≤ available after)
     → FeedCause logs lines available answers faults query part.stream part.part from to before after f → IsCauseIn tells query part from to (cause_of_feed part.stream part.part f)
-cause_of_fed tells logs lines available answers faults query part from to before after (feed.BadLine offset bad.TooLong) so own c = λ t. first_own tells logs lines query part from to before t so own (c.0 (so t))
-cause_of_fed tells logs lines available answers faults query part from to before after (feed.BadLine offset bad.NotJson) so own c = λ t. first_own tells logs lines query part from to before t so own (c.0 (so t))
-cause_of_fed tells logs lines available answers faults query part from to before after (feed.BadLine offset bad.NotObject) so own c = λ t. first_own tells logs lines query part from to before t so own (c.0 (so t))
-cause_of_fed tells logs lines available answers faults query part from to before after (feed.BadLine offset (bad.WrongType column)) so own c = λ t. first_own tells logs lines query part from to before t so own (c.0 (so t))
-cause_of_fed tells logs lines available answers faults query part from to before after (feed.BadLine offset bad.NoEventTime) so own c = λ t. first_own tells logs lines query part from to before t so own (c.0 (so t))
-cause_of_fed tells logs lines available answers faults query part from to before after (feed.BadLine offset bad.NoMemory) so own c = absurd (c.1 refl)
-cause_of_fed tells logs lines available answers faults query part from to before after (feed.Overflow offset) so own c = λ t. first_own tells logs lines query part from to before t so own (c (so t))
-cause_of_fed tells logs lines available answers faults query part from to before after feed.LogFault so own c = tt
-cause_of_fed tells logs lines available answers faults query part from to before after (feed.LogShort logged short) so own c = (c.0, c.1)
-cause_of_fed tells logs lines available answers faults query part from to before after feed.NoMemory so own c = tt
+cause_of_fed tells logs lines available answers faults query part from to before after (feed.BadLine offset bad.TooLong) so own enough c = λ t. first_own tells logs lines query part from to before t so own (c.0 (so t))
+cause_of_fed tells logs lines available answers faults query part from to before after (feed.BadLine offset bad.NotJson) so own enough c = λ t. first_own tells logs lines query part from to before t so own (c.0 (so t))
+cause_of_fed tells logs lines available answers faults query part from to before after (feed.BadLine offset bad.NotObject) so own enough c = λ t. first_own tells logs lines query part from to before t so own (c.0 (so t))
+cause_of_fed tells logs lines available answers faults query part from to before after (feed.BadLine offset (bad.WrongType column)) so own enough c = λ t. first_own tells logs lines query part from to before t so own (c.0 (so t))
+cause_of_fed tells logs lines available answers faults query part from to before after (feed.BadLine offset bad.NoEventTime) so own enough c = λ t. first_own tells logs lines query part from to before t so own (c.0 (so t))
+cause_of_fed tells logs lines available answers faults query part from to before after (feed.BadLine offset bad.NoMemory) so own enough c = absurd (c.1 refl)
+cause_of_fed tells logs lines available answers faults query part from to before after (feed.Overflow offset) so own enough c = λ t. first_own tells logs lines query part from to before t so own (c (so t))
+cause_of_fed tells logs lines available answers faults query part from to before after feed.LogFault so own enough c = tt
+cause_of_fed tells logs lines available answers faults query part from to before after (feed.LogShort logged short) so own enough c = (c.0, c.1, λ t. (let long = enough t in let is = c.2 (so t) in let short = c.1 in omega (arith, long, is, short)))
+cause_of_fed tells logs lines available answers faults query part from to before after feed.NoMemory so own enough c = tt
 
 -- the first fault is that of the first part that has one
 first_between : (query : Bound) (parts : List Part) (froms tos : Cut) (p : ℕ) (part : Part) (at : LineAt) → length froms ≡ length parts → length tos ≡ length parts → slice_get parts p ≡ Some part
@@ -138,7 +136,7 @@ module _ {L : Type 0} (tells : Type 0) (s : Setting) (cuts : Cuts) (e : ℕ) (re
         by : (f : Cause) → (c : IsCauseOf places f) → (part : Part) × (slice_get (parts_in s) c.place_of ≡ Some part) × IsCauseIn tells s.job.bound part (get_or (cut_of (cuts e)) c.place_of 0) (get_or (cut_of (cuts (e + 1))) c.place_of 0) f → IsStopOf tells s cuts e f
         by (cause.BadLine st p o w) c own = λ t. (_, refl, line_stops (cause.BadLine st p o w) _ t refl refl c own.0 own.1 (own.2 t))
         by (cause.Overflow st p o) c own = λ t. (_, refl, line_stops (cause.Overflow st p o) _ t refl refl c own.0 own.1 (own.2 t))
-        by (cause.LogShort st p logged found) c own = (let a = own.2.0 in let b = own.2.1 in omega (arith, a, b))
+        by (cause.LogShort st p logged found) c own = (let a = own.2.0 in let b = own.2.1 in (omega (arith, a, b), own.2.2))
         by cause.LogFault c own = tt
         by cause.NoMemory c own = tt
         by cause.DiskFault c own = tt

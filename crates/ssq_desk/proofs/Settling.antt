@@ -1,7 +1,7 @@
 -- What a desk holds after a sync, a commit, or a Stop of either.
-use Rattle.std.proofs.Common.{◌≡◌, ◌≤◌, ◌+◌, [], ◌∷◌, ℕ, Bool, true, false, true≢false, List, Option, Some, None, Result, Ok, Err, refl, sym, ap, ◌∙◌, subst, arith}
+use Rattle.std.proofs.Common.{◌≡◌, ◌≤◌, ◌+◌, [], ◌∷◌, ℕ, false, true≢false, List, Option, Some, None, Result, Ok, Err, refl, sym, ap, ◌∙◌, subst, arith}
 use Rattle.std.specs.Prelude.{is_some, OnOk, IfErr}
-use Rattle.ssq_outside.specs.History.{History}
+use Rattle.std.specs.Global.{Vec}
 use Rattle.ssq_meaning.specs.Meaning.{Line}
 use Rattle.ssq_outside.specs.declared.name.Name.TheVariants as name
 use Rattle.ssq_core.specs.Course.{Cuts, truth}
@@ -17,21 +17,29 @@ use Rattle.ssq_ledger.specs.Shown.{Shown, HasRisen, cuts_of, did}
 use Rattle.ssq_desk.specs.declared.desk.Load.{Load}
 use Rattle.ssq_desk.specs.declared.desk.Pending.{Pending}
 use Rattle.ssq_desk.specs.declared.round.Round.{Round}
-use Rattle.ssq_desk.specs.Round.{setting_of}
-use Rattle.ssq_desk.specs.Contents.{Holds, IsPending, IsStopOf}
+use Rattle.ssq_desk.specs.Round.{setting_of, Owns}
+use Rattle.ssq_desk.specs.Contents.{IsPending, IsStopOf}
+use Rattle.ssq_desk.specs.declared.told.Told.{Told}
+use Rattle.ssq_desk.specs.Closing.{AreTold}
 use Rattle.ssq_desk.specs.Whole.{IsWhole, opening_in}
 use Rattle.ssq_desk.proofs.Handing.{moved_whole}
 
 -- for what a call of the disk failed, a desk may be stopped
-pub risen_stops : (tells : Type 0) (s : Setting) (cuts : Cuts) (e : ℕ) (f : Cause) (before now : ℕ) → HasRisen f before now → IsStopOf tells s cuts e f
-risen_stops tells s cuts e cause.DiskFault before now has = tt
-risen_stops tells s cuts e cause.NoMemory before now has = tt
-risen_stops tells s cuts e cause.Full before now has = tt
-risen_stops tells s cuts e cause.LogFault before now has = tt
-risen_stops tells s cuts e (cause.BadLine t p o f) before now has = absurd has
-risen_stops tells s cuts e (cause.Overflow t p o) before now has = absurd has
-risen_stops tells s cuts e (cause.LogShort t p l f) before now has = absurd has
-risen_stops tells s cuts e (cause.Damaged q) before now has = absurd has
+pub risen_no_log : (f : Cause) (before now : ℕ) → HasRisen f before now → f ≡ cause.LogFault → ⊥
+risen_no_log f before now has is = subst (λ (g : Cause). HasRisen g before now) is has
+
+pub risen_stops : (reads : Type 0) (s : Setting) (cuts : Cuts) (e : ℕ) (f : Cause) (before now : ℕ) → HasRisen f before now → IsStopOf reads s cuts e f
+risen_stops reads s cuts e cause.DiskFault before now has = tt
+risen_stops reads s cuts e cause.NoMemory before now has = tt
+risen_stops reads s cuts e cause.Full before now has = tt
+risen_stops reads s cuts e cause.LogFault before now has = tt
+risen_stops reads s cuts e (cause.BadLine t p o f) before now has = absurd has
+risen_stops reads s cuts e (cause.Overflow t p o) before now has = absurd has
+risen_stops reads s cuts e (cause.LogShort t p l f) before now has = absurd has
+risen_stops reads s cuts e (cause.Damaged q) before now has = absurd has
+
+pub disk_no_log : cause.DiskFault ≡ cause.LogFault → ⊥
+disk_no_log e = cc
 
 cause_or : Cause → Option Cause → Cause
 cause_or d None = d
@@ -45,28 +53,29 @@ pending_or : {F : Type 0} → Pending F → Option (Pending F) → Pending F
 pending_or d None = d
 pending_or d (Some p) = p
 
-some_pending : {F : Type 0} (p q : Pending F) → Some p ≡ Some q → p ≡ q
+pub some_pending : {F : Type 0} (p q : Pending F) → Some p ≡ Some q → p ≡ q
 unfolding pending_or
 some_pending p q is = ap (pending_or p) is
 
 -- with another commit that is to be published
 abbrev pub with_pending : {L S F : Type 0} → Load L S F → Option (Pending F) → Load L S F
-with_pending load pending = record { view = load.view; plans = load.plans; sources = load.sources; shares = load.shares; out = load.out; seen = load.seen; pending = pending }
+with_pending load pending = record { view = load.view; plans = load.plans; sources = load.sources; shares = load.shares; out = load.out; seen = load.seen; pending = pending; told = load.told; kept = load.kept }
 
 -- with a commit that was published
-abbrev pub with_commit : {L S F : Type 0} → Load L S F → Pending F → Load L S F
-with_commit load p = record { view = load.view; plans = load.plans; sources = load.sources; shares = load.shares; out = load.out; seen = p.seen; pending = None }
+abbrev pub with_commit : {L S F : Type 0} → Load L S F → Pending F → Vec Told → Load L S F
+with_commit load p told = record { view = load.view; plans = load.plans; sources = load.sources; shares = load.shares; out = load.out; seen = p.seen; pending = None; told = told; kept = load.kept }
 
-module _ {D L S F : Type 0} (tells : Type 0) (lines : L → List Line) (available : L → ℕ) (history : D → History) (written : S → List ℕ) (sealed : F → List ℕ) (shown : Shown D (Round L)) (load : Load L S F)
-    (whole : IsWhole tells lines available history written sealed shown load) (disk : D) where
+module _ {D L S F : Type 0} (stores logs : Type 0) (lines : L → List Line) (available : L → ℕ) (answers : L → List ℕ) (faults : L → ℕ) (written : S → List ℕ) (sealed : F → List ℕ) (shown : Shown D (Round L)) (load : Load L S F)
+    (whole : IsWhole stores logs lines available answers faults written sealed shown load) (disk : D) where
   -- names were synced
-  pub synced_whole : (clock : ℕ) → shown.core.front.stop ≡ None → IsWhole tells lines available history written sealed (did shown disk (entry.Sync clock ∷ [])) load
+  pub synced_whole : (clock : ℕ) → shown.core.front.stop ≡ None → IsWhole stores logs lines available answers faults written sealed (did shown disk (entry.Sync clock ∷ [])) load
   synced_whole clock runs =
       let h = whole.holds in
-      moved_whole tells lines available history written sealed shown load whole disk (entry.Sync clock) load (λ cuts c. refl) refl refl refl (record {
+      moved_whole stores logs lines available answers faults written sealed shown load whole disk (entry.Sync clock) load (λ cuts c. refl) refl refl refl refl whole.told whole.told_room (λ e. absurd (true≢false (sym (ap is_some e)))) (record {
         parts = h.parts;
         partitions = h.partitions;
         logs = h.logs;
+        reduced = h.reduced;
         seen_so_far = λ run. h.seen_so_far runs;
         epoch = λ run opened. (let e = h.epoch runs opened in record { froms = e.froms; mapped = e.mapped; shared = e.shared; last = e.last; outs = e.outs });
         commit = λ run opened written_is. h.commit runs opened written_is;
@@ -74,74 +83,78 @@ module _ {D L S F : Type 0} (tells : Type 0) (lines : L → List Line) (availabl
       })
 
   -- a Stop, with another commit
-  pub halted_whole : (f : Cause) (pending : Option (Pending F)) → IsStopOf tells (setting_of lines shown.opening) (cuts_of (opening_in lines) shown) shown.core.front.committed f
-      → IsWhole tells lines available history written sealed (did shown disk (entry.Stop f ∷ [])) (with_pending load pending)
-  halted_whole f pending right =
+  pub halted_whole : (f : Cause) (pending : Option (Pending F)) → (f ≡ cause.LogFault → ⊥) → IsStopOf (stores × logs) (setting_of lines shown.opening) (cuts_of (opening_in lines) shown) shown.core.front.committed f
+      → IsWhole stores logs lines available answers faults written sealed (did shown disk (entry.Stop f ∷ [])) (with_pending load pending)
+  halted_whole f pending no_log right =
       let h = whole.holds in
-      moved_whole tells lines available history written sealed shown load whole disk (entry.Stop f) (with_pending load pending) (λ cuts c. refl) refl refl refl (record {
+      moved_whole stores logs lines available answers faults written sealed shown load whole disk (entry.Stop f) (with_pending load pending) (λ cuts c. refl) refl refl refl refl whole.told whole.told_room (λ e. absurd (no_log (some_cause f cause.LogFault e))) (record {
         parts = h.parts;
         partitions = h.partitions;
         logs = h.logs;
+        reduced = h.reduced;
         seen_so_far = λ run. absurd (true≢false (ap is_some run));
         epoch = λ run opened. absurd (true≢false (ap is_some run));
         commit = λ run opened written_is. absurd (true≢false (ap is_some run));
-        stop = λ g is. subst (IsStopOf tells (setting_of lines shown.opening) (cuts_of (opening_in lines) shown) shown.core.front.committed) (some_cause f g is) right;
+        stop = λ g is. subst (IsStopOf (stores × logs) (setting_of lines shown.opening) (cuts_of (opening_in lines) shown) shown.core.front.committed) (some_cause f g is) right;
       })
 
   -- the epoch is committed, and no other is planned
-  pub committed_whole : (p : Pending F) → shown.core.front.planned ≤ shown.core.front.committed + 1
-      → IsPending tells sealed (setting_of lines shown.opening) (cuts_of (opening_in lines) shown) shown.core.front.committed p
-      → IsWhole tells lines available history written sealed (did shown disk (entry.Commit shown.core.front.committed false ∷ [])) (with_commit load p)
-  committed_whole p near is =
+  pub committed_whole : (p : Pending F) (told : Vec Told) → shown.core.front.planned ≤ shown.core.front.committed + 1
+      → AreTold (Owns stores logs lines shown) (setting_of lines shown.opening) (cuts_of (opening_in lines) shown) shown.opening.opened.committed (shown.core.front.committed + 1) told.items
+      → IsPending (Owns stores logs lines shown) sealed (setting_of lines shown.opening) (cuts_of (opening_in lines) shown) shown.core.front.committed p
+      → IsWhole stores logs lines available answers faults written sealed (did shown disk (entry.Commit shown.core.front.committed false ∷ [])) (with_commit load p told)
+  committed_whole p told near are is =
       let h = whole.holds in
       let c : Core = after shown.scope shown.core (entry.Commit shown.core.front.committed false) in
-      moved_whole tells lines available history written sealed shown load whole disk (entry.Commit shown.core.front.committed false) (with_commit load p) (λ cuts c. refl) refl refl refl (record {
+      moved_whole stores logs lines available answers faults written sealed shown load whole disk (entry.Commit shown.core.front.committed false) (with_commit load p told) (λ cuts c. refl) refl refl refl refl are (λ opened. absurd (let less = open_less c opened in omega (arith, less, near))) (λ e. absurd (true≢false (sym (ap is_some e)))) (record {
         parts = h.parts;
         partitions = h.partitions;
         logs = h.logs;
+        reduced = h.reduced;
         seen_so_far = λ run. is.times;
         epoch = λ run opened. absurd (let less = open_less c opened in omega (arith, less, near));
         commit = λ run opened written_is. absurd (let less = open_less c opened in omega (arith, less, near));
         stop = λ f stopped. absurd (true≢false (sym (ap is_some stopped)));
       })
 
-module _ {D L S F : Type 0} (tells : Type 0) (lines : L → List Line) (available : L → ℕ) (history : D → History) (written : S → List ℕ) (sealed : F → List ℕ) (shown : Shown D (Round L)) (load : Load L S F)
-    (whole : IsWhole tells lines available history written sealed shown load) where
+module _ {D L S F : Type 0} (stores logs : Type 0) (lines : L → List Line) (available : L → ℕ) (answers : L → List ℕ) (faults : L → ℕ) (written : S → List ℕ) (sealed : F → List ℕ) (shown : Shown D (Round L)) (load : Load L S F)
+    (whole : IsWhole stores logs lines available answers faults written sealed shown load) where
   -- the commit that is to be published is there
   pub pending_here : ready_of shown.scope shown.core ≡ ready.Commit
-      → (p : Pending F) × (load.pending ≡ Some p) × IsPending tells sealed (setting_of lines shown.opening) (cuts_of (opening_in lines) shown) shown.core.front.committed p
+      → (p : Pending F) × (load.pending ≡ Some p) × IsPending (Owns stores logs lines shown) sealed (setting_of lines shown.opening) (cuts_of (opening_in lines) shown) shown.core.front.committed p
   pending_here next = (let m = commit_may shown.scope shown.core false next in whole.holds.commit m.0 m.2 m.4)
 
   -- names were synced, or that failed
   pub after_sync : (now : Shown D (Round L)) (result : Result (Unit {0}) Cause) (before later : ℕ) → shown.core.front.stop ≡ None
       → OnOk result ((clock : ℕ) × (now ≡ did shown now.disk (entry.Sync clock ∷ []))) → IfErr result (λ f. (now ≡ did shown now.disk (entry.Stop f ∷ [])) × HasRisen f before later)
-      → IsWhole tells lines available history written sealed now load
+      → IsWhole stores logs lines available answers faults written sealed now load
   after_sync now (Ok x) before later runs done stopped =
-      subst (λ (x : Shown D (Round L)). IsWhole tells lines available history written sealed x load) (sym done.1) (synced_whole tells lines available history written sealed shown load whole now.disk done.0 runs)
+      subst (λ (x : Shown D (Round L)). IsWhole stores logs lines available answers faults written sealed x load) (sym done.1) (synced_whole stores logs lines available answers faults written sealed shown load whole now.disk done.0 runs)
   after_sync now (Err f) before later runs done stopped =
-      subst (λ (x : Shown D (Round L)). IsWhole tells lines available history written sealed x load) (sym stopped.0)
-      (halted_whole tells lines available history written sealed shown load whole now.disk f load.pending
-      (risen_stops tells (setting_of lines shown.opening) (cuts_of (opening_in lines) shown) shown.core.front.committed f before later stopped.1))
+      subst (λ (x : Shown D (Round L)). IsWhole stores logs lines available answers faults written sealed x load) (sym stopped.0)
+      (halted_whole stores logs lines available answers faults written sealed shown load whole now.disk f load.pending (risen_no_log f before later stopped.1)
+      (risen_stops (stores × logs) (setting_of lines shown.opening) (cuts_of (opening_in lines) shown) shown.core.front.committed f before later stopped.1))
 
   -- the epoch is committed, with what is left of the load
-  pub after_commit : (now : Shown D (Round L)) (p : Pending F) (none : Option (Pending F)) → shown.core.front.planned ≤ shown.core.front.committed + 1 → none ≡ None → load.pending ≡ Some p
+  pub after_commit : (now : Shown D (Round L)) (p : Pending F) (none : Option (Pending F)) (told : Vec Told) → shown.core.front.planned ≤ shown.core.front.committed + 1 → none ≡ None → load.pending ≡ Some p
       → ready_of shown.scope shown.core ≡ ready.Commit → now ≡ did shown now.disk (entry.Commit shown.core.front.committed false ∷ [])
-      → IsWhole tells lines available history written sealed now (record { view = load.view; plans = load.plans; sources = load.sources; shares = load.shares; out = load.out; seen = p.seen; pending = none })
-  after_commit now p none near none_is p_is next done =
+      → AreTold (Owns stores logs lines shown) (setting_of lines shown.opening) (cuts_of (opening_in lines) shown) shown.opening.opened.committed (shown.core.front.committed + 1) told.items
+      → IsWhole stores logs lines available answers faults written sealed now (record { view = load.view; plans = load.plans; sources = load.sources; shares = load.shares; out = load.out; seen = p.seen; pending = none; told = told; kept = load.kept })
+  after_commit now p none told near none_is p_is next done are =
       let h = pending_here next in
-      let own = subst (IsPending tells sealed (setting_of lines shown.opening) (cuts_of (opening_in lines) shown) shown.core.front.committed) (some_pending h.0 p (sym h.1 ∙ p_is)) h.2 in
-      subst (λ (x : Shown D (Round L)). IsWhole tells lines available history written sealed x (record { view = load.view; plans = load.plans; sources = load.sources; shares = load.shares; out = load.out; seen = p.seen; pending = none })) (sym done)
-      (subst (λ (o : Option (Pending F)). IsWhole tells lines available history written sealed (did shown now.disk (entry.Commit shown.core.front.committed false ∷ [])) (record { view = load.view; plans = load.plans; sources = load.sources; shares = load.shares; out = load.out; seen = p.seen; pending = o })) (sym none_is)
-      (committed_whole tells lines available history written sealed shown load whole now.disk p near own))
+      let own = subst (IsPending (Owns stores logs lines shown) sealed (setting_of lines shown.opening) (cuts_of (opening_in lines) shown) shown.core.front.committed) (some_pending h.0 p (sym h.1 ∙ p_is)) h.2 in
+      subst (λ (x : Shown D (Round L)). IsWhole stores logs lines available answers faults written sealed x (record { view = load.view; plans = load.plans; sources = load.sources; shares = load.shares; out = load.out; seen = p.seen; pending = none; told = told; kept = load.kept })) (sym done)
+      (subst (λ (o : Option (Pending F)). IsWhole stores logs lines available answers faults written sealed (did shown now.disk (entry.Commit shown.core.front.committed false ∷ [])) (record { view = load.view; plans = load.plans; sources = load.sources; shares = load.shares; out = load.out; seen = p.seen; pending = o; told = told; kept = load.kept })) (sym none_is)
+      (committed_whole stores logs lines available answers faults written sealed shown load whole now.disk p told near are own))
 
   -- its commit could not be published
-  pub uncommitted : (now : Shown D (Round L)) (none : Option (Pending F)) → now ≡ did shown now.disk (entry.Stop cause.DiskFault ∷ []) → IsWhole tells lines available history written sealed now (with_pending load none)
+  pub uncommitted : (now : Shown D (Round L)) (none : Option (Pending F)) → now ≡ did shown now.disk (entry.Stop cause.DiskFault ∷ []) → IsWhole stores logs lines available answers faults written sealed now (with_pending load none)
   uncommitted now none stopped =
-      subst (λ (x : Shown D (Round L)). IsWhole tells lines available history written sealed x (with_pending load none)) (sym stopped)
-      (halted_whole tells lines available history written sealed shown load whole now.disk cause.DiskFault none tt)
+      subst (λ (x : Shown D (Round L)). IsWhole stores logs lines available answers faults written sealed x (with_pending load none)) (sym stopped)
+      (halted_whole stores logs lines available answers faults written sealed shown load whole now.disk cause.DiskFault none disk_no_log tt)
 
   -- and it is the epoch's
   pub pending_right : (p : Pending F) → load.pending ≡ Some p → ready_of shown.scope shown.core ≡ ready.Commit
-      → tells → sealed p.commit ≡ truth ((opening_in lines shown.opening).job.course (cuts_of (opening_in lines) shown)) (name.Commit shown.core.front.committed)
+      → Owns stores logs lines shown → sealed p.commit ≡ truth ((opening_in lines shown.opening).job.course (cuts_of (opening_in lines) shown)) (name.Commit shown.core.front.committed)
   pending_right p p_is next t =
       let h = pending_here next in ap (λ (x : Pending F). sealed x.commit) (some_pending p h.0 (sym p_is ∙ h.1)) ∙ h.2.commit t

@@ -1,9 +1,9 @@
 -- What is so of each desk stays so after the calls of its ledger.
-use Rattle.std.proofs.Common.{◌≡◌, ◌++◌, [], ◌∷◌, ℕ, ℤ, Bool, true≢false, List, length, get_or, Option, Some, None, refl, sym, ap, ◌∙◌, subst}
+use Rattle.std.proofs.Common.{◌≡◌, ◌++◌, [], ◌∷◌, ℕ, ℤ, Bool, false, true≢false, List, length, get_or, Option, Some, None, refl, sym, ap, ◌∙◌, subst}
 use Rattle.std.specs.Prelude.{is_some}
 use Rattle.std.proofs.lemmas.List.{append-nil, append_assoc}
-use Rattle.ssq_outside.specs.History.{History}
 use Rattle.ssq_meaning.specs.Meaning.{Line}
+use Rattle.ssq_feed.specs.Causes.{LogWent}
 use Rattle.ssq_core.specs.Course.{Cuts, Job}
 use Rattle.ssq_course.specs.Setting.{Setting}
 use Rattle.ssq_board.specs.declared.front.Cause.{Cause}
@@ -12,24 +12,26 @@ use Rattle.ssq_board.specs.declared.front.Entry.{Entry}
 use Rattle.ssq_board.specs.declared.front.Entry.TheVariants as entry
 use Rattle.ssq_plans.specs.declared.plan.Plan.{Plan}
 use Rattle.ssq_plans.specs.declared.part.PartEnd.{PartEnd}
-use Rattle.ssq_board.specs.Core.{Scope, Core, May, HasCause, after, after_all, cuts_by, cuts_all}
+use Rattle.ssq_board.specs.Core.{Scope, Core, May, HasCause, after, after_all, cuts_by, cuts_all, is_open}
 use Rattle.ssq_board.specs.Shown.{first}
 use Rattle.ssq_board.specs.Follows.{State, Leads}
 use Rattle.ssq_ledger.specs.Shown.{Shown, Opening, cuts_after, cuts_of, did}
 use Rattle.ssq_desk.specs.declared.desk.Load.{Load}
 use Rattle.ssq_desk.specs.declared.round.Round.{Round}
-use Rattle.ssq_desk.specs.Round.{setting_of}
+use Rattle.ssq_desk.specs.Round.{setting_of, Owns}
 use Rattle.std.specs.Global.{Vec}
 use Rattle.ssq_desk.specs.declared.desk.Source.{Source}
 use Rattle.ssq_desk.specs.declared.desk.Share.{Share}
 use Rattle.ssq_desk.specs.declared.desk.OutWork.{OutWork}
 use Rattle.ssq_desk.specs.declared.desk.Pending.{Pending}
-use Rattle.ssq_desk.specs.Contents.{Holds, IsStopOf}
+use Rattle.ssq_desk.specs.Contents.{IsStopOf}
 use Rattle.ssq_desk.specs.Room.{AreBegun}
 use Rattle.ssq_desk.specs.Making.{IsUnmade, IsSameLoad, IsMadeFor}
 use Rattle.ssq_desk.specs.Tasks.{IsViewOf}
 use Rattle.ssq_desk.proofs.Planned.{begun_source}
-use Rattle.ssq_desk.specs.Whole.{IsWhole, ArePlans, opening_in}
+use Rattle.ssq_desk.specs.declared.told.Told.{Told}
+use Rattle.ssq_desk.specs.Closing.{AreTold, HasFaulty}
+use Rattle.ssq_desk.specs.Whole.{IsWhole, IsKept, HoldsIn, ArePlans, opening_in}
 
 cuts_more : (r : Scope) (cuts : Cuts) (c : Core) (es : List Entry) (e : Entry) → cuts_all r cuts c (es ++ e ∷ []) ≡ cuts_by r (cuts_all r cuts c es) (after_all r c es) e
 cuts_more r cuts c [] e = refl
@@ -61,105 +63,131 @@ last_may tells job r next [] e a n l = (a.core, l.1.may)
 last_may tells job r next (x ∷ es) e a n l = last_may tells job r next es e l.0 n l.2
 
 -- for what a Stop may come, a desk may be stopped
-pub cause_stops : (tells : Type 0) (s : Setting) (cuts : Cuts) (e : ℕ) (r : Scope) (c : Core) (f : Cause) → HasCause r c f → IsStopOf tells s cuts e f
-cause_stops tells s cuts e r c cause.Full has = tt
-cause_stops tells s cuts e r c cause.DiskFault has = tt
-cause_stops tells s cuts e r c cause.NoMemory has = tt
-cause_stops tells s cuts e r c (cause.BadLine t p o f) has = absurd has
-cause_stops tells s cuts e r c (cause.Overflow t p o) has = absurd has
-cause_stops tells s cuts e r c cause.LogFault has = absurd has
-cause_stops tells s cuts e r c (cause.LogShort t p l f) has = absurd has
-cause_stops tells s cuts e r c (cause.Damaged q) has = absurd has
+pub cause_stops : (reads : Type 0) (s : Setting) (cuts : Cuts) (e : ℕ) (r : Scope) (c : Core) (f : Cause) → HasCause r c f → IsStopOf reads s cuts e f
+cause_stops reads s cuts e r c cause.Full has = tt
+cause_stops reads s cuts e r c cause.DiskFault has = tt
+cause_stops reads s cuts e r c cause.NoMemory has = tt
+cause_stops reads s cuts e r c (cause.BadLine t p o f) has = absurd has
+cause_stops reads s cuts e r c (cause.Overflow t p o) has = absurd has
+cause_stops reads s cuts e r c cause.LogFault has = absurd has
+cause_stops reads s cuts e r c (cause.LogShort t p l f) has = absurd has
+cause_stops reads s cuts e r c (cause.Damaged q) has = absurd has
 
-pub unmade_stops : (tells : Type 0) (s : Setting) (cuts : Cuts) (e n : ℕ) (f : Cause) → IsUnmade n f → IsStopOf tells s cuts e f
-unmade_stops tells s cuts e n cause.Full is = tt
-unmade_stops tells s cuts e n cause.DiskFault is = tt
-unmade_stops tells s cuts e n cause.NoMemory is = tt
-unmade_stops tells s cuts e n (cause.BadLine t p o f) is = absurd is
-unmade_stops tells s cuts e n (cause.Overflow t p o) is = absurd is
-unmade_stops tells s cuts e n cause.LogFault is = absurd is
-unmade_stops tells s cuts e n (cause.LogShort t p l f) is = absurd is
-unmade_stops tells s cuts e n (cause.Damaged q) is = absurd is
+pub unmade_stops : (reads : Type 0) (s : Setting) (cuts : Cuts) (e n : ℕ) (f : Cause) → IsUnmade n f → IsStopOf reads s cuts e f
+unmade_stops reads s cuts e n cause.Full is = tt
+unmade_stops reads s cuts e n cause.DiskFault is = tt
+unmade_stops reads s cuts e n cause.NoMemory is = tt
+unmade_stops reads s cuts e n (cause.BadLine t p o f) is = absurd is
+unmade_stops reads s cuts e n (cause.Overflow t p o) is = absurd is
+unmade_stops reads s cuts e n cause.LogFault is = absurd is
+unmade_stops reads s cuts e n (cause.LogShort t p l f) is = absurd is
+unmade_stops reads s cuts e n (cause.Damaged q) is = absurd is
+
+-- none of them is a fault of a log
+pub cause_no_log : (r : Scope) (c : Core) (f : Cause) → HasCause r c f → f ≡ cause.LogFault → ⊥
+cause_no_log r c f has is = subst (HasCause r c) is has
+
+pub unmade_no_log : (n : ℕ) (f : Cause) → IsUnmade n f → f ≡ cause.LogFault → ⊥
+unmade_no_log n f unmade is = subst (IsUnmade n) is unmade
 
 module _ {D O : Type 0} where
   -- entries after entries
   pub did_then : (s : Shown D O) (one other : D) (es more : List Entry) → did (did s one es) other more ≡ did s other (es ++ more)
   did_then s one other es more = (λ i. record { opening = s.opening; opened = s.opened; scope = s.scope; disk = other; core = after_more s.scope s.core es more i; history = append_assoc s.history es more i })
 
-module _ {D L S F : Type 0} (tells : Type 0) (lines : L → List Line) (available : L → ℕ) (history : D → History) (written : S → List ℕ) (sealed : F → List ℕ) (shown : Shown D (Round L)) (load : Load L S F)
-    (whole : IsWhole tells lines available history written sealed shown load) where
+module _ {D L S F : Type 0} (stores logs : Type 0) (lines : L → List Line) (available : L → ℕ) (answers : L → List ℕ) (faults : L → ℕ) (written : S → List ℕ) (sealed : F → List ℕ) (shown : Shown D (Round L)) (load : Load L S F)
+    (whole : IsWhole stores logs lines available answers faults written sealed shown load) where
   -- a call of the disk that changes no name
-  pub still_whole : (disk : D) → IsWhole tells lines available history written sealed (did shown disk []) load
+  pub still_whole : (disk : D) → IsWhole stores logs lines available answers faults written sealed (did shown disk []) load
   still_whole disk =
       let same : cuts_of (opening_in lines) (did shown disk []) ≡ cuts_of (opening_in lines) shown = ap (cuts_after (opening_in lines shown.opening) shown.scope) (append-nil shown.history) in record {
         round = whole.round;
         view = whole.view;
-        holds = subst (λ (cuts : Cuts). Holds tells lines available written sealed (setting_of lines shown.opening) cuts shown.scope.available shown.core load.sources.items load.shares.items load.out load.seen load.pending) (sym same) whole.holds;
-        plans = subst (λ (cuts : Cuts). ArePlans tells (setting_of lines shown.opening) cuts shown.core.front.planned load.plans.items) (sym same) whole.plans;
+        holds = subst (λ (cuts : Cuts). HoldsIn stores logs lines available answers faults written sealed shown cuts shown.core load.sources.items load.shares.items load.out load.seen load.pending) (sym same) whole.holds;
+        plans = subst (λ (cuts : Cuts). ArePlans (Owns stores logs lines shown) shown.opening.opened.plans (setting_of lines shown.opening) cuts shown.core.front.planned load.plans.items) (sym same) whole.plans;
+        told = subst (λ (cuts : Cuts). AreTold (Owns stores logs lines shown) (setting_of lines shown.opening) cuts shown.opening.opened.committed shown.core.front.committed load.told.items) (sym same) whole.told;
+        told_room = whole.told_room;
+        faulty = whole.faulty;
+        kept = whole.kept;
       }
 
   -- a Stop for a cause that may stop it
-  pub stopped_whole : (disk : D) (f : Cause) → IsStopOf tells (setting_of lines shown.opening) (cuts_of (opening_in lines) shown) shown.core.front.committed f
-      → IsWhole tells lines available history written sealed (did shown disk (entry.Stop f ∷ [])) load
-  stopped_whole disk f right =
+  pub stopped_whole : (disk : D) (f : Cause) → (f ≡ cause.LogFault → ⊥) → IsStopOf (stores × logs) (setting_of lines shown.opening) (cuts_of (opening_in lines) shown) shown.core.front.committed f
+      → IsWhole stores logs lines available answers faults written sealed (did shown disk (entry.Stop f ∷ [])) load
+  stopped_whole disk f no_log right =
       let s : Setting = setting_of lines shown.opening in
       let old : Cuts = cuts_of (opening_in lines) shown in
       let new : Core = after shown.scope shown.core (entry.Stop f) in
       let same : cuts_of (opening_in lines) (did shown disk (entry.Stop f ∷ [])) ≡ old = cuts_then (opening_in lines shown.opening) shown.scope shown.history (entry.Stop f) in
-      let h : Holds tells lines available written sealed s old shown.scope.available new load.sources.items load.shares.items load.out load.seen load.pending = record {
+      let h : HoldsIn stores logs lines available answers faults written sealed shown old new load.sources.items load.shares.items load.out load.seen load.pending = record {
         parts = whole.holds.parts;
         partitions = whole.holds.partitions;
         logs = whole.holds.logs;
+        reduced = whole.holds.reduced;
         seen_so_far = λ running. absurd (true≢false (ap is_some running));
         epoch = λ running opened. absurd (true≢false (ap is_some running));
         commit = λ running opened is. absurd (true≢false (ap is_some running));
-        stop = λ g is. subst (IsStopOf tells s old shown.core.front.committed) (some_same f g is) right;
+        stop = λ g is. subst (IsStopOf (stores × logs) s old shown.core.front.committed) (some_same f g is) right;
       } in record {
         round = whole.round;
         view = whole.view;
-        holds = subst (λ (cuts : Cuts). Holds tells lines available written sealed s cuts shown.scope.available new load.sources.items load.shares.items load.out load.seen load.pending) (sym same) h;
-        plans = subst (λ (cuts : Cuts). ArePlans tells s cuts shown.core.front.planned load.plans.items) (sym same) whole.plans;
+        holds = subst (λ (cuts : Cuts). HoldsIn stores logs lines available answers faults written sealed shown cuts new load.sources.items load.shares.items load.out load.seen load.pending) (sym same) h;
+        plans = subst (λ (cuts : Cuts). ArePlans (Owns stores logs lines shown) shown.opening.opened.plans s cuts shown.core.front.planned load.plans.items) (sym same) whole.plans;
+        told = subst (λ (cuts : Cuts). AreTold (Owns stores logs lines shown) s cuts shown.opening.opened.committed shown.core.front.committed load.told.items) (sym same) whole.told;
+        told_room = whole.told_room;
+        faulty = λ e. absurd (no_log (some_same f cause.LogFault e));
+        kept = whole.kept;
       }
 
-module _ {D L S F : Type 0} (tells : Type 0) (lines : L → List Line) (available : L → ℕ) (history : D → History) (written : S → List ℕ) (sealed : F → List ℕ) (shown : Shown D (Round L)) (load : Load L S F)
-    (whole : IsWhole tells lines available history written sealed shown load) where
-  -- a load that is the same but for room
-  pub same_load : (now : Load L S F) → IsSameLoad load now → IsWhole tells lines available history written sealed shown now
-  same_load now same =
+module _ {D L S F : Type 0} (stores logs : Type 0) (lines : L → List Line) (available : L → ℕ) (answers : L → List ℕ) (faults : L → ℕ) (written : S → List ℕ) (sealed : F → List ℕ) (shown : Shown D (Round L)) (load : Load L S F)
+    (whole : IsWhole stores logs lines available answers faults written sealed shown load) where
+  -- between epochs, a load that is the same but for room
+  pub same_load : (now : Load L S F) → is_open shown.core ≡ false → IsSameLoad load now → IsWhole stores logs lines available answers faults written sealed shown now
+  same_load now closed same =
       let s : Setting = setting_of lines shown.opening in
       let cuts : Cuts = cuts_of (opening_in lines) shown in record {
         round = whole.round;
         view = subst (IsViewOf s) (sym same.view_is) whole.view;
-        holds = subst (λ (x : Vec (Source L)). Holds tells lines available written sealed s cuts shown.scope.available shown.core x.items now.shares.items now.out now.seen now.pending) (sym same.sources_are)
-            (subst (λ (x : Vec Share). Holds tells lines available written sealed s cuts shown.scope.available shown.core load.sources.items x.items now.out now.seen now.pending) (sym same.shares_are)
-            (subst (λ (x : Option (OutWork S F)). Holds tells lines available written sealed s cuts shown.scope.available shown.core load.sources.items load.shares.items x now.seen now.pending) (sym same.out_is)
-            (subst (λ (x : List (Option ℤ)). Holds tells lines available written sealed s cuts shown.scope.available shown.core load.sources.items load.shares.items load.out x now.pending) (sym same.seen_is)
-            (subst (λ (x : Option (Pending F)). Holds tells lines available written sealed s cuts shown.scope.available shown.core load.sources.items load.shares.items load.out load.seen x) (sym same.pending_is) whole.holds))));
-        plans = subst (λ (x : List Plan). ArePlans tells s cuts shown.core.front.planned x) (sym same.plans_are) whole.plans;
+        holds = subst (λ (x : Vec (Source L)). HoldsIn stores logs lines available answers faults written sealed shown cuts shown.core x.items now.shares.items now.out now.seen now.pending) (sym same.sources_are)
+            (subst (λ (x : Vec Share). HoldsIn stores logs lines available answers faults written sealed shown cuts shown.core load.sources.items x.items now.out now.seen now.pending) (sym same.shares_are)
+            (subst (λ (x : Option (OutWork S F)). HoldsIn stores logs lines available answers faults written sealed shown cuts shown.core load.sources.items load.shares.items x now.seen now.pending) (sym same.out_is)
+            (subst (λ (x : List (Option ℤ)). HoldsIn stores logs lines available answers faults written sealed shown cuts shown.core load.sources.items load.shares.items load.out x now.pending) (sym same.seen_is)
+            (subst (λ (x : Option (Pending F)). HoldsIn stores logs lines available answers faults written sealed shown cuts shown.core load.sources.items load.shares.items load.out load.seen x) (sym same.pending_is) whole.holds))));
+        plans = subst (λ (x : List Plan). ArePlans (Owns stores logs lines shown) shown.opening.opened.plans s cuts shown.core.front.planned x) (sym same.plans_are) whole.plans;
+        told = subst (λ (x : List Told). AreTold (Owns stores logs lines shown) s cuts shown.opening.opened.committed shown.core.front.committed x) (sym same.told_are) whole.told;
+        told_room = λ opened. absurd (true≢false (sym opened ∙ closed));
+        faulty = λ e. subst (λ (x : Vec (Source L)). HasFaulty faults shown.core.maps x.items) (sym same.sources_are) (whole.faulty e);
+        kept = subst (IsKept s shown.opening.opened) (sym same.kept_is) whole.kept;
       }
 
   -- what was made for an epoch that is not to come
-  pub unplanned_whole : (disk : D) (f : Cause) (made now : Load L S F) (here : Vec PartEnd) → IsMadeFor tells written shown.core.ends load made here
-      → now.view ≡ made.view → now.plans.items ≡ made.plans.items → now.sources.items ≡ made.sources.items → now.shares.items ≡ made.shares.items
-      → IsStopOf tells (setting_of lines shown.opening) (cuts_of (opening_in lines) shown) shown.core.front.committed f
-      → IsWhole tells lines available history written sealed (did shown disk (entry.Stop f ∷ [])) now
-  unplanned_whole disk f made now here is view plans sources shares right =
+  pub unplanned_whole : (disk : D) (f : Cause) (made now : Load L S F) (here : Vec PartEnd) → (f ≡ cause.LogFault → ⊥) → is_open shown.core ≡ false → IsMadeFor (Owns stores logs lines shown) written shown.core.ends load made here
+      → now.view ≡ made.view → now.plans.items ≡ made.plans.items → now.sources.items ≡ made.sources.items → now.shares.items ≡ made.shares.items → now.told.items ≡ made.told.items → now.kept ≡ made.kept
+      → IsStopOf (stores × logs) (setting_of lines shown.opening) (cuts_of (opening_in lines) shown) shown.core.front.committed f
+      → IsWhole stores logs lines available answers faults written sealed (did shown disk (entry.Stop f ∷ [])) now
+  unplanned_whole disk f made now here no_log closed is view plans sources shares told kept right =
       let s : Setting = setting_of lines shown.opening in
       let old : Cuts = cuts_of (opening_in lines) shown in
       let new : Core = after shown.scope shown.core (entry.Stop f) in
       let same : cuts_of (opening_in lines) (did shown disk (entry.Stop f ∷ [])) ≡ old = cuts_then (opening_in lines shown.opening) shown.scope shown.history (entry.Stop f) in
       let begun : AreBegun shown.core.ends load.sources.items now.sources.items = subst (λ (x : List (Source L)). AreBegun shown.core.ends load.sources.items x) (sym sources) is.begun in
-      let h : Holds tells lines available written sealed s old shown.scope.available new now.sources.items now.shares.items now.out now.seen now.pending = record {
+      let h : HoldsIn stores logs lines available answers faults written sealed shown old new now.sources.items now.shares.items now.out now.seen now.pending = record {
         parts = begun.0 ∙ whole.holds.parts;
         partitions = ap length shares ∙ is.count ∙ whole.view.partitions;
-        logs = λ i part at source there here mine. begun_source tells lines available shown.core.ends load.sources.items now.sources.items begun i part (get_or shown.scope.available i 0) at source mine (λ before was. whole.holds.logs i part at before there here was);
+        logs = λ i part at source there here mine. begun_source (stores × logs) lines available (LogWent logs lines available answers faults) shown.opening.logs.items shown.core.ends load.sources.items now.sources.items begun i part (get_or shown.scope.available i 0) at source mine (λ before was. whole.holds.logs i part at before there here was);
+        reduced = whole.holds.reduced;
         seen_so_far = λ running. absurd (true≢false (ap is_some running));
         epoch = λ running opened. absurd (true≢false (ap is_some running));
         commit = λ running opened written_is. absurd (true≢false (ap is_some running));
-        stop = λ g stopped. subst (IsStopOf tells s old shown.core.front.committed) (some_same f g stopped) right;
+        stop = λ g stopped. subst (IsStopOf (stores × logs) s old shown.core.front.committed) (some_same f g stopped) right;
       } in record {
         round = whole.round;
         view = subst (IsViewOf s) (sym (view ∙ is.view_is)) whole.view;
-        holds = subst (λ (cuts : Cuts). Holds tells lines available written sealed s cuts shown.scope.available new now.sources.items now.shares.items now.out now.seen now.pending) (sym same) h;
-        plans = subst (λ (cuts : Cuts). ArePlans tells s cuts shown.core.front.planned now.plans.items) (sym same) (subst (λ (x : List Plan). ArePlans tells s old shown.core.front.planned x) (sym (plans ∙ is.plans_are)) whole.plans);
+        holds = subst (λ (cuts : Cuts). HoldsIn stores logs lines available answers faults written sealed shown cuts new now.sources.items now.shares.items now.out now.seen now.pending) (sym same) h;
+        plans = subst (λ (cuts : Cuts). ArePlans (Owns stores logs lines shown) shown.opening.opened.plans s cuts shown.core.front.planned now.plans.items) (sym same) (subst (λ (x : List Plan). ArePlans (Owns stores logs lines shown) shown.opening.opened.plans s old shown.core.front.planned x) (sym (plans ∙ is.plans_are)) whole.plans);
+        told = subst (λ (cuts : Cuts). AreTold (Owns stores logs lines shown) s cuts shown.opening.opened.committed shown.core.front.committed now.told.items) (sym same)
+            (subst (λ (x : List Told). AreTold (Owns stores logs lines shown) s old shown.opening.opened.committed shown.core.front.committed x) (sym (told ∙ is.told_are)) whole.told);
+        told_room = λ opened. absurd (true≢false (sym opened ∙ closed));
+        faulty = λ e. absurd (no_log (some_same f cause.LogFault e));
+        kept = subst (IsKept s shown.opening.opened) (sym (kept ∙ is.kept_is)) whole.kept;
       }

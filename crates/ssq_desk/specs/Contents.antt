@@ -1,5 +1,5 @@
 -- What a desk holds beside the ledger: the logs, what tasks are to take and what they brought.
-use Rattle.std.specs.Prelude.{◌<◌, ◌≡◌, ◌⊎◌, ◌≤◌, ◌+◌, ℕ, ℤ, true, List, [], length, get_or, slice_get, All, Option, Some, None, IfSome, vec_capacity}
+use Rattle.std.specs.Prelude.{◌<◌, ◌≡◌, ◌⊎◌, ◌≤◌, ◌+◌, ℕ, ℤ, true, false, List, [], length, get_or, slice_get, All, Option, Some, None, IfSome, vec_capacity}
 use mathlib.Core.Option.{some}
 use lib.ListN.{get_elem?}
 use Rattle.ssq_time.specs.Time.{IsLineTime, IsStampTime}
@@ -12,7 +12,7 @@ use Rattle.ssq_meaning.specs.declared.line.LineFault.TheVariants as line
 use Rattle.ssq_meaning.specs.Meaning.{Line}
 use Rattle.ssq_meaning.specs.Parts.{Part}
 use Rattle.ssq_meaning.specs.Feeding.{LineAt, time_in, fault_in}
-use Rattle.ssq_meaning.specs.Epochs.{seen, fault, of_line}
+use Rattle.ssq_meaning.specs.Epochs.{seen, out, fault, of_line}
 use Rattle.ssq_water.specs.Water.{seen_at}
 use Rattle.ssq_feed.specs.declared.task.FedRows.{FedRows}
 use Rattle.ssq_feed.specs.Rows.{IsPrintable}
@@ -25,7 +25,7 @@ use Rattle.ssq_board.specs.declared.front.RowFault.TheVariants as row
 use Rattle.ssq_board.specs.declared.front.Place.{Place}
 use Rattle.ssq_board.specs.declared.front.Place.TheVariants as place
 use Rattle.std.specs.List.{list_all}
-use Rattle.ssq_board.specs.Core.{Core, is_open, is_fine}
+use Rattle.ssq_board.specs.Core.{Core, is_open, is_fine, is_of_line}
 use Rattle.ssq_outside.specs.declared.name.Name.TheVariants as name
 use Rattle.ssq_terms.specs.Rows.{bucket_in, IsShownOf}
 use Rattle.ssq_desk.specs.declared.desk.Source.{Source}
@@ -47,105 +47,111 @@ line_of (cause.BadLine s p o f) = Some (record { stream = s; part = p; offset = 
 line_of (cause.Overflow s p o) = Some (record { stream = s; part = p; offset = o; what = line.Overflow })
 line_of _ = None
 
--- Why a map task brought nothing: a line's fault is the first of its range; a log is short where it has fewer lines than the range's end;
--- and the outside may fail at any time.
+-- Why a map task brought nothing: a line's fault is the first of its range; a log is short where it has fewer lines than the range's end,
+-- which one that tells what it holds never is; and the outside may fail at any time.
 abbrev pub IsCauseIn : Type 0 → Bound → Part → (from to : ℕ) → Cause → Type 0
-IsCauseIn tells query part from to (cause.BadLine s p o f) = tells → fault_in query part from to ≡ line_of (cause.BadLine s p o f)
-IsCauseIn tells query part from to (cause.Overflow s p o) = tells → fault_in query part from to ≡ line_of (cause.Overflow s p o)
-IsCauseIn tells query part from to (cause.LogShort s p logged found) = (logged ≡ to) × (found < to)
-IsCauseIn tells query part from to cause.LogFault = Unit {0}
-IsCauseIn tells query part from to cause.NoMemory = Unit {0}
-IsCauseIn tells query part from to cause.DiskFault = ⊥
-IsCauseIn tells query part from to (cause.Damaged q) = ⊥
-IsCauseIn tells query part from to cause.Full = ⊥
+IsCauseIn reads query part from to (cause.BadLine s p o f) = reads → fault_in query part from to ≡ line_of (cause.BadLine s p o f)
+IsCauseIn reads query part from to (cause.Overflow s p o) = reads → fault_in query part from to ≡ line_of (cause.Overflow s p o)
+IsCauseIn reads query part from to (cause.LogShort s p logged found) = (logged ≡ to) × (found < to) × (reads → ⊥)
+IsCauseIn reads query part from to cause.LogFault = Unit {0}
+IsCauseIn reads query part from to cause.NoMemory = Unit {0}
+IsCauseIn reads query part from to cause.DiskFault = ⊥
+IsCauseIn reads query part from to (cause.Damaged q) = ⊥
+IsCauseIn reads query part from to cause.Full = ⊥
 
--- Why a desk stopped: a line's fault is the first of the epoch that runs.
+-- Why a desk stopped: a line's fault is the first of the epoch that runs; and no log that tells what it holds is short.
 abbrev pub IsStopOf : Type 0 → Setting → Cuts → ℕ → Cause → Type 0
-IsStopOf tells s cuts e (cause.BadLine t p o f) = tells → (at : LineAt) × (line_of (cause.BadLine t p o f) ≡ Some at) × (fault s.job.bound (parts_in s) (cuts_of cuts) e ≡ Some (of_line at))
-IsStopOf tells s cuts e (cause.Overflow t p o) = tells → (at : LineAt) × (line_of (cause.Overflow t p o) ≡ Some at) × (fault s.job.bound (parts_in s) (cuts_of cuts) e ≡ Some (of_line at))
-IsStopOf tells s cuts e (cause.LogShort t p logged found) = found < logged
-IsStopOf tells s cuts e (cause.Damaged q) = ⊥
-IsStopOf tells s cuts e _ = Unit {0}
+IsStopOf reads s cuts e (cause.BadLine t p o f) = reads → (at : LineAt) × (line_of (cause.BadLine t p o f) ≡ Some at) × (fault s.job.bound (parts_in s) (cuts_of cuts) e ≡ Some (of_line at))
+IsStopOf reads s cuts e (cause.Overflow t p o) = reads → (at : LineAt) × (line_of (cause.Overflow t p o) ≡ Some at) × (fault s.job.bound (parts_in s) (cuts_of cuts) e ≡ Some (of_line at))
+IsStopOf reads s cuts e (cause.LogShort t p logged found) = (found < logged) × (reads → ⊥)
+IsStopOf reads s cuts e (cause.Damaged q) = ⊥
+IsStopOf reads s cuts e _ = Unit {0}
 
 -- its log is with a worker
 abbrev pub is_away : Place → Type 0
 is_away place.Away = Unit {0}
 is_away _ = ⊥
 
-module _ {L : Type 0} (tells : Type 0) (lines : L → List Line) (available : L → ℕ) where
-  -- the log is the part's, and at least so many lines of it are known to be there
-  pub record IsLogOf (part : Part) (found : ℕ) (log : L) : Type 0 where
-    pub lines_are : tells → lines log ≡ part.lines
-    pub long : tells → found ≤ available log
+module _ {L : Type 0} (reads : Type 0) (lines : L → List Line) (available : L → ℕ) (went : L → L → Type 0) (opened : List L) where
+  -- the log is the i-th part's, at least so many lines of it are known to be there, and it went on from the log that was opened
+  pub record IsLogOf (i : ℕ) (part : Part) (found : ℕ) (log : L) : Type 0 where
+    pub lines_are : reads → lines log ≡ part.lines
+    pub long : reads → found ≤ available log
+    pub before : L
+    pub before_is : get_elem? opened i ≡ some before
+    pub has_gone : went before log
 
-  -- a source is its part's, and has its log where no worker does
-  pub record IsSourceOf (part : Part) (found : ℕ) (at : Place) (source : Source L) : Type 0 where
+  -- a source is the i-th part's, and has its log where no worker does
+  pub record IsSourceOf (i : ℕ) (part : Part) (found : ℕ) (at : Place) (source : Source L) : Type 0 where
     pub stream : part.stream ≡ source.stream
     pub number : part.part ≡ source.part
-    pub log : (is_away at → ⊥) → (own : L) × (source.log ≡ Some own) × IsLogOf part found own
+    pub log : (is_away at → ⊥) → (own : L) × (source.log ≡ Some own) × IsLogOf i part found own
 
 -- What a map task brought of the lines from one offset up to another: for each partition whose reduce task still waits the rows of its
 -- bucket, and the greatest time; and none of the lines has a fault.
-pub record IsBrought (tells : Type 0) (query : Bound) (part : Part) (from to partitions : ℕ) (reduces : List Place) (fed : FedRows) : Type 0 where
+pub record IsBrought (reads : Type 0) (query : Bound) (part : Part) (from to partitions : ℕ) (reduces : List Place) (fed : FedRows) : Type 0 where
   pub count : length fed.buckets ≡ partitions
   pub years : IfSome fed.time IsLineTime
   pub printable : All (All IsPrintable) fed.buckets
-  pub time : tells → fed.time ≡ time_in query part from to
-  pub good : tells → fault_in query part from to ≡ None
-  pub rows : tells → (p : ℕ) → get_elem? reduces p ≡ some place.Waits → bucket_at fed.buckets p ≡ bucket_in query partitions p part from to
+  pub time : reads → fed.time ≡ time_in query part from to
+  pub good : reads → fault_in query part from to ≡ None
+  pub rows : reads → (p : ℕ) → get_elem? reduces p ≡ some place.Waits → bucket_at fed.buckets p ≡ bucket_in query partitions p part from to
 
 -- what a source has of the epoch that runs, by the place of its map task
-pub record IsMapped {L : Type 0} (tells : Type 0) (query : Bound) (part : Part) (from to partitions : ℕ) (reduces : List Place) (at : Place) (source : Source L) : Type 0 where
+pub record IsMapped {L : Type 0} (reads : Type 0) (query : Bound) (part : Part) (from to partitions : ℕ) (reduces : List Place) (at : Place) (source : Source L) : Type 0 where
   pub begins : source.from ≡ from
   pub quiet : at ≡ place.Rests → to ≤ from
   pub none : at ≡ place.Rests → source.fed ≡ None
-  pub brought : at ≡ place.Back None → (fed : FedRows) × (source.fed ≡ Some fed) × IsBrought tells query part from to partitions reduces fed
-  pub fault : (f : Cause) → at ≡ place.Back (Some f) → IsCauseIn tells query part from to f
+  pub brought : at ≡ place.Back None → (fed : FedRows) × (source.fed ≡ Some fed) × IsBrought reads query part from to partitions reduces fed
+  pub fault : (f : Cause) → at ≡ place.Back (Some f) → IsCauseIn reads query part from to f
 
 -- what a partition has of the epoch that runs, by the place of its reduce task
-pub record IsShare (tells : Type 0) (s : Setting) (cuts : Cuts) (e p : ℕ) (at : Place) (share : Share) : Type 0 where
+pub record IsShare (owned : Type 0) (s : Setting) (cuts : Cuts) (e p : ℕ) (at : Place) (share : Share) : Type 0 where
   pub there : at ≡ place.Rests → ⊥
   pub empty : at ≡ place.Waits → (share.buckets.items ≡ []) × (length (parts_in s) ≤ vec_capacity share.buckets)
-  pub shown : at ≡ place.Back None → (tells → IsShownOf s cuts e p share.rows.items)
+  pub shown : at ≡ place.Back None → (owned → IsShownOf s cuts e p share.rows.items)
   pub printable : at ≡ place.Back None → All (All (IfTime IsStampTime)) share.rows.items
 
 -- the greatest times over the first e epochs
-pub record AreSeen (tells : Type 0) (s : Setting) (cuts : Cuts) (e : ℕ) (times : List (Option ℤ)) : Type 0 where
+pub record AreSeen (owned : Type 0) (s : Setting) (cuts : Cuts) (e : ℕ) (times : List (Option ℤ)) : Type 0 where
   pub streams : length times ≡ length s.job.bound.streams
-  pub are : tells → (stream : ℕ) → seen_at times stream ≡ seen s.job.bound (parts_in s) (cuts_of cuts) stream e
+  pub are : owned → (stream : ℕ) → seen_at times stream ≡ seen s.job.bound (parts_in s) (cuts_of cuts) stream e
 
 -- what the out task of the epoch that runs is to take
-pub record IsOutWork {S F : Type 0} (tells : Type 0) (written : S → List ℕ) (s : Setting) (cuts : Cuts) (e : ℕ) (work : OutWork S F) : Type 0 where
+pub record IsOutWork {S F : Type 0} (owned : Type 0) (written : S → List ℕ) (s : Setting) (cuts : Cuts) (e : ℕ) (work : OutWork S F) : Type 0 where
   pub none : work.rows.items ≡ []
   pub room : s.job.partitions ≤ vec_capacity work.rows
-  pub times : AreSeen tells s cuts e work.seen
-  pub rows_empty : tells → written work.stages.rows ≡ []
-  pub commit_empty : tells → written work.stages.commit ≡ []
+  pub times : AreSeen owned s cuts e work.seen
+  pub rows_empty : owned → written work.stages.rows ≡ []
+  pub commit_empty : owned → written work.stages.commit ≡ []
 
--- the commit of epoch e, sealed, with the greatest times up to it
-pub record IsPending {F : Type 0} (tells : Type 0) (sealed : F → List ℕ) (s : Setting) (cuts : Cuts) (e : ℕ) (pending : Pending F) : Type 0 where
-  pub commit : tells → sealed pending.commit ≡ truth (course_of s cuts) (name.Commit e)
-  pub times : AreSeen tells s cuts (e + 1) pending.seen
+-- the commit of epoch e, sealed, with the greatest times up to it and the number of its rows
+pub record IsPending {F : Type 0} (owned : Type 0) (sealed : F → List ℕ) (s : Setting) (cuts : Cuts) (e : ℕ) (pending : Pending F) : Type 0 where
+  pub commit : owned → sealed pending.commit ≡ truth (course_of s cuts) (name.Commit e)
+  pub times : AreSeen owned s cuts (e + 1) pending.seen
+  pub rows : owned → pending.count ≡ length (out s.job.bound (parts_in s) (cuts_of cuts) e)
 
-module _ {L S F : Type 0} (tells : Type 0) (written : S → List ℕ) where
+module _ {L S F : Type 0} (reads owned : Type 0) (written : S → List ℕ) where
   -- What the tasks of the epoch that runs are to take, and what they brought.
   pub record IsEpoch (s : Setting) (cuts : Cuts) (c : Core) (sources : List (Source L)) (shares : List Share) (out : Option (OutWork S F)) : Type 0 where
     pub froms : length (cuts c.front.committed) ≡ length (parts_in s)
     pub mapped : (i : ℕ) (part : Part) (at : Place) (source : Source L) → slice_get (parts_in s) i ≡ Some part → get_elem? c.maps i ≡ some at → get_elem? sources i ≡ some source
-        → IsMapped tells s.job.bound part (get_or (cut_of (cuts c.front.committed)) i 0) (get_or (cut_of (cuts (c.front.committed + 1))) i 0) s.job.partitions c.reduces at source
-    pub shared : get_elem? c.outs 0 ≡ some place.Waits → (p : ℕ) (at : Place) (share : Share) → get_elem? c.reduces p ≡ some at → get_elem? shares p ≡ some share → IsShare tells s cuts c.front.committed p at share
+        → IsMapped reads s.job.bound part (get_or (cut_of (cuts c.front.committed)) i 0) (get_or (cut_of (cuts (c.front.committed + 1))) i 0) s.job.partitions c.reduces at source
+    pub shared : get_elem? c.outs 0 ≡ some place.Waits → (p : ℕ) (at : Place) (share : Share) → get_elem? c.reduces p ≡ some at → get_elem? shares p ≡ some share → IsShare owned s cuts c.front.committed p at share
     -- the out task is the last: once it is claimed all reduce tasks are back
     pub last : (get_elem? c.outs 0 ≡ some place.Waits) ⊎ (list_all is_fine c.reduces ≡ true)
-    pub outs : get_elem? c.outs 0 ≡ some place.Waits → (work : OutWork S F) × (out ≡ Some work) × IsOutWork tells written s cuts c.front.committed work
+    pub outs : get_elem? c.outs 0 ≡ some place.Waits → (work : OutWork S F) × (out ≡ Some work) × IsOutWork owned written s cuts c.front.committed work
 
-module _ {L S F : Type 0} (tells : Type 0) (lines : L → List Line) (available : L → ℕ) (written : S → List ℕ) (sealed : F → List ℕ) where
+module _ {L S F : Type 0} (reads owned : Type 0) (lines : L → List Line) (available : L → ℕ) (went : L → L → Type 0) (opened : List L) (written : S → List ℕ) (sealed : F → List ℕ) where
   -- What a desk holds. As long as it runs, this is what its tasks need.
   pub record Holds (s : Setting) (cuts : Cuts) (found : List ℕ) (c : Core) (sources : List (Source L)) (shares : List Share) (out : Option (OutWork S F)) (times : List (Option ℤ)) (pending : Option (Pending F)) : Type 0 where
     pub parts : length sources ≡ length (parts_in s)
     pub partitions : length shares ≡ s.job.partitions
     pub logs : (i : ℕ) (part : Part) (at : Place) (source : Source L) → slice_get (parts_in s) i ≡ Some part → get_elem? c.maps i ≡ some at → get_elem? sources i ≡ some source
-        → IsSourceOf tells lines available part (get_or found i 0) at source
-    pub seen_so_far : c.front.stop ≡ None → AreSeen tells s cuts c.front.committed times
-    pub epoch : c.front.stop ≡ None → is_open c ≡ true → IsEpoch tells written s cuts c sources shares out
-    pub commit : c.front.stop ≡ None → is_open c ≡ true → c.front.written ≡ true → (p : Pending F) × (pending ≡ Some p) × IsPending tells sealed s cuts c.front.committed p
-    pub stop : (f : Cause) → c.front.stop ≡ Some f → IsStopOf tells s cuts c.front.committed f
+        → IsSourceOf reads lines available went opened i part (get_or found i 0) at source
+    -- no reduce task met a line's cause
+    pub reduced : (p : ℕ) (f : Cause) → get_elem? c.reduces p ≡ some (place.Back (Some f)) → is_of_line f ≡ false
+    pub seen_so_far : c.front.stop ≡ None → AreSeen owned s cuts c.front.committed times
+    pub epoch : c.front.stop ≡ None → is_open c ≡ true → IsEpoch reads owned written s cuts c sources shares out
+    pub commit : c.front.stop ≡ None → is_open c ≡ true → c.front.written ≡ true → (p : Pending F) × (pending ≡ Some p) × IsPending owned sealed s cuts c.front.committed p
+    pub stop : (f : Cause) → c.front.stop ≡ Some f → IsStopOf reads s cuts c.front.committed f

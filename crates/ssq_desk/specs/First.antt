@@ -1,5 +1,5 @@
 -- What is made for a desk where its round begins, and what it shows then.
-use Rattle.std.specs.Prelude.{◌≡◌, ◌⊎◌, ◌≤◌, ℕ, ℤ, Bool, true, false, List, [], ◌∷◌, length, Option, Some, None, vec_capacity}
+use Rattle.std.specs.Prelude.{◌≡◌, ◌⊎◌, ◌≤◌, ◌<◌, ℕ, ℤ, Bool, true, false, List, [], ◌∷◌, length, Option, Some, None, vec_capacity}
 use Rattle.std.specs.Global.{Vec}
 use Rattle.ssq_value.specs.declared.row.Row.{Row}
 use Rattle.ssq_meaning.specs.Meaning.{Line}
@@ -39,6 +39,12 @@ pub record IsMadeOf {L : Type 0} (bound : Bound) (partitions : ℕ) (found : Ope
   pub times : (stream : ℕ) → seen_at made.seen stream ≡ told found.seen stream
   pub streams : length made.seen ≡ length bound.streams
   pub room : HasRoom partitions logs made.seen made.room
+  pub no_told : made.told.items ≡ []
+  pub told_room : 0 < vec_capacity made.told
+  pub no_lines : made.lines.items ≡ []
+  pub lines_room : length bound.streams ≤ vec_capacity made.lines
+  pub no_logs : made.logs.items ≡ []
+  pub logs_room : logs ≤ vec_capacity made.logs
 
 module _ {D L : Type 0} where
   -- the first of a round

@@ -9,3 +9,4 @@ pub mod Room
 pub mod Making
 pub mod First
 pub mod Published
+pub mod Closing

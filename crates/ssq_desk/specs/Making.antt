@@ -16,10 +16,12 @@ IsUnmade planned cause.NoMemory = planned ≡ 4294967295 → ⊥
 IsUnmade planned _ = ⊥
 
 module _ {L S F : Type 0} where
-  -- nothing was changed but the room for plans
+  -- nothing was changed but the room for plans and for what is told
   pub record IsSameLoad (old new : Load L S F) : Type 0 where
     pub view_is : new.view ≡ old.view
     pub plans_are : new.plans.items ≡ old.plans.items
+    pub told_are : new.told.items ≡ old.told.items
+    pub kept_is : new.kept ≡ old.kept
     pub sources_are : new.sources ≡ old.sources
     pub shares_are : new.shares ≡ old.shares
     pub out_is : new.out ≡ old.out
@@ -27,23 +29,26 @@ module _ {L S F : Type 0} where
     pub pending_is : new.pending ≡ old.pending
 
   -- an out task's work has its room and its two files, in which nothing is written
-  pub record IsWorkFor (tells : Type 0) (written : S → List ℕ) (load : Load L S F) (work : OutWork S F) : Type 0 where
+  pub record IsWorkFor (owned : Type 0) (written : S → List ℕ) (load : Load L S F) (work : OutWork S F) : Type 0 where
     pub no_rows : work.rows.items ≡ []
     pub room : load.view.partitions ≤ vec_capacity work.rows
     pub times : work.seen ≡ load.seen
-    pub rows_empty : tells → written work.stages.rows ≡ []
-    pub commit_empty : tells → written work.stages.commit ≡ []
+    pub rows_empty : owned → written work.stages.rows ≡ []
+    pub commit_empty : owned → written work.stages.commit ≡ []
 
   -- Each source begins where its part ends so far, the partitions and the out task have their room, and there is room for the plan, whose
-  -- ends are to be put here.
-  pub record IsMadeFor (tells : Type 0) (written : S → List ℕ) (ends : List PartEnd) (old new : Load L S F) (here : Vec PartEnd) : Type 0 where
+  -- ends are to be put here, and to tell of the epoch.
+  pub record IsMadeFor (owned : Type 0) (written : S → List ℕ) (ends : List PartEnd) (old new : Load L S F) (here : Vec PartEnd) : Type 0 where
     pub view_is : new.view ≡ old.view
     pub plans_are : new.plans.items ≡ old.plans.items
     pub plan_room : length new.plans.items < vec_capacity new.plans
+    pub told_are : new.told.items ≡ old.told.items
+    pub told_room : length new.told.items < vec_capacity new.told
+    pub kept_is : new.kept ≡ old.kept
     pub begun : AreBegun ends old.sources.items new.sources.items
     pub count : length new.shares.items ≡ old.view.partitions
     pub fresh : All (IsFresh (length old.sources.items)) new.shares.items
-    pub work : (w : OutWork S F) × (new.out ≡ Some w) × IsWorkFor tells written old w
+    pub work : (w : OutWork S F) × (new.out ≡ Some w) × IsWorkFor owned written old w
     pub seen_is : new.seen ≡ old.seen
     pub pending_is : new.pending ≡ old.pending
     pub no_ends : here.items ≡ []

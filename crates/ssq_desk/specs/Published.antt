@@ -14,7 +14,7 @@ use Rattle.ssq_board.specs.Core.{due}
 use Rattle.ssq_ledger.specs.Shown.{Shown, cuts_of, did, answer}
 use Rattle.ssq_desk.specs.declared.desk.Pending.{Pending}
 use Rattle.ssq_desk.specs.declared.round.Round.{Round}
-use Rattle.ssq_desk.specs.Round.{setting_of}
+use Rattle.ssq_desk.specs.Round.{setting_of, Owns}
 use Rattle.ssq_desk.specs.Contents.{IsPending}
 use Rattle.ssq_desk.specs.Results.{cause_of_gather}
 use Rattle.ssq_desk.specs.Whole.{opening_in}
@@ -36,11 +36,11 @@ module _ {D O : Type 0} where
       × IfErr result (λ stop. (stop ≡ cause.DiskFault) × (n ≡ did s n.disk (entry.Report t fault ∷ entry.Stop stop ∷ [])) × risen)
   IsOut false s n t fault result risen = (n ≡ did s n.disk (entry.Report t fault ∷ [])) × (result ≡ answer (due s.core t fault))
 
-module _ {D L F : Type 0} (tells : Type 0) (lines : L → List Line) (sealed : F → List ℕ) where
+module _ {D L F : Type 0} (stores logs : Type 0) (lines : L → List Line) (sealed : F → List ℕ) where
   -- a sealed file has the rows of the epoch that a desk runs
   abbrev pub AreRowsOf : Shown D (Round L) → F → Type 0
-  AreRowsOf shown file = tells → sealed file ≡ truth (course_of (setting_of lines shown.opening) (cuts_of (opening_in lines) shown)) (name.Out shown.core.front.committed)
+  AreRowsOf shown file = Owns stores logs lines shown → sealed file ≡ truth (course_of (setting_of lines shown.opening) (cuts_of (opening_in lines) shown)) (name.Out shown.core.front.committed)
 
   -- and this is its commit
   abbrev pub IsCommitOf : Shown D (Round L) → Pending F → Type 0
-  IsCommitOf shown pending = IsPending tells sealed (setting_of lines shown.opening) (cuts_of (opening_in lines) shown) shown.core.front.committed pending
+  IsCommitOf shown pending = IsPending (Owns stores logs lines shown) sealed (setting_of lines shown.opening) (cuts_of (opening_in lines) shown) shown.core.front.committed pending

@@ -10,7 +10,6 @@ use Rattle.ssq_task.specs.declared.out.GatherFault.{GatherFault}
 use Rattle.ssq_task.specs.declared.out.GatherFault.TheVariants as gather
 use Rattle.ssq_board.specs.declared.front.Cause.{Cause}
 use Rattle.ssq_board.specs.declared.front.Cause.TheVariants as cause
-use Rattle.ssq_board.specs.declared.front.RowFault.{RowFault}
 use Rattle.ssq_board.specs.declared.front.RowFault.TheVariants as row
 
 -- the cause for which a line is bad; a line is never bad for want of memory

@@ -1,24 +1,26 @@
 -- What a round's desk was made of: the setting of its job, and where the round begins.
-use Rattle.std.specs.Prelude.{◌≡◌, ◌⊎◌, ◌≤◌, ◌+◌, ◌^◌, nat_lt, ℕ, false, List, [], map, length, All, Option, Some}
-use Rattle.ssq_outside.specs.History.{History, files_now}
+use Rattle.std.specs.Prelude.{◌≡◌, ◌≤◌, ◌<◌, ◌+◌, ◌^◌, nat_lt, ℕ, false, List, map, length, get_or, Option}
+use Rattle.std.specs.List.{sum}
+use Rattle.ssq_outside.specs.Files.{Files}
 use Rattle.ssq_meaning.specs.Meaning.{Line}
-use Rattle.ssq_shape.specs.declared.bound.Bound.{Bound}
-use Rattle.ssq_plans.specs.declared.plan.Plan.{Plan}
-use Rattle.ssq_plans.specs.Records.{HasLineTime}
-use Rattle.ssq_task.specs.Committing.{AreOwn}
 use Rattle.ssq_core.specs.Course.{Ends}
-use Rattle.ssq_course.specs.Setting.{Setting, parts_in, first_ends, job_of, seen_at}
+use Rattle.ssq_course.specs.Setting.{Setting, parts_in, first_ends, job_of}
+use Rattle.ssq_course.specs.Setting.{cut_of as numbers_of}
 use Rattle.ssq_open.specs.declared.wanted.Lens.{Lens}
 use Rattle.ssq_open.specs.declared.wanted.Opened.{Opened}
 use Rattle.ssq_open.specs.Lens.{asked}
 use Rattle.ssq_open.specs.Epochs.{cut_of, last_ends}
+use Rattle.ssq_open.specs.Looking.{begins}
+use Rattle.ssq_open.specs.Numbers.{HasNumbers}
+use Rattle.ssq_open.specs.Watermarks.{watermarked}
 use Rattle.ssq_open.specs.Jobs.{IsDeskOf}
 use Rattle.ssq_board.specs.Core.{Scope}
+use Rattle.ssq_board.specs.Rounds.{HasCap}
 use Rattle.ssq_board.specs.Shown.{Start}
-use Rattle.ssq_terms.specs.Setting.{IsSettingOf}
+use Rattle.ssq_terms.specs.Setting.{IsPlain, IsSettingOf, AreFound, found_lines}
 use Rattle.ssq_terms.specs.Laws.{never, IsScopeOf}
 use Rattle.ssq_terms.specs.Opening.{IsJobsFound}
-use Rattle.ssq_ledger.specs.Shown.{Opening}
+use Rattle.ssq_ledger.specs.Shown.{Opening, Shown}
 use Rattle.ssq_desk.specs.declared.round.Round.{Round}
 
 -- the query with its partitions and parts, over the lines of the logs
@@ -39,24 +41,41 @@ start_at first found = record {
 abbrev pub opening_of : Setting → Opened → Opening
 opening_of s found = record { job = job_of s; due = never; cuts = cut_of (first_ends s) found.plans; start = start_at (first_ends s) found }
 
--- What was opened is the round's own: the setting is that of the query and the lines that were found, a desk of the machine opens on the
--- disk as it was opened, and the plans and the greatest times are those of its epochs so far. What is said of contents holds where disk
--- and logs tell them; counts hold on any disk.
-pub record IsRound (tells : Type 0) (s : Setting) (found : Opened) (opened : History) (r : Scope) : Type 0 where
+-- What was opened is in order, on any disk and over any logs: it is of a query that keeps nothing, with 1 to 64 partitions; of each part
+-- one log is there, and at least so many lines were found as are planned; and all can be numbered: streams and tasks in 32 bits, lines in
+-- 64.
+pub record IsRound (s : Setting) (found : Opened) (r : Scope) : Type 0 where
+  pub plain : IsPlain s.job.bound
+  pub partitions : r.partitions ≡ s.job.partitions
+  pub some_partitions : 1 ≤ s.job.partitions
+  pub few_partitions : s.job.partitions ≤ 64
+  pub streams : length s.job.parts ≡ length s.job.bound.streams
+  pub parts : length r.available ≡ length (parts_in s)
+  pub logs : length s.lines ≡ length (parts_in s)
+  pub first : first_ends s ≡ begins s.job.parts
+  pub cap : HasCap r.cap
+  pub few_streams : length s.job.bound.streams ≤ 2 ^ 32
+  pub few_tasks : length r.available + r.partitions ≤ 2 ^ 32
+  pub few_lines : sum r.available < 2 ^ 64
+  pub numbers : HasNumbers (watermarked s.job.bound.streams) (first_ends s) found
+  pub long : (i : ℕ) → get_or (numbers_of (last_ends (first_ends s) found.plans)) i 0 ≤ get_or r.available i 0
+
+-- What was opened is the job's own: the setting is that of the query and the lines that were found, which the logs come to hold; and a
+-- desk of the machine opens on some files, with the plans and the greatest times of the job's epochs so far.
+pub record IsOwned (s : Setting) (found : Opened) (r : Scope) : Type 0 where
   pub asks : Option ℕ
   pub lens : Lens
   pub setting : IsSettingOf s s.job.bound asks lens
   pub scope : IsScopeOf r s lens
-  -- as many epochs are planned as are committed, or one more
-  pub before : found.committed ≤ length found.plans
-  pub near : length found.plans ≤ found.committed + 1
-  -- epochs and tasks can be numbered in 32 bits
-  pub few_plans : length found.plans ≤ 4294967295
-  pub few_tasks : length r.available + r.partitions ≤ 2 ^ 32
-  -- each plan has one end for each part
-  pub ends : All (λ plan. length plan.ends ≡ length (parts_in s)) found.plans
-  -- there are no greatest times, or one for each watermarked stream, in order
-  pub seen : (found.seen ≡ []) ⊎ AreOwn s.job.bound found.seen
-  pub years : All HasLineTime found.seen
-  pub desk : tells → IsDeskOf (asked s.job.bound asks lens) (job_of s) (files_now opened) found
-  pub jobs : (t : tells) → IsJobsFound (asked s.job.bound asks lens) (job_of s) (files_now opened) found (desk t)
+  pub lines : AreFound (found_lines lens) s.lines
+  pub files : Files
+  pub desk : IsDeskOf (asked s.job.bound asks lens) (job_of s) files found
+  pub jobs : IsJobsFound (asked s.job.bound asks lens) (job_of s) files found desk
+
+-- the logs tell what they hold, and what was opened is the job's own
+abbrev pub OwnsRound : {L : Type 0} → Type 0 → (L → List Line) → Round L → Scope → Type 0
+OwnsRound logs lines round r = logs × IsOwned (setting_of lines round) round.opened r
+
+-- and the disk tells too
+abbrev pub Owns : {D L : Type 0} → (stores logs : Type 0) → (L → List Line) → Shown D (Round L) → Type 0
+Owns stores logs lines shown = stores × OwnsRound logs lines shown.opening shown.scope

@@ -34,8 +34,9 @@ pub record IsViewOf (s : Setting) (view : View) : Type 0 where
   pub bound : view.bound.now ≡ s.job.bound
   pub partitions : view.partitions ≡ s.job.partitions
 
--- a map task is that of its part in epoch e: with the part's log, from where the epoch before ended
-pub record IsMapTask {L : Type 0} (tells : Type 0) (lines : L → List Line) (available : L → ℕ) (s : Setting) (cuts : Cuts) (e : ℕ) (found : List ℕ) (task : MapTask L) : Type 0 where
+-- a map task is that of its part in epoch e: with the part's log, from where the epoch before
+-- ended
+pub record IsMapTask {L : Type 0} (reads : Type 0) (lines : L → List Line) (available : L → ℕ) (went : L → L → Type 0) (opened : List L) (s : Setting) (cuts : Cuts) (e : ℕ) (found : List ℕ) (task : MapTask L) : Type 0 where
   pub part : Part
   pub there : slice_get (parts_in s) task.number ≡ Some part
   pub view : IsViewOf s task.view
@@ -44,26 +45,26 @@ pub record IsMapTask {L : Type 0} (tells : Type 0) (lines : L → List Line) (av
   pub number : part.part ≡ task.part
   pub from : task.from ≡ get_or (cut_of (cuts e)) task.number 0
   pub to : task.to ≡ get_or (cut_of (cuts (e + 1))) task.number 0
-  pub log : IsLogOf tells lines available part (get_or found task.number 0) task.log
+  pub log : IsLogOf reads lines available went opened task.number part (get_or found task.number 0) task.log
 
 -- a reduce task is that of its partition in epoch e: with the rows that the parts feed to it
-pub record IsReduceTask (tells : Type 0) (s : Setting) (cuts : Cuts) (e : ℕ) (task : ReduceTask) : Type 0 where
+pub record IsReduceTask (owned : Type 0) (s : Setting) (cuts : Cuts) (e : ℕ) (task : ReduceTask) : Type 0 where
   pub below : task.partition < s.job.partitions
   pub view : IsViewOf s task.view
   pub epoch : task.epoch ≡ e
-  pub watermark : tells → task.watermark ≡ watermark_at s cuts e
+  pub watermark : owned → task.watermark ≡ watermark_at s cuts e
   pub printable : All IsPrintable (joined_vecs task.rows.items)
-  pub rows : tells → joined_vecs task.rows.items ≡ bucket s.job.partitions task.partition (fed s.job.bound (parts_in s) (cuts_of cuts) e)
+  pub rows : owned → joined_vecs task.rows.items ≡ bucket s.job.partitions task.partition (fed s.job.bound (parts_in s) (cuts_of cuts) e)
 
 -- the out task is that of epoch e: with the rows that the partitions show, the greatest times up to it, and two files that are empty
-pub record IsOutTask {S F : Type 0} (tells : Type 0) (written : S → List ℕ) (s : Setting) (cuts : Cuts) (e : ℕ) (task : OutTask S F) : Type 0 where
+pub record IsOutTask {S F : Type 0} (owned : Type 0) (written : S → List ℕ) (s : Setting) (cuts : Cuts) (e : ℕ) (task : OutTask S F) : Type 0 where
   pub view : IsViewOf s task.view
   pub epoch : task.epoch ≡ e
-  pub times : AreSeen tells s cuts (e + 1) task.seen
+  pub times : AreSeen owned s cuts (e + 1) task.seen
   pub printable : All (All (IfTime IsStampTime)) (joined_vecs task.rows.items)
-  pub rows : tells → AreShown s cuts e (map (λ rows. rows.items) task.rows.items)
-  pub rows_empty : tells → written task.stages.rows ≡ []
-  pub commit_empty : tells → written task.stages.commit ≡ []
+  pub rows : owned → AreShown s cuts e (map (λ rows. rows.items) task.rows.items)
+  pub rows_empty : owned → written task.stages.rows ≡ []
+  pub commit_empty : owned → written task.stages.commit ≡ []
 
 module _ {L S F : Type 0} where
   abbrev pub id_of : Task L S F → TaskId

@@ -1,16 +1,19 @@
 //! What is done between the tasks: names are synced, and the epoch that runs is committed.
 
-ghost use Rattle.std.specs.Prelude.{◌≡◌, ◌≤◌, [], ◌∷◌, false, None, Some, IfErr, OnOk, OnErr};
+ghost use Rattle.std.specs.Prelude.{◌≡◌, ◌≤◌, ◌<◌, ◌^◌, [], ◌∷◌, false, map, length, get_or, None, Some, IfErr, OnOk, OnErr};
 ghost use Rattle.ssq_outside.specs.Faults.{Rises};
 ghost use Rattle.ssq_board.specs.declared.front.Entry.TheVariants as entry;
 ghost use Rattle.ssq_board.specs.declared.front.Cause.TheVariants as cause;
 ghost use Rattle.ssq_board.specs.declared.front.Ready.TheVariants as ready;
 ghost use Rattle.ssq_board.specs.Core.{ready_of};
 ghost use Rattle.ssq_ledger.specs.Shown.{HasRisen, did};
+ghost use Rattle.ssq_desk.specs.Closing.{lines_between};
 
-use crate::desk::{Desk, Pending};
+use crate::desk::{Desk, Load, Pending, Source};
+use crate::told::Told;
 use ssq_board::Cause;
-use ssq_outside::{Disk, DiskFault, Log};
+use ssq_outside::{Disk, DiskFault, Log, Stage};
+use ssq_plans::PartEnd;
 use std::mem;
 
 impl<'a, D: Disk, L: Log> Desk<'a, D, L> {
@@ -33,9 +36,13 @@ impl<'a, D: Disk, L: Log> Desk<'a, D, L> {
         ensures stopped { OnErr result ((self.new ≡ did self.old self.new.disk (entry.Stop cause.DiskFault ∷ [])) × Rises (D.faults self.old.disk) (D.faults self.new.disk)) }
         ensures counted { D.faults self.old.disk ≤ D.faults self.new.disk }
     {
+        self.ledger.is_legal();
         self.ledger.is_in_order();
+        let epoch = self.ledger.front().committed;
         let pending = take_pending(&mut self.load.pending);
+        let told = tell(&self.load, self.ledger.ends(), epoch, pending.count);
         self.ledger.commit(pending.commit, false)?;
+        self.load.told.push_reserved(told);
         self.load.seen = pending.seen;
         Ok(())
     }
@@ -51,4 +58,39 @@ fn take_pending<F: Drop>(pending: &mut Option<Pending<F>>) -> Pending<F>
         unreachable!()
     };
     own
+}
+
+/// How many lines lie between the offsets where the sources begin and these ends.
+fn lines_between<L: Log>(sources: &[Source<L>], ends: &[PartEnd]) -> u64
+    requires { lines_between (map (λ source. source.from) sources.now) (map (λ end. end.end) ends.now) < 2 ^ 64 }
+    ensures { result ≡ lines_between (map (λ source. source.from) sources.now) (map (λ end. end.end) ends.now) }
+{
+    match (sources.split_first(), ends.split_first()) {
+        (Some((source, sources)), Some((end, ends))) => {
+            end.end.saturating_sub(source.from) + lines_between(sources, ends)
+        }
+        _ => 0,
+    }
+}
+
+/// What is told of the epoch that runs.
+fn tell<'a, L: Log, S: Stage>(
+    load: &Load<'a, L, S>,
+    ends: &[PartEnd],
+    epoch: u32,
+    rows: u64,
+) -> Told
+    requires plan { epoch < length load.now.plans.items }
+    requires few { lines_between (map (λ source. source.from) load.now.sources.items) (map (λ end. end.end) ends.now) < 2 ^ 64 }
+    ensures epoch { result.epoch ≡ epoch }
+    ensures lines { result.lines ≡ lines_between (map (λ source. source.from) load.now.sources.items) (map (λ end. end.end) ends.now) }
+    ensures rows { result.rows ≡ rows }
+    ensures watermark { (default : _) → result.watermark ≡ (get_or load.now.plans.items epoch default).watermark }
+{
+    Told {
+        epoch,
+        lines: lines_between(load.sources.as_slice(), ends),
+        watermark: load.plans[epoch as usize].watermark,
+        rows,
+    }
 }

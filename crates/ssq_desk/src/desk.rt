@@ -1,13 +1,14 @@
 //! The desk's type.
 
 use crate::round::Round;
+use crate::told::Told;
 use ssq_feed::FedRows;
 use ssq_ledger::Ledger;
 use ssq_meaning::{FedRow, View};
-use ssq_outside::{Disk, Log, Stage};
-use ssq_plans::Plan;
+use ssq_outside::{Disk, Log, Name, Stage};
+use ssq_plans::{Meta, Plan, SeenBy};
 use ssq_task::Stages;
-use ssq_value::Row;
+use ssq_value::{Row, Sequence};
 use ssq_water::Seen;
 use std::alloc::Global;
 use std::marker::Model;
@@ -54,6 +55,19 @@ pub(crate) struct Pending<F: Drop> {
     pub(crate) count: u64,
 }
 
+/// What is kept for the end of the round.
+#[derive(Drop)]
+pub(crate) struct Kept<L: Log> {
+    /// The record of the job, as it was opened.
+    pub(crate) meta: Meta,
+    /// The names that were found.
+    pub(crate) names: Sequence<Name>,
+    /// Room for the greatest times of the watermarked streams.
+    pub(crate) lines: Vec<SeenBy>,
+    /// Room for the logs.
+    pub(crate) logs: Vec<L>,
+}
+
 /// What a desk holds beside the ledger.
 #[derive(Drop)]
 pub(crate) struct Load<'a, L: Log, S: Stage> {
@@ -66,6 +80,9 @@ pub(crate) struct Load<'a, L: Log, S: Stage> {
     /// The greatest times over the committed epochs.
     pub(crate) seen: Seen,
     pub(crate) pending: Option<Pending<S::Sealed>>,
+    /// What the epochs were that were committed in the round.
+    pub(crate) told: Vec<Told>,
+    pub(crate) kept: Kept<L>,
 }
 
 /// The coordinator of a round: the disk, the logs, the tasks of the epoch that runs, and the history of what was done.
@@ -89,5 +106,5 @@ impl<'a, D: Disk, L: Log> Model for Desk<'a, D, L> {
 
     ghost view = { λ s. s.ledger };
 
-    ghost invariant = { λ s. IsWhole (D.tells × L.tells) L.lines L.available D.history D.Stage.written D.Stage.sealed s.ledger s.load };
+    ghost invariant = { λ s. IsWhole D.tells L.tells L.lines L.available L.answers L.faults D.Stage.written D.Stage.sealed s.ledger s.load };
 }

@@ -7,10 +7,11 @@ ghost use Rattle.ssq_desk.specs.First.{sources_of, IsMadeOf};
 
 use crate::desk::Source;
 use crate::room::{Room, make_room};
+use crate::told::Told;
 use ssq_ledger::Start;
 use ssq_open::{Opened, begins};
 use ssq_outside::Log;
-use ssq_plans::{PartEnd, Plan};
+use ssq_plans::{PartEnd, Plan, SeenBy};
 use ssq_shape::Bound;
 use ssq_task::seen_from;
 use ssq_value::Sequence;
@@ -31,6 +32,12 @@ pub(crate) struct Made<L: Log> {
     pub(crate) seen: Seen,
     /// Room for the tasks of an epoch.
     pub(crate) room: Room,
+    /// Room to tell of one epoch.
+    pub(crate) told: Vec<Told>,
+    /// Room for the greatest times of the watermarked streams.
+    pub(crate) lines: Vec<SeenBy>,
+    /// Room for the logs.
+    pub(crate) logs: Vec<L>,
 }
 
 /// Where the lines of the first epochs end, of parts that begin there.
@@ -72,6 +79,9 @@ pub(crate) fn make_first<L: Log>(
     let seen = seen_from(alloc, bound, opened.seen.as_slice())?;
     let room = make_room(alloc, partitions, logs, &seen)?;
     let sources = Vec::with_capacity(alloc, logs)?;
+    let told = Vec::with_capacity(alloc, 1)?;
+    let lines = Vec::with_capacity(alloc, bound.streams.len())?;
+    let logs = Vec::with_capacity(alloc, logs)?;
     let start = Start {
         committed: opened.committed,
         is_planned: committed < plans.len(),
@@ -86,6 +96,9 @@ pub(crate) fn make_first<L: Log>(
         sources,
         seen,
         room,
+        told,
+        lines,
+        logs,
     })
 }
 

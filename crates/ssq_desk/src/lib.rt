@@ -3,14 +3,17 @@
 //! Beneath it lies the ledger, whose history says what was done to the disk. The desk adds what the tasks own: logs, rows and
 //! files aside. The definitions are in `specs/`: `Round` says what a desk was made of, `Contents` what it holds, `Whole` what is so of every
 //! desk, `First` what a round begins with, `Room` and `Making` what is made for an epoch before its plan is published, `Tasks` what it hands out,
-//! `Results` what it takes back, and `Published` what becomes of the rows of an epoch.
+//! `Results` what it takes back, `Published` what becomes of the rows of an epoch,
+//! and `Closing` what is given back when the round ends.
 #![tactic(auto)]
 
 mod calls;
 mod claims;
+mod closed;
 mod desk;
 mod first;
 mod hand;
+mod laws;
 mod make;
 mod new;
 mod outs;
@@ -20,7 +23,10 @@ mod reports;
 mod room;
 mod round;
 mod task;
+mod told;
 
+pub use closed::Closed;
 pub use desk::Desk;
 pub use round::Round;
 pub use task::Task;
+pub use told::Told;

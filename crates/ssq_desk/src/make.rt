@@ -25,16 +25,18 @@ pub(crate) fn cause_of(error: DiskError) -> Cause
     }
 }
 
-/// Makes room for one plan more, and for the tasks of its epoch.
+/// Makes room for one plan more, to tell of its epoch, and for its tasks.
 fn room_for<'a, L: Log, S: Stage>(
     alloc: Global,
     load: &mut Load<'a, L, S>,
 ) -> Result<Room, AllocError>
     ensures same { IsSameLoad load.old load.new }
     ensures plan { OnOk result (length load.new.plans.items < vec_capacity load.new.plans) }
+    ensures told { OnOk result (length load.new.told.items < vec_capacity load.new.told) }
     ensures room { IfOk result (λ room. HasRoom load.old.view.partitions (length load.old.sources.items) load.old.seen room) }
 {
     load.plans.reserve(1)?;
+    load.told.reserve(1)?;
     make_room(
         alloc,
         load.view.partitions,
@@ -52,6 +54,7 @@ fn put<'a, D: Disk, L: Log>(
 ) -> Vec<PartEnd>
     requires each { length load.old.sources.items ≡ length ends.now }
     requires plan { length load.old.plans.items < vec_capacity load.old.plans }
+    requires told { length load.old.told.items < vec_capacity load.old.told }
     requires room { HasRoom load.old.view.partitions (length load.old.sources.items) load.old.seen room }
     requires empty { D.tells → (D.Stage.written stages.rows ≡ []) × (D.Stage.written stages.commit ≡ []) }
     ensures { IsMadeFor D.tells D.Stage.written ends.now load.old load.new result }
@@ -105,7 +108,7 @@ pub(crate) fn drop_out<'a, D: Disk, O: Opening, L: Log>(
     ensures did { ledger.new ≡ did ledger.old ledger.new.disk [] }
     ensures same { D.tells → D.history ledger.new.disk ≡ D.history ledger.old.disk }
     ensures counted { D.faults ledger.old.disk ≤ D.faults ledger.new.disk }
-    ensures kept { load.new ≡ record { view = load.old.view; plans = load.old.plans; sources = load.old.sources; shares = load.old.shares; out = None; seen = load.old.seen; pending = load.old.pending } }
+    ensures kept { load.new ≡ record { view = load.old.view; plans = load.old.plans; sources = load.old.sources; shares = load.old.shares; out = None; seen = load.old.seen; pending = load.old.pending; told = load.old.told; kept = load.old.kept } }
 {
     if let Some(work) = mem::replace(&mut load.out, None) {
         let OutWork { stages, .. } = work;

@@ -6,7 +6,7 @@ ghost use lib.ListN.{get_elem?};
 ghost use Rattle.ssq_desk.specs.Round.{IsRound, setting_of};
 ghost use Rattle.ssq_desk.specs.First.{BeginsAs, BeginsWork, first_shown};
 
-use crate::desk::{Desk, Load, OutWork};
+use crate::desk::{Desk, Kept, Load, OutWork};
 use crate::first::{Made, make_first, with_logs};
 use crate::make::cause_of;
 use crate::room::{Room, stages};
@@ -35,7 +35,7 @@ impl<'a, D: Disk, L: Log> Desk<'a, D, L> {
         seen: Vec<u64>,
         cap: Option<u64>,
     ) -> Result<Desk<'a, D, L>, (D, Vec<L>)>
-        requires round { IsRound (D.tells × L.tells) (setting_of L.lines (record { view = view; opened = opened; logs = logs })) opened (D.history disk) (record { partitions = view.partitions; available = seen.items; cap = cap }) }
+        requires round { IsRound (setting_of L.lines (record { view = view; opened = opened; logs = logs })) opened (record { partitions = view.partitions; available = seen.items; cap = cap }) }
         requires long { L.tells → (i : ℕ) (own : _) → get_elem? logs.items i ≡ some own → get_or seen.items i 0 ≤ L.available own }
         ensures made { IfOk result (λ desk. BeginsAs (D.faults disk) (D.faults desk.disk) (first_shown L.lines (record { view = view.entry; opened = opened; logs = logs }) disk (record { partitions = view.entry.partitions; available = seen.items; cap = cap })) desk) }
         ensures same { D.tells → IfOk result (λ desk. D.history desk.disk ≡ D.history disk) }
@@ -66,6 +66,9 @@ impl<'a, D: Disk, L: Log> Desk<'a, D, L> {
             sources,
             seen,
             room,
+            told,
+            lines,
+            logs: room_for_logs,
         } = made;
         let is_planned = start.is_planned;
         let mut ledger = match Ledger::new(alloc, opening, disk, scope, start) {
@@ -80,17 +83,30 @@ impl<'a, D: Disk, L: Log> Desk<'a, D, L> {
             ..
         } = room;
         let out = begin_out(alloc, &mut ledger, is_planned, rows, before);
+        let Opened {
+            meta,
+            plans,
+            names,
+            ..
+        } = opened;
         Ok(Desk {
             alloc,
             ledger,
             load: Load {
                 view,
-                plans: opened.plans.into_vec(),
+                plans: plans.into_vec(),
                 sources,
                 shares,
                 out,
                 seen,
                 pending: None,
+                told,
+                kept: Kept {
+                    meta,
+                    names,
+                    lines,
+                    logs: room_for_logs,
+                },
             },
         })
     }

@@ -43,7 +43,7 @@ impl<'a, D: Disk, L: Log> Desk<'a, D, L> {
     /// Takes the result of a reduce task that was handed out. Answers the Stop that it brings about.
     pub fn report_reduced(&mut self, done: Reduced<'a>) -> Result<(), Cause>
         requires may { May self.old.scope self.old.core (entry.Report (reduce_id done.epoch done.partition) (fault_of cause_of_reduce done.outcome)) }
-        requires of { (task : ReduceTaskOf) × IsReduceOf (D.tells × L.tells) L.lines L.available self.old task × IsReduced task done }
+        requires of { (task : ReduceTaskOf) × IsReduceOf D.tells L.tells L.lines self.old task × IsReduced task done }
         ensures did { self.new ≡ did self.old self.old.disk (entry.Report (reduce_id done.entry.epoch done.entry.partition) (fault_of cause_of_reduce done.entry.outcome) ∷ []) }
         ensures answer { result ≡ answer (due self.old.core (reduce_id done.entry.epoch done.entry.partition) (fault_of cause_of_reduce done.entry.outcome)) }
     {

@@ -15,9 +15,9 @@ pub struct Round<'a, L: Log> {
 }
 
 impl<'a, L: Log> Opening for Round<'a, L> {
-    ghost use Rattle.ssq_desk.specs.Round.{opening_of, setting_of};
+    ghost use Rattle.ssq_desk.specs.Round.{OwnsRound, opening_of, setting_of};
 
-    ghost tells = { L.tells };
+    ghost tells = { OwnsRound L.tells L.lines };
 
     ghost opening = { λ round. opening_of (setting_of L.lines round) round.opened };
 }

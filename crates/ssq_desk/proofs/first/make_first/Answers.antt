@@ -1,10 +1,10 @@
-use Rattle.std.proofs.Common.{◌≡◌, List, length, nat_lt, false, sym, ap, ◌∙◌}
+use Rattle.std.proofs.Common.{◌≡◌, ◌≤◌, ℕ, List, length, nat_lt, false, ap, ◌∙◌, subst}
+use Rattle.std.specs.Prelude.{vec_capacity}
 use Rattle.ssq_plans.specs.declared.seen.SeenBy.{SeenBy}
 use Rattle.ssq_task.specs.Committing.{told}
 use Rattle.ssq_open.specs.Looking.{begins}
-use Rattle.ssq_open.specs.Epochs.{cut_of, last_ends}
+use Rattle.ssq_open.specs.Epochs.{cut_of}
 use Rattle.ssq_desk.specs.Round.{start_at}
-use Rattle.ssq_desk.proofs.Began.{began}
 use Rattle.ssq_desk.proofs.Placing.{copied}
 use Rattle.ssq_desk.proofs.first.make_first.Goals as goal
 
@@ -25,4 +25,10 @@ returns g c =
       times = λ stream. c.in_ok-seen.ensures.times stream ∙ ap (λ (lines : List SeenBy). told lines stream) c.as_slice-2.ensures;
       streams = c.in_ok-seen.ensures.streams;
       room = c.in_ok-room.ensures;
+      no_told = c.in_ok-told.ensures.items;
+      told_room = c.in_ok-told.ensures.capacity;
+      no_lines = c.in_ok-lines.ensures.items;
+      lines_room = subst (λ (n : ℕ). n ≤ vec_capacity c.in_ok-lines.lines) c.len.ensures c.in_ok-lines.ensures.capacity;
+      no_logs = c.in_ok-logs.ensures.items;
+      logs_room = c.in_ok-logs.ensures.capacity;
     }

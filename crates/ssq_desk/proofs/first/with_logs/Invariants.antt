@@ -1,5 +1,4 @@
 -- The parts with their logs so far, and those that are left.
-use Rattle.std.proofs.Common.{◌≡◌}
 use Rattle.std.specs.Prelude.{vec_capacity}
 use Rattle.ssq_desk.proofs.Placing.{IsPlacing}
 use Rattle.ssq_desk.proofs.first.with_logs.Given as goal

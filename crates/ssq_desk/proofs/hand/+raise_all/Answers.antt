@@ -1,4 +1,4 @@
-use Rattle.std.proofs.Common.{◌≡◌, ℕ, ℤ, Option, sym, ap, ◌∙◌}
+use Rattle.std.proofs.Common.{ℕ, ℤ, Option, sym, ap, ◌∙◌}
 use Rattle.ssq_water.specs.Water.{seen_at}
 use Rattle.ssq_desk.specs.Handing.{raised_in}
 use Rattle.ssq_desk.proofs.hand.+raise_all.Goals as goal

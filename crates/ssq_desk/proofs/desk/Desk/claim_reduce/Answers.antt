@@ -1,16 +1,14 @@
-use Rattle.std.proofs.Common.{None, List, ◌≡◌, ◌<◌, ◌≤◌, ◌+◌, ◌++◌, [], ◌∷◌, ℕ, length, get_or, set, refl, sym, ap, ◌∙◌, subst, arith}
+use Rattle.std.proofs.Common.{List, ◌≡◌, ◌++◌, [], length, set, refl, sym, ap, ◌∙◌, subst, arith}
 use Rattle.std.specs.Prelude.{All, vec_capacity}
 use Rattle.std.specs.Vec.{with_item, with_items}
 use Rattle.std.proofs.lemmas.List.{with_items_is}
-use lib.ListN.{get_elem?}
-use mathlib.Core.Option.{some}
 use Rattle.ssq_outside.specs.declared.gate.Kind.TheVariants as kind
+use Rattle.ssq_board.specs.declared.front.Cause.TheVariants as cause
 use Rattle.ssq_board.specs.declared.front.Entry.TheVariants as entry
-use Rattle.ssq_board.specs.declared.front.Place.TheVariants as place
 use Rattle.ssq_core.specs.Course.{Cuts}
 use Rattle.ssq_board.specs.Core.{May}
 use Rattle.ssq_task.specs.declared.partition.ReduceTask.{ReduceTask}
-use Rattle.ssq_ledger.specs.Shown.{Shown, did}
+use Rattle.ssq_ledger.specs.Shown.{Shown}
 use Rattle.ssq_feed.specs.Rows.{IsPrintable}
 use Rattle.ssq_task.specs.Lists.{joined_vecs}
 use Rattle.ssq_desk.specs.declared.desk.Load.{Load}
@@ -19,28 +17,27 @@ use Rattle.ssq_desk.specs.declared.round.Round.{Round}
 use Rattle.ssq_meaning.specs.declared.fed_row.FedRow.{FedRow}
 use Rattle.ssq_ledger.specs.Shown.{cuts_of}
 use Rattle.ssq_board.specs.Core.{after}
-use Rattle.ssq_desk.specs.Round.{setting_of}
-use Rattle.ssq_desk.specs.Contents.{Holds}
+use Rattle.ssq_desk.specs.Round.{setting_of, Owns}
 use Rattle.ssq_desk.specs.Tasks.{IsReduceTask, reduce_id}
-use Rattle.ssq_desk.specs.Whole.{opening_in}
+use Rattle.ssq_desk.specs.Whole.{HoldsIn, opening_in}
 use Rattle.ssq_desk.specs.Handing.{HasBucket, AreTaken, buckets_in}
 use Rattle.ssq_desk.specs.Handed.{IsReduceOf}
 use Rattle.ssq_desk.specs.Whole.{IsWhole}
 use Rattle.ssq_desk.proofs.Planned.{at_get}
 use Rattle.ssq_desk.proofs.Feeding.{all_at}
-use Rattle.ssq_desk.proofs.Handing.{reduce_here, reduce_claimed, watermark_here, rows_printable, moved_whole, after_claim, may_report, taken_at}
+use Rattle.ssq_desk.proofs.Handing.{reduce_here, reduce_claimed, watermark_here, rows_printable, moved_whole, runs_without, after_claim, may_report, taken_at}
 use Rattle.ssq_desk.proofs.desk.Desk.claim_reduce.Goals as goal
 
 pub index_mut-requires : goal.index_mut-requires
 index_mut-requires g c =
     let m = subst (λ (x : Shown g.row.D.Denot (Round g.row.L.Denot)). May x.scope x.core (entry.Claim c.args.id)) (sym c.self.view_is) c.requires.may in
-    let h = reduce_here _ _ _ _ _ _ _ _ c.self.invariant c.is_legal.ensures.legal c.is_in_order.ensures c.args.id c.requires.reduce m in
+    let h = reduce_here _ _ _ _ _ _ _ _ _ _ c.self.invariant g.D.Disk.history c.is_legal.ensures.legal c.is_in_order.ensures c.args.id c.requires.reduce m in
     let n = c.self.inside.load.shares.ok.0 in omega (arith, h.below, n)
 
 pub take_buckets-requires-clause-room : goal.take_buckets-requires-clause-room
 take_buckets-requires-clause-room g c =
     let m = subst (λ (x : Shown g.row.D.Denot (Round g.row.L.Denot)). May x.scope x.core (entry.Claim c.args.id)) (sym c.self.view_is) c.requires.may in
-    let h = reduce_here _ _ _ _ _ _ _ _ c.self.invariant c.is_legal.ensures.legal c.is_in_order.ensures c.args.id c.requires.reduce m in
+    let h = reduce_here _ _ _ _ _ _ _ _ _ _ c.self.invariant g.D.Disk.history c.is_legal.ensures.legal c.is_in_order.ensures c.args.id c.requires.reduce m in
     let same = c.index_mut.ensures.value ∙ at_get c.self.inside.load.shares.items c.args.id.number h.share _ h.here in
     let took = c.take_room-rows.ensures ∙ ap (λ x. x.buckets) same in
     let none = ap length (ap (λ v. v.items) took ∙ h.none) in
@@ -50,7 +47,7 @@ take_buckets-requires-clause-room g c =
 pub take_buckets-requires-clause-below : goal.take_buckets-requires-clause-below
 take_buckets-requires-clause-below g c =
     let m = subst (λ (x : Shown g.row.D.Denot (Round g.row.L.Denot)). May x.scope x.core (entry.Claim c.args.id)) (sym c.self.view_is) c.requires.may in
-    let h = reduce_here _ _ _ _ _ _ _ _ c.self.invariant c.is_legal.ensures.legal c.is_in_order.ensures c.args.id c.requires.reduce m in
+    let h = reduce_here _ _ _ _ _ _ _ _ _ _ c.self.invariant g.D.Disk.history c.is_legal.ensures.legal c.is_in_order.ensures c.args.id c.requires.reduce m in
     subst (λ (l : List (Source g.row.L.Denot)). All (HasBucket c.args.id.number) l) (sym c.deref_mut.ensures.value)
     (all_at (HasBucket c.args.id.number) c.self.inside.load.sources.items (λ i source here. (h.safe i source here).buckets c.args.id.number h.less))
 
@@ -61,30 +58,31 @@ invariant_of-self g c =
     let taken = subst (λ (l : List (Source g.row.L.Denot)). AreTaken c.args.id.number l left) c.deref_mut.ensures.value c.take_buckets.ensures.taken in
     let all = taken_at c.args.id.number s.load.sources.items left taken in
     let items : (with_items s.load.sources left).items ≡ left = with_items_is s.load.sources left (all.0 ∙ sym s.load.sources.ok.0) in
-    let n : Load g.row.L.Denot g.row.D-Stage.Denot g.row.D-Stage-Sealed.Denot = record { view = s.load.view; plans = s.load.plans; sources = with_items s.load.sources left; shares = with_item s.load.shares c.args.id.number c.take_room-rows.new.share; out = s.load.out; seen = s.load.seen; pending = s.load.pending } in
-    let held = reduce_claimed _ _ _ _ _ _ _ _ c.self.invariant c.is_legal.ensures.legal c.is_in_order.ensures c.args.id c.take_room-rows.new.share left c.requires.reduce (subst (λ (x : Shown g.row.D.Denot (Round g.row.L.Denot)). May x.scope x.core (entry.Claim c.args.id)) (sym c.self.view_is) c.requires.may) taken in
-    subst (λ (x : Shown g.row.D.Denot (Round g.row.L.Denot)). IsWhole (g.D.Disk.tells × g.L.Log.tells) g.L.Log.lines g.L.Log.available g.D.Disk.history g.D.Stage.Stage.written g.D.Stage.Stage.sealed x n) (sym c.claim.ensures)
-    (moved_whole _ _ _ _ _ _ s.ledger s.load c.self.invariant s.ledger.disk (entry.Claim c.args.id) n (λ cuts m. refl) refl refl refl
-    (subst (λ (l : List (Source g.row.L.Denot)). Holds (g.D.Disk.tells × g.L.Log.tells) g.L.Log.lines g.L.Log.available g.D.Stage.Stage.written g.D.Stage.Stage.sealed (setting_of g.L.Log.lines s.ledger.opening) (cuts_of (opening_in g.L.Log.lines) s.ledger) s.ledger.scope.available
+    let n : Load g.row.L.Denot g.row.D-Stage.Denot g.row.D-Stage-Sealed.Denot = record { view = s.load.view; plans = s.load.plans; sources = with_items s.load.sources left; shares = with_item s.load.shares c.args.id.number c.take_room-rows.new.share; out = s.load.out; seen = s.load.seen; pending = s.load.pending; told = s.load.told; kept = s.load.kept } in
+    let held = reduce_claimed _ _ _ _ _ _ _ _ _ _ c.self.invariant g.D.Disk.history c.is_legal.ensures.legal c.is_in_order.ensures c.args.id c.take_room-rows.new.share left c.requires.reduce (subst (λ (x : Shown g.row.D.Denot (Round g.row.L.Denot)). May x.scope x.core (entry.Claim c.args.id)) (sym c.self.view_is) c.requires.may) taken in
+    subst (λ (x : Shown g.row.D.Denot (Round g.row.L.Denot)). IsWhole g.D.Disk.tells g.L.Log.tells g.L.Log.lines g.L.Log.available g.L.Log.answers g.L.Log.faults g.D.Stage.Stage.written g.D.Stage.Stage.sealed x n) (sym c.claim.ensures)
+    (moved_whole _ _ _ _ _ _ _ _ s.ledger s.load c.self.invariant s.ledger.disk (entry.Claim c.args.id) n (λ cuts m. refl) refl refl refl refl c.self.invariant.told c.self.invariant.told_room
+    (λ e. absurd (runs_without s.ledger.core.front.stop cause.LogFault (subst (λ (x : Shown g.row.D.Denot (Round g.row.L.Denot)). May x.scope x.core (entry.Claim c.args.id)) (sym c.self.view_is) c.requires.may).0 e))
+    (subst (λ (l : List (Source g.row.L.Denot)). HoldsIn g.D.Disk.tells g.L.Log.tells g.L.Log.lines g.L.Log.available g.L.Log.answers g.L.Log.faults g.D.Stage.Stage.written g.D.Stage.Stage.sealed s.ledger (cuts_of (opening_in g.L.Log.lines) s.ledger)
     (after s.ledger.scope s.ledger.core (entry.Claim c.args.id)) l (set s.load.shares.items c.args.id.number c.take_room-rows.new.share) s.load.out s.load.seen s.load.pending) (sym items) held))
 
 pub returns-clause-task : goal.returns-clause-task
 returns-clause-task g c =
     let s = c.self.inside in
     let m = subst (λ (x : Shown g.row.D.Denot (Round g.row.L.Denot)). May x.scope x.core (entry.Claim c.args.id)) (sym c.self.view_is) c.requires.may in
-    let h = reduce_here _ _ _ _ _ _ _ _ c.self.invariant c.is_legal.ensures.legal c.is_in_order.ensures c.args.id c.requires.reduce m in
+    let h = reduce_here _ _ _ _ _ _ _ _ _ _ c.self.invariant g.D.Disk.history c.is_legal.ensures.legal c.is_in_order.ensures c.args.id c.requires.reduce m in
     let same = c.index_mut.ensures.value ∙ at_get s.load.shares.items c.args.id.number h.share _ h.here in
     let none : c.take_room-rows.result.items ≡ [] = ap (λ v. v.items) (c.take_room-rows.ensures ∙ ap (λ x. x.buckets) same) ∙ h.none in
     let rows = c.take_buckets.ensures.rows ∙ (λ i. joined_vecs (none i) ++ buckets_in c.args.id.number (c.deref_mut.ensures.value i)) in
     let handed : ReduceTask = (record { view = s.load.view; epoch = c.args.id.epoch; partition = c.args.id.number; watermark = c.watermark-watermark.result; rows = c.take_buckets.new.into }) in
-    subst (λ (x : Shown g.row.D.Denot (Round g.row.L.Denot)). IsReduceOf (g.D.Disk.tells × g.L.Log.tells) g.L.Log.lines g.L.Log.available x handed) (sym c.claim.ensures)
-    (after_claim g.L.Log.lines s.ledger s.ledger.disk c.args.id (λ (cuts : Cuts). IsReduceTask (g.D.Disk.tells × g.L.Log.tells) (setting_of g.L.Log.lines s.ledger.opening) cuts s.ledger.core.front.committed handed)
+    subst (λ (x : Shown g.row.D.Denot (Round g.row.L.Denot)). IsReduceOf g.D.Disk.tells g.L.Log.tells g.L.Log.lines x handed) (sym c.claim.ensures)
+    (after_claim g.L.Log.lines s.ledger s.ledger.disk c.args.id (λ (cuts : Cuts). IsReduceTask (Owns g.D.Disk.tells g.L.Log.tells g.L.Log.lines s.ledger) (setting_of g.L.Log.lines s.ledger.opening) cuts s.ledger.core.front.committed handed)
     (record {
       below = h.less;
       view = c.self.invariant.view;
       epoch = m.2;
-      watermark = watermark_here _ _ _ _ _ _ _ _ c.self.invariant c.is_legal.ensures.legal c.is_in_order.ensures m.0 c.watermark-watermark.result c.watermark-watermark.ensures.watermark;
-      printable = subst (λ (l : List FedRow). All IsPrintable l) (sym rows) (rows_printable _ _ _ _ _ _ _ _ c.self.invariant c.is_legal.ensures.legal c.is_in_order.ensures c.args.id.number h);
+      watermark = watermark_here _ _ _ _ _ _ _ _ _ _ c.self.invariant g.D.Disk.history c.is_legal.ensures.legal c.is_in_order.ensures m.0 c.watermark-watermark.result c.watermark-watermark.ensures.watermark;
+      printable = subst (λ (l : List FedRow). All IsPrintable l) (sym rows) (rows_printable _ _ _ _ _ _ _ _ _ _ c.self.invariant g.D.Disk.history c.is_legal.ensures.legal c.is_in_order.ensures c.args.id.number h);
       rows = λ y. rows ∙ h.rows y;
     }))
 

@@ -1,27 +1,73 @@
-use Rattle.std.proofs.Common.{◌≡◌, sym, subst}
+use Rattle.std.proofs.Common.{◌≡◌, ◌<◌, ◌+◌, ◌^◌, ℕ, map, get_or, false, sym, ap, ◌∙◌, subst, arith}
+use Rattle.std.specs.Prelude.{vec_capacity}
+use Rattle.ssq_plans.specs.declared.plan.Plan.{Plan}
+use Rattle.ssq_plans.specs.declared.part.PartEnd.{PartEnd}
+use Rattle.ssq_board.specs.declared.front.Front.{Front}
 use Rattle.ssq_board.specs.declared.front.Ready.TheVariants as ready
 use Rattle.ssq_board.specs.Core.{ready_of}
-use Rattle.ssq_ledger.specs.Shown.{Shown}
+use Rattle.ssq_board.proofs.Readies.{commit_may}
+use Rattle.ssq_ledger.specs.Shown.{Shown, cuts_of}
+use Rattle.ssq_desk.specs.declared.desk.Pending.{Pending}
+use Rattle.ssq_desk.specs.declared.desk.Source.{Source}
 use Rattle.ssq_desk.specs.declared.round.Round.{Round}
-use Rattle.ssq_desk.proofs.Settling.{pending_here, pending_right, after_commit, uncommitted}
+use Rattle.ssq_desk.specs.Closing.{AreTold, lines_between}
+use Rattle.ssq_desk.specs.Round.{setting_of, Owns}
+use Rattle.ssq_desk.specs.Whole.{opening_in}
+use Rattle.ssq_desk.proofs.Closings.{plan_below, few_lines, told_right}
+use Rattle.ssq_desk.proofs.Settling.{pending_here, pending_right, after_commit, uncommitted, some_pending}
+use Rattle.ssq_desk.proofs.Telling.{told_more}
 use Rattle.ssq_desk.proofs.desk.Desk.commit.Goals as goal
 
 pub take_pending-pending-requires : goal.take_pending-pending-requires
 take_pending-pending-requires g c =
     let next = subst (λ (x : Shown g.row.D.Denot (Round g.row.L.Denot)). ready_of x.scope x.core ≡ ready.Commit) (sym c.self.view_is) c.requires in
-    let h = pending_here _ _ _ _ _ _ c.self.inside.ledger c.self.inside.load c.self.invariant next in (h.0, h.1)
+    let h = pending_here _ _ _ _ _ _ _ _ c.self.inside.ledger c.self.inside.load c.self.invariant next in (h.0, h.1)
+
+-- the epoch's plan is there, and its lines can be counted
+pub tell-told-requires-clause-plan : goal.tell-told-requires-clause-plan
+tell-told-requires-clause-plan g c =
+    let s = c.self.inside in
+    let next = subst (λ (x : Shown g.row.D.Denot (Round g.row.L.Denot)). ready_of x.scope x.core ≡ ready.Commit) (sym c.self.view_is) c.requires in
+    let below = plan_below g.D.Disk.tells g.L.Log.tells g.L.Log.lines g.L.Log.available g.L.Log.answers g.L.Log.faults g.D.Disk.history g.D.Stage.Stage.written g.D.Stage.Stage.sealed s.ledger s.load c.self.invariant c.is_legal.ensures.legal c.is_in_order.ensures next in
+    let epoch = ap (λ (f : Front). f.committed) c.front-epoch.ensures in omega (arith, below, epoch)
+
+pub tell-told-requires-clause-few : goal.tell-told-requires-clause-few
+tell-told-requires-clause-few g c =
+    let s = c.self.inside in
+    let next = subst (λ (x : Shown g.row.D.Denot (Round g.row.L.Denot)). ready_of x.scope x.core ≡ ready.Commit) (sym c.self.view_is) c.requires in
+    let ends = c.ends.ensures in
+    subst (λ (n : ℕ). n < 2 ^ 64) (λ i. lines_between (map (λ (x : Source g.row.L.Denot). x.from) s.load.sources.items) (map (λ (e : PartEnd). e.end) (sym ends i)))
+    (few_lines g.D.Disk.tells g.L.Log.tells g.L.Log.lines g.L.Log.available g.L.Log.answers g.L.Log.faults g.D.Disk.history g.D.Stage.Stage.written g.D.Stage.Stage.sealed s.ledger s.load c.self.invariant c.is_legal.ensures.legal c.is_in_order.ensures next)
 
 pub commit-requires-clause-right : goal.commit-requires-clause-right
 commit-requires-clause-right g c =
     let next = subst (λ (x : Shown g.row.D.Denot (Round g.row.L.Denot)). ready_of x.scope x.core ≡ ready.Commit) (sym c.self.view_is) c.requires in
-    pending_right _ _ _ _ _ _ c.self.inside.ledger c.self.inside.load c.self.invariant c.take_pending-pending.result c.take_pending-pending.ensures.is next
+    pending_right _ _ _ _ _ _ _ _ c.self.inside.ledger c.self.inside.load c.self.invariant c.take_pending-pending.result c.take_pending-pending.ensures.is next
+
+pub push_reserved-requires : goal.push_reserved-requires
+push_reserved-requires g c =
+    let s = c.self.inside in
+    let next = subst (λ (x : Shown g.row.D.Denot (Round g.row.L.Denot)). ready_of x.scope x.core ≡ ready.Commit) (sym c.self.view_is) c.requires in
+    subst (λ (n : ℕ). n < vec_capacity s.load.told) (sym s.load.told.ok.0) (c.self.invariant.told_room (commit_may s.ledger.scope s.ledger.core false next).2)
 
 pub invariant_of-self : goal.invariant_of-self
 invariant_of-self g c =
-    uncommitted _ _ _ _ _ _ c.self.inside.ledger c.self.inside.load c.self.invariant c.commit.new.self c.take_pending-pending.new.pending c.in_err-commit.ensures.stopped.0
+    uncommitted _ _ _ _ _ _ _ _ c.self.inside.ledger c.self.inside.load c.self.invariant c.commit.new.self c.take_pending-pending.new.pending c.in_err-commit.ensures.stopped.0
 
 pub invariant_of-self-2 : goal.invariant_of-self-2
 invariant_of-self-2 g c =
+    let s = c.self.inside in
     let next = subst (λ (x : Shown g.row.D.Denot (Round g.row.L.Denot)). ready_of x.scope x.core ≡ ready.Commit) (sym c.self.view_is) c.requires in
-    after_commit _ _ _ _ _ _ c.self.inside.ledger c.self.inside.load c.self.invariant c.commit.new.self c.take_pending-pending.result c.take_pending-pending.new.pending
+    let owned = Owns g.D.Disk.tells g.L.Log.tells g.L.Log.lines s.ledger in
+    let told = c.tell-told.result in
+    let h = pending_here _ _ _ _ _ _ _ _ s.ledger s.load c.self.invariant next in
+    let mine : h.0 ≡ c.take_pending-pending.result = some_pending h.0 c.take_pending-pending.result (sym h.1 ∙ c.take_pending-pending.ensures.is) in
+    let is = told_right g.D.Disk.tells g.L.Log.tells g.L.Log.lines g.L.Log.available g.L.Log.answers g.L.Log.faults g.D.Disk.history g.D.Stage.Stage.written g.D.Stage.Stage.sealed s.ledger s.load c.self.invariant c.is_legal.ensures.legal c.is_in_order.ensures next told
+    (c.tell-told.ensures.epoch ∙ ap (λ (f : Front). f.committed) c.front-epoch.ensures)
+    (c.tell-told.ensures.lines ∙ (λ i. lines_between (map (λ (x : Source g.row.L.Denot). x.from) s.load.sources.items) (map (λ (e : PartEnd). e.end) (c.ends.ensures i))))
+    (λ (d : Plan). c.tell-told.ensures.watermark d ∙ (λ i. (get_or s.load.plans.items ((c.front-epoch.ensures i).committed) d).watermark))
+    (λ t. c.tell-told.ensures.rows ∙ ap (λ (p : Pending g.row.D-Stage-Sealed.Denot). p.count) (sym mine) ∙ h.2.rows t) in
+    after_commit _ _ _ _ _ _ _ _ s.ledger s.load c.self.invariant c.commit.new.self c.take_pending-pending.result c.take_pending-pending.new.pending c.push_reserved.new.self
     c.is_in_order.ensures.sound.near c.take_pending-pending.ensures.none c.take_pending-pending.ensures.is next c.in_ok-commit.ensures.done
+    (subst (λ l. AreTold owned (setting_of g.L.Log.lines s.ledger.opening) (cuts_of (opening_in g.L.Log.lines) s.ledger) s.ledger.opening.opened.committed (s.ledger.core.front.committed + 1) l) (sym c.push_reserved.ensures.items)
+    (told_more owned (setting_of g.L.Log.lines s.ledger.opening) (cuts_of (opening_in g.L.Log.lines) s.ledger) s.ledger.opening.opened.committed s.ledger.core.front.committed s.load.told.items told c.self.invariant.told is))

@@ -1,0 +1,67 @@
+use Rattle.std.proofs.Common.{◌≡◌, ◌<◌, ◌||◌, true, false, nat_lt, Some, sym, ◌∙◌, subst}
+use Rattle.std.specs.Prelude.{◌≢◌, All, MatchOption}
+use Rattle.std.specs.List.{list_any, AllZip, sum_by}
+use Rattle.ssq_outside.specs.declared.gate.Kind.TheVariants as kind
+use Rattle.ssq_plans.specs.Records.{HasLineTime}
+use Rattle.ssq_feed.specs.Causes.{LogWent}
+use Rattle.ssq_task.specs.Committing.{lines_of}
+use Rattle.ssq_board.specs.declared.front.Cause.{Cause}
+use Rattle.ssq_board.specs.declared.front.Cause.TheVariants as cause
+use Rattle.ssq_board.specs.declared.front.Front.{Front}
+use Rattle.ssq_board.specs.declared.front.Ready.TheVariants as ready
+use Rattle.ssq_board.specs.Core.{ready_of}
+use Rattle.ssq_board.specs.Rounds.{is_away}
+use Rattle.ssq_ledger.specs.Shown.{Shown, cuts_of}
+use Rattle.ssq_desk.specs.declared.round.Round.{Round}
+use Rattle.ssq_desk.specs.Round.{Owns, setting_of}
+use Rattle.ssq_desk.specs.Contents.{IsStopOf}
+use Rattle.ssq_desk.specs.Whole.{opening_in}
+use Rattle.ssq_desk.specs.Closing.{AreTold, IsNext, acknowledged_in}
+use Rattle.ssq_desk.proofs.Closings.{logs_there, logs_back, faulty_back, told_back, next_back, seen_each}
+use Rattle.ssq_desk.proofs.desk.Desk.closed.Goals as goal
+
+pub next_if-next-requires-clause-each : goal.next_if-next-requires-clause-each
+next_if-next-requires-clause-each g c over =
+    let s = c.self.inside in
+    seen_each g.D.Disk.tells g.L.Log.tells g.L.Log.lines g.L.Log.available g.L.Log.answers g.L.Log.faults g.D.Disk.history g.D.Stage.Stage.written g.D.Stage.Stage.sealed s.ledger s.load c.self.invariant c.is_legal.ensures.legal c.is_in_order.ensures (sym c.ready.ensures ∙ c.is_over-is_over.ensures.over over)
+
+pub logs_of-requires-clause-there : goal.logs_of-requires-clause-there
+logs_of-requires-clause-there g c =
+    let s = c.self.inside in
+    let none = subst (λ (x : Shown g.row.D.Denot (Round g.row.L.Denot)). list_any is_away x.core.maps ≡ false) (sym c.self.view_is) (c.requires.back kind.Map) in
+    logs_there g.D.Disk.tells g.L.Log.tells g.L.Log.lines g.L.Log.available g.L.Log.answers g.L.Log.faults g.D.Disk.history g.D.Stage.Stage.written g.D.Stage.Stage.sealed s.ledger s.load c.self.invariant c.is_legal.ensures.legal c.is_in_order.ensures none
+
+pub returns-clause-stopped : goal.returns-clause-stopped
+returns-clause-stopped g c =
+    subst (λ (x : Shown g.row.D.Denot (Round g.row.L.Denot)). (f : Cause) → x.core.front.stop ≡ Some f → IsStopOf (g.D.Disk.tells × g.L.Log.tells) (setting_of g.L.Log.lines x.opening) (cuts_of (opening_in g.L.Log.lines) x) x.core.front.committed f) c.self.view_is c.self.invariant.holds.stop
+
+pub returns-clause-logs : goal.returns-clause-logs
+returns-clause-logs g c =
+    let s = c.self.inside in
+    let none = subst (λ (x : Shown g.row.D.Denot (Round g.row.L.Denot)). list_any is_away x.core.maps ≡ false) (sym c.self.view_is) (c.requires.back kind.Map) in
+    subst (λ (x : Shown g.row.D.Denot (Round g.row.L.Denot)). AllZip (LogWent g.L.Log.tells g.L.Log.lines g.L.Log.available g.L.Log.answers g.L.Log.faults) x.opening.logs.items c.logs_of.result.items) c.self.view_is
+    (logs_back g.D.Disk.tells g.L.Log.tells g.L.Log.lines g.L.Log.available g.L.Log.answers g.L.Log.faults g.D.Disk.history g.D.Stage.Stage.written g.D.Stage.Stage.sealed s.ledger s.load c.self.invariant c.is_legal.ensures.legal c.is_in_order.ensures none c.logs_of.result.items c.logs_of.ensures)
+
+pub returns-clause-faulty : goal.returns-clause-faulty
+returns-clause-faulty g c =
+    let s = c.self.inside in
+    subst (λ (x : Shown g.row.D.Denot (Round g.row.L.Denot)). x.core.front.stop ≡ Some cause.LogFault → 0 < sum_by g.L.Log.faults c.logs_of.result.items) c.self.view_is
+    (faulty_back g.D.Disk.tells g.L.Log.tells g.L.Log.lines g.L.Log.available g.L.Log.answers g.L.Log.faults g.D.Disk.history g.D.Stage.Stage.written g.D.Stage.Stage.sealed s.ledger s.load c.self.invariant c.is_legal.ensures.legal c.is_in_order.ensures c.logs_of.result.items c.logs_of.ensures)
+
+pub returns-clause-told : goal.returns-clause-told
+returns-clause-told g c =
+    let s = c.self.inside in
+    let front = c.front-front.ensures in
+    subst (λ (x : Shown g.row.D.Denot (Round g.row.L.Denot)). AreTold (Owns g.D.Disk.tells g.L.Log.tells g.L.Log.lines x) (setting_of g.L.Log.lines x.opening) (cuts_of (opening_in g.L.Log.lines) x) x.opening.opened.committed (acknowledged_in x.core) c.acknowledged-told.result.items) c.self.view_is
+    (told_back g.D.Disk.tells g.L.Log.tells g.L.Log.lines g.L.Log.available g.L.Log.answers g.L.Log.faults g.D.Disk.history g.D.Stage.Stage.written g.D.Stage.Stage.sealed s.ledger s.load c.self.invariant c.is_legal.ensures.legal c.is_in_order.ensures c.is_told.result c.acknowledged-told.result.items
+    ((λ i. nat_lt ((sym front i).committed) ((sym front i).planned) || (sym front i).settled) ∙ sym c.is_told.ensures) c.acknowledged-told.ensures.all c.acknowledged-told.ensures.rest)
+
+pub returns-clause-next : goal.returns-clause-next
+returns-clause-next g c =
+    let s = c.self.inside in
+    let is = subst (λ (f : Front). MatchOption c.next_if-next.result.0 (c.is_over-is_over.result ≡ false) (λ next. (c.is_over-is_over.result ≡ true)
+    × (next ≡ record { meta = s.load.kept.meta; plans = s.load.plans.items; committed = f.committed; seen = lines_of s.load.view.bound.now s.load.seen; names = s.load.kept.names }) × All HasLineTime next.seen)) c.front-front.ensures c.next_if-next.ensures.next in
+    subst (λ (x : Shown g.row.D.Denot (Round g.row.L.Denot)). MatchOption c.next_if-next.result.0 (ready_of x.scope x.core ≢ ready.Over) (λ next. (ready_of x.scope x.core ≡ ready.Over)
+    × IsNext (Owns g.D.Disk.tells g.L.Log.tells g.L.Log.lines x) (setting_of g.L.Log.lines x.opening) (cuts_of (opening_in g.L.Log.lines) x) x.scope.available x.core x.opening.opened next)) c.self.view_is
+    (next_back g.D.Disk.tells g.L.Log.tells g.L.Log.lines g.L.Log.available g.L.Log.answers g.L.Log.faults g.D.Disk.history g.D.Stage.Stage.written g.D.Stage.Stage.sealed s.ledger s.load c.self.invariant c.is_legal.ensures.legal c.is_in_order.ensures c.next_if-next.result.0 c.is_over-is_over.result is
+    (λ over. sym c.ready.ensures ∙ c.is_over-is_over.ensures.over over) (λ other is_over. c.is_over-is_over.ensures.other other (c.ready.ensures ∙ is_over)))
