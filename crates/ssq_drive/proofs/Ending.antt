@@ -1,0 +1,51 @@
+-- How a driven desk ends.
+use Rattle.std.proofs.Common.{◌≡◌, ◌≢◌, ◌⊎◌, not, true, Option, Some, None, Result, Ok, Err, IfOk, IfErr, refl, ap, ◌∙◌, subst, inl, inr}
+use Rattle.std.specs.Prelude.{IsSome, MatchOption, is_some}
+use Rattle.std.specs.List.{list_all, list_any}
+use Rattle.ssq_open.specs.declared.wanted.Opened.{Opened}
+use Rattle.ssq_board.specs.declared.front.Cause.{Cause}
+use Rattle.ssq_board.specs.declared.front.Ready.TheVariants as ready
+use Rattle.ssq_board.specs.Core.{Scope, Core, is_fine, is_more, is_open, is_stopped, is_waiting, ready_of, ready_tasks}
+use Rattle.ssq_board.proofs.Readies.{past, chosen}
+
+tasks_not_stopped : (c : Core) → ready_tasks c ≡ ready.Stopped → ⊥
+tasks_not_stopped c e =
+    let a = past (not c.front.fresh) _ _ _ e (λ x. cc) in
+    let b = past (list_any is_waiting c.maps) _ _ _ a.1 (λ x. cc) in
+    let d = past (not (list_all is_fine c.maps)) _ _ _ b.1 (λ x. cc) in
+    let f = past (list_any is_waiting c.reduces) _ _ _ d.1 (λ x. cc) in
+    let g = past (not (list_all is_fine c.reduces)) _ _ _ f.1 (λ x. cc) in
+    let h = past (list_any is_waiting c.outs) _ _ _ g.1 (λ x. cc) in
+    let k = past (not c.front.written) _ _ _ h.1 (λ x. cc) in
+    elim (chosen c.front.settled ready.Commit ready.Sync ready.Stopped k.1) [ inl x ↦ (let y = x.1 in cc) | inr x ↦ (let y = x.1 in cc) ]
+
+some_cause : (o : Option Cause) → is_stopped o ≡ true → IsSome o
+some_cause None is = is
+some_cause (Some f) is = refl
+
+-- where nothing more comes of a desk that is stopped, there is a cause
+stopped_is : (r : Scope) (c : Core) → ready_of r c ≡ ready.Stopped → IsSome c.front.stop
+stopped_is r c e = elim (chosen (is_stopped c.front.stop) ready.Stopped _ ready.Stopped e) [
+  | inl stops ↦ some_cause c.front.stop stops.0
+  | inr runs ↦ absurd (elim (chosen (is_open c) (ready_tasks c) _ _ runs.1) [
+    | inl opened ↦ tasks_not_stopped c opened.1
+    | inr closed ↦
+        let b = past (not c.front.settled) _ _ _ closed.1 (λ x. cc) in
+        elim (chosen (is_more r c) ready.Plan ready.Over ready.Stopped b.1) [ inl x ↦ (let y = x.1 in cc) | inr x ↦ (let y = x.1 in cc) ]
+  ])
+]
+
+-- a desk that gives nothing to go on with is stopped
+pub one_of_both : (r : Scope) (c : Core) (Q : Opened → Type 0) (next : Option Opened) (stop : Option Cause) → MatchOption next (ready_of r c ≢ ready.Over) Q
+    → (ready_of r c ≡ ready.Over) ⊎ (ready_of r c ≡ ready.Stopped) → stop ≡ c.front.stop → next ≡ None → IsSome stop
+one_of_both r c Q next stop is end same none =
+    let other : ready_of r c ≢ ready.Over = subst (λ (o : Option Opened). MatchOption o (ready_of r c ≢ ready.Over) Q) none is in
+    elim end [ inl over ↦ absurd (other over) | inr stopped ↦ ap is_some same ∙ stopped_is r c stopped ]
+
+-- what the end of a round says of its desk
+pub end_over : (P : Type 0) (Q : Opened → Type 0) (next : Option Opened) (end : Result Opened Cause) → MatchOption next P Q → IfOk end (λ opened. next ≡ Some opened) → (opened : Opened) → end ≡ Ok opened → Q opened
+end_over P Q next end is ok opened same =
+    subst (λ (o : Option Opened). MatchOption o P Q) (subst (λ (e : Result Opened Cause). IfOk e (λ opened. next ≡ Some opened)) same ok) is
+
+pub end_stopped : (next : Option Opened) (stop : Option Cause) (end : Result Opened Cause) → IfErr end (λ cause. (next ≡ None) × (stop ≡ Some cause)) → (f : Cause) → end ≡ Err f → stop ≡ Some f
+end_stopped next stop end err f same = (subst (λ (e : Result Opened Cause). IfErr e (λ cause. (next ≡ None) × (stop ≡ Some cause))) same err).1

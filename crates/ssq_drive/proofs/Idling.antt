@@ -1,0 +1,56 @@
+-- A round for which there was no memory, and the logs that come back.
+use Rattle.std.proofs.Common.{◌≡◌, ◌+◌, ℕ, List, [], ◌∷◌, length, Result, Ok, Err, refl, sym, ap, subst, arith}
+use Rattle.std.specs.List.{AllZip}
+use Rattle.std.proofs.lemmas.List.{append-nil}
+use Rattle.std.proofs.lemmas.List.Elements.{All-nil}
+use Rattle.ssq_outside.specs.History.{History}
+use Rattle.ssq_outside.specs.Logs.{Line}
+use Rattle.ssq_feed.specs.Causes.{LogWent}
+use Rattle.ssq_course.specs.Setting.{Setting, job_of}
+use Rattle.ssq_open.specs.declared.wanted.Opened.{Opened}
+use Rattle.ssq_open.specs.Epochs.{cut_of}
+use Rattle.ssq_board.specs.declared.front.Cause.{Cause}
+use Rattle.ssq_board.specs.declared.front.Cause.TheVariants as cause
+use Rattle.ssq_board.specs.Core.{Scope}
+use Rattle.ssq_promise.specs.Run.{NothingIsRun}
+use Rattle.ssq_drive.specs.Rounds.{IsRound, IsRoundStop, IsMeant, CanBegin, AreReturned, first_of}
+
+abbrev cause_or : Cause → Result Opened Cause → Cause
+cause_or d (Ok x) = d
+cause_or d (Err e) = e
+
+pub err_ok : (f : Cause) (next : Opened) → Err f ≡ Ok next → ⊥
+err_ok f next is = cc
+
+-- nothing was planned, done or told
+pub idle : (tells : Type 0) (nothing : NothingIsRun tells) (s : Setting) (n : ℕ) (r : Scope) (found : Opened) (h : History) (disk logs : ℕ) → CanBegin s.job.bound n found r
+    → IsRound tells s n r found h h disk disk logs [] (Err cause.NoMemory)
+idle tells nothing s n r found h disk logs can = record {
+  plans = found.plans;
+  went = record {
+    on = record { more = []; behind = sym (append-nil found.plans); next = λ e from less. absurd (omega (arith, from, less)); due = λ e from less. absurd (omega (arith, from, less)) };
+    told_are = tt;
+    few = (let b = can.numbers.before in omega (arith, b));
+    over = λ next ends. absurd (err_ok cause.NoMemory next ends);
+    stopped = λ why stops. subst (IsRoundStop tells s (cut_of (first_of found) found.plans) r.available (length found.plans) (found.committed + 0) disk disk logs) (ap (cause_or cause.NoMemory) stops) tt;
+  };
+  ran = λ t own. record {
+    run = nothing (job_of s) h;
+    meant = All-nil (IsMeant s (cut_of (first_of found) found.plans));
+    settled = λ next ends. absurd (err_ok cause.NoMemory next ends);
+    found = λ next ends. absurd (err_ok cause.NoMemory next ends);
+  };
+}
+
+module _ {L : Type 0} (tells : Type 0) (lines : L → List Line) (available : L → ℕ) (answers : L → List ℕ) (faults : L → ℕ) where
+  -- logs that nobody read
+  pub same_back : (logs : List L) → AreReturned tells lines available answers faults logs logs
+  same_back [] = tt
+  same_back (log ∷ logs) = (record { same = λ t. refl; grown = λ t. omega arith; unasked = λ t. refl; counted = omega arith }, same_back logs)
+
+  -- and logs that were read
+  pub read_back : (logs news : List L) → AllZip (LogWent tells lines available answers faults) logs news → AreReturned tells lines available answers faults logs news
+  read_back [] [] went = tt
+  read_back [] (new ∷ news) went = absurd went
+  read_back (log ∷ logs) [] went = absurd went
+  read_back (log ∷ logs) (new ∷ news) went = (record { same = went.0.same; grown = went.0.grown; unasked = went.0.unasked; counted = went.0.counted }, read_back logs news went.1)

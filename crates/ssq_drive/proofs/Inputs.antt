@@ -1,0 +1,56 @@
+-- The causes that tasks bring are none of the desk's.
+use Rattle.std.proofs.Common.{◌≡◌, ℕ, Option, Some, None, IfSome, IfErr, Result, Ok, Err, subst}
+use Rattle.std.specs.Global.{Vec}
+use Rattle.ssq_value.specs.declared.row.Row.{Row}
+use Rattle.ssq_json.specs.declared.bad_row.BadRow.{BadRow}
+use Rattle.ssq_json.specs.declared.bad_row.BadRow.TheVariants as bad
+use Rattle.ssq_feed.specs.declared.task.FedRows.{FedRows}
+use Rattle.ssq_feed.specs.declared.fault.FeedFault.{FeedFault}
+use Rattle.ssq_feed.specs.declared.fault.FeedFault.TheVariants as feed
+use Rattle.ssq_task.specs.declared.partition.ReduceFault.{ReduceFault}
+use Rattle.ssq_task.specs.declared.partition.ReduceFault.TheVariants as reduce
+use Rattle.ssq_board.specs.declared.front.Cause.{Cause}
+use Rattle.ssq_board.specs.Core.{Scope, Core}
+use Rattle.ssq_desk.specs.Results.{cause_of_bad, cause_of_feed, cause_of_reduce, fault_of}
+use Rattle.ssq_drive.specs.Driven.{StopsFor}
+
+-- the desk accounts for it on any terms
+abbrev pub IsOfInput : Cause → Type 0
+IsOfInput g = (r : Scope) (n : Core) (before now : ℕ) → StopsFor r n before now g
+
+given : (o : Option Cause) (f g : Cause) → IsOfInput f → Some f ≡ o → o ≡ Some g → IsOfInput g
+given o f g own is same r n before now = subst (λ (x : Option Cause). IfSome x (StopsFor r n before now)) same (subst (λ (x : Option Cause). IfSome x (StopsFor r n before now)) is (own r n before now))
+
+none_some : (g : Cause) → None ≡ Some g → ⊥
+none_some g is = cc
+
+bad_stops : (stream part offset : ℕ) (what : BadRow) → IsOfInput (cause_of_bad stream part offset what)
+bad_stops stream part offset bad.TooLong r n before now = tt
+bad_stops stream part offset bad.NotJson r n before now = tt
+bad_stops stream part offset bad.NotObject r n before now = tt
+bad_stops stream part offset (bad.WrongType column) r n before now = tt
+bad_stops stream part offset bad.NoEventTime r n before now = tt
+bad_stops stream part offset bad.NoMemory r n before now = tt
+
+feed_stops : (stream part : ℕ) (fault : FeedFault) → IsOfInput (cause_of_feed stream part fault)
+feed_stops stream part (feed.BadLine offset what) r n before now = bad_stops stream part offset what r n before now
+feed_stops stream part (feed.Overflow offset) r n before now = tt
+feed_stops stream part feed.LogFault r n before now = tt
+feed_stops stream part (feed.LogShort logged found) r n before now = tt
+feed_stops stream part feed.NoMemory r n before now = tt
+
+pub fed_stops : (stream part : ℕ) (outcome : Result FedRows FeedFault) (g : Cause) → fault_of (cause_of_feed stream part) outcome ≡ Some g → IsOfInput g
+fed_stops stream part (Ok rows) g is = absurd (none_some g is)
+fed_stops stream part (Err fault) g is = given (Some (cause_of_feed stream part fault)) (cause_of_feed stream part fault) g (feed_stops stream part fault) (λ i. Some (cause_of_feed stream part fault)) is
+
+reduce_stops : (fault : ReduceFault) → fault ≡ reduce.NoMemory → IsOfInput (cause_of_reduce fault)
+reduce_stops (reduce.Overflow key) is r n before now = tt
+reduce_stops reduce.DiskFault is r n before now = absurd (other is)
+  where
+    other : reduce.DiskFault ≡ reduce.NoMemory → ⊥
+    other is = cc
+reduce_stops reduce.NoMemory is r n before now = tt
+
+pub reduced_stops : (outcome : Result (Vec Row) ReduceFault) (g : Cause) → IfErr outcome (λ fault. fault ≡ reduce.NoMemory) → fault_of cause_of_reduce outcome ≡ Some g → IsOfInput g
+reduced_stops (Ok rows) g memory is = absurd (none_some g is)
+reduced_stops (Err fault) g memory is = given (Some (cause_of_reduce fault)) (cause_of_reduce fault) g (reduce_stops fault memory) (λ i. Some (cause_of_reduce fault)) is

@@ -1,0 +1,16 @@
+pub mod Causes
+pub mod Turning
+pub mod Working
+pub mod Going
+pub mod Inputs
+pub mod Cutting
+pub mod Starting
+pub mod Rounding
+pub mod Doing
+pub mod Parting
+pub mod Counting
+pub mod Fitting
+pub mod Saying
+pub mod Stopping
+pub mod Idling
+pub mod Ending

@@ -1,0 +1,390 @@
+-- How a round went, by its desk.
+use Rattle.std.proofs.Common.{◌≡◌, ◌<◌, ◌≤◌, ◌+◌, ◌-◌, ◌||◌, ℕ, Bool, true, false, true≢false, List, [], ◌∷◌, length, map, get_or, Option, Some, None, IfSome, Result, Ok, Err, if◌then◌else◌, sym, refl, ap, ◌∙◌, subst, inr, arith}
+use Rattle.std.specs.List.{list_any}
+use Rattle.std.proofs.lemmas.List.{length-map}
+use Rattle.ssq_outside.specs.History.{History, files_now}
+use Rattle.ssq_meaning.specs.Meaning.{Line}
+use Rattle.ssq_meaning.specs.Times.{Delay, delays}
+use Rattle.ssq_meaning.proofs.Causal.{says_same}
+use Rattle.ssq_plans.specs.declared.plan.Plan.{Plan}
+use Rattle.ssq_plans.specs.declared.meta.Meta.{Meta}
+use Rattle.ssq_plans.specs.declared.seen.SeenBy.{SeenBy}
+use Rattle.ssq_core.specs.Course.{Cuts, Ends, Job, AreSameUpTo}
+use Rattle.ssq_course.specs.Setting.{Setting, parts_in, first_ends, job_of}
+use Rattle.ssq_course.specs.Setting.{cut_of as offsets_of, cuts_of as offsets}
+use Rattle.ssq_open.specs.declared.wanted.Opened.{Opened}
+use Rattle.ssq_open.specs.Looking.{begins}
+use Rattle.ssq_open.specs.Epochs.{cut_of, last_ends, starts}
+use Rattle.ssq_open.specs.Jobs.{IsDeskOf}
+use Rattle.ssq_open.specs.Lens.{asked, found_from}
+use Rattle.ssq_open.specs.Numbers.{HasNumbers}
+use Rattle.ssq_open.specs.Watermarks.{watermarked}
+use Rattle.ssq_board.specs.declared.front.Cause.{Cause}
+use Rattle.ssq_board.specs.declared.front.Cause.TheVariants as cause
+use Rattle.ssq_board.specs.declared.front.Entry.{Entry}
+use Rattle.ssq_board.specs.declared.front.Ready.TheVariants as ready
+use Rattle.ssq_board.specs.Core.{Scope, Core, IsFull, after_all, cuts_all, is_behind, is_of_line, is_open, ready_of}
+use Rattle.ssq_board.specs.Shown.{IsSound, first}
+use Rattle.ssq_board.specs.Told.{acknowledged_of}
+use Rattle.ssq_board.specs.Follows.{State, Leads}
+use Rattle.ssq_board.specs.Laws.{IsOpenedAt}
+use Rattle.ssq_board.proofs.Lists.{nat_lt-not, nat_lt-less}
+use Rattle.ssq_board.proofs.Readies.{over_is}
+use Rattle.ssq_board.proofs.Sounds.{first_sound}
+use Rattle.ssq_board.proofs.Telling.{Runs, runs_of, tells_all}
+use Rattle.ssq_terms.specs.Laws.{PartsAreFound, TasksHaveTerms, HasTerms, never}
+use Rattle.ssq_terms.specs.Opening.{DeskOpensAsFound}
+use Rattle.ssq_promise.specs.Run.{Begins, IsLeft, RoundIsRun, RoundLeavesFound, WasRun}
+use Rattle.ssq_ledger.specs.Shown.{Shown, Opening, IsLegal, IsInOrder, cuts_of, did, first_state, state}
+use Rattle.ssq_desk.specs.declared.round.Round.{Round}
+use Rattle.ssq_desk.specs.declared.told.Told.{Told}
+use Rattle.ssq_desk.specs.Round.{Owns, setting_of, start_at}
+use Rattle.ssq_desk.specs.Round.{IsRound as IsDeskRound}
+use Rattle.ssq_desk.specs.Contents.{IsStopOf}
+use Rattle.ssq_desk.specs.Closing.{AreTold as DeskTold, IsNext, acknowledged_in}
+use Rattle.ssq_desk.specs.First.{first_shown}
+use Rattle.ssq_desk.specs.Whole.{opening_in}
+use Rattle.ssq_desk.proofs.Beginnings.{start_is}
+use Rattle.ssq_drive.specs.Driven.{StopsFor, IsDriven, brings_due}
+use Rattle.ssq_drive.specs.Rounds.{CanBegin, IsFoundOf, IsOver, IsOwn, IsRound, IsRoundStop, RoundRan, RoundWent, first_of}
+use Rattle.ssq_drive.proofs.Counting.{counted}
+use Rattle.ssq_drive.proofs.Cutting.{AreNextCuts, GoOn, entries_go, first_of_two, stops_open}
+use Rattle.ssq_drive.proofs.Fitting.{FitsPlans, built_fits, next_fits, plans_on}
+use Rattle.ssq_drive.proofs.Idling.{err_ok}
+use Rattle.ssq_drive.proofs.Parting.{begin_as_counted}
+use Rattle.ssq_drive.proofs.Saying.{told_are, told_from, told_meant, same_from}
+use Rattle.ssq_drive.proofs.Starting.{planned_found}
+use Rattle.ssq_drive.proofs.Stopping.{stop_is}
+
+-- what a desk of a round shows in the end, and what it gives back
+pub record IsClosed {D L : Type 0} (stores logs : Type 0) (lines : L → List Line) (history : D → History) (faults : D → ℕ) (first : Shown D (Round L)) (log_faults : ℕ) (told : List Told) (end : Result Opened Cause) (desk : Shown D (Round L)) : Type 0 where
+  pub legal : IsLegal (Owns stores logs lines desk) history (opening_in lines) desk
+  pub order : IsInOrder desk.scope desk.core
+  pub why : IfSome desk.core.front.stop (StopsFor first.scope desk.core (faults first.disk) (faults desk.disk))
+  pub telling : DeskTold (Owns stores logs lines desk) (setting_of lines desk.opening) (cuts_of (opening_in lines) desk) desk.opening.opened.committed (acknowledged_in desk.core) told
+  pub over : (next : Opened) → end ≡ Ok next → (ready_of desk.scope desk.core ≡ ready.Over)
+      × IsNext (Owns stores logs lines desk) (setting_of lines desk.opening) (cuts_of (opening_in lines) desk) desk.scope.available desk.core desk.opening.opened next
+  pub stopped : (f : Cause) → end ≡ Err f → (desk.core.front.stop ≡ Some f) × IsStopOf (stores × logs) (setting_of lines desk.opening) (cuts_of (opening_in lines) desk) desk.core.front.committed f
+  pub faulty : desk.core.front.stop ≡ Some cause.LogFault → 0 < log_faults
+
+-- where a round may begin, its desk may
+pub desk_begins : {L : Type 0} (lines : L → List Line) (round : Round L) (r : Scope) → round.view.partitions ≡ round.opened.meta.partitions → CanBegin round.view.bound.now (length round.logs.items) round.opened r
+    → (first_ends (setting_of lines round) ≡ first_of round.opened) × IsDeskRound (setting_of lines round) round.opened r
+desk_begins lines round r same can =
+    let s = setting_of lines round in
+    let logs : length s.lines ≡ length (first_of round.opened) = length-map round.logs.items lines ∙ can.log_each in
+    let begin : first_ends s ≡ first_of round.opened = begin_as_counted round.opened.meta.parts s.lines logs in
+    let count : length (parts_in s) ≡ length (first_of round.opened) = sym (length-map (parts_in s) _) ∙ ap length begin in (
+      begin,
+      record {
+        plain = can.plain;
+        partitions = can.partitions ∙ sym same;
+        some_partitions = subst (λ (n : ℕ). 1 ≤ n) (sym same) can.some_partitions;
+        few_partitions = subst (λ (n : ℕ). n ≤ 64) (sym same) can.few_partitions;
+        streams = can.streams;
+        parts = can.parts ∙ sym count;
+        logs = logs ∙ sym count;
+        first = begin;
+        cap = can.cap;
+        few_streams = can.few_streams;
+        few_tasks = can.few_tasks;
+        few_lines = can.few_lines;
+        numbers = subst (λ (ends : Ends). HasNumbers (watermarked s.job.bound.streams) ends round.opened) (sym begin) can.numbers;
+        long = subst (λ (ends : Ends). (i : ℕ) → get_or (offsets_of (last_ends ends round.opened.plans)) i 0 ≤ get_or r.available i 0) (sym begin) can.long;
+      },
+    )
+
+leads_by : (one other : Type 0) → one → (job : Job) (r : Scope) (due : Cuts → ℕ → Bool) (es : List Entry) (s n : State) → Leads one job r due s es n → Leads other job r due s es n
+leads_by one other t job r due [] s n leads = leads
+leads_by one other t job r due (e ∷ es) s n leads =
+    let step = leads.1 in
+    (leads.0, record { may = step.may; moves = λ _. step.moves t; right = λ _. step.right t; core = step.core; cuts = step.cuts }, leads_by one other t job r due es leads.0 n leads.2)
+
+module _ {D L : Type 0} (stores logs : Type 0) (lines : L → List Line) (history : D → History) (faults : D → ℕ) (round : Round L) (r : Scope) (disk now : D) (es : List Entry)
+    (can : CanBegin round.view.bound.now (length round.logs.items) round.opened r) (begin : first_ends (setting_of lines round) ≡ first_of round.opened) (is : IsDeskRound (setting_of lines round) round.opened r)
+    (quiet : list_any brings_due es ≡ false) (log_faults : ℕ) (told : List Told) (end : Result Opened Cause)
+    (closed : IsClosed stores logs lines history faults (first_shown lines round disk r) log_faults told end (did (first_shown lines round disk r) now es)) where
+  abbrev s : Setting
+  s = setting_of lines round
+
+  abbrev found : Opened
+  found = round.opened
+
+  abbrev o : Opening
+  o = opening_in lines round
+
+  abbrev begun : Core
+  begun = first r o.start
+
+  abbrev c : Core
+  c = after_all r begun es
+
+  abbrev cuts : Cuts
+  cuts = cuts_all r o.cuts begun es
+
+  abbrev owned : Type 0
+  owned = Owns stores logs lines (did (first_shown lines round disk r) now es)
+
+  runs : Runs r begun es c
+  runs = runs_of owned o.job r o.due es (first_state o r (history disk)) (state closed.legal.0 c cuts) closed.legal.2
+
+  planned : begun.front.planned ≡ length found.plans
+  planned = planned_found found.committed (length found.plans) can.numbers.before can.numbers.near
+
+  -- the cuts go on
+  go : GoOn r begun c o.cuts cuts
+  go = entries_go r es begun c o.cuts runs (ap (cut_of (first_ends s) found.plans) planned) refl quiet
+
+  next_cuts : AreNextCuts r (length found.plans) c.front.planned (cut_of (first_of found) found.plans) cuts
+  next_cuts = subst (λ (n : ℕ). AreNextCuts r n c.front.planned (cut_of (first_of found) found.plans) cuts) planned
+      (subst (λ (ends : Ends). AreNextCuts r begun.front.planned c.front.planned (cut_of ends found.plans) cuts) begin go.cuts)
+
+  more : length found.plans ≤ c.front.planned
+  more = subst (λ (n : ℕ). n ≤ c.front.planned) planned go.more
+
+  begins_so : cuts 0 ≡ first_of found
+  begins_so = next_cuts.kept 0 (omega arith)
+
+  sound : IsSound r c
+  sound = closed.order.sound
+
+  acknowledged : found.committed + length told ≡ acknowledged_in c
+  acknowledged = closed.telling.count
+
+  -- all that are told are planned
+  below : acknowledged_in c ≤ c.front.committed
+  below = by (is_open c || c.front.settled)
+    where
+      by : (b : Bool) → (if b then c.front.committed else c.front.committed - 1) ≤ c.front.committed
+      by true = omega arith
+      by false = omega arith
+
+  within : found.committed + length told ≤ c.front.planned
+  within = (let a = acknowledged in let b = below in let d = sound.before in omega (arith, a, b, d))
+
+  all_open : is_open c ≡ true → acknowledged_in c ≡ c.front.committed
+  all_open opened = ap (λ (b : Bool). if b || c.front.settled then c.front.committed else c.front.committed - 1) opened
+
+  all_settled : c.front.settled ≡ true → acknowledged_in c ≡ c.front.committed
+  all_settled settled = by (is_open c) c.front.settled settled
+    where
+      by : (a b : Bool) → b ≡ true → (if a || b then c.front.committed else c.front.committed - 1) ≡ c.front.committed
+      by true b is = refl
+      by false true is = refl
+      by false false is = absurd (true≢false (sym is))
+
+  nothing : (f : Cause) → None ≡ Some f → ⊥
+  nothing f is = cc
+
+  -- why it stopped, by plans of these cuts
+  stop_told : (plans : List Plan) → FitsPlans (first_of found) found.plans plans c.front.planned cuts → (why : Cause) → end ≡ Err why
+      → IsRoundStop (stores × logs) s (cut_of (first_of found) plans) r.available (length plans) (found.committed + length told) (faults disk) (faults now) log_faults why
+  stop_told plans fits why stops =
+      let was = closed.stopped why stops in
+      let count = fits.count in
+      subst (λ (n : ℕ). IsRoundStop (stores × logs) s (cut_of (first_of found) plans) r.available n (found.committed + length told) (faults disk) (faults now) log_faults why) (sym count)
+      (stop_is (stores × logs) s cuts (cut_of (first_of found) plans) r.available c.front.planned c.front.committed (found.committed + length told) (faults disk) (faults now) log_faults r c why fits.are line was.1
+      (subst (λ (o : Option Cause). IfSome o (StopsFor r c (faults disk) (faults now))) was.0 closed.why) (λ same. closed.faulty (was.0 ∙ ap Some same)) full)
+    where
+      line : is_of_line why ≡ true → (c.front.committed ≡ found.committed + length told) × (found.committed + length told < c.front.planned)
+      line of_line =
+          let opened = stops_open r es begun c runs (λ f none. absurd (nothing f none)) why (closed.stopped why stops).0 of_line in
+          let less = nat_lt-less c.front.committed c.front.planned opened in
+          let all = sym (all_open opened) ∙ sym acknowledged in
+          (all, omega (arith, less, all))
+
+      full : IsFull r c → (c.front.planned ≡ 4294967295) × (is_behind (cut_of (first_of found) plans c.front.planned) r.available ≡ true)
+      full limit = (limit.0, ap (λ (ends : Ends). is_behind ends r.available) (fits.are c.front.planned (omega arith) ∙ go.last) ∙ first_of_two (is_behind c.ends r.available) c.front.due limit.3 go.quiet)
+
+  -- where it is over
+  is_over : (next : Opened) → end ≡ Ok next → IsOver s.job.bound (length round.logs.items) r found next.plans told next
+  is_over next ends =
+      let was = closed.over next ends in
+      let n = was.1 in
+      let o = over_is r c was.0 in
+      let all : acknowledged_in c ≡ c.front.committed = all_settled o.2 in
+      let fits = next_fits owned s (first_of found) cuts r.available c found next n begins_so in
+      let count = n.planned in
+      let up = o.1 in
+      let before = sound.before in
+      let done = n.committed_is in
+      let told_all = acknowledged in
+      let same_first : first_ends s ≡ first_of next = begin ∙ ap (λ (m : Meta). begins m.parts) (sym n.meta_is) in
+      let same_meta : found.meta ≡ next.meta = sym n.meta_is in
+      record {
+        plans_are = refl;
+        committed = omega (arith, count, up, before, done);
+        all = omega (arith, count, up, before, all, told_all);
+        meta_is = n.meta_is;
+        covered = ap (λ (ends : Ends). is_behind ends r.available) (ap (cut_of (first_of found) next.plans) count ∙ fits.are c.front.planned (omega arith) ∙ go.last) ∙ o.3;
+        can = record {
+          plain = can.plain;
+          partitions = can.partitions ∙ ap (λ (m : Meta). m.partitions) same_meta;
+          some_partitions = subst (λ (m : Meta). 1 ≤ m.partitions) same_meta can.some_partitions;
+          few_partitions = subst (λ (m : Meta). m.partitions ≤ 64) same_meta can.few_partitions;
+          streams = subst (λ (m : Meta). length m.parts ≡ length s.job.bound.streams) same_meta can.streams;
+          few_streams = can.few_streams;
+          parts = subst (λ (m : Meta). length r.available ≡ length (begins m.parts)) same_meta can.parts;
+          log_each = subst (λ (m : Meta). length round.logs.items ≡ length (begins m.parts)) same_meta can.log_each;
+          cap = can.cap;
+          few_tasks = can.few_tasks;
+          few_lines = can.few_lines;
+          numbers = subst (λ (ends : Ends). HasNumbers (watermarked s.job.bound.streams) ends next) same_first n.numbers;
+          long = subst (λ (ends : Ends). (i : ℕ) → get_or (offsets_of (last_ends ends next.plans)) i 0 ≤ get_or r.available i 0) same_first n.within;
+        };
+      }
+
+  -- whatever the disk tells
+  went_by : (plans : List Plan) → FitsPlans (first_of found) found.plans plans c.front.planned cuts → ((next : Opened) → end ≡ Ok next → next.plans ≡ plans)
+      → RoundWent (stores × logs) s (length round.logs.items) r found (faults disk) (faults now) log_faults plans told end
+  went_by plans fits same = record {
+    on = plans_on r (first_of found) found.plans plans c.front.planned cuts next_cuts fits;
+    told_are = told_are owned s cuts (first_of found) plans c.front.planned fits.are told found.committed closed.telling.each within;
+    few = (let count = fits.count in let less = within in omega (arith, count, less));
+    over = λ next ends. subst (λ (l : List Plan). IsOver s.job.bound (length round.logs.items) r found l told next) (same next ends) (is_over next ends);
+    stopped = λ why stops. stop_told plans fits why stops;
+  }
+
+  module _ (law_parts : PartsAreFound) (law_terms : TasksHaveTerms) (law_opens : DeskOpensAsFound) (law_run : RoundIsRun (stores × logs)) (law_over : RoundLeavesFound (stores × logs)) (t : stores × logs) (own : IsOwn s r (history disk) found) where
+    starts_so : first_ends s ≡ starts (found_from 0 own.lens.streams)
+    starts_so = (law_parts s s.job.bound own.asks own.lens own.setting).1
+
+    abbrev own_desk : IsDeskOf (asked s.job.bound own.asks own.lens) (job_of s) (files_now (history disk)) found
+    own_desk = record {
+      desk = own.found_is.desk;
+      is = own.found_is.is;
+      cuts = own.found_is.cuts ∙ ap (λ (ends : Ends). cut_of ends found.plans) (sym begin ∙ starts_so);
+      planned = own.found_is.planned;
+      committed = own.found_is.committed;
+    }
+
+    is_owned : owned
+    is_owned = (
+      t.0,
+      (
+        t.1,
+        record {
+          asks = own.asks;
+          lens = own.lens;
+          setting = own.setting;
+          scope = own.scope;
+          lines = own.lines;
+          files = files_now (history disk);
+          desk = own_desk;
+          jobs = record { plans = own.found_is.plans; seen = own.found_is.seen };
+        },
+      ),
+    )
+
+    abbrev has_terms : HasTerms s r own.lens
+    has_terms = law_terms s s.job.bound own.asks own.lens r own.setting own.lines own.scope
+
+    begins_on : Begins (job_of s) r never has_terms.0 o.start (first_state o r (history disk))
+    begins_on = record {
+      files = files_now (history disk);
+      settled = own.settled;
+      desk = own.found_is.desk;
+      is = own.found_is.is;
+      at = subst (λ (ends : Ends). IsOpenedAt (job_of s) r never has_terms.0 (start_at ends found) own.found_is.desk) (sym starts_so)
+          (law_opens s s.job.bound own.asks own.lens r (files_now (history disk)) found own.setting own.lines own.scope has_terms.0 has_terms.1 own_desk);
+      core = refl;
+      cuts = ap (λ (ends : Ends). cut_of ends found.plans) begin ∙ sym own.found_is.cuts;
+    }
+
+    leads_on : Leads (stores × logs) (job_of s) r never (first_state o r (history disk)) es (state (history now) c cuts)
+    leads_on = subst (λ (h : History). Leads (stores × logs) (job_of s) r never (first_state o r (history disk)) es (state h c cuts)) (closed.legal.1 is_owned)
+        (leads_by owned (stores × logs) is_owned (job_of s) r never es (first_state o r (history disk)) (state closed.legal.0 c cuts) closed.legal.2)
+
+    is_run : WasRun (stores × logs) (job_of s) (history disk) (history now) (map (λ (x : Told). x.epoch) told)
+    is_run =
+        let number = counted r o.start es c (first_sound r o.start (start_is s found r is)) runs in
+        let here = acknowledged in
+        let length_told = length-map told (λ (x : Told). x.epoch) in
+        subst (WasRun (stores × logs) (job_of s) (history disk) (history now))
+        (same_from found.committed (acknowledged_of r o.start es) (map (λ (x : Told). x.epoch) told) (tells_all r o.start es c runs).in_order (told_from owned s cuts told found.committed closed.telling.each) (omega (arith, number, here, length_told)))
+        (law_run t (job_of s) r never has_terms.0 o.start es (first_state o r (history disk)) (state (history now) c cuts) begins_on leads_on)
+
+    -- what it leaves
+    left : (next : Opened) → end ≡ Ok next → IsLeft (job_of s) (state (history now) c cuts) (cut_of (first_of next) next.plans)
+    left next ends =
+        let was = closed.over next ends in
+        let n = was.1 in
+        let over = over_is r c was.0 in
+        let fits = next_fits owned s (first_of found) cuts r.available c found next n begins_so in
+        let same : first_of found ≡ first_of next = ap (λ (m : Meta). begins m.parts) (sym n.meta_is) in
+        law_over t (job_of s) r never has_terms.0 o.start es (first_state o r (history disk)) (state (history now) c cuts) begins_on leads_on over.0 over.2
+        (nat_lt-not c.front.committed c.front.planned over.1) (cut_of (first_of next) next.plans)
+        (subst (λ (ends : Ends). AreSameUpTo (cut_of ends next.plans) cuts c.front.planned) same fits.are)
+
+    found_next : (next : Opened) → end ≡ Ok next → IsFoundOf s (files_now (history now)) next
+    found_next next ends =
+        let was = closed.over next ends in
+        let n = was.1 in
+        let l = left next ends in
+        let fits = next_fits owned s (first_of found) cuts r.available c found next n begins_so in
+        let same : first_of found ≡ first_of next = ap (λ (m : Meta). begins m.parts) (sym n.meta_is) in
+        let cut_is : (k : ℕ) → k ≤ c.front.planned → l.desk.cuts k ≡ cuts k = λ k le. ap (λ (x : Cuts). x k) l.are ∙ ap (λ (ends : Ends). cut_of ends next.plans k) (sym same) ∙ fits.are k le in
+        let law = says_same s.job.bound (parts_in s) (offsets cuts) (offsets l.desk.cuts) c.front.planned (λ k le. ap offsets_of (sym (cut_is k le))) in
+        let count = n.planned in
+        let done = n.committed_is in
+        let before = sound.before in
+        record {
+          desk = l.desk;
+          is = l.is;
+          cuts = l.are;
+          planned = l.planned ∙ sym n.planned;
+          committed = l.committed ∙ sym n.committed_is;
+          plans = λ e default less.
+              let mark = law.same_watermark e (omega (arith, less, count)) in
+              let to = sym (cut_is (e + 1) (omega (arith, less, count))) in
+              n.plans_are is_owned e default less ∙ (λ i. (let plan : Plan = record { epoch = e; watermark = mark i; ends = to i } in plan));
+          seen = inr (n.seen_is is_owned ∙ (let times = λ (d : Delay). law.same_seen d.0 next.committed (omega (arith, done, before)) in
+              λ i. map (λ (d : Delay). (let line : SeenBy = record { stream = d.0; time = times d i } in line)) (delays s.job.bound)));
+        }
+
+    ran_by : (plans : List Plan) → FitsPlans (first_of found) found.plans plans c.front.planned cuts → RoundRan (stores × logs) s (history disk) (history now) (cut_of (first_of found) plans) told end
+    ran_by plans fits = record {
+      run = is_run;
+      meant = told_meant owned s cuts (first_of found) plans c.front.planned fits.are is_owned told found.committed closed.telling.each within;
+      settled = λ next ends. (left next ends).settled;
+      found = found_next;
+    }
+
+  -- by plans of its cuts
+  round_by : (plans : List Plan) → FitsPlans (first_of found) found.plans plans c.front.planned cuts → ((next : Opened) → end ≡ Ok next → next.plans ≡ plans)
+      → PartsAreFound → TasksHaveTerms → DeskOpensAsFound → RoundIsRun (stores × logs) → RoundLeavesFound (stores × logs)
+      → IsRound (stores × logs) s (length round.logs.items) r found (history disk) (history now) (faults disk) (faults now) log_faults told end
+  round_by plans fits same parts terms opens run over = record { plans = plans; went = went_by plans fits same; ran = λ t own. ran_by parts terms opens run over t own plans fits }
+
+abbrev opened_or : Opened → Result Opened Cause → List Plan
+opened_or next (Ok x) = x.plans
+opened_or next (Err f) = next.plans
+
+-- how a round went, and what it did, where these entries came
+round_is : {D L : Type 0} (stores logs : Type 0) (lines : L → List Line) (history : D → History) (faults : D → ℕ) (round : Round L) (r : Scope) (disk now : D) (es : List Entry)
+    → CanBegin round.view.bound.now (length round.logs.items) round.opened r → first_ends (setting_of lines round) ≡ first_of round.opened → IsDeskRound (setting_of lines round) round.opened r
+    → list_any brings_due es ≡ false → (log_faults : ℕ) (told : List Told) (end : Result Opened Cause)
+    → IsClosed stores logs lines history faults (first_shown lines round disk r) log_faults told end (did (first_shown lines round disk r) now es)
+    → PartsAreFound → TasksHaveTerms → DeskOpensAsFound → RoundIsRun (stores × logs) → RoundLeavesFound (stores × logs)
+    → IsRound (stores × logs) (setting_of lines round) (length round.logs.items) r round.opened (history disk) (history now) (faults disk) (faults now) log_faults told end
+round_is stores logs lines history faults round r disk now es can begin is quiet log_faults told (Ok next) closed parts terms opens run over =
+    let n = (closed.over next refl).1 in
+    let fits = next_fits _ (setting_of lines round) (first_of round.opened) _ r.available _ round.opened next n (begins_so stores logs lines history faults round r disk now es can begin is quiet log_faults told (Ok next) closed) in
+    round_by stores logs lines history faults round r disk now es can begin is quiet log_faults told (Ok next) closed next.plans fits (λ other ends. sym (ap (opened_or next) ends)) parts terms opens run over
+round_is stores logs lines history faults round r disk now es can begin is quiet log_faults told (Err why) closed parts terms opens run over =
+    let next = next_cuts stores logs lines history faults round r disk now es can begin is quiet log_faults told (Err why) closed in
+    let below = more stores logs lines history faults round r disk now es can begin is quiet log_faults told (Err why) closed in
+    let fits = built_fits r (first_of round.opened) round.opened.plans _ _ next below in
+    round_by stores logs lines history faults round r disk now es can begin is quiet log_faults told (Err why) closed _ fits (λ other ends. absurd (err_ok why other ends)) parts terms opens run over
+
+-- how a round went, by its desk in the end
+pub round_closed : {D L : Type 0} (stores logs : Type 0) (lines : L → List Line) (history : D → History) (faults : D → ℕ) (round : Round L) (r : Scope) (disk : D) (desk : Shown D (Round L)) (back : D)
+    → round.view.partitions ≡ round.opened.meta.partitions → CanBegin round.view.bound.now (length round.logs.items) round.opened r → IsDriven faults (first_shown lines round disk r) desk → back ≡ desk.disk
+    → (log_faults : ℕ) (told : List Told) (end : Result Opened Cause) → IsClosed stores logs lines history faults (first_shown lines round disk r) log_faults told end desk
+    → PartsAreFound → TasksHaveTerms → DeskOpensAsFound → RoundIsRun (stores × logs) → RoundLeavesFound (stores × logs)
+    → IsRound (stores × logs) (setting_of lines round) (length round.logs.items) r round.opened (history disk) (history back) (faults disk) (faults back) log_faults told end
+round_closed stores logs lines history faults round r disk desk back same can driven is_back log_faults told end closed parts terms opens run over =
+    let b = desk_begins lines round r same can in
+    subst (λ (d : _). IsRound (stores × logs) (setting_of lines round) (length round.logs.items) r round.opened (history disk) (history d) (faults disk) (faults d) log_faults told end) (sym is_back)
+    (round_is stores logs lines history faults round r disk desk.disk driven.entries.0 can b.0 b.1 driven.quiet log_faults told end
+    (subst (IsClosed stores logs lines history faults (first_shown lines round disk r) log_faults told end) driven.entries.1 closed) parts terms opens run over)

@@ -1,0 +1,156 @@
+-- What a task that is done on one thread does to a desk.
+use Rattle.std.proofs.Common.{◌≡◌, ◌≤◌, ◌||◌, ℕ, zero, suc, Bool, true, false, true≢false, List, [], ◌∷◌, set, Option, Some, None, IfSome, Result, Ok, Err, IfErr, if◌then◌else◌, sym, refl, ap, ◌∙◌, subst, inl, inr, append_assoc, le_refl}
+use Rattle.std.specs.List.{list_any}
+use Rattle.ssq_outside.specs.declared.gate.TaskId.{TaskId}
+use Rattle.ssq_outside.specs.declared.gate.Kind.{Kind}
+use Rattle.ssq_outside.specs.declared.gate.Kind.TheVariants as kind
+use Rattle.ssq_outside.specs.Faults.{Rises}
+use Rattle.ssq_board.specs.declared.front.Cause.{Cause}
+use Rattle.ssq_board.specs.declared.front.Entry.{Entry}
+use Rattle.ssq_board.specs.declared.front.Entry.TheVariants as entry
+use Rattle.ssq_board.specs.declared.front.Place.{Place}
+use Rattle.ssq_board.specs.declared.front.Place.TheVariants as place
+use Rattle.ssq_board.specs.Core.{Scope, Core, May, after, after_all, due, moved, or_stop, tasks_of, with_tasks}
+use Rattle.ssq_board.specs.Shown.{IsSound}
+use Rattle.ssq_board.specs.Rounds.{IsAtRest, Worked, brings_rows, is_away}
+use Rattle.ssq_board.proofs.Falls.{work_falls}
+use Rattle.ssq_board.proofs.Resting.{work_turn}
+use Rattle.ssq_board.proofs.Sounds.{step_sound}
+use Rattle.ssq_ledger.specs.Shown.{Shown, HasRisen, did, answer}
+use Rattle.ssq_drive.specs.Driven.{StopsFor, IsTurn}
+use Rattle.ssq_desk.specs.Published.{IsOut, brings}
+use Rattle.ssq_drive.proofs.Causes.{report_stops}
+use Rattle.ssq_drive.proofs.Turning.{Goes, goes_turn, same_here, rests, runs_rest, none_left, risen_stops}
+
+or_false : (a b : Bool) → (a || b) ≡ false → (a ≡ false) × (b ≡ false)
+or_false false b h = (refl, h)
+or_false true b h = absurd (true≢false h)
+
+-- a task that went and came back is with nobody
+back_here : (ps : List Place) (i : ℕ) (p : Place) (f : Option Cause) → list_any is_away ps ≡ false → list_any is_away (set (set ps i p) i (place.Back f)) ≡ false
+back_here [] i p f h = refl
+back_here (q ∷ qs) zero p f h = (or_false (is_away q) (list_any is_away qs) h).1
+back_here (q ∷ qs) (suc i) p f h = let b = or_false (is_away q) (list_any is_away qs) h in (λ j. b.0 j || back_here qs i p f b.1 j)
+
+work_here : (r : Scope) (c : Core) (t : TaskId) (f : Option Cause) → ((k : Kind) → list_any is_away (tasks_of k c) ≡ false) → (k : Kind) → list_any is_away (tasks_of k (after r (after r c (entry.Claim t)) (entry.Report t f))) ≡ false
+work_here r c t f h = same_here (moved (moved c t place.Away) t (place.Back f)) (after r (after r c (entry.Claim t)) (entry.Report t f)) refl refl refl (by t.kind)
+  where
+    by : (j k : Kind) → list_any is_away (tasks_of k (with_tasks j (with_tasks j c (set (tasks_of j c) t.number place.Away)) (set (tasks_of j (with_tasks j c (set (tasks_of j c) t.number place.Away))) t.number (place.Back f)))) ≡ false
+    by kind.Map kind.Map = back_here c.maps t.number place.Away f (h kind.Map)
+    by kind.Reduce kind.Reduce = back_here c.reduces t.number place.Away f (h kind.Reduce)
+    by kind.Out kind.Out = back_here c.outs t.number place.Away f (h kind.Out)
+    by j kind.Upkeep = refl
+    by kind.Map kind.Reduce = h kind.Reduce
+    by kind.Map kind.Out = h kind.Out
+    by kind.Reduce kind.Map = h kind.Map
+    by kind.Reduce kind.Out = h kind.Out
+    by kind.Out kind.Map = h kind.Map
+    by kind.Out kind.Reduce = h kind.Reduce
+    by kind.Upkeep kind.Map = h kind.Map
+    by kind.Upkeep kind.Reduce = h kind.Reduce
+    by kind.Upkeep kind.Out = h kind.Out
+
+module _ (r : Scope) (c : Core) (t : TaskId) (before now : ℕ) (sound : IsSound r c) (rest : IsAtRest c) (may : May r c (entry.Claim t)) where
+  -- a task that publishes nothing
+  report_goes : (f : Option Cause) → brings_rows t.kind f ≡ false
+      → ((g : Cause) → due (after r c (entry.Claim t)) t f ≡ Some g → StopsFor r (after_all r c (entry.Claim t ∷ entry.Report t f ∷ [])) before now g)
+      → Goes r c (after_all r c (entry.Claim t ∷ entry.Report t f ∷ [])) before now
+  report_goes f none why =
+      let n = after_all r c (entry.Claim t ∷ entry.Report t f ∷ []) in
+      let d = due (after r c (entry.Claim t)) t f in
+      let w : Worked r c n = (t, f, may, inl (ap (λ (b : Bool). after_all r c (entry.Claim t ∷ entry.Report t f ∷ (if b then entry.OutFile c.front.committed ∷ [] else []))) (sym none))) in
+      record {
+        running = may.0;
+        less = work_falls r c n w;
+        rest = rests n (work_here r c t f rest.here) (work_turn r c n sound rest w);
+        cause = subst (λ (o : Option Cause). IfSome o (StopsFor r n before now)) (sym (ap (λ (o : Option Cause). or_stop o d) may.0)) (given n d why);
+      }
+    where
+      given : (n : Core) (o : Option Cause) → ((g : Cause) → o ≡ Some g → StopsFor r n before now g) → IfSome o (StopsFor r n before now)
+      given n None why = tt
+      given n (Some g) why = why g refl
+
+  -- an out task whose rows are published
+  rows_goes : (e : ℕ) → brings_rows t.kind None ≡ true → e ≡ c.front.committed → Goes r c (after_all r c (entry.Claim t ∷ entry.Report t None ∷ entry.OutFile e ∷ [])) before now
+  rows_goes e rows is =
+      let n = after_all r c (entry.Claim t ∷ entry.Report t None ∷ entry.OutFile e ∷ []) in
+      let w : Worked r c n = (
+        t,
+        None,
+        may,
+        inl (ap (λ (x : ℕ). after_all r c (entry.Claim t ∷ entry.Report t None ∷ entry.OutFile x ∷ [])) is
+            ∙ ap (λ (b : Bool). after_all r c (entry.Claim t ∷ entry.Report t None ∷ (if b then entry.OutFile c.front.committed ∷ [] else []))) (sym rows)),
+      ) in
+      record { running = may.0; less = work_falls r c n w; rest = runs_rest n refl (work_turn r c n sound rest w); cause = tt }
+
+  -- and one whose rows could not be published
+  unpublished_goes : (f : Option Cause) (g : Cause) → StopsFor r (after_all r c (entry.Claim t ∷ entry.Report t f ∷ entry.Stop g ∷ [])) before now g → Goes r c (after_all r c (entry.Claim t ∷ entry.Report t f ∷ entry.Stop g ∷ [])) before now
+  unpublished_goes f g why =
+      let mid = after_all r c (entry.Claim t ∷ entry.Report t f ∷ []) in
+      let n = after_all r c (entry.Claim t ∷ entry.Report t f ∷ entry.Stop g ∷ []) in
+      record { running = may.0; less = none_left r c n may.0 refl; rest = rests n (same_here mid n refl refl refl (work_here r c t f rest.here)) (inr refl); cause = why }
+
+module _ {D O : Type 0} where
+  -- entries behind a claim
+  behind : (old mid new : Shown D O) (t : TaskId) (es : List Entry) → mid ≡ did old old.disk (entry.Claim t ∷ []) → new ≡ did mid new.disk es → new ≡ did old new.disk (entry.Claim t ∷ es)
+  behind old mid new t es claimed is =
+      let more = append_assoc old.history (entry.Claim t ∷ []) es in
+      is ∙ ap (λ (m : Shown D O). did m new.disk es) claimed
+      ∙ (λ i. record { opening = old.opening; opened = old.opened; scope = old.scope; disk = new.disk; core = after_all old.scope old.core (entry.Claim t ∷ es); history = more i })
+
+  -- the disk is as it was
+  here : (old new : Shown D O) (es : List Entry) → new ≡ did old old.disk es → new ≡ did old new.disk es
+  here old new es is = is ∙ ap (λ (d : D). did old d es) (sym (ap (λ s. s.disk) is))
+
+module _ {D O : Type 0} (faults : D → ℕ) (old mid new : Shown D O) (t : TaskId) (sound : IsSound old.scope old.core) (rest : IsAtRest old.core) (may : May old.scope old.core (entry.Claim t))
+    (claimed : mid ≡ did old old.disk (entry.Claim t ∷ [])) where
+  claimed_core : mid.core ≡ after old.scope old.core (entry.Claim t)
+  claimed_core = ap (λ s. s.core) claimed
+
+  claimed_faults : faults mid.disk ≡ faults old.disk
+  claimed_faults = ap (λ s. faults s.disk) claimed
+
+  -- a map or a reduce task is back, with a cause that is none of the desk's
+  pub reported : (f : Option Cause) → new ≡ did mid mid.disk (entry.Report t f ∷ []) → brings_rows t.kind f ≡ false
+      → ((g : Cause) → f ≡ Some g → (r : Scope) (n : Core) (before now : ℕ) → StopsFor r n before now g) → IsTurn faults old new
+  reported f is none own =
+      let r = old.scope in
+      let c = old.core in
+      let n = after_all r c (entry.Claim t ∷ entry.Report t f ∷ []) in
+      let calm = (step_sound r c (entry.Claim t) may sound).calm may.0 t.kind in
+      let same : faults new.disk ≡ faults old.disk = ap (λ s. faults s.disk) is ∙ claimed_faults in
+      goes_turn faults old new (entry.Claim t ∷ entry.Report t f ∷ []) (behind old mid new t (entry.Report t f ∷ []) claimed (here mid new (entry.Report t f ∷ []) is)) refl
+      (report_goes r c t (faults old.disk) (faults new.disk) sound rest may f none
+      (report_stops r (after r c (entry.Claim t)) n t f (faults old.disk) (faults new.disk) may.0 calm (λ g own_is. own g own_is r n (faults old.disk) (faults new.disk))))
+      (subst (λ (x : ℕ). faults old.disk ≤ x) (sym same) (le_refl (faults old.disk)))
+
+  -- the out task is back
+  pub published : (f : Option Cause) (result : Result (Unit {0}) Cause) → brings_rows t.kind None ≡ true → ((g : Cause) → brings_rows t.kind (Some g) ≡ false)
+      → IsOut (brings mid.core.front.stop f) mid new t f result (Rises (faults mid.disk) (faults new.disk)) → IfErr result (λ g. HasRisen g (faults mid.disk) (faults new.disk))
+      → faults mid.disk ≤ faults new.disk → IsTurn faults old new
+  published f result rows no_rows out risen counted =
+      let runs : mid.core.front.stop ≡ None = ap (λ (x : Core). x.front.stop) claimed_core ∙ may.0 in
+      by f result (subst (λ (o : Option Cause). IsOut (brings o f) mid new t f result (Rises (faults mid.disk) (faults new.disk))) runs out)
+      (subst (λ (x : ℕ). IfErr result (λ g. HasRisen g x (faults new.disk))) claimed_faults risen)
+      (subst (λ (x : ℕ). x ≤ faults new.disk) claimed_faults counted)
+    where
+      by : (f : Option Cause) (result : Result (Unit {0}) Cause) → IsOut (brings None f) mid new t f result (Rises (faults mid.disk) (faults new.disk)) → IfErr result (λ g. HasRisen g (faults old.disk) (faults new.disk))
+          → faults old.disk ≤ faults new.disk → IsTurn faults old new
+      by None (Ok x) out risen counted =
+          let es = entry.Report t None ∷ entry.OutFile mid.core.front.committed ∷ [] in
+          goes_turn faults old new (entry.Claim t ∷ es) (behind old mid new t es claimed out.0) refl
+          (rows_goes old.scope old.core t (faults old.disk) (faults new.disk) sound rest may mid.core.front.committed rows (ap (λ (x : Core). x.front.committed) claimed_core)) counted
+      by None (Err g) out risen counted =
+          let es = entry.Report t None ∷ entry.Stop g ∷ [] in
+          goes_turn faults old new (entry.Claim t ∷ es) (behind old mid new t es claimed out.1.1) refl
+          (unpublished_goes old.scope old.core t (faults old.disk) (faults new.disk) sound rest may None g (risen_stops old.scope (after_all old.scope old.core (entry.Claim t ∷ es)) g (faults old.disk) (faults new.disk) risen)) counted
+      by (Some f) result out risen counted =
+          let r = old.scope in
+          let c = old.core in
+          let n = after_all r c (entry.Claim t ∷ entry.Report t (Some f) ∷ []) in
+          let es = entry.Report t (Some f) ∷ [] in
+          goes_turn faults old new (entry.Claim t ∷ es) (behind old mid new t es claimed out.0) refl
+          (report_goes r c t (faults old.disk) (faults new.disk) sound rest may (Some f) (no_rows f)
+          (λ g is. risen_stops r n g (faults old.disk) (faults new.disk)
+          (subst (λ (x : Result (Unit {0}) Cause). IfErr x (λ h. HasRisen h (faults old.disk) (faults new.disk))) (out.1 ∙ ap (λ (x : Core). answer (due x t (Some f))) claimed_core ∙ ap answer is) risen)))
+          counted

@@ -1,0 +1,15 @@
+use Rattle.std.proofs.Common.{sym, subst}
+use Rattle.ssq_ledger.specs.Shown.{Shown}
+use Rattle.ssq_desk.specs.declared.round.Round.{Round}
+use Rattle.ssq_drive.specs.Driven.{IsDriven}
+use Rattle.ssq_drive.proofs.Going.{undriven, driven_more}
+use Rattle.ssq_drive.proofs.drive.run_desk.Goals as goal
+
+pub loop-alloc-init : goal.loop-alloc-init
+loop-alloc-init g c = undriven g.D.Disk.faults c.args.desk.now c.requires.rest
+
+pub loop-alloc-preserved : goal.loop-alloc-preserved
+loop-alloc-preserved g c = driven_more g.D.Disk.faults c.args.desk.now c.loop-alloc.desk c.turn.new.desk c.loop-alloc.invariant (c.turn.ensures.done c.loop-alloc-test.true).driven
+
+pub returns-clause-driven : goal.returns-clause-driven
+returns-clause-driven g c = subst (λ (x : Shown g.row.D.Denot (Round g.row.L.Denot)). IsDriven g.D.Disk.faults c.args.desk.now x) (sym (c.turn.ensures.end c.loop-alloc-test.false).0) c.loop-alloc.invariant

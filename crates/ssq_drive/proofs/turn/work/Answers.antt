@@ -1,0 +1,79 @@
+use Rattle.std.proofs.Common.{[], ◌∷◌, ap, ◌∙◌, subst}
+use Rattle.ssq_outside.specs.declared.gate.TaskId.{TaskId}
+use Rattle.ssq_board.specs.declared.front.Entry.TheVariants as entry
+use Rattle.ssq_board.specs.Core.{May}
+use Rattle.ssq_ledger.specs.Shown.{did}
+use Rattle.ssq_desk.specs.declared.task.Task.{Task}
+use Rattle.ssq_desk.specs.Tasks.{id_of}
+use Rattle.ssq_desk.specs.Handed.{IsTaskOf}
+use Rattle.ssq_desk.specs.Results.{cause_of_feed, cause_of_reduce, fault_of}
+use Rattle.ssq_desk.specs.Published.{cause_of_left}
+use Rattle.ssq_drive.proofs.Doing.{fed_may, fed_turn, reduced_may, reduced_turn, gathered_may, gathered_turn}
+use Rattle.ssq_drive.proofs.turn.work.Goals as goal
+
+pub report_fed-requires-clause-may : goal.report_fed-requires-clause-may
+report_fed-requires-clause-may g c =
+    let mid = c.claim.new.self in
+    let done = c.feed.result in
+    let id = ap (λ (x : Task g.row.L.Denot g.row.D-Stage.Denot g.row.D-Stage-Sealed.Denot). id_of x) c.in-Map.is in
+    fed_may g.L.Log.tells g.L.Log.lines g.L.Log.available g.L.Log.answers g.L.Log.faults c.in-Map.task done c.feed.ensures mid.scope mid.core (λ fault. subst (λ (t : TaskId). May mid.scope mid.core (entry.Report t fault)) id (c.in-Some.ensures.back fault)) (fault_of (cause_of_feed done.stream done.part) done.outcome)
+
+pub report_fed-requires-clause-of : goal.report_fed-requires-clause-of
+report_fed-requires-clause-of g c = (
+  c.in-Map.task,
+  subst (λ (x : Task g.row.L.Denot g.row.D-Stage.Denot g.row.D-Stage-Sealed.Denot). IsTaskOf g.D.Disk.tells g.L.Log.tells g.L.Log.lines g.L.Log.available g.L.Log.answers g.L.Log.faults g.D.Stage.Stage.written c.claim.new.self x) c.in-Map.is c.in-Some.ensures.task,
+  c.feed.ensures,
+)
+
+pub returns-in-Map : goal.returns-in-Map
+returns-in-Map g c =
+    let old = c.args.desk.now in
+    let id = ap (λ (x : Task g.row.L.Denot g.row.D-Stage.Denot g.row.D-Stage-Sealed.Denot). id_of x) c.in-Map.is in
+    let may = subst (λ (t : TaskId). May old.scope old.core (entry.Claim t)) id c.in-Some.ensures.claimed.0 in
+    let claimed = c.in-Some.ensures.claimed.1 ∙ ap (λ (t : TaskId). did old old.disk (entry.Claim t ∷ [])) id in
+    fed_turn g.L.Log.tells g.L.Log.lines g.L.Log.available g.L.Log.answers g.L.Log.faults c.in-Map.task c.feed.result c.feed.ensures g.D.Disk.faults old c.claim.new.self c.report_fed.new.self c.is_in_order.ensures.sound c.requires.rest may claimed c.report_fed.ensures.did
+
+pub report_reduced-requires-clause-may : goal.report_reduced-requires-clause-may
+report_reduced-requires-clause-may g c =
+    let mid = c.claim.new.self in
+    let done = c.reduce.result in
+    let id = ap (λ (x : Task g.row.L.Denot g.row.D-Stage.Denot g.row.D-Stage-Sealed.Denot). id_of x) c.in-Reduce.is in
+    reduced_may c.in-Reduce.task done c.reduce.ensures mid.scope mid.core (λ fault. subst (λ (t : TaskId). May mid.scope mid.core (entry.Report t fault)) id (c.in-Some.ensures.back fault)) (fault_of cause_of_reduce done.outcome)
+
+pub report_reduced-requires-clause-of : goal.report_reduced-requires-clause-of
+report_reduced-requires-clause-of g c = (
+  c.in-Reduce.task,
+  subst (λ (x : Task g.row.L.Denot g.row.D-Stage.Denot g.row.D-Stage-Sealed.Denot). IsTaskOf g.D.Disk.tells g.L.Log.tells g.L.Log.lines g.L.Log.available g.L.Log.answers g.L.Log.faults g.D.Stage.Stage.written c.claim.new.self x) c.in-Reduce.is c.in-Some.ensures.task,
+  c.reduce.ensures,
+)
+
+pub returns-in-Reduce : goal.returns-in-Reduce
+returns-in-Reduce g c =
+    let old = c.args.desk.now in
+    let id = ap (λ (x : Task g.row.L.Denot g.row.D-Stage.Denot g.row.D-Stage-Sealed.Denot). id_of x) c.in-Reduce.is in
+    let may = subst (λ (t : TaskId). May old.scope old.core (entry.Claim t)) id c.in-Some.ensures.claimed.0 in
+    let claimed = c.in-Some.ensures.claimed.1 ∙ ap (λ (t : TaskId). did old old.disk (entry.Claim t ∷ [])) id in
+    reduced_turn c.in-Reduce.task c.reduce.result c.reduce.ensures g.D.Disk.faults old c.claim.new.self c.report_reduced.new.self c.is_in_order.ensures.sound c.requires.rest may claimed c.report_reduced.ensures.did
+
+pub publish_out-requires-clause-may : goal.publish_out-requires-clause-may
+publish_out-requires-clause-may g c =
+    let mid = c.claim.new.self in
+    let done = c.gather.result in
+    let id = ap (λ (x : Task g.row.L.Denot g.row.D-Stage.Denot g.row.D-Stage-Sealed.Denot). id_of x) c.in-Out.is in
+    gathered_may g.D.Stage.Stage.tells g.D.Stage.Stage.written g.D.Stage.Stage.sealed g.D.Stage.Stage.faults c.in-Out.task done c.gather.ensures mid.scope mid.core (λ fault. subst (λ (t : TaskId). May mid.scope mid.core (entry.Report t fault)) id (c.in-Some.ensures.back fault)) (fault_of cause_of_left done.outcome)
+
+pub publish_out-requires-clause-of : goal.publish_out-requires-clause-of
+publish_out-requires-clause-of g c = (
+  c.in-Out.task,
+  subst (λ (x : Task g.row.L.Denot g.row.D-Stage.Denot g.row.D-Stage-Sealed.Denot). IsTaskOf g.D.Disk.tells g.L.Log.tells g.L.Log.lines g.L.Log.available g.L.Log.answers g.L.Log.faults g.D.Stage.Stage.written c.claim.new.self x) c.in-Out.is c.in-Some.ensures.task,
+  c.gather.ensures,
+)
+
+pub returns-in-Out : goal.returns-in-Out
+returns-in-Out g c =
+    let old = c.args.desk.now in
+    let id = ap (λ (x : Task g.row.L.Denot g.row.D-Stage.Denot g.row.D-Stage-Sealed.Denot). id_of x) c.in-Out.is in
+    let may = subst (λ (t : TaskId). May old.scope old.core (entry.Claim t)) id c.in-Some.ensures.claimed.0 in
+    let claimed = c.in-Some.ensures.claimed.1 ∙ ap (λ (t : TaskId). did old old.disk (entry.Claim t ∷ [])) id in
+    gathered_turn g.D.Stage.Stage.tells g.D.Stage.Stage.written g.D.Stage.Stage.sealed g.D.Stage.Stage.faults c.in-Out.task c.gather.result c.gather.ensures g.D.Disk.faults old c.claim.new.self c.publish_out.new.self c.publish_out.result c.is_in_order.ensures.sound c.requires.rest may claimed
+    c.publish_out.ensures.out c.publish_out.ensures.cause c.publish_out.ensures.counted

@@ -1,0 +1,23 @@
+//! All turns of a round.
+
+ghost use Rattle.std.specs.Prelude.{◌≡◌, ◌⊎◌};
+ghost use Rattle.ssq_board.specs.declared.front.Ready.TheVariants as ready;
+ghost use Rattle.ssq_board.specs.Core.{ready_of};
+ghost use Rattle.ssq_board.specs.Rounds.{HasCap, IsAtRest};
+ghost use Rattle.ssq_drive.specs.Driven.{IsDriven};
+
+use crate::turn::turn;
+use ssq_desk::Desk;
+use ssq_outside::{Disk, Gate, Log};
+use std::alloc::Global;
+
+/// Does all that is left of a round: plans, runs and commits one epoch after the other, until all that was found is covered and settled,
+/// or the desk is stopped. Each task passes the gate as it begins.
+pub fn run_desk<'a, D: Disk, L: Log, G: Gate>(alloc: Global, gate: &G, desk: &mut Desk<'a, D, L>)
+    requires cap { HasCap desk.old.scope.cap }
+    requires rest { IsAtRest desk.old.core }
+    ensures driven { IsDriven D.faults desk.old desk.new }
+    ensures end { (ready_of desk.new.scope desk.new.core ≡ ready.Over) ⊎ (ready_of desk.new.scope desk.new.core ≡ ready.Stopped) }
+{
+    while turn(alloc, gate, desk) {}
+}
