@@ -1,0 +1,10 @@
+pub mod Cutting
+pub mod Answering
+pub mod Turning
+pub mod Stopping
+pub mod Readying
+pub mod PutLemmas
+pub mod Starting
+pub mod Firsts
+pub mod Owning
+pub mod Promising

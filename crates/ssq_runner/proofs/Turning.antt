@@ -1,0 +1,272 @@
+-- A round that is over leads from one moment between rounds to the next.
+use Rattle.std.proofs.Common.{◌≡◌, ◌<◌, ◌≤◌, ◌+◌, ◌++◌, ◌∙◌, ◌^◌, ℕ, suc, true, false, List, [], ◌∷◌, length, map, take, All, Option, Result, Ok, Err, refl, sym, ap, subst, arith, append_assoc}
+use Rattle.std.proofs.lemmas.List.{length-append}
+use Rattle.std.proofs.lemmas.List.Elements.{All-nil, All-cons, All-head, All-tail, All-append}
+use Rattle.std.specs.List.{sum_by}
+use Rattle.ssq_outside.specs.History.{History, files_now}
+use Rattle.ssq_outside.specs.Logs.{Line}
+use Rattle.ssq_plans.specs.declared.plan.Plan.{Plan}
+use Rattle.ssq_core.specs.Course.{Ends as EndsOf, Cuts}
+use Rattle.ssq_core.specs.Settled.{IsSettledAs}
+use Rattle.ssq_course.specs.Setting.{Setting, parts_in, cut_of as offsets_of, cuts_of as offsets, job_of}
+use Rattle.ssq_meaning.specs.Parts.{Part}
+use Rattle.ssq_meaning.specs.Cut.{Cuts as Offsets, AreSameTo}
+use Rattle.ssq_meaning.specs.Laws.{SaysSame}
+use Rattle.ssq_shape.specs.declared.bound.Bound.{Bound}
+use Rattle.ssq_open.specs.declared.wanted.Opened.{Opened}
+use Rattle.ssq_open.specs.Epochs.{cut_of}
+use Rattle.ssq_terms.specs.Setting.{AreFound}
+use Rattle.ssq_promise.specs.Run.{WasRun, RunsAreJoined}
+use Rattle.ssq_board.specs.declared.front.Cause.{Cause}
+use Rattle.ssq_board.specs.declared.front.Cause.TheVariants as cause
+use Rattle.ssq_outside.specs.Faults.{Rises}
+use Rattle.ssq_meaning.specs.Feeding.{LineAt}
+use Rattle.ssq_board.specs.Core.{next_ends, is_behind}
+use Rattle.ssq_board.specs.Rounds.{HasCap}
+use Rattle.ssq_open.specs.Looking.{begins}
+use Rattle.ssq_plans.specs.declared.meta.Meta.{Meta}
+use Rattle.ssq_desk.specs.declared.told.Told.{Told}
+use Rattle.ssq_drive.specs.Rounds.{IsRound, RoundRan, IsOwn, IsFoundOf, IsMeant, CanBegin, AreReturned, PlansOn, AreTold, IsRoundStop, IsFaultAt, setting_for, first_of}
+use Rattle.ssq_desk.specs.Contents.{line_of}
+use Rattle.ssq_runner.specs.Lens.{lens_of}
+use Rattle.ssq_runner.specs.Rounds.{Round, AreNext, AreRounds, HaveAnswered, epochs_after}
+use Rattle.ssq_runner.specs.Told.{told_text}
+use Rattle.ssq_runner.specs.declared.fault.RunFault.{RunFault}
+use Rattle.ssq_runner.specs.Putting.{IsUntold, stopped as untold_stopped, failed, starved as untold_starved}
+use Rattle.ssq_runner.specs.Ending.{Begun, HasRounds, IsOwnRun, HaveRun, Ends, IsEnd, stopped, unput, starved, cuts_in, setting_in}
+use Rattle.ssq_runner.specs.Going.{SoFar, IsReady, Fits, scope_of}
+use Rattle.ssq_runner.proofs.Cutting.{cut_more, rounds_same, told_more, told_then, text_then}
+use Rattle.ssq_runner.proofs.Answering.{back_after, same_lines, returned_count, returned_at}
+
+-- the law of cuts, as the crate of the meaning has it
+abbrev pub CutsHang : Type 0
+CutsHang = (query : Bound) (parts : List Part) (one other : Offsets) (n : ℕ) → AreSameTo one other n → SaysSame query parts one other n
+
+-- what is told of epochs among the first has the same rows, however the later ones are cut
+pub rows_more : CutsHang → (s : Setting) (one other : Cuts) (n e : ℕ) (first : EndsOf) (plans : List Plan) (told : List Told) → ((f : ℕ) → f ≤ n → other f ≡ one f) → AreTold first plans e told → e + length told ≤ n
+    → All (IsMeant s one) told → All (IsMeant s other) told
+rows_more hang s one other n e first plans [] same are le rows = All-nil (IsMeant s other)
+rows_more hang s one other n e first plans (t ∷ rest) same are le rows =
+    let here : t.epoch < n = let at = are.0.epoch in omega (arith, at, le) in
+    let law = hang s.job.bound (parts_in s) (offsets one) (offsets other) n (λ f below. ap offsets_of (sym (same f below))) in
+    let own = All-head (IsMeant s one) t rest rows in
+    All-cons (IsMeant s other) t rest (record { watermark = own.watermark ∙ law.same_watermark t.epoch (omega (arith, here)); rows = own.rows ∙ ap length (law.same_out t.epoch here) })
+    (rows_more hang s one other n (e + 1) first plans rest same are.1 (omega (arith, le)) (All-tail (IsMeant s one) t rest rows))
+
+-- n are below the first of more
+abbrev pub epochs_of : List Told → List ℕ
+epochs_of told = map (λ (t : Told). t.epoch) told
+
+pub epochs_then : (told more : List Told) → epochs_of (told ++ more) ≡ epochs_of told ++ epochs_of more
+epochs_then [] more = refl
+epochs_then (t ∷ rest) more = ap (λ (l : List ℕ). t.epoch ∷ l) (epochs_then rest more)
+
+module _ {L : Type 0} (tells : Type 0) (lines : L → List Line) (available : L → ℕ) (answers : L → List ℕ) (faults : L → ℕ) where
+  -- the setting of a round is that of the run, where logs tell what they hold
+  pub same_setting : (b : Begun L) (done : List Round) (logs : List L) (opened : Opened) → opened.meta ≡ b.found.meta → HaveAnswered tells lines available answers faults 0 done b.logs logs → tells
+      → setting_for lines b.bound opened logs ≡ setting_in tells lines available answers faults b
+  same_setting b done logs opened meta have t = λ i. record {
+    job = record { bound = b.bound; partitions = (meta i).partitions; parts = (meta i).parts };
+    lines = same_lines tells lines available answers faults 0 done b.logs logs have t i;
+  }
+
+  -- the plans of a round go on from those of the rounds before
+  pub going_on : (b : Begun L) (opened : Opened) (done : List Round) (told more_told : List Told) (found : List ℕ) (plans : List Plan) → HasRounds b opened.plans done told → opened.meta ≡ b.found.meta
+      → epochs_after (length b.found.plans) done ≡ length opened.plans → b.found.committed + length told ≡ opened.committed
+      → PlansOn (first_of opened) b.cap found opened.plans plans → AreTold (first_of opened) plans opened.committed more_told → opened.committed + length more_told ≤ length plans
+      → HasRounds b plans done (told ++ more_told) × AreNext b.cap found (cuts_in b plans) (epochs_after (length b.found.plans) done) (length plans)
+  going_on b opened done told more_told found plans has meta all committed on are few =
+      let first : first_of opened ≡ first_of b.found = ap (λ (m : Meta). begins m.parts) meta in
+      let grown : length plans ≡ length opened.plans + length on.more = ap length on.behind ∙ length-append opened.plans on.more in
+      let same : (e : ℕ) → e ≤ length opened.plans → cuts_in b plans e ≡ cuts_in b opened.plans e = λ e le. ap (λ (ps : List Plan). cut_of (first_of b.found) ps e) on.behind ∙ cut_more (first_of b.found) opened.plans on.more e le in (
+        record {
+          more = has.more ++ on.more;
+          keeps = on.behind ∙ ap (λ (ps : List Plan). ps ++ on.more) has.keeps ∙ append_assoc b.found.plans has.more on.more;
+          are = rounds_same b.cap (cuts_in b opened.plans) (cuts_in b plans) (length b.found.plans) done (length opened.plans) same has.within has.are;
+          within = (let w = has.within in omega (arith, w, grown));
+          told_are = told_then (first_of b.found) plans b.found.committed told more_told
+              (subst (λ (ps : List Plan). AreTold (first_of b.found) ps b.found.committed told) (sym on.behind) (told_more (first_of b.found) opened.plans on.more b.found.committed told has.few has.told_are))
+              (subst (λ (n : ℕ). AreTold (first_of b.found) plans n more_told) (sym committed) (subst (λ (ends : EndsOf). AreTold ends plans opened.committed more_told) first are));
+          few = subst (λ (n : ℕ). b.found.committed + n ≤ length plans) (sym (length-append told more_told)) (omega (arith, few, committed));
+        },
+        record {
+          next = λ e ge less. subst (λ (ends : EndsOf). cut_of ends plans (e + 1) ≡ next_ends b.cap (cut_of ends plans e) found) first (on.next e (subst (λ (n : ℕ). n ≤ e) all ge) less);
+          due = λ e ge less. subst (λ (ends : EndsOf). is_behind (cut_of ends plans e) found ≡ true) first (on.due e (subst (λ (n : ℕ). n ≤ e) all ge) less);
+        },
+      )
+
+  -- what a round did goes on from what those before it did
+  pub running_on : CutsHang → RunsAreJoined tells → (b : Begun L) (start now : History) (opened : Opened) (done : List Round) (told more_told : List Told) (plans more : List Plan) (end : Result Opened Cause)
+      → plans ≡ opened.plans ++ more → HasRounds b opened.plans done told → HaveRun tells lines available answers faults b start opened.plans told
+      → RoundRan tells (setting_in tells lines available answers faults b) start now (cuts_in b plans) more_told end
+      → HaveRun tells lines available answers faults b now plans (told ++ more_told)
+  running_on hang joined b start now opened done told more_told plans more end behind has have ran =
+      let s = setting_in tells lines available answers faults b in
+      record {
+        run = subst (WasRun tells (job_of s) b.start now) (sym (epochs_then told more_told)) (joined (job_of s) b.start start now (epochs_of told) (epochs_of more_told) have.run ran.run);
+        meant = All-append (IsMeant s (cuts_in b plans)) told more_told
+            (rows_more hang s (cuts_in b opened.plans) (cuts_in b plans) (length opened.plans) b.found.committed (first_of b.found) opened.plans told
+            (λ f le. ap (λ (ps : List Plan). cut_of (first_of b.found) ps f) behind ∙ cut_more (first_of b.found) opened.plans more f le) has.told_are has.few have.meant) ran.meant;
+      }
+
+  -- what was found is the job's own for this round, too
+  pub own_round : (b : Begun L) (found : List ℕ) (now : History) (opened : Opened) → opened.meta ≡ b.found.meta → HasCap b.cap → AreFound found (map lines b.logs) → IsOwnRun tells lines available answers faults b
+      → IsSettledAs now (files_now now) → IsFoundOf (setting_in tells lines available answers faults b) (files_now now) opened
+      → IsOwn (setting_in tells lines available answers faults b) (scope_of opened found b.cap) now opened
+  own_round b found now opened meta cap are own settled is =
+      let lens = lens_of b.found.meta.parts found in
+      let fits = own.settings found are in
+      record {
+        asks = own.asks;
+        lens = lens;
+        setting = fits.0;
+        scope = record { partitions = ap (λ (m : Meta). m.partitions) meta; available = sym fits.1; cap = cap };
+        lines = subst (λ (l : List ℕ). AreFound l (map lines b.logs)) (sym fits.1) are;
+        settled = settled;
+        found_is = is;
+      }
+
+fault_moved : (s t : Setting) (cuts others : Cuts) (e f : ℕ) (at : Option LineAt) → s ≡ t → cuts ≡ others → e ≡ f → IsFaultAt s cuts e at → IsFaultAt t others f at
+fault_moved s t cuts others e f at same cut here is = subst (λ (x : Setting). IsFaultAt x others f at) same (subst (λ (c : Cuts). IsFaultAt s c f at) cut (subst (λ (n : ℕ). IsFaultAt s cuts n at) here is))
+
+-- a count that rose rose from below, too
+pub rises_from : (first before now : ℕ) → first ≤ before → Rises before now → Rises first now
+rises_from first before now le risen = omega (arith, le, risen)
+
+-- why a round stopped, said of the run
+pub stop_moved : (tells : Type 0) (s t : Setting) (cuts others : Cuts) (found : List ℕ) (planned e f : ℕ) (first disk disk_now logs : ℕ) (cause : Cause) → (tells → s ≡ t) → cuts ≡ others → e ≡ f → first ≤ disk
+    → IsRoundStop tells s cuts found planned e disk disk_now logs cause → IsRoundStop tells t others found planned f first disk_now logs cause
+stop_moved tells s t cuts others found planned e f first disk disk_now logs (cause.BadLine a b o r) same cut at le is =
+    (subst (λ (n : ℕ). n < planned) at is.0, λ told. fault_moved s t cuts others e f (line_of (cause.BadLine a b o r)) (same told) cut at (is.1 told))
+stop_moved tells s t cuts others found planned e f first disk disk_now logs (cause.Overflow a b o) same cut at le is =
+    (subst (λ (n : ℕ). n < planned) at is.0, λ told. fault_moved s t cuts others e f (line_of (cause.Overflow a b o)) (same told) cut at (is.1 told))
+stop_moved tells s t cuts others found planned e f first disk disk_now logs cause.LogFault same cut at le is = is
+stop_moved tells s t cuts others found planned e f first disk disk_now logs (cause.LogShort a b m k) same cut at le is = is
+stop_moved tells s t cuts others found planned e f first disk disk_now logs (cause.Damaged q) same cut at le is = absurd is
+stop_moved tells s t cuts others found planned e f first disk disk_now logs cause.DiskFault same cut at le is = rises_from first disk disk_now le is
+stop_moved tells s t cuts others found planned e f first disk disk_now logs cause.Full same cut at le is = (is.0, subst (λ (c : Cuts). is_behind (c planned) found ≡ true) cut is.1)
+stop_moved tells s t cuts others found planned e f first disk disk_now logs cause.NoMemory same cut at le is = tt
+
+-- what can begin again over the logs that came back can be run on
+pub fits_over : {L : Type 0} (tells : Type 0) (lines : L → List Line) (available : L → ℕ) (answers : L → List ℕ) (faults : L → ℕ) (bound : Bound) (cap : Option ℕ) (logs news : List L) (found : List ℕ) (of next : Opened)
+    → length logs ≤ 128 → AreReturned tells lines available answers faults logs news → CanBegin bound (length logs) next (scope_of of found cap) → Fits bound cap (length news) next
+fits_over tells lines available answers faults bound cap logs news found of next few back can = record {
+  plain = can.plain;
+  some_partitions = can.some_partitions;
+  few_partitions = can.few_partitions;
+  streams = can.streams;
+  few_streams = can.few_streams;
+  log_each = returned_count tells lines available answers faults logs news back ∙ can.log_each;
+  few_logs = subst (λ (n : ℕ). n ≤ 128) (sym (returned_count tells lines available answers faults logs news back)) few;
+  has_cap = can.cap;
+  numbers = can.numbers;
+}
+
+module _ {L : Type 0} (tells : Type 0) (lines : L → List Line) (available : L → ℕ) (answers : L → List ℕ) (faults : L → ℕ)
+    (hang : CutsHang) (joined : RunsAreJoined tells)
+    (b : Begun L) (n : ℕ) (start now : History) (disk disk_now : ℕ) (logs news : List L) (OutTells : Type 0) (written : List ℕ) (opened : Opened) (found : List ℕ) (told : List Told) (end : Result Opened Cause)
+    (ready : IsReady tells lines available answers faults b n start disk logs OutTells written opened found)
+    (round : IsRound tells (setting_for lines b.bound opened logs) (length logs) (scope_of opened found b.cap) opened start now disk disk_now (sum_by faults news) told end)
+    (back : AreReturned tells lines available answers faults logs news) (counted : disk ≤ disk_now) where
+  abbrev pub so : SoFar tells lines available answers faults b n start disk ready.before OutTells written opened
+  so = ready.so_far
+
+  found_of : tells → IsOwnRun tells lines available answers faults b → AreFound found (map lines b.logs)
+  found_of t own =
+      let same : map lines logs ≡ map lines b.logs = same_lines tells lines available answers faults 0 (record { found = found; epochs = 0 } ∷ ready.so_far.done) b.logs logs (ready.answered 0) t in
+      subst (AreFound found) same (ready.are t (subst (All (λ (own : List Line). length own < 2 ^ 64)) (sym same) own.few))
+
+  abbrev pub all_told : List Told
+  all_told = so.told ++ told
+
+  goes : HasRounds b round.plans so.done all_told × AreNext b.cap found (cuts_in b round.plans) (epochs_after (length b.found.plans) so.done) (length round.plans)
+  goes = going_on tells lines available answers faults b opened so.done so.told told found round.plans so.has so.meta_is so.all so.committed round.went.on round.went.told_are round.went.few
+
+  same_s : tells → setting_for lines b.bound opened logs ≡ setting_in tells lines available answers faults b
+  same_s t = same_setting tells lines available answers faults b (record { found = found; epochs = 0 } ∷ so.done) logs opened so.meta_is (ready.answered 0) t
+
+  cuts_same : cut_of (first_of opened) round.plans ≡ cuts_in b round.plans
+  cuts_same = ap (λ (m : Meta). cut_of (begins m.parts) round.plans) so.meta_is
+
+  pub ran_on : tells → IsOwnRun tells lines available answers faults b → RoundRan tells (setting_in tells lines available answers faults b) start now (cuts_in b round.plans) told end
+  ran_on t own =
+      let before = so.ran t own in
+      subst (λ (cuts : Cuts). RoundRan tells (setting_in tells lines available answers faults b) start now cuts told end) cuts_same
+      (subst (λ (s : Setting). IsOwn s (scope_of opened found b.cap) start opened → RoundRan tells s start now (cut_of (first_of opened) round.plans) told end) (same_s t) (round.ran t)
+      (own_round tells lines available answers faults b found start opened so.meta_is so.fits.has_cap (found_of t own) own before.1 before.2))
+
+  pub have_on : tells → IsOwnRun tells lines available answers faults b → HaveRun tells lines available answers faults b now round.plans all_told
+  have_on t own = running_on tells lines available answers faults hang joined b start now opened so.done so.told told round.plans round.went.on.more end round.went.on.behind so.has (so.ran t own).0 (ran_on t own)
+
+  -- the round is over
+  pub turned : (next : Opened) (text : List ℕ) → end ≡ Ok next → (OutTells → text ≡ written ++ told_text told) → SoFar tells lines available answers faults b (suc n) now disk_now news OutTells text next
+  unfolding AreRounds
+  turned next text ok wrote =
+      let over = round.went.over next ok in
+      record {
+        done = record { found = found; epochs = length round.plans } ∷ so.done;
+        told = all_told;
+        number = ap suc so.number;
+        has = subst (λ (ps : List Plan). HasRounds b ps (record { found = found; epochs = length round.plans } ∷ so.done) all_told) (sym over.plans_are) (record {
+          more = goes.0.more;
+          keeps = goes.0.keeps;
+          are = (record { on = goes.0.within; cut = goes.1; covers = subst (λ (ends : EndsOf). is_behind ends found ≡ false) (ap (λ (f : Cuts). f (length round.plans)) cuts_same) over.covered }, goes.0.are);
+          within = omega arith;
+          told_are = goes.0.told_are;
+          few = goes.0.few;
+        });
+        all = ap length (sym over.plans_are);
+        committed = (let e = length-append so.told told in let a = over.all in let c = so.committed in let d = over.committed in omega (arith, e, a, c, d));
+        whole = λ some_round. over.committed ∙ ap length (sym over.plans_are);
+        meta_is = over.meta_is ∙ so.meta_is;
+        wrote = λ o. wrote o ∙ ap (λ (l : List ℕ). l ++ told_text told) (so.wrote o) ∙ append_assoc b.written (told_text so.told) (told_text told) ∙ ap (λ (l : List ℕ). b.written ++ l) (sym (text_then so.told told));
+        answered = back_after tells lines available answers faults 0 (record { found = found; epochs = length round.plans } ∷ so.done) b.logs logs news (ready.answered (length round.plans)) back;
+        fits = fits_over tells lines available answers faults b.bound b.cap logs news found opened next ready.few back over.can;
+        there = λ some_round t i own at.
+            let old = returned_at tells lines available answers faults logs news back i own at in
+            (let a = over.can.long i in let e = ready.seen t i old.0 old.1 in let g = old.2.grown t in omega (arith, a, e, g));
+        disk_counted = (let c = so.disk_counted in omega (arith, c, counted));
+        ran = λ t own.
+            let ran = ran_on t own in
+            (subst (λ (ps : List Plan). HaveRun tells lines available answers faults b now ps all_told) (sym over.plans_are) (have_on t own), ran.settled next ok, ran.found next ok);
+      }
+
+  -- the round stopped, or its lines were not written
+  pub ended : (written_now text : List ℕ) (why : RunFault) (before after : ℕ) → n < b.rounds → IsUntold OutTells written written_now before after text told end why
+      → Ends tells lines available answers faults b now disk_now news OutTells written_now text (Err why)
+  ended written_now text why before after less untold = record {
+    plans = round.plans;
+    done = so.done;
+    told = all_told;
+    has = goes.0;
+    is_end = end_of untold;
+    ran = have_on;
+  }
+    where
+      some_done : length so.done < b.rounds
+      some_done = (let m = so.number in omega (arith, m, less))
+
+      some_le : length so.done ≤ b.rounds
+      some_le = (let m = so.number in omega (arith, m, less))
+
+      put_so : OutTells → written ≡ b.written ++ told_text so.told
+      put_so = so.wrote
+
+      stop_at : (cause : Cause) → end ≡ Err cause → IsRoundStop tells (setting_in tells lines available answers faults b) (cuts_in b round.plans) found (length round.plans) (b.found.committed + length all_told) b.disk_faults disk_now (sum_by faults news) cause
+      stop_at cause is_err =
+          stop_moved tells (setting_for lines b.bound opened logs) (setting_in tells lines available answers faults b) (cut_of (first_of opened) round.plans) (cuts_in b round.plans) found (length round.plans) (opened.committed + length told) (b.found.committed + length all_told)
+          b.disk_faults disk disk_now (sum_by faults news) cause same_s cuts_same (let e = length-append so.told told in let c = so.committed in omega (arith, e, c)) so.disk_counted (round.went.stopped cause is_err)
+
+      end_of : IsUntold OutTells written written_now before after text told end why → IsEnd tells lines available answers faults b disk_now news OutTells written_now round.plans so.done all_told text (Err why)
+      end_of (untold_stopped cause is_err is_why same left) =
+          stopped some_done found goes.1 cause (stop_at cause is_err) so.told told refl (λ o. same o ∙ put_so o) left (ap Err is_why)
+      end_of (failed is_why risen front empty) = unput some_le so.told told refl (λ o. let f = front o in (f.0, f.1 ∙ ap (λ (l : List ℕ). l ++ take f.0 (told_text told)) (put_so o))) empty (ap Err is_why)
+      end_of (untold_starved is_why first rest split same left) = starved some_le so.told first rest (ap (λ (l : List Told). so.told ++ l) split) (λ o. same o ∙ put_so o) left (ap Err is_why)
+
+-- a round's own query and cap are those of the run
+pub of_run : {L : Type 0} (tells : Type 0) (lines : L → List Line) (b : Begun L) (bound : Bound) (cap : Option ℕ) (logs : List L) (opened : Opened) (found : List ℕ) (start now : History) (disk disk_now faulty : ℕ) (told : List Told) (end : Result Opened Cause)
+    → b.bound ≡ bound → b.cap ≡ cap → IsRound tells (setting_for lines bound opened logs) (length logs) (scope_of opened found cap) opened start now disk disk_now faulty told end
+    → IsRound tells (setting_for lines b.bound opened logs) (length logs) (scope_of opened found b.cap) opened start now disk disk_now faulty told end
+of_run tells lines b bound cap logs opened found start now disk disk_now faulty told end same caps round =
+    subst (λ (x : Bound). IsRound tells (setting_for lines x opened logs) (length logs) (scope_of opened found b.cap) opened start now disk disk_now faulty told end) (sym same)
+    (subst (λ (x : Option ℕ). IsRound tells (setting_for lines bound opened logs) (length logs) (scope_of opened found x) opened start now disk disk_now faulty told end) (sym caps) round)

@@ -1,0 +1,37 @@
+use Rattle.std.proofs.Common.{refl, sym, subst}
+use Rattle.std.proofs.lemmas.Result.{err_from_is_err_and}
+use Rattle.ssq_open.specs.declared.wanted.Lens.{Lens}
+use Rattle.ssq_core.specs.Sound.{StandsOrEmpty}
+use Rattle.ssq_runner.specs.Running.{IsOpenedOn, LeavesStanding, denied}
+use Rattle.ssq_runner.proofs.Owning.{leaves_still}
+use Rattle.ssq_runner.proofs.run.open_found.Goals as goal
+
+pub returns-in_err-opened-clause-unopened : goal.returns-in_err-opened-clause-unopened
+returns-in_err-opened-clause-unopened g c =
+    let p = err_from_is_err_and c.from_residual-in_err-opened.result c.from_residual-in_err-opened.ensures.1 in
+    rw (p.1, p.2, sym c.in_ok-lens.ensures) (denied _ refl (λ t. c.in_err-opened.ensures.refused t) c.in_err-opened.ensures.cause)
+
+pub returns-clause-opened : goal.returns-clause-opened
+returns-clause-opened g c =
+    let e = c.in_ok-opened.ensures in
+    subst (λ (l : Lens). IsOpenedOn g.D.Disk.tells g.D.Disk.history c.args.bound.now c.args.partitions l c.args.disk.now c.open.new.disk c.in_ok-opened.opened) c.in_ok-lens.ensures (record {
+      numbers = e.numbers;
+      parts = e.job.0;
+      some_partitions = e.job.2;
+      few_partitions = e.job.3;
+      as_asked = e.job.4;
+      long = e.long;
+      is_open = e.opened;
+      desk = λ t job w first stands. e.desk t job w first stands;
+    })
+
+pub returns-clause-images : goal.returns-clause-images
+returns-clause-images g c =
+    subst (λ (l : Lens). LeavesStanding g.D.Disk.tells g.D.Disk.history c.args.bound.now c.args.partitions l c.args.disk.now c.open.new.disk) c.in_ok-lens.ensures (λ t job w first each. c.open.ensures.images t job w first each)
+
+pub returns-in_err-opened-clause-images : goal.returns-in_err-opened-clause-images
+returns-in_err-opened-clause-images g c =
+    subst (λ (l : Lens). LeavesStanding g.D.Disk.tells g.D.Disk.history c.args.bound.now c.args.partitions l c.args.disk.now c.open.new.disk) c.in_ok-lens.ensures (λ t job w first each. c.open.ensures.images t job w first each)
+
+pub returns-in_err-lens-clause-images : goal.returns-in_err-lens-clause-images
+returns-in_err-lens-clause-images g c = λ t job w first each. leaves_still (StandsOrEmpty job) (g.D.Disk.history c.args.disk.now) each

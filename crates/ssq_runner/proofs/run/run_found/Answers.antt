@@ -1,0 +1,96 @@
+use Rattle.std.proofs.Common.{ℕ, List, length, map, refl, sym, subst, arith}
+use Rattle.ssq_outside.specs.History.{History, files_now}
+use Rattle.ssq_open.specs.Lens.{asked}
+use Rattle.ssq_open.specs.Sought.{Sought}
+use Rattle.ssq_open.specs.Opening.{IsOpen}
+use Rattle.ssq_core.specs.Sound.{StandsOrEmpty}
+use Rattle.ssq_course.specs.Setting.{Setting, job_of}
+use Rattle.ssq_promise.specs.Run.{WasRun}
+use Rattle.ssq_runner.specs.Lens.{lens_of}
+use Rattle.ssq_runner.specs.Ending.{Begun}
+use Rattle.ssq_runner.specs.Running.{IsOpenedOn, IsUnopened, ran}
+use Rattle.ssq_runner.proofs.Readying.{asked_count}
+use Rattle.ssq_runner.proofs.Owning.{stands_now}
+use Rattle.ssq_runner.proofs.Promising.{opening_stands, own_run, rounds_stand}
+use Rattle.ssq_runner.specs.Running.{LeavesStanding}
+use Rattle.ssq_runner.proofs.Firsts.{can_first, ready_first, sought_same, unopened_end}
+use Rattle.ssq_runner.proofs.run.run_found.Goals as goal
+
+pub run_rounds-requires-clause-can : goal.run_rounds-requires-clause-can
+run_rounds-requires-clause-can g c = λ κs lives.
+    can_first c.job_is_wanted.ensures.parts c.args.bound.now c.args.ask.partitions c.args.counts.now c.args.found.items c.requires.asked c.requires.plain c.requires.each g.D.Disk.tells g.D.Disk.history c.args.disk c.open_found.new.disk c.in-Ok.opened
+    (subst (λ (l : List ℕ). IsOpenedOn g.D.Disk.tells g.D.Disk.history c.args.bound.now c.args.ask.partitions (lens_of c.args.counts.now l) c.args.disk c.open_found.new.disk c.in-Ok.opened) c.as_slice.ensures.value c.in-Ok.ensures.opened)
+    (length c.args.logs.items) c.args.ask.cap c.requires.log_each c.requires.few c.requires.small c.requires.cap
+
+pub returns-in-Ok-clause-end : goal.returns-in-Ok-clause-end
+returns-in-Ok-clause-end g c = λ given of start faulty wrote ask.
+    let is = subst (λ (l : List ℕ). IsOpenedOn g.D.Disk.tells g.D.Disk.history c.args.bound.now c.args.ask.partitions (lens_of c.args.counts.now l) c.args.disk c.open_found.new.disk c.in-Ok.opened) c.as_slice.ensures.value c.in-Ok.ensures.opened in
+    let can = can_first c.job_is_wanted.ensures.parts c.args.bound.now c.args.ask.partitions c.args.counts.now c.args.found.items c.requires.asked c.requires.plain c.requires.each g.D.Disk.tells g.D.Disk.history c.args.disk c.open_found.new.disk c.in-Ok.opened
+    is (length c.args.logs.items) c.args.ask.cap c.requires.log_each c.requires.few c.requires.small c.requires.cap in
+    let b : Begun g.row.L.Denot = record {
+      bound = c.args.bound.now;
+      found = c.in-Ok.opened;
+      cap = c.args.ask.cap;
+      rounds = c.args.ask.rounds;
+      start = g.D.Disk.history c.open_found.new.disk;
+      disk_faults = g.D.Disk.faults c.open_found.new.disk;
+      logs = given.logs;
+      written = g.O.Output.content c.args.out.now;
+    } in
+    ran c.args.found.items b
+    (record {
+      bound_is = sym of.bound_is;
+      cap_is = sym of.cap_is;
+      rounds_are = sym of.rounds_are;
+      logs_are = refl;
+      written_is = sym wrote;
+      counted = (let n = c.open_found.ensures.counted in omega (arith, n, faulty));
+      opened = λ t. subst (λ (s : Sought). IsOpen s (files_now given.start) (g.D.Disk.history c.open_found.new.disk) c.in-Ok.opened) (sym (sought_same given c.args.bound.now c.args.ask c.args.counts.now c.args.found.items of))
+          (subst (λ (h : History). IsOpen (asked c.args.bound.now c.args.ask.partitions (lens_of c.args.counts.now c.args.found.items)) (files_now h) (g.D.Disk.history c.open_found.new.disk) c.in-Ok.opened) (sym start) (is.is_open t.0));
+      own = λ t s run stands.
+          own_run (g.D.Disk.tells × g.L.Log.tells) g.L.Log.tells g.L.Log.lines g.L.Log.available g.L.Log.answers g.L.Log.faults c.job_is_wanted.ensures.wanted c.job_is_wanted.ensures.first c.round_begins_as_found.ensures.found c.job_is_wanted.ensures.parts
+          c.args.bound.now c.args.ask c.args.counts.now c.args.found.items c.requires.asked c.requires.plain c.requires.each given of s run c.args.logs.items ask t.1 g.D.Disk.history c.args.disk c.open_found.new.disk start g.D.Disk.tells t.0 c.in-Ok.opened is
+          c.args.ask.rounds (g.D.Disk.faults c.open_found.new.disk) (g.O.Output.content c.args.out.now) stands;
+    })
+    (c.run_rounds.ensures.ended b refl refl refl
+    (ready_first g.L.Log.tells (g.D.Disk.tells × g.L.Log.tells) g.L.Log.lines g.L.Log.available g.L.Log.answers g.L.Log.faults (λ t. t.1) c.rounds.ensures.nothing b c.args.logs.items c.args.found.items g.O.Output.tells ask
+    (let n = asked_count g.L.Log.tells g.L.Log.lines g.L.Log.available g.L.Log.answers g.L.Log.faults given.logs c.args.logs.items c.args.found.items ask in let few = c.requires.few in (let e = n.0 in omega (arith, e, few))) can))
+
+pub returns-in-Err-clause-end : goal.returns-in-Err-clause-end
+returns-in-Err-clause-end g c = λ given of start faulty wrote ask.
+    unopened_end g.D.Disk.tells (g.D.Disk.tells × g.L.Log.tells) g.D.Disk.history g.D.Disk.faults g.L.Log.lines g.L.Log.available g.L.Log.answers g.L.Log.faults (λ t. t.0) given c.args.bound.now c.args.ask c.args.counts.now c.args.found.items c.args.disk c.open_found.new.disk
+    c.args.logs.items g.O.Output.tells (g.O.Output.content c.args.out.now) c.args.text.now.items c.in-Err.fault of start faulty wrote c.requires.empty
+    (subst (λ (l : List ℕ). IsUnopened g.D.Disk.tells g.D.Disk.history g.D.Disk.faults c.args.bound.now c.args.ask.partitions (lens_of c.args.counts.now l) c.args.disk c.open_found.new.disk c.in-Err.fault) c.as_slice.ensures.value c.in-Err.ensures.unopened)
+
+pub returns-in-Err-clause-stands : goal.returns-in-Err-clause-stands
+returns-in-Err-clause-stands g c = λ told heard given s of start ask run each.
+    opening_stands (g.D.Disk.tells × g.L.Log.tells) g.L.Log.tells g.L.Log.lines g.L.Log.available g.L.Log.answers g.L.Log.faults c.job_is_wanted.ensures.wanted c.job_is_wanted.ensures.first c.round_begins_as_found.ensures.found c.job_is_wanted.ensures.parts
+    c.args.bound.now c.args.ask c.args.counts.now c.args.found.items c.requires.asked c.requires.plain c.requires.each given of s run c.args.logs.items ask heard g.D.Disk.history c.args.disk c.open_found.new.disk start g.D.Disk.tells told
+    (subst (λ (l : List ℕ). LeavesStanding g.D.Disk.tells g.D.Disk.history c.args.bound.now c.args.ask.partitions (lens_of c.args.counts.now l) c.args.disk c.open_found.new.disk) c.as_slice.ensures.value c.open_found.ensures.images) each
+
+pub returns-in-Ok-clause-stands : goal.returns-in-Ok-clause-stands
+returns-in-Ok-clause-stands g c = λ told heard given s of start ask run each.
+    let is = subst (λ (l : List ℕ). IsOpenedOn g.D.Disk.tells g.D.Disk.history c.args.bound.now c.args.ask.partitions (lens_of c.args.counts.now l) c.args.disk c.open_found.new.disk c.in-Ok.opened) c.as_slice.ensures.value c.in-Ok.ensures.opened in
+    let can = can_first c.job_is_wanted.ensures.parts c.args.bound.now c.args.ask.partitions c.args.counts.now c.args.found.items c.requires.asked c.requires.plain c.requires.each g.D.Disk.tells g.D.Disk.history c.args.disk c.open_found.new.disk c.in-Ok.opened
+    is (length c.args.logs.items) c.args.ask.cap c.requires.log_each c.requires.few c.requires.small c.requires.cap in
+    let b : Begun g.row.L.Denot = record {
+      bound = c.args.bound.now;
+      found = c.in-Ok.opened;
+      cap = c.args.ask.cap;
+      rounds = c.args.ask.rounds;
+      start = g.D.Disk.history c.open_found.new.disk;
+      disk_faults = g.D.Disk.faults c.open_found.new.disk;
+      logs = given.logs;
+      written = g.O.Output.content c.args.out.now;
+    } in
+    let own = own_run (g.D.Disk.tells × g.L.Log.tells) g.L.Log.tells g.L.Log.lines g.L.Log.available g.L.Log.answers g.L.Log.faults c.job_is_wanted.ensures.wanted c.job_is_wanted.ensures.first c.round_begins_as_found.ensures.found c.job_is_wanted.ensures.parts
+    c.args.bound.now c.args.ask c.args.counts.now c.args.found.items c.requires.asked c.requires.plain c.requires.each given of s run c.args.logs.items ask heard g.D.Disk.history c.args.disk c.open_found.new.disk start g.D.Disk.tells told c.in-Ok.opened is
+    c.args.ask.rounds (g.D.Disk.faults c.open_found.new.disk) (g.O.Output.content c.args.out.now) (stands_now given.start (StandsOrEmpty (job_of s)) each) in
+    let ends = c.run_rounds.ensures.ended b refl refl refl
+    (ready_first g.L.Log.tells (g.D.Disk.tells × g.L.Log.tells) g.L.Log.lines g.L.Log.available g.L.Log.answers g.L.Log.faults (λ t. t.1) c.rounds.ensures.nothing b c.args.logs.items c.args.found.items g.O.Output.tells ask
+    (let n = asked_count g.L.Log.tells g.L.Log.lines g.L.Log.available g.L.Log.answers g.L.Log.faults given.logs c.args.logs.items c.args.found.items ask in let few = c.requires.few in (let e = n.0 in omega (arith, e, few))) can) in
+    rounds_stand (g.D.Disk.tells × g.L.Log.tells) g.L.Log.tells g.L.Log.lines g.L.Log.available g.L.Log.answers g.L.Log.faults c.job_is_wanted.ensures.wanted c.job_is_wanted.ensures.first c.round_begins_as_found.ensures.found c.job_is_wanted.ensures.parts
+    c.args.bound.now c.args.ask c.args.counts.now c.args.found.items c.requires.asked c.requires.plain c.requires.each given of s run c.args.logs.items ask heard g.D.Disk.history c.args.disk c.open_found.new.disk start g.D.Disk.tells told c.in-Ok.opened is
+    c.run.ensures (told, heard) (g.D.Disk.history c.run_rounds.result.disk) (map (λ t. t.epoch) ends.told)
+    (subst (λ (l : List ℕ). LeavesStanding g.D.Disk.tells g.D.Disk.history c.args.bound.now c.args.ask.partitions (lens_of c.args.counts.now l) c.args.disk c.open_found.new.disk) c.as_slice.ensures.value c.open_found.ensures.images) each
+    (subst (λ (x : Setting). WasRun (g.D.Disk.tells × g.L.Log.tells) (job_of x) (g.D.Disk.history c.open_found.new.disk) (g.D.Disk.history c.run_rounds.result.disk) (map (λ t. t.epoch) ends.told)) own.0 (ends.ran (told, heard) own.1).run)

@@ -1,0 +1,105 @@
+-- What rounds leave, and how they end.
+use Rattle.std.specs.Prelude.{◌≡◌, ◌<◌, ◌≤◌, ◌+◌, ◌^◌, ◌++◌, ℕ, List, [], length, map, take, All, Option, Result, Ok, Err}
+use Rattle.std.specs.List.{sum_by}
+use mathlib.Core.Option.{some}
+use lib.ListN.{get_elem?}
+use Rattle.ssq_outside.specs.History.{History, files_now}
+use Rattle.ssq_outside.specs.Logs.{Line}
+use Rattle.ssq_shape.specs.declared.bound.Bound.{Bound}
+use Rattle.ssq_plans.specs.declared.plan.Plan.{Plan}
+use Rattle.ssq_core.specs.Course.{Cuts}
+use Rattle.ssq_core.specs.Settled.{IsSettledAs}
+use Rattle.ssq_course.specs.Setting.{Setting, job_of}
+use Rattle.ssq_open.specs.declared.wanted.Opened.{Opened}
+use Rattle.ssq_open.specs.Epochs.{cut_of}
+use Rattle.ssq_promise.specs.Run.{WasRun}
+use Rattle.ssq_logs.specs.declared.fault.LengthFault.{LengthFault}
+use Rattle.ssq_logs.specs.declared.fault.LengthFault.TheVariants as length_fault
+use Rattle.ssq_logs.specs.Asked.{most_lines}
+use Rattle.ssq_board.specs.declared.front.Cause.{Cause}
+use Rattle.ssq_terms.specs.Setting.{IsSettingOf, AreFound, found_lines}
+use Rattle.ssq_desk.specs.declared.told.Told.{Told}
+use Rattle.ssq_drive.specs.Rounds.{AreTold, IsMeant, IsFoundOf, IsRoundStop, setting_for, first_of}
+use Rattle.ssq_runner.specs.declared.fault.RunFault.{RunFault}
+use Rattle.ssq_runner.specs.declared.fault.RunFault.TheVariants as fault
+use Rattle.ssq_runner.specs.Lens.{lens_of}
+use Rattle.ssq_runner.specs.Rounds.{Round, AreNext, AreRounds, HaveAnswered, epochs_after}
+use Rattle.ssq_runner.specs.Told.{told_text, done_line}
+
+-- What rounds begin on: the query, what was opened, the cap of their epochs, how many are asked for, the disk as it was opened and how
+-- often it had failed, the logs before they were asked, and what was written before.
+pub record Begun (L : Type 0) : Type 0 where
+  pub bound : Bound
+  pub found : Opened
+  pub cap : Option ℕ
+  pub rounds : ℕ
+  pub start : History
+  pub disk_faults : ℕ
+  pub logs : List L
+  pub written : List ℕ
+
+module _ {L : Type 0} where
+  -- the cuts of these plans, behind those where the parts begin
+  abbrev pub cuts_in : Begun L → List Plan → Cuts
+  cuts_in b plans = cut_of (first_of b.found) plans
+
+  -- These rounds are over, the latest of which comes first, and these epochs were told. The plans that were opened stay, and the rounds cut
+  -- on from them; the epochs that are told are the first that were not committed, one after another.
+  pub record HasRounds (b : Begun L) (plans : List Plan) (done : List Round) (told : List Told) : Type 0 where
+    pub more : List Plan
+    pub keeps : plans ≡ b.found.plans ++ more
+    pub are : AreRounds b.cap (cuts_in b plans) (length b.found.plans) done
+    pub within : epochs_after (length b.found.plans) done ≤ length plans
+    pub told_are : AreTold (first_of b.found) plans b.found.committed told
+    pub few : b.found.committed + length told ≤ length plans
+
+module _ {L : Type 0} (tells : Type 0) (lines : L → List Line) (available : L → ℕ) (answers : L → List ℕ) (faults : L → ℕ) where
+  -- the query over all lines that its logs will come to hold, with the partitions and parts that were opened
+  abbrev pub setting_in : Begun L → Setting
+  setting_in b = setting_for lines b.bound b.found b.logs
+
+  -- What was opened is the job's own: its files are settled, and what was found is what they hold. So it is for each number of lines that may
+  -- be found of each part, which are not more than it will come to hold.
+  pub record IsOwnRun (b : Begun L) : Type 0 where
+    pub asks : Option ℕ
+    pub settings : (found : List ℕ) → AreFound found (map lines b.logs) → IsSettingOf (setting_in b) b.bound asks (lens_of b.found.meta.parts found) × (found_lines (lens_of b.found.meta.parts found) ≡ found)
+    pub few : All (λ (own : List Line). length own < 2 ^ 64) (map lines b.logs)
+    pub settled : IsSettledAs b.start (files_now b.start)
+    pub found_is : IsFoundOf (setting_in b) (files_now b.start) b.found
+
+  -- What rounds did that began so: they are a run of the machine, and each epoch is told as the meaning has it.
+  pub record HaveRun (b : Begun L) (now : History) (plans : List Plan) (told : List Told) : Type 0 where
+    pub run : WasRun tells (job_of (setting_in b)) b.start now (map (λ t. t.epoch) told)
+    pub meant : All (IsMeant (setting_in b) (cuts_in b plans)) told
+
+  -- Why the lines of logs were not counted: a part has too many, and all of them are there; or what failed has counted it.
+  abbrev pub IsUncounted : List L → LengthFault → Type 0
+  IsUncounted logs (length_fault.Full at found) = (most_lines < found) × ((own : L) × (get_elem? logs at ≡ some own) × (tells → (available own ≡ found) × (found ≤ length (lines own))))
+  IsUncounted logs length_fault.LogFault = 0 < sum_by faults logs
+  IsUncounted logs length_fault.NoMemory = Unit {0}
+
+  -- How rounds end: what they leave on the disk and of the logs, what is written and what is left to be written, and why.
+  --  All rounds that were asked for are over and told, each log was asked once for each, and it is left to say how many epochs there are. Or
+  --  one stopped, at an epoch behind those that were told, of which those of the rounds before are written. Or the lines were not counted for
+  --  one. Or the output failed, and a front of the lines of the last round was written. Or memory ran out, and lines of the last round are left.
+  pub data IsEnd (b : Begun L) (disk_faults : ℕ) (logs : List L) (OutTells : Type 0) (written : List ℕ) (plans : List Plan) (done : List Round) (told : List Told) (text : List ℕ) (end : Result (Unit {0}) RunFault) : Type 0 where
+    finished : length done ≡ b.rounds → epochs_after (length b.found.plans) done ≡ length plans → b.found.committed + length told ≡ length plans → HaveAnswered tells lines available answers faults 0 done b.logs logs
+        → (OutTells → written ≡ b.written ++ told_text told) → text ≡ done_line (length plans) → end ≡ Ok tt → IsEnd b disk_faults logs OutTells written plans done told text end
+    stopped : length done < b.rounds → (found : List ℕ) → AreNext b.cap found (cuts_in b plans) (epochs_after (length b.found.plans) done) (length plans) → (why : Cause)
+        → IsRoundStop tells (setting_in b) (cuts_in b plans) found (length plans) (b.found.committed + length told) b.disk_faults disk_faults (sum_by faults logs) why
+        → (put more : List Told) → told ≡ put ++ more → (OutTells → written ≡ b.written ++ told_text put) → text ≡ told_text more → end ≡ Err (fault.Round why) → IsEnd b disk_faults logs OutTells written plans done told text end
+    uncounted : length done < b.rounds → epochs_after (length b.found.plans) done ≡ length plans → (why : LengthFault) → IsUncounted logs why
+        → (OutTells → written ≡ b.written ++ told_text told) → text ≡ [] → end ≡ Err (fault.Lines why) → IsEnd b disk_faults logs OutTells written plans done told text end
+    unput : length done ≤ b.rounds → (put more : List Told) → told ≡ put ++ more → (OutTells → (n : ℕ) × (written ≡ (b.written ++ told_text put) ++ take n (told_text more))) → text ≡ [] → end ≡ Err fault.OutFault
+        → IsEnd b disk_faults logs OutTells written plans done told text end
+    starved : length done ≤ b.rounds → (put more rest : List Told) → told ≡ put ++ (more ++ rest) → (OutTells → written ≡ b.written ++ told_text put) → text ≡ told_text more → end ≡ Err fault.NoMemory
+        → IsEnd b disk_faults logs OutTells written plans done told text end
+
+  -- so, by some plans, rounds and epochs that were told
+  pub record Ends (b : Begun L) (now : History) (disk_faults : ℕ) (logs : List L) (OutTells : Type 0) (written text : List ℕ) (end : Result (Unit {0}) RunFault) : Type 0 where
+    pub plans : List Plan
+    pub done : List Round
+    pub told : List Told
+    pub has : HasRounds b plans done told
+    pub is_end : IsEnd b disk_faults logs OutTells written plans done told text end
+    pub ran : tells → IsOwnRun b → HaveRun b now plans told

@@ -1,0 +1,74 @@
+//! Why a run stops.
+
+use ssq_board::Cause;
+use ssq_logs::{LengthFault, PartsFault};
+use ssq_open::OpenFault;
+use std::alloc::AllocError;
+use thiserror::Error;
+
+/// Why a run stopped before its rounds were done and told, by what it was at.
+#[derive(Debug, Drop, Error)]
+pub enum RunFault {
+    /// The parts of a stream were counted, or a log was opened.
+    #[error("the parts are not opened")]
+    Parts(PartsFault),
+    /// The lines of the logs were counted.
+    #[error("the lines are not counted")]
+    Lines(LengthFault),
+    /// The checkpoint was opened.
+    #[error("the checkpoint is not opened")]
+    Open(OpenFault),
+    /// A round was run.
+    #[error("a round stopped")]
+    Round(Cause),
+    /// The output failed.
+    #[error("the output failed")]
+    OutFault,
+    /// Memory ran out.
+    #[error("out of memory")]
+    NoMemory,
+}
+
+impl From<PartsFault> for RunFault {
+    ghost use Rattle.std.specs.Prelude.{◌≡◌};
+    ghost use Rattle.ssq_runner.specs.declared.fault.RunFault.TheVariants.{Parts};
+
+    ghost from_gives = { λ error fault. fault ≡ Parts error };
+
+    fn from(error: PartsFault) -> RunFault {
+        RunFault::Parts(error)
+    }
+}
+
+impl From<AllocError> for RunFault {
+    ghost use Rattle.std.specs.Prelude.{◌≡◌};
+    ghost use Rattle.ssq_runner.specs.declared.fault.RunFault.TheVariants.{NoMemory};
+
+    ghost from_gives = { λ _ fault. fault ≡ NoMemory };
+
+    fn from(_: AllocError) -> RunFault {
+        RunFault::NoMemory
+    }
+}
+
+impl From<LengthFault> for RunFault {
+    ghost use Rattle.std.specs.Prelude.{◌≡◌};
+    ghost use Rattle.ssq_runner.specs.declared.fault.RunFault.TheVariants.{Lines};
+
+    ghost from_gives = { λ error fault. fault ≡ Lines error };
+
+    fn from(error: LengthFault) -> RunFault {
+        RunFault::Lines(error)
+    }
+}
+
+impl From<OpenFault> for RunFault {
+    ghost use Rattle.std.specs.Prelude.{◌≡◌};
+    ghost use Rattle.ssq_runner.specs.declared.fault.RunFault.TheVariants.{Open};
+
+    ghost from_gives = { λ error fault. fault ≡ Open error };
+
+    fn from(error: OpenFault) -> RunFault {
+        RunFault::Open(error)
+    }
+}
