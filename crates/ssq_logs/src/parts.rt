@@ -1,6 +1,6 @@
 //! How many parts the streams have.
 
-ghost use Rattle.std.specs.Prelude.{◌≡◌, ◌≤◌, ◌++◌, ◌∷◌, [], ℕ, List, All, length, IfOk, IfErr, OnOk, IfSome, IfNone, ◌<◌};
+ghost use Rattle.std.specs.Prelude.{◌≡◌, ◌≤◌, ◌+◌, ◌++◌, ◌∷◌, [], ℕ, List, All, length, IfOk, IfErr, OnOk, IfSome, IfNone, ◌<◌};
 ghost use Rattle.ssq_logs.specs.Parts.{counts_in, IsFew, IsOutside, most_parts, PartsCause, CauseBehind, InputsRise};
 ghost use Rattle.ssq_logs.specs.Went.{InputsWent};
 
@@ -44,6 +44,7 @@ fn put_counts<I: Inputs>(
 ) -> Result<(), PartsFault>
     ensures counts { I.tells → OnOk result (counts.new ≡ counts.old ++ counts_in (I.held inputs.old) streams.now) }
     ensures few { OnOk result (All IsFew counts.old → All IsFew counts.new) }
+    ensures each { OnOk result (length counts.new ≡ length counts.old + length streams.now) }
     ensures fault { I.tells → IfErr result (CauseBehind (length counts.old) (I.held inputs.old) streams.now) }
     ensures inputs { InputsWent I.tells I.held I.returned I.available inputs.old inputs.new [] }
     ensures counted { I.faults inputs.old ≤ I.faults inputs.new }
@@ -76,6 +77,7 @@ pub fn count_parts<I: Inputs>(
 ) -> Result<Sequence<u32>, PartsFault>
     ensures counts { I.tells → IfOk result (λ counts. counts ≡ counts_in (I.held inputs.old) streams.now) }
     ensures few { IfOk result (All IsFew) }
+    ensures each { IfOk result (λ counts. length counts ≡ length streams.now) }
     ensures fault { I.tells → IfErr result (PartsCause (I.held inputs.old) streams.now) }
     ensures inputs { InputsWent I.tells I.held I.returned I.available inputs.old inputs.new [] }
     ensures counted { I.faults inputs.old ≤ I.faults inputs.new }
