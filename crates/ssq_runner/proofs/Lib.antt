@@ -8,3 +8,4 @@ pub mod Starting
 pub mod Firsts
 pub mod Owning
 pub mod Promising
+pub mod Sourcing

@@ -6,3 +6,4 @@ pub mod Going
 pub mod Putting
 pub mod Stops
 pub mod Running
+pub mod Sources

@@ -2,7 +2,7 @@
 //! of which is told on the output when it is over.
 //!
 //! The definitions are in `specs/`: `Rounds` says how rounds cut the logs, `Told` what is told of epochs, `Ending` how rounds end, `Going` what
-//! holds between two of them, and `Running` how a whole run goes.
+//! holds between two of them, `Running` how a run goes from its logs on, and `Sources` how a whole run over inputs does.
 #![tactic(auto)]
 
 mod ask;
@@ -12,8 +12,8 @@ mod line;
 mod put;
 mod rounds;
 mod run;
+mod source;
 
 pub use ask::Ask;
 pub use fault::RunFault;
-pub use rounds::Left;
-pub use run::run_logs;
+pub use source::{Ran, run_query};

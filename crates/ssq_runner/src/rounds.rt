@@ -37,10 +37,10 @@ pub(crate) struct Standing<D: Disk, L: Log> {
 
 /// What is left where rounds end, and why they do.
 #[derive(Drop)]
-pub struct Left<D: Disk, L: Log> {
-    pub disk: D,
-    pub logs: Vec<L>,
-    pub end: Result<(), RunFault>,
+pub(crate) struct Left<D: Disk, L: Log> {
+    pub(crate) disk: D,
+    pub(crate) logs: Vec<L>,
+    pub(crate) end: Result<(), RunFault>,
 }
 
 /// Runs a round, in which so many lines were found of each part, and writes what it told.

@@ -110,7 +110,7 @@ fn run_found<D: Disk, L: Log, O: Output, G: Gate>(
 }
 
 /// Counts the lines of the logs, opens the checkpoint, and runs the rounds: over one log for each of so many parts of each stream.
-pub fn run_logs<D: Disk, L: Log, O: Output, G: Gate>(
+pub(crate) fn run_logs<D: Disk, L: Log, O: Output, G: Gate>(
     alloc: Global,
     gate: &G,
     bound: &Bound,
