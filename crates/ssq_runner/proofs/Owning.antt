@@ -29,7 +29,7 @@ use Rattle.ssq_open.specs.Jobs.{IsWantedJob, IsDeskOf}
 use Rattle.ssq_terms.specs.Setting.{IsPlain, IsSettingOf, AreFound, found_lines}
 use Rattle.ssq_terms.specs.Laws.{JobIsWanted, FirstRecordIsJobs, PartsAreFound}
 use Rattle.ssq_terms.specs.Opening.{FoundIsJobs}
-use Rattle.ssq_promise.specs.Run.{RunIsKept, WasRun}
+use Rattle.ssq_promise.specs.Run.{IsKept, RunIsKept, WasRun}
 use Rattle.ssq_drive.specs.Rounds.{IsFoundOf, setting_for}
 use Rattle.ssq_runner.specs.Lens.{lens_of, apart}
 use Rattle.ssq_runner.specs.Ending.{IsOwnRun}
@@ -215,8 +215,8 @@ module _ {L : Type 0} (tells : Type 0) (lines : L → List Line) (available : L 
           },
         )
 
-        -- and each image of what rounds leave stands
-        pub runs_on : RunIsKept tells → tells → (now : History) (told : List ℕ) → WasRun tells (job_of s) (history after) now told → LeavesOnly (history after) now (StandsOrEmpty (job_of s))
+        -- and what rounds promise is kept
+        pub runs_on : RunIsKept tells → tells → (now : History) (told : List ℕ) → (run : WasRun tells (job_of s) (history after) now told) → IsKept tells (job_of s) (history after) now (files_now (history after)) told run
         runs_on law t now told run =
-            (law t (job_of s) (history after) now (files_now (history after)) told is_wanted.causal (open_settled bound asks (lens_of counts found) (files_now (history before)) (history after) opened is_open)
-            (inr (record { cuts = desk.desk.cuts; planned = desk.desk.planned; committed = desk.desk.committed; proper = desk.is.1; at = desk.is.0 })) run).stands
+            law t (job_of s) (history after) now (files_now (history after)) told is_wanted.causal (open_settled bound asks (lens_of counts found) (files_now (history before)) (history after) opened is_open)
+            (inr (record { cuts = desk.desk.cuts; planned = desk.desk.planned; committed = desk.desk.committed; proper = desk.is.1; at = desk.is.0 })) run

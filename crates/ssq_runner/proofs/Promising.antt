@@ -13,7 +13,7 @@ use Rattle.ssq_open.specs.Lens.{CanBeAsked}
 use Rattle.ssq_terms.specs.Setting.{IsPlain, AreFound}
 use Rattle.ssq_terms.specs.Laws.{JobIsWanted, FirstRecordIsJobs, PartsAreFound}
 use Rattle.ssq_terms.specs.Opening.{FoundIsJobs}
-use Rattle.ssq_promise.specs.Run.{RunIsKept, WasRun}
+use Rattle.ssq_promise.specs.Run.{IsKept, RunIsKept, WasRun}
 use Rattle.ssq_logs.specs.Asked.{AreAsked}
 use Rattle.ssq_drive.specs.Rounds.{setting_for}
 use Rattle.ssq_runner.specs.declared.ask.Ask.{Ask}
@@ -71,10 +71,16 @@ module _ {L : Type 0} (tells reads : Type 0) (lines : L → List Line) (availabl
         owned tells lines available answers faults wanted first_record found_law parts_law bound ask.partitions counts found can_ask plain each g.logs s (run.query ∙ of.bound_is) (run.parts ∙ of.counts_are) run.lines_are run.few_lines run.some_partitions run.few_partitions as_asked
         long are history before after first T t opened is (subst (λ (h : History). StandsOrEmpty (job_of s) (files_now h)) start stands) (is.is_open t) ask.cap rounds disk_faults written
 
+    -- what rounds promise that began on it is kept
+    pub rounds_keep : RunIsKept tells → tells → (now : History) (told : List ℕ) → StandsOrEmpty (job_of s) (files_now g.start) → (was : WasRun tells (job_of s) (history after) now told)
+        → IsKept tells (job_of s) (history after) now (files_now (history after)) told was
+    rounds_keep law known now told stands was =
+        runs_on tells lines available answers faults wanted first_record found_law parts_law bound ask.partitions counts found can_ask plain each g.logs s (run.query ∙ of.bound_is) (run.parts ∙ of.counts_are) run.lines_are run.few_lines run.some_partitions run.few_partitions as_asked
+        long are history before after first T t opened is (subst (λ (h : History). StandsOrEmpty (job_of s) (files_now h)) start stands) (is.is_open t) law known now told was
+
     -- and so each image stands of what rounds leave
     pub rounds_stand : RunIsKept tells → tells → (now : History) (told : List ℕ) → LeavesStanding T history bound ask.partitions (lens_of counts found) before after → LeavesNow g.start (StandsOrEmpty (job_of s))
         → WasRun tells (job_of s) (history after) now told → LeavesOnly g.start now (StandsOrEmpty (job_of s))
     rounds_stand law known now told leaves each_now was =
         leaves_then (StandsOrEmpty (job_of s)) g.start (history after) now (opening_stands T t leaves each_now)
-        (runs_on tells lines available answers faults wanted first_record found_law parts_law bound ask.partitions counts found can_ask plain each g.logs s (run.query ∙ of.bound_is) (run.parts ∙ of.counts_are) run.lines_are run.few_lines run.some_partitions run.few_partitions as_asked
-        long are history before after first T t opened is (subst (λ (h : History). StandsOrEmpty (job_of s) (files_now h)) start (stands_now g.start (StandsOrEmpty (job_of s)) each_now)) (is.is_open t) law known now told was)
+        (rounds_keep law known now told (stands_now g.start (StandsOrEmpty (job_of s)) each_now) was).stands

@@ -123,7 +123,7 @@ module _ {L : Type 0} (tells : Type 0) (lines : L → List Line) (available : L 
     run_counts g now same (uncounted why not still unsaid is) = at_end (Unit {0}) (Err (fault.Lines why)) is (lines_count logs disk disk_now inputs inputs_now out out_now why risen not)
     run_counts g now same (refused found why checks count unsaid is) = at_end (Unit {0}) (Err (fault.Open why)) is (open_count disk disk_now inputs inputs_now out out_now why (subst (λ (n : ℕ). DiskRises why n disk_now) same count))
     run_counts g now same (starved still unsaid is) = at_end (Unit {0}) (Err fault.NoMemory) is tt
-    run_counts g now same (ran found b begun ends) = rounds_count b ends.plans ends.done ends.told (let c = begun.counted in omega (arith, c, same)) ends.is_end
+    run_counts g now same (ran found b begun ends promised) = rounds_count b ends.plans ends.done ends.told (let c = begun.counted in omega (arith, c, same)) ends.is_end
 
 -- what the inputs counted before, they count still
 pub parts_count_on : (inputs mid now : ℕ) (why : PartsFault) → InputsRise inputs mid why → min mid (2 ^ 64 - 1) ≤ now → HasCount 0 0 inputs now 0 0 (Err (fault.Parts why))

@@ -5,6 +5,7 @@ use Rattle.ssq_outside.specs.Files.{IsEmpty}
 use Rattle.ssq_outside.specs.History.{History, files_now, LeavesNow, LeavesOnly}
 use Rattle.ssq_outside.specs.Logs.{Line}
 use Rattle.ssq_shape.specs.declared.bound.Bound.{Bound}
+use Rattle.ssq_plans.specs.declared.plan.Plan.{Plan}
 use Rattle.ssq_core.specs.Course.{Cuts, Job}
 use Rattle.ssq_core.specs.Sound.{StandsOrEmpty}
 use Rattle.ssq_open.specs.Jobs.{IsWantedJob, IsDeskOf}
@@ -19,12 +20,15 @@ use Rattle.ssq_open.specs.Numbers.{HasNumbers}
 use Rattle.ssq_open.specs.Watermarks.{watermarked}
 use Rattle.ssq_open.specs.Sought.{Sought}
 use Rattle.ssq_open.specs.Opening.{IsOpen, IsRefused, first_short, first_meta}
+use Rattle.ssq_promise.specs.Run.{WasRun, IsKept}
 use Rattle.ssq_logs.specs.declared.fault.LengthFault.{LengthFault}
+use Rattle.ssq_desk.specs.declared.told.Told.{Told}
+use Rattle.ssq_drive.specs.Rounds.{IsMeant}
 use Rattle.ssq_runner.specs.declared.fault.RunFault.{RunFault}
 use Rattle.ssq_runner.specs.declared.fault.RunFault.TheVariants as fault
 use Rattle.ssq_runner.specs.declared.ask.Ask.{Ask}
 use Rattle.ssq_runner.specs.Lens.{lens_of}
-use Rattle.ssq_runner.specs.Ending.{Begun, Ends, IsUncounted, IsOwnRun, setting_in}
+use Rattle.ssq_runner.specs.Ending.{Begun, Ends, IsUncounted, IsOwnRun, setting_in, cuts_in}
 
 -- What a run is given: the query, how many partitions are asked for, if that is asked, the cap of its epochs, how many rounds, how many parts
 -- each stream has, the disk and how often it has failed, the logs of the parts as they were opened, and what was written so far.
@@ -109,11 +113,21 @@ module _ {L : Type 0} (tells : Type 0) (lines : L → List Line) (available : L 
     -- where the checkpoint stands for the run's job, or is empty, what was opened is the job's own
     pub own : tells → (s : Setting) → IsRunOf lines g s → StandsOrEmpty (job_of s) (files_now g.start) → (setting_in tells lines available answers faults b ≡ s) × IsOwnRun tells lines available answers faults b
 
+  -- What rounds promise that began so and told these epochs: they are a run of the machine; each file that was there when they began is in each
+  -- image from then on, as it was, but for files of the state; each epoch is in each image from when it was acknowledged; and it is told with the
+  -- watermark and the number of rows of the meaning.
+  pub record HavePromised (s : Setting) (b : Begun L) (now : History) (plans : List Plan) (told : List Told) : Type 0 where
+    pub run : WasRun tells (job_of s) b.start now (map (λ t. t.epoch) told)
+    pub kept : IsKept tells (job_of s) b.start now (files_now b.start) (map (λ t. t.epoch) told) run
+    pub meant : All (IsMeant s (cuts_in b plans)) told
+
   -- How a run goes, in the order of its work: the lines of its logs are not counted; the checkpoint is refused, by its first check that is not
-  -- met; memory runs out before it is opened; or rounds are run on what was opened.
+  -- met; memory runs out before it is opened; or rounds are run on what was opened, and keep what they promise where the checkpoint stood for the
+  -- run's job or was empty.
   pub data RunEnd (g : Given L) (now : History) (disk_faults : ℕ) (logs : List L) (OutTells : Type 0) (written text : List ℕ) (end : Result (Unit {0}) RunFault) : Type 0 where
     uncounted : (why : LengthFault) → IsUncounted tells lines available answers faults logs why → now ≡ g.start → IsUnsaid g OutTells written text → end ≡ Err (fault.Lines why) → RunEnd g now disk_faults logs OutTells written text end
     refused : (found : List ℕ) (why : OpenFault) → (tells → IsRefused (sought_in g found) (files_now g.start) (files_now now) why) → DiskRises why g.disk_faults disk_faults → IsUnsaid g OutTells written text → end ≡ Err (fault.Open why)
         → RunEnd g now disk_faults logs OutTells written text end
     starved : now ≡ g.start → IsUnsaid g OutTells written text → end ≡ Err fault.NoMemory → RunEnd g now disk_faults logs OutTells written text end
-    ran : (found : List ℕ) (b : Begun L) → IsBegunBy g found b → Ends tells lines available answers faults b now disk_faults logs OutTells written text end → RunEnd g now disk_faults logs OutTells written text end
+    ran : (found : List ℕ) (b : Begun L) → IsBegunBy g found b → (ends : Ends tells lines available answers faults b now disk_faults logs OutTells written text end)
+        → (tells → (s : Setting) → IsRunOf lines g s → StandsOrEmpty (job_of s) (files_now g.start) → HavePromised s b now ends.plans ends.told) → RunEnd g now disk_faults logs OutTells written text end

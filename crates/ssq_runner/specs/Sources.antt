@@ -18,7 +18,7 @@ use Rattle.ssq_logs.specs.Went.{returned_with}
 use Rattle.ssq_runner.specs.declared.ask.Ask.{Ask}
 use Rattle.ssq_runner.specs.declared.fault.RunFault.{RunFault}
 use Rattle.ssq_runner.specs.declared.fault.RunFault.TheVariants as fault
-use Rattle.ssq_runner.specs.Running.{Given, IsOf, RunEnd}
+use Rattle.ssq_runner.specs.Running.{Given, IsOf, IsRunOf, RunEnd}
 
 -- The setting is that of the query over what inputs hold: all lines that the parts of its streams will come to hold, each fewer than 2^64; with 1
 -- to 64 partitions, those that are asked for where that is asked. A new checkpoint gets the partitions that are asked for, or one.
@@ -45,11 +45,12 @@ IsUnparted held streams fault.NoMemory = Unit {0}
 IsUnparted held streams _ = ⊥
 
 module _ {L : Type 0} (tells : Type 0) (lines : L → List Line) (available : L → ℕ) (answers : L → List ℕ) (faults : L → ℕ) where
-  -- How a run over inputs goes: its parts are not counted or not opened; or it runs over their logs, as they were opened, and gives them back.
+  -- How a run over inputs goes: its parts are not counted or not opened; or it runs over their logs, as they were opened, for the query over
+  -- what the inputs hold, and gives them back.
   pub data RunOver (held : Held) (known : List ℕ → ℕ → ℕ) (bound : Bound) (ask : Ask) (start now : History) (disk_faults disk_faults_now : ℕ) (returned returned_now : List (List ℕ)) (OutTells : Type 0) (old written text : List ℕ) (end : Result (Unit {0}) RunFault) : Type 0 where
     unparted : (why : RunFault) → IsUnparted held bound.streams why → IsStill start now OutTells old written text → end ≡ Err why → RunOver held known bound ask start now disk_faults disk_faults_now returned returned_now OutTells old written text end
     over : (g : Given L) → IsOf bound ask (counts_in held bound.streams) g → g.start ≡ start → g.disk_faults ≡ disk_faults → g.written ≡ old
-        → AreLogsOf tells lines available answers faults held known (parts_of bound.streams (counts_in held bound.streams)) g.logs → (logs : List L)
+        → AreLogsOf tells lines available answers faults held known (parts_of bound.streams (counts_in held bound.streams)) g.logs → ((s : Setting) → IsSettingFor held bound ask.partitions start s → IsRunOf lines g s) → (logs : List L)
         → RunEnd tells lines available answers faults g now disk_faults_now logs OutTells written text end → returned_now ≡ returned_with (map answers logs) returned
         → RunOver held known bound ask start now disk_faults disk_faults_now returned returned_now OutTells old written text end
 

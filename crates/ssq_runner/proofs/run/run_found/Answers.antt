@@ -1,4 +1,4 @@
-use Rattle.std.proofs.Common.{ℕ, List, length, map, refl, sym, subst, arith}
+use Rattle.std.proofs.Common.{ℕ, List, All, length, map, refl, sym, subst, arith}
 use Rattle.ssq_outside.specs.History.{History, files_now}
 use Rattle.ssq_open.specs.Lens.{asked}
 use Rattle.ssq_open.specs.Sought.{Sought}
@@ -6,13 +6,13 @@ use Rattle.ssq_open.specs.Opening.{IsOpen}
 use Rattle.ssq_core.specs.Sound.{StandsOrEmpty}
 use Rattle.ssq_course.specs.Setting.{Setting, job_of}
 use Rattle.ssq_promise.specs.Run.{WasRun}
+use Rattle.ssq_drive.specs.Rounds.{IsMeant}
 use Rattle.ssq_runner.specs.Lens.{lens_of}
-use Rattle.ssq_runner.specs.Ending.{Begun}
-use Rattle.ssq_runner.specs.Running.{IsOpenedOn, IsUnopened, ran}
+use Rattle.ssq_runner.specs.Ending.{Begun, cuts_in}
+use Rattle.ssq_runner.specs.Running.{IsOpenedOn, IsUnopened, LeavesStanding, ran}
 use Rattle.ssq_runner.proofs.Readying.{asked_count}
 use Rattle.ssq_runner.proofs.Owning.{stands_now}
-use Rattle.ssq_runner.proofs.Promising.{opening_stands, own_run, rounds_stand}
-use Rattle.ssq_runner.specs.Running.{LeavesStanding}
+use Rattle.ssq_runner.proofs.Promising.{opening_stands, own_run, rounds_keep, rounds_stand}
 use Rattle.ssq_runner.proofs.Firsts.{can_first, ready_first, sought_same, unopened_end}
 use Rattle.ssq_runner.proofs.run.run_found.Goals as goal
 
@@ -37,6 +37,9 @@ returns-in-Ok-clause-end g c = λ given of start faulty wrote ask.
       logs = given.logs;
       written = g.O.Output.content c.args.out.now;
     } in
+    let ends = c.run_rounds.ensures.ended b refl refl refl
+    (ready_first g.L.Log.tells (g.D.Disk.tells × g.L.Log.tells) g.L.Log.lines g.L.Log.available g.L.Log.answers g.L.Log.faults (λ t. t.1) c.rounds.ensures.nothing b c.args.logs.items c.args.found.items g.O.Output.tells ask
+    (let n = asked_count g.L.Log.tells g.L.Log.lines g.L.Log.available g.L.Log.answers g.L.Log.faults given.logs c.args.logs.items c.args.found.items ask in let few = c.requires.few in (let e = n.0 in omega (arith, e, few))) can) in
     ran c.args.found.items b
     (record {
       bound_is = sym of.bound_is;
@@ -52,9 +55,19 @@ returns-in-Ok-clause-end g c = λ given of start faulty wrote ask.
           c.args.bound.now c.args.ask c.args.counts.now c.args.found.items c.requires.asked c.requires.plain c.requires.each given of s run c.args.logs.items ask t.1 g.D.Disk.history c.args.disk c.open_found.new.disk start g.D.Disk.tells t.0 c.in-Ok.opened is
           c.args.ask.rounds (g.D.Disk.faults c.open_found.new.disk) (g.O.Output.content c.args.out.now) stands;
     })
-    (c.run_rounds.ensures.ended b refl refl refl
-    (ready_first g.L.Log.tells (g.D.Disk.tells × g.L.Log.tells) g.L.Log.lines g.L.Log.available g.L.Log.answers g.L.Log.faults (λ t. t.1) c.rounds.ensures.nothing b c.args.logs.items c.args.found.items g.O.Output.tells ask
-    (let n = asked_count g.L.Log.tells g.L.Log.lines g.L.Log.available g.L.Log.answers g.L.Log.faults given.logs c.args.logs.items c.args.found.items ask in let few = c.requires.few in (let e = n.0 in omega (arith, e, few))) can))
+    ends
+    (λ t s run stands.
+    let own = own_run (g.D.Disk.tells × g.L.Log.tells) g.L.Log.tells g.L.Log.lines g.L.Log.available g.L.Log.answers g.L.Log.faults c.job_is_wanted.ensures.wanted c.job_is_wanted.ensures.first c.round_begins_as_found.ensures.found c.job_is_wanted.ensures.parts
+    c.args.bound.now c.args.ask c.args.counts.now c.args.found.items c.requires.asked c.requires.plain c.requires.each given of s run c.args.logs.items ask t.1 g.D.Disk.history c.args.disk c.open_found.new.disk start g.D.Disk.tells t.0 c.in-Ok.opened is
+    c.args.ask.rounds (g.D.Disk.faults c.open_found.new.disk) (g.O.Output.content c.args.out.now) stands in
+    let was = subst (λ (x : Setting). WasRun (g.D.Disk.tells × g.L.Log.tells) (job_of x) (g.D.Disk.history c.open_found.new.disk) (g.D.Disk.history c.run_rounds.result.disk) (map (λ t. t.epoch) ends.told)) own.0 (ends.ran t own.1).run in
+    record {
+      run = was;
+      kept = rounds_keep (g.D.Disk.tells × g.L.Log.tells) g.L.Log.tells g.L.Log.lines g.L.Log.available g.L.Log.answers g.L.Log.faults c.job_is_wanted.ensures.wanted c.job_is_wanted.ensures.first c.round_begins_as_found.ensures.found c.job_is_wanted.ensures.parts
+          c.args.bound.now c.args.ask c.args.counts.now c.args.found.items c.requires.asked c.requires.plain c.requires.each given of s run c.args.logs.items ask t.1 g.D.Disk.history c.args.disk c.open_found.new.disk start g.D.Disk.tells t.0 c.in-Ok.opened is
+          c.run.ensures t (g.D.Disk.history c.run_rounds.result.disk) (map (λ t. t.epoch) ends.told) stands was;
+      meant = subst (λ (x : Setting). All (IsMeant x (cuts_in b ends.plans)) ends.told) own.0 (ends.ran t own.1).meant;
+    })
 
 pub returns-in-Err-clause-end : goal.returns-in-Err-clause-end
 returns-in-Err-clause-end g c = λ given of start faulty wrote ask.

@@ -1,12 +1,12 @@
 use Rattle.std.proofs.Common.{◌≡◌, ◌∙◌, ℕ, List, map, refl, sym, ap, subst, arith}
 use Rattle.ssq_core.specs.Sound.{StandsOrEmpty}
 use Rattle.ssq_shape.specs.declared.bound.Stream.{Stream}
-use Rattle.ssq_course.specs.Setting.{job_of}
+use Rattle.ssq_course.specs.Setting.{Setting, job_of}
 use Rattle.ssq_logs.specs.Opened.{parts_of, AreLogsOf}
 use Rattle.ssq_logs.specs.Parts.{counts_in, lines_in}
 use Rattle.ssq_logs.specs.Went.{returned_with}
-use Rattle.ssq_runner.specs.Running.{Given as RunGiven, RunEnd}
-use Rattle.ssq_runner.specs.Sources.{IsUnparted, unparted, over}
+use Rattle.ssq_runner.specs.Running.{Given as RunGiven, IsRunOf, RunEnd}
+use Rattle.ssq_runner.specs.Sources.{IsSettingFor, IsUnparted, unparted, over}
 use Rattle.ssq_runner.proofs.Owning.{leaves_still}
 use Rattle.ssq_runner.proofs.Sourcing.{logs_given, parted_counts, run_counts, run_of}
 use Rattle.ssq_runner.proofs.source.run_query.Given.{Over}
@@ -37,6 +37,12 @@ logs_are g c told =
     logs_given g.I.Inputs.tells g.I.Log.Log.lines g.I.Log.Log.available g.I.Log.Log.answers g.I.Log.Log.faults (g.D.Disk.tells × g.I.Log.Log.tells) (g.I.Inputs.held c.args.inputs.now) (g.I.Inputs.available c.args.inputs.now) (parts_of c.args.bound.now.streams (counts_in (g.I.Inputs.held c.args.inputs.now) c.args.bound.now.streams)) c.in-Ok.logs.items told
     (subst (λ (counts : List ℕ). AreLogsOf g.I.Inputs.tells g.I.Log.Log.lines g.I.Log.Log.available g.I.Log.Log.answers g.I.Log.Log.faults (g.I.Inputs.held c.args.inputs.now) (g.I.Inputs.available c.args.inputs.now) (parts_of c.args.bound.now.streams counts) c.in-Ok.logs.items) (counts_are g c told) (subst (λ (streams : List Stream). AreLogsOf g.I.Inputs.tells g.I.Log.Log.lines g.I.Log.Log.available g.I.Log.Log.answers g.I.Log.Log.faults (g.I.Inputs.held c.args.inputs.now) (g.I.Inputs.available c.args.inputs.now) (parts_of streams c.in-Ok.counts) c.in-Ok.logs.items) c.as_slice.ensures c.in-Ok.ensures.logs))
 
+-- the setting of the inputs is the run's
+setting_runs : (g : Over) → (c : goal.After-drop-counts-inside g) → g.I.Inputs.tells → (s : Setting) → IsSettingFor (g.I.Inputs.held c.args.inputs.now) c.args.bound.now c.args.ask.partitions (g.D.Disk.history c.args.disk) s
+    → IsRunOf g.I.Log.Log.lines (given_by g c) s
+setting_runs g c told s is =
+    run_of g.I.Log.Log.lines (g.I.Inputs.held c.args.inputs.now) c.args.bound.now c.args.ask.partitions (given_by g c) s refl refl (counts_are g c told) (subst (λ (streams : List Stream). map g.I.Log.Log.lines c.in-Ok.logs.items ≡ lines_in (g.I.Inputs.held c.args.inputs.now) streams) c.as_slice.ensures (c.in-Ok.ensures.lines told)) is
+
 -- how the run over them ends
 end_is : (g : Over) → (c : goal.After-drop-counts-inside g)
     → RunEnd (g.D.Disk.tells × g.I.Log.Log.tells) g.I.Log.Log.lines g.I.Log.Log.available g.I.Log.Log.answers g.I.Log.Log.faults (given_by g c) (g.D.Disk.history c.run_logs-disk.result.disk) (g.D.Disk.faults c.run_logs-disk.result.disk) c.run_logs-disk.result.logs.items g.O.Output.tells (g.O.Output.content c.run_logs-disk.new.out) c.run_logs-disk.new.text.items c.run_logs-disk.result.end
@@ -44,14 +50,14 @@ end_is g c = c.run_logs-disk.ensures.end (given_by g c) (record { bound_is = ref
 
 pub returns-in-Ok-clause-end : goal.returns-in-Ok-clause-end
 returns-in-Ok-clause-end g c = λ t told.
-    over (given_by g c) (record { bound_is = refl; asks_are = refl; cap_is = refl; rounds_are = refl; counts_are = counts_are g c told }) refl refl refl (logs_are g c told) c.run_logs-disk.result.logs.items (end_is g c)
+    over (given_by g c) (record { bound_is = refl; asks_are = refl; cap_is = refl; rounds_are = refl; counts_are = counts_are g c told }) refl refl refl (logs_are g c told) (setting_runs g c told) c.run_logs-disk.result.logs.items (end_is g c)
     (c.give_back.ensures.inputs.given told ∙ ap (returned_with (map g.I.Log.Log.answers c.run_logs-disk.result.logs.items)) (c.in-Ok.ensures.unreturned told))
 
 pub returns-in-Ok-clause-stands : goal.returns-in-Ok-clause-stands
 returns-in-Ok-clause-stands g c = λ t told s is each.
     c.run_logs-disk.ensures.stands t (g.met.I.Inputs.logs_tell told) (given_by g c) s
     (record { bound_is = refl; asks_are = refl; cap_is = refl; rounds_are = refl; counts_are = sym c.as_slice-in-Ok.ensures }) refl refl
-    (run_of g.I.Log.Log.lines (g.I.Inputs.held c.args.inputs.now) c.args.bound.now c.args.ask.partitions (given_by g c) s refl refl (counts_are g c told) (subst (λ (streams : List Stream). map g.I.Log.Log.lines c.in-Ok.logs.items ≡ lines_in (g.I.Inputs.held c.args.inputs.now) streams) c.as_slice.ensures (c.in-Ok.ensures.lines told)) is)
+    (setting_runs g c told s is)
     each
 
 pub returns-in-Ok-clause-cause : goal.returns-in-Ok-clause-cause
