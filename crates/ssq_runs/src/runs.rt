@@ -1,7 +1,7 @@
 //! Each run is a query, the lines of its parts and the files of a checkpoint, with what has to come of them.
 
 use ssq_accept::accept;
-use ssq_fakes::{MemDisk, MemInputs, MemLog, MemOut, OpenGate};
+use ssq_fakes::{FailAt, MemDisk, MemInputs, MemLog, MemOut, OpenGate};
 use ssq_outside::{Disk, DiskError, Name, Stage};
 use ssq_runner::{Ask, Ran, run_query};
 use std::alloc::{AllocError, AllocGlobal, Global};
@@ -180,6 +180,12 @@ static TIMES: [Run; 1] = [Run {
     ],
 }];
 
+/// How many calls on the disk the first run makes.
+const CALLS: u64 = 23;
+
+/// What a crash leaves: of each file that was not settled the oldest, or the newest.
+static IMAGES: [&[u64]; 2] = [&[], &[9, 9, 9, 9]];
+
 /// Whether the disk has exactly these files.
 fn holds<D: Disk>(alloc: Global, disk: &mut D, files: &[(Name, &[u8])]) -> bool {
     let Ok(names) = disk.names(alloc) else {
@@ -267,4 +273,24 @@ fn runs_end_as_they_are_worked(rt: HostRuntime) -> Result<(), Fail> {
 #[test]
 fn watermarks_are_planned(rt: HostRuntime) -> Result<(), Fail> {
     check(&rt, &TIMES)
+}
+
+/// Of the first run a call on the disk fails, each in turn, and a crash follows that leaves the oldest or the newest of each file: the
+/// next run comes to the same files.
+#[test]
+fn a_fault_and_a_crash_lose_nothing(rt: HostRuntime) -> Result<(), Fail> {
+    let alloc = rt.alloc();
+    let run = &RUNS[0];
+    for call in 0..CALLS {
+        for image in &IMAGES {
+            let disk = MemDisk::new(alloc).failing(vec![in alloc; FailAt::Disk(call)]?);
+            let (_, end, disk) = run_on(alloc, run, disk)?;
+            assert!(rt; end.as_str() != run.end, "at call {call}");
+            let crashed = disk.crash_at(alloc, u64::MAX, image)?;
+            let (_, end, mut disk) = run_on(alloc, run, crashed)?;
+            assert_eq!(rt; end.as_str(), run.end, "at call {call}");
+            assert!(rt; holds(alloc, &mut disk, DONE), "at call {call}");
+        }
+    }
+    Ok(())
 }
