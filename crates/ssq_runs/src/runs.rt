@@ -134,6 +134,40 @@ static RUNS: [Run; 5] = [
     },
 ];
 
+/// A checkpoint of another number of parts, of a log that has lost lines, and without its first plan: it is refused, and stays as it is.
+static REFUSED: [Run; 3] = [
+    Run {
+        query: FILTER,
+        parts: &[
+            b"{\"id\":1,\"v\":11}\n{\"id\":2,\"v\":5}\n{\"id\":3,\"v\":20}\n",
+            b"",
+        ],
+        cap: None,
+        before: DONE,
+        out: "",
+        end: "Err(Open(OtherParts { stream: 0, kept: 1, found: 2 }))",
+        after: DONE,
+    },
+    Run {
+        query: FILTER,
+        parts: &[b"{\"id\":1,\"v\":11}\n{\"id\":2,\"v\":5}\n"],
+        cap: None,
+        before: DONE,
+        out: "",
+        end: "Err(Open(LogShort { stream: 0, part: 0, logged: 3, found: 2 }))",
+        after: DONE,
+    },
+    Run {
+        query: FILTER,
+        parts: &[b"{\"id\":1,\"v\":11}\n{\"id\":2,\"v\":5}\n{\"id\":3,\"v\":20}\n"],
+        cap: None,
+        before: &[META, PLAN_1, COMMIT_0, COMMIT_1, OUT_0, OUT_1],
+        out: "",
+        end: "Err(Open(Damaged { name: Plan(0) }))",
+        after: &[META, PLAN_1, COMMIT_0, COMMIT_1, OUT_0, OUT_1],
+    },
+];
+
 /// The cuts and watermarks of two parts, line by line.
 static TIMES: [Run; 1] = [Run {
     query: TIMED,
@@ -268,6 +302,11 @@ fn check(rt: &(impl Abort + AllocGlobal), runs: &[Run]) -> Result<(), Fail> {
 #[test]
 fn runs_end_as_they_are_worked(rt: HostRuntime) -> Result<(), Fail> {
     check(&rt, &RUNS)
+}
+
+#[test]
+fn checkpoints_are_refused(rt: HostRuntime) -> Result<(), Fail> {
+    check(&rt, &REFUSED)
 }
 
 #[test]
