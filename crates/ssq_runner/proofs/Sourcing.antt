@@ -75,13 +75,6 @@ module _ {L : Type 0} (tells : Type 0) (lines : L → List Line) (available : L 
   logs_before held mid known more [] (log ∷ logs) same grown are = absurd are
   logs_before held mid known more (part ∷ parts) [] same grown are = absurd are
 
-  -- where it is known that inputs tell what they hold
-  pub logs_given : (U : Type 0) (held : Held) (known : List ℕ → ℕ → ℕ) (parts : List Part) (logs : List L) → tells → AreLogsOf tells lines available answers faults held known parts logs → AreLogsOf U lines available answers faults held known parts logs
-  logs_given U held known [] [] t are = tt
-  logs_given U held known (part ∷ parts) (log ∷ logs) t are = (record { right = λ u. are.0.right t; begins = λ u. are.0.begins t; unasked = λ u. are.0.unasked t; fresh = are.0.fresh }, logs_given U held known parts logs t are.1)
-  logs_given U held known [] (log ∷ logs) t are = absurd are
-  logs_given U held known (part ∷ parts) [] t are = absurd are
-
   -- a fault of the outside was counted
   stop_counts : (s : Setting) (cuts : Cuts) (found : List ℕ) (planned e : ℕ) (first disk disk_now logs inputs inputs_now out out_now : ℕ) (c : Cause) → disk ≤ first → (0 < logs → Rises inputs inputs_now) → IsRoundStop tells s cuts found planned e first disk_now logs c
       → HasCount disk disk_now inputs inputs_now out out_now (Err (fault.Round c))

@@ -38,20 +38,20 @@ pub record IsStill (start now : History) (OutTells : Type 0) (old written text :
   pub unwritten : OutTells → written ≡ old
   pub untold : text ≡ []
 
--- why a run did not come to its logs: a stream has too many parts, the inputs failed, or memory ran out
-abbrev pub IsUnparted : Held → List Stream → RunFault → Type 0
-IsUnparted held streams (fault.Parts why) = PartsCause held streams why
-IsUnparted held streams fault.NoMemory = Unit {0}
-IsUnparted held streams _ = ⊥
+-- why a run did not come to its logs: a stream has too many parts, where inputs tell what they hold; the inputs failed; or memory ran out
+abbrev pub IsUnparted : Type 0 → Held → List Stream → RunFault → Type 0
+IsUnparted told held streams (fault.Parts why) = told → PartsCause held streams why
+IsUnparted told held streams fault.NoMemory = Unit {0}
+IsUnparted told held streams _ = ⊥
 
-module _ {L : Type 0} (tells : Type 0) (lines : L → List Line) (available : L → ℕ) (answers : L → List ℕ) (faults : L → ℕ) where
+module _ {L : Type 0} (told tells : Type 0) (lines : L → List Line) (available : L → ℕ) (answers : L → List ℕ) (faults : L → ℕ) where
   -- How a run over inputs goes: its parts are not counted or not opened; or it runs over their logs, as they were opened, for the query over
   -- what the inputs hold, and gives them back.
   pub data RunOver (held : Held) (known : List ℕ → ℕ → ℕ) (bound : Bound) (ask : Ask) (start now : History) (disk_faults disk_faults_now : ℕ) (returned returned_now : List (List ℕ)) (OutTells : Type 0) (old written text : List ℕ) (end : Result (Unit {0}) RunFault) : Type 0 where
-    unparted : (why : RunFault) → IsUnparted held bound.streams why → IsStill start now OutTells old written text → end ≡ Err why → RunOver held known bound ask start now disk_faults disk_faults_now returned returned_now OutTells old written text end
-    over : (g : Given L) → IsOf bound ask (counts_in held bound.streams) g → g.start ≡ start → g.disk_faults ≡ disk_faults → g.written ≡ old
-        → AreLogsOf tells lines available answers faults held known (parts_of bound.streams (counts_in held bound.streams)) g.logs → ((s : Setting) → IsSettingFor held bound ask.partitions start s → IsRunOf lines g s) → (logs : List L)
-        → RunEnd tells lines available answers faults g now disk_faults_now logs OutTells written text end → returned_now ≡ returned_with (map answers logs) returned
+    unparted : (why : RunFault) → IsUnparted told held bound.streams why → IsStill start now OutTells old written text → end ≡ Err why → RunOver held known bound ask start now disk_faults disk_faults_now returned returned_now OutTells old written text end
+    over : (g : Given L) → (told → g.counts ≡ counts_in held bound.streams) → IsOf bound ask g.counts g → g.start ≡ start → g.disk_faults ≡ disk_faults → g.written ≡ old
+        → AreLogsOf told lines available answers faults held known (parts_of bound.streams g.counts) g.logs → (told → (s : Setting) → IsSettingFor held bound ask.partitions start s → IsRunOf lines g s) → (logs : List L)
+        → RunEnd tells lines available answers faults g now disk_faults_now logs OutTells written text end → (told → returned_now ≡ returned_with (map answers logs) returned)
         → RunOver held known bound ask start now disk_faults disk_faults_now returned returned_now OutTells old written text end
 
 -- A fault of the outside is told only where it was counted.

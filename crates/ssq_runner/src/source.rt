@@ -41,7 +41,7 @@ fn open_parts<I: Inputs>(
     ensures counts { I.tells → IfOk result (λ opened. opened.0 ≡ counts_in (I.held inputs.old) streams.now) }
     ensures logs { IfOk result (λ opened. AreLogsOf I.tells I.Log.lines I.Log.available I.Log.answers I.Log.faults (I.held inputs.old) (I.available inputs.old) (parts_of streams.now opened.0) opened.1.items) }
     ensures lines { I.tells → IfOk result (λ opened. map I.Log.lines opened.1.items ≡ lines_in (I.held inputs.old) streams.now) }
-    ensures unparted { I.tells → IfErr result (IsUnparted (I.held inputs.old) streams.now) }
+    ensures unparted { IfErr result (IsUnparted I.tells (I.held inputs.old) streams.now) }
     ensures held { I.tells → I.held inputs.new ≡ I.held inputs.old }
     ensures unreturned { I.tells → OnOk result (I.returned inputs.new ≡ I.returned inputs.old) }
     ensures counted { min (I.faults inputs.old) (2 ^ 64 - 1) ≤ I.faults inputs.new }
@@ -79,7 +79,7 @@ pub fn run_query<D: Disk, I: Inputs, O: Output, G: Gate>(
     requires cap { HasCap ask.cap }
     requires rounds { 1 ≤ ask.rounds }
     // How it goes, in the order of its work: what it leaves, what is written, and why it ends.
-    ensures end { D.tells → I.tells → RunOver (D.tells × I.Log.tells) I.Log.lines I.Log.available I.Log.answers I.Log.faults (I.held inputs.old) (I.available inputs.old) bound.now ask (D.history disk) (D.history result.disk) (D.faults disk) (D.faults result.disk)
+    ensures end { RunOver I.tells (D.tells × I.Log.tells) I.Log.lines I.Log.available I.Log.answers I.Log.faults (I.held inputs.old) (I.available inputs.old) bound.now ask (D.history disk) (D.history result.disk) (D.faults disk) (D.faults result.disk)
         (I.returned inputs.old) (I.returned inputs.new) O.tells (O.content out.old) (O.content out.new) result.text.items result.end }
     // Where each image stands for the query over what the inputs hold, or stands empty, so does each image of each moment.
     ensures stands { D.tells → I.tells → (s : SettingOf) → IsSettingFor (I.held inputs.old) bound.now ask.partitions (D.history disk) s → LeavesNow (D.history disk) (StandsOrEmpty (job_of s)) → LeavesOnly (D.history disk) (D.history result.disk) (StandsOrEmpty (job_of s)) }

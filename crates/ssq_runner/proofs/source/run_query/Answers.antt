@@ -1,4 +1,4 @@
-use Rattle.std.proofs.Common.{◌≡◌, ◌∙◌, ℕ, List, map, refl, sym, ap, subst, arith}
+use Rattle.std.proofs.Common.{◌≡◌, ◌∙◌, List, map, refl, sym, ap, subst, arith}
 use Rattle.ssq_core.specs.Sound.{StandsOrEmpty}
 use Rattle.ssq_shape.specs.declared.bound.Stream.{Stream}
 use Rattle.ssq_course.specs.Setting.{Setting, job_of}
@@ -8,7 +8,7 @@ use Rattle.ssq_logs.specs.Went.{returned_with}
 use Rattle.ssq_runner.specs.Running.{Given as RunGiven, IsRunOf, RunEnd}
 use Rattle.ssq_runner.specs.Sources.{IsSettingFor, IsUnparted, unparted, over}
 use Rattle.ssq_runner.proofs.Owning.{leaves_still}
-use Rattle.ssq_runner.proofs.Sourcing.{logs_given, parted_counts, run_counts, run_of}
+use Rattle.ssq_runner.proofs.Sourcing.{parted_counts, run_counts, run_of}
 use Rattle.ssq_runner.proofs.source.run_query.Given.{Over}
 use Rattle.ssq_runner.proofs.source.run_query.Goals as goal
 
@@ -31,11 +31,10 @@ counts_are : (g : Over) → (c : goal.After-drop-counts-inside g) → g.I.Inputs
 counts_are g c told = subst (λ (streams : List Stream). c.in-Ok.counts ≡ counts_in (g.I.Inputs.held c.args.inputs.now) streams) c.as_slice.ensures (c.in-Ok.ensures.counts told)
 
 -- the logs are those of the parts
-logs_are : (g : Over) → (c : goal.After-drop-counts-inside g) → g.I.Inputs.tells
-    → AreLogsOf (g.D.Disk.tells × g.I.Log.Log.tells) g.I.Log.Log.lines g.I.Log.Log.available g.I.Log.Log.answers g.I.Log.Log.faults (g.I.Inputs.held c.args.inputs.now) (g.I.Inputs.available c.args.inputs.now) (parts_of c.args.bound.now.streams (counts_in (g.I.Inputs.held c.args.inputs.now) c.args.bound.now.streams)) c.in-Ok.logs.items
-logs_are g c told =
-    logs_given g.I.Inputs.tells g.I.Log.Log.lines g.I.Log.Log.available g.I.Log.Log.answers g.I.Log.Log.faults (g.D.Disk.tells × g.I.Log.Log.tells) (g.I.Inputs.held c.args.inputs.now) (g.I.Inputs.available c.args.inputs.now) (parts_of c.args.bound.now.streams (counts_in (g.I.Inputs.held c.args.inputs.now) c.args.bound.now.streams)) c.in-Ok.logs.items told
-    (subst (λ (counts : List ℕ). AreLogsOf g.I.Inputs.tells g.I.Log.Log.lines g.I.Log.Log.available g.I.Log.Log.answers g.I.Log.Log.faults (g.I.Inputs.held c.args.inputs.now) (g.I.Inputs.available c.args.inputs.now) (parts_of c.args.bound.now.streams counts) c.in-Ok.logs.items) (counts_are g c told) (subst (λ (streams : List Stream). AreLogsOf g.I.Inputs.tells g.I.Log.Log.lines g.I.Log.Log.available g.I.Log.Log.answers g.I.Log.Log.faults (g.I.Inputs.held c.args.inputs.now) (g.I.Inputs.available c.args.inputs.now) (parts_of streams c.in-Ok.counts) c.in-Ok.logs.items) c.as_slice.ensures c.in-Ok.ensures.logs))
+logs_are : (g : Over) → (c : goal.After-drop-counts-inside g)
+    → AreLogsOf g.I.Inputs.tells g.I.Log.Log.lines g.I.Log.Log.available g.I.Log.Log.answers g.I.Log.Log.faults (g.I.Inputs.held c.args.inputs.now) (g.I.Inputs.available c.args.inputs.now) (parts_of c.args.bound.now.streams c.in-Ok.counts) c.in-Ok.logs.items
+logs_are g c =
+    subst (λ (streams : List Stream). AreLogsOf g.I.Inputs.tells g.I.Log.Log.lines g.I.Log.Log.available g.I.Log.Log.answers g.I.Log.Log.faults (g.I.Inputs.held c.args.inputs.now) (g.I.Inputs.available c.args.inputs.now) (parts_of streams c.in-Ok.counts) c.in-Ok.logs.items) c.as_slice.ensures c.in-Ok.ensures.logs
 
 -- the setting of the inputs is the run's
 setting_runs : (g : Over) → (c : goal.After-drop-counts-inside g) → g.I.Inputs.tells → (s : Setting) → IsSettingFor (g.I.Inputs.held c.args.inputs.now) c.args.bound.now c.args.ask.partitions (g.D.Disk.history c.args.disk) s
@@ -49,9 +48,9 @@ end_is : (g : Over) → (c : goal.After-drop-counts-inside g)
 end_is g c = c.run_logs-disk.ensures.end (given_by g c) (record { bound_is = refl; asks_are = refl; cap_is = refl; rounds_are = refl; counts_are = sym c.as_slice-in-Ok.ensures }) refl refl refl refl
 
 pub returns-in-Ok-clause-end : goal.returns-in-Ok-clause-end
-returns-in-Ok-clause-end g c = λ t told.
-    over (given_by g c) (record { bound_is = refl; asks_are = refl; cap_is = refl; rounds_are = refl; counts_are = counts_are g c told }) refl refl refl (logs_are g c told) (setting_runs g c told) c.run_logs-disk.result.logs.items (end_is g c)
-    (c.give_back.ensures.inputs.given told ∙ ap (returned_with (map g.I.Log.Log.answers c.run_logs-disk.result.logs.items)) (c.in-Ok.ensures.unreturned told))
+returns-in-Ok-clause-end g c =
+    over (given_by g c) (counts_are g c) (record { bound_is = refl; asks_are = refl; cap_is = refl; rounds_are = refl; counts_are = refl }) refl refl refl (logs_are g c) (setting_runs g c) c.run_logs-disk.result.logs.items (end_is g c)
+    (λ told. c.give_back.ensures.inputs.given told ∙ ap (returned_with (map g.I.Log.Log.answers c.run_logs-disk.result.logs.items)) (c.in-Ok.ensures.unreturned told))
 
 pub returns-in-Ok-clause-stands : goal.returns-in-Ok-clause-stands
 returns-in-Ok-clause-stands g c = λ t told s is each.
@@ -69,8 +68,8 @@ returns-in-Ok-clause-cause g c =
     c.run_logs-disk.ensures.cause (given_by g c) (g.D.Disk.history c.run_logs-disk.result.disk) refl (end_is g c)
 
 pub returns-in-Err-clause-end : goal.returns-in-Err-clause-end
-returns-in-Err-clause-end g c = λ t told.
-    unparted c.in-Err.fault (subst (λ (streams : List Stream). IsUnparted (g.I.Inputs.held c.args.inputs.now) streams c.in-Err.fault) c.as_slice.ensures (c.in-Err.ensures.unparted told))
+returns-in-Err-clause-end g c =
+    unparted c.in-Err.fault (subst (λ (streams : List Stream). IsUnparted g.I.Inputs.tells (g.I.Inputs.held c.args.inputs.now) streams c.in-Err.fault) c.as_slice.ensures c.in-Err.ensures.unparted)
     (record { same = refl; unwritten = λ o. refl; untold = c.new-text.ensures.items }) refl
 
 pub returns-in-Err-clause-stands : goal.returns-in-Err-clause-stands
