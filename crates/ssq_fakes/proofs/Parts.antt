@@ -3,12 +3,13 @@ use Rattle.std.proofs.Common.{◌≡◌, ◌++◌, ◌∷◌, [], ◌<◌, ◌�
 use Rattle.std.proofs.lemmas.List.Elements.{filter-append}
 use Rattle.std.proofs.lemmas.Grind.{common_steps}
 use Rattle.std.specs.Prelude.{slice_get, if◌then◌else◌}
+use Rattle.std.specs.Option.{option_map_or}
 use Rattle.std.specs.String.{string_bytes}
 use Rattle.std.specs.Str.{bytes_eq}
 use Rattle.ssq_outside.specs.Logs.{Held}
-use Rattle.ssq_fakes.specs.Logs.{log_lines}
+use Rattle.ssq_fakes.specs.Logs.{log_lines, log_plan}
 use Rattle.ssq_fakes.specs.declared.inputs.Part.{Part}
-use Rattle.ssq_fakes.specs.Inputs.{parts_of, lines_at, holding_part}
+use Rattle.ssq_fakes.specs.Inputs.{parts_of, lines_at, plan_at, holding_part, planning_part}
 
 -- below a list's length there is an element
 there : (xs : List Part) (n : ℕ) → n < length xs → slice_get xs n ≡ None → ⊥
@@ -36,15 +37,24 @@ count_if : (b : Bool) (xs : List Part) (part : Part) → length (if b then xs ++
 count_if true xs part = simp length-append
 count_if false xs part = refl
 
-lines_pushed : (xs : List Part) (part : Part) (k : ℕ) → lines_at (xs ++ part ∷ []) k ≡ (if k == length xs then log_lines part.log else lines_at xs k)
-lines_pushed [] part zero = refl
-lines_pushed [] part (suc k) = let other : (suc k == 0) ≡ false = grind (arith, rules) in rw other refl
-lines_pushed (x ∷ xs) part zero = let other : (0 == length (x ∷ xs)) ≡ false = grind (arith, rules) in rw other refl
-lines_pushed (x ∷ xs) part (suc k) = let same : (suc k == length (x ∷ xs)) ≡ (k == length xs) = grind (arith, rules) in rw same (lines_pushed xs part k)
+module _ {X : Type 0} (of : Part → List X) where
+  -- what the part with this number has
+  abbrev pub at_part : List Part → ℕ → List X
+  at_part parts number = option_map_or of (slice_get parts number) []
 
-lines_if : (b : Bool) (xs : List Part) (part : Part) (k : ℕ) → lines_at (if b then xs ++ part ∷ [] else xs) k ≡ (if b && k == length xs then log_lines part.log else lines_at xs k)
-lines_if true xs part k = lines_pushed xs part k
-lines_if false xs part k = refl
+  pushed : (xs : List Part) (part : Part) (k : ℕ) → at_part (xs ++ part ∷ []) k ≡ (if k == length xs then of part else at_part xs k)
+  pushed [] part zero = refl
+  pushed [] part (suc k) = let other : (suc k == 0) ≡ false = grind (arith, rules) in rw other refl
+  pushed (x ∷ xs) part zero = let other : (0 == length (x ∷ xs)) ≡ false = grind (arith, rules) in rw other refl
+  pushed (x ∷ xs) part (suc k) = let same : (suc k == length (x ∷ xs)) ≡ (k == length xs) = grind (arith, rules) in rw same (pushed xs part k)
+
+  pushed_if : (b : Bool) (xs : List Part) (part : Part) (k : ℕ) → at_part (if b then xs ++ part ∷ [] else xs) k ≡ (if b && k == length xs then of part else at_part xs k)
+  pushed_if true xs part k = pushed xs part k
+  pushed_if false xs part k = refl
+
+  pub at_part-push : (parts : List Part) (part : Part) (q : List ℕ) (k : ℕ)
+      → at_part (parts_of (parts ++ part ∷ []) q) k ≡ (if bytes_eq (string_bytes part.stream) q && k == length (parts_of parts q) then of part else at_part (parts_of parts q) k)
+  at_part-push parts part q k = rw (parts_of-push parts part q) (pushed_if (bytes_eq (string_bytes part.stream) q) (parts_of parts q) part k)
 
 -- what parts hold, beside the texts
 abbrev held_by : (List ℕ → List ℕ) → List Part → Held
@@ -57,5 +67,10 @@ held_by-push text parts part =
     let count : (q : List ℕ) → length (parts_of (parts ++ part ∷ []) q) ≡ (if b q then length (parts_of parts q) + 1 else length (parts_of parts q)) =
     λ q. rw (parts_of-push parts part q) (count_if (b q) (parts_of parts q) part) in
     let lines : (q : List ℕ) (k : ℕ) → lines_at (parts_of (parts ++ part ∷ []) q) k ≡ (if b q && k == length (parts_of parts q) then log_lines part.log else lines_at (parts_of parts q) k) =
-    λ q k. rw (parts_of-push parts part q) (lines_if (b q) (parts_of parts q) part k) in
+    λ q k. at_part-push (λ part. log_lines part.log) parts part q k in
     λ i. record { text = text; parts = λ q. count q i; lines = λ q k. lines q k i }
+
+-- and its logs have its plan
+pub plans-push : (held : Held) (parts : List Part) (part : Part) → held.parts ≡ (λ q. length (parts_of parts q))
+    → (λ (q : List ℕ). plan_at (parts_of (parts ++ part ∷ []) q)) ≡ planning_part (string_bytes part.stream) (log_plan part.log) held (λ q. plan_at (parts_of parts q))
+plans-push held parts part is = rw is (λ i q k. at_part-push (λ part. log_plan part.log) parts part q k i)

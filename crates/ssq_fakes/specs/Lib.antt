@@ -4,5 +4,6 @@ pub mod Inputs
 pub mod Logs
 pub mod Names
 pub mod Outputs
+pub mod Plans
 pub mod Records
 pub mod Returned

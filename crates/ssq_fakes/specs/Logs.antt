@@ -22,6 +22,14 @@ log_answers log = replicate log.asked (length (log_lines log))
 abbrev pub log_faults : MemLog → ℕ
 log_faults log = log.faults.count
 
+-- the calls of `lines` and `line` that are to fail, by their numbers from 0
+abbrev pub log_plan : MemLog → List ℕ
+log_plan log = log.faults.plan.items
+
+-- the number of the next call of `lines` or `line`
+abbrev pub log_calls : MemLog → ℕ
+log_calls log = log.faults.calls
+
 -- the lines of these bytes, where the first has begun with `begun`
 abbrev pub lines_after : Line → List ℕ → List Line
 lines_after begun [] = []

@@ -3,42 +3,15 @@
 ghost use Rattle.std.specs.Prelude.{◌≡◌, ◌+◌, ◌-◌, ◌^◌, ◌≤◌, ◌⊎◌, [], ◌∷◌, ⊤, None, length, min, slice_index, option_map, IfOk, OnOk, OnErr};
 ghost use Rattle.ssq_outside.specs.Faults.{Rises};
 ghost use Rattle.ssq_fakes.specs.Records.{events_of};
+ghost use Rattle.ssq_fakes.specs.Plans.{on_stage};
 ghost use Rattle.ssq_fakes.specs.Crashes.{EachImageIsPicked};
 
-use crate::faults::{Faults, Plan};
+use crate::faults::Faults;
 use crate::names::index_of;
+use crate::plan::{DiskPlan, FailAt};
 use crate::record::{Event, Record};
 use ssq_outside::{Disk, DiskError, DiskFault, Name, Stage, StageError};
 use std::alloc::{AllocError, Global};
-
-/// A call that is to fail.
-#[derive(Clone, Copy, Debug, PartialEq, Eq)]
-pub enum FailAt {
-    /// The call on the disk with this number, from 0.
-    Disk(u64),
-    /// On the stage with this number, in the order in which they were begun, the call with this number; both from 0.
-    Stage(u64, u64),
-}
-
-/// The calls on a disk and its stages that are to fail.
-#[derive(Drop)]
-pub struct DiskPlan {
-    calls: Vec<FailAt>,
-    /// After so many calls on the disk each one fails.
-    stop_after: Option<u64>,
-}
-
-impl Plan for DiskPlan {
-    ghost is_empty = { λ plan. (plan.calls.items ≡ []) × (plan.stop_after ≡ None) };
-
-    fn has(&self, call: u64) -> bool {
-        let is_stopped = match self.stop_after {
-            Some(most) => most <= call,
-            None => false,
-        };
-        is_stopped || self.calls.contains(&FailAt::Disk(call))
-    }
-}
 
 /// Room for a file's publishing and its removal, and for the sync after each.
 #[derive(Drop)]
@@ -76,6 +49,11 @@ pub struct MemFile {
 }
 
 impl Stage for MemStage {
+    ghost use Rattle.std.specs.Prelude.{◌≡◌, ◌↔◌, ◌≤◌, ◌++◌, [], true, ⊤, IsErr, OnOk, IfOk, IfErr, OnErr, IsErrOf};
+    ghost use Rattle.ssq_outside.specs.Faults.{Rises, StaysSure};
+    ghost use Rattle.ssq_fakes.specs.Plans.{is_named, call_after};
+    ghost use Rattle.ssq_fakes.specs.Disks.{stage_plan, stage_calls};
+
     type Sealed = MemFile;
 
     ghost tells = { ⊤ };
@@ -88,7 +66,17 @@ impl Stage for MemStage {
 
     ghost sure = { λ stage. stage.faults.plan.items ≡ [] };
 
-    fn write(&mut self, bytes: &[u8]) -> Result<(), StageError> {
+    fn write(&mut self, bytes: &[u8]) -> Result<(), StageError>
+        ensures planned { is_named (stage_plan self.old) (stage_calls self.old) ≡ true ↔ IsErrOf result StageError.Fault }
+        ensures next { (stage_plan self.new ≡ stage_plan self.old) × (stage_calls self.new ≡ call_after (stage_calls self.old)) }
+        ensures ok { OnOk result (self.new.bytes.items ≡ self.old.bytes.items ++ bytes.now) }
+        ensures err { OnErr result (self.new.bytes.items ≡ self.old.bytes.items) }
+        ensures counted { self.old.faults.count ≤ self.new.faults.count }
+        ensures unfailed { OnOk result (self.new.faults.count ≡ self.old.faults.count) }
+        ensures unfailed_memory { IsErrOf result StageError.NoMemory → self.new.faults.count ≡ self.old.faults.count }
+        ensures cause { IsErrOf result StageError.Fault → Rises self.old.faults.count self.new.faults.count }
+        ensures never { stage_plan self.old ≡ [] → StaysSure 0 self.old.faults.count self.new.faults.count (stage_plan self.new ≡ []) }
+    {
         if self.faults.fails() {
             return Err(StageError::Fault);
         }
@@ -98,7 +86,14 @@ impl Stage for MemStage {
         }
     }
 
-    fn sync(mut self) -> Result<MemFile, MemStage> {
+    fn sync(mut self) -> Result<MemFile, MemStage>
+        ensures planned { is_named (stage_plan self) (stage_calls self) ≡ true ↔ IsErr result }
+        ensures next { IfErr result (λ stage. (stage_plan stage ≡ stage_plan self) × (stage_calls stage ≡ call_after (stage_calls self))) }
+        ensures ok { IfOk result (λ file. file.bytes.items ≡ self.bytes.items) }
+        ensures err { IfErr result (λ stage. stage.bytes.items ≡ self.bytes.items) }
+        ensures cause { IfErr result (λ stage. Rises self.faults.count stage.faults.count) }
+        ensures never { stage_plan self ≡ [] → OnOk result ⊤ × OnErr result ⊥ }
+    {
         if self.faults.fails() {
             return Err(self);
         }
@@ -129,12 +124,15 @@ impl MemDisk {
     ghost use Rattle.ssq_outside.specs.declared.name.Name.{Name};
     ghost use Rattle.ssq_fakes.specs.Records.{content_in};
     ghost use Rattle.ssq_fakes.specs.Crashes.{IsCrashed, filled};
-    ghost use Rattle.ssq_fakes.specs.Disks.{disk_history, disk_faults, history_of, IsSureDisk};
+    ghost use Rattle.ssq_fakes.specs.Disks.{disk_history, disk_faults, disk_plan, disk_calls, disk_stages, disk_room, history_of, IsSureDisk};
 
     /// An empty disk at moment 0. It never fails.
     pub fn new(alloc: Global) -> Self
         ensures history { disk_history result ≡ history_of [] 0 }
         ensures count { disk_faults result ≡ 0 }
+        ensures plan { disk_plan result ≡ record { named = []; stop_after = None } }
+        ensures calls { (disk_calls result ≡ 0) × (disk_stages result ≡ 0) }
+        ensures room { disk_room result ≡ 0 }
         ensures sure { ⟦<MemDisk as Disk>⟧.sure result }
     {
         MemDisk {
@@ -154,6 +152,9 @@ impl MemDisk {
     pub fn failing(mut self, calls: Vec<FailAt>) -> Self
         ensures history { disk_history result ≡ disk_history self }
         ensures count { disk_faults result ≡ disk_faults self }
+        ensures plan { disk_plan result ≡ record { named = calls.items; stop_after = (disk_plan self).stop_after } }
+        ensures calls { (disk_calls result ≡ disk_calls self) × (disk_stages result ≡ disk_stages self) }
+        ensures room { disk_room result ≡ disk_room self }
     {
         self.faults.plan.calls = calls;
         self
@@ -163,6 +164,9 @@ impl MemDisk {
     pub fn stop_after(mut self, n: u64) -> Self
         ensures history { disk_history result ≡ disk_history self }
         ensures count { disk_faults result ≡ disk_faults self }
+        ensures plan { disk_plan result ≡ record { named = (disk_plan self).named; stop_after = Some n } }
+        ensures calls { (disk_calls result ≡ disk_calls self) × (disk_stages result ≡ disk_stages self) }
+        ensures room { disk_room result ≡ disk_room self }
     {
         self.faults.plan.stop_after = Some(n);
         self
@@ -177,6 +181,8 @@ impl MemDisk {
     pub fn crash_at(&self, alloc: Global, moment: u64, image: &[u64]) -> Result<MemDisk, AllocError>
         ensures crashed { IfOk result (λ disk. IsCrashed ((disk_history self.now).had_at (min moment (disk_history self.now).moment)) image.now (disk_history disk)) }
         ensures count { IfOk result (λ disk. disk_faults disk ≡ 0) }
+        ensures plan { IfOk result (λ disk. disk_plan disk ≡ record { named = []; stop_after = None }) }
+        ensures calls { IfOk result (λ disk. (disk_calls disk ≡ 0) × (disk_stages disk ≡ 0)) }
         ensures sure { IfOk result (λ disk. ⟦<MemDisk as Disk>⟧.sure disk) }
     {
         let past = self.record.before(self.clock.saturating_sub(moment));
@@ -199,6 +205,7 @@ impl MemDisk {
         ensures content { OnOk result ((q : Name) → content_in (events_of self.new.record) q ≡ filled name (option_map (λ bytes. bytes.now) content.entry) (content_in (events_of self.old.record)) q) }
         ensures clock { self.new.clock ≡ self.old.clock }
         ensures count { disk_faults self.new ≡ disk_faults self.old }
+        ensures calls { (self.new.faults ≡ self.old.faults) × (disk_stages self.new ≡ disk_stages self.old) }
         ensures sure { IsSureDisk self.old → OnOk result (IsSureDisk self.new) }
     {
         if let Some(bytes) = content {
@@ -220,6 +227,7 @@ impl MemDisk {
         ensures record { OnOk result (events_of self.new.record ≡ Event.Synced ∷ events_of self.old.record) }
         ensures clock { self.new.clock ≡ self.old.clock }
         ensures count { disk_faults self.new ≡ disk_faults self.old }
+        ensures calls { (self.new.faults ≡ self.old.faults) × (disk_stages self.new ≡ disk_stages self.old) }
         ensures sure { IsSureDisk self.old → OnOk result (IsSureDisk self.new) }
     {
         let room = Box::new(alloc, Record::Empty)?;
@@ -238,6 +246,7 @@ impl MemDisk {
         ensures counted { disk_faults self.old ≤ disk_faults self.new }
         ensures spare { self.new.spare ≡ self.old.spare }
         ensures plan { self.new.faults.plan ≡ self.old.faults.plan }
+        ensures calls { (disk_calls self.new ≡ disk_calls self.old) × (disk_stages self.new ≡ disk_stages self.old) }
     {
         if self.clock == u64::MAX {
             self.faults.raise();
@@ -259,6 +268,7 @@ impl MemDisk {
         ensures counted { disk_faults self.old ≤ disk_faults self.new }
         ensures spare { OnOk result (length (events_of self.old.spare) ≡ length (events_of self.new.spare) + 1) }
         ensures plan { self.new.faults.plan ≡ self.old.faults.plan }
+        ensures calls { (disk_calls self.new ≡ disk_calls self.old) × (disk_stages self.new ≡ disk_stages self.old) }
     {
         match self.spare.take_room() {
             Some(room) => self.advance(event, room),
@@ -275,6 +285,7 @@ impl MemDisk {
         ensures record { self.new.record ≡ self.old.record }
         ensures clock { self.new.clock ≡ self.old.clock }
         ensures faults { self.new.faults ≡ self.old.faults }
+        ensures stages { disk_stages self.new ≡ disk_stages self.old }
     {
         self.spare.push(Event::Synced, sync);
         self.spare.push(Event::Synced, removal);
@@ -282,24 +293,13 @@ impl MemDisk {
     }
 }
 
-/// The calls that are to fail on the stage with this number.
-fn stage_calls(alloc: Global, calls: &[FailAt], stage: u64) -> Result<Vec<u64>, AllocError>
-    ensures { IfOk result (λ found. length found.items ≤ length calls.now) }
-{
-    let mut found = Vec::new(alloc);
-    for call in calls {
-        if let FailAt::Stage(of, at) = call {
-            if *of == stage {
-                found.push(*at)?;
-            }
-        }
-    }
-    Ok(found)
-}
-
 impl Disk for MemDisk {
-    ghost use Rattle.std.specs.Prelude.{⊤};
-    ghost use Rattle.ssq_fakes.specs.Disks.{disk_history, disk_faults, IsSureDisk};
+    ghost use Rattle.std.specs.Prelude.{◌≡◌, ◌↔◌, ◌<◌, ◌≤◌, ◌+◌, ◌⊎◌, ◌∷◌, [], true, ⊤, option_map, IfOk, IsErr, OnOk, OnErr, IsErrOf};
+    ghost use Rattle.ssq_outside.specs.Faults.{Rises, StaysSure};
+    ghost use Rattle.ssq_outside.specs.Files.{added, removed, settled_at, IsSyncStep, AreNames};
+    ghost use Rattle.ssq_outside.specs.History.{had_now, files_now, Elapses};
+    ghost use Rattle.ssq_fakes.specs.Plans.{call_after, fails_on_disk, on_stage};
+    ghost use Rattle.ssq_fakes.specs.Disks.{disk_history, disk_faults, disk_plan, disk_calls, disk_stages, disk_room, IsAtEnd, stage_plan, stage_calls, IsSureDisk};
 
     type Stage = MemStage;
 
@@ -313,7 +313,21 @@ impl Disk for MemDisk {
 
     ghost stages_tell = { λ tells. tells };
 
-    fn stage(&mut self, alloc: Global) -> Result<MemStage, DiskError> {
+    fn stage(&mut self, alloc: Global) -> Result<MemStage, DiskError>
+        ensures planned { fails_on_disk (disk_plan self.old) (disk_calls self.old) ≡ true ↔ IsErrOf result DiskError.Fault }
+        ensures next { (disk_plan self.new ≡ disk_plan self.old) × (disk_calls self.new ≡ call_after (disk_calls self.old)) }
+        ensures stages { IfOk result (λ stage. disk_stages self.new ≡ call_after (disk_stages self.old)) × OnErr result (disk_stages self.new ≡ disk_stages self.old) }
+        ensures plan { IfOk result (λ stage. stage_plan stage ≡ on_stage (disk_stages self.old) (disk_plan self.old).named) }
+        ensures calls { IfOk result (λ stage. stage_calls stage ≡ 0) }
+        ensures empty { IfOk result (λ stage. stage.bytes.items ≡ []) }
+        ensures fresh { IfOk result (λ stage. stage.faults.count ≡ 0) }
+        ensures never_stage { IsSureDisk self.old → IfOk result (λ stage. stage_plan stage ≡ []) }
+        ensures same { disk_history self.new ≡ disk_history self.old }
+        ensures room { disk_room self.new ≡ disk_room self.old }
+        ensures counted { disk_faults self.old ≤ disk_faults self.new }
+        ensures cause { IsErrOf result DiskError.Fault → Rises (disk_faults self.old) (disk_faults self.new) }
+        ensures never { IsSureDisk self.old → StaysSure (disk_history self.old).moment (disk_faults self.old) (disk_faults self.new) (IsSureDisk self.new) }
+    {
         if self.faults.fails() {
             return Err(DiskError::Fault);
         }
@@ -326,11 +340,31 @@ impl Disk for MemDisk {
         }
     }
 
-    fn discard(&mut self, stage: MemStage) {
+    fn discard(&mut self, stage: MemStage)
+        ensures plan { disk_plan self.new ≡ disk_plan self.old }
+        ensures calls { (disk_calls self.new ≡ disk_calls self.old) × (disk_stages self.new ≡ disk_stages self.old) }
+        ensures same { disk_history self.new ≡ disk_history self.old }
+        ensures room { disk_room self.new ≡ disk_room self.old }
+        ensures counted { disk_faults self.old ≤ disk_faults self.new }
+        ensures cause { 0 < stage.faults.count → Rises (disk_faults self.old) (disk_faults self.new) }
+        ensures unfailed { stage.faults.count ≡ 0 → disk_faults self.new ≡ disk_faults self.old }
+        ensures never { IsSureDisk self.old → IsSureDisk self.new }
+    {
         self.faults.count = self.faults.count.saturating_add(stage.faults.count);
     }
 
-    fn publish(&mut self, file: MemFile, name: Name) -> Result<(), DiskFault> {
+    fn publish(&mut self, file: MemFile, name: Name) -> Result<(), DiskFault>
+        ensures planned { fails_on_disk (disk_plan self.old) (disk_calls self.old) ≡ true → IsErr result × (disk_history self.new ≡ disk_history self.old) }
+        ensures failed { OnErr result ((fails_on_disk (disk_plan self.old) (disk_calls self.old) ≡ true) ⊎ IsAtEnd self.old) }
+        ensures room { OnOk result (disk_room self.new ≡ disk_room self.old + 3) }
+        ensures next { (disk_plan self.new ≡ disk_plan self.old) × (disk_calls self.new ≡ call_after (disk_calls self.old)) × (disk_stages self.new ≡ disk_stages self.old) }
+        ensures ok { OnOk result (had_now (disk_history self.new) ≡ added name file.bytes.items (had_now (disk_history self.old))) }
+        ensures steps { Elapses (disk_history self.old) (disk_history self.new) (λ had. had ≡ added name file.bytes.items (had_now (disk_history self.old))) }
+        ensures clock { (disk_history self.old).moment ≤ (disk_history self.new).moment }
+        ensures counted { disk_faults self.old ≤ disk_faults self.new }
+        ensures cause { OnErr result (Rises (disk_faults self.old) (disk_faults self.new)) }
+        ensures never { IsSureDisk self.old → StaysSure (disk_history self.old).moment (disk_faults self.old) (disk_faults self.new) (IsSureDisk self.new) }
+    {
         if self.faults.fails() {
             return Err(DiskFault);
         }
@@ -345,7 +379,18 @@ impl Disk for MemDisk {
         self.advance(Event::Put(name, bytes), publish)
     }
 
-    fn remove(&mut self, name: Name) -> Result<(), DiskFault> {
+    fn remove(&mut self, name: Name) -> Result<(), DiskFault>
+        ensures planned { fails_on_disk (disk_plan self.old) (disk_calls self.old) ≡ true → IsErr result × (disk_history self.new ≡ disk_history self.old) }
+        ensures failed { OnErr result ((fails_on_disk (disk_plan self.old) (disk_calls self.old) ≡ true) ⊎ (IsAtEnd self.old ⊎ (disk_room self.old ≡ 0))) }
+        ensures room { OnOk result (disk_room self.old ≤ disk_room self.new + 1) }
+        ensures next { (disk_plan self.new ≡ disk_plan self.old) × (disk_calls self.new ≡ call_after (disk_calls self.old)) × (disk_stages self.new ≡ disk_stages self.old) }
+        ensures ok { OnOk result (had_now (disk_history self.new) ≡ removed name (had_now (disk_history self.old))) }
+        ensures steps { Elapses (disk_history self.old) (disk_history self.new) (λ had. had ≡ removed name (had_now (disk_history self.old))) }
+        ensures clock { (disk_history self.old).moment ≤ (disk_history self.new).moment }
+        ensures counted { disk_faults self.old ≤ disk_faults self.new }
+        ensures cause { OnErr result (Rises (disk_faults self.old) (disk_faults self.new)) }
+        ensures never { IsSureDisk self.old → StaysSure (disk_history self.old).moment (disk_faults self.old) (disk_faults self.new) (IsSureDisk self.new) }
+    {
         if self.faults.fails() {
             return Err(DiskFault);
         }
@@ -355,7 +400,18 @@ impl Disk for MemDisk {
         self.advance_in_spare(Event::Gone(name))
     }
 
-    fn sync_names(&mut self) -> Result<(), DiskFault> {
+    fn sync_names(&mut self) -> Result<(), DiskFault>
+        ensures planned { fails_on_disk (disk_plan self.old) (disk_calls self.old) ≡ true → IsErr result × (disk_history self.new ≡ disk_history self.old) }
+        ensures failed { OnErr result ((fails_on_disk (disk_plan self.old) (disk_calls self.old) ≡ true) ⊎ (IsAtEnd self.old ⊎ (disk_room self.old ≡ 0))) }
+        ensures room { OnOk result (disk_room self.old ≤ disk_room self.new + 1) }
+        ensures next { (disk_plan self.new ≡ disk_plan self.old) × (disk_calls self.new ≡ call_after (disk_calls self.old)) × (disk_stages self.new ≡ disk_stages self.old) }
+        ensures ok { OnOk result (had_now (disk_history self.new) ≡ settled_at (files_now (disk_history self.old))) }
+        ensures steps { Elapses (disk_history self.old) (disk_history self.new) (IsSyncStep (had_now (disk_history self.old))) }
+        ensures clock { (disk_history self.old).moment ≤ (disk_history self.new).moment }
+        ensures counted { disk_faults self.old ≤ disk_faults self.new }
+        ensures cause { OnErr result (Rises (disk_faults self.old) (disk_faults self.new)) }
+        ensures never { IsSureDisk self.old → StaysSure (disk_history self.old).moment (disk_faults self.old) (disk_faults self.new) (IsSureDisk self.new) }
+    {
         if self.faults.fails() {
             return Err(DiskFault);
         }
@@ -365,7 +421,16 @@ impl Disk for MemDisk {
         self.advance_in_spare(Event::Synced)
     }
 
-    fn read(&mut self, alloc: Global, name: Name) -> Result<Option<Vec<u8>>, DiskError> {
+    fn read(&mut self, alloc: Global, name: Name) -> Result<Option<Vec<u8>>, DiskError>
+        ensures planned { fails_on_disk (disk_plan self.old) (disk_calls self.old) ≡ true ↔ IsErrOf result DiskError.Fault }
+        ensures next { (disk_plan self.new ≡ disk_plan self.old) × (disk_calls self.new ≡ call_after (disk_calls self.old)) × (disk_stages self.new ≡ disk_stages self.old) }
+        ensures found { IfOk result (λ content. option_map (λ bytes. bytes.items) content ≡ files_now (disk_history self.old) name) }
+        ensures same { disk_history self.new ≡ disk_history self.old }
+        ensures room { disk_room self.new ≡ disk_room self.old }
+        ensures counted { disk_faults self.old ≤ disk_faults self.new }
+        ensures cause { IsErrOf result DiskError.Fault → Rises (disk_faults self.old) (disk_faults self.new) }
+        ensures never { IsSureDisk self.old → StaysSure (disk_history self.old).moment (disk_faults self.old) (disk_faults self.new) (IsSureDisk self.new) }
+    {
         if self.faults.fails() {
             return Err(DiskError::Fault);
         }
@@ -375,7 +440,16 @@ impl Disk for MemDisk {
         }
     }
 
-    fn names(&mut self, alloc: Global) -> Result<Vec<Name>, DiskError> {
+    fn names(&mut self, alloc: Global) -> Result<Vec<Name>, DiskError>
+        ensures planned { fails_on_disk (disk_plan self.old) (disk_calls self.old) ≡ true ↔ IsErrOf result DiskError.Fault }
+        ensures next { (disk_plan self.new ≡ disk_plan self.old) × (disk_calls self.new ≡ call_after (disk_calls self.old)) × (disk_stages self.new ≡ disk_stages self.old) }
+        ensures found { IfOk result (λ names. AreNames (files_now (disk_history self.old)) names.items) }
+        ensures same { disk_history self.new ≡ disk_history self.old }
+        ensures room { disk_room self.new ≡ disk_room self.old }
+        ensures counted { disk_faults self.old ≤ disk_faults self.new }
+        ensures cause { IsErrOf result DiskError.Fault → Rises (disk_faults self.old) (disk_faults self.new) }
+        ensures never { IsSureDisk self.old → StaysSure (disk_history self.old).moment (disk_faults self.old) (disk_faults self.new) (IsSureDisk self.new) }
+    {
         if self.faults.fails() {
             return Err(DiskError::Fault);
         }
@@ -409,12 +483,13 @@ pub fn each_image_is_picked()
 fn begin(alloc: Global, calls: &[FailAt], number: u64) -> Result<MemStage, AllocError>
     ensures empty { IfOk result (λ stage. stage.bytes.items ≡ []) }
     ensures fresh { IfOk result (λ stage. stage.faults.count ≡ 0) }
-    ensures calls { IfOk result (λ stage. length stage.faults.plan.items ≤ length calls.now) }
+    ensures plan { IfOk result (λ stage. stage.faults.plan.items ≡ on_stage number calls.now) }
+    ensures calls { IfOk result (λ stage. stage.faults.calls ≡ 0) }
 {
     Ok(MemStage {
         bytes: Vec::new(alloc),
         room: Room::new(alloc)?,
-        faults: Faults::new(stage_calls(alloc, calls, number)?),
+        faults: Faults::new(FailAt::on_stage(alloc, calls, number)?),
     })
 }
 

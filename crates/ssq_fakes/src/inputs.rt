@@ -36,14 +36,17 @@ pub struct MemInputs {
 }
 
 impl MemInputs {
-    ghost use Rattle.ssq_fakes.specs.Logs.{log_lines};
-    ghost use Rattle.ssq_fakes.specs.Inputs.{inputs_held, inputs_returned, input_faults, holding_text, holding_part, parts_of, text_in, IsSureLog};
+    ghost use Rattle.ssq_fakes.specs.Logs.{log_lines, log_plan};
+    ghost use Rattle.ssq_fakes.specs.Inputs.{inputs_held, inputs_returned, input_faults, input_plan, input_calls, part_plan, holding_text, holding_part, planning_part, parts_of, text_in, IsSureLog};
 
     /// No file and no part. They never fail.
     pub fn new(alloc: Global) -> Self
         ensures held { inputs_held result ≡ record { text = λ name. []; parts = λ stream. 0; lines = λ stream number. [] } }
         ensures returned { inputs_returned result ≡ [] }
         ensures count { input_faults result ≡ 0 }
+        ensures plan { input_plan result ≡ [] }
+        ensures calls { input_calls result ≡ 0 }
+        ensures parts { part_plan result ≡ (λ stream number. []) }
         ensures sure { ⟦<MemInputs as Inputs>⟧.sure result }
     {
         MemInputs {
@@ -59,6 +62,9 @@ impl MemInputs {
         ensures held { IfOk result (λ inputs. inputs_held inputs ≡ holding_text name.now bytes.now (inputs_held self)) }
         ensures returned { IfOk result (λ inputs. inputs_returned inputs ≡ inputs_returned self) }
         ensures count { IfOk result (λ inputs. input_faults inputs ≡ input_faults self) }
+        ensures plan { IfOk result (λ inputs. input_plan inputs ≡ input_plan self) }
+        ensures calls { IfOk result (λ inputs. input_calls inputs ≡ input_calls self) }
+        ensures parts { IfOk result (λ inputs. part_plan inputs ≡ part_plan self) }
         ensures sure { ⟦<MemInputs as Inputs>⟧.sure self → IfOk result (λ inputs. ⟦<MemInputs as Inputs>⟧.sure inputs) }
     {
         let text = Text {
@@ -74,6 +80,9 @@ impl MemInputs {
         ensures held { IfOk result (λ inputs. inputs_held inputs ≡ holding_part stream.now (log_lines log) (inputs_held self)) }
         ensures returned { IfOk result (λ inputs. inputs_returned inputs ≡ inputs_returned self) }
         ensures count { IfOk result (λ inputs. input_faults inputs ≡ input_faults self) }
+        ensures plan { IfOk result (λ inputs. input_plan inputs ≡ input_plan self) }
+        ensures calls { IfOk result (λ inputs. input_calls inputs ≡ input_calls self) }
+        ensures parts { IfOk result (λ inputs. part_plan inputs ≡ planning_part stream.now (log_plan log) (inputs_held self) (part_plan self)) }
         ensures sure { ⟦<MemInputs as Inputs>⟧.sure self → ⟦<MemLog as Log>⟧.sure log → IfOk result (λ inputs. ⟦<MemInputs as Inputs>⟧.sure inputs) }
     {
         let stream = String::from_str(alloc, stream)?;
@@ -86,6 +95,9 @@ impl MemInputs {
         ensures held { inputs_held result ≡ inputs_held self }
         ensures returned { inputs_returned result ≡ inputs_returned self }
         ensures count { input_faults result ≡ input_faults self }
+        ensures plan { input_plan result ≡ calls.items }
+        ensures calls { input_calls result ≡ input_calls self }
+        ensures parts { part_plan result ≡ part_plan self }
     {
         self.faults.plan = calls;
         self
@@ -130,8 +142,11 @@ impl MemInputs {
 }
 
 impl Inputs for MemInputs {
-    ghost use Rattle.std.specs.Prelude.{◌≡◌, [], ⊤, length, All};
-    ghost use Rattle.ssq_fakes.specs.Inputs.{inputs_held, inputs_returned, input_faults, IsSureLog};
+    ghost use Rattle.std.specs.Prelude.{◌≡◌, ◌↔◌, ◌<◌, ◌≤◌, ◌+◌, ◌-◌, ◌^◌, ◌∷◌, ℕ, List, [], true, ⊤, length, take, min, All, IfOk, IsErrOf};
+    ghost use Rattle.ssq_outside.specs.Faults.{Rises, StaysSure};
+    ghost use Rattle.ssq_fakes.specs.Plans.{is_named, call_after};
+    ghost use Rattle.ssq_fakes.specs.Logs.{log_lines, log_answers, log_faults, log_plan, log_calls};
+    ghost use Rattle.ssq_fakes.specs.Inputs.{inputs_held, inputs_returned, input_faults, input_plan, input_calls, part_plan, IsSureInputs, IsSureLog};
 
     type Log = MemLog;
 
@@ -145,11 +160,23 @@ impl Inputs for MemInputs {
 
     ghost faults = { input_faults };
 
-    ghost sure = { λ inputs. (inputs.faults.plan.items ≡ []) × All (λ part. IsSureLog part.log) inputs.parts.items };
+    ghost sure = { IsSureInputs };
 
     ghost logs_tell = { λ tells. tells };
 
-    fn text(&mut self, alloc: Global, name: &str, max: usize) -> Result<Vec<u8>, InputError> {
+    fn text(&mut self, alloc: Global, name: &str, max: usize) -> Result<Vec<u8>, InputError>
+        ensures planned { is_named (input_plan self.old) (input_calls self.old) ≡ true ↔ IsErrOf result InputError.Fault }
+        ensures next { (input_plan self.new ≡ input_plan self.old) × (input_calls self.new ≡ call_after (input_calls self.old)) }
+        ensures found { IfOk result (λ bytes. bytes.items ≡ take max ((inputs_held self.old).text name.now)) }
+        ensures cap { IfOk result (λ bytes. length bytes.items ≤ max) }
+        ensures parts { part_plan self.new ≡ part_plan self.old }
+        ensures same { inputs_held self.new ≡ inputs_held self.old }
+        ensures unreturned { inputs_returned self.new ≡ inputs_returned self.old }
+        ensures grown { (stream : List ℕ) (part : ℕ) → length ((inputs_held self.old).lines stream part) ≤ length ((inputs_held self.new).lines stream part) }
+        ensures counted { input_faults self.old ≤ input_faults self.new }
+        ensures cause { IsErrOf result InputError.Fault → Rises (input_faults self.old) (input_faults self.new) }
+        ensures never { IsSureInputs self.old → StaysSure 0 (input_faults self.old) (input_faults self.new) (IsSureInputs self.new) }
+    {
         if self.faults.fails() {
             return Err(InputError::Fault);
         }
@@ -159,14 +186,43 @@ impl Inputs for MemInputs {
         }
     }
 
-    fn parts(&mut self, _alloc: Global, stream: &str) -> Result<u32, InputError> {
+    fn parts(&mut self, _alloc: Global, stream: &str) -> Result<u32, InputError>
+        ensures planned { is_named (input_plan self.old) (input_calls self.old) ≡ true ↔ IsErrOf result InputError.Fault }
+        ensures next { (input_plan self.new ≡ input_plan self.old) × (input_calls self.new ≡ call_after (input_calls self.old)) }
+        ensures found { IfOk result (λ n. n ≡ min ((inputs_held self.old).parts stream.now) 65) }
+        ensures cap { IfOk result (λ n. n ≤ 65) }
+        ensures parts { part_plan self.new ≡ part_plan self.old }
+        ensures same { inputs_held self.new ≡ inputs_held self.old }
+        ensures unreturned { inputs_returned self.new ≡ inputs_returned self.old }
+        ensures grown { (stream : List ℕ) (part : ℕ) → length ((inputs_held self.old).lines stream part) ≤ length ((inputs_held self.new).lines stream part) }
+        ensures counted { input_faults self.old ≤ input_faults self.new }
+        ensures cause { IsErrOf result InputError.Fault → Rises (input_faults self.old) (input_faults self.new) }
+        ensures never { IsSureInputs self.old → StaysSure 0 (input_faults self.old) (input_faults self.new) (IsSureInputs self.new) }
+    {
         if self.faults.fails() {
             return Err(InputError::Fault);
         }
         Ok(self.count_parts(stream).min(65) as u32)
     }
 
-    fn log(&mut self, alloc: Global, stream: &str, part: u32) -> Result<MemLog, InputError> {
+    fn log(&mut self, alloc: Global, stream: &str, part: u32) -> Result<MemLog, InputError>
+        requires { part < (inputs_held self.old).parts stream.now }
+        ensures planned { is_named (input_plan self.old) (input_calls self.old) ≡ true ↔ IsErrOf result InputError.Fault }
+        ensures next { (input_plan self.new ≡ input_plan self.old) × (input_calls self.new ≡ call_after (input_calls self.old)) }
+        ensures lines { IfOk result (λ log. log_lines log ≡ (inputs_held self.old).lines stream.now part) }
+        ensures plan { IfOk result (λ log. log_plan log ≡ part_plan self.old stream.now part) }
+        ensures calls { IfOk result (λ log. log_calls log ≡ 0) }
+        ensures unasked { IfOk result (λ log. log_answers log ≡ []) }
+        ensures fresh { IfOk result (λ log. log_faults log ≡ 0) }
+        ensures never_log { IsSureInputs self.old → IfOk result (λ log. IsSureLog log) }
+        ensures parts { part_plan self.new ≡ part_plan self.old }
+        ensures same { inputs_held self.new ≡ inputs_held self.old }
+        ensures unreturned { inputs_returned self.new ≡ inputs_returned self.old }
+        ensures grown { (stream : List ℕ) (part : ℕ) → length ((inputs_held self.old).lines stream part) ≤ length ((inputs_held self.new).lines stream part) }
+        ensures counted { input_faults self.old ≤ input_faults self.new }
+        ensures cause { IsErrOf result InputError.Fault → Rises (input_faults self.old) (input_faults self.new) }
+        ensures never { IsSureInputs self.old → StaysSure 0 (input_faults self.old) (input_faults self.new) (IsSureInputs self.new) }
+    {
         if self.faults.fails() {
             return Err(InputError::Fault);
         }
@@ -176,7 +232,16 @@ impl Inputs for MemInputs {
         }
     }
 
-    fn give_back(&mut self, log: MemLog) {
+    fn give_back(&mut self, log: MemLog)
+        ensures added { input_faults self.new ≡ min (input_faults self.old + log_faults log) (2 ^ 64 - 1) }
+        ensures plan { input_plan self.new ≡ input_plan self.old }
+        ensures calls { input_calls self.new ≡ input_calls self.old }
+        ensures parts { part_plan self.new ≡ part_plan self.old }
+        ensures same { inputs_held self.new ≡ inputs_held self.old }
+        ensures returned { inputs_returned self.new ≡ log_answers log ∷ inputs_returned self.old }
+        ensures grown { (stream : List ℕ) (part : ℕ) → length ((inputs_held self.old).lines stream part) ≤ length ((inputs_held self.new).lines stream part) }
+        ensures never { IsSureInputs self.old → log_faults log ≡ 0 → StaysSure 0 (input_faults self.old) (input_faults self.new) (IsSureInputs self.new) }
+    {
         self.faults.count = self.faults.count.saturating_add(log.faults.count);
         let (answers, room) = log.into_answers();
         self.returned.push(answers, room);

@@ -3,7 +3,8 @@
 //!
 //! An object without such a list never fails (`sure`, of the traits). A call that is to fail raises the object's
 //! count of faults, answers the fault and does nothing else. Calls are counted from 0 on each object, those that have
-//! a fault to give.
+//! a fault to give. Each object tells which calls are to fail and which one is next (`disk_plan`, `disk_calls` and their
+//! like), and each call says that it fails where it is one of these.
 #![tactic(auto)]
 
 mod disk;
@@ -13,14 +14,16 @@ mod inputs;
 mod log;
 mod names;
 mod output;
+mod plan;
 mod record;
 mod returned;
 
-pub use disk::{FailAt, MemDisk, MemFile, MemStage, each_image_is_picked};
+pub use disk::{MemDisk, MemFile, MemStage, each_image_is_picked};
 pub use gate::OpenGate;
 pub use inputs::MemInputs;
 pub use log::MemLog;
 pub use output::MemOut;
+pub use plan::FailAt;
 
 #[cfg(test)]
 mod tests;

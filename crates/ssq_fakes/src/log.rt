@@ -60,7 +60,7 @@ pub struct MemLog {
 }
 
 impl MemLog {
-    ghost use Rattle.ssq_fakes.specs.Logs.{lines_of, log_lines, log_answers, log_faults, whole_lines};
+    ghost use Rattle.ssq_fakes.specs.Logs.{lines_of, log_lines, log_answers, log_faults, log_plan, log_calls, whole_lines};
     ghost use Rattle.ssq_fakes.specs.Returned.{answers_of};
 
     /// These lines, without their ends. It never fails. Where memory runs out they are lost.
@@ -68,6 +68,7 @@ impl MemLog {
         ensures lines { IfOk result (λ log. log_lines log ≡ map (λ line. line.items) lines.items) }
         ensures unasked { IfOk result (λ log. log_answers log ≡ []) }
         ensures count { IfOk result (λ log. log_faults log ≡ 0) }
+        ensures calls { IfOk result (λ log. log_calls log ≡ 0) }
         ensures sure { IfOk result (λ log. ⟦<MemLog as Log>⟧.sure log) }
     {
         MemLog::holding(alloc, Lines::Each(lines))
@@ -78,6 +79,7 @@ impl MemLog {
         ensures lines { IfOk result (λ log. log_lines log ≡ replicate n line.now) }
         ensures unasked { IfOk result (λ log. log_answers log ≡ []) }
         ensures count { IfOk result (λ log. log_faults log ≡ 0) }
+        ensures calls { IfOk result (λ log. log_calls log ≡ 0) }
         ensures sure { IfOk result (λ log. ⟦<MemLog as Log>⟧.sure log) }
     {
         MemLog::holding(alloc, Lines::Same(line.to_vec(alloc)?, n))
@@ -89,6 +91,7 @@ impl MemLog {
         ensures lines { IfOk result (λ log. log_lines log ≡ whole_lines bytes.now) }
         ensures unasked { IfOk result (λ log. log_answers log ≡ []) }
         ensures count { IfOk result (λ log. log_faults log ≡ 0) }
+        ensures calls { IfOk result (λ log. log_calls log ≡ 0) }
         ensures sure { IfOk result (λ log. ⟦<MemLog as Log>⟧.sure log) }
     {
         let mut lines = Vec::new(alloc);
@@ -108,6 +111,8 @@ impl MemLog {
         ensures lines { log_lines result ≡ log_lines self }
         ensures answers { log_answers result ≡ log_answers self }
         ensures count { log_faults result ≡ log_faults self }
+        ensures plan { log_plan result ≡ calls.items }
+        ensures calls { log_calls result ≡ log_calls self }
     {
         self.faults.plan = calls;
         self
@@ -118,6 +123,8 @@ impl MemLog {
         ensures lines { IfOk result (λ log. log_lines log ≡ log_lines self.now) }
         ensures unasked { IfOk result (λ log. log_answers log ≡ []) }
         ensures count { IfOk result (λ log. log_faults log ≡ 0) }
+        ensures calls { IfOk result (λ log. log_calls log ≡ 0) }
+        ensures plan { IfOk result (λ log. log_plan log ≡ log_plan self.now) }
         ensures sure { ⟦<MemLog as Log>⟧.sure self.now → IfOk result (λ log. ⟦<MemLog as Log>⟧.sure log) }
     {
         Ok(MemLog {
@@ -143,6 +150,7 @@ impl MemLog {
         ensures lines { IfOk result (λ log. log_lines log ≡ lines_of lines) }
         ensures unasked { IfOk result (λ log. log_answers log ≡ []) }
         ensures count { IfOk result (λ log. log_faults log ≡ 0) }
+        ensures calls { IfOk result (λ log. log_calls log ≡ 0) }
         ensures sure { IfOk result (λ log. ⟦<MemLog as Log>⟧.sure log) }
     {
         Ok(MemLog {
@@ -155,7 +163,11 @@ impl MemLog {
 }
 
 impl Log for MemLog {
-    ghost use Rattle.ssq_fakes.specs.Logs.{log_lines, log_answers};
+    ghost use Rattle.std.specs.Prelude.{◌≡◌, ◌↔◌, ◌<◌, ◌≤◌, ◌-◌, ◌^◌, ◌++◌, ◌∷◌, ℕ, [], true, ⊤, Some, length, take, slice_get, IfOk, IsErr, OnOk, OnErr, IsErrOf};
+    ghost use Rattle.ssq_outside.specs.Faults.{Rises, StaysSure};
+    ghost use Rattle.ssq_outside.specs.Logs.{Line};
+    ghost use Rattle.ssq_fakes.specs.Plans.{is_named, call_after};
+    ghost use Rattle.ssq_fakes.specs.Logs.{log_lines, log_answers, log_faults, log_plan, log_calls};
 
     ghost tells = { ⊤ };
 
@@ -169,7 +181,17 @@ impl Log for MemLog {
 
     ghost sure = { λ log. log.faults.plan.items ≡ [] };
 
-    fn lines(&mut self) -> Result<u64, LogFault> {
+    fn lines(&mut self) -> Result<u64, LogFault>
+        ensures planned { is_named (log_plan self.old) (log_calls self.old) ≡ true ↔ IsErr result }
+        ensures next { (log_plan self.new ≡ log_plan self.old) × (log_calls self.new ≡ call_after (log_calls self.old)) }
+        ensures found { IfOk result (λ n. n ≡ length (log_lines self.old)) }
+        ensures told { length (log_answers self.old) < 2 ^ 64 - 1 → IfOk result (λ n. log_answers self.new ≡ log_answers self.old ++ n ∷ []) }
+        ensures untold { OnErr result (log_answers self.new ≡ log_answers self.old) }
+        ensures same { log_lines self.new ≡ log_lines self.old }
+        ensures counted { log_faults self.old ≤ log_faults self.new }
+        ensures cause { OnErr result (Rises (log_faults self.old) (log_faults self.new)) }
+        ensures never { log_plan self.old ≡ [] → StaysSure 0 (log_faults self.old) (log_faults self.new) (log_plan self.new ≡ []) }
+    {
         if self.faults.fails() {
             return Err(LogFault);
         }
@@ -177,7 +199,19 @@ impl Log for MemLog {
         Ok(self.lines.count())
     }
 
-    fn line(&mut self, at: u64, into: &mut Vec<u8>) -> Result<(), LineError> {
+    fn line(&mut self, at: u64, into: &mut Vec<u8>) -> Result<(), LineError>
+        ensures planned { is_named (log_plan self.old) (log_calls self.old) ≡ true ↔ IsErrOf result LineError.Fault }
+        ensures next { (log_plan self.new ≡ log_plan self.old) × (log_calls self.new ≡ call_after (log_calls self.old)) }
+        ensures found { OnOk result (at < length (log_lines self.new)) }
+        ensures bytes { OnOk result ((line : Line) × (slice_get (log_lines self.new) at ≡ Some line) × (into.new.items ≡ take 1048577 line)) }
+        ensures cap { OnOk result (length into.new.items ≤ 1048577) }
+        ensures short { (n : ℕ) → IsErrOf result (LineError.Short n) → (n ≤ at) × (length (log_lines self.new) ≡ n) }
+        ensures unasked { log_answers self.new ≡ log_answers self.old }
+        ensures same { log_lines self.new ≡ log_lines self.old }
+        ensures counted { log_faults self.old ≤ log_faults self.new }
+        ensures cause { IsErrOf result LineError.Fault → Rises (log_faults self.old) (log_faults self.new) }
+        ensures never { log_plan self.old ≡ [] → StaysSure 0 (log_faults self.old) (log_faults self.new) (log_plan self.new ≡ []) }
+    {
         if self.faults.fails() {
             return Err(LineError::Fault);
         }

@@ -14,12 +14,14 @@ pub struct MemOut {
 }
 
 impl MemOut {
-    ghost use Rattle.ssq_fakes.specs.Outputs.{put_bytes, out_faults};
+    ghost use Rattle.ssq_fakes.specs.Outputs.{put_bytes, out_faults, out_plan, out_calls};
 
     /// Nothing yet. It never fails.
     pub fn new(alloc: Global) -> Self
         ensures bytes { put_bytes result ≡ [] }
         ensures count { out_faults result ≡ 0 }
+        ensures plan { out_plan result ≡ [] }
+        ensures calls { out_calls result ≡ 0 }
         ensures sure { ⟦<MemOut as Output>⟧.sure result }
     {
         MemOut {
@@ -32,6 +34,8 @@ impl MemOut {
     pub fn failing(mut self, calls: Vec<u64>) -> Self
         ensures bytes { put_bytes result ≡ put_bytes self }
         ensures count { out_faults result ≡ out_faults self }
+        ensures plan { out_plan result ≡ calls.items }
+        ensures calls { out_calls result ≡ out_calls self }
     {
         self.faults.plan = calls;
         self
@@ -46,6 +50,11 @@ impl MemOut {
 }
 
 impl Output for MemOut {
+    ghost use Rattle.std.specs.Prelude.{◌≡◌, ◌↔◌, ◌≤◌, ◌++◌, ℕ, [], true, ⊤, take, OnOk, OnErr, IsErrOf};
+    ghost use Rattle.ssq_outside.specs.Faults.{Rises, StaysSure};
+    ghost use Rattle.ssq_fakes.specs.Plans.{is_named, call_after};
+    ghost use Rattle.ssq_fakes.specs.Outputs.{put_bytes, out_faults, out_plan, out_calls};
+
     ghost tells = { ⊤ };
 
     ghost content = { λ out. out.bytes.items };
@@ -54,7 +63,15 @@ impl Output for MemOut {
 
     ghost sure = { λ out. out.faults.plan.items ≡ [] };
 
-    fn put(&mut self, bytes: &[u8]) -> Result<(), OutError> {
+    fn put(&mut self, bytes: &[u8]) -> Result<(), OutError>
+        ensures planned { is_named (out_plan self.old) (out_calls self.old) ≡ true ↔ IsErrOf result OutError.Fault }
+        ensures next { (out_plan self.new ≡ out_plan self.old) × (out_calls self.new ≡ call_after (out_calls self.old)) }
+        ensures ok { OnOk result (put_bytes self.new ≡ put_bytes self.old ++ bytes.now) }
+        ensures err { OnErr result (put_bytes self.new ≡ put_bytes self.old) }
+        ensures counted { out_faults self.old ≤ out_faults self.new }
+        ensures cause { IsErrOf result OutError.Fault → Rises (out_faults self.old) (out_faults self.new) }
+        ensures never { out_plan self.old ≡ [] → StaysSure 0 (out_faults self.old) (out_faults self.new) (out_plan self.new ≡ []) }
+    {
         if self.faults.fails() {
             return Err(OutError::Fault);
         }

@@ -5,11 +5,11 @@ use Rattle.ssq_fakes.specs.Inputs.{inputs_held, parts_of}
 use Rattle.ssq_fakes.proofs.tests.open.Goals as goal
 
 pub log-requires : goal.log-requires
-log-requires c = λ told.
+log-requires c =
     let old = c.args.inputs.now in
     let new = c.parts.new.self in
-    let held : inputs_held new ≡ inputs_held old = c.parts.ensures.same told in
+    let held : inputs_held new ≡ inputs_held old = c.parts.ensures.same in
     let same : length (parts_of new.parts.items c.args.stream.now) ≡ length (parts_of old.parts.items c.args.stream.now) = ap (λ (held : Held). held.parts c.args.stream.now) held in
-    let found : c.in_ok-parts.field-0 ≡ min (length (parts_of old.parts.items c.args.stream.now)) 65 = c.in_ok-parts.ensures.found told in
+    let found : c.in_ok-parts.field-0 ≡ min (length (parts_of old.parts.items c.args.stream.now)) 65 = c.in_ok-parts.ensures.found in
     let below = c.if-branch.true in
     omega arith

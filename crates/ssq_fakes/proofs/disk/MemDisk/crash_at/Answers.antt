@@ -18,6 +18,9 @@ loop-name-init c =
       files = λ q. sym (files_now-is (events_of disk.record) disk.clock q) ∙ ap (λ (h : History). files_now h q) c.new-disk.ensures.history;
       clock = ap (λ (h : History). h.moment) c.new-disk.ensures.history;
       count = c.new-disk.ensures.count;
+      plan = c.new-disk.ensures.plan;
+      calls = c.new-disk.ensures.calls.0;
+      stages = c.new-disk.ensures.calls.1;
       sure = c.new-disk.ensures.sure;
     }
 
@@ -36,6 +39,9 @@ loop-name-preserved c =
           c.loop-name.invariant.files (subst M content c.in_ok-fill.ensures.content);
       clock = c.in_ok-fill.ensures.clock ∙ c.loop-name.invariant.clock;
       count = c.in_ok-fill.ensures.count ∙ c.loop-name.invariant.count;
+      plan = rw c.in_ok-fill.ensures.calls.0 c.loop-name.invariant.plan;
+      calls = rw c.in_ok-fill.ensures.calls.0 c.loop-name.invariant.calls;
+      stages = c.in_ok-fill.ensures.calls.1 ∙ c.loop-name.invariant.stages;
       sure = c.in_ok-fill.ensures.sure c.loop-name.invariant.sure;
     }
 

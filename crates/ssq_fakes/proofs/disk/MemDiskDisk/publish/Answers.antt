@@ -9,7 +9,7 @@ use Rattle.ssq_fakes.proofs.Rooms.{sure_put, stays_sure}
 use Rattle.ssq_fakes.proofs.disk.MemDiskDisk.publish.Goals as goal
 
 pub returns-clause-steps : goal.returns-clause-steps
-returns-clause-steps c = λ _.
+returns-clause-steps c =
     let old = c.args.self.now in
     let is : OnOk c.advance.result (events_of c.advance.new.self.record ≡ Put c.args.name c.args.file.bytes ∷ events_of old.record) = rw c.keep_room.ensures.record at c.advance.ensures.ok in
     let next : OnOk c.advance.result (c.advance.new.self.clock ≡ old.clock + 1) = rw c.keep_room.ensures.clock at c.advance.ensures.clock in

@@ -4,4 +4,4 @@ use Rattle.ssq_fakes.specs.Records.{events_of}
 use Rattle.ssq_fakes.proofs.disk.MemDiskDisk.read.Goals as goal
 
 pub returns-in-Ok-clause-found : goal.returns-in-Ok-clause-found
-returns-in-Ok-clause-found c = λ _. c.in-Ok.ensures ∙ c.content.ensures ∙ sym (files_now-is (events_of c.args.self.now.record) c.args.self.now.clock c.args.name)
+returns-in-Ok-clause-found c = c.in-Ok.ensures ∙ c.content.ensures ∙ sym (files_now-is (events_of c.args.self.now.record) c.args.self.now.clock c.args.name)

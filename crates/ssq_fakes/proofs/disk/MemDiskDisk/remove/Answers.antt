@@ -8,12 +8,12 @@ use Rattle.ssq_fakes.proofs.Rooms.{sure_gone, stays_sure, has_room-there, on_ok_
 use Rattle.ssq_fakes.proofs.disk.MemDiskDisk.remove.Goals as goal
 
 pub returns-then-not-has-clause-ok : goal.returns-then-not-has-clause-ok
-returns-then-not-has-clause-ok c = λ _.
+returns-then-not-has-clause-ok c =
     let old = c.args.self.now in
     sym (removed-absent (events_of old.record) old.clock c.args.name (sym c.has.ensures ∙ c.if-not-has.true))
 
 pub returns-clause-ok : goal.returns-clause-ok
-returns-clause-ok c = λ _.
+returns-clause-ok c =
     let old = c.args.self.now in
     let new = c.advance_in_spare.new.self in
     on_ok_weaker c.advance_in_spare.result
@@ -21,7 +21,7 @@ returns-clause-ok c = λ _.
     c.advance_in_spare.ensures.ok
 
 pub returns-clause-steps : goal.returns-clause-steps
-returns-clause-steps c = λ _.
+returns-clause-steps c =
     let old = c.args.self.now in
     advances c.advance_in_spare.result (Gone c.args.name) _ _ _ _ _ c.advance_in_spare.ensures.ok c.advance_in_spare.ensures.clock c.advance_in_spare.ensures.err
     (sym (removed-there (events_of old.record) old.clock c.args.name (sym c.has.ensures ∙ c.if-not-has.false)))

@@ -6,7 +6,7 @@ use Rattle.ssq_fakes.proofs.Histories.{advances, had_now-is, sync_step}
 use Rattle.ssq_fakes.proofs.disk.MemDiskDisk.sync_names.Goals as goal
 
 pub returns-clause-steps : goal.returns-clause-steps
-returns-clause-steps c = λ _.
+returns-clause-steps c =
     let old = c.args.self.now in
     let had = had_after (events_of old.record) in
     let M : Had → Type 0 = λ before. IsSyncStep before (settled_at (files_of had)) in
