@@ -13,36 +13,52 @@ fn words(alloc: Global, line: &str) -> Result<Vec<String>, AllocError> {
     Ok(words)
 }
 
-/// Runs: the line, its query, its most lines and its rounds.
-static RUNS: [(&str, &str, Option<u64>, u32); 17] = [
-    ("ssq run q.sql", "q.sql", None, 1),
-    ("/usr/bin/other run q.sql", "q.sql", None, 1),
-    ("ssq run q.sql --max-lines 2", "q.sql", Some(2), 1),
-    ("ssq run --max-lines 2 q.sql", "q.sql", Some(2), 1),
-    ("ssq run q.sql --max-lines=3", "q.sql", Some(3), 1),
-    ("ssq run q.sql --max-lines 1", "q.sql", Some(1), 1),
+/// Runs: the line, its query, its partitions, its most lines and its rounds.
+static RUNS: [(&str, &str, Option<u32>, Option<u64>, u32); 20] = [
+    ("ssq run q.sql", "q.sql", None, None, 1),
+    ("/usr/bin/other run q.sql", "q.sql", None, None, 1),
+    ("ssq run q.sql --partitions 1", "q.sql", Some(1), None, 1),
+    ("ssq run q.sql --partitions 64", "q.sql", Some(64), None, 1),
+    ("ssq run --partitions=+8 q.sql", "q.sql", Some(8), None, 1),
+    ("ssq run q.sql --max-lines 2", "q.sql", None, Some(2), 1),
+    ("ssq run --max-lines 2 q.sql", "q.sql", None, Some(2), 1),
+    ("ssq run q.sql --max-lines=3", "q.sql", None, Some(3), 1),
+    ("ssq run q.sql --max-lines 1", "q.sql", None, Some(1), 1),
     (
         "ssq run q.sql --max-lines 1099511627776",
         "q.sql",
+        None,
         Some(1_099_511_627_776),
         1,
     ),
-    ("ssq run q.sql --max-lines +5", "q.sql", Some(5), 1),
-    ("ssq run q.sql --max-lines 007", "q.sql", Some(7), 1),
-    ("ssq run q.sql --rounds 1", "q.sql", None, 1),
-    ("ssq run q.sql --rounds 1000000", "q.sql", None, 1_000_000),
+    ("ssq run q.sql --max-lines +5", "q.sql", None, Some(5), 1),
+    ("ssq run q.sql --max-lines 007", "q.sql", None, Some(7), 1),
+    ("ssq run q.sql --rounds 1", "q.sql", None, None, 1),
     (
-        "ssq run q.sql --rounds 4 --max-lines 9",
+        "ssq run q.sql --rounds 1000000",
         "q.sql",
+        None,
+        None,
+        1_000_000,
+    ),
+    (
+        "ssq run q.sql --rounds 4 --partitions 2 --max-lines 9",
+        "q.sql",
+        Some(2),
         Some(9),
         4,
     ),
-    ("ssq run -- -q.sql", "-q.sql", None, 1),
-    ("ssq run -", "-", None, 1),
+    ("ssq run -- -q.sql", "-q.sql", None, None, 1),
+    ("ssq run -", "-", None, None, 1),
     // The query is an empty word.
-    ("ssq run ", "", None, 1),
-    ("ssq run run", "run", None, 1),
-    ("ssq run help", "help", None, 1),
+    ("ssq run ", "", None, None, 1),
+    ("ssq run run", "run", None, None, 1),
+    ("ssq run help", "help", None, None, 1),
+];
+
+static EXPLAINS: [(&str, &str); 2] = [
+    ("ssq explain q.sql", "q.sql"),
+    ("ssq explain explain", "explain"),
 ];
 
 static STATUSES: [(&str, &str); 2] = [
@@ -50,7 +66,7 @@ static STATUSES: [(&str, &str); 2] = [
     ("ssq status -- --rounds", "--rounds"),
 ];
 
-static REFUSED: [&str; 44] = [
+static REFUSED: [&str; 50] = [
     "",
     "ssq",
     "ssq run",
@@ -60,7 +76,9 @@ static REFUSED: [&str; 44] = [
     "ssq ru q.sql",
     "ssq -- run q.sql",
     "ssq show q.sql",
-    "ssq explain q.sql",
+    "ssq explain",
+    "ssq explain a b",
+    "ssq explain q.sql --partitions 2",
     "ssq gen 1 2",
     "ssq run a b",
     "ssq status a b",
@@ -82,7 +100,11 @@ static REFUSED: [&str; 44] = [
     "ssq run q.sql --rounds 0",
     "ssq run q.sql --rounds 1000001",
     "ssq run q.sql --rounds 1 --rounds 2",
-    "ssq run q.sql --partitions 2",
+    "ssq run q.sql --partitions",
+    "ssq run q.sql --partitions 0",
+    "ssq run q.sql --partitions 65",
+    "ssq run q.sql --partitions 2 --partitions 2",
+    "ssq status q.sql --partitions 2",
     "ssq run q.sql --workers 2",
     "ssq run q.sql -v",
     "ssq status q.sql --rounds 2",
@@ -100,15 +122,25 @@ static REFUSED: [&str; 44] = [
 #[test]
 fn lines_are_taken_or_refused(rt: HostRuntime) -> Result<(), Fail> {
     let alloc = rt.alloc();
-    for (line, query, most_lines, rounds) in &RUNS {
+    for (line, query, partitions, most_lines, rounds) in &RUNS {
         let words = words(alloc, line)?;
-        let (query, most_lines, rounds) = (*query, *most_lines, *rounds);
+        let (query, partitions, most_lines, rounds) = (*query, *partitions, *most_lines, *rounds);
         let asked = Command::Run {
             query,
+            partitions,
             most_lines,
             rounds,
         };
         assert_eq!(rt; ask(alloc, words.as_slice()), Ok(asked), "{line}");
+    }
+    for (line, query) in &EXPLAINS {
+        let words = words(alloc, line)?;
+        let query = *query;
+        assert_eq!(rt;
+            ask(alloc, words.as_slice()),
+            Ok(Command::Explain { query }),
+            "{line}"
+        );
     }
     for (line, query) in &STATUSES {
         let words = words(alloc, line)?;

@@ -14,16 +14,16 @@ use Rattle.clap.specs.Faults.{check_fault, entered_fault, level_fault}
 use Rattle.clap.specs.Walk.{Row, Rule, Text, answers_to, is_empty, nothing_held, row_text, rows_after, stop_after}
 use Rattle.clap.specs.Simple.{Shape, argument_words, built, entered, filled, is_simple, label_of, names_of, rows_at, with_index}
 use Rattle.clap.specs.Takes.{is_given}
-use Rattle.clap.specs.Words.{fault_of, first_of, subcommand_of}
+use Rattle.clap.specs.Words.{fault_of, first_of, new_app, subcommand_of, with_rule}
 use Rattle.clap.specs.Faults.{is_simple_and_free}
 use Rattle.clap.proofs.ValueTestLemmas.{accepts-Accepts}
 use Rattle.clap.specs.declared.builder.value_parser.ValueParser.{ValueParser}
 use Rattle.clap.specs.declared.builder.value_parser.ValueParser.TheVariants.{Unsigned}
-use Rattle.ssq_words.specs.Program.{max_lines_rule, program, query_rule, rounds_rule, run_app, status_app, top_app}
+use Rattle.ssq_words.specs.Program.{explain_app, max_lines_rule, partitions_rule, program, query_rule, rounds_rule, run_app, status_app, top_app}
 use Rattle.clap.specs.declared.error.ErrorKind.{ErrorKind}
 use Rattle.ssq_words.specs.declared.error.AskError.{AskError}
 use Rattle.ssq_words.specs.declared.error.AskError.TheVariants.{Usage, NoMemory}
-use Rattle.ssq_words.specs.Asking.{Asked, IsCause, asked, run_asked, status_asked, subcommand_asked}
+use Rattle.ssq_words.specs.Asking.{Asked, IsCause, asked, explain_asked, run_asked, status_asked, subcommand_asked}
 use Rattle.ssq_words.specs.Reading.{HasNumberIn, HasQuery, IsWhole}
 use Rattle.ssq_words.proofs.WalkLemmas.{IsGiven, IsOne, found_by, level_good, some_kind}
 
@@ -31,6 +31,9 @@ use Rattle.ssq_words.proofs.WalkLemmas.{IsGiven, IsOne, found_by, level_good, so
 
 abbrev query_built : Rule
 query_built = with_index 1 (filled query_rule)
+
+abbrev partitions_built : Rule
+partitions_built = with_index 2 (filled partitions_rule)
 
 abbrev lines_built : Rule
 lines_built = with_index 2 (filled max_lines_rule)
@@ -41,31 +44,31 @@ rounds_built = with_index 2 (filled rounds_rule)
 unfoldable run_built : Shape
 unfolding run_app
 run_built = record run_app.top {
-  rules = query_built ∷ lines_built ∷ rounds_built ∷ [];
+  rules = query_built ∷ partitions_built ∷ lines_built ∷ rounds_built ∷ [];
   disable_help_flag = true;
   disable_help_subcommand = true;
   is_built = true;
 }
 
-unfoldable status_built : Shape
-unfolding status_app
-status_built = record status_app.top {
+-- a subcommand that takes the query alone
+unfoldable file_built : Text → Shape
+file_built name = record (with_rule (new_app name) query_rule).top {
   rules = query_built ∷ [];
   disable_help_flag = true;
   disable_help_subcommand = true;
   is_built = true;
 }
 
-subs_built : (built program).subs ≡ run_built ∷ status_built ∷ []
-unfolding program run_app status_app top_app run_built status_built
+subs_built : (built program).subs ≡ run_built ∷ file_built (codes "explain") ∷ file_built (codes "status") ∷ []
+unfolding program run_app explain_app status_app top_app run_built file_built
 subs_built = refl
 
 pub program_is_free : is_simple_and_free program ≡ true
-unfolding program run_app status_app top_app
+unfolding program run_app explain_app status_app top_app
 program_is_free = refl
 
 pub program_is_simple : is_simple program ≡ true
-unfolding program run_app status_app top_app
+unfolding program run_app explain_app status_app top_app
 program_is_simple = refl
 
 -- ---- what good rows hold
@@ -127,54 +130,68 @@ query_one = record { action = refl; range = refl; reading = refl; defaults = ref
 lines_one : IsOne lines_built
 lines_one = record { action = refl; range = refl; reading = refl; defaults = refl }
 
+partitions_one : IsOne partitions_built
+partitions_one = record { action = refl; range = refl; reading = refl; defaults = refl }
+
 rounds_one : IsOne rounds_built
 rounds_one = record { action = refl; range = refl; reading = refl; defaults = refl }
 
 abbrev IsRunRule : Rule → Type 0
-IsRunRule a = (a ≡ query_built) ⊎ ((a ≡ lines_built) ⊎ (a ≡ rounds_built))
+IsRunRule a = (a ≡ query_built) ⊎ ((a ≡ partitions_built) ⊎ ((a ≡ lines_built) ⊎ (a ≡ rounds_built)))
 
-abbrev IsStatusRule : Rule → Type 0
-IsStatusRule a = a ≡ query_built
+abbrev IsFileRule : Rule → Type 0
+IsFileRule a = a ≡ query_built
 
 run_one : (a : Rule) → IsRunRule a → IsOne a
 run_one a (inl e) = subst IsOne (sym e) query_one
-run_one a (inr (inl e)) = subst IsOne (sym e) lines_one
-run_one a (inr (inr e)) = subst IsOne (sym e) rounds_one
+run_one a (inr (inl e)) = subst IsOne (sym e) partitions_one
+run_one a (inr (inr (inl e))) = subst IsOne (sym e) lines_one
+run_one a (inr (inr (inr e))) = subst IsOne (sym e) rounds_one
 
-status_one : (a : Rule) → IsStatusRule a → IsOne a
-status_one a e = subst IsOne (sym e) query_one
+file_one : (a : Rule) → IsFileRule a → IsOne a
+file_one a e = subst IsOne (sym e) query_one
 
 run_all : All IsRunRule run_built.rules
 unfolding run_built
 run_all =
-    All-cons IsRunRule query_built (lines_built ∷ rounds_built ∷ []) (inl refl)
-    (All-cons IsRunRule lines_built (rounds_built ∷ []) (inr (inl refl)) (All-cons IsRunRule rounds_built [] (inr (inr refl)) (All-nil IsRunRule)))
+    All-cons IsRunRule query_built (partitions_built ∷ lines_built ∷ rounds_built ∷ []) (inl refl)
+    (All-cons IsRunRule partitions_built (lines_built ∷ rounds_built ∷ []) (inr (inl refl))
+    (All-cons IsRunRule lines_built (rounds_built ∷ []) (inr (inr (inl refl)))
+    (All-cons IsRunRule rounds_built [] (inr (inr (inr refl))) (All-nil IsRunRule))))
 
-status_all : All IsStatusRule status_built.rules
-unfolding status_built
-status_all = All-cons IsStatusRule query_built [] refl (All-nil IsStatusRule)
+file_all : (name : Text) → All IsFileRule (file_built name).rules
+unfolding file_built
+file_all name = All-cons IsFileRule query_built [] refl (All-nil IsFileRule)
 
 run_once : run_built.args_override_self ≡ false
 unfolding run_built run_app
 run_once = refl
 
-status_once : status_built.args_override_self ≡ false
-unfolding status_built status_app
-status_once = refl
+file_once : (name : Text) → (file_built name).args_override_self ≡ false
+unfolding file_built
+file_once name = refl
 
 -- a rule of another id
 other_id : {A : Type 0} (a b : Rule) (id : Text) → a ≡ b → bytes_eq b.id id ≡ false → bytes_eq a.id id ≡ true → A
 other_id a b id e not same = absurd (true≢false (sym same ∙ ap (λ (x : Rule). bytes_eq x.id id) e ∙ not))
 
+partitions_bounds : (a : Rule) → IsRunRule a → bytes_eq a.id (codes "partitions") ≡ true → parser_of_value a.parser ≡ Unsigned 1 64
+partitions_bounds a (inl e) same = other_id a query_built (codes "partitions") e refl same
+partitions_bounds a (inr (inl e)) same = ap (λ (x : Rule). parser_of_value x.parser) e
+partitions_bounds a (inr (inr (inl e))) same = other_id a lines_built (codes "partitions") e refl same
+partitions_bounds a (inr (inr (inr e))) same = other_id a rounds_built (codes "partitions") e refl same
+
 lines_bounds : (a : Rule) → IsRunRule a → bytes_eq a.id (codes "max-lines") ≡ true → parser_of_value a.parser ≡ Unsigned 1 1099511627776
 lines_bounds a (inl e) same = other_id a query_built (codes "max-lines") e refl same
-lines_bounds a (inr (inl e)) same = ap (λ (x : Rule). parser_of_value x.parser) e
-lines_bounds a (inr (inr e)) same = other_id a rounds_built (codes "max-lines") e refl same
+lines_bounds a (inr (inl e)) same = other_id a partitions_built (codes "max-lines") e refl same
+lines_bounds a (inr (inr (inl e))) same = ap (λ (x : Rule). parser_of_value x.parser) e
+lines_bounds a (inr (inr (inr e))) same = other_id a rounds_built (codes "max-lines") e refl same
 
 rounds_bounds : (a : Rule) → IsRunRule a → bytes_eq a.id (codes "rounds") ≡ true → parser_of_value a.parser ≡ Unsigned 1 1000000
 rounds_bounds a (inl e) same = other_id a query_built (codes "rounds") e refl same
-rounds_bounds a (inr (inl e)) same = other_id a lines_built (codes "rounds") e refl same
-rounds_bounds a (inr (inr e)) same = ap (λ (x : Rule). parser_of_value x.parser) e
+rounds_bounds a (inr (inl e)) same = other_id a partitions_built (codes "rounds") e refl same
+rounds_bounds a (inr (inr (inl e))) same = other_id a lines_built (codes "rounds") e refl same
+rounds_bounds a (inr (inr (inr e))) same = ap (λ (x : Rule). parser_of_value x.parser) e
 
 -- ---- the subcommands
 
@@ -186,17 +203,17 @@ run_needs : (rows : List Row) → check_fault run_built rows false ≡ [] → is
 unfolding run_built run_app
 run_needs rows e = needed (is_given (codes "query") rows) e
 
-status_needs : (rows : List Row) → check_fault status_built rows false ≡ [] → is_given (codes "query") rows ≡ true
-unfolding status_built status_app
-status_needs rows e = needed (is_given (codes "query") rows) e
+file_needs : (name : Text) (rows : List Row) → check_fault (file_built name) rows false ≡ [] → is_given (codes "query") rows ≡ true
+unfolding file_built
+file_needs name rows e = needed (is_given (codes "query") rows) e
 
 run_name : run_built.name ≡ codes "run"
 unfolding run_built run_app
 run_name = refl
 
-status_name : status_built.name ≡ codes "status"
-unfolding status_built status_app
-status_name = refl
+file_name : (name : Text) → (file_built name).name ≡ name
+unfolding file_built
+file_name name = refl
 
 run_whole : (words : List Text) → level_fault run_built [] nothing_held words false [] ≡ [] → IsWhole (Some (rows_at run_built words))
 run_whole words e =
@@ -206,25 +223,37 @@ run_whole words e =
       run_name,
       record {
         query = has_query IsRunRule rows level.0 (run_needs rows level.1);
+        partitions = has_number IsRunRule rows level.0 1 64 (codes "partitions") partitions_bounds;
         max_lines = has_number IsRunRule rows level.0 1 1099511627776 (codes "max-lines") lines_bounds;
         rounds = has_number IsRunRule rows level.0 1 1000000 (codes "rounds") rounds_bounds;
       },
     )
 
-status_whole : (words : List Text) → level_fault status_built [] nothing_held words false [] ≡ [] → IsWhole (Some (rows_at status_built words))
-status_whole words e =
-    let level = level_good status_built IsStatusRule status_all status_one status_once [] words false [] e in
-    let rows = rows_after status_built.rules [] words in
-    inr (status_name, has_query IsStatusRule rows level.0 (status_needs rows level.1))
+file_query : (name : Text) (words : List Text) → level_fault (file_built name) [] nothing_held words false [] ≡ [] → HasQuery (rows_after (file_built name).rules [] words)
+file_query name words e =
+    let level = level_good (file_built name) IsFileRule (file_all name) file_one (file_once name) [] words false [] e in
+    let rows = rows_after (file_built name).rules [] words in
+    has_query IsFileRule rows level.0 (file_needs name rows level.1)
+
+explain_whole : (words : List Text) → level_fault (file_built (codes "explain")) [] nothing_held words false [] ≡ [] → IsWhole (Some (rows_at (file_built (codes "explain")) words))
+explain_whole words e = inr (inl (file_name (codes "explain"), file_query (codes "explain") words e))
+
+status_whole : (words : List Text) → level_fault (file_built (codes "status")) [] nothing_held words false [] ≡ [] → IsWhole (Some (rows_at (file_built (codes "status")) words))
+status_whole words e = inr (inr (file_name (codes "status"), file_query (codes "status") words e))
 
 -- ---- the whole command
 
 abbrev IsSub : Shape → Type 0
-IsSub s = (s ≡ run_built) ⊎ (s ≡ status_built)
+IsSub s = (s ≡ run_built) ⊎ ((s ≡ file_built (codes "explain")) ⊎ (s ≡ file_built (codes "status")))
+
+-- words in which this subcommand finds no fault give it what it needs
+abbrev IsSound : Shape → Type 0
+IsSound s = (words : List Text) → level_fault s [] nothing_held words false [] ≡ [] → IsWhole (Some (rows_at s words))
 
 sub_whole : (s : Shape) (words : List Text) → IsSub s → level_fault s [] nothing_held words false [] ≡ [] → IsWhole (Some (rows_at s words))
-sub_whole s words (inl e) fault = subst (λ (x : Shape). level_fault x [] nothing_held words false [] ≡ [] → IsWhole (Some (rows_at x words))) (sym e) (run_whole words) fault
-sub_whole s words (inr e) fault = subst (λ (x : Shape). level_fault x [] nothing_held words false [] ≡ [] → IsWhole (Some (rows_at x words))) (sym e) (status_whole words) fault
+sub_whole s words (inl e) fault = subst IsSound (sym e) run_whole words fault
+sub_whole s words (inr (inl e)) fault = subst IsSound (sym e) explain_whole words fault
+sub_whole s words (inr (inr e)) fault = subst IsSound (sym e) status_whole words fault
 
 met_whole : (o : Option Shape) (words : List Text) → IfSome o IsSub → option_map_or (λ s. level_fault s [] nothing_held words false []) o [] ≡ []
     → is_some (option_map (λ s. rows_at s words) o) ≡ true → IsWhole (option_map (λ s. rows_at s words) o)
@@ -232,7 +261,9 @@ met_whole None words sub fault some = absurd (true≢false (sym some))
 met_whole (Some s) words sub fault some = sub_whole s words sub fault
 
 subs : All IsSub (built program).subs
-subs = subst (All IsSub) (sym subs_built) (All-cons IsSub run_built (status_built ∷ []) (inl refl) (All-cons IsSub status_built [] (inr refl) (All-nil IsSub)))
+subs = subst (All IsSub) (sym subs_built)
+    (All-cons IsSub run_built (file_built (codes "explain") ∷ file_built (codes "status") ∷ []) (inl refl)
+    (All-cons IsSub (file_built (codes "explain")) (file_built (codes "status") ∷ []) (inr (inl refl)) (All-cons IsSub (file_built (codes "status")) [] (inr (inr refl)) (All-nil IsSub))))
 
 entered_whole : (stop : Option (Text × List Text)) → entered_fault (built program) stop ≡ [] → is_some (entered (built program) stop) ≡ true → IsWhole (entered (built program) stop)
 entered_whole None fault some = absurd (true≢false (sym some))
@@ -245,11 +276,11 @@ abbrev IsTopRule : Rule → Type 0
 IsTopRule a = ⊥
 
 top_rules : (built program).top.rules ≡ []
-unfolding program run_app status_app top_app
+unfolding program run_app explain_app status_app top_app
 top_rules = refl
 
 top_once : (built program).top.args_override_self ≡ false
-unfolding program run_app status_app top_app
+unfolding program run_app explain_app status_app top_app
 top_once = refl
 
 wanted : (has : Bool) → check_kinds (not has && false) (not has && true) false ≡ [] → has ≡ true
@@ -258,7 +289,7 @@ wanted false e = absurd (some_kind _ _ e)
 
 -- a subcommand is required
 top_needs : (rows : List Row) (has : Bool) → check_fault (built program).top rows has ≡ [] → has ≡ true
-unfolding program run_app status_app top_app
+unfolding program run_app explain_app status_app top_app
 top_needs rows has e = wanted has e
 
 pub taken_whole : (words : List Text) → fault_of program words ≡ [] → IsWhole (subcommand_of program words)
@@ -292,10 +323,11 @@ mapped f None e = e
 mapped f (Some x) e = refl
 
 whole_asks : (o : Option (Text × List Row)) → IsWhole o → is_some (option_and_then (λ p. subcommand_asked p.0 p.1) o) ≡ true
-unfolding subcommand_asked run_asked status_asked
+unfolding subcommand_asked run_asked explain_asked status_asked
 whole_asks None whole = absurd whole
 whole_asks (Some p) (inl run) = subst (λ (name : Text). is_some (subcommand_asked name p.1) ≡ true) (sym run.0) (mapped _ (first_of (codes "query") p.1) run.1.query)
-whole_asks (Some p) (inr status) = subst (λ (name : Text). is_some (subcommand_asked name p.1) ≡ true) (sym status.0) (mapped _ (first_of (codes "query") p.1) status.1)
+whole_asks (Some p) (inr (inl explain)) = subst (λ (name : Text). is_some (subcommand_asked name p.1) ≡ true) (sym explain.0) (mapped _ (first_of (codes "query") p.1) explain.1)
+whole_asks (Some p) (inr (inr status)) = subst (λ (name : Text). is_some (subcommand_asked name p.1) ≡ true) (sym status.0) (mapped _ (first_of (codes "query") p.1) status.1)
 
 pub free_asks : (words : List Text) → fault_of program words ≡ [] → is_some (asked words) ≡ true
 free_asks words e =

@@ -9,16 +9,19 @@ use Rattle.ssq_words.specs.Program.{program}
 use Rattle.ssq_words.specs.declared.Command.{Command}
 use Rattle.ssq_words.specs.declared.error.AskError.{AskError}
 use Rattle.ssq_words.specs.declared.error.AskError.TheVariants.{Usage, NoMemory}
-use Rattle.ssq_words.specs.declared.Command.TheVariants.{Run, Status}
+use Rattle.ssq_words.specs.declared.Command.TheVariants.{Run, Explain, Status}
 
--- a command: the query's file, for a run the most lines of an epoch, if there is a cap, and the number of rounds
+-- a command: the query's file, for a run the number of partitions, if it is asked for, the most lines of an epoch, if there is a
+-- cap, and the number of rounds
 pub data Asked : Type 0 where
-  asks_run : Text → Option ℕ → ℕ → Asked
+  asks_run : Text → Option ℕ → Option ℕ → ℕ → Asked
+  asks_explain : Text → Asked
   asks_status : Text → Asked
 
 -- the command that a value of the program's type holds
 abbrev pub asked_of : Command → Asked
-asked_of (Run query most_lines rounds) = asks_run query.now most_lines rounds
+asked_of (Run query partitions most_lines rounds) = asks_run query.now partitions most_lines rounds
+asked_of (Explain query) = asks_explain query.now
 asked_of (Status query) = asks_status query.now
 
 -- the number that digits spell; a first `+` and leading zeros say nothing
@@ -32,8 +35,12 @@ number_given id rows = option_map number_of (first_of id rows)
 -- a run takes one round where nothing else is said
 unfoldable pub run_asked : List Row → Option Asked
 run_asked rows = option_map
-    (λ query. asks_run query (number_given (codes "max-lines") rows) (unwrap_or (number_given (codes "rounds") rows) 1))
+    (λ query. asks_run query (number_given (codes "partitions") rows) (number_given (codes "max-lines") rows)
+    (unwrap_or (number_given (codes "rounds") rows) 1))
     (first_of (codes "query") rows)
+
+unfoldable pub explain_asked : List Row → Option Asked
+explain_asked rows = option_map asks_explain (first_of (codes "query") rows)
 
 unfoldable pub status_asked : List Row → Option Asked
 status_asked rows = option_map asks_status (first_of (codes "query") rows)
@@ -42,7 +49,8 @@ status_asked rows = option_map asks_status (first_of (codes "query") rows)
 unfoldable pub subcommand_asked : Text → List Row → Option Asked
 subcommand_asked name rows =
     if bytes_eq name (codes "run") then run_asked rows
-    else (if bytes_eq name (codes "status") then status_asked rows else None)
+    else (if bytes_eq name (codes "explain") then explain_asked rows
+    else (if bytes_eq name (codes "status") then status_asked rows else None))
 
 -- The words are taken exactly where clap finds no fault in them; then its matches say what they ask for.
 unfoldable pub asked : List Text → Option Asked
@@ -52,7 +60,9 @@ asked words =
 
 -- the numbers of a command are in the ranges that the program takes
 abbrev pub IsInRange : Command → Type 0
-IsInRange (Run query most_lines rounds) = ForSome most_lines (λ most. (1 ≤ most) × (most ≤ 1099511627776)) × ((1 ≤ rounds) × (rounds ≤ 1000000))
+IsInRange (Run query partitions most_lines rounds) =
+    ForSome partitions (λ count. (1 ≤ count) × (count ≤ 64)) × (ForSome most_lines (λ most. (1 ≤ most) × (most ≤ 1099511627776)) × ((1 ≤ rounds) × (rounds ≤ 1000000)))
+IsInRange (Explain query) = ⊤
 IsInRange (Status query) = ⊤
 
 -- why words are refused: they are no command; memory may run out at any time

@@ -8,6 +8,10 @@ use Rattle.clap.specs.declared.builder.value_parser.ValueParser.TheVariants.{Uns
 abbrev pub query_rule : Rule
 query_rule = record (new_rule (codes "query")) { required = true }
 
+-- `--partitions`: how many partitions the state has
+abbrev pub partitions_rule : Rule
+partitions_rule = record (new_rule (codes "partitions")) { long = Some (codes "partitions"); parser = Some (Unsigned 1 64) }
+
 -- `--max-lines`: the most lines of a part in an epoch
 abbrev pub max_lines_rule : Rule
 max_lines_rule =
@@ -17,9 +21,13 @@ max_lines_rule =
 abbrev pub rounds_rule : Rule
 rounds_rule = record (new_rule (codes "rounds")) { long = Some (codes "rounds"); parser = Some (Unsigned 1 1000000) }
 
--- `run QUERY [--max-lines 1..1099511627776] [--rounds 1..1000000]`
+-- `run QUERY [--partitions 1..64] [--max-lines 1..1099511627776] [--rounds 1..1000000]`
 unfoldable pub run_app : App
-run_app = with_rule (with_rule (with_rule (new_app (codes "run")) query_rule) max_lines_rule) rounds_rule
+run_app = with_rule (with_rule (with_rule (with_rule (new_app (codes "run")) query_rule) partitions_rule) max_lines_rule) rounds_rule
+
+-- `explain QUERY`
+unfoldable pub explain_app : App
+explain_app = with_rule (new_app (codes "explain")) query_rule
 
 -- `status QUERY`
 unfoldable pub status_app : App
@@ -34,4 +42,4 @@ top_app = on_top (λ s. record s {
 }) (new_app (codes "ssq"))
 
 unfoldable pub program : App
-program = with_subcommand (with_subcommand top_app run_app.top) status_app.top
+program = with_subcommand (with_subcommand (with_subcommand top_app run_app.top) explain_app.top) status_app.top

@@ -14,10 +14,11 @@ pub record HasNumberIn (low high : ℕ) (id : Text) (rows : List Row) : Type 0 w
 
 pub record IsRun (rows : List Row) : Type 0 where
   pub query : HasQuery rows
+  pub partitions : HasNumberIn 1 64 (codes "partitions") rows
   pub max_lines : HasNumberIn 1 1099511627776 (codes "max-lines") rows
   pub rounds : HasNumberIn 1 1000000 (codes "rounds") rows
 
 -- a subcommand was met, and has what it needs
 abbrev pub IsWhole : Option (Text × List Row) → Type 0
 IsWhole None = ⊥
-IsWhole (Some p) = ((p.0 ≡ codes "run") × IsRun p.1) ⊎ ((p.0 ≡ codes "status") × HasQuery p.1)
+IsWhole (Some p) = ((p.0 ≡ codes "run") × IsRun p.1) ⊎ (((p.0 ≡ codes "explain") × HasQuery p.1) ⊎ ((p.0 ≡ codes "status") × HasQuery p.1))

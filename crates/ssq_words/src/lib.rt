@@ -24,14 +24,21 @@ use std::alloc::Global;
 #[derive(Clone, Copy, Debug, PartialEq, Eq)]
 pub enum Command<'a> {
     /// Run the query over the lines that are there and not yet read, in `rounds` rounds, at most `most_lines` lines of
-    /// a part to an epoch.
+    /// a part to an epoch, with the state in `partitions` partitions.
     Run {
         /// The query's file.
         query: &'a str,
+        /// 1 to 64 partitions; `None` is as many as the checkpoint has, or one where it is new.
+        partitions: Option<u32>,
         /// 1 to 1099511627776 lines; `None` is no cap.
         most_lines: Option<u64>,
         /// 1 to 1000000 rounds.
         rounds: u32,
+    },
+    /// Tell the query's canonical text and how it is run.
+    Explain {
+        /// The query's file.
+        query: &'a str,
     },
     /// Tell how far the checkpoint is.
     Status {
@@ -40,9 +47,9 @@ pub enum Command<'a> {
     },
 }
 
-/// What the words ask for. They begin with the program's name, and are `run QUERY [--max-lines N] [--rounds N]` or
-/// `status QUERY`, in the forms that clap takes: a value follows its option as a word or after `=`, numbers may have a `+`
-/// and leading zeros, and after `--` a word that begins with `-` is a query too.
+/// What the words ask for. They begin with the program's name, and are `run QUERY [--partitions N] [--max-lines N]
+/// [--rounds N]`, `explain QUERY` or `status QUERY`, in the forms that clap takes: a value follows its option as a word or
+/// after `=`, numbers may have a `+` and leading zeros, and after `--` a word that begins with `-` is a query too.
 ///
 /// `Usage` comes exactly where clap takes the words for none of these, unless memory runs out, which is `NoMemory`.
 #[tactic(auto, using(crate::proofs::TakenLemmas::free_asks))]

@@ -3,7 +3,7 @@ ghost use Rattle.std.specs.Prelude.{◌≡◌, ◌≤◌, Some, codes, option_an
 ghost use Rattle.std.specs.Option.{ForSome};
 ghost use Rattle.clap.specs.Walk.{rows_of, first_of};
 ghost use Rattle.clap.specs.Words.{found_of, subcommand_rows_of};
-ghost use Rattle.ssq_words.specs.Asking.{number_given, run_asked, asked_of, status_asked, subcommand_asked, IsInRange};
+ghost use Rattle.ssq_words.specs.Asking.{number_given, run_asked, asked_of, explain_asked, status_asked, subcommand_asked, IsInRange};
 ghost use Rattle.ssq_words.specs.Reading.{HasNumberIn, HasQuery, IsRun, IsWhole};
 
 use crate::Command;
@@ -17,6 +17,14 @@ fn query<'a>(matches: &ArgMatches<'a>) -> &'a str
     ensures { first_of (codes "query") (rows_of (found_of matches.now)) ≡ Some result.now }
 {
     matches.get_str("query").unwrap()
+}
+
+fn partitions(matches: &ArgMatches<'_>) -> Option<u32>
+    requires { HasNumberIn 1 64 (codes "partitions") (rows_of (found_of matches.now)) }
+    ensures given { result ≡ number_given (codes "partitions") (rows_of (found_of matches.now)) }
+    ensures in_range { ForSome result (λ partitions. (1 ≤ partitions) × (partitions ≤ 64)) }
+{
+    matches.get_one::<u32>("partitions")
 }
 
 fn most_lines(matches: &ArgMatches<'_>) -> Option<u64>
@@ -42,13 +50,25 @@ fn run_of<'a>(matches: &ArgMatches<'a>) -> Command<'a>
     ensures in_range { IsInRange result }
 {
     let query = query(matches);
+    let partitions = partitions(matches);
     let most_lines = most_lines(matches);
     let rounds = rounds(matches);
     Command::Run {
         query,
+        partitions,
         most_lines,
         rounds,
     }
+}
+
+#[tactic(auto, unfolding(crate::specs::Asking::explain_asked))]
+fn explain_of<'a>(matches: &ArgMatches<'a>) -> Command<'a>
+    requires { HasQuery (rows_of (found_of matches.now)) }
+    ensures asked { explain_asked (rows_of (found_of matches.now)) ≡ Some (asked_of result) }
+    ensures in_range { IsInRange result }
+{
+    let query = query(matches);
+    Command::Explain { query }
 }
 
 #[tactic(auto, unfolding(crate::specs::Asking::status_asked))]
@@ -79,6 +99,7 @@ pub(crate) fn command_of<'a>(matches: &ArgMatches<'a>) -> Command<'a>
     let (name, inner) = met(matches);
     match name {
         "run" => run_of(inner),
+        "explain" => explain_of(inner),
         _ => status_of(inner),
     }
 }

@@ -2,11 +2,14 @@
 ghost use Rattle.std.specs.Prelude.{◌≡◌, IfOk, false};
 ghost use Rattle.clap.specs.Words.{app_of, rule_of};
 ghost use Rattle.clap.specs.declared.builder.command.Command.TheViews.{out-Command};
-ghost use Rattle.ssq_words.specs.Program.{max_lines_rule, program, query_rule, rounds_rule, run_app, status_app, top_app};
+ghost use Rattle.ssq_words.specs.Program.{explain_app, max_lines_rule, partitions_rule, program, query_rule, rounds_rule, run_app, status_app, top_app};
 
 use clap::builder::ValueParser;
 use clap::{Arg, Command};
 use std::alloc::{AllocError, Global};
+
+/// The most partitions that `--partitions` takes.
+const MOST_PARTITIONS: u64 = 64;
 
 /// The most lines that `--max-lines` takes.
 const MOST_LINES: u64 = 1_099_511_627_776;
@@ -19,6 +22,15 @@ fn query<'a>(alloc: Global) -> Arg<'a>
     ensures local { result.global ≡ false }
 {
     Arg::new(alloc, "query").required(true)
+}
+
+fn partitions<'a>(alloc: Global) -> Arg<'a>
+    ensures rule { rule_of result ≡ partitions_rule }
+    ensures local { result.global ≡ false }
+{
+    Arg::new(alloc, "partitions")
+        .long("partitions")
+        .value_parser(ValueParser::unsigned(1, MOST_PARTITIONS))
 }
 
 fn max_lines<'a>(alloc: Global) -> Arg<'a>
@@ -46,8 +58,17 @@ fn run<'a>(alloc: Global) -> Result<Command<'a>, AllocError>
 {
     Command::new(alloc, "run")
         .arg(query(alloc))?
+        .arg(partitions(alloc))?
         .arg(max_lines(alloc))?
         .arg(rounds(alloc))
+}
+
+#[tactic(auto, unfolding(crate::specs::Program::explain_app))]
+fn explain<'a>(alloc: Global) -> Result<Command<'a>, AllocError>
+    ensures app { IfOk result (λ c. app_of c ≡ explain_app) }
+    ensures local { IfOk result (λ c. (out-Command c).has_globals ≡ false) }
+{
+    Command::new(alloc, "explain").arg(query(alloc))
 }
 
 #[tactic(auto, unfolding(crate::specs::Program::status_app))]
@@ -75,5 +96,6 @@ pub(crate) fn program<'a>(alloc: Global) -> Result<Command<'a>, AllocError>
 {
     top(alloc)
         .subcommand(run(alloc)?)?
+        .subcommand(explain(alloc)?)?
         .subcommand(status(alloc)?)
 }
