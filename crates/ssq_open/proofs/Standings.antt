@@ -25,12 +25,15 @@ use Rattle.ssq_outside.specs.History.{History, had_now, files_now, LeavesNow, Le
 use Rattle.ssq_outside.proofs.Steps.{weaker}
 use Rattle.ssq_open.specs.Sought.{Sought}
 use Rattle.ssq_open.specs.Spelled.{IsTheMeta, IsThePlan, IsTheCommit}
+use Rattle.ssq_open.specs.declared.streams.Watermarked.{Watermarked}
 use Rattle.ssq_open.specs.Watermarks.{has_lines, mark_by}
 use Rattle.ssq_open.specs.Epochs.{starts, follows, cut_of, last_ends, no_plan, AreEndsAt, at_start, at_plan, IsThere, IsGoodPlan, IsGoodCommit, IsSinkRight, is_state, ArePlansOf, IsSeenAt, none_yet, by_commit, IsMarkAt, unmarked, marked_by, IsProgress}
 use Rattle.ssq_open.specs.declared.fault.OpenFault.{OpenFault}
 use Rattle.ssq_open.specs.declared.wanted.Opened.{Opened}
 use Rattle.ssq_open.specs.Opening.{Finds, Passes, first_short, first_meta, only_meta, IsOpen, kept, begun, IsRefused, unchanged, unfinished, IsOutside, IsImageOpening}
 use Rattle.ssq_open.specs.Jobs.{IsWantedJob, IsJobs, is_empty, stands, IsDeskOf}
+use Rattle.ssq_open.specs.Looking.{Query, begins, IsDenied, IsLookedFor}
+use Rattle.ssq_open.proofs.Looks.{not_denied}
 use Rattle.ssq_open.proofs.Walks.{short-none}
 use Rattle.ssq_open.proofs.Planning.{pushed, longer}
 use Rattle.ssq_open.proofs.Passing.{one_finding, not_refused}
@@ -388,3 +391,21 @@ ok_desk s job files now (Err fault) is w first ours = tt
 pub err_outside : (s : Sought) (job : Job) (files now : Files) (r : Result Opened OpenFault) → IfErr r (IsRefused s files now) → IsWantedJob s job → IsJobs s job files → IfErr r IsOutside
 err_outside s job files now (Ok found) is w ours = tt
 err_outside s job files now (Err fault) is w ours = only_outside s job files now fault w ours is
+
+-- nor does anything else deny a look at it
+pub look_outside : (query : Query) (s : Sought) (job : Job) (files : Files) → IsLookedFor query s → IsWantedJob s job → StandsOrEmpty job files → (r : Result (Option Opened) OpenFault) → IfErr r (IsDenied query files) → IfErr r IsOutside
+look_outside query s job files sought w ours (Ok found) denied = tt
+look_outside query s job files sought w (inl empty) (Err fault) denied = denied.outside empty
+look_outside query s job files sought w (inr st) (Err fault) denied =
+    let course : Course = job.course st.cuts in
+    let wanted = w.wanted st.cuts in
+    let M : List ℕ → Type 0 = λ parts. IsProgress query.watermarked files (begins parts) (first_plans course st.planned) st.committed (first_seen course st.committed) in
+    let F : List PartEnd → Type 0 = λ first. IsProgress query.watermarked files first (first_plans course st.planned) st.committed (first_seen course st.committed) in
+    let S : List Watermarked → Type 0 = λ streams. IsProgress streams files (starts s.found) (first_plans course st.planned) st.committed (first_seen course st.committed) in
+    not_denied query files course.meta (first_plans course st.planned) st.committed (first_seen course st.committed)
+    (record {
+      record_is = the_meta s job w files st;
+      ours = record { query = wanted.ours.ours.query ∙ sought.text; parts = ap length wanted.parts ∙ sought.each };
+      progress = subst M (sym wanted.parts) (subst F sought.begin (subst S sought.marked (progress s job w files st)));
+    })
+    fault denied.why

@@ -4,7 +4,13 @@ ghost use Rattle.std.specs.Prelude.{◌≡◌, ◌≤◌, ◌^◌, length, IfOk,
 ghost use Rattle.ssq_outside.specs.Files.{IsEmpty, AreNames};
 ghost use Rattle.ssq_outside.specs.History.{files_now};
 ghost use Rattle.ssq_open.specs.Fault.{DiskRises};
-ghost use Rattle.ssq_open.specs.Looking.{query_of, Holds, Denies, IsDenied};
+ghost use Rattle.ssq_core.specs.Course.{Job as JobOf};
+ghost use Rattle.ssq_core.specs.Sound.{StandsOrEmpty};
+ghost use Rattle.ssq_open.specs.Jobs.{IsWantedJob};
+ghost use Rattle.ssq_open.specs.Looking.{begins, query_of, Holds, Denies, IsDenied, IsLookedFor};
+ghost use Rattle.ssq_open.specs.Numbers.{HasNumbers};
+ghost use Rattle.ssq_open.specs.Opening.{IsOutside};
+ghost use Rattle.ssq_open.specs.Sought.{Sought};
 ghost use Rattle.ssq_open.specs.Watermarks.{watermarked};
 
 use crate::cuts::begins;
@@ -32,6 +38,8 @@ fn held<D: Disk>(
         IfOk result (Holds (query_of bound.now) (files_now (D.history disk.old))) }
     ensures denied { D.tells → AreNames (files_now (D.history disk.old)) names →
         IfErr result (Denies (query_of bound.now) (files_now (D.history disk.old))) }
+    ensures numbers { IfOk result (λ found. HasNumbers (watermarked bound.now.streams) (begins found.meta.parts) found) }
+    ensures streams { IfOk result (λ found. length found.meta.parts ≡ length bound.now.streams) }
     ensures same { D.tells → D.history disk.new ≡ D.history disk.old }
     ensures counted { D.faults disk.old ≤ D.faults disk.new }
     ensures cause { IfErr result (λ fault. DiskRises fault (D.faults disk.old) (D.faults disk.new)) }
@@ -46,6 +54,26 @@ fn held<D: Disk>(
         seen: epochs.seen,
         names,
     })
+}
+
+/// What there is to find, or why it is not looked at.
+fn looked<D: Disk>(alloc: Global, disk: &mut D, bound: &Bound) -> Result<Option<Opened>, OpenFault>
+    requires { length bound.now.streams ≤ 2 ^ 32 }
+    ensures found { D.tells → IfOk result (λ read. IfSome read (Holds (query_of bound.now) (files_now (D.history disk.old)))) }
+    ensures none { D.tells → IfOk result (λ read. IfNone read (IsEmpty (files_now (D.history disk.old)))) }
+    ensures denied { D.tells → IfErr result (IsDenied (query_of bound.now) (files_now (D.history disk.old))) }
+    ensures numbers { IfOk result (λ read. IfSome read (λ found. HasNumbers (watermarked bound.now.streams) (begins found.meta.parts) found)) }
+    ensures streams { IfOk result (λ read. IfSome read (λ found. length found.meta.parts ≡ length bound.now.streams)) }
+    ensures same { D.tells → D.history disk.new ≡ D.history disk.old }
+    ensures counted { D.faults disk.old ≤ D.faults disk.new }
+    ensures cause { IfErr result (λ fault. DiskRises fault (D.faults disk.old) (D.faults disk.new)) }
+{
+    let streams = watermarked_among(alloc, bound.streams.as_slice())?;
+    let names = Sequence::from_vec(disk.names(alloc)?);
+    if names.is_empty() {
+        return Ok(None);
+    }
+    Ok(Some(held(alloc, disk, names, bound, streams.as_slice())?))
 }
 
 /// Looks at the checkpoint of a query and says what it holds: nothing where no file is there. Nothing is
@@ -64,16 +92,19 @@ pub fn look<D: Disk>(
     ensures found { D.tells → IfOk result (λ read. IfSome read (Holds (query_of bound.now) (files_now (D.history disk.old)))) }
     ensures none { D.tells → IfOk result (λ read. IfNone read (IsEmpty (files_now (D.history disk.old)))) }
     ensures denied { D.tells → IfErr result (IsDenied (query_of bound.now) (files_now (D.history disk.old))) }
+
+    // On any disk: what is found is in order.
+    ensures numbers { IfOk result (λ read. IfSome read (λ found. HasNumbers (watermarked bound.now.streams) (begins found.meta.parts) found)) }
+    ensures streams { IfOk result (λ read. IfSome read (λ found. length found.meta.parts ≡ length bound.now.streams)) }
+
+    // Where the checkpoint stands for a job of the query, or is empty, nothing but the outside denies it.
+    ensures outside { D.tells → (s : Sought) (job : JobOf) → IsLookedFor (query_of bound.now) s → IsWantedJob s job →
+        StandsOrEmpty job (files_now (D.history disk.old)) → IfErr result IsOutside }
     ensures same { D.tells → D.history disk.new ≡ D.history disk.old }
 
     // A fault of the disk is answered only where it was counted.
     ensures counted { D.faults disk.old ≤ D.faults disk.new }
     ensures cause { IfErr result (λ fault. DiskRises fault (D.faults disk.old) (D.faults disk.new)) }
 {
-    let streams = watermarked_among(alloc, bound.streams.as_slice())?;
-    let names = Sequence::from_vec(disk.names(alloc)?);
-    if names.is_empty() {
-        return Ok(None);
-    }
-    Ok(Some(held(alloc, disk, names, bound, streams.as_slice())?))
+    looked(alloc, disk, bound)
 }

@@ -1,21 +1,8 @@
-use Rattle.std.proofs.Common.{◌∙◌, List, subst, sym}
-use Rattle.std.proofs.lemmas.Result.{err_from_is_err_and}
-use Rattle.ssq_outside.specs.declared.name.Name.{Name}
-use Rattle.ssq_outside.specs.Files.{Files, IsEmpty, AreNames}
-use Rattle.ssq_outside.specs.History.{History, files_now}
-use Rattle.ssq_open.specs.Looking.{query_of, Denies}
-use Rattle.ssq_open.proofs.Opens.{empty_listed, some_item}
+use Rattle.ssq_outside.specs.History.{files_now}
+use Rattle.ssq_open.specs.Looking.{query_of}
+use Rattle.ssq_open.proofs.Standings.{look_outside}
 use Rattle.ssq_open.proofs.looking.look.Goals as goal
 
-pub returns-in_err-held-clause-denied : goal.returns-in_err-held-clause-denied
-returns-in_err-held-clause-denied g c = λ tells.
-    let p = err_from_is_err_and c.from_residual-in_err-held.result c.from_residual-in_err-held.ensures.1 in
-    let files : Files = files_now (g.D.Disk.history c.args.disk.now) in
-    let N : List Name → Type 0 = λ names. AreNames files names in
-    let A : History → Type 0 = λ h. AreNames (files_now h) c.from_vec-names.result in
-    let R : History → Type 0 = λ h. Denies (query_of c.args.bound.now) (files_now h) c.in_err-held.field-0.0 in
-    let listed = subst N (sym c.from_vec-names.ensures) (c.in_ok-names.ensures.found tells) in
-    let same = c.names.ensures.same tells in
-    let are = subst A (sym same) listed in
-    let some : IsEmpty files → ⊥ = λ empty. some_item c.from_vec-names.result (sym c.is_empty.ensures ∙ c.if-is_empty.false) (empty_listed _ _ listed empty) in
-    rw (p.1, p.2) (record { why = subst R same (c.in_err-held.ensures.denied tells are); outside = λ empty. absurd (some empty) })
+pub returns-clause-outside : goal.returns-clause-outside
+returns-clause-outside g c = λ tells s job sought w ours.
+    look_outside (query_of c.args.bound.now) s job (files_now (g.D.Disk.history c.args.disk.now)) sought w ours c.looked.result (c.looked.ensures.denied tells)
