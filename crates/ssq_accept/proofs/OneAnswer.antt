@@ -20,7 +20,7 @@ use Rattle.ssq_parse.specs.File.{Fault, query_of}
 use Rattle.ssq_shape.specs.declared.bound.Bound.{Bound}
 use Rattle.ssq_shape.specs.declared.bound.Shape.{Shape}
 use Rattle.ssq_shape.specs.declared.bound.Shape.TheVariants as shape
-use Rattle.ssq_accept.specs.Accepting.{IsRead, HasFault, Breaks, Forbids, MayRun, Keeps, IsBroken, IsForbidden, IsNotYet, AcceptedAreTaken, AreRefusedAlike}
+use Rattle.ssq_accept.specs.Accepting.{IsRead, HasFault, Breaks, Forbids, MayRun, Keeps, IsBroken, IsForbidden, IsNotYet, AcceptedAreTaken, KnownAreTaken, AreRefusedAlike}
 
 ok_same : (found : Result Query Fault) (x y : Query) → found ≡ Ok x → found ≡ Ok y → y ≡ x
 ok_same found x y is also = cc
@@ -53,6 +53,15 @@ accepted_are_taken file query bound (refusal.Mode fault) is why =
 accepted_are_taken file query bound (refusal.NotYet own) is why =
     absurd (subst (λ (s : Shape). Keeps s own) (ap (λ (b : Bound). b.shape) (ap bound_of (one_query file query why.query is.read why.read) ∙ sym is.names.is) ∙ is.plain) why.keeps)
 accepted_are_taken file query bound refusal.NoMemory is why = refl
+
+pub known_are_taken : KnownAreTaken
+known_are_taken file query bound (refusal.Parse at cause) is why = absurd (no_fault file query at cause is.read why)
+known_are_taken file query bound (refusal.Bind fault) is why =
+    absurd (no_broken query fault is.allowed.names.unbroken (subst (λ (q : Query). Breaks q fault) (one_query file query why.query is.read why.read) why.breaks))
+known_are_taken file query bound (refusal.Mode fault) is why =
+    absurd (no_forbidden bound fault is.allowed.may_run (subst (λ (b : Bound). Forbids b fault) (ap bound_of (one_query file query why.query is.read why.read) ∙ sym is.allowed.names.is) why.forbids))
+known_are_taken file query bound (refusal.NotYet own) is why = absurd why
+known_are_taken file query bound refusal.NoMemory is why = refl
 
 -- ---- two refusals
 

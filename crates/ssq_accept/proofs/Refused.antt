@@ -8,7 +8,7 @@ use Rattle.ssq_bind.proofs.SpanLemmas.{delays_are_spans}
 use Rattle.ssq_bind.specs.Delays.{HasSpan}
 use Rattle.ssq_lex.specs.Cut.{cut_of}
 use Rattle.ssq_shape.specs.declared.bound.Bound.{Bound}
-use Rattle.ssq_accept.specs.Accepting.{IsRead, IsNoQuery, IsBoundAs, IsUnbound, MayRun, MayNotRun, Forbids, Keeps, IsLater, IsHeld, IsTaken, IsStopped, IsAccepted, IsRefused}
+use Rattle.ssq_accept.specs.Accepting.{IsRead, IsNoQuery, IsBoundAs, IsUnbound, MayRun, MayNotRun, Forbids, Keeps, IsLater, IsHeld, IsTaken, IsStopped, IsAccepted, IsRefused, IsAllowed, IsNotAllowed, IsKnown, IsUnknown}
 
 pub mode_holds : (bound : Bound) (why : Refusal) → MayNotRun bound why → IsHeld bound why
 mode_holds bound (refusal.Parse at cause) is = is
@@ -60,3 +60,33 @@ is_accepted file query bound read taken = record {
   plain = taken.run.plain;
   delays = subst (λ (b : Bound). All HasSpan b.streams) (sym taken.names.is) (delays_are_spans (cut_of file).tokens query read.written.written);
 }
+
+-- ---- a file that is only to be known
+
+pub names_forbid : (query : Query) (why : Refusal) → IsUnbound query why → IsNotAllowed query why
+names_forbid query (refusal.Parse at cause) is = is
+names_forbid query (refusal.Bind fault) is = is
+names_forbid query (refusal.Mode fault) is = absurd is
+names_forbid query (refusal.NotYet own) is = is
+names_forbid query refusal.NoMemory is = is
+
+pub mode_forbids : (query : Query) (bound : Bound) (why : Refusal) → IsBoundAs query bound → MayNotRun bound why → IsNotAllowed query why
+mode_forbids query bound (refusal.Parse at cause) names is = is
+mode_forbids query bound (refusal.Bind fault) names is = absurd is
+mode_forbids query bound (refusal.Mode fault) names is = (names.unbroken, subst (λ (b : Bound). Forbids b fault) names.is is)
+mode_forbids query bound (refusal.NotYet own) names is = is
+mode_forbids query bound refusal.NoMemory names is = absurd is
+
+pub none_known : (file : List ℕ) (why : Refusal) → IsNoQuery file why → IsUnknown file why
+none_known file (refusal.Parse at cause) is = is
+none_known file (refusal.Bind fault) is = absurd is
+none_known file (refusal.Mode fault) is = absurd is
+none_known file (refusal.NotYet own) is = is
+none_known file refusal.NoMemory is = is
+
+pub query_unknown : (file : List ℕ) (query : Query) (why : Refusal) → IsRead file query → IsNotAllowed query why → IsUnknown file why
+query_unknown file query (refusal.Parse at cause) read is = absurd is
+query_unknown file query (refusal.Bind fault) read is = record { query = query; read = read; breaks = is }
+query_unknown file query (refusal.Mode fault) read is = record { query = query; read = read; unbroken = is.0; forbids = is.1 }
+query_unknown file query (refusal.NotYet own) read is = is
+query_unknown file query refusal.NoMemory read is = is

@@ -120,6 +120,26 @@ IsStopped query (refusal.Mode fault) = AreNone (QueryFaults query) × Forbids (b
 IsStopped query (refusal.NotYet own) = AreNone (QueryFaults query) × MayRun (bound_of query) × Keeps (bound_of query).shape own
 IsStopped query refusal.NoMemory = Unit {0}
 
+-- ---- a query that is known, whether or not what it keeps is run yet
+
+-- the query breaks no rule of binding, and no rule of modes forbids what it is bound to
+pub record IsAllowed (query : Query) (bound : Bound) : Type 0 where
+  pub names : IsBoundAs query bound
+  pub may_run : MayRun bound
+
+-- the query breaks a rule of binding; or it breaks none, and a rule of modes forbids it
+abbrev pub IsNotAllowed : Query → Refusal → Type 0
+IsNotAllowed query (refusal.Parse at cause) = ⊥
+IsNotAllowed query (refusal.Bind fault) = Breaks query fault
+IsNotAllowed query (refusal.Mode fault) = AreNone (QueryFaults query) × Forbids (bound_of query) fault
+IsNotAllowed query (refusal.NotYet own) = ⊥
+IsNotAllowed query refusal.NoMemory = Unit {0}
+
+-- the file is this query, written by the grammar; it breaks no rule of binding, and no rule of modes forbids it
+pub record IsKnown (file : List ℕ) (query : Query) (bound : Bound) : Type 0 where
+  pub read : IsRead file query
+  pub allowed : IsAllowed query bound
+
 -- ---- the whole
 
 -- The file is this query, written by the grammar; it breaks no rule of binding, no rule of modes forbids it, and it keeps
@@ -161,6 +181,14 @@ IsRefused file (refusal.Mode fault) = IsForbidden file fault
 IsRefused file (refusal.NotYet own) = IsNotYet file own
 IsRefused file refusal.NoMemory = Unit {0}
 
+-- the same of a file that is only to be known
+abbrev pub IsUnknown : List ℕ → Refusal → Type 0
+IsUnknown file (refusal.Parse at cause) = HasFault file at cause
+IsUnknown file (refusal.Bind fault) = IsBroken file fault
+IsUnknown file (refusal.Mode fault) = IsForbidden file fault
+IsUnknown file (refusal.NotYet own) = ⊥
+IsUnknown file refusal.NoMemory = Unit {0}
+
 -- ---- a file has one answer
 
 -- a file that is accepted is refused for want of memory alone
@@ -170,3 +198,7 @@ AcceptedAreTaken = (file : List ℕ) (query : Query) (bound : Bound) (why : Refu
 -- two refusals of a file are one, or memory ran out
 abbrev pub AreRefusedAlike : Type 0
 AreRefusedAlike = (file : List ℕ) (one other : Refusal) → IsRefused file one → IsRefused file other → (one ≡ refusal.NoMemory) ⊎ (other ≡ refusal.NoMemory) ⊎ (one ≡ other)
+
+-- and so is one that is known
+abbrev pub KnownAreTaken : Type 0
+KnownAreTaken = (file : List ℕ) (query : Query) (bound : Bound) (why : Refusal) → IsKnown file query bound → IsUnknown file why → why ≡ refusal.NoMemory

@@ -2,7 +2,7 @@
 
 ghost use Rattle.std.specs.Prelude.{◌≡◌, IfOk, IfErr, OnOk};
 ghost use Rattle.ssq_shape.specs.declared.bound.Shape.TheVariants as shape;
-ghost use Rattle.ssq_accept.specs.Accepting.{IsRead, IsNoQuery, IsBoundAs, IsUnbound, MayRun, MayNotRun, IsLater, IsRun, IsHeld, IsTaken, IsStopped, IsAccepted, IsRefused, AcceptedAreTaken, AreRefusedAlike};
+ghost use Rattle.ssq_accept.specs.Accepting.{IsRead, IsNoQuery, IsBoundAs, IsUnbound, MayRun, MayNotRun, IsLater, IsRun, IsHeld, IsTaken, IsStopped, IsAccepted, IsRefused, IsAllowed, IsNotAllowed, IsKnown, IsUnknown, AcceptedAreTaken, KnownAreTaken, AreRefusedAlike};
 
 use crate::refusal::{LaterShape, Refusal};
 use ssq_ast::Query;
@@ -11,12 +11,12 @@ use ssq_parse::{ParseFault, parse};
 use ssq_shape::{Bound, Shape};
 use std::alloc::Global;
 
-/// A query file that is run.
+/// A query file that is known, or run.
 #[derive(Debug, Drop)]
 pub struct Accepted {
     /// The query that the file is.
     pub query: Query,
-    /// The same with its names bound. It keeps nothing.
+    /// The same with its names bound.
     pub bound: Bound,
 }
 
@@ -108,8 +108,39 @@ pub fn accept(alloc: Global, bytes: &[u8]) -> Result<Accepted, Refusal>
     }
 }
 
-/// The law of answers: a file that is accepted is refused for want of memory alone, and each file is refused in one way.
+#[tactic(auto, using(crate::proofs::Refused::names_forbid, crate::proofs::Refused::mode_forbids))]
+fn allowed(alloc: Global, query: &Query) -> Result<Bound, Refusal>
+    ensures allowed { IfOk result (IsAllowed query.now) }
+    ensures refused { IfErr result (IsNotAllowed query.now) }
+{
+    let bound = bound(alloc, query)?;
+    match may_run(&bound) {
+        Ok(()) => Ok(bound),
+        Err(refusal) => Err(refusal),
+    }
+}
+
+/// The query that a file is, bound, whether or not what it keeps is run yet: it is written by the grammar, breaks no rule of
+/// binding, and may run in its mode.
+///
+/// # Errors
+///
+/// As [`accept`], but never [`Refusal::NotYet`].
+#[tactic(auto, using(crate::proofs::Refused::none_known, crate::proofs::Refused::query_unknown))]
+pub fn recognise(alloc: Global, bytes: &[u8]) -> Result<Accepted, Refusal>
+    ensures known { IfOk result (λ known. IsKnown bytes.now known.query known.bound) }
+    ensures refused { IfErr result (IsUnknown bytes.now) }
+{
+    let query = read(alloc, bytes)?;
+    match allowed(alloc, &query) {
+        Ok(bound) => Ok(Accepted { query, bound }),
+        Err(refusal) => Err(refusal),
+    }
+}
+
+/// The law of answers: a file that is accepted, or known, is refused for want of memory alone, and each file is refused in one way.
 pub fn files_have_one_answer()
     ensures accepted { AcceptedAreTaken }
+    ensures known { KnownAreTaken }
     ensures refused { AreRefusedAlike }
 {}
