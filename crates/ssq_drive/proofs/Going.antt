@@ -36,7 +36,7 @@ earlier_if : (r : Scope) (c : Core) (before mid now : ℕ) (o : Option Cause) �
 earlier_if r c before mid now None le why = tt
 earlier_if r c before mid now (Some f) le why = earlier r c before mid now f le why
 
-after_more : (r : Scope) (c : Core) (es fs : List Entry) → after_all r (after_all r c es) fs ≡ after_all r c (es ++ fs)
+pub after_more : (r : Scope) (c : Core) (es fs : List Entry) → after_all r (after_all r c es) fs ≡ after_all r c (es ++ fs)
 after_more r c [] fs = refl
 after_more r c (e ∷ es) fs = after_more r (after r c e) es fs
 

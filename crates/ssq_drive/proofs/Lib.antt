@@ -14,3 +14,4 @@ pub mod Saying
 pub mod Stopping
 pub mod Idling
 pub mod Ending
+pub mod Goods

@@ -32,9 +32,10 @@ use Rattle.ssq_board.proofs.Lists.{nat_lt-not, nat_lt-less}
 use Rattle.ssq_board.proofs.Readies.{over_is}
 use Rattle.ssq_board.proofs.Sounds.{first_sound}
 use Rattle.ssq_board.proofs.Telling.{Runs, runs_of, tells_all}
+use Rattle.ssq_terms.specs.Setting.{AreFound}
 use Rattle.ssq_terms.specs.Laws.{PartsAreFound, TasksHaveTerms, HasTerms, never}
 use Rattle.ssq_terms.specs.Opening.{DeskOpensAsFound}
-use Rattle.ssq_promise.specs.Run.{Begins, IsLeft, RoundIsRun, RoundLeavesFound, WasRun}
+use Rattle.ssq_promise.specs.Run.{Begins, IsLeft, AreFilesOf, RoundIsRun, RoundLeavesFound, RoundLeavesTrue, WasRun, as_planned, one_tried}
 use Rattle.ssq_ledger.specs.Shown.{Shown, Opening, IsLegal, IsInOrder, cuts_of, did, first_state, state}
 use Rattle.ssq_desk.specs.declared.round.Round.{Round}
 use Rattle.ssq_desk.specs.declared.told.Told.{Told}
@@ -46,13 +47,14 @@ use Rattle.ssq_desk.specs.First.{first_shown}
 use Rattle.ssq_desk.specs.Whole.{opening_in}
 use Rattle.ssq_desk.proofs.Beginnings.{start_is}
 use Rattle.ssq_drive.specs.Driven.{StopsFor, IsDriven, brings_due}
+use Rattle.ssq_drive.specs.Good.{IsGood}
 use Rattle.ssq_drive.specs.Rounds.{CanBegin, IsFoundOf, IsOver, IsOwn, IsRound, IsRoundStop, RoundRan, RoundWent, first_of}
 use Rattle.ssq_drive.proofs.Counting.{counted}
 use Rattle.ssq_drive.proofs.Cutting.{AreNextCuts, GoOn, entries_go, first_of_two, stops_open}
 use Rattle.ssq_drive.proofs.Fitting.{FitsPlans, built_fits, next_fits, plans_on}
 use Rattle.ssq_drive.proofs.Idling.{err_ok}
 use Rattle.ssq_drive.proofs.Parting.{begin_as_counted}
-use Rattle.ssq_drive.proofs.Saying.{told_are, told_from, told_meant, same_from}
+use Rattle.ssq_drive.proofs.Saying.{told_are, told_from, told_good, told_meant, same_from}
 use Rattle.ssq_drive.proofs.Starting.{planned_found}
 use Rattle.ssq_drive.proofs.Stopping.{stop_is}
 
@@ -66,6 +68,7 @@ pub record IsClosed {D L : Type 0} (stores logs : Type 0) (lines : L → List Li
       × IsNext (Owns stores logs lines desk) (setting_of lines desk.opening) (cuts_of (opening_in lines) desk) desk.scope.available desk.core desk.opening.opened next
   pub stopped : (f : Cause) → end ≡ Err f → (desk.core.front.stop ≡ Some f) × IsStopOf (stores × logs) (setting_of lines desk.opening) (cuts_of (opening_in lines) desk) desk.core.front.committed f
   pub faulty : desk.core.front.stop ≡ Some cause.LogFault → 0 < log_faults
+  pub good : stores × logs → IsGood lines desk
 
 -- where a round may begin, its desk may
 pub desk_begins : {L : Type 0} (lines : L → List Line) (round : Round L) (r : Scope) → round.view.partitions ≡ round.opened.meta.partitions → CanBegin round.view.bound.now (length round.logs.items) round.opened r
@@ -99,6 +102,11 @@ leads_by one other t job r due [] s n leads = leads
 leads_by one other t job r due (e ∷ es) s n leads =
     let step = leads.1 in
     (leads.0, record { may = step.may; moves = λ _. step.moves t; right = λ _. step.right t; core = step.core; cuts = step.cuts }, leads_by one other t job r due es leads.0 n leads.2)
+
+-- lines that were found so were found so, too
+files_found : (job : Job) (cap : Option ℕ) (One Other : List ℕ → Type 0) (Done All : Type 0) (cuts : Cuts) (planned : ℕ) (now : History) → ((found : List ℕ) → One found → Other found) → (Done → All) → AreFilesOf job cap One Done cuts planned now → AreFilesOf job cap Other All cuts planned now
+files_found job cap One Other Done All cuts planned now more all (as_planned each) = as_planned each
+files_found job cap One Other Done All cuts planned now more all (one_tried done found is behind each) = one_tried (all done) found (more found is) behind each
 
 module _ {D L : Type 0} (stores logs : Type 0) (lines : L → List Line) (history : D → History) (faults : D → ℕ) (round : Round L) (r : Scope) (disk now : D) (es : List Entry)
     (can : CanBegin round.view.bound.now (length round.logs.items) round.opened r) (begin : first_ends (setting_of lines round) ≡ first_of round.opened) (is : IsDeskRound (setting_of lines round) round.opened r)
@@ -240,12 +248,13 @@ module _ {D L : Type 0} (stores logs : Type 0) (lines : L → List Line) (histor
   went_by plans fits same = record {
     on = plans_on r (first_of found) found.plans plans c.front.planned cuts next_cuts fits;
     told_are = told_are owned s cuts (first_of found) plans c.front.planned fits.are told found.committed closed.telling.each within;
+    good = λ t. told_good owned s cuts (first_of found) plans c.front.planned fits.are found.committed c.front.committed sound.before (closed.good t).1.told told found.committed closed.telling.each (omega arith) (let a = acknowledged in let b = below in omega (arith, a, b));
     few = (let count = fits.count in let less = within in omega (arith, count, less));
     over = λ next ends. subst (λ (l : List Plan). IsOver s.job.bound (length round.logs.items) r found l told next) (same next ends) (is_over next ends);
     stopped = λ why stops. stop_told plans fits why stops;
   }
 
-  module _ (law_parts : PartsAreFound) (law_terms : TasksHaveTerms) (law_opens : DeskOpensAsFound) (law_run : RoundIsRun (stores × logs)) (law_over : RoundLeavesFound (stores × logs)) (t : stores × logs) (own : IsOwn s r (history disk) found) where
+  module _ (law_parts : PartsAreFound) (law_terms : TasksHaveTerms) (law_opens : DeskOpensAsFound) (law_run : RoundIsRun (stores × logs)) (law_over : RoundLeavesFound (stores × logs)) (law_true : RoundLeavesTrue (stores × logs)) (t : stores × logs) (own : IsOwn s r (history disk) found) where
     starts_so : first_ends s ≡ starts (found_from 0 own.lens.streams)
     starts_so = (law_parts s s.job.bound own.asks own.lens own.setting).1
 
@@ -342,9 +351,14 @@ module _ {D L : Type 0} (stores logs : Type 0) (lines : L → List Line) (histor
               λ i. map (λ (d : Delay). (let line : SeenBy = record { stream = d.0; time = times d i } in line)) (delays s.job.bound)));
         }
 
-    ran_by : (plans : List Plan) → FitsPlans (first_of found) found.plans plans c.front.planned cuts → RoundRan (stores × logs) s (history disk) (history now) (cut_of (first_of found) plans) told end
+    ran_by : (plans : List Plan) → FitsPlans (first_of found) found.plans plans c.front.planned cuts → RoundRan (stores × logs) s r.cap (history disk) (history now) (cut_of (first_of found) plans) found.committed (length plans) told end
     ran_by plans fits = record {
       run = is_run;
+      files = files_found (job_of s) r.cap (λ lines. lines ≡ r.available) (λ lines. AreFound lines s.lines) ((c.front.planned ≤ c.front.committed) × (c.front.settled ≡ true)) (found.committed + length told ≡ length plans) (cut_of (first_of found) plans) (length plans) (history now)
+          (λ lines same. subst (λ (l : List ℕ). AreFound l s.lines) (sym (same ∙ own.scope.available)) own.lines)
+          (λ done. (let a = acknowledged in let all = all_settled done.1 in let b = sound.before in let d = done.0 in let count = fits.count in omega (arith, a, all, b, d, count)))
+          (subst (λ (n : ℕ). AreFilesOf (job_of s) r.cap (λ lines. lines ≡ r.available) ((c.front.planned ≤ c.front.committed) × (c.front.settled ≡ true)) (cut_of (first_of found) plans) n (history now)) (sym fits.count)
+          (law_true t (job_of s) r never has_terms.0 o.start es (first_state o r (history disk)) (state (history now) c cuts) begins_on leads_on go.quiet (cut_of (first_of found) plans) fits.are));
       meant = told_meant owned s cuts (first_of found) plans c.front.planned fits.are is_owned told found.committed closed.telling.each within;
       settled = λ next ends. (left next ends).settled;
       found = found_next;
@@ -352,9 +366,9 @@ module _ {D L : Type 0} (stores logs : Type 0) (lines : L → List Line) (histor
 
   -- by plans of its cuts
   round_by : (plans : List Plan) → FitsPlans (first_of found) found.plans plans c.front.planned cuts → ((next : Opened) → end ≡ Ok next → next.plans ≡ plans)
-      → PartsAreFound → TasksHaveTerms → DeskOpensAsFound → RoundIsRun (stores × logs) → RoundLeavesFound (stores × logs)
+      → PartsAreFound → TasksHaveTerms → DeskOpensAsFound → RoundIsRun (stores × logs) → RoundLeavesFound (stores × logs) → RoundLeavesTrue (stores × logs)
       → IsRound (stores × logs) s (length round.logs.items) r found (history disk) (history now) (faults disk) (faults now) log_faults told end
-  round_by plans fits same parts terms opens run over = record { plans = plans; went = went_by plans fits same; ran = λ t own. ran_by parts terms opens run over t own plans fits }
+  round_by plans fits same parts terms opens run over files = record { plans = plans; went = went_by plans fits same; ran = λ t own. ran_by parts terms opens run over files t own plans fits }
 
 abbrev opened_or : Opened → Result Opened Cause → List Plan
 opened_or next (Ok x) = x.plans
@@ -365,26 +379,26 @@ round_is : {D L : Type 0} (stores logs : Type 0) (lines : L → List Line) (hist
     → CanBegin round.view.bound.now (length round.logs.items) round.opened r → first_ends (setting_of lines round) ≡ first_of round.opened → IsDeskRound (setting_of lines round) round.opened r
     → list_any brings_due es ≡ false → (log_faults : ℕ) (told : List Told) (end : Result Opened Cause)
     → IsClosed stores logs lines history faults (first_shown lines round disk r) log_faults told end (did (first_shown lines round disk r) now es)
-    → PartsAreFound → TasksHaveTerms → DeskOpensAsFound → RoundIsRun (stores × logs) → RoundLeavesFound (stores × logs)
+    → PartsAreFound → TasksHaveTerms → DeskOpensAsFound → RoundIsRun (stores × logs) → RoundLeavesFound (stores × logs) → RoundLeavesTrue (stores × logs)
     → IsRound (stores × logs) (setting_of lines round) (length round.logs.items) r round.opened (history disk) (history now) (faults disk) (faults now) log_faults told end
-round_is stores logs lines history faults round r disk now es can begin is quiet log_faults told (Ok next) closed parts terms opens run over =
+round_is stores logs lines history faults round r disk now es can begin is quiet log_faults told (Ok next) closed parts terms opens run over files =
     let n = (closed.over next refl).1 in
     let fits = next_fits _ (setting_of lines round) (first_of round.opened) _ r.available _ round.opened next n (begins_so stores logs lines history faults round r disk now es can begin is quiet log_faults told (Ok next) closed) in
-    round_by stores logs lines history faults round r disk now es can begin is quiet log_faults told (Ok next) closed next.plans fits (λ other ends. sym (ap (opened_or next) ends)) parts terms opens run over
-round_is stores logs lines history faults round r disk now es can begin is quiet log_faults told (Err why) closed parts terms opens run over =
+    round_by stores logs lines history faults round r disk now es can begin is quiet log_faults told (Ok next) closed next.plans fits (λ other ends. sym (ap (opened_or next) ends)) parts terms opens run over files
+round_is stores logs lines history faults round r disk now es can begin is quiet log_faults told (Err why) closed parts terms opens run over files =
     let next = next_cuts stores logs lines history faults round r disk now es can begin is quiet log_faults told (Err why) closed in
     let below = more stores logs lines history faults round r disk now es can begin is quiet log_faults told (Err why) closed in
     let fits = built_fits r (first_of round.opened) round.opened.plans _ _ next below in
-    round_by stores logs lines history faults round r disk now es can begin is quiet log_faults told (Err why) closed _ fits (λ other ends. absurd (err_ok why other ends)) parts terms opens run over
+    round_by stores logs lines history faults round r disk now es can begin is quiet log_faults told (Err why) closed _ fits (λ other ends. absurd (err_ok why other ends)) parts terms opens run over files
 
 -- how a round went, by its desk in the end
 pub round_closed : {D L : Type 0} (stores logs : Type 0) (lines : L → List Line) (history : D → History) (faults : D → ℕ) (round : Round L) (r : Scope) (disk : D) (desk : Shown D (Round L)) (back : D)
     → round.view.partitions ≡ round.opened.meta.partitions → CanBegin round.view.bound.now (length round.logs.items) round.opened r → IsDriven faults (first_shown lines round disk r) desk → back ≡ desk.disk
     → (log_faults : ℕ) (told : List Told) (end : Result Opened Cause) → IsClosed stores logs lines history faults (first_shown lines round disk r) log_faults told end desk
-    → PartsAreFound → TasksHaveTerms → DeskOpensAsFound → RoundIsRun (stores × logs) → RoundLeavesFound (stores × logs)
+    → PartsAreFound → TasksHaveTerms → DeskOpensAsFound → RoundIsRun (stores × logs) → RoundLeavesFound (stores × logs) → RoundLeavesTrue (stores × logs)
     → IsRound (stores × logs) (setting_of lines round) (length round.logs.items) r round.opened (history disk) (history back) (faults disk) (faults back) log_faults told end
-round_closed stores logs lines history faults round r disk desk back same can driven is_back log_faults told end closed parts terms opens run over =
+round_closed stores logs lines history faults round r disk desk back same can driven is_back log_faults told end closed parts terms opens run over files =
     let b = desk_begins lines round r same can in
     subst (λ (d : _). IsRound (stores × logs) (setting_of lines round) (length round.logs.items) r round.opened (history disk) (history d) (faults disk) (faults d) log_faults told end) (sym is_back)
     (round_is stores logs lines history faults round r disk desk.disk driven.entries.0 can b.0 b.1 driven.quiet log_faults told end
-    (subst (IsClosed stores logs lines history faults (first_shown lines round disk r) log_faults told end) driven.entries.1 closed) parts terms opens run over)
+    (subst (IsClosed stores logs lines history faults (first_shown lines round disk r) log_faults told end) driven.entries.1 closed) parts terms opens run over files)

@@ -1,9 +1,9 @@
 -- What is told of the epochs of a round, by its plans.
-use Rattle.std.proofs.Common.{◌≡◌, ◌≤◌, ◌+◌, ℕ, suc, List, [], ◌∷◌, length, map, All, sym, refl, ap, ◌∙◌, subst, arith}
+use Rattle.std.proofs.Common.{◌≡◌, ◌≤◌, ◌+◌, ◌<◌, ℕ, suc, List, [], ◌∷◌, length, map, All, sym, refl, ap, ◌∙◌, subst, arith}
 use Rattle.std.proofs.lemmas.List.Elements.{All-nil, All-cons}
 use mathlib.Core.Option.{some}
 use lib.ListN.{get_elem?}
-use Rattle.ssq_meaning.specs.Epochs.{out}
+use Rattle.ssq_meaning.specs.Epochs.{fault_between, out}
 use Rattle.ssq_meaning.proofs.Causal.{says_same}
 use Rattle.ssq_plans.specs.declared.plan.Plan.{Plan}
 use Rattle.ssq_core.specs.Course.{Cuts, Ends}
@@ -13,6 +13,7 @@ use Rattle.ssq_open.specs.Epochs.{cut_of}
 use Rattle.ssq_board.specs.Told.{AreFrom}
 use Rattle.ssq_desk.specs.declared.told.Told.{Told}
 use Rattle.ssq_desk.specs.Closing.{IsToldOf, lines_between}
+use Rattle.ssq_drive.specs.Good.{HasGoodLines}
 use Rattle.ssq_drive.specs.Rounds.{AreTold, IsMeant}
 
 module _ (owned : Type 0) (s : Setting) (cuts : Cuts) where
@@ -39,6 +40,18 @@ module _ (owned : Type 0) (s : Setting) (cuts : Cuts) where
         let from = are e (omega (arith, le)) in
         let to = are (e + 1) (omega (arith, le)) in
         (record { epoch = own.number; lines = own.lines_are ∙ (λ i. lines_between (offsets_of (sym from i)) (offsets_of (sym to i))); stamp = own.printed }, told_are rest (e + 1) (later t rest e each) (omega (arith, le)))
+
+    -- and no line of theirs is a fault
+    pub told_good : (begin committed : ℕ) → committed ≤ planned → ((e : ℕ) → begin ≤ e → e < committed → HasGoodLines s cuts e) → (told : List Told) (e : ℕ) → TellsEach e told → begin ≤ e → e + length told ≤ committed
+        → All (λ (t : Told). HasGoodLines s (cut_of first plans) t.epoch) told
+    told_good begin committed few good [] e each ge le = All-nil (λ (t : Told). HasGoodLines s (cut_of first plans) t.epoch)
+    told_good begin committed few good (t ∷ rest) e each ge le =
+        let own = here t rest e each in
+        let at : HasGoodLines s (cut_of first plans) e =
+        ap (λ (ends : Ends). fault_between s.job.bound (parts_in s) (offsets_of ends) (offsets_of (cut_of first plans (e + 1)))) (are e (omega (arith, le, few)))
+        ∙ ap (λ (ends : Ends). fault_between s.job.bound (parts_in s) (offsets_of (cuts e)) (offsets_of ends)) (are (e + 1) (omega (arith, le, few))) ∙ good e ge (omega (arith, le)) in
+        All-cons (λ (t : Told). HasGoodLines s (cut_of first plans) t.epoch) t rest (subst (HasGoodLines s (cut_of first plans)) (sym own.number) at)
+        (told_good begin committed few good rest (e + 1) (later t rest e each) (omega (arith, ge)) (omega (arith, le)))
 
     -- where what was opened is the job's own, with the watermarks and the rows of the meaning
     pub told_meant : owned → (told : List Told) (e : ℕ) → TellsEach e told → e + length told ≤ planned → All (IsMeant s (cut_of first plans)) told

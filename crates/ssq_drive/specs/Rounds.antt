@@ -26,10 +26,11 @@ use Rattle.ssq_board.specs.Core.{Scope, next_ends, is_behind}
 use Rattle.ssq_board.specs.Rounds.{HasCap}
 use Rattle.ssq_terms.specs.Setting.{IsPlain, IsSettingOf, AreFound, found_lines}
 use Rattle.ssq_terms.specs.Laws.{IsScopeOf}
-use Rattle.ssq_promise.specs.Run.{WasRun}
+use Rattle.ssq_promise.specs.Run.{WasRun, AreFilesOf}
 use Rattle.ssq_desk.specs.declared.told.Told.{Told}
 use Rattle.ssq_desk.specs.Closing.{lines_between}
 use Rattle.ssq_desk.specs.Contents.{line_of}
+use Rattle.ssq_drive.specs.Good.{HasGoodLines}
 
 -- the query, with the partitions and parts that its checkpoint keeps, over the lines of the logs
 abbrev pub setting_for : {L : Type 0} → (L → List Line) → Bound → Opened → List L → Setting
@@ -132,18 +133,21 @@ pub record IsOver (bound : Bound) (logs : ℕ) (r : Scope) (found : Opened) (pla
   pub can : CanBegin bound logs next r
 
 -- How a round went, whatever the disk tells: these are its plans in the end, the epochs that it told are the first ones that were not
--- committed, and it is over or stopped at an epoch behind them.
+-- committed, of which no line is a fault where disk and logs tell what they hold, and it is over or stopped at an epoch behind them.
 pub record RoundWent (tells : Type 0) (s : Setting) (logs_count : ℕ) (r : Scope) (found : Opened) (disk disk_now logs : ℕ) (plans : List Plan) (told : List Told) (end : Result Opened Cause) : Type 0 where
   pub on : PlansOn (first_of found) r.cap r.available found.plans plans
   pub told_are : AreTold (first_of found) plans found.committed told
+  pub good : tells → All (λ told. HasGoodLines s (cut_of (first_of found) plans) told.epoch) told
   pub few : found.committed + length told ≤ length plans
   pub over : (next : Opened) → end ≡ Ok next → IsOver s.job.bound logs_count r found plans told next
   pub stopped : (why : Cause) → end ≡ Err why → IsRoundStop tells s (cut_of (first_of found) plans) r.available (length plans) (found.committed + length told) disk disk_now logs why
 
--- What a round does that begins on the job's own settled files: it is a run of the machine; each epoch that it tells has the rows of the
--- meaning; and where it is over, its files are settled and what the next round begins on is what they hold.
-pub record RoundRan (tells : Type 0) (s : Setting) (start now : History) (cuts : Cuts) (told : List Told) (end : Result Opened Cause) : Type 0 where
+-- What a round does that begins on the job's own settled files: it is a run of the machine; its plans are those of the files that it leaves,
+-- or, once all are done with, the publishing of one more failed; each epoch that it tells has the rows of the meaning; and where it is over, its files are settled and
+-- what the next round begins on is what they hold.
+pub record RoundRan (tells : Type 0) (s : Setting) (cap : Option ℕ) (start now : History) (cuts : Cuts) (committed planned : ℕ) (told : List Told) (end : Result Opened Cause) : Type 0 where
   pub run : WasRun tells (job_of s) start now (map (λ t. t.epoch) told)
+  pub files : AreFilesOf (job_of s) cap (λ lines. AreFound lines s.lines) (committed + length told ≡ planned) cuts planned now
   pub meant : All (IsMeant s cuts) told
   pub settled : (next : Opened) → end ≡ Ok next → IsSettledAs now (files_now now)
   pub found : (next : Opened) → end ≡ Ok next → IsFoundOf s (files_now now) next
@@ -163,4 +167,4 @@ pub record IsOwn (s : Setting) (r : Scope) (start : History) (found : Opened) : 
 pub record IsRound (tells : Type 0) (s : Setting) (logs_count : ℕ) (r : Scope) (found : Opened) (start now : History) (disk disk_now logs : ℕ) (told : List Told) (end : Result Opened Cause) : Type 0 where
   pub plans : List Plan
   pub went : RoundWent tells s logs_count r found disk disk_now logs plans told end
-  pub ran : tells → IsOwn s r start found → RoundRan tells s start now (cut_of (first_of found) plans) told end
+  pub ran : tells → IsOwn s r start found → RoundRan tells s r.cap start now (cut_of (first_of found) plans) found.committed (length plans) told end

@@ -5,6 +5,7 @@ ghost use Rattle.ssq_board.specs.declared.front.Ready.TheVariants as ready;
 ghost use Rattle.ssq_board.specs.Core.{ready_of};
 ghost use Rattle.ssq_board.specs.Rounds.{HasCap, IsAtRest};
 ghost use Rattle.ssq_drive.specs.Driven.{IsDriven};
+ghost use Rattle.ssq_drive.specs.Good.{KeepsGood};
 
 use crate::turn::turn;
 use ssq_desk::Desk;
@@ -17,6 +18,7 @@ pub fn run_desk<'a, D: Disk, L: Log, G: Gate>(alloc: Global, gate: &G, desk: &mu
     requires cap { HasCap desk.old.scope.cap }
     requires rest { IsAtRest desk.old.core }
     ensures driven { IsDriven D.faults desk.old desk.new }
+    ensures good { KeepsGood L.lines (D.tells × L.tells) desk.old desk.new }
     ensures end { (ready_of desk.new.scope desk.new.core ≡ ready.Over) ⊎ (ready_of desk.new.scope desk.new.core ≡ ready.Stopped) }
 {
     while turn(alloc, gate, desk) {}

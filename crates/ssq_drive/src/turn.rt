@@ -8,6 +8,7 @@ ghost use Rattle.ssq_board.specs.Core.{ready_of};
 ghost use Rattle.ssq_board.specs.Rounds.{HasCap, IsAtRest};
 ghost use Rattle.ssq_desk.specs.Tasks.{id_of};
 ghost use Rattle.ssq_drive.specs.Driven.{IsTurn};
+ghost use Rattle.ssq_drive.specs.Good.{KeepsGood};
 
 use ssq_board::Ready;
 use ssq_desk::{Desk, Task};
@@ -21,7 +22,8 @@ fn plan<'a, D: Disk, L: Log>(alloc: Global, desk: &mut Desk<'a, D, L>)
     requires cap { HasCap desk.old.scope.cap }
     requires rest { IsAtRest desk.old.core }
     requires next { ready_of desk.old.scope desk.old.core ≡ ready.Plan }
-    ensures { IsTurn D.faults desk.old desk.new }
+    ensures turn { IsTurn D.faults desk.old desk.new }
+    ensures good { KeepsGood L.lines (D.tells × L.tells) desk.old desk.new }
 {
     desk.is_in_order();
     desk.is_numbered();
@@ -32,7 +34,8 @@ fn plan<'a, D: Disk, L: Log>(alloc: Global, desk: &mut Desk<'a, D, L>)
 fn sync<'a, D: Disk, L: Log>(desk: &mut Desk<'a, D, L>)
     requires rest { IsAtRest desk.old.core }
     requires next { ready_of desk.old.scope desk.old.core ≡ ready.Sync }
-    ensures { IsTurn D.faults desk.old desk.new }
+    ensures turn { IsTurn D.faults desk.old desk.new }
+    ensures good { KeepsGood L.lines (D.tells × L.tells) desk.old desk.new }
 {
     desk.is_in_order();
     let _ = desk.sync();
@@ -42,7 +45,8 @@ fn sync<'a, D: Disk, L: Log>(desk: &mut Desk<'a, D, L>)
 fn commit<'a, D: Disk, L: Log>(desk: &mut Desk<'a, D, L>)
     requires rest { IsAtRest desk.old.core }
     requires next { ready_of desk.old.scope desk.old.core ≡ ready.Commit }
-    ensures { IsTurn D.faults desk.old desk.new }
+    ensures turn { IsTurn D.faults desk.old desk.new }
+    ensures good { KeepsGood L.lines (D.tells × L.tells) desk.old desk.new }
 {
     desk.is_in_order();
     let _ = desk.commit();
@@ -75,7 +79,8 @@ fn id_of<L: Log, S: Stage>(task: &Task<'_, L, S>) -> TaskId
 fn work<'a, D: Disk, L: Log, G: Gate>(alloc: Global, gate: &G, desk: &mut Desk<'a, D, L>)
     requires rest { IsAtRest desk.old.core }
     requires next { ready_of desk.old.scope desk.old.core ≡ ready.Task }
-    ensures { IsTurn D.faults desk.old desk.new }
+    ensures turn { IsTurn D.faults desk.old desk.new }
+    ensures good { KeepsGood L.lines (D.tells × L.tells) desk.old desk.new }
 {
     desk.is_in_order();
     desk.is_numbered();
@@ -105,6 +110,7 @@ pub(crate) fn turn<'a, D: Disk, L: Log, G: Gate>(
     requires cap { HasCap desk.old.scope.cap }
     requires rest { IsAtRest desk.old.core }
     ensures done { result ≡ true → IsTurn D.faults desk.old desk.new }
+    ensures good { KeepsGood L.lines (D.tells × L.tells) desk.old desk.new }
     ensures end { result ≡ false → (desk.new ≡ desk.old) × ((ready_of desk.old.scope desk.old.core ≡ ready.Over) ⊎ (ready_of desk.old.scope desk.old.core ≡ ready.Stopped)) }
 {
     desk.is_in_order();

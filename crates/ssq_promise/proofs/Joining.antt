@@ -1,13 +1,11 @@
 -- Rounds as runs, and runs joined.
-use Rattle.std.proofs.Common.{◌≡◌, ◌<◌, ◌≤◌, ◌+◌, ◌++◌, ◌∷◌, [], ℕ, Bool, true, List, Option, Some, None, refl, sym, ap, ◌∙◌, subst, arith}
-use Rattle.std.specs.Prelude.{Contains}
+use Rattle.std.proofs.Common.{◌≡◌, ◌++◌, ◌∷◌, [], ℕ, Bool, List, Option, Some, None, refl, sym, ap, ◌∙◌, subst, arith}
 use Rattle.ssq_outside.specs.declared.name.Name.TheVariants as name
 use Rattle.ssq_outside.specs.Files.{Files, Had, files_of, settled_at}
 use Rattle.ssq_outside.specs.History.{History, had_now, files_now, Elapses}
 use Rattle.ssq_core.specs.declared.event.Event.{Event}
 use Rattle.ssq_core.specs.declared.event.Event.TheVariants as event
 use Rattle.ssq_core.specs.Course.{Cuts, Job}
-use Rattle.ssq_core.specs.Standing.{IsThere}
 use Rattle.ssq_core.specs.Settled.{IsSettledAs}
 use Rattle.ssq_core.specs.Machine as machine
 use Rattle.ssq_core.specs.Machine.{Desk, running, opened, Allows, syncs}

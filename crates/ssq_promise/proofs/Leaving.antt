@@ -1,22 +1,19 @@
 -- What a round that is over leaves, and what a run keeps.
-use Rattle.std.proofs.Common.{◌≡◌, ◌⊎◌, ◌<◌, ◌≤◌, ◌+◌, ◌++◌, ◌∷◌, [], ℕ, Bool, true, false, true≢false, List, Option, Some, None, nat_lt, refl, sym, ap, ◌∙◌, subst, inl, inr, arith}
-use Rattle.std.specs.Prelude.{is_some, IsSome, Contains}
-use Rattle.std.proofs.lemmas.Bool.{cases_lt, ltb-true, ltb-false, lt-ltb}
+use Rattle.std.proofs.Common.{◌≡◌, ◌<◌, ◌≤◌, ◌∷◌, [], ℕ, Bool, true, false, true≢false, List, Option, Some, None, refl, sym, ap, ◌∙◌, subst, inl, inr, arith}
+use Rattle.std.specs.Prelude.{is_some}
+use Rattle.std.proofs.lemmas.Bool.{cases_lt, ltb-true}
 use Rattle.ssq_outside.specs.declared.name.Name.{Name}
 use Rattle.ssq_outside.specs.declared.name.Name.TheVariants as name
-use Rattle.ssq_outside.specs.Files.{Files, Had, MayBe, newest, files_of, settled_at}
+use Rattle.ssq_outside.specs.Files.{Files, Had, files_of, settled_at}
 use Rattle.ssq_outside.specs.History.{History, had_now, files_now, LeavesOnly}
 use Rattle.ssq_outside.proofs.Steps.{files_are_image}
-use Rattle.ssq_core.specs.declared.event.Event.{Event}
 use Rattle.ssq_core.specs.Course.{Course, Cuts, Job, IsCausal, AgreeUpTo, AreSameUpTo, truth}
 use Rattle.ssq_core.specs.Standing.{IsThere, is_allowed, StandsAt}
 use Rattle.ssq_core.specs.Staying.{IsNoOther}
 use Rattle.ssq_core.proofs.Files.{there_of}
 use Rattle.ssq_core.specs.Settled.{IsSettledAs}
-use Rattle.ssq_core.specs.Machine as machine
-use Rattle.ssq_core.specs.Machine.{Desk, running, waits, opened}
-use Rattle.ssq_core.specs.Sound.{Sound, StandsOrEmpty, IsSoundAt, IsSoundWith, IsSure, is_state}
-use Rattle.ssq_core.specs.Laws.{acknowledged, HasEpoch}
+use Rattle.ssq_core.specs.Machine.{Desk, running, waits}
+use Rattle.ssq_core.specs.Sound.{Sound, StandsOrEmpty, IsSoundAt, IsSoundWith, IsSure}
 use Rattle.ssq_core.proofs.Hads.{sure_settled}
 use Rattle.ssq_core.proofs.Holding.{agree_truth}
 use Rattle.ssq_core.proofs.Images.{stands_by, plan_below, commit_below}
@@ -27,7 +24,7 @@ use Rattle.ssq_board.specs.declared.front.Cause.{Cause}
 use Rattle.ssq_board.specs.declared.front.Entry.{Entry}
 use Rattle.ssq_board.specs.declared.front.Entry.TheVariants as entry
 use Rattle.ssq_board.specs.Core.{Scope, Core, is_open, May, after, due, or_stop, events_all}
-use Rattle.ssq_board.specs.Shown.{Start, IsSound, first}
+use Rattle.ssq_board.specs.Shown.{Start, IsSound}
 use Rattle.ssq_board.specs.Follows.{Terms, State, Leads, Moves, Shows, shown, life_of}
 use Rattle.ssq_board.proofs.Following.{list_follows}
 use Rattle.ssq_board.proofs.Opening.{shows_first}
@@ -113,7 +110,7 @@ stands_here job d had sound settled =
 abbrev found_desk : Cuts → ℕ → ℕ → Files → Desk
 found_desk cuts n k files = record { cuts = cuts; planned = n; committed = k; there = λ q. is_some (files q); sure = λ q. is_some (files q); tasks = λ t. waits; stores = λ p. [] }
 
-sound_by : (job : Job) (stop : Option Cause) (d : Desk) (had : Had) → stop ≡ None → IsSoundWith job (life_of stop) (Some d) had → IsSoundAt job d had
+pub sound_by : (job : Job) (stop : Option Cause) (d : Desk) (had : Had) → stop ≡ None → IsSoundWith job (life_of stop) (Some d) had → IsSoundAt job d had
 sound_by job None d had is sound = sound
 sound_by job (Some f) d had is sound = some_none f is
 

@@ -1,19 +1,20 @@
 -- A run as a list of events of the machine, and what that promises.
-use Rattle.std.specs.Prelude.{◌≡◌, ◌<◌, ◌≤◌, ◌+◌, ◌++◌, ℕ, Bool, true, false, List, [], ◌∷◌, Option, None, Contains}
+use Rattle.std.specs.Prelude.{◌≡◌, ◌≤◌, ◌+◌, ◌++◌, ℕ, Bool, true, false, List, [], Option, None, Contains}
 use Rattle.ssq_outside.specs.declared.name.Name.{Name}
 use Rattle.ssq_outside.specs.Files.{Files}
-use Rattle.ssq_outside.specs.History.{History, files_now, LeavesOnly}
+use Rattle.ssq_outside.specs.History.{History, files_now, LeavesNow, LeavesOnly}
 use Rattle.ssq_core.specs.declared.event.Event.{Event}
-use Rattle.ssq_core.specs.Course.{Cuts, Job, IsCausal, AreSameUpTo}
-use Rattle.ssq_core.specs.Standing.{IsThere, StandsAt, Stands}
+use Rattle.ssq_core.specs.Course.{Course, Cuts, Job, IsCausal, AreSameUpTo, truth}
+use Rattle.ssq_core.specs.Standing.{IsThere, is_allowed}
+use Rattle.ssq_core.specs.Staying.{IsNoOther}
 use Rattle.ssq_core.specs.Settled.{IsSettledAs}
 use Rattle.ssq_core.specs.Machine as machine
 use Rattle.ssq_core.specs.Machine.{Desk, running, opened}
 use Rattle.ssq_core.specs.Sound.{StandsOrEmpty, is_state}
 use Rattle.ssq_core.specs.Laws.{acknowledged, HasEpoch}
 use Rattle.ssq_board.specs.declared.front.Entry.{Entry}
-use Rattle.ssq_board.specs.Core.{Scope, is_open}
-use Rattle.ssq_board.specs.Shown.{Start, IsStart, first}
+use Rattle.ssq_board.specs.Core.{Scope, is_open, is_behind, next_ends, extended}
+use Rattle.ssq_board.specs.Shown.{Start, first}
 use Rattle.ssq_board.specs.Follows.{Terms, State, Leads}
 use Rattle.ssq_board.specs.Laws.{IsOpenedAt}
 use Rattle.ssq_board.specs.Told.{acknowledged_of}
@@ -64,6 +65,30 @@ abbrev pub RoundLeavesFound : Type 0 → Type 0
 RoundLeavesFound tells = tells → (job : Job) (r : Scope) (due : Cuts → ℕ → Bool) (terms : Terms job r due) (st : Start) (es : List Entry) (s n : State) → Begins job r due terms st s
     → Leads tells job r due s es n → n.core.front.stop ≡ None → n.core.front.settled ≡ true → is_open n.core ≡ false
     → (cuts : Cuts) → AreSameUpTo cuts n.cuts n.core.front.planned → IsLeft job n cuts
+
+-- The files are true to the course: each that is there is the true one of its name, and none is of an epoch from this one on.
+pub record AreTrueTo (course : Course) (planned : ℕ) (files : Files) : Type 0 where
+  pub are_true : (q : Name) → IsNoOther files q (truth course q)
+  pub allowed : (q : Name) → IsThere files q → is_allowed course.keeping planned planned q ≡ true
+
+-- The plans of a round are those of the files that it leaves: each image is true to their cuts, and has no other plan. Or the publishing of
+-- one plan more failed, so that an image may have it: which comes only where all others are done with, and is cut as the next, by lines that
+-- were found so, of which it takes some.
+pub data AreFilesOf (job : Job) (cap : Option ℕ) (IsFound : List ℕ → Type 0) (AreDone : Type 0) (cuts : Cuts) (planned : ℕ) (now : History) : Type 0 where
+  as_planned : LeavesNow now (AreTrueTo (job.course cuts) planned) → AreFilesOf job cap IsFound AreDone cuts planned now
+  one_tried : AreDone → (found : List ℕ) → IsFound found → is_behind (cuts planned) found ≡ true
+      → LeavesNow now (AreTrueTo (job.course (extended cuts planned (next_ends cap (cuts planned) found))) (planned + 1)) → AreFilesOf job cap IsFound AreDone cuts planned now
+
+-- Where a desk opens on settled files they are true to its cuts.
+abbrev pub OpenedIsTrue : Type 0
+OpenedIsTrue = (job : Job) (disk : History) (d : Desk) → IsSettledAs disk (files_now disk) → opened job (files_now disk) d → LeavesNow disk (AreTrueTo (job.course d.cuts) d.planned)
+
+-- What a round leaves are files of its plans, for any cuts that are the round's as far as epochs are planned, where no epoch without lines is
+-- due.
+abbrev pub RoundLeavesTrue : Type 0 → Type 0
+RoundLeavesTrue tells = tells → (job : Job) (r : Scope) (due : Cuts → ℕ → Bool) (terms : Terms job r due) (st : Start) (es : List Entry) (s n : State) → Begins job r due terms st s
+    → Leads tells job r due s es n → n.core.front.due ≡ false
+    → (cuts : Cuts) → AreSameUpTo cuts n.cuts n.core.front.planned → AreFilesOf job r.cap (λ found. found ≡ r.available) ((n.core.front.planned ≤ n.core.front.committed) × (n.core.front.settled ≡ true)) cuts n.core.front.planned n.disk
 
 -- Each epoch that was acknowledged by some time of a run is in each image from then on.
 abbrev pub AcknowledgedAreKept : {tells : Type 0} {job : Job} {start now : History} {told : List ℕ} → WasRun tells job start now told → Type 0

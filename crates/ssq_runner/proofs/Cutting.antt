@@ -87,3 +87,7 @@ text_next old text told i default less is =
 pub on_err : {T E P : Type 0} (r : Result T E) → P → OnErr r P
 on_err (Ok x) p = tt
 on_err (Err e) p = p
+
+-- what failed is not done
+pub never_ok : {T E : Type 0} {done : T} (why : E) → ◌≡◌ {A = Result T E} (Err why) (Ok done) → ⊥
+never_ok why is = cc

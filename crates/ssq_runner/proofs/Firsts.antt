@@ -7,7 +7,7 @@ use Rattle.std.proofs.lemmas.List.Elements.{All-nil, All-cons, All-head, All-tai
 use Rattle.std.proofs.lemmas.Bool.{ltb-false}
 use Rattle.std.proofs.lemmas.Option.{none-some}
 use Rattle.std.specs.Option.{ForSome}
-use Rattle.ssq_outside.specs.History.{History, files_now}
+use Rattle.ssq_outside.specs.History.{History, files_now, LeavesNow}
 use Rattle.ssq_outside.specs.Logs.{Line}
 use Rattle.ssq_shape.specs.declared.bound.Bound.{Bound}
 use Rattle.ssq_plans.specs.declared.part.PartEnd.{PartEnd}
@@ -22,8 +22,10 @@ use Rattle.ssq_open.specs.Watermarks.{watermarked}
 use Rattle.ssq_board.specs.Rounds.{HasCap}
 use Rattle.ssq_terms.specs.Setting.{IsPlain, IsSettingOf, found_lines}
 use Rattle.ssq_terms.specs.Laws.{PartsAreFound}
-use Rattle.ssq_promise.specs.Run.{NothingIsRun}
+use Rattle.ssq_promise.specs.Run.{AreTrueTo, NothingIsRun, OpenedIsTrue, as_planned}
 use Rattle.ssq_logs.specs.Asked.{AreAsked}
+use Rattle.ssq_desk.specs.declared.told.Told.{Told}
+use Rattle.ssq_drive.specs.Good.{HasGoodLines}
 use Rattle.ssq_drive.specs.Rounds.{CanBegin, IsMeant, first_of}
 use Rattle.ssq_runner.specs.Lens.{lens_of, apart}
 use Rattle.ssq_runner.specs.Rounds.{AreRounds}
@@ -32,10 +34,13 @@ use Rattle.ssq_runner.specs.Going.{IsReady, planned_lines, scope_of}
 use Rattle.ssq_open.specs.Fault.{DiskRises}
 use Rattle.ssq_open.specs.Lens.{asked}
 use Rattle.ssq_open.specs.Sought.{Sought}
-use Rattle.ssq_open.specs.Opening.{IsRefused}
+use Rattle.ssq_open.specs.Opening.{IsRefused, IsOutside, IsOpening}
+use Rattle.ssq_open.specs.Jobs.{IsWantedJob, IsJobs}
+use Rattle.ssq_open.specs.declared.fault.OpenFault.{OpenFault}
+use Rattle.ssq_core.specs.Course.{Cuts, Job}
 use Rattle.ssq_runner.specs.declared.ask.Ask.{Ask}
 use Rattle.ssq_runner.specs.declared.fault.RunFault.{RunFault}
-use Rattle.ssq_runner.specs.Running.{Given, IsOf, IsOpenedOn, IsUnopened, denied, untried, RunEnd, refused, starved, sought_in}
+use Rattle.ssq_runner.specs.Running.{Given, IsOf, IsRunOf, IsOpenedOn, IsUnopened, denied, untried, RunEnd, refused, starved, sought_in}
 use Rattle.ssq_runner.proofs.Cutting.{text_start}
 use Rattle.ssq_runner.proofs.Answering.{none_asked, asked_on}
 use Rattle.ssq_runner.proofs.Readying.{asked_under, asked_at, asked_found, asked_count, ends_each}
@@ -124,11 +129,11 @@ module _ (law : PartsAreFound) (bound : Bound) (asks : Option ℕ) (counts found
               ∙ begin_count ∙ sym (ap length found_same) ∙ length-map (found_from 0 (apart counts found)) (λ (end : PartEnd). end.end)
 
 -- the logs were asked, and nothing was done yet
-pub ready_first : {L : Type 0} (T U : Type 0) (lines : L → List Line) (available : L → ℕ) (answers : L → List ℕ) (faults : L → ℕ) → (U → T) → NothingIsRun U → (b : Begun L) (news : List L) (found : List ℕ) (OutTells : Type 0)
-    → AreAsked T lines available answers faults b.logs news found → length b.logs ≤ 128 → CanBegin b.bound (length news) b.found (scope_of b.found found b.cap)
+pub ready_first : {L : Type 0} (T U : Type 0) (lines : L → List Line) (available : L → ℕ) (answers : L → List ℕ) (faults : L → ℕ) → (U → T) → NothingIsRun U → OpenedIsTrue → (b : Begun L) (news : List L) (found : List ℕ) (OutTells : Type 0)
+    → b.seen ≡ found → AreAsked T lines available answers faults b.logs news found → length b.logs ≤ 128 → CanBegin b.bound (length news) b.found (scope_of b.found found b.cap)
     → IsReady U lines available answers faults b 0 b.start b.disk_faults news OutTells b.written b.found found
 unfolding AreRounds
-ready_first T U lines available answers faults less nothing b news found OutTells ask few can =
+ready_first T U lines available answers faults less nothing at_rest b news found OutTells seen ask few can =
     let under = asked_under T U lines available answers faults less b.logs news found ask in
     let count = asked_count T lines available answers faults b.logs news found ask in
     record {
@@ -142,8 +147,9 @@ ready_first T U lines available answers faults less nothing b news found OutTell
         committed = omega arith;
         whole = λ never. absurd (omega (arith, never));
         meta_is = refl;
+        good = λ u. All-nil (λ (t : Told). HasGoodLines (setting_in U lines available answers faults b) (cuts_in b b.found.plans) t.epoch);
         wrote = λ o. text_start b.written;
-        answered = none_asked U lines available answers faults 0 b.logs;
+        asked = record { answered = none_asked U lines available answers faults 0 b.logs; first = tt };
         fits = record {
           plain = can.plain;
           some_partitions = can.some_partitions;
@@ -157,9 +163,21 @@ ready_first T U lines available answers faults less nothing b news found OutTell
         };
         there = λ never. absurd (omega (arith, never));
         disk_counted = omega arith;
-        ran = λ u own. (record { run = nothing (job_of (setting_in U lines available answers faults b)) b.start; meant = All-nil (IsMeant (setting_in U lines available answers faults b) (cuts_in b b.found.plans)) }, own.settled, own.found_is);
+        ran = λ u own.
+            let s = setting_in U lines available answers faults b in
+            let desk = own.found_is.desk in (
+              record {
+                run = nothing (job_of s) b.start;
+                files = as_planned
+                    (subst (λ (planned : ℕ). LeavesNow b.start (AreTrueTo ((job_of s).course (cuts_in b b.found.plans)) planned)) own.found_is.planned
+                    (subst (λ (cuts : Cuts). LeavesNow b.start (AreTrueTo ((job_of s).course cuts) desk.planned)) own.found_is.cuts (at_rest (job_of s) b.start desk own.settled own.found_is.is)));
+                meant = All-nil (IsMeant s (cuts_in b b.found.plans));
+              },
+              own.settled,
+              own.found_is,
+            );
       };
-      answered = λ epochs. asked_on U lines available answers faults 0 [] b.logs b.logs news found [] epochs refl (none_asked U lines available answers faults 0 b.logs) under;
+      asked = λ epochs. record { answered = asked_on U lines available answers faults 0 [] b.logs b.logs news found [] epochs refl (none_asked U lines available answers faults 0 b.logs) under; first = sym seen };
       can = can;
       few = (let c = count.0 in omega (arith, few, c));
       seen = λ u i own at. (let e = asked_at T lines available answers faults b.logs news found ask (less u) i own at in omega (arith, e));
@@ -172,14 +190,18 @@ sought_same g bound ask counts found of = λ i. asked (of.bound_is i) (of.asks_a
 
 -- nothing was opened, and so the run ends
 pub unopened_end : {D L : Type 0} (T U : Type 0) (history : D → History) (disks : D → ℕ) (lines : L → List Line) (available : L → ℕ) (answers : L → List ℕ) (faults : L → ℕ) → (U → T) → (g : Given L) (bound : Bound) (ask : Ask) (counts found : List ℕ) (before now : D) (logs : List L)
-    (OutTells : Type 0) (written text : List ℕ) (why : RunFault) → IsOf bound ask counts g → g.start ≡ history before → g.disk_faults ≡ disks before → g.written ≡ written → text ≡ [] → IsUnopened T history disks bound ask.partitions (lens_of counts found) before now why
+    (OutTells : Type 0) (written text : List ℕ) (why : RunFault) → AreAsked U lines available answers faults g.logs logs found
+    → ((cause : OpenFault) → (T → (job : Job) → IsWantedJob (asked bound ask.partitions (lens_of counts found)) job → IsJobs (asked bound ask.partitions (lens_of counts found)) job (files_now (history before)) → IsOutside cause) → U → (s : Setting) → IsRunOf lines g s → IsJobs (sought_in g found) (job_of s) (files_now g.start) → IsOutside cause)
+    → IsOf bound ask counts g → g.start ≡ history before → g.disk_faults ≡ disks before → g.written ≡ written → text ≡ [] → IsUnopened T history disks bound ask.partitions (lens_of counts found) before now why
     → RunEnd U lines available answers faults g (history now) (disks now) logs OutTells written text (Err why)
-unopened_end T U history disks lines available answers faults less g bound ask counts found before now logs OutTells written text why of start faulty wrote empty (denied cause is checks risen) =
-    refused found cause
+unopened_end T U history disks lines available answers faults less g bound ask counts found before now logs OutTells written text why asks ours of start faulty wrote empty (denied cause is checks moments outside risen) =
+    refused found cause asks
     (λ u. subst (λ (s : Sought). IsRefused s (files_now g.start) (files_now (history now)) cause) (sym (sought_same g bound ask counts found of)) (subst (λ (h : History). IsRefused (asked bound ask.partitions (lens_of counts found)) (files_now h) (files_now (history now)) cause) (sym start) (checks (less u))))
+    (λ u. subst (λ (s : Sought). IsOpening s g.start (history now)) (sym (sought_same g bound ask counts found of)) (subst (λ (h : History). IsOpening (asked bound ask.partitions (lens_of counts found)) h (history now)) (sym start) (moments (less u))))
+    (ours cause outside)
     (subst (λ (n : ℕ). DiskRises cause n (disks now)) (sym faulty) risen) (record { unwritten = λ o. sym wrote; untold = empty }) (ap Err is)
-unopened_end T U history disks lines available answers faults less g bound ask counts found before now logs OutTells written text why of start faulty wrote empty (untried is same) =
-    starved (ap history same ∙ sym start) (record { unwritten = λ o. sym wrote; untold = empty }) (ap Err is)
+unopened_end T U history disks lines available answers faults less g bound ask counts found before now logs OutTells written text why asks ours of start faulty wrote empty (untried is same) =
+    starved found asks (ap history same ∙ sym start) (record { unwritten = λ o. sym wrote; untold = empty }) (ap Err is)
 
 -- streams of at most 64 parts each
 pub apart_few : (counts found : List ℕ) → All (λ count. count ≤ 64) counts → All IsFew (apart counts found)

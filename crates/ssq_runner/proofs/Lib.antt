@@ -9,3 +9,7 @@ pub mod Firsts
 pub mod Owning
 pub mod Promising
 pub mod Sourcing
+pub mod Growing
+pub mod Resuming
+pub mod Faultless
+pub mod Completing

@@ -14,7 +14,7 @@ use Rattle.ssq_shape.specs.declared.bound.Bound.{Bound}
 use Rattle.ssq_plans.specs.declared.meta.Meta.{Meta}
 use Rattle.ssq_plans.specs.declared.part.PartEnd.{PartEnd}
 use Rattle.ssq_core.specs.Course.{Cuts, Job}
-use Rattle.ssq_core.specs.Standing.{StandsAt, IsThere}
+use Rattle.ssq_core.specs.Standing.{Stands, StandsAt, IsThere}
 use Rattle.ssq_plans.specs.Records.{meta_text}
 use Rattle.ssq_core.specs.Settled.{IsSettledAs}
 use Rattle.ssq_core.specs.Sound.{StandsOrEmpty}
@@ -24,7 +24,8 @@ use Rattle.ssq_open.specs.declared.wanted.Opened.{Opened}
 use Rattle.ssq_open.specs.Epochs.{starts, cut_of}
 use Rattle.ssq_open.specs.Lens.{CanBeAsked, IsFew, asked, counts_of, found_from}
 use Rattle.ssq_open.specs.Looking.{begins}
-use Rattle.ssq_open.specs.Opening.{IsOpen, kept, begun, first_meta}
+use Rattle.ssq_open.specs.Sought.{Sought}
+use Rattle.ssq_open.specs.Opening.{IsImageOpening, IsOpen, kept, begun, first_meta}
 use Rattle.ssq_open.specs.Jobs.{IsWantedJob, IsDeskOf}
 use Rattle.ssq_terms.specs.Setting.{IsPlain, IsSettingOf, AreFound, found_lines}
 use Rattle.ssq_terms.specs.Laws.{JobIsWanted, FirstRecordIsJobs, PartsAreFound}
@@ -71,10 +72,42 @@ leaves_then P old mid new one more = record {
   ];
 }
 
+-- and at the last of its moments
+pub leaves_last : (P : Files → Type 0) (old new : History) → LeavesOnly old new P → P (files_now new)
+leaves_last P old new all = all.each new.moment all.later (omega arith) (files_now new) (now_image new)
+
+-- what stands or is empty, and has its record, stands
+pub stand_with : (job : Job) (old new : History) (files : Files) → IsThere files name.Meta → LeavesOnly old new (StandsOrEmpty job) → LeavesOnly old new (λ image. image name.Meta ≡ files name.Meta) → LeavesOnly old new (Stands job)
+stand_with job old new files there stands record_stays = record {
+  later = stands.later;
+  kept = stands.kept;
+  each = λ k from to image is. elim (stands.each k from to image is) [
+    | inl none ↦ absurd (gone files (sym (record_stays.each k from to image is) ∙ none name.Meta) there)
+    | inr here ↦ here
+  ];
+}
+  where
+    gone : (f : Files) → f name.Meta ≡ None → IsThere f name.Meta → ⊥
+    gone f none there = true≢false (sym (subst (λ (c : Content). is_some c ≡ true) none there))
+
+-- An opening of what stands leaves what stands: no image is new where a file is there.
+pub opening_keeps : (job : Job) (s : Sought) (old new : History) → LeavesNow old (Stands job) → LeavesOnly old new (IsImageOpening s (had_now old)) → LeavesOnly old new (Stands job)
+opening_keeps job s old new each images = record {
+  later = images.later;
+  kept = images.kept;
+  each = λ k from to image is. elim (images.each k from to image is) [
+    | inl here ↦ each.each image here
+    | inr alone ↦ absurd (gone (files_now old) (alone.0 name.Meta) ((stands_now old (Stands job) each).at.needed name.Meta refl))
+  ];
+}
+  where
+    gone : (f : Files) → f name.Meta ≡ None → IsThere f name.Meta → ⊥
+    gone f none there = true≢false (sym (subst (λ (c : Content). is_some c ≡ true) none there))
+
 settled_now : (h : History) (files : Files) → IsSettledAs h files → IsSettledAs h (files_now h)
 settled_now h files settled = subst (IsSettledAs h) (sym (ap files_of settled.is)) settled
 
-settled_files_are : (h : History) (files : Files) → IsSettledAs h files → files_now h ≡ files
+pub settled_files_are : (h : History) (files : Files) → IsSettledAs h files → files_now h ≡ files
 settled_files_are h files settled = ap files_of settled.is
 
 open_settled : (bound : Bound) (asks : Option ℕ) (lens : Lens) (files : Files) (h : History) (opened : Opened) → IsOpen (asked bound asks lens) files h opened → IsSettledAs h (files_now h)
@@ -83,7 +116,7 @@ open_settled bound asks lens files h opened (begun empty is settled) = settled_n
 
 -- ---- the lines apart
 
-counts_same : (counts found : List ℕ) → length found ≡ sum counts → counts_of (apart counts found) ≡ counts
+pub counts_same : (counts found : List ℕ) → length found ≡ sum counts → counts_of (apart counts found) ≡ counts
 counts_same [] found each = refl
 counts_same (c ∷ counts) found each =
     let e : sum (c ∷ counts) ≡ c + sum counts = sum_by-cons (λ x. x) c counts in
@@ -198,7 +231,7 @@ module _ {L : Type 0} (tells : Type 0) (lines : L → List Line) (available : L 
             }
 
         pub owned : (cap : Option ℕ) (rounds disk_faults : ℕ) (written : List ℕ)
-            → (setting_for lines bound opened logs ≡ s) × IsOwnRun tells lines available answers faults (record { bound = bound; found = opened; cap = cap; rounds = rounds; start = history after; disk_faults = disk_faults; logs = logs; written = written })
+            → (setting_for lines bound opened logs ≡ s) × IsOwnRun tells lines available answers faults (record { bound = bound; found = opened; cap = cap; rounds = rounds; start = history after; disk_faults = disk_faults; logs = logs; seen = found; written = written })
         owned cap rounds disk_faults written = (
           setting_is,
           record {

@@ -49,11 +49,11 @@ parts_zero : (stream n : ℕ) → All (λ (p : PartEnd). p.end ≡ 0) (parts_of 
 parts_zero stream zero = All-nil (λ (p : PartEnd). p.end ≡ 0)
 parts_zero stream (suc n) = All-append (λ (p : PartEnd). p.end ≡ 0) (parts_of stream n) (record { stream = stream; part = n; end = 0 } ∷ []) (parts_zero stream n) (All-cons (λ (p : PartEnd). p.end ≡ 0) _ [] refl (All-nil (λ (p : PartEnd). p.end ≡ 0)))
 
-begins_zero : (stream : ℕ) (parts : List ℕ) → All (λ (p : PartEnd). p.end ≡ 0) (begins_from stream parts)
+pub begins_zero : (stream : ℕ) (parts : List ℕ) → All (λ (p : PartEnd). p.end ≡ 0) (begins_from stream parts)
 begins_zero stream [] = All-nil (λ (p : PartEnd). p.end ≡ 0)
 begins_zero stream (count ∷ rest) = All-append (λ (p : PartEnd). p.end ≡ 0) (parts_of stream count) (begins_from (stream + 1) rest) (parts_zero stream count) (begins_zero (stream + 1) rest)
 
-zero_at : (ends : List PartEnd) (i : ℕ) → All (λ (p : PartEnd). p.end ≡ 0) ends → get_or (offsets_of ends) i 0 ≡ 0
+pub zero_at : (ends : List PartEnd) (i : ℕ) → All (λ (p : PartEnd). p.end ≡ 0) ends → get_or (offsets_of ends) i 0 ≡ 0
 zero_at [] i all = refl
 zero_at (end ∷ ends) zero all = All-head (λ (p : PartEnd). p.end ≡ 0) end ends all
 zero_at (end ∷ ends) (suc i) all = zero_at ends i (All-tail (λ (p : PartEnd). p.end ≡ 0) end ends all)
@@ -135,7 +135,7 @@ module _ {L : Type 0} (tells : Type 0) (lines : L → List Line) (available : L 
   asked_found (old ∷ olds) (new ∷ news) [] ask t few = absurd ask
 
 -- an end follows each
-follows_count : (before ends : List PartEnd) → IsTrue (follows before ends) → length before ≡ length ends
+pub follows_count : (before ends : List PartEnd) → IsTrue (follows before ends) → length before ≡ length ends
 follows_count before ends is = eqb-true (length before) (length ends) (and_parts (length before == length ends) (list_all keeps_up (zip before ends)) is).0
 
 -- where none is planned, and behind each plan, there is an end for each part

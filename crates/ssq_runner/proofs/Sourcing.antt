@@ -30,7 +30,7 @@ use Rattle.ssq_runner.specs.Rounds.{Round}
 use Rattle.ssq_runner.specs.Putting.{OutRises}
 use Rattle.ssq_runner.specs.Ending.{Begun, setting_in, cuts_in, IsEnd, IsUncounted, finished, stopped, unput, uncounted as rounds_uncounted, starved as rounds_starved}
 use Rattle.ssq_runner.specs.Running.{Given, RunEnd, IsRunOf, uncounted, refused, starved, ran}
-use Rattle.ssq_runner.specs.Sources.{HasCount, IsSettingFor}
+use Rattle.ssq_runner.specs.Sources.{HasCount, IsSettingFor, IsUnparted}
 use Rattle.ssq_runner.proofs.Turning.{rises_from}
 use Rattle.ssq_logs.specs.Opened.{Part, parts_from, parts_of, AreLogsOf}
 
@@ -87,10 +87,10 @@ module _ {L : Type 0} (tells : Type 0) (lines : L → List Line) (available : L 
   stop_counts s cuts found planned e first disk disk_now logs inputs inputs_now out out_now cause.Full le risen is = tt
   stop_counts s cuts found planned e first disk disk_now logs inputs inputs_now out out_now cause.NoMemory le risen is = tt
 
-  lines_count : (logs : List L) (disk disk_now inputs inputs_now out out_now : ℕ) (why : LengthFault) → (0 < sum_by faults logs → Rises inputs inputs_now) → IsUncounted tells lines available answers faults logs why → HasCount disk disk_now inputs inputs_now out out_now (Err (fault.Lines why))
-  lines_count logs disk disk_now inputs inputs_now out out_now (length_fault.Full at found) risen is = tt
-  lines_count logs disk disk_now inputs inputs_now out out_now length_fault.LogFault risen is = risen is
-  lines_count logs disk disk_now inputs inputs_now out out_now length_fault.NoMemory risen is = tt
+  lines_count : (olds logs : List L) (disk disk_now inputs inputs_now out out_now : ℕ) (why : LengthFault) → (0 < sum_by faults logs → Rises inputs inputs_now) → IsUncounted tells lines available answers faults olds logs why → HasCount disk disk_now inputs inputs_now out out_now (Err (fault.Lines why))
+  lines_count olds logs disk disk_now inputs inputs_now out out_now (length_fault.Full at found) risen is = tt
+  lines_count olds logs disk disk_now inputs inputs_now out out_now length_fault.LogFault risen is = risen is
+  lines_count olds logs disk disk_now inputs inputs_now out out_now length_fault.NoMemory risen is = tt
 
   open_count : (disk disk_now inputs inputs_now out out_now : ℕ) (why : OpenFault) → DiskRises why disk disk_now → HasCount disk disk_now inputs inputs_now out out_now (Err (fault.Open why))
   open_count disk disk_now inputs inputs_now out out_now (opening.OtherQuery k) is = tt
@@ -107,16 +107,16 @@ module _ {L : Type 0} (tells : Type 0) (lines : L → List Line) (available : L 
 
     rounds_count : (b : Begun L) (plans : List Plan) (done : List Round) (told : List Told) → disk ≤ b.disk_faults → IsEnd tells lines available answers faults b disk_now logs OutTells written plans done told text end → HasCount disk disk_now inputs inputs_now out out_now end
     rounds_count b plans done told le (finished number all committed asked wrote left is) = at_end (Unit {0}) (Ok tt) is tt
-    rounds_count b plans done told le (stopped number found next why stop put_told more split wrote left is) = at_end (Unit {0}) (Err (fault.Round why)) is (stop_counts (setting_in tells lines available answers faults b) (cuts_in b plans) found (length plans) (b.found.committed + length told) b.disk_faults disk disk_now (sum_by faults logs) inputs inputs_now out out_now why le risen stop)
-    rounds_count b plans done told le (rounds_uncounted number all why not wrote left is) = at_end (Unit {0}) (Err (fault.Lines why)) is (lines_count logs disk disk_now inputs inputs_now out out_now why risen not)
-    rounds_count b plans done told le (unput number put_told more split wrote left is) = at_end (Unit {0}) (Err fault.OutFault) is (subst (OutRises out out_now) is put)
-    rounds_count b plans done told le (rounds_starved number put_told more rest split wrote left is) = at_end (Unit {0}) (Err fault.NoMemory) is tt
+    rounds_count b plans done told le (stopped number found next asked why stop put_told more split wrote left is) = at_end (Unit {0}) (Err (fault.Round why)) is (stop_counts (setting_in tells lines available answers faults b) (cuts_in b plans) found (length plans) (b.found.committed + length told) b.disk_faults disk disk_now (sum_by faults logs) inputs inputs_now out out_now why le risen stop)
+    rounds_count b plans done told le (rounds_uncounted number all before has_asked why not stop wrote left is) = at_end (Unit {0}) (Err (fault.Lines why)) is (lines_count b.logs logs disk disk_now inputs inputs_now out out_now why risen not)
+    rounds_count b plans done told le (unput number found next has_asked put_told more split wrote left is) = at_end (Unit {0}) (Err fault.OutFault) is (subst (OutRises out out_now) is put)
+    rounds_count b plans done told le (rounds_starved number rounds were has_asked put_told more rest split wrote left is) = at_end (Unit {0}) (Err fault.NoMemory) is tt
 
     pub run_counts : (g : Given L) (now : History) → g.disk_faults ≡ disk → RunEnd tells lines available answers faults g now disk_now logs OutTells written text end → HasCount disk disk_now inputs inputs_now out out_now end
-    run_counts g now same (uncounted why not still unsaid is) = at_end (Unit {0}) (Err (fault.Lines why)) is (lines_count logs disk disk_now inputs inputs_now out out_now why risen not)
-    run_counts g now same (refused found why checks count unsaid is) = at_end (Unit {0}) (Err (fault.Open why)) is (open_count disk disk_now inputs inputs_now out out_now why (subst (λ (n : ℕ). DiskRises why n disk_now) same count))
-    run_counts g now same (starved still unsaid is) = at_end (Unit {0}) (Err fault.NoMemory) is tt
-    run_counts g now same (ran found b begun ends promised) = rounds_count b ends.plans ends.done ends.told (let c = begun.counted in omega (arith, c, same)) ends.is_end
+    run_counts g now same (uncounted why not stop still unsaid is) = at_end (Unit {0}) (Err (fault.Lines why)) is (lines_count g.logs logs disk disk_now inputs inputs_now out out_now why risen not)
+    run_counts g now same (refused found why asked checks moments outside count unsaid is) = at_end (Unit {0}) (Err (fault.Open why)) is (open_count disk disk_now inputs inputs_now out out_now why (subst (λ (n : ℕ). DiskRises why n disk_now) same count))
+    run_counts g now same (starved found asks still unsaid is) = at_end (Unit {0}) (Err fault.NoMemory) is tt
+    run_counts g now same (ran found asked_logs asked b begun ends promised) = rounds_count b ends.plans ends.done ends.told (let c = begun.counted in omega (arith, c, same)) ends.is_end
 
 -- what the inputs counted before, they count still
 pub parts_count_on : (inputs mid now : ℕ) (why : PartsFault) → InputsRise inputs mid why → min mid (2 ^ 64 - 1) ≤ now → HasCount 0 0 inputs now 0 0 (Err (fault.Parts why))
@@ -168,3 +168,10 @@ run_of lines held bound asks g s same asked counts all is = record {
   as_asked = subst (λ (o : Option ℕ). ForSome o (λ count. s.job.partitions ≡ count)) (sym asked) is.as_asked;
   first = λ empty. is.first empty ∙ ap (λ (o : Option ℕ). unwrap_or o 1) (sym asked);
 }
+
+err_same : (one other : RunFault) (end : Result (Unit {0}) RunFault) → end ≡ Err one → end ≡ Err other → one ≡ other
+err_same one other end e f = cc
+
+-- what comes before the logs is no count of lines
+pub never_lines : (told : Type 0) (held : Held) (streams : List Stream) (found : RunFault) (why : LengthFault) (end : Result (Unit {0}) RunFault) → end ≡ Err found → end ≡ Err (fault.Lines why) → IsUnparted told held streams found → ⊥
+never_lines told held streams found why end own same is = let P : RunFault → Type 0 = IsUnparted told held streams in subst P (err_same found (fault.Lines why) end own same) is

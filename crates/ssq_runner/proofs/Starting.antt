@@ -1,5 +1,5 @@
 -- How a round that is not the first begins, or does not.
-use Rattle.std.proofs.Common.{◌≡◌, ◌<◌, ◌≤◌, ◌+◌, ◌++◌, ◌∙◌, nat_lt, ℕ, zero, suc, Bool, true, false, List, [], ◌∷◌, length, get_or, Option, Some, None, Result, Ok, Err, OnOk, IfErr, refl, sym, ap, subst, arith, if◌then◌else◌}
+use Rattle.std.proofs.Common.{◌≡◌, ◌<◌, ◌≤◌, ◌+◌, ◌++◌, ◌∙◌, nat_lt, ℕ, zero, suc, Bool, true, false, List, [], ◌∷◌, length, get_or, Option, Some, None, Result, Ok, Err, OnOk, IfErr, inl, refl, sym, ap, subst, arith, if◌then◌else◌}
 use Rattle.std.proofs.lemmas.List.{append-nil}
 use Rattle.std.proofs.lemmas.Bool.{ltb-true}
 use Rattle.std.proofs.lemmas.Option.{none-some}
@@ -15,21 +15,18 @@ use Rattle.ssq_plans.specs.declared.part.PartEnd.{PartEnd}
 use Rattle.ssq_board.specs.declared.front.Cause.{Cause}
 use Rattle.ssq_board.specs.declared.front.Cause.TheVariants as cause
 use Rattle.ssq_open.specs.declared.wanted.Opened.{Opened}
-use Rattle.ssq_logs.specs.declared.fault.LengthFault.{LengthFault}
-use Rattle.ssq_logs.specs.declared.fault.LengthFault.TheVariants as length_fault
 use Rattle.ssq_logs.specs.Asked.{AreAsked}
 use Rattle.ssq_drive.specs.Rounds.{IsRoundStop}
 use Rattle.ssq_runner.specs.declared.fault.RunFault.{RunFault}
 use Rattle.ssq_runner.specs.declared.fault.RunFault.TheVariants as fault
-use Rattle.ssq_runner.specs.Rounds.{HaveAnswered}
 use Rattle.ssq_runner.specs.Told.{done_line}
-use Rattle.ssq_runner.specs.Ending.{Begun, Ends, IsEnd, IsUncounted, stopped, finished, starved, uncounted as end_uncounted, cuts_in, setting_in}
+use Rattle.ssq_runner.specs.Ending.{Begun, Ends, IsEnd, WereAsked, stopped, finished, starved, uncounted as end_uncounted, cuts_in, setting_in}
 use Rattle.ssq_runner.specs.Going.{SoFar, IsReady}
 use Rattle.ssq_runner.specs.Stops.{short_of, planned_ends, IsUnready, uncounted, short}
-use Rattle.ssq_runner.proofs.Answering.{asked_on}
-use Rattle.ssq_runner.proofs.Cutting.{text_none}
+use Rattle.ssq_runner.proofs.Answering.{asked_on, begin_on}
+use Rattle.ssq_runner.proofs.Cutting.{text_none, never_ok}
 use Rattle.ssq_runner.proofs.Readying.{asked_under, asked_at, asked_found, asked_count, can_on, planned_same, ends_each}
-use Rattle.ssq_runner.proofs.Stopping.{uncounted_is}
+use Rattle.ssq_runner.proofs.Stopping.{stopped_under, uncounted_is, uncounted_since, uncounted_under}
 
 -- a short part is told by its numbers
 abbrev is_short : Cause → Type 0
@@ -78,15 +75,22 @@ asked_old T U lines available answers faults less (old ∷ olds) (new ∷ news) 
 
 module _ {L : Type 0} (T U : Type 0) (lines : L → List Line) (available : L → ℕ) (answers : L → List ℕ) (faults : L → ℕ) (less_known : U → T)
     (b : Begun L) (n : ℕ) (now : History) (disk : ℕ) (olds news : List L) (OutTells : Type 0) (written : List ℕ) (opened : Opened) (so : SoFar U lines available answers faults b n now disk olds OutTells written opened) where
+  -- the logs were asked once more
+  asked_more : 0 < n → (found : List ℕ) (epochs : ℕ) → AreAsked U lines available answers faults olds news found → WereAsked U lines available answers faults b (record { found = found; epochs = epochs } ∷ so.done) news
+  asked_more later found epochs ask = record {
+    answered = asked_on U lines available answers faults 0 so.done b.logs olds news found [] epochs refl so.asked.answered ask;
+    first = begin_on b.seen (record { found = found; epochs = epochs }) so.done (let m = so.number in omega (arith, m, later)) so.asked.first;
+  }
+
   -- the logs were asked, and no part is short
-  pub ready_on : (found : List ℕ) → AreAsked T lines available answers faults olds news found → short_of (planned_ends opened) found ≡ None → IsReady U lines available answers faults b n now disk news OutTells written opened found
-  ready_on found ask none =
+  pub ready_on : 0 < n → (found : List ℕ) → AreAsked T lines available answers faults olds news found → short_of (planned_ends opened) found ≡ None → IsReady U lines available answers faults b n now disk news OutTells written opened found
+  ready_on later found ask none =
       let under = asked_under T U lines available answers faults less_known olds news found ask in
       let count = asked_count T lines available answers faults olds news found ask in
       record {
         before = olds;
         so_far = so;
-        answered = λ epochs. asked_on U lines available answers faults 0 so.done b.logs olds news found [] epochs refl so.answered under;
+        asked = λ epochs. asked_more later found epochs under;
         can = can_on T lines available answers faults b.bound b.cap olds news opened found so.fits ask none;
         few = (let f = so.fits.few_logs in let c = count.0 in omega (arith, f, c));
         seen = λ u i own at. (let e = asked_at T lines available answers faults olds news found ask (less_known u) i own at in omega (arith, e));
@@ -95,19 +99,17 @@ module _ {L : Type 0} (T U : Type 0) (lines : L → List Line) (available : L �
 
   -- nothing was done, and so the run ends
   idle_end : (why : RunFault) (text : List ℕ) → IsEnd U lines available answers faults b disk news OutTells written opened.plans so.done so.told text (Err why) → Ends U lines available answers faults b now disk news OutTells written text (Err why)
-  idle_end why text end = record { plans = opened.plans; done = so.done; told = so.told; has = so.has; is_end = end; ran = λ u own. (so.ran u own).0 }
-
-  under_uncounted : (why : LengthFault) → IsUncounted T lines available answers faults news why → IsUncounted U lines available answers faults news why
-  under_uncounted (length_fault.Full at found) is = (is.0, (is.1.0, is.1.1, λ u. is.1.2 (less_known u)))
-  under_uncounted length_fault.LogFault is = is
-  under_uncounted length_fault.NoMemory is = tt
+  idle_end why text end = record { plans = opened.plans; done = so.done; told = so.told; has = so.has; is_end = end; good = so.good; ran = λ u own. (so.ran u own).0; left = λ ok. absurd (never_ok why ok) }
 
   pub unready_end : 0 < n → (why : RunFault) (text : List ℕ) → n < b.rounds → text ≡ [] → IsUnready T lines available answers faults opened olds news why → Ends U lines available answers faults b now disk news OutTells written text (Err why)
   unready_end later why text few empty (uncounted c is ask) =
-      idle_end why text (end_uncounted (let m = so.number in omega (arith, m, few)) so.all c (under_uncounted c (uncounted_is T lines available answers faults olds news c ask)) so.wrote empty (ap Err is))
+      idle_end why text (end_uncounted (let m = so.number in omega (arith, m, few)) so.all olds so.asked c
+      (uncounted_since U lines available answers faults so.done b.logs olds news c so.asked.answered (uncounted_under T U lines available answers faults less_known olds news c (uncounted_is T lines available answers faults olds news c ask)))
+      (stopped_under T U lines available answers faults less_known 0 olds news c ask) so.wrote empty (ap Err is))
   unready_end later why text few empty (short found stop ask is named) =
       idle_end why text (stopped (let m = so.number in omega (arith, m, few)) found
-      (record { next = λ e ge le. absurd (let a = so.all in omega (arith, ge, le, a)); due = λ e ge le. absurd (let a = so.all in omega (arith, ge, le, a)) }) stop (stop_of stop is ask (short_is (planned_ends opened) found stop is)) so.told [] (sym (append-nil so.told)) so.wrote (empty ∙ text_none) (ap Err named))
+      (record { next = λ e ge le. absurd (let a = so.all in omega (arith, ge, le, a)); due = λ e ge le. absurd (let a = so.all in omega (arith, ge, le, a)) })
+      (asked_more later found (length opened.plans) (asked_under T U lines available answers faults less_known olds news found ask)) stop (stop_of stop is ask (short_is (planned_ends opened) found stop is)) so.told [] (sym (append-nil so.told)) so.wrote (empty ∙ text_none) (ap Err named))
     where
       -- where logs tell what they hold none is short
       never : (c : Cause) → AreAsked T lines available answers faults olds news found → short_of (planned_ends opened) found ≡ Some c → U → ⊥
@@ -134,7 +136,7 @@ module _ {L : Type 0} (T U : Type 0) (lines : L → List Line) (available : L �
       stop_of cause.NoMemory is ask less = absurd less
 
   -- all rounds are over
-  pub finish : (end : Result (Unit {0}) RunFault) (before text : List ℕ) → n ≡ b.rounds → 0 < n → before ≡ [] → HaveAnswered U lines available answers faults 0 so.done b.logs news
+  pub finish : (end : Result (Unit {0}) RunFault) (before text : List ℕ) → n ≡ b.rounds → 0 < n → before ≡ [] → WereAsked U lines available answers faults b so.done news
       → OnOk end (text ≡ before ++ done_line opened.committed) → IfErr end (λ why. (why ≡ fault.NoMemory) × (text ≡ before)) → Ends U lines available answers faults b now disk news OutTells written text end
   finish (Ok done) before text all some_round empty have said unsaid = record {
     plans = opened.plans;
@@ -142,7 +144,11 @@ module _ {L : Type 0} (T U : Type 0) (lines : L → List Line) (available : L �
     told = so.told;
     has = so.has;
     is_end = finished (so.number ∙ all) so.all (so.committed ∙ so.whole some_round) have so.wrote (said ∙ ap (λ (l : List ℕ). l ++ done_line opened.committed) empty ∙ ap done_line (so.whole some_round)) refl;
+    good = so.good;
     ran = λ u own. (so.ran u own).0;
+    left = λ ok u own.
+        let ran = so.ran u own in
+        record { opened = opened; meta_is = so.meta_is; plans_are = refl; committed = so.whole some_round; settled = ran.1; found_is = ran.2 };
   }
   finish (Err why) before text all some_round empty have said unsaid =
-      idle_end why text (starved (let m = so.number in omega (arith, m, all)) so.told [] [] (sym (append-nil so.told)) so.wrote (unsaid.1 ∙ empty ∙ text_none) (ap Err unsaid.0))
+      idle_end why text (starved (let m = so.number in omega (arith, m, all)) so.done (inl refl) have so.told [] [] (sym (append-nil so.told)) so.wrote (unsaid.1 ∙ empty ∙ text_none) (ap Err unsaid.0))

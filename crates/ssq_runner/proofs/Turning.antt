@@ -1,22 +1,23 @@
 -- A round that is over leads from one moment between rounds to the next.
-use Rattle.std.proofs.Common.{◌≡◌, ◌<◌, ◌≤◌, ◌+◌, ◌++◌, ◌∙◌, ◌^◌, ℕ, suc, true, false, List, [], ◌∷◌, length, map, take, All, Option, Result, Ok, Err, refl, sym, ap, subst, arith, append_assoc}
+use Rattle.std.proofs.Common.{◌≡◌, ◌<◌, ◌≤◌, ◌+◌, ◌++◌, ◌∙◌, ◌^◌, ℕ, suc, true, false, List, [], ◌∷◌, length, map, take, All, Option, Result, Ok, Err, inr, refl, sym, ap, subst, arith, append_assoc}
 use Rattle.std.proofs.lemmas.List.{length-append}
 use Rattle.std.proofs.lemmas.List.Elements.{All-nil, All-cons, All-head, All-tail, All-append}
 use Rattle.std.specs.List.{sum_by}
 use Rattle.ssq_outside.specs.History.{History, files_now}
 use Rattle.ssq_outside.specs.Logs.{Line}
 use Rattle.ssq_plans.specs.declared.plan.Plan.{Plan}
-use Rattle.ssq_core.specs.Course.{Ends as EndsOf, Cuts}
+use Rattle.ssq_core.specs.Course.{Ends as EndsOf, Cuts, Job}
 use Rattle.ssq_core.specs.Settled.{IsSettledAs}
 use Rattle.ssq_course.specs.Setting.{Setting, parts_in, cut_of as offsets_of, cuts_of as offsets, job_of}
 use Rattle.ssq_meaning.specs.Parts.{Part}
 use Rattle.ssq_meaning.specs.Cut.{Cuts as Offsets, AreSameTo}
+use Rattle.ssq_meaning.specs.Epochs.{fault_between}
 use Rattle.ssq_meaning.specs.Laws.{SaysSame}
 use Rattle.ssq_shape.specs.declared.bound.Bound.{Bound}
 use Rattle.ssq_open.specs.declared.wanted.Opened.{Opened}
 use Rattle.ssq_open.specs.Epochs.{cut_of}
 use Rattle.ssq_terms.specs.Setting.{AreFound}
-use Rattle.ssq_promise.specs.Run.{WasRun, RunsAreJoined}
+use Rattle.ssq_promise.specs.Run.{AreFilesOf, RunsAreJoined, WasRun, as_planned, one_tried}
 use Rattle.ssq_board.specs.declared.front.Cause.{Cause}
 use Rattle.ssq_board.specs.declared.front.Cause.TheVariants as cause
 use Rattle.ssq_outside.specs.Faults.{Rises}
@@ -26,6 +27,7 @@ use Rattle.ssq_board.specs.Rounds.{HasCap}
 use Rattle.ssq_open.specs.Looking.{begins}
 use Rattle.ssq_plans.specs.declared.meta.Meta.{Meta}
 use Rattle.ssq_desk.specs.declared.told.Told.{Told}
+use Rattle.ssq_drive.specs.Good.{HasGoodLines}
 use Rattle.ssq_drive.specs.Rounds.{IsRound, RoundRan, IsOwn, IsFoundOf, IsMeant, CanBegin, AreReturned, PlansOn, AreTold, IsRoundStop, IsFaultAt, setting_for, first_of}
 use Rattle.ssq_desk.specs.Contents.{line_of}
 use Rattle.ssq_runner.specs.Lens.{lens_of}
@@ -33,9 +35,9 @@ use Rattle.ssq_runner.specs.Rounds.{Round, AreNext, AreRounds, HaveAnswered, epo
 use Rattle.ssq_runner.specs.Told.{told_text}
 use Rattle.ssq_runner.specs.declared.fault.RunFault.{RunFault}
 use Rattle.ssq_runner.specs.Putting.{IsUntold, stopped as untold_stopped, failed, starved as untold_starved}
-use Rattle.ssq_runner.specs.Ending.{Begun, HasRounds, IsOwnRun, HaveRun, Ends, IsEnd, stopped, unput, starved, cuts_in, setting_in}
+use Rattle.ssq_runner.specs.Ending.{Begun, HasRounds, IsOwnRun, HaveRun, Ends, IsEnd, AreGood, WereAsked, stopped, unput, starved, cuts_in, setting_in}
 use Rattle.ssq_runner.specs.Going.{SoFar, IsReady, Fits, scope_of}
-use Rattle.ssq_runner.proofs.Cutting.{cut_more, rounds_same, told_more, told_then, text_then}
+use Rattle.ssq_runner.proofs.Cutting.{cut_more, rounds_same, told_more, told_then, text_then, never_ok}
 use Rattle.ssq_runner.proofs.Answering.{back_after, same_lines, returned_count, returned_at}
 
 -- the law of cuts, as the crate of the meaning has it
@@ -53,7 +55,23 @@ rows_more hang s one other n e first plans (t ∷ rest) same are le rows =
     All-cons (IsMeant s other) t rest (record { watermark = own.watermark ∙ law.same_watermark t.epoch (omega (arith, here)); rows = own.rows ∙ ap length (law.same_out t.epoch here) })
     (rows_more hang s one other n (e + 1) first plans rest same are.1 (omega (arith, le)) (All-tail (IsMeant s one) t rest rows))
 
--- n are below the first of more
+-- and none of their lines is a fault
+good_more : (s : Setting) (one other : Cuts) (n e : ℕ) (first : EndsOf) (plans : List Plan) (told : List Told) → ((f : ℕ) → f ≤ n → other f ≡ one f) → AreTold first plans e told → e + length told ≤ n
+    → All (λ (t : Told). HasGoodLines s one t.epoch) told → All (λ (t : Told). HasGoodLines s other t.epoch) told
+good_more s one other n e first plans [] same are le good = All-nil (λ (t : Told). HasGoodLines s other t.epoch)
+good_more s one other n e first plans (t ∷ rest) same are le good =
+    let here : t.epoch < n = let at = are.0.epoch in omega (arith, at, le) in
+    All-cons (λ (t : Told). HasGoodLines s other t.epoch) t rest
+    (ap (λ (ends : EndsOf). fault_between s.job.bound (parts_in s) (offsets_of ends) (offsets_of (other (t.epoch + 1)))) (same t.epoch (omega (arith, here)))
+    ∙ ap (λ (ends : EndsOf). fault_between s.job.bound (parts_in s) (offsets_of (one t.epoch)) (offsets_of ends)) (same (t.epoch + 1) (omega (arith, here))) ∙ All-head (λ (t : Told). HasGoodLines s one t.epoch) t rest good)
+    (good_more s one other n (e + 1) first plans rest same are.1 (omega (arith, le)) (All-tail (λ (t : Told). HasGoodLines s one t.epoch) t rest good))
+
+-- all are told of the rounds so far, too
+files_once : (job : Job) (cap : Option ℕ) (IsFound : List ℕ → Type 0) (One Other : Type 0) (cuts : Cuts) (planned : ℕ) (now : History) → (One → Other) → AreFilesOf job cap IsFound One cuts planned now → AreFilesOf job cap IsFound Other cuts planned now
+files_once job cap IsFound One Other cuts planned now more (as_planned each) = as_planned each
+files_once job cap IsFound One Other cuts planned now more (one_tried done found is behind each) = one_tried (more done) found is behind each
+
+-- the epochs that are told
 abbrev pub epochs_of : List Told → List ℕ
 epochs_of told = map (λ (t : Told). t.epoch) told
 
@@ -97,13 +115,15 @@ module _ {L : Type 0} (tells : Type 0) (lines : L → List Line) (available : L 
 
   -- what a round did goes on from what those before it did
   pub running_on : CutsHang → RunsAreJoined tells → (b : Begun L) (start now : History) (opened : Opened) (done : List Round) (told more_told : List Told) (plans more : List Plan) (end : Result Opened Cause)
-      → plans ≡ opened.plans ++ more → HasRounds b opened.plans done told → HaveRun tells lines available answers faults b start opened.plans told
-      → RoundRan tells (setting_in tells lines available answers faults b) start now (cuts_in b plans) more_told end
+      → plans ≡ opened.plans ++ more → b.found.committed + length told ≡ opened.committed → HasRounds b opened.plans done told → HaveRun tells lines available answers faults b start opened.plans told
+      → RoundRan tells (setting_in tells lines available answers faults b) b.cap start now (cuts_in b plans) opened.committed (length plans) more_told end
       → HaveRun tells lines available answers faults b now plans (told ++ more_told)
-  running_on hang joined b start now opened done told more_told plans more end behind has have ran =
+  running_on hang joined b start now opened done told more_told plans more end behind committed has have ran =
       let s = setting_in tells lines available answers faults b in
       record {
         run = subst (WasRun tells (job_of s) b.start now) (sym (epochs_then told more_told)) (joined (job_of s) b.start start now (epochs_of told) (epochs_of more_told) have.run ran.run);
+        files = files_once (job_of s) b.cap (λ found. AreFound found (map lines b.logs)) (opened.committed + length more_told ≡ length plans) (b.found.committed + length (told ++ more_told) ≡ length plans) (cuts_in b plans) (length plans) now
+            (λ all. (let e = length-append told more_told in omega (arith, all, e, committed))) ran.files;
         meant = All-append (IsMeant s (cuts_in b plans)) told more_told
             (rows_more hang s (cuts_in b opened.plans) (cuts_in b plans) (length opened.plans) b.found.committed (first_of b.found) opened.plans told
             (λ f le. ap (λ (ps : List Plan). cut_of (first_of b.found) ps f) behind ∙ cut_more (first_of b.found) opened.plans more f le) has.told_are has.few have.meant) ran.meant;
@@ -173,7 +193,7 @@ module _ {L : Type 0} (tells : Type 0) (lines : L → List Line) (available : L 
 
   found_of : tells → IsOwnRun tells lines available answers faults b → AreFound found (map lines b.logs)
   found_of t own =
-      let same : map lines logs ≡ map lines b.logs = same_lines tells lines available answers faults 0 (record { found = found; epochs = 0 } ∷ ready.so_far.done) b.logs logs (ready.answered 0) t in
+      let same : map lines logs ≡ map lines b.logs = same_lines tells lines available answers faults 0 (record { found = found; epochs = 0 } ∷ ready.so_far.done) b.logs logs (ready.asked 0).answered t in
       subst (AreFound found) same (ready.are t (subst (All (λ (own : List Line). length own < 2 ^ 64)) (sym same) own.few))
 
   abbrev pub all_told : List Told
@@ -183,20 +203,36 @@ module _ {L : Type 0} (tells : Type 0) (lines : L → List Line) (available : L 
   goes = going_on tells lines available answers faults b opened so.done so.told told found round.plans so.has so.meta_is so.all so.committed round.went.on round.went.told_are round.went.few
 
   same_s : tells → setting_for lines b.bound opened logs ≡ setting_in tells lines available answers faults b
-  same_s t = same_setting tells lines available answers faults b (record { found = found; epochs = 0 } ∷ so.done) logs opened so.meta_is (ready.answered 0) t
+  same_s t = same_setting tells lines available answers faults b (record { found = found; epochs = 0 } ∷ so.done) logs opened so.meta_is (ready.asked 0).answered t
 
   cuts_same : cut_of (first_of opened) round.plans ≡ cuts_in b round.plans
   cuts_same = ap (λ (m : Meta). cut_of (begins m.parts) round.plans) so.meta_is
 
-  pub ran_on : tells → IsOwnRun tells lines available answers faults b → RoundRan tells (setting_in tells lines available answers faults b) start now (cuts_in b round.plans) told end
+  pub ran_on : tells → IsOwnRun tells lines available answers faults b → RoundRan tells (setting_in tells lines available answers faults b) b.cap start now (cuts_in b round.plans) opened.committed (length round.plans) told end
   ran_on t own =
       let before = so.ran t own in
-      subst (λ (cuts : Cuts). RoundRan tells (setting_in tells lines available answers faults b) start now cuts told end) cuts_same
-      (subst (λ (s : Setting). IsOwn s (scope_of opened found b.cap) start opened → RoundRan tells s start now (cut_of (first_of opened) round.plans) told end) (same_s t) (round.ran t)
+      subst (λ (cuts : Cuts). RoundRan tells (setting_in tells lines available answers faults b) b.cap start now cuts opened.committed (length round.plans) told end) cuts_same
+      (subst (λ (s : Setting). IsOwn s (scope_of opened found b.cap) start opened → RoundRan tells s b.cap start now (cut_of (first_of opened) round.plans) opened.committed (length round.plans) told end) (same_s t) (round.ran t)
       (own_round tells lines available answers faults b found start opened so.meta_is so.fits.has_cap (found_of t own) own before.1 before.2))
 
   pub have_on : tells → IsOwnRun tells lines available answers faults b → HaveRun tells lines available answers faults b now round.plans all_told
-  have_on t own = running_on tells lines available answers faults hang joined b start now opened so.done so.told told round.plans round.went.on.more end round.went.on.behind so.has (so.ran t own).0 (ran_on t own)
+  have_on t own = running_on tells lines available answers faults hang joined b start now opened so.done so.told told round.plans round.went.on.more end round.went.on.behind so.committed so.has (so.ran t own).0 (ran_on t own)
+
+  -- no line of what was told is a fault
+  good_on : tells → AreGood tells lines available answers faults b round.plans all_told
+  good_on t =
+      let s = setting_in tells lines available answers faults b in
+      All-append (λ (x : Told). HasGoodLines s (cuts_in b round.plans) x.epoch) so.told told
+      (good_more s (cuts_in b opened.plans) (cuts_in b round.plans) (length opened.plans) b.found.committed (first_of b.found) opened.plans so.told
+      (λ f le. ap (λ (ps : List Plan). cut_of (first_of b.found) ps f) round.went.on.behind ∙ cut_more (first_of b.found) opened.plans round.went.on.more f le) so.has.told_are so.has.few (so.good t))
+      (subst (λ (cuts : Cuts). All (λ (x : Told). HasGoodLines s cuts x.epoch) told) cuts_same
+      (subst (λ (y : Setting). All (λ (x : Told). HasGoodLines y (cut_of (first_of opened) round.plans) x.epoch) told) (same_s t) (round.went.good t)))
+
+  -- the logs came back from it
+  back_asked : WereAsked tells lines available answers faults b (record { found = found; epochs = length round.plans } ∷ so.done) news
+  back_asked =
+      let ask = ready.asked (length round.plans) in
+      record { answered = back_after tells lines available answers faults 0 (record { found = found; epochs = length round.plans } ∷ so.done) b.logs logs news ask.answered back; first = ask.first }
 
   -- the round is over
   pub turned : (next : Opened) (text : List ℕ) → end ≡ Ok next → (OutTells → text ≡ written ++ told_text told) → SoFar tells lines available answers faults b (suc n) now disk_now news OutTells text next
@@ -219,8 +255,9 @@ module _ {L : Type 0} (tells : Type 0) (lines : L → List Line) (available : L 
         committed = (let e = length-append so.told told in let a = over.all in let c = so.committed in let d = over.committed in omega (arith, e, a, c, d));
         whole = λ some_round. over.committed ∙ ap length (sym over.plans_are);
         meta_is = over.meta_is ∙ so.meta_is;
+        good = λ t. subst (λ (ps : List Plan). AreGood tells lines available answers faults b ps all_told) (sym over.plans_are) (good_on t);
         wrote = λ o. wrote o ∙ ap (λ (l : List ℕ). l ++ told_text told) (so.wrote o) ∙ append_assoc b.written (told_text so.told) (told_text told) ∙ ap (λ (l : List ℕ). b.written ++ l) (sym (text_then so.told told));
-        answered = back_after tells lines available answers faults 0 (record { found = found; epochs = length round.plans } ∷ so.done) b.logs logs news (ready.answered (length round.plans)) back;
+        asked = back_asked;
         fits = fits_over tells lines available answers faults b.bound b.cap logs news found opened next ready.few back over.can;
         there = λ some_round t i own at.
             let old = returned_at tells lines available answers faults logs news back i own at in
@@ -240,7 +277,9 @@ module _ {L : Type 0} (tells : Type 0) (lines : L → List Line) (available : L 
     told = all_told;
     has = goes.0;
     is_end = end_of untold;
+    good = good_on;
     ran = have_on;
+    left = λ ok. absurd (never_ok why ok);
   }
     where
       some_done : length so.done < b.rounds
@@ -259,9 +298,9 @@ module _ {L : Type 0} (tells : Type 0) (lines : L → List Line) (available : L 
 
       end_of : IsUntold OutTells written written_now before after text told end why → IsEnd tells lines available answers faults b disk_now news OutTells written_now round.plans so.done all_told text (Err why)
       end_of (untold_stopped cause is_err is_why same left) =
-          stopped some_done found goes.1 cause (stop_at cause is_err) so.told told refl (λ o. same o ∙ put_so o) left (ap Err is_why)
-      end_of (failed is_why risen front empty) = unput some_le so.told told refl (λ o. let f = front o in (f.0, f.1 ∙ ap (λ (l : List ℕ). l ++ take f.0 (told_text told)) (put_so o))) empty (ap Err is_why)
-      end_of (untold_starved is_why first rest split same left) = starved some_le so.told first rest (ap (λ (l : List Told). so.told ++ l) split) (λ o. same o ∙ put_so o) left (ap Err is_why)
+          stopped some_done found goes.1 back_asked cause (stop_at cause is_err) so.told told refl (λ o. same o ∙ put_so o) left (ap Err is_why)
+      end_of (failed is_why risen front empty) = unput some_done found goes.1 back_asked so.told told refl (λ o. let f = front o in (f.0, f.1 ∙ ap (λ (l : List ℕ). l ++ take f.0 (told_text told)) (put_so o))) empty (ap Err is_why)
+      end_of (untold_starved is_why first rest split same left) = starved some_le (record { found = found; epochs = length round.plans } ∷ so.done) (inr (found, goes.1, refl)) back_asked so.told first rest (ap (λ (l : List Told). so.told ++ l) split) (λ o. same o ∙ put_so o) left (ap Err is_why)
 
 -- a round's own query and cap are those of the run
 pub of_run : {L : Type 0} (tells : Type 0) (lines : L → List Line) (b : Begun L) (bound : Bound) (cap : Option ℕ) (logs : List L) (opened : Opened) (found : List ℕ) (start now : History) (disk disk_now faulty : ℕ) (told : List Told) (end : Result Opened Cause)

@@ -1,5 +1,5 @@
 -- What rounds leave, and how they end.
-use Rattle.std.specs.Prelude.{◌≡◌, ◌<◌, ◌≤◌, ◌+◌, ◌^◌, ◌++◌, ℕ, List, [], length, map, take, All, Option, Result, Ok, Err}
+use Rattle.std.specs.Prelude.{◌≡◌, ◌⊎◌, ◌<◌, ◌≤◌, ◌+◌, ◌^◌, ◌++◌, ℕ, List, [], ◌∷◌, length, map, take, All, Option, Result, Ok, Err}
 use Rattle.std.specs.List.{sum_by}
 use mathlib.Core.Option.{some}
 use lib.ListN.{get_elem?}
@@ -12,22 +12,23 @@ use Rattle.ssq_core.specs.Settled.{IsSettledAs}
 use Rattle.ssq_course.specs.Setting.{Setting, job_of}
 use Rattle.ssq_open.specs.declared.wanted.Opened.{Opened}
 use Rattle.ssq_open.specs.Epochs.{cut_of}
-use Rattle.ssq_promise.specs.Run.{WasRun}
+use Rattle.ssq_promise.specs.Run.{WasRun, AreFilesOf}
 use Rattle.ssq_logs.specs.declared.fault.LengthFault.{LengthFault}
 use Rattle.ssq_logs.specs.declared.fault.LengthFault.TheVariants as length_fault
-use Rattle.ssq_logs.specs.Asked.{most_lines}
+use Rattle.ssq_logs.specs.Asked.{IsStopped, most_lines}
 use Rattle.ssq_board.specs.declared.front.Cause.{Cause}
 use Rattle.ssq_terms.specs.Setting.{IsSettingOf, AreFound, found_lines}
 use Rattle.ssq_desk.specs.declared.told.Told.{Told}
+use Rattle.ssq_drive.specs.Good.{HasGoodLines}
 use Rattle.ssq_drive.specs.Rounds.{AreTold, IsMeant, IsFoundOf, IsRoundStop, setting_for, first_of}
 use Rattle.ssq_runner.specs.declared.fault.RunFault.{RunFault}
 use Rattle.ssq_runner.specs.declared.fault.RunFault.TheVariants as fault
 use Rattle.ssq_runner.specs.Lens.{lens_of}
-use Rattle.ssq_runner.specs.Rounds.{Round, AreNext, AreRounds, HaveAnswered, epochs_after}
+use Rattle.ssq_runner.specs.Rounds.{Round, AreNext, AreRounds, BeginWith, HaveAnswered, epochs_after}
 use Rattle.ssq_runner.specs.Told.{told_text, done_line}
 
 -- What rounds begin on: the query, what was opened, the cap of their epochs, how many are asked for, the disk as it was opened and how
--- often it had failed, the logs before they were asked, and what was written before.
+-- often it had failed, the logs before they were asked, what they answered as it was opened, and what was written before.
 pub record Begun (L : Type 0) : Type 0 where
   pub bound : Bound
   pub found : Opened
@@ -36,6 +37,7 @@ pub record Begun (L : Type 0) : Type 0 where
   pub start : History
   pub disk_faults : ℕ
   pub logs : List L
+  pub seen : List ℕ
   pub written : List ℕ
 
 module _ {L : Type 0} where
@@ -67,32 +69,71 @@ module _ {L : Type 0} (tells : Type 0) (lines : L → List Line) (available : L 
     pub settled : IsSettledAs b.start (files_now b.start)
     pub found_is : IsFoundOf (setting_in b) (files_now b.start) b.found
 
-  -- What rounds did that began so: they are a run of the machine, and each epoch is told as the meaning has it.
+  -- What rounds did that began so: they are a run of the machine; their plans are those of the files that they leave, or, once all are told,
+  -- the publishing of one more failed; and each epoch is told as the meaning has it.
   pub record HaveRun (b : Begun L) (now : History) (plans : List Plan) (told : List Told) : Type 0 where
     pub run : WasRun tells (job_of (setting_in b)) b.start now (map (λ t. t.epoch) told)
+    pub files : AreFilesOf (job_of (setting_in b)) b.cap (λ found. AreFound found (map lines b.logs)) (b.found.committed + length told ≡ length plans) (cuts_in b plans) (length plans) now
     pub meant : All (IsMeant (setting_in b) (cuts_in b plans)) told
 
-  -- Why the lines of logs were not counted: a part has too many, and all of them are there; or what failed has counted it.
-  abbrev pub IsUncounted : List L → LengthFault → Type 0
-  IsUncounted logs (length_fault.Full at found) = (most_lines < found) × ((own : L) × (get_elem? logs at ≡ some own) × (tells → (available own ≡ found) × (found ≤ length (lines own))))
-  IsUncounted logs length_fault.LogFault = 0 < sum_by faults logs
-  IsUncounted logs length_fault.NoMemory = Unit {0}
+  -- no line of these epochs is a fault
+  abbrev pub AreGood : Begun L → List Plan → List Told → Type 0
+  AreGood b plans told = All (λ (t : Told). HasGoodLines (setting_in b) (cuts_in b plans) t.epoch) told
+
+  -- What rounds leave that are all over: the checkpoint is settled, and its files are those of these plans, of which each is committed.
+  pub record AreLeft (b : Begun L) (now : History) (plans : List Plan) : Type 0 where
+    pub opened : Opened
+    pub meta_is : opened.meta ≡ b.found.meta
+    pub plans_are : opened.plans ≡ plans
+    pub committed : opened.committed ≡ length plans
+    pub settled : IsSettledAs now (files_now now)
+    pub found_is : IsFoundOf (setting_in b) (files_now now) opened
+
+  -- The logs were asked for these rounds, of which the first found what they answered as the checkpoint was opened.
+  pub record WereAsked (b : Begun L) (rounds : List Round) (logs : List L) : Type 0 where
+    pub answered : HaveAnswered tells lines available answers faults 0 rounds b.logs logs
+    pub first : BeginWith b.seen rounds
+
+  -- These are the rounds that are over; or they are those and one more, that cut on from them up to the last plan.
+  abbrev pub AreBegun : (b : Begun L) → List Plan → (done rounds : List Round) → Type 0
+  AreBegun b plans done rounds = (rounds ≡ done)
+      ⊎ ((found : List ℕ) × AreNext b.cap found (cuts_in b plans) (epochs_after (length b.found.plans) done) (length plans) × (rounds ≡ record { found = found; epochs = length plans } ∷ done))
+
+  -- The log of this number came back with so many lines: all of them are there, of those that it held before, and no fewer than were known then.
+  pub record HasSoMany (before after : List L) (at found : ℕ) : Type 0 where
+    pub old : L
+    pub own : L
+    pub was : get_elem? before at ≡ some old
+    pub is : get_elem? after at ≡ some own
+    pub there : tells → available own ≡ found
+    pub within : tells → found ≤ length (lines own)
+    pub grown : tells → available old ≤ found
+    pub same : tells → lines own ≡ lines old
+
+  -- Why the lines of logs were not counted: a part has too many; or what failed has counted it.
+  abbrev pub IsUncounted : (before after : List L) → LengthFault → Type 0
+  IsUncounted before after (length_fault.Full at found) = (most_lines < found) × HasSoMany before after at found
+  IsUncounted before after length_fault.LogFault = 0 < sum_by faults after
+  IsUncounted before after length_fault.NoMemory = Unit {0}
 
   -- How rounds end: what they leave on the disk and of the logs, what is written and what is left to be written, and why.
   --  All rounds that were asked for are over and told, each log was asked once for each, and it is left to say how many epochs there are. Or
-  --  one stopped, at an epoch behind those that were told, of which those of the rounds before are written. Or the lines were not counted for
-  --  one. Or the output failed, and a front of the lines of the last round was written. Or memory ran out, and lines of the last round are left.
+  --  one stopped, for which they were asked, too, at an epoch behind those that were told, of which those of the rounds before are written. Or the
+  --  lines were not counted for one, for which some logs were asked. Or the output failed, and a front of the lines of the last round was written,
+  --  for which they were asked, too. Or memory ran out, and lines of the last round are left.
   pub data IsEnd (b : Begun L) (disk_faults : ℕ) (logs : List L) (OutTells : Type 0) (written : List ℕ) (plans : List Plan) (done : List Round) (told : List Told) (text : List ℕ) (end : Result (Unit {0}) RunFault) : Type 0 where
-    finished : length done ≡ b.rounds → epochs_after (length b.found.plans) done ≡ length plans → b.found.committed + length told ≡ length plans → HaveAnswered tells lines available answers faults 0 done b.logs logs
+    finished : length done ≡ b.rounds → epochs_after (length b.found.plans) done ≡ length plans → b.found.committed + length told ≡ length plans → WereAsked b done logs
         → (OutTells → written ≡ b.written ++ told_text told) → text ≡ done_line (length plans) → end ≡ Ok tt → IsEnd b disk_faults logs OutTells written plans done told text end
-    stopped : length done < b.rounds → (found : List ℕ) → AreNext b.cap found (cuts_in b plans) (epochs_after (length b.found.plans) done) (length plans) → (why : Cause)
+    stopped : length done < b.rounds → (found : List ℕ) → AreNext b.cap found (cuts_in b plans) (epochs_after (length b.found.plans) done) (length plans)
+        → WereAsked b (record { found = found; epochs = length plans } ∷ done) logs → (why : Cause)
         → IsRoundStop tells (setting_in b) (cuts_in b plans) found (length plans) (b.found.committed + length told) b.disk_faults disk_faults (sum_by faults logs) why
         → (put more : List Told) → told ≡ put ++ more → (OutTells → written ≡ b.written ++ told_text put) → text ≡ told_text more → end ≡ Err (fault.Round why) → IsEnd b disk_faults logs OutTells written plans done told text end
-    uncounted : length done < b.rounds → epochs_after (length b.found.plans) done ≡ length plans → (why : LengthFault) → IsUncounted logs why
-        → (OutTells → written ≡ b.written ++ told_text told) → text ≡ [] → end ≡ Err (fault.Lines why) → IsEnd b disk_faults logs OutTells written plans done told text end
-    unput : length done ≤ b.rounds → (put more : List Told) → told ≡ put ++ more → (OutTells → (n : ℕ) × (written ≡ (b.written ++ told_text put) ++ take n (told_text more))) → text ≡ [] → end ≡ Err fault.OutFault
+    uncounted : length done < b.rounds → epochs_after (length b.found.plans) done ≡ length plans → (before : List L) → WereAsked b done before → (why : LengthFault) → IsUncounted b.logs logs why
+        → IsStopped tells lines available answers faults 0 before logs why → (OutTells → written ≡ b.written ++ told_text told) → text ≡ [] → end ≡ Err (fault.Lines why) → IsEnd b disk_faults logs OutTells written plans done told text end
+    unput : length done < b.rounds → (found : List ℕ) → AreNext b.cap found (cuts_in b plans) (epochs_after (length b.found.plans) done) (length plans)
+        → WereAsked b (record { found = found; epochs = length plans } ∷ done) logs → (put more : List Told) → told ≡ put ++ more → (OutTells → (n : ℕ) × (written ≡ (b.written ++ told_text put) ++ take n (told_text more))) → text ≡ [] → end ≡ Err fault.OutFault
         → IsEnd b disk_faults logs OutTells written plans done told text end
-    starved : length done ≤ b.rounds → (put more rest : List Told) → told ≡ put ++ (more ++ rest) → (OutTells → written ≡ b.written ++ told_text put) → text ≡ told_text more → end ≡ Err fault.NoMemory
+    starved : length done ≤ b.rounds → (rounds : List Round) → AreBegun b plans done rounds → WereAsked b rounds logs → (put more rest : List Told) → told ≡ put ++ (more ++ rest) → (OutTells → written ≡ b.written ++ told_text put) → text ≡ told_text more → end ≡ Err fault.NoMemory
         → IsEnd b disk_faults logs OutTells written plans done told text end
 
   -- so, by some plans, rounds and epochs that were told
@@ -102,4 +143,8 @@ module _ {L : Type 0} (tells : Type 0) (lines : L → List Line) (available : L 
     pub told : List Told
     pub has : HasRounds b plans done told
     pub is_end : IsEnd b disk_faults logs OutTells written plans done told text end
+    -- where disk and logs tell what they hold, whatever the files say
+    pub good : tells → AreGood b plans told
     pub ran : tells → IsOwnRun b → HaveRun b now plans told
+    -- where all are over
+    pub left : end ≡ Ok tt → tells → IsOwnRun b → AreLeft b now plans

@@ -16,9 +16,9 @@ use Rattle.ssq_terms.specs.Setting.{IsPlain, AreFound}
 use Rattle.ssq_desk.specs.declared.told.Told.{Told}
 use Rattle.ssq_open.specs.Numbers.{HasNumbers}
 use Rattle.ssq_drive.specs.Rounds.{CanBegin, IsFoundOf, first_of}
-use Rattle.ssq_runner.specs.Rounds.{Round, HaveAnswered, epochs_after}
+use Rattle.ssq_runner.specs.Rounds.{Round, epochs_after}
 use Rattle.ssq_runner.specs.Told.{told_text}
-use Rattle.ssq_runner.specs.Ending.{Begun, HasRounds, IsOwnRun, HaveRun, setting_in}
+use Rattle.ssq_runner.specs.Ending.{Begun, HasRounds, IsOwnRun, HaveRun, AreGood, WereAsked, setting_in}
 
 -- Rounds may be run over this number of logs, however many lines are found, as long as these are not fewer than are planned.
 pub record Fits (bound : Bound) (cap : Option ℕ) (logs : ℕ) (found : Opened) : Type 0 where
@@ -50,8 +50,9 @@ module _ {L : Type 0} (tells : Type 0) (lines : L → List Line) (available : L 
     pub committed : b.found.committed + length told ≡ opened.committed
     pub whole : 0 < n → opened.committed ≡ length opened.plans
     pub meta_is : opened.meta ≡ b.found.meta
+    pub good : tells → AreGood tells lines available answers faults b opened.plans told
     pub wrote : OutTells → written ≡ b.written ++ told_text told
-    pub answered : HaveAnswered tells lines available answers faults 0 done b.logs logs
+    pub asked : WereAsked tells lines available answers faults b done logs
     pub fits : Fits b.bound b.cap (length logs) opened
     pub there : 0 < n → tells → (i : ℕ) (own : L) → get_elem? logs i ≡ some own → get_or (planned_lines opened) i 0 ≤ available own
     pub disk_counted : b.disk_faults ≤ disk_faults
@@ -62,7 +63,7 @@ module _ {L : Type 0} (tells : Type 0) (lines : L → List Line) (available : L 
   pub record IsReady (b : Begun L) (n : ℕ) (now : History) (disk_faults : ℕ) (logs : List L) (OutTells : Type 0) (written : List ℕ) (opened : Opened) (found : List ℕ) : Type 0 where
     pub before : List L
     pub so_far : SoFar b n now disk_faults before OutTells written opened
-    pub answered : (epochs : ℕ) → HaveAnswered tells lines available answers faults 0 (record { found = found; epochs = epochs } ∷ so_far.done) b.logs logs
+    pub asked : (epochs : ℕ) → WereAsked tells lines available answers faults b (record { found = found; epochs = epochs } ∷ so_far.done) logs
     pub can : CanBegin b.bound (length logs) opened (scope_of opened found b.cap)
     pub few : length logs ≤ 128
     pub seen : tells → (i : ℕ) (own : L) → get_elem? logs i ≡ some own → get_or found i 0 ≤ available own

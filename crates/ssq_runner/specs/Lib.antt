@@ -7,3 +7,4 @@ pub mod Putting
 pub mod Stops
 pub mod Running
 pub mod Sources
+pub mod Complete

@@ -1,5 +1,5 @@
 -- Rounds, one after another: how they cut the logs further.
-use Rattle.std.specs.Prelude.{◌≡◌, ◌<◌, ◌≤◌, ◌+◌, ◌^◌, ◌++◌, ℕ, true, false, List, [], ◌∷◌, length, get_or, Option}
+use Rattle.std.specs.Prelude.{◌≡◌, ◌<◌, ◌≤◌, ◌+◌, ◌^◌, ◌++◌, ℕ, true, false, List, [], ◌∷◌, length, get_or, All, Option}
 use Rattle.ssq_outside.specs.Logs.{Line}
 use Rattle.ssq_core.specs.Course.{Cuts}
 use Rattle.ssq_board.specs.Core.{next_ends, is_behind}
@@ -35,12 +35,26 @@ unfoldable pub answers_of : ℕ → List Round → List ℕ
 answers_of i [] = []
 answers_of i (round ∷ earlier) = answers_of i earlier ++ get_or round.found i 0 ∷ []
 
+-- What rounds found of a part never falls: the first no fewer lines than were there before, each later one no fewer than the one before it, and
+-- no fewer are there after the last.
+abbrev pub FindMore : (i before : ℕ) → List Round → (after : ℕ) → Type 0
+FindMore i before [] after = before ≤ after
+FindMore i before (round ∷ earlier) after = FindMore i before earlier (get_or round.found i 0) × (get_or round.found i 0 ≤ after)
+
+-- the first of these rounds found this of all parts
+abbrev pub BeginWith : List ℕ → List Round → Type 0
+BeginWith found [] = Unit {0}
+BeginWith found (round ∷ []) = round.found ≡ found
+BeginWith found (round ∷ later ∷ earlier) = BeginWith found (later ∷ earlier)
+
 -- Where the log of a part tells what it holds: it has the lines that it had, of which no fewer are there than were; and it was asked once
--- for each round, and answered what that round found.
+-- for each round, and answered what that round found, which never falls and is not more than it will come to hold.
 pub record HasAnswered {L : Type 0} (tells : Type 0) (lines : L → List Line) (available : L → ℕ) (answers : L → List ℕ) (faults : L → ℕ) (i : ℕ) (rounds : List Round) (before after : L) : Type 0 where
   pub same : tells → lines after ≡ lines before
   pub grown : tells → available before ≤ available after
+  pub risen : tells → FindMore i (available before) rounds (available after)
   pub answered : tells → length (answers before) + length rounds < 2 ^ 64 → answers after ≡ answers before ++ answers_of i rounds
+  pub within : tells → All (λ (round : Round). get_or round.found i 0 ≤ length (lines after)) rounds
   pub counted : faults before ≤ faults after
 
 -- each log did, from this part on

@@ -2,11 +2,13 @@
 //! of which is told on the output when it is over.
 //!
 //! The definitions are in `specs/`: `Rounds` says how rounds cut the logs, `Told` what is told of epochs, `Ending` how rounds end, `Going` what
-//! holds between two of them, `Running` how a run goes from its logs on, and `Sources` how a whole run over inputs does.
+//! holds between two of them, `Running` how a run goes from its logs on, `Sources` how a whole run over inputs does, and `Complete` when it
+//! is never refused, meets no limit and finds no fault.
 #![tactic(auto)]
 
 mod ask;
 mod fault;
+mod law;
 mod lens;
 mod line;
 mod put;
@@ -16,4 +18,5 @@ mod source;
 
 pub use ask::Ask;
 pub use fault::RunFault;
+pub use law::runs_go_on;
 pub use source::{Ran, run_query};

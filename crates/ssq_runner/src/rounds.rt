@@ -151,7 +151,7 @@ fn next_round<D: Disk, L: Log, O: Output, G: Gate>(
 ) -> Result<Standing<D, L>, Left<D, L>>
     requires fits { Fits bound.now cap (length standing.logs.items) standing.opened }
     requires empty { text.old.items ≡ [] }
-    ensures over { (b : Begun L) (n : ℕ) → b.bound ≡ bound.now → b.cap ≡ cap → SoFar (D.tells × L.tells) L.lines L.available L.answers L.faults b n (D.history standing.disk) (D.faults standing.disk) standing.logs.items O.tells (O.content out.old) standing.opened →
+    ensures over { (b : Begun L) (n : ℕ) → 0 < n → b.bound ≡ bound.now → b.cap ≡ cap → SoFar (D.tells × L.tells) L.lines L.available L.answers L.faults b n (D.history standing.disk) (D.faults standing.disk) standing.logs.items O.tells (O.content out.old) standing.opened →
         IfOk result (λ next. SoFar (D.tells × L.tells) L.lines L.available L.answers L.faults b (n + 1) (D.history next.disk) (D.faults next.disk) next.logs.items O.tells (O.content out.new) next.opened) }
     ensures ended { (b : Begun L) (n : ℕ) → 0 < n → b.bound ≡ bound.now → b.cap ≡ cap → n < b.rounds → SoFar (D.tells × L.tells) L.lines L.available L.answers L.faults b n (D.history standing.disk) (D.faults standing.disk) standing.logs.items O.tells (O.content out.old) standing.opened →
         IfErr result (λ left. Ends (D.tells × L.tells) L.lines L.available L.answers L.faults b (D.history left.disk) (D.faults left.disk) left.logs.items O.tells (O.content out.new) text.new.items left.end) }

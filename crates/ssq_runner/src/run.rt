@@ -5,6 +5,7 @@ ghost use mathlib.Core.Option.{some};
 ghost use lib.ListN.{get_elem?};
 ghost use Rattle.std.specs.Option.{ForSome};
 ghost use Rattle.ssq_outside.specs.History.{LeavesNow, LeavesOnly};
+ghost use Rattle.ssq_core.specs.Standing.{Stands};
 ghost use Rattle.ssq_core.specs.Sound.{StandsOrEmpty};
 ghost use Rattle.ssq_course.specs.Setting.{Setting as SettingOf, job_of};
 ghost use Rattle.ssq_open.specs.Lens.{CanBeAsked};
@@ -13,7 +14,7 @@ ghost use Rattle.ssq_board.specs.Rounds.{HasCap};
 ghost use Rattle.ssq_terms.specs.Setting.{IsPlain};
 ghost use Rattle.ssq_runner.specs.Lens.{lens_of};
 ghost use Rattle.ssq_runner.specs.Putting.{OutRises};
-ghost use Rattle.ssq_runner.specs.Running.{Given, IsOf, IsOpenedOn, IsUnopened, IsRunOf, LeavesStanding, RunEnd};
+ghost use Rattle.ssq_runner.specs.Running.{Given, IsOf, IsOpenedOn, IsUnopened, IsRunOf, KeepsStanding, LeavesStanding, RunEnd};
 
 use crate::ask::Ask;
 use crate::fault::RunFault;
@@ -40,6 +41,7 @@ fn open_found<D: Disk>(
     ensures opened { IfOk result (λ opened. IsOpenedOn D.tells D.history bound.now partitions (lens_of counts.now found.now) disk.old disk.new opened) }
     ensures unopened { IfErr result (IsUnopened D.tells D.history D.faults bound.now partitions (lens_of counts.now found.now) disk.old disk.new) }
     ensures images { LeavesStanding D.tells D.history bound.now partitions (lens_of counts.now found.now) disk.old disk.new }
+    ensures stay { KeepsStanding D.tells D.history disk.old disk.new }
     ensures counted { D.faults disk.old ≤ D.faults disk.new }
 {
     let lens = lens_of(alloc, counts, found)?;
@@ -75,6 +77,9 @@ fn run_found<D: Disk, L: Log, O: Output, G: Gate>(
     // Where each image stands for the run's job, or stands empty, so does each image of each moment of the run.
     ensures stands { D.tells → L.tells → (g : Given L) (s : SettingOf) → IsOf bound.now ask counts.now g → g.start ≡ D.history disk → AreAsked L.tells L.lines L.available L.answers L.faults g.logs logs.items found.items → IsRunOf L.lines g s →
         LeavesNow g.start (StandsOrEmpty (job_of s)) → LeavesOnly g.start (D.history result.disk) (StandsOrEmpty (job_of s)) }
+    // And where each image stands, so does each of each moment: none is empty.
+    ensures stay { D.tells → L.tells → (g : Given L) (s : SettingOf) → IsOf bound.now ask counts.now g → g.start ≡ D.history disk → AreAsked L.tells L.lines L.available L.answers L.faults g.logs logs.items found.items → IsRunOf L.lines g s →
+        LeavesNow g.start (Stands (job_of s)) → LeavesOnly g.start (D.history result.disk) (Stands (job_of s)) }
     ensures counted { O.faults out.old ≤ O.faults out.new }
     ensures cause { OutRises (O.faults out.old) (O.faults out.new) result.end }
 {
@@ -135,6 +140,9 @@ pub(crate) fn run_logs<D: Disk, L: Log, O: Output, G: Gate>(
     // Where each image stands for the run's job, or stands empty, so does each image of each moment of the run.
     ensures stands { D.tells → L.tells → (g : Given L) (s : SettingOf) → IsOf bound.now ask counts.now g → g.start ≡ D.history disk → g.logs ≡ logs.items → IsRunOf L.lines g s →
         LeavesNow g.start (StandsOrEmpty (job_of s)) → LeavesOnly g.start (D.history result.disk) (StandsOrEmpty (job_of s)) }
+    // And where each image stands, so does each of each moment: none is empty.
+    ensures stay { D.tells → L.tells → (g : Given L) (s : SettingOf) → IsOf bound.now ask counts.now g → g.start ≡ D.history disk → g.logs ≡ logs.items → IsRunOf L.lines g s →
+        LeavesNow g.start (Stands (job_of s)) → LeavesOnly g.start (D.history result.disk) (Stands (job_of s)) }
     ensures counted { O.faults out.old ≤ O.faults out.new }
     ensures cause { OutRises (O.faults out.old) (O.faults out.new) result.end }
 {

@@ -3,12 +3,15 @@
 ghost use Rattle.std.specs.Prelude.{◌≡◌, ◌≤◌, ◌-◌, ◌^◌, [], length, map, min, sum, All, Err, IfOk, IfErr, OnOk};
 ghost use Rattle.std.specs.Option.{ForSome};
 ghost use Rattle.ssq_outside.specs.History.{LeavesNow, LeavesOnly};
+ghost use Rattle.ssq_core.specs.Standing.{Stands};
 ghost use Rattle.ssq_core.specs.Sound.{StandsOrEmpty};
 ghost use Rattle.ssq_course.specs.Setting.{Setting as SettingOf, job_of};
 ghost use Rattle.ssq_board.specs.Rounds.{HasCap};
 ghost use Rattle.ssq_terms.specs.Setting.{IsPlain};
+ghost use Rattle.ssq_logs.specs.declared.fault.LengthFault.{LengthFault as LengthFaultOf};
 ghost use Rattle.ssq_logs.specs.Parts.{counts_in, lines_in};
 ghost use Rattle.ssq_logs.specs.Opened.{parts_of, AreLogsOf};
+ghost use Rattle.ssq_runner.specs.declared.fault.RunFault.TheVariants as fault;
 ghost use Rattle.ssq_runner.specs.Sources.{HasCount, IsSettingFor, IsUnparted, RunOver};
 
 use crate::ask::Ask;
@@ -21,11 +24,13 @@ use ssq_shape::{Bound, Stream};
 use ssq_value::Sequence;
 use std::alloc::Global;
 
-/// What a run leaves: the disk, what is left to be written before it is said why it ended, and why it did.
+/// What a run leaves: the disk, what is left to be written before it is said why it ended, how many parts each stream has, where that was
+/// counted, and why it ended.
 #[derive(Drop)]
 pub struct Ran<D: Disk> {
     pub disk: D,
     pub text: Vec<u8>,
+    pub counts: Sequence<u32>,
     pub end: Result<(), RunFault>,
 }
 
@@ -83,7 +88,11 @@ pub fn run_query<D: Disk, I: Inputs, O: Output, G: Gate>(
         (I.returned inputs.old) (I.returned inputs.new) O.tells (O.content out.old) (O.content out.new) result.text.items result.end }
     // Where each image stands for the query over what the inputs hold, or stands empty, so does each image of each moment.
     ensures stands { D.tells → I.tells → (s : SettingOf) → IsSettingFor (I.held inputs.old) bound.now ask.partitions (D.history disk) s → LeavesNow (D.history disk) (StandsOrEmpty (job_of s)) → LeavesOnly (D.history disk) (D.history result.disk) (StandsOrEmpty (job_of s)) }
+    // And where each image stands, so does each of each moment: none is empty.
+    ensures stay { D.tells → I.tells → (s : SettingOf) → IsSettingFor (I.held inputs.old) bound.now ask.partitions (D.history disk) s → LeavesNow (D.history disk) (Stands (job_of s)) → LeavesOnly (D.history disk) (D.history result.disk) (Stands (job_of s)) }
     ensures held { I.tells → I.held inputs.new ≡ I.held inputs.old }
+    // Where the lines of a log were not counted, the parts were.
+    ensures counts { I.tells → (why : LengthFaultOf) → result.end ≡ Err (fault.Lines why) → result.counts ≡ counts_in (I.held inputs.old) bound.now.streams }
     // A fault of the outside is told only where it was counted.
     ensures cause { HasCount (D.faults disk) (D.faults result.disk) (I.faults inputs.old) (I.faults inputs.new) (O.faults out.old) (O.faults out.new) result.end }
     ensures counted { O.faults out.old ≤ O.faults out.new }
@@ -103,11 +112,17 @@ pub fn run_query<D: Disk, I: Inputs, O: Output, G: Gate>(
                 &mut text,
             );
             give_back(inputs, logs);
-            Ran { disk, text, end }
+            Ran {
+                disk,
+                text,
+                counts,
+                end,
+            }
         }
         Err(fault) => Ran {
             disk,
             text,
+            counts: Sequence::new(alloc),
             end: Err(fault),
         },
     }

@@ -272,7 +272,12 @@ fn run_on(alloc: Global, run: &Run, disk: MemDisk) -> Result<(Vec<u8>, String, M
     let accepted = accept(alloc, run.query)?;
     let mut inputs = inputs_of(alloc, run.parts)?;
     let mut out = MemOut::new(alloc);
-    let Ran { disk, text, end } = run_query(
+    let Ran {
+        disk,
+        text,
+        counts: _,
+        end,
+    } = run_query(
         alloc,
         &OpenGate,
         &accepted.bound,

@@ -9,6 +9,7 @@ use Rattle.ssq_desk.specs.Whole.{opening_in}
 use Rattle.ssq_drive.specs.Driven.{IsDriven}
 use Rattle.ssq_drive.specs.Rounds.{setting_for}
 use Rattle.ssq_drive.proofs.Going.{driven_more}
+use Rattle.ssq_drive.proofs.Goods.{begun_good}
 use Rattle.ssq_drive.proofs.Starting.{begun}
 use Rattle.ssq_drive.proofs.Rounding.{IsClosed, desk_begins, round_closed}
 use Rattle.ssq_drive.proofs.Idling.{idle, same_back, read_back}
@@ -24,7 +25,7 @@ new-requires-clause-round g c =
 pub returns-in-Err-clause-round : goal.returns-in-Err-clause-round
 returns-in-Err-clause-round g c =
     let back = c.in-Err.ensures.back in
-    rw (back.0, back.1, c.new-in-Err.ensures.items) (idle (g.D.Disk.tells × g.L.Log.tells) c.rounds.ensures.nothing (setting_for g.L.Log.lines c.args.bound.now c.args.opened c.args.logs.items) (length c.args.logs.items)
+    rw (back.0, back.1, c.new-in-Err.ensures.items) (idle (g.D.Disk.tells × g.L.Log.tells) c.rounds.ensures.nothing c.rounds.ensures.opened (setting_for g.L.Log.lines c.args.bound.now c.args.opened c.args.logs.items) (length c.args.logs.items)
     (record { partitions = c.args.opened.meta.partitions; available = c.args.found.items; cap = c.args.cap }) c.args.opened (g.D.Disk.history c.args.disk) (g.D.Disk.faults c.args.disk) (sum_by g.L.Log.faults c.args.logs.items) c.requires.can)
 
 pub returns-in-Err-clause-logs : goal.returns-in-Err-clause-logs
@@ -61,9 +62,10 @@ returns-clause-round g c =
       over = end_over _ _ done.result.next c.end_of.result done.ensures.next c.end_of.ensures.next;
       stopped = λ f same. (let stops = sym done.ensures.stop ∙ end_stopped done.result.next done.result.stop c.end_of.result c.end_of.ensures.stop f same in (stops, done.ensures.stopped f stops));
       faulty = done.ensures.faulty;
+      good = λ t. c.run_desk.ensures.good t (begun_good g.L.Log.lines round c.args.disk scope c.in-Ok.desk (g.D.Disk.faults c.args.disk) (g.D.Disk.faults c.in-Ok.desk.disk) c.requires.can.numbers.before c.requires.can.numbers.near c.in-Ok.ensures.made);
     } in
     round_closed g.D.Disk.tells g.L.Log.tells g.L.Log.lines g.D.Disk.history g.D.Disk.faults round scope c.args.disk desk done.result.disk refl c.requires.can driven done.ensures.disk counts done.result.told.items c.end_of.result closed
-    c.job_is_wanted.ensures.parts c.tasks_have_terms.ensures.terms c.round_begins_as_found.ensures.opens c.rounds.ensures.round c.rounds.ensures.over
+    c.job_is_wanted.ensures.parts c.tasks_have_terms.ensures.terms c.round_begins_as_found.ensures.opens c.rounds.ensures.round c.rounds.ensures.over c.rounds.ensures.files
 
 pub returns-clause-logs : goal.returns-clause-logs
 returns-clause-logs g c =

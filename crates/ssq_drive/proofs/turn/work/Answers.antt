@@ -9,6 +9,7 @@ use Rattle.ssq_desk.specs.Handed.{IsTaskOf}
 use Rattle.ssq_desk.specs.Results.{cause_of_feed, cause_of_reduce, fault_of}
 use Rattle.ssq_desk.specs.Published.{cause_of_left}
 use Rattle.ssq_drive.proofs.Doing.{fed_may, fed_turn, reduced_may, reduced_turn, gathered_may, gathered_turn}
+use Rattle.ssq_drive.proofs.Goods.{claimed_good, fed_good, published_good, reduced_good}
 use Rattle.ssq_drive.proofs.turn.work.Goals as goal
 
 pub report_fed-requires-clause-may : goal.report_fed-requires-clause-may
@@ -25,8 +26,8 @@ report_fed-requires-clause-of g c = (
   c.feed.ensures,
 )
 
-pub returns-in-Map : goal.returns-in-Map
-returns-in-Map g c =
+pub returns-in-Map-clause-turn : goal.returns-in-Map-clause-turn
+returns-in-Map-clause-turn g c =
     let old = c.args.desk.now in
     let id = ap (λ (x : Task g.row.L.Denot g.row.D-Stage.Denot g.row.D-Stage-Sealed.Denot). id_of x) c.in-Map.is in
     let may = subst (λ (t : TaskId). May old.scope old.core (entry.Claim t)) id c.in-Some.ensures.claimed.0 in
@@ -47,8 +48,8 @@ report_reduced-requires-clause-of g c = (
   c.reduce.ensures,
 )
 
-pub returns-in-Reduce : goal.returns-in-Reduce
-returns-in-Reduce g c =
+pub returns-in-Reduce-clause-turn : goal.returns-in-Reduce-clause-turn
+returns-in-Reduce-clause-turn g c =
     let old = c.args.desk.now in
     let id = ap (λ (x : Task g.row.L.Denot g.row.D-Stage.Denot g.row.D-Stage-Sealed.Denot). id_of x) c.in-Reduce.is in
     let may = subst (λ (t : TaskId). May old.scope old.core (entry.Claim t)) id c.in-Some.ensures.claimed.0 in
@@ -69,11 +70,25 @@ publish_out-requires-clause-of g c = (
   c.gather.ensures,
 )
 
-pub returns-in-Out : goal.returns-in-Out
-returns-in-Out g c =
+pub returns-in-Out-clause-turn : goal.returns-in-Out-clause-turn
+returns-in-Out-clause-turn g c =
     let old = c.args.desk.now in
     let id = ap (λ (x : Task g.row.L.Denot g.row.D-Stage.Denot g.row.D-Stage-Sealed.Denot). id_of x) c.in-Out.is in
     let may = subst (λ (t : TaskId). May old.scope old.core (entry.Claim t)) id c.in-Some.ensures.claimed.0 in
     let claimed = c.in-Some.ensures.claimed.1 ∙ ap (λ (t : TaskId). did old old.disk (entry.Claim t ∷ [])) id in
     gathered_turn g.D.Stage.Stage.tells g.D.Stage.Stage.written g.D.Stage.Stage.sealed g.D.Stage.Stage.faults c.in-Out.task c.gather.result c.gather.ensures g.D.Disk.faults old c.claim.new.self c.publish_out.new.self c.publish_out.result c.is_in_order.ensures.sound c.requires.rest may claimed
     c.publish_out.ensures.out c.publish_out.ensures.cause c.publish_out.ensures.counted
+
+pub returns-in-Map-clause-good : goal.returns-in-Map-clause-good
+returns-in-Map-clause-good g c = λ t good.
+    let task = subst (λ (x : Task g.row.L.Denot g.row.D-Stage.Denot g.row.D-Stage-Sealed.Denot). IsTaskOf g.D.Disk.tells g.L.Log.tells g.L.Log.lines g.L.Log.available g.L.Log.answers g.L.Log.faults g.D.Stage.Stage.written c.claim.new.self x) c.in-Map.is c.in-Some.ensures.task in
+    fed_good g.L.Log.lines g.D.Disk.tells g.L.Log.tells g.L.Log.available g.L.Log.answers g.L.Log.faults c.claim.new.self c.report_fed.new.self c.in-Map.task c.feed.result t task c.feed.ensures c.report_fed.ensures.did
+    (claimed_good g.L.Log.lines c.args.desk.now c.claim.new.self _ c.in-Some.ensures.claimed.1 good)
+
+pub returns-in-Reduce-clause-good : goal.returns-in-Reduce-clause-good
+returns-in-Reduce-clause-good g c = λ t good.
+    reduced_good g.L.Log.lines c.claim.new.self c.report_reduced.new.self _ _ _ c.report_reduced.ensures.did (claimed_good g.L.Log.lines c.args.desk.now c.claim.new.self _ c.in-Some.ensures.claimed.1 good)
+
+pub returns-in-Out-clause-good : goal.returns-in-Out-clause-good
+returns-in-Out-clause-good g c = λ t good.
+    published_good g.L.Log.lines c.claim.new.self c.publish_out.new.self _ _ _ c.publish_out.result _ c.publish_out.ensures.out (claimed_good g.L.Log.lines c.args.desk.now c.claim.new.self _ c.in-Some.ensures.claimed.1 good)

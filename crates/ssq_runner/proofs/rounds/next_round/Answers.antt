@@ -8,13 +8,13 @@ one_round-requires-clause-can g c = λ κs lives.
     can_on g.L.Log.tells g.L.Log.lines g.L.Log.available g.L.Log.answers g.L.Log.faults c.args.bound.now c.args.cap c.args.standing.logs.items c.count_again.new.logs.items c.args.standing.opened c.in-Ok.found.items c.requires.fits c.in-Ok.ensures.asked c.in-Ok.ensures.long
 
 pub returns-in-Ok-clause-over : goal.returns-in-Ok-clause-over
-returns-in-Ok-clause-over g c = λ b n same cap so.
-    c.one_round.ensures.over b n same cap (ready_on g.L.Log.tells (g.D.Disk.tells × g.L.Log.tells) g.L.Log.lines g.L.Log.available g.L.Log.answers g.L.Log.faults (λ t. t.1) b n _ _ c.args.standing.logs.items c.count_again.new.logs.items _ _ c.args.standing.opened so
+returns-in-Ok-clause-over g c = λ b n later same cap so.
+    c.one_round.ensures.over b n same cap (ready_on g.L.Log.tells (g.D.Disk.tells × g.L.Log.tells) g.L.Log.lines g.L.Log.available g.L.Log.answers g.L.Log.faults (λ t. t.1) b n _ _ c.args.standing.logs.items c.count_again.new.logs.items _ _ c.args.standing.opened so later
     c.in-Ok.found.items c.in-Ok.ensures.asked c.in-Ok.ensures.long)
 
 pub returns-in-Ok-clause-ended : goal.returns-in-Ok-clause-ended
 returns-in-Ok-clause-ended g c = λ b n later same cap less so.
-    c.one_round.ensures.ended b n same cap less (ready_on g.L.Log.tells (g.D.Disk.tells × g.L.Log.tells) g.L.Log.lines g.L.Log.available g.L.Log.answers g.L.Log.faults (λ t. t.1) b n _ _ c.args.standing.logs.items c.count_again.new.logs.items _ _ c.args.standing.opened so
+    c.one_round.ensures.ended b n same cap less (ready_on g.L.Log.tells (g.D.Disk.tells × g.L.Log.tells) g.L.Log.lines g.L.Log.available g.L.Log.answers g.L.Log.faults (λ t. t.1) b n _ _ c.args.standing.logs.items c.count_again.new.logs.items _ _ c.args.standing.opened so later
     c.in-Ok.found.items c.in-Ok.ensures.asked c.in-Ok.ensures.long)
 
 pub returns-in-Err-clause-ended : goal.returns-in-Err-clause-ended

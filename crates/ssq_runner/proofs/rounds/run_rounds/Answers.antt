@@ -18,7 +18,7 @@ loop-preserved g c = record {
   fits = c.in-Ok-next_round.ensures.fits;
   empty = c.in-Ok-next_round.ensures.empty;
   counted = (let a = c.loop.invariant.counted in let n = c.next_round.ensures.counted in omega (arith, a, n));
-  so = λ b same cap rounds ready. c.in-Ok-next_round.ensures.over b c.loop.counter same cap (c.loop.invariant.so b same cap rounds ready);
+  so = λ b same cap rounds ready. c.in-Ok-next_round.ensures.over b c.loop.counter (let a = c.loop.auto.counter in omega (arith, a)) same cap (c.loop.invariant.so b same cap rounds ready);
 }
 
 pub returns-in-Err-next_round-clause-ended : goal.returns-in-Err-next_round-clause-ended
@@ -30,4 +30,4 @@ returns-clause-ended g c = λ b same cap rounds ready.
     let so = c.loop.invariant.so b same cap rounds ready in
     let all = (let t = c.loop-test.false in let e = c.loop.auto.counter-end in let r = c.requires.rounds in (let n : c.loop.counter ≡ c.args.ask.rounds = omega (arith, t, e, r) in n)) in
     finish g.L.Log.tells (g.D.Disk.tells × g.L.Log.tells) g.L.Log.lines g.L.Log.available g.L.Log.answers g.L.Log.faults (λ t. t.1) b c.loop.counter _ _ c.loop.standing.logs.items c.loop.standing.logs.items _ _ c.loop.standing.opened so
-    c.tell_done-end.result c.loop.text.items c.tell_done-end.new.text.items (all ∙ sym rounds) (let r = c.requires.rounds in omega (arith, r, all)) c.loop.invariant.empty so.answered c.tell_done-end.ensures.ok c.tell_done-end.ensures.err
+    c.tell_done-end.result c.loop.text.items c.tell_done-end.new.text.items (all ∙ sym rounds) (let r = c.requires.rounds in omega (arith, r, all)) c.loop.invariant.empty so.asked c.tell_done-end.ensures.ok c.tell_done-end.ensures.err

@@ -1,0 +1,242 @@
+-- The files that a round leaves are those of its plans.
+use Rattle.std.proofs.Common.{◌≡◌, ◌⊎◌, ◌<◌, ◌≤◌, ◌+◌, ◌||◌, [], ◌∷◌, ℕ, Bool, true, false, true≢false, List, Some, None, if◌then◌else◌, nat_lt, refl, sym, ap, ◌∙◌, subst, inl, inr, arith}
+use Rattle.std.specs.Prelude.{IsSome, is_some}
+use Rattle.std.proofs.lemmas.Bool.{cases_lt, ltb-true, ltb-false}
+use Rattle.ssq_outside.specs.declared.name.Name.{Name}
+use Rattle.ssq_outside.specs.declared.name.Name.TheVariants as name
+use Rattle.ssq_outside.specs.Files.{Content, Files, Had, MayBe, IsImage, IsSyncStep, added, settled_at}
+use Rattle.ssq_outside.specs.History.{History, had_now, files_now, LeavesNow, Elapses}
+use Rattle.ssq_core.specs.Course.{Course, Ends, Cuts, Job, AgreeUpTo, AreSameUpTo, truth}
+use Rattle.ssq_core.specs.Standing.{is_allowed}
+use Rattle.ssq_core.specs.Settled.{IsSettledAs}
+use Rattle.ssq_core.specs.Machine.{Desk, opened, publishes}
+use Rattle.ssq_core.specs.Sound.{Sound, IsSoundAt}
+use Rattle.ssq_core.proofs.Hads.{added_cases, settled_may}
+use Rattle.ssq_core.proofs.Holding.{agree_truth, lt_true, more_allowed}
+use Rattle.ssq_core.proofs.Desks.{settled_first}
+use Rattle.ssq_core.proofs.Moves.{moves_on, open_sound}
+use Rattle.ssq_board.specs.declared.front.Entry.{Entry}
+use Rattle.ssq_board.specs.declared.front.Entry.TheVariants as entry
+use Rattle.ssq_board.specs.Core.{Scope, Core, May, cuts_by, events_all, extended, is_behind, next_ends}
+use Rattle.ssq_board.specs.Shown.{Start, IsSound}
+use Rattle.ssq_board.specs.Follows.{Terms, State, Step, Leads, Shows, Tries, IsTried, change_of, shown}
+use Rattle.ssq_board.proofs.Following.{list_follows}
+use Rattle.ssq_board.proofs.Opening.{shows_first}
+use Rattle.ssq_board.proofs.Sounds.{first_sound, step_sound}
+use Rattle.ssq_promise.specs.Run.{Begins, AreTrueTo, AreFilesOf, as_planned, one_tried}
+use Rattle.ssq_promise.proofs.Joining.{shown_first}
+use Rattle.ssq_promise.proofs.Leaving.{sound_by}
+
+-- each content that a name may have is the true one, and of an epoch below this one
+abbrev pub HasTruth : Course → ℕ → Had → Type 0
+HasTruth course n had = (q : Name) (c : Content) → MayBe (had q) c → (c ≡ None) ⊎ ((c ≡ Some (truth course q)) × (is_allowed course.keeping n n q ≡ true))
+
+some_is : (c : Content) (bytes : List ℕ) → c ≡ Some bytes → IsSome c
+some_is c bytes is = ap is_some is
+
+none_there : (c : Content) → c ≡ None → IsSome c → ⊥
+none_there c none there = true≢false (sym (sym (ap is_some none) ∙ there))
+
+image_true : (course : Course) (n : ℕ) (had : Had) → HasTruth course n had → (image : Files) → IsImage had image → AreTrueTo course n image
+image_true course n had has image is = record {
+  are_true = λ q. elim (has q (image q) (is q)) [ inl none ↦ inl none | inr there ↦ inr there.0 ];
+  allowed = λ q there. elim (has q (image q) (is q)) [ inl none ↦ absurd (none_there (image q) none there) | inr so ↦ so.1 ];
+}
+
+pub now_true : (course : Course) (n : ℕ) (h : History) → HasTruth course n (had_now h) → LeavesNow h (AreTrueTo course n)
+now_true course n h has = record { each = image_true course n (had_now h) has }
+
+-- in a sound state it is so
+sound_true : (job : Job) (d : Desk) (had : Had) → IsSoundAt job d had → HasTruth (job.course d.cuts) d.planned had
+sound_true job d had sound q c may = elim (sound.holds.are_true q c may) [
+  | inl none ↦ inl none
+  | inr is ↦ inr (is, allowed (sound.holds.allowed q c may (some_is c (truth (job.course d.cuts) q) is)))
+]
+  where
+    allowed : (is_allowed (job.course d.cuts).keeping sound.b d.committed q ≡ true) ⊎ ((q ≡ name.Plan sound.b) × (sound.b < d.planned)) → is_allowed (job.course d.cuts).keeping d.planned d.planned q ≡ true
+    allowed (inl at) =
+        let few = settled_first d.planned d.committed sound.b sound.a sound.holds.reached.planned_first sound.holds.one_open in
+        more_allowed (job.course d.cuts).keeping sound.b d.committed d.planned d.planned q few.1.1 sound.holds.reached.planned_first at
+    allowed (inr new) = subst (λ (x : Name). is_allowed (job.course d.cuts).keeping d.planned d.planned x ≡ true) (sym new.0) (lt_true sound.b d.planned new.1)
+
+-- and of settled files on which a desk opens
+pub opened_true : (job : Job) (disk : History) (d : Desk) → IsSettledAs disk (files_now disk) → opened job (files_now disk) d → LeavesNow disk (AreTrueTo (job.course d.cuts) d.planned)
+opened_true job disk d settled is = now_true (job.course d.cuts) d.planned disk (subst (HasTruth (job.course d.cuts) d.planned) (sym settled.is) has)
+  where
+    has : HasTruth (job.course d.cuts) d.planned (settled_at (files_now disk))
+    has q c may =
+        let same : c ≡ files_now disk q = settled_may (files_now disk) q c may in
+        elim (is.0.are_true q) [
+          | inl none ↦ inl (same ∙ none)
+          | inr there ↦ inr (
+            same ∙ there,
+            more_allowed (job.course d.cuts).keeping d.planned d.committed d.planned d.planned q (omega arith) is.0.reached.planned_first (is.0.allowed q (some_is (files_now disk q) (truth (job.course d.cuts) q) there)),
+          )
+        ]
+
+-- and with one true file more
+added_true : (course : Course) (n : ℕ) (had : Had) (q : Name) → HasTruth course n had → is_allowed course.keeping n n q ≡ true → HasTruth course n (added q (truth course q) had)
+added_true course n had q has may r c is = elim (added_cases q r (truth course q) c had is) [
+  | inl old ↦ has r c old
+  | inr new ↦ inr (new.1 ∙ ap (λ (x : Name). Some (truth course x)) (sym new.0), subst (λ (x : Name). is_allowed course.keeping n n x ≡ true) (sym new.0) may)
+]
+
+agree_true : (one other : Course) (n : ℕ) (had : Had) → AgreeUpTo one other n → HasTruth one n had → HasTruth other n had
+agree_true one other n had agree has q c may = elim (has q c may) [
+  | inl none ↦ inl none
+  | inr so ↦ inr (so.0 ∙ ap Some (agree_truth one other n n q (omega arith) agree so.1), subst (λ (keeping : ℕ). is_allowed keeping n n q ≡ true) agree.keeping so.1)
+]
+
+more_true : (course : Course) (n : ℕ) (had : Had) → HasTruth course n had → HasTruth course (n + 1) had
+more_true course n had has q c may = elim (has q c may) [
+  | inl none ↦ inl none
+  | inr so ↦ inr (so.0, more_allowed course.keeping n n (n + 1) (n + 1) q (omega arith) (omega arith) so.1)
+]
+
+-- ---- cuts that go on
+
+extended_below : (cuts : Cuts) (n : ℕ) (ends : Ends) (e : ℕ) → e ≤ n → extended cuts n ends e ≡ cuts e
+extended_below cuts n ends e le = by (nat_lt n e) refl
+  where
+    by : (b : Bool) → nat_lt n e ≡ b → (if b then ends else cuts e) ≡ cuts e
+    by false other = refl
+    by true less = absurd (let l = ltb-true n e less in omega (arith, l, le))
+
+extended_same : (one other : Cuts) (n : ℕ) (ends : Ends) → AreSameUpTo one other n → AreSameUpTo (extended one n ends) (extended other n ends) (n + 1)
+extended_same one other n ends same e le = by (nat_lt n e) refl
+  where
+    by : (b : Bool) → nat_lt n e ≡ b → (if b then ends else one e) ≡ (if b then ends else other e)
+    by true less = refl
+    by false not_less = same e (elim (cases_lt n e) [ inl less ↦ absurd (let t = sym not_less ∙ lt_true n e less in true≢false (sym t)) | inr most ↦ most ])
+
+-- ---- entries
+
+-- What is so of a state: each content is true to the cuts; or one plan more was tried.
+data IsTrueSo (job : Job) (r : Scope) (disk : History) (cuts : Cuts) (n : ℕ) (ends : Ends) (due : Bool) (k : ℕ) (settled : Bool) : Type 0 where
+  so_far : HasTruth (job.course cuts) n (had_now disk) → IsTrueSo job r disk cuts n ends due k settled
+  so_tried : n ≤ k → settled ≡ true → (is_behind ends r.available || due) ≡ true → HasTruth (job.course (extended cuts n (next_ends r.cap ends r.available))) (n + 1) (had_now disk) → IsTrueSo job r disk cuts n ends due k settled
+
+abbrev IsTrueState : Job → Scope → State → Type 0
+IsTrueState job r s = IsTrueSo job r s.disk s.cuts s.core.front.planned s.core.ends s.core.front.due s.core.front.committed s.core.front.settled
+
+-- what the disk had, or what a call allows
+elapsed_now : (old new : History) (P : Had → Type 0) → Elapses old new P → (had_now new ≡ had_now old) ⊎ P (had_now new)
+elapsed_now old new P step = elim (cases_lt old.moment new.moment) [
+  | inl later ↦ inr (step.fresh new.moment later (omega arith))
+  | inr early ↦ inl (step.kept new.moment early ∙ ap old.had_at (let l = step.later in let e : new.moment ≡ old.moment = omega (arith, l, early) in e))
+]
+
+module _ (job : Job) (r : Scope) (next : Cuts → ℕ → Bool) (terms : Terms job r next) where
+  -- one more true file was published, or not
+  file_tried : (old new : History) (cuts : Cuts) (n : ℕ) (q : Name) → HasTruth (job.course cuts) n (had_now old) → is_allowed (job.course cuts).keeping n n q ≡ true → Tries (publishes q (truth (job.course cuts) q)) old new → HasTruth (job.course cuts) n (had_now new)
+  file_tried old new cuts n q has may step = elim (elapsed_now old new (λ (had : Had). had ≡ added q (truth (job.course cuts) q) (had_now old)) step) [
+    | inl same ↦ subst (HasTruth (job.course cuts) n) (sym same) has
+    | inr is ↦ subst (HasTruth (job.course cuts) n) (sym is) (added_true (job.course cuts) n (had_now old) q has may)
+  ]
+
+  plan_true : (cuts : Cuts) (n : ℕ) (ends : Ends) (had : Had) → HasTruth (job.course cuts) n had → HasTruth (job.course (extended cuts n ends)) (n + 1) had
+  plan_true cuts n ends had has =
+      more_true (job.course (extended cuts n ends)) n had (agree_true (job.course cuts) (job.course (extended cuts n ends)) n had (terms.causal.agrees cuts (extended cuts n ends) n (λ e le. sym (extended_below cuts n ends e le))) has)
+
+  -- a call that failed
+  tried_true : (old new : History) (c : Core) (cuts : Cuts) (e : Entry) → HasTruth (job.course cuts) c.front.planned (had_now old) → May r c e → Tries (change_of job (cuts_by r cuts c e) e) old new
+      → IsTrueSo job r new cuts c.front.planned c.ends c.front.due c.front.committed c.front.settled
+  tried_true old new c cuts (entry.Plan e) has may step =
+      so_tried (ltb-false c.front.committed c.front.planned may.2) may.3 may.4 (file_tried old new (extended cuts c.front.planned (next_ends r.cap c.ends r.available)) (c.front.planned + 1) (name.Plan e) (plan_true cuts c.front.planned (next_ends r.cap c.ends r.available) (had_now old) has)
+      (lt_true e (c.front.planned + 1) (let at = may.1 in omega (arith, at))) step)
+  tried_true old new c cuts (entry.OutFile e) has may step =
+      so_far (file_tried old new cuts c.front.planned (name.Out e) has (lt_true e c.front.planned (let at = may.1 in let l = ltb-true c.front.committed c.front.planned may.2 in omega (arith, at, l))) step)
+  tried_true old new c cuts (entry.Commit e due) has may step =
+      so_far (file_tried old new cuts c.front.planned (name.Commit e) has (lt_true e c.front.planned (let at = may.1 in let l = ltb-true c.front.committed c.front.planned may.2 in omega (arith, at, l))) step)
+  tried_true old new c cuts (entry.Sync clock) has may step = so_far (elim (elapsed_now old new (IsSyncStep (had_now old)) step) [
+    | inl same ↦ subst (HasTruth (job.course cuts) c.front.planned) (sym same) has
+    | inr sync ↦ λ q x is. has q x (sync.fewer q x is)
+  ])
+  tried_true old new c cuts (entry.Claim t) has may step = so_far (subst (λ (h : History). HasTruth (job.course cuts) c.front.planned (had_now h)) (sym step) has)
+  tried_true old new c cuts (entry.Report t f) has may step = so_far (subst (λ (h : History). HasTruth (job.course cuts) c.front.planned (had_now h)) (sym step) has)
+  tried_true old new c cuts (entry.Stop f) has may step = so_far (subst (λ (h : History). HasTruth (job.course cuts) c.front.planned (had_now h)) (sym step) has)
+
+  stop_true : (old new : History) (c : Core) (cuts : Cuts) (change : _) → HasTruth (job.course cuts) c.front.planned (had_now old) → IsTried job r c cuts change → Tries change old new → IsTrueSo job r new cuts c.front.planned c.ends c.front.due c.front.committed c.front.settled
+  stop_true old new c cuts change has (inl none) step =
+      let same : new ≡ old = subst (λ x. Tries x old new) none step in
+      so_far (subst (λ (h : History). HasTruth (job.course cuts) c.front.planned (had_now h)) (sym same) has)
+  stop_true old new c cuts change has (inr tried) step = tried_true old new c cuts tried.0 has tried.1 (subst (λ x. Tries x old new) tried.2 step)
+
+  -- what a running desk shows is true to the cuts
+  running_true : (s : State) (d : Desk) → d.cuts ≡ s.cuts → Shows job r next terms s.core d → s.core.front.stop ≡ None → Sound job (shown s.disk s.core d) → HasTruth (job.course s.cuts) s.core.front.planned (had_now s.disk)
+  running_true s d cuts shows runs sound =
+      subst (λ (n : ℕ). HasTruth (job.course s.cuts) n (had_now s.disk)) shows.planned
+      (subst (λ (k : Cuts). HasTruth (job.course k) d.planned (had_now s.disk)) cuts (sound_true job d (had_now s.disk) (sound_by job s.core.front.stop d (had_now s.disk) runs sound)))
+
+  module _ (tells : Type 0) (t : tells) where
+    -- nothing was done to the disk, nor to the counts
+    still_true : (s n : State) → n.disk ≡ s.disk → n.cuts ≡ s.cuts → n.core.front.planned ≡ s.core.front.planned → n.core.ends ≡ s.core.ends → n.core.front.due ≡ s.core.front.due → n.core.front.committed ≡ s.core.front.committed → n.core.front.settled ≡ s.core.front.settled → IsTrueState job r s → IsTrueState job r n
+    still_true s n disk cuts planned ends due committed settled is =
+        subst (λ (h : History). IsTrueSo job r h n.cuts n.core.front.planned n.core.ends n.core.front.due n.core.front.committed n.core.front.settled) (sym disk)
+        (subst (λ (k : Cuts). IsTrueSo job r s.disk k n.core.front.planned n.core.ends n.core.front.due n.core.front.committed n.core.front.settled) (sym cuts)
+        (subst (λ (m : ℕ). IsTrueSo job r s.disk s.cuts m n.core.ends n.core.front.due n.core.front.committed n.core.front.settled) (sym planned)
+        (subst (λ (l : Ends). IsTrueSo job r s.disk s.cuts s.core.front.planned l n.core.front.due n.core.front.committed n.core.front.settled) (sym ends)
+        (subst (λ (b : Bool). IsTrueSo job r s.disk s.cuts s.core.front.planned s.core.ends b n.core.front.committed n.core.front.settled) (sym due)
+        (subst (λ (m : ℕ). IsTrueSo job r s.disk s.cuts s.core.front.planned s.core.ends s.core.front.due m n.core.front.settled) (sym committed)
+        (subst (λ (b : Bool). IsTrueSo job r s.disk s.cuts s.core.front.planned s.core.ends s.core.front.due s.core.front.committed b) (sym settled) is))))))
+
+    step_true : (e : Entry) (s n : State) (d d' : Desk) → Step tells job r next s e n → d.cuts ≡ s.cuts → Shows job r next terms s.core d → Sound job (shown s.disk s.core d)
+        → d'.cuts ≡ n.cuts → Shows job r next terms n.core d' → Sound job (shown n.disk n.core d') → IsTrueState job r s → IsTrueState job r n
+    step_true (entry.Plan e) s n d d' step cuts shows sound cuts' shows' sound' is = so_far (running_true n d' cuts' shows' (ap (λ (c : Core). c.front.stop) step.core) sound')
+    step_true (entry.OutFile e) s n d d' step cuts shows sound cuts' shows' sound' is = so_far (running_true n d' cuts' shows' (ap (λ (c : Core). c.front.stop) step.core) sound')
+    step_true (entry.Commit e due) s n d d' step cuts shows sound cuts' shows' sound' is = so_far (running_true n d' cuts' shows' (ap (λ (c : Core). c.front.stop) step.core) sound')
+    step_true (entry.Sync clock) s n d d' step cuts shows sound cuts' shows' sound' is = so_far (running_true n d' cuts' shows' (ap (λ (c : Core). c.front.stop) step.core) sound')
+    step_true (entry.Claim u) s n d d' step cuts shows sound cuts' shows' sound' is =
+        still_true s n (step.moves t) step.cuts (ap (λ (c : Core). c.front.planned) step.core) (ap (λ (c : Core). c.ends) step.core) (ap (λ (c : Core). c.front.due) step.core) (ap (λ (c : Core). c.front.committed) step.core) (ap (λ (c : Core). c.front.settled) step.core) is
+    step_true (entry.Report u f) s n d d' step cuts shows sound cuts' shows' sound' is =
+        still_true s n (step.moves t) step.cuts (ap (λ (c : Core). c.front.planned) step.core) (ap (λ (c : Core). c.ends) step.core) (ap (λ (c : Core). c.front.due) step.core) (ap (λ (c : Core). c.front.committed) step.core) (ap (λ (c : Core). c.front.settled) step.core) is
+    step_true (entry.Stop f) s n d d' step cuts shows sound cuts' shows' sound' is =
+        let m = step.moves t in
+        let mid : State = record { disk = n.disk; core = s.core; cuts = s.cuts } in
+        still_true mid n refl step.cuts (ap (λ (c : Core). c.front.planned) step.core) (ap (λ (c : Core). c.ends) step.core) (ap (λ (c : Core). c.front.due) step.core) (ap (λ (c : Core). c.front.committed) step.core) (ap (λ (c : Core). c.front.settled) step.core)
+        (stop_true s.disk n.disk s.core s.cuts m.0 (running_true s d cuts shows step.may.0 sound) m.1 m.2)
+
+    -- and so it is of what entries lead to
+    run_true : (es : List Entry) (s n : State) (d : Desk) → IsSound r s.core → d.cuts ≡ s.cuts → Shows job r next terms s.core d → Sound job (shown s.disk s.core d) → IsTrueState job r s → Leads tells job r next s es n
+        → IsTrueState job r n × (n.cuts n.core.front.planned ≡ n.core.ends)
+    run_true [] s n d core cuts shows sound is l =
+        subst (λ (x : State). IsTrueState job r x × (x.cuts x.core.front.planned ≡ x.core.ends)) l (is, ap (λ (k : Cuts). k s.core.front.planned) (sym cuts) ∙ shows.ends)
+    run_true (e ∷ es) s n d core cuts shows sound is l =
+        let mid = l.0 in
+        let one = list_follows tells job r next terms t (e ∷ []) s mid d core cuts shows (mid, l.1, refl) in
+        let later : Sound job (shown mid.disk mid.core one.0) = (moves_on tells job (events_all r s.core (e ∷ [])) (shown s.disk s.core d) (shown mid.disk mid.core one.0) t terms.causal sound one.1).sound in
+        run_true es mid n one.0 (subst (IsSound r) (sym l.1.core) (step_sound r s.core e l.1.may core)) one.2 one.3 later (step_true e s mid d one.0 l.1 cuts shows sound one.2 one.3 later is) l.2
+
+first_or : (a b : Bool) → (a || b) ≡ true → b ≡ false → a ≡ true
+first_or true b is none = refl
+first_or false b is none = absurd (true≢false (sym is ∙ none))
+
+-- said of other cuts that are the same so far
+files_by : (job : Job) (r : Scope) (next : Cuts → ℕ → Bool) (terms : Terms job r next) (n : State) (cuts : Cuts) → IsTrueState job r n → n.cuts n.core.front.planned ≡ n.core.ends → n.core.front.due ≡ false → AreSameUpTo cuts n.cuts n.core.front.planned
+    → AreFilesOf job r.cap (λ found. found ≡ r.available) ((n.core.front.planned ≤ n.core.front.committed) × (n.core.front.settled ≡ true)) cuts n.core.front.planned n.disk
+files_by job r next terms n cuts (so_far has) ends none same =
+    as_planned (now_true (job.course cuts) n.core.front.planned n.disk
+    (agree_true (job.course n.cuts) (job.course cuts) n.core.front.planned (had_now n.disk) (terms.causal.agrees n.cuts cuts n.core.front.planned (λ e le. sym (same e le))) has))
+files_by job r next terms n cuts (so_tried all settled behind has) ends none same =
+    let k = n.core.front.planned in
+    let here : cuts k ≡ n.core.ends = same k (omega arith) ∙ ends in
+    let to = next_ends r.cap n.core.ends r.available in
+    one_tried (all, settled) r.available refl (ap (λ (l : Ends). is_behind l r.available) here ∙ first_or (is_behind n.core.ends r.available) n.core.front.due behind none)
+    (subst (λ (l : Ends). LeavesNow n.disk (AreTrueTo (job.course (extended cuts k (next_ends r.cap l r.available))) (k + 1))) (sym here)
+    (now_true (job.course (extended cuts k to)) (k + 1) n.disk
+    (agree_true (job.course (extended n.cuts k to)) (job.course (extended cuts k to)) (k + 1) (had_now n.disk)
+    (terms.causal.agrees (extended n.cuts k to) (extended cuts k to) (k + 1) (extended_same n.cuts cuts k to (λ e le. sym (same e le)))) has)))
+
+pub round_leaves_true : (tells : Type 0) → tells → (job : Job) (r : Scope) (next : Cuts → ℕ → Bool) (terms : Terms job r next) (st : Start) (es : List Entry) (s n : State) → Begins job r next terms st s
+    → Leads tells job r next s es n → n.core.front.due ≡ false
+    → (cuts : Cuts) → AreSameUpTo cuts n.cuts n.core.front.planned → AreFilesOf job r.cap (λ found. found ≡ r.available) ((n.core.front.planned ≤ n.core.front.committed) × (n.core.front.settled ≡ true)) cuts n.core.front.planned n.disk
+round_leaves_true tells t job r next terms st es s n b l none cuts same =
+    let here : Shows job r next terms s.core b.desk = subst (λ (x : Core). Shows job r next terms x b.desk) (sym b.core)
+    (shows_first job r next terms st b.files b.desk b.at.committed b.at.begins b.at.from b.is st.is_planned b.at.planned b.at.to b.at.due) in
+    let sound : IsSound r s.core = subst (IsSound r) (sym b.core) (first_sound r st b.at.start) in
+    let sound_first : IsSoundAt job b.desk (had_now s.disk) = subst (λ (h : Had). IsSoundAt job b.desk h) (sym b.settled.is) (open_sound job b.files b.desk b.is) in
+    let begun : Sound job (shown s.disk s.core b.desk) = subst (Sound job) (sym (shown_first r st s.disk s.core b.desk b.core)) sound_first in
+    let first_true : IsTrueState job r s = so_far (subst (λ (m : ℕ). HasTruth (job.course s.cuts) m (had_now s.disk)) here.planned
+    (subst (λ (k : Cuts). HasTruth (job.course k) b.desk.planned (had_now s.disk)) (sym b.cuts) (sound_true job b.desk (had_now s.disk) sound_first))) in
+    let last = run_true job r next terms tells t es s n b.desk sound (sym b.cuts) here begun first_true l in
+    files_by job r next terms n cuts last.0 last.1 none same
