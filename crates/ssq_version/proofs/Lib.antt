@@ -1,0 +1,9 @@
+pub mod Collected
+mod Kept
+pub mod Leading
+mod Listing
+pub mod Once
+mod Prefixes
+pub mod Spelled
+pub mod Values
+pub mod WhatIsNew

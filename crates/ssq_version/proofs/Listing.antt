@@ -1,0 +1,184 @@
+-- Entries one after the other: checked, and copied.
+use Rattle.std.proofs.Common.{◌≡◌, ℕ, suc, ◌^◌, ◌<◌, arith, Option, Some, None, List, [], ◌∷◌, ◌++◌, length, map, refl, sym, ap, subst, ap₂, ◌∙◌, append-nil}
+use Rattle.std.specs.Int.{w32, w64, to_be_bytes}
+use Rattle.std.specs.List.{AllByRecursion}
+use Rattle.std.specs.List.Sorted.{IsStrictlySortedBy}
+use Rattle.std.specs.Map.{keys_of}
+use Rattle.std.specs.Cmp.Lexicographic.{nat_list_cmp_total}
+use Rattle.std.specs.declared.cmp.Ordering.TheVariants.{Less}
+use Rattle.ssq_version.specs.declared.form.Form.{Form}
+use Rattle.ssq_version.specs.State.{State, Change, Ascends, by_bytes}
+use Rattle.ssq_version.specs.Text.{entry_text, entries_text, IsSpelled, IsAbove, AscendFrom, Lists, IsListing, said_of, first_word, file_text, AreEntries, IsFile}
+
+-- ---- in order
+
+-- what is below a key is below all above it
+pub below_all : (k j : List ℕ) (ks : List (List ℕ)) → by_bytes k j ≡ Less → AllByRecursion (λ y. by_bytes j y ≡ Less) ks → AllByRecursion (λ y. by_bytes k y ≡ Less) ks
+below_all k j [] less all = tt
+below_all k j (x ∷ ks) less all = (nat_list_cmp_total.trans k j x less all.0, below_all k j ks less all.1)
+
+above_all : (k : List ℕ) (es : Change) → AscendFrom (Some k) es → AllByRecursion (λ y. by_bytes k y ≡ Less) (keys_of es)
+above_all k [] h = tt
+above_all k (e ∷ es) h = (h.0, below_all k e.0 (keys_of es) h.0 (above_all e.0 es h.1))
+
+pub ascends : (last : Option (List ℕ)) (es : Change) → AscendFrom last es → Ascends es
+unfolding IsStrictlySortedBy
+ascends last [] h = tt
+ascends last (e ∷ es) h = (above_all e.0 es h.1, ascends (Some e.0) es h.1)
+
+ascend_above : (k : List ℕ) (es : Change) → AllByRecursion (λ y. by_bytes k y ≡ Less) (keys_of es) → Ascends es → AscendFrom (Some k) es
+unfolding IsStrictlySortedBy
+ascend_above k [] all h = tt
+ascend_above k (e ∷ es) all h = (all.0, ascend_above e.0 es h.0 h.1)
+
+pub ascend_first : (es : Change) → Ascends es → AscendFrom None es
+unfolding IsStrictlySortedBy
+ascend_first [] h = tt
+ascend_first (e ∷ es) h = (tt, ascend_above e.0 es h.0 h.1)
+
+-- ---- checked
+
+pub more_listed : (form : Form) (last : Option (List ℕ)) (n m : ℕ) (text : List ℕ) (key : List ℕ) (value : Option (List ℕ)) (rest : List ℕ) → n ≡ suc m
+    → text ≡ entry_text form (key, value) ++ rest → IsSpelled form (key, value) → IsAbove last key → IsListing form (Some key) m rest → IsListing form last n text
+unfolding entries_text
+more_listed form last n m text key value rest count is spelled above listed = (
+  (key, value) ∷ listed.0,
+  record {
+    bytes = is ∙ ap (λ (r : List ℕ). entry_text form (key, value) ++ r) listed.1.bytes;
+    many = ap suc listed.1.many ∙ sym count;
+    ascend = (above, listed.1.ascend);
+    spelled = (spelled, listed.1.spelled);
+  },
+)
+
+-- what is found in front is the first entry
+abbrev pub FindsFirst : Form → Option (List ℕ) → List ℕ → List ℕ → Option (List ℕ) → List ℕ → Type 0
+FindsFirst form last text key value rest = (k : List ℕ) (v : Option (List ℕ)) (r : List ℕ) → IsSpelled form (k, v) → IsAbove last k → text ≡ entry_text form (k, v) ++ r → (key ≡ k) × (value ≡ v) × (rest ≡ r)
+
+pub less_listed : (form : Form) (last : Option (List ℕ)) (n m : ℕ) (text : List ℕ) (key : List ℕ) (value : Option (List ℕ)) (rest : List ℕ) → n ≡ suc m
+    → FindsFirst form last text key value rest → IsListing form last n text → IsListing form (Some key) m rest
+unfolding entries_text
+less_listed form last n m text key value rest count finds listed = go listed.0 listed.1
+  where
+    go : (es : Change) → Lists form last n text es → IsListing form (Some key) m rest
+    go [] lists = let e : 0 ≡ suc m = lists.many ∙ count in absurd (omega (arith, e))
+    go (e ∷ es) lists =
+        let same = finds e.0 e.1 (entries_text form es) lists.spelled.0 lists.ascend.0 lists.bytes in
+        let many : suc (length es) ≡ suc m = lists.many ∙ count in (
+          es,
+          record {
+            bytes = same.2;
+            many = omega (arith, many);
+            ascend = subst (λ (k : List ℕ). AscendFrom (Some k) es) (sym same.0) lists.ascend.1;
+            spelled = lists.spelled.1;
+          },
+        )
+
+pub none_listed : (form : Form) (last : Option (List ℕ)) (n m : ℕ) (text : List ℕ) → n ≡ suc m
+    → ((k : List ℕ) (v : Option (List ℕ)) (r : List ℕ) → IsSpelled form (k, v) → IsAbove last k → text ≡ entry_text form (k, v) ++ r → ⊥) → IsListing form last n text → ⊥
+unfolding entries_text
+none_listed form last n m text count none listed = go listed.0 listed.1
+  where
+    go : (es : Change) → Lists form last n text es → ⊥
+    go [] lists = let e : 0 ≡ suc m = lists.many ∙ count in absurd (omega (arith, e))
+    go (e ∷ es) lists = none e.0 e.1 (entries_text form es) lists.spelled.0 lists.ascend.0 lists.bytes
+
+pub all_listed : (form : Form) (last : Option (List ℕ)) (n : ℕ) (text : List ℕ) → n ≡ 0 → length text ≡ 0 → IsListing form last n text
+unfolding entries_text
+all_listed form last n [] count none = ([], record { bytes = refl; many = sym count; ascend = tt; spelled = tt })
+all_listed form last n (x ∷ text) count none = absurd (omega (arith, none))
+
+pub listed_all : (form : Form) (last : Option (List ℕ)) (n : ℕ) (text : List ℕ) → n ≡ 0 → IsListing form last n text → length text ≡ 0
+unfolding entries_text
+listed_all form last n text count listed = go listed.0 listed.1
+  where
+    go : (es : Change) → Lists form last n text es → length text ≡ 0
+    go [] lists = ap length lists.bytes
+    go (e ∷ es) lists = let many : suc (length es) ≡ 0 = lists.many ∙ count in absurd (omega (arith, many))
+
+-- ---- copied
+
+-- what is said of a key that has this
+abbrev pub told : {X : Type 0} → (X → Option (List ℕ)) → List (List ℕ × X) → Change
+told said made = map (λ e. (e.0, said e.1)) made
+
+-- what is left of the entries: with those that were copied they are all
+pub record IsLeft {X : Type 0} (form : Form) (said : X → Option (List ℕ)) (entries : Change) (made : List (List ℕ × X)) (rest : List ℕ) : Type 0 where
+  pub left : Change
+  pub whole : told said made ++ left ≡ entries
+  pub bytes : rest ≡ entries_text form left
+  pub spelled : AllByRecursion (IsSpelled form) left
+
+pub left_starts : {X : Type 0} (form : Form) (said : X → Option (List ℕ)) (entries : Change) (made : List (List ℕ × X)) (text : List ℕ) → made ≡ [] → AllByRecursion (IsSpelled form) entries → text ≡ entries_text form entries → IsLeft form said entries made text
+left_starts {X} form said entries made text none spelled is = record { left = entries; whole = ap (λ (es : List (List ℕ × X)). told said es ++ entries) none; bytes = is; spelled = spelled }
+
+told-push : {X : Type 0} (said : X → Option (List ℕ)) (made : List (List ℕ × X)) (e : List ℕ × X) (left : Change) → told said (made ++ e ∷ []) ++ left ≡ told said made ++ (e.0, said e.1) ∷ left
+told-push said [] e left = refl
+told-push said (x ∷ made) e left = ap (λ (es : Change). (x.0, said x.1) ∷ es) (told-push said made e left)
+
+pub left_pushed : {X : Type 0} (form : Form) (said : X → Option (List ℕ)) (entries : Change) (made pushed : List (List ℕ × X)) (rest : List ℕ) (key : List ℕ) (x : X) (behind : List ℕ)
+    → pushed ≡ made ++ (key, x) ∷ [] → length behind < length rest
+    → ((k : List ℕ) (v : Option (List ℕ)) (r : List ℕ) → IsSpelled form (k, v) → rest ≡ entry_text form (k, v) ++ r → (key ≡ k) × (said x ≡ v) × (behind ≡ r))
+    → IsLeft form said entries made rest → IsLeft form said entries pushed behind
+unfolding entries_text
+left_pushed {X} form said entries made pushed rest key x behind new shorter finds is = go is.left is.whole is.bytes is.spelled
+  where
+    go : (left : Change) → told said made ++ left ≡ entries → rest ≡ entries_text form left → AllByRecursion (IsSpelled form) left → IsLeft form said entries pushed behind
+    go [] whole bytes spelled = let none : length rest ≡ 0 = ap length bytes in absurd (omega (arith, none, shorter))
+    go (e ∷ left) whole bytes spelled =
+        let same = finds e.0 e.1 (entries_text form left) spelled.0 bytes in
+        record {
+          left = left;
+          whole = ap (λ (es : List (List ℕ × X)). told said es ++ left) new ∙ told-push said made (key, x) left
+              ∙ ap (λ (k : List ℕ). told said made ++ (k, said x) ∷ left) same.0
+              ∙ ap (λ (v : Option (List ℕ)). told said made ++ (e.0, v) ∷ left) same.1 ∙ whole;
+          bytes = same.2;
+          spelled = spelled.1;
+        }
+
+pub left_ends : {X : Type 0} (form : Form) (said : X → Option (List ℕ)) (entries : Change) (made : List (List ℕ × X)) (rest : List ℕ)
+    → ((k : List ℕ) (v : Option (List ℕ)) (r : List ℕ) → IsSpelled form (k, v) → rest ≡ entry_text form (k, v) ++ r → ⊥)
+    → IsLeft form said entries made rest → told said made ≡ entries
+unfolding entries_text
+left_ends form said entries made rest none is = go is.left is.whole is.bytes is.spelled
+  where
+    go : (left : Change) → told said made ++ left ≡ entries → rest ≡ entries_text form left → AllByRecursion (IsSpelled form) left → told said made ≡ entries
+    go [] whole bytes spelled = sym (append-nil (told said made)) ∙ whole
+    go (e ∷ left) whole bytes spelled = absurd (none e.0 e.1 (entries_text form left) spelled.0 bytes)
+
+pub told_same : (made : Change) → told (λ v. v) made ≡ made
+told_same [] = refl
+told_same (e ∷ made) = ap (λ (es : Change). e ∷ es) (told_same made)
+
+pub said_once : (made state : State) → told Some made ≡ said_of state → made ≡ state
+said_once [] [] is = refl
+said_once [] (e ∷ state) is = cc
+said_once (e ∷ made) [] is = cc
+said_once (e ∷ made) (f ∷ state) is =
+    let same : (e.0, Some e.1) ∷ told Some made ≡ (f.0, Some f.1) ∷ said_of state = is in
+    let head : ◌≡◌ {A = List ℕ × Option (List ℕ)} (e.0, Some e.1) (f.0, Some f.1) = cc in
+    let key : e.0 ≡ f.0 = ap (λ p. p.0) head in
+    let both : Some e.1 ≡ Some f.1 = ap (λ p. p.1) head in
+    let value : e.1 ≡ f.1 = cc in
+    let rest : told Some made ≡ said_of state = cc in
+    let first : e ≡ f = λ i. (key i, value i) in
+    ap₂ (λ (x : List ℕ × List ℕ) (es : State). x ∷ es) first (said_once made state rest)
+
+-- ---- a file
+
+-- behind the same bytes in front stands the same
+pub same_behind : (xs ys zs : List ℕ) → xs ++ ys ≡ xs ++ zs → ys ≡ zs
+same_behind [] ys zs e = e
+same_behind (x ∷ xs) ys zs e = let same : xs ++ ys ≡ xs ++ zs = cc in same_behind xs ys zs same
+
+pub file_found : (form : Form) (text : List ℕ) (partition version count : ℕ) (bytes : List ℕ) → count < 2 ^ 64
+    → text ≡ first_word form ++ (to_be_bytes w32 partition ++ (to_be_bytes w32 version ++ (to_be_bytes w64 count ++ bytes)))
+    → IsListing form None count bytes → IsFile form text partition version count bytes
+file_found form text partition version count bytes few is listed =
+    let whole : text ≡ file_text form partition version listed.0 =
+    is ∙ ap₂ (λ (n : ℕ) (r : List ℕ). first_word form ++ (to_be_bytes w32 partition ++ (to_be_bytes w32 version ++ (to_be_bytes w64 n ++ r)))) (sym listed.1.many) listed.1.bytes in
+    (listed.0, record { ascend = ascends None listed.0 listed.1.ascend; spelled = listed.1.spelled; few = subst (λ (n : ℕ). n < 2 ^ 64) (sym listed.1.many) few }, whole, listed.1.many, listed.1.bytes)
+
+pub file_listed : (form : Form) (entries : Change) (count : ℕ) (bytes : List ℕ) → AreEntries form entries → count ≡ length entries → bytes ≡ entries_text form entries → IsListing form None count bytes
+file_listed form entries count bytes are many is =
+    (entries, record { bytes = is; many = sym many; ascend = ascend_first entries are.ascend; spelled = are.spelled })

@@ -1,0 +1,112 @@
+//! What a version changes.
+
+ghost use Rattle.std.specs.Prelude.{◌≡◌, ◌==◌, ◌<◌, ◌^◌, [], length, None, Some, OnOk, OnErr, IsSome, option_copied};
+ghost use Rattle.std.specs.BTreeMap.{insert_entry};
+ghost use Rattle.ssq_version.specs.State.{by_bytes, value_at, IsToldAt, IsChange, IsShort, IsShortOrNone};
+
+use ssq_field::Bytes;
+use std::alloc::{AllocError, Global};
+use std::collections::BTreeMap;
+use std::collections::btree_map::Iter;
+use std::marker::Model;
+
+/// What a version changes in the state of a partition: for each key in it the new value, or none where the key goes. Contracts see the
+/// list of keys with these, in the order of the keys' bytes. A key and a value have fewer than 2^32 bytes each.
+#[derive(Debug, Drop)]
+pub struct Change(pub(crate) BTreeMap<Bytes, Option<Bytes>>);
+
+impl Model for Change {
+    ghost use Rattle.ssq_version.specs.State.{Change as Told, IsChange};
+
+    ghost Value = { Told };
+
+    ghost view = { λ change. change.0.entries };
+
+    ghost invariant = { λ change. IsChange change.0.entries };
+}
+
+impl Change {
+    /// A change of nothing.
+    pub fn new(alloc: Global) -> Change
+        ensures { result ≡ [] }
+    {
+        Change(BTreeMap::new(alloc))
+    }
+
+    /// Says that the key has this value from now on, in place of what was said of it. After an `Err` the change is as before.
+    pub fn put(&mut self, key: Bytes, value: Bytes) -> Result<(), AllocError>
+        requires key { IsShort key }
+        requires value { IsShort value }
+        ensures ok { OnOk result (self.new ≡ insert_entry by_bytes self.old key (Some value)) }
+        ensures told { OnOk result (IsToldAt key (Some value) self.old self.new) }
+        ensures err { OnErr result (self.new ≡ self.old) }
+    {
+        self.say(key, Some(value))
+    }
+
+    /// Says that the key goes, in place of what was said of it. After an `Err` the change is as before.
+    pub fn remove(&mut self, key: Bytes) -> Result<(), AllocError>
+        requires { IsShort key }
+        ensures ok { OnOk result (self.new ≡ insert_entry by_bytes self.old key None) }
+        ensures told { OnOk result (IsToldAt key None self.old self.new) }
+        ensures err { OnErr result (self.new ≡ self.old) }
+    {
+        self.say(key, None)
+    }
+
+    fn say(&mut self, key: Bytes, value: Option<Bytes>) -> Result<(), AllocError>
+        requires key { IsShort key }
+        requires value { IsShortOrNone value }
+        ensures ok { OnOk result (self.new ≡ insert_entry by_bytes self.old key value) }
+        ensures told { OnOk result (IsToldAt key value self.old self.new) }
+        ensures err { OnErr result (self.new ≡ self.old) }
+    {
+        self.0.insert(key, value)?;
+        Ok(())
+    }
+
+    /// What it says of a key: its new value, or none where the key goes.
+    pub fn get(&self, key: &Bytes) -> Option<&Option<Bytes>>
+        ensures { option_copied result ≡ value_at self.now key.now }
+    {
+        self.0.get(key)
+    }
+
+    /// The keys with what it says of them, in order.
+    pub fn iter(&self) -> Iter<'_, Bytes, Option<Bytes>>
+        ensures { result ≡ self.now }
+    {
+        self.0.iter()
+    }
+
+    /// How many keys it speaks of.
+    pub fn len(&self) -> usize
+        ensures len { result ≡ length self.now }
+        ensures kept { IsChange self.now }
+    {
+        self.0.len()
+    }
+
+    pub fn is_empty(&self) -> bool
+        ensures { result ≡ (length self.now == 0) }
+    {
+        self.0.len() == 0
+    }
+}
+
+/// A copy in memory of its own.
+impl Clone for Change {
+    ghost is_clone = { λ old new. new ≡ old };
+
+    fn clone(&self) -> Result<Change, AllocError> {
+        Ok(Change(self.0.clone()?))
+    }
+}
+
+/// The law of changes: their keys ascend, and keys and values are short.
+pub fn changes_are_kept(change: &Change)
+    ensures kept { IsChange change.now }
+    ensures few { length change.now < 2 ^ 64 }
+{
+    let _count = change.len();
+}

@@ -1,0 +1,25 @@
+//! The state of a partition and its versions: what a partition keeps, what a version changes of it, and the bytes of both.
+#![tactic(auto)]
+
+mod applied;
+mod change;
+mod delta;
+mod entries;
+mod entry;
+mod file;
+mod form;
+mod law;
+mod news;
+mod snapshot;
+mod state;
+
+pub use applied::{apply, apply_owned};
+pub use change::{Change, changes_are_kept};
+pub use delta::{read_delta, write_delta};
+pub use entry::{Entry, entry_and_rest};
+pub use file::{StateFile, read_file};
+pub use form::Form;
+pub use law::{beginnings_stand_together, files_are_apart, states_have_a_change, versions_are_one};
+pub use news::{are_news, write_news};
+pub use snapshot::{read_snapshot, write_snapshot};
+pub use state::{StateMap, begins_with, states_are_kept};

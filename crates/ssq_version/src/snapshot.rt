@@ -1,0 +1,82 @@
+//! The file of a whole state.
+
+ghost use Rattle.std.specs.Prelude.{◌≡◌, ◌<◌, ◌++◌, ◌^◌, ℕ, List, Some, None, length, IfOk, IfSome, OnOk};
+ghost use Rattle.std.specs.List.{AllByRecursion};
+ghost use Rattle.ssq_version.specs.State.{State as Kept, IsState};
+ghost use Rattle.ssq_version.specs.Text.{snapshot_text, entries_text, IsSpelled, IsFile, said_of};
+ghost use Rattle.ssq_version.specs.declared.form.Form.TheVariants.{Snapshot};
+
+use crate::entries::{kept_entries, map_of};
+use crate::entry::put_kept;
+use crate::file::{StateFile, begin, read_file};
+use crate::form::Form;
+use crate::state::StateMap;
+use ssq_field::Bytes;
+use std::alloc::{AllocError, Global};
+
+/// Appends the entries of a state.
+fn put_state(out: &mut Bytes, state: &StateMap) -> Result<(), AllocError>
+    ensures { OnOk result (out.new ≡ out.old ++ entries_text Snapshot (said_of state.now)) }
+{
+    for (key, value) in state.0.iter() {
+        put_kept(out, key, value)?;
+    }
+    Ok(())
+}
+
+/// How many bytes the file of a state takes, so that it grows but once.
+fn room(state: &StateMap) -> usize {
+    let mut room: usize = 24;
+    for (key, value) in state.0.iter() {
+        room = room
+            .saturating_add(8)
+            .saturating_add(key.len())
+            .saturating_add(value.len());
+    }
+    room
+}
+
+/// The file of the whole state of a partition at a version.
+pub fn write_snapshot(
+    alloc: Global,
+    partition: u32,
+    version: u32,
+    state: &StateMap,
+) -> Result<Bytes, AllocError>
+    ensures { IfOk result (λ text. text ≡ snapshot_text partition version state.now) }
+{
+    let mut out = begin(
+        alloc,
+        Form::Snapshot,
+        partition,
+        version,
+        state.len() as u64,
+        room(state),
+    )?;
+    put_state(&mut out, state)?;
+    Ok(out)
+}
+
+/// The state in a file that was read.
+fn state_in(alloc: Global, file: StateFile<'_>) -> Result<StateMap, AllocError>
+    requires { (text : List ℕ) × IsFile Snapshot text file.partition file.version file.count file.entries.now }
+    ensures { (state : Kept) → file.entry.entries.now ≡ entries_text Snapshot (said_of state) → AllByRecursion (IsSpelled Snapshot) (said_of state) → IfOk result (λ made. made ≡ state) }
+{
+    let entries = kept_entries(alloc, file.entries)?;
+    Ok(StateMap(map_of(alloc, entries)?))
+}
+
+/// The partition, the version and the state whose file these bytes are. `None` where they are no state's.
+pub fn read_snapshot(alloc: Global, text: &[u8]) -> Result<Option<(u32, u32, StateMap)>, AllocError>
+    ensures found { IfOk result (λ read. IfSome read (λ kept. text.now ≡ snapshot_text kept.0 kept.1 kept.2)) }
+    ensures in_range { IfOk result (λ read. IfSome read (λ kept. (kept.0 < 2 ^ 32) × (kept.1 < 2 ^ 32) × IsState kept.2)) }
+    // So `None` comes only where no state of a partition and a version has this file.
+    ensures each { (partition version : ℕ) (state : Kept) → partition < 2 ^ 32 → version < 2 ^ 32 → IsState state → length state < 2 ^ 64 →
+        text.now ≡ snapshot_text partition version state → IfOk result (λ read. read ≡ Some (partition, version, state)) }
+{
+    let Some(file) = read_file(Form::Snapshot, text) else {
+        return Ok(None);
+    };
+    let state = state_in(alloc, file)?;
+    Ok(Some((file.partition, file.version, state)))
+}
