@@ -1,0 +1,4 @@
+pub mod Taking
+pub mod Dueing
+pub mod Stepping
+pub mod Steady

@@ -1,0 +1,5 @@
+pub mod Fits
+pub mod Groups
+pub mod Closed
+pub mod Shown
+pub mod Steps

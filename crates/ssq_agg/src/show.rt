@@ -1,0 +1,104 @@
+//! What a group shows.
+
+ghost use Rattle.std.specs.Prelude.{◌≡◌, pos, IfOk};
+ghost use Rattle.ssq_expr.specs.Answers.{Answers, itself};
+ghost use Rattle.ssq_grouped.specs.Totals.{fitting, value_of, values_of_totals};
+ghost use Rattle.ssq_grouped.specs.Group.{group_items, passes_having, group_row};
+
+use ssq_expr::{EvalFault, eval_group};
+use ssq_grouped::Total;
+use ssq_shape::{Bound, Grouping, Output, Typed};
+use ssq_value::{Row, Value};
+use std::alloc::{AllocError, Global};
+
+fn fitting_count(count: u64) -> Option<Value>
+    ensures { result ≡ fitting (pos count) }
+{
+    match i64::try_from(count) {
+        Ok(number) => Some(Value::Int(number)),
+        Err(_) => None,
+    }
+}
+
+fn fitting_sum(sum: i128) -> Option<Value>
+    ensures { result ≡ fitting sum }
+{
+    match i64::try_from(sum) {
+        Ok(number) => Some(Value::Int(number)),
+        Err(_) => None,
+    }
+}
+
+/// The value that an aggregate has; there is none of a number outside 64 bits.
+fn value_of(total: &Total) -> Result<Option<Value>, AllocError>
+    ensures { IfOk result (λ value. value ≡ value_of total.now) }
+{
+    match total {
+        Total::Count(count) => Ok(fitting_count(*count)),
+        Total::Sum { count: 0, .. } => Ok(Some(Value::Null)),
+        Total::Sum { sum, .. } => Ok(fitting_sum(*sum)),
+        Total::Least(value) | Total::Greatest(value) => Ok(Some(value.clone()?)),
+    }
+}
+
+fn values_of(alloc: Global, totals: &[Total]) -> Result<Vec<Option<Value>>, AllocError>
+    ensures { IfOk result (λ values. values.items ≡ values_of_totals totals.now) }
+{
+    let mut values = Vec::with_capacity(alloc, totals.len())?;
+    for total in totals {
+        values.push(value_of(total)?)?;
+    }
+    Ok(values)
+}
+
+/// Whether HAVING is TRUE on a group; without HAVING each group passes.
+fn passes(
+    alloc: Global,
+    having: &Option<Typed>,
+    key: &[Value],
+    aggregates: &[Option<Value>],
+) -> Result<bool, EvalFault>
+    ensures { Answers itself result (passes_having having.now key.now aggregates.now) }
+{
+    let Some(condition) = having else {
+        return Ok(true);
+    };
+    let value = eval_group(alloc, condition, key, aggregates)?;
+    Ok(matches!(value, Value::Truth(true)))
+}
+
+#[tactic(auto, unfolding(ssq_grouped::specs::Group::group_items))]
+fn items_of(
+    alloc: Global,
+    outputs: &[Output],
+    key: &[Value],
+    aggregates: &[Option<Value>],
+) -> Result<Vec<Value>, EvalFault>
+    ensures { Answers (λ values. values.items) result (group_items outputs.now key.now aggregates.now) }
+{
+    let mut values = Vec::with_capacity(alloc, outputs.len())?;
+    for output in outputs {
+        let value = eval_group(alloc, &output.value, key, aggregates)?;
+        values.push(value).map_err(AllocError::from)?;
+    }
+    Ok(values)
+}
+
+/// The row that a group shows: none where HAVING is not TRUE on it.
+#[tactic(auto, unfolding(ssq_grouped::specs::Group::group_row))]
+pub(crate) fn show(
+    alloc: Global,
+    bound: &Bound,
+    grouping: &Grouping,
+    key: &[Value],
+    totals: &[Total],
+) -> Result<Option<Row>, EvalFault>
+    ensures { Answers itself result (group_row bound.now grouping.now key.now totals.now) }
+{
+    let aggregates = values_of(alloc, totals)?;
+    if !passes(alloc, &grouping.having, key, aggregates.as_slice())? {
+        return Ok(None);
+    }
+    let items = items_of(alloc, bound.outputs.as_slice(), key, aggregates.as_slice())?;
+    Ok(Some(Row::from_vec(items)))
+}

@@ -1,0 +1,60 @@
+//! The totals of a group.
+
+ghost use Rattle.std.specs.Prelude.{◌≡◌, [], IfOk, OnOk};
+ghost use Rattle.ssq_grouped.specs.Totals.{totals_of, with_row};
+ghost use Rattle.ssq_agg.specs.Fits.{AllFit};
+
+use crate::total::{add_row, nothing};
+use ssq_grouped::Total;
+use ssq_shape::Aggregate;
+use ssq_value::Value;
+use std::alloc::{AllocError, Global};
+use std::marker::Model;
+
+/// The totals of a group, in the order of the query's aggregates. Contracts see the list of these.
+#[derive(Debug, Drop)]
+pub struct Totals(Vec<Total>);
+
+impl Model for Totals {
+    ghost use Rattle.std.specs.Prelude.{List};
+    ghost use Rattle.ssq_grouped.specs.declared.total.Total.{Total as Sum};
+
+    ghost Value = { List Sum };
+
+    ghost view = { λ totals. totals.0.items };
+}
+
+impl Totals {
+    /// Takes the totals over, without a copy.
+    pub fn from_vec(totals: Vec<Total>) -> Totals
+        ensures { result ≡ totals.items }
+    {
+        Totals(totals)
+    }
+
+    /// The totals of no row.
+    pub fn of_nothing(alloc: Global, aggregates: &[Aggregate]) -> Result<Totals, AllocError>
+        ensures { IfOk result (λ totals. totals ≡ totals_of aggregates.now []) }
+    {
+        Ok(Totals(nothing(alloc, aggregates)?))
+    }
+
+    pub fn as_slice(&self) -> &[Total]
+        ensures { result.now ≡ self.now }
+    {
+        self.0.as_slice()
+    }
+
+    /// Takes one more row of the group, where the types of the totals hold what comes out. After an `Err` they are of no use.
+    pub fn add_row(&mut self, row: &[Value]) -> Result<(), AllocError>
+        ensures { AllFit (with_row self.old row.now) → OnOk result (self.new ≡ with_row self.old row.now) }
+    {
+        add_all(&mut self.0, row)
+    }
+}
+
+fn add_all(totals: &mut Vec<Total>, row: &[Value]) -> Result<(), AllocError>
+    ensures { AllFit (with_row totals.old.items row.now) → OnOk result (totals.new.items ≡ with_row totals.old.items row.now) }
+{
+    add_row(totals.as_mut_slice(), row)
+}

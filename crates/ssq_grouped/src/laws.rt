@@ -1,0 +1,50 @@
+//! Laws of epochs, of each query.
+
+ghost use Rattle.std.specs.Prelude.{◌≡◌, ◌+◌, ◌<◌, ◌≤◌, ℕ, List, [], ◌∷◌, None};
+ghost use Rattle.std.specs.List.Sorted.{IsPermutation};
+ghost use Rattle.ssq_shape.specs.declared.bound.Bound.{Bound as Query};
+ghost use Rattle.ssq_shape.specs.declared.bound.Shape.TheVariants as shape;
+ghost use Rattle.ssq_grouped.specs.Parts.{Part};
+ghost use Rattle.ssq_grouped.specs.Cut.{Cuts, AreCuts, AreSameTo};
+ghost use Rattle.ssq_grouped.specs.Times.{AtMost};
+ghost use Rattle.ssq_grouped.specs.Epochs.{accepted, bucket, key_fault, on_time, seen, watermark, watermark_before};
+ghost use Rattle.ssq_grouped.specs.Operator.{operator_of};
+ghost use Rattle.ssq_grouped.specs.Laws.{SaysSame, outs, batch};
+
+/// The law of cuts: what is said of the first n epochs, and the watermark of the next, hang on where these epochs end, and on nothing
+/// that comes later.
+pub fn epochs_hang_on_their_cuts()
+    ensures { (query : Query) (parts : List Part) (one other : Cuts) (n : ℕ) → AreSameTo one other n →
+        SaysSame query parts one other n }
+{}
+
+/// The law of watermarks: they never fall, from none to a time included.
+pub fn watermarks_never_fall()
+    ensures { (query : Query) (parts : List Part) (cuts : Cuts) (e f : ℕ) → e ≤ f →
+        AtMost (watermark query parts cuts e) (watermark query parts cuts f) }
+{}
+
+/// The law of epochs without lines: they leave the greatest times as they were, and so the watermark of the epoch after them.
+pub fn epochs_without_lines_are_quiet()
+    ensures seen { (query : Query) (parts : List Part) (cuts : Cuts) (e : ℕ) → cuts (e + 1) ≡ cuts e → (stream : ℕ) →
+        seen query parts cuts stream (e + 1) ≡ seen query parts cuts stream e }
+    ensures watermark { (query : Query) (parts : List Part) (cuts : Cuts) (e : ℕ) → cuts (e + 1) ≡ cuts e →
+        watermark query parts cuts (e + 1) ≡ watermark query parts cuts e }
+{}
+
+/// The law of a query that keeps nothing: the rows of the first epochs, one after the other, are those of the batch query on the
+/// lines that these epochs cover, however they were cut. With one part they also come in the same order.
+pub fn rows_add_up()
+    ensures bag { (query : Query) (parts : List Part) (cuts : Cuts) (n : ℕ) → query.shape ≡ shape.Plain → AreCuts parts cuts n →
+        IsPermutation (outs query parts cuts n) (batch query parts (cuts n)) }
+    ensures list { (query : Query) (part : Part) (cuts : Cuts) (n : ℕ) → query.shape ≡ shape.Plain → AreCuts (part ∷ []) cuts n →
+        outs query (part ∷ []) cuts n ≡ batch query (part ∷ []) (cuts n) }
+{}
+
+/// The law of keys that overflow, of a query of any shape: where no partition has one in an epoch, the epoch has none.
+pub fn keys_overflow_in_their_partitions()
+    ensures { (query : Query) (parts : List Part) (cuts : Cuts) (e partitions : ℕ) → 1 ≤ partitions →
+        ((p : ℕ) → p < partitions → (operator_of query).fault (bucket partitions p (accepted query parts cuts e)) (bucket partitions p (on_time query parts cuts e))
+        (watermark_before query parts cuts e) (watermark query parts cuts e) ≡ None) →
+        key_fault query parts cuts e ≡ None }
+{}
