@@ -1,11 +1,10 @@
-//! Each row is a query, a log, the files of a checkpoint and the words, with the output, the status and the files that have to come
-//! of them.
+//! Each row is a query, the logs of its parts, the files of a checkpoint and the words, with the output, the status and the files that have
+//! to come of them.
 
 use ssq_fakes::{FailAt, MemDisk, MemInputs, MemLog, MemOut, OpenGate};
 use ssq_files::{FolderDisk, FolderInputs};
-use ssq_outside::{Disk, DiskError, Name};
+use ssq_outside::{Disk, DiskError, Name, Stage};
 use ssq_run::{Ended, stream_main};
-use ssq_settle::settle;
 use std::alloc::{AllocError, Global};
 use std::sync::Wait;
 use std::test::Fail;
@@ -14,11 +13,12 @@ use std::{env, fs, process};
 
 type Files = &'static [(Name, &'static [u8])];
 
+#[derive(Clone, Copy)]
 struct Row {
     words: &'static [&'static str],
     query: &'static [u8],
     before: Files,
-    log: &'static [u8],
+    parts: &'static [&'static [u8]],
     out: &'static [u8],
     status: u8,
     after: Files,
@@ -97,6 +97,71 @@ const MORE: Files = &[
     META, PLAN_0, PLAN_1, PLAN_2, COMMIT_0, COMMIT_1, COMMIT_2, OUT_0, OUT_1, OUT_2,
 ];
 
+const META_UPDATE: (Name, &[u8]) = (
+    Name::Meta,
+    b"v1\npartitions 1\nparts 0 1\nquery 104\nCREATE STREAM s (id BIGINT, v BIGINT) FROM 's'; SELECT id, v + 1 AS w FROM s WHERE v > 10 OUTPUT UPDATE;\nend\n",
+);
+
+const META_NONE: (Name, &[u8]) = (
+    Name::Meta,
+    b"v1\npartitions 1\nparts 0 0\nquery 104\nCREATE STREAM s (id BIGINT, v BIGINT) FROM 's'; SELECT id, v + 1 AS w FROM s WHERE v > 10 OUTPUT APPEND;\nend\n",
+);
+
+const TIMED: &[u8] =
+    b"CREATE STREAM s (id BIGINT, ts TIMESTAMP) FROM 's' WATERMARK FOR ts DELAY '10 minutes';\nSELECT id FROM s OUTPUT APPEND;\n";
+
+const TIMES: &[&[u8]] = &[
+    b"{\"id\":1,\"ts\":\"2024-01-01T12:03:00Z\"}\n{\"id\":4,\"ts\":\"2024-01-01T12:20:00Z\"}\n",
+    b"{\"id\":2,\"ts\":\"2024-01-01T12:16:00Z\"}\n",
+    b"{\"id\":3,\"ts\":\"2024-01-01T12:02:00Z\"}\n",
+];
+
+const TIMED_FILES: Files = &[
+    (
+        Name::Meta,
+        b"v1\npartitions 1\nparts 0 3\nquery 119\nCREATE STREAM s (id BIGINT, ts TIMESTAMP) FROM 's' WATERMARK FOR ts DELAY '10 minutes'; SELECT id FROM s OUTPUT APPEND;\nend\n",
+    ),
+    (
+        Name::Plan(0),
+        b"v1\nplan 0\nwatermark none\npart 0 0 1\npart 0 1 1\npart 0 2 1\nend\n",
+    ),
+    (
+        Name::Plan(1),
+        b"v1\nplan 1\nwatermark 2024-01-01T12:06:00Z\npart 0 0 2\npart 0 1 1\npart 0 2 1\nend\n",
+    ),
+    (
+        Name::Commit(0),
+        b"v1\ncommit 0\nseen 0 2024-01-01T12:16:00Z\nend\n",
+    ),
+    (
+        Name::Commit(1),
+        b"v1\ncommit 1\nseen 0 2024-01-01T12:20:00Z\nend\n",
+    ),
+    (Name::Out(0), b"{\"id\":1}\n{\"id\":2}\n{\"id\":3}\n"),
+    (Name::Out(1), b"{\"id\":4}\n"),
+];
+
+const QA: &[u8] =
+    b"CREATE STREAM s (ts TIMESTAMP) FROM 's' WATERMARK FOR ts DELAY '10 minutes'; SELECT window_start, COUNT(*) AS n FROM s GROUP BY WINDOW(ts, '5 minutes') OUTPUT APPEND;";
+
+const BY_ONE: &[&str] = &["ssq", "run", "q.sql", "--max-lines", "1"];
+
+const OVERFLOWS: &[u8] =
+    b"{\"id\":1,\"v\":11}\n{\"id\":2,\"v\":12}\n{\"id\":3,\"v\":9223372036854775807}\n";
+
+const TORN_ROW: &[u8] =
+    b"{\"id\":1,\"v\":1}\n{\"id\":2,\"v\":1}\n{\"id\":3,\"v\":1}\n{\"id\":4,\"v\":1}\n{\"id\":5,\"v\":1}\n{\n";
+
+const META_TWO: (Name, &[u8]) = (
+    Name::Meta,
+    b"v1\npartitions 1\nparts 0 2\nquery 104\nCREATE STREAM s (id BIGINT, v BIGINT) FROM 's'; SELECT id, v + 1 AS w FROM s WHERE v > 10 OUTPUT APPEND;\nend\n",
+);
+
+const PLAN_TWO: (Name, &[u8]) = (
+    Name::Plan(0),
+    b"v1\nplan 0\nwatermark none\npart 0 0 3\npart 0 1 6\nend\n",
+);
+
 /// The files of one short epoch.
 const SHORT: Files = &[META, SHORT_0, COMMIT_0, OUT_0];
 
@@ -105,12 +170,12 @@ const TOLD: &[u8] =
 
 const FAULT: &[u8] = b"stopped 7 DiskFault\n";
 
-static WORKED: [Row; 8] = [
+static WORKED: [Row; 13] = [
     Row {
         words: BY_TWO,
         query: FILTER,
         before: &[],
-        log: THREE,
+        parts: &[THREE],
         out: TOLD,
         status: 0,
         after: DONE,
@@ -120,7 +185,7 @@ static WORKED: [Row; 8] = [
         words: &["ssq", "run", "q.sql", "--max-lines", "2", "--rounds", "2"],
         query: FILTER,
         before: &[],
-        log: THREE,
+        parts: &[THREE],
         out: TOLD,
         status: 0,
         after: DONE,
@@ -130,7 +195,7 @@ static WORKED: [Row; 8] = [
         words: RUN,
         query: FILTER,
         before: &[],
-        log: b"",
+        parts: &[b""],
         out: b"done epochs 0\n",
         status: 0,
         after: &[META],
@@ -140,7 +205,7 @@ static WORKED: [Row; 8] = [
         words: RUN,
         query: FILTER,
         before: &[],
-        log: ONE_AND_TORN,
+        parts: &[ONE_AND_TORN],
         out: b"epoch 0 lines 1 watermark none rows 1\ndone epochs 1\n",
         status: 0,
         after: SHORT,
@@ -149,7 +214,7 @@ static WORKED: [Row; 8] = [
         words: RUN,
         query: FILTER,
         before: SHORT,
-        log: TWO_WHOLE,
+        parts: &[TWO_WHOLE],
         out: b"epoch 1 lines 1 watermark none rows 1\ndone epochs 2\n",
         status: 0,
         after: &[META, SHORT_0, SHORT_1, COMMIT_0, COMMIT_1, OUT_0, OUT_1],
@@ -159,7 +224,7 @@ static WORKED: [Row; 8] = [
         words: RUN,
         query: FILTER,
         before: HALF,
-        log: FOUR,
+        parts: &[FOUR],
         out: b"epoch 1 lines 1 watermark none rows 1\nepoch 2 lines 1 watermark none rows 1\ndone epochs 3\n",
         status: 0,
         after: MORE,
@@ -168,7 +233,7 @@ static WORKED: [Row; 8] = [
         words: STATUS,
         query: FILTER,
         before: DONE,
-        log: b"",
+        parts: &[b""],
         out: b"partitions 1\nplanned 2\ncommitted 2\nwatermark none\npart 0 0 3\n",
         status: 0,
         after: DONE,
@@ -177,20 +242,76 @@ static WORKED: [Row; 8] = [
         words: STATUS,
         query: FILTER,
         before: &[],
-        log: THREE,
+        parts: &[THREE],
         out: b"no checkpoint\n",
+        status: 0,
+        after: &[],
+    },
+    // A query that keeps nothing shows the same rows in Update.
+    Row {
+        words: BY_TWO,
+        query: b"CREATE STREAM s (id BIGINT, v BIGINT) FROM 's';\nSELECT id, v + 1 AS w FROM s WHERE v > 10 OUTPUT UPDATE;\n",
+        before: &[],
+        parts: &[THREE],
+        out: TOLD,
+        status: 0,
+        after: &[
+            META_UPDATE,
+            PLAN_0,
+            PLAN_1,
+            COMMIT_0,
+            COMMIT_1,
+            OUT_0,
+            OUT_1,
+        ],
+    },
+    // No part is there.
+    Row {
+        words: RUN,
+        query: FILTER,
+        before: &[],
+        parts: &[],
+        out: b"done epochs 0\n",
+        status: 0,
+        after: &[META_NONE],
+    },
+    // Three parts with a watermark: each epoch takes at most one line of each, and the watermark of the second is that of the first's times.
+    Row {
+        words: BY_ONE,
+        query: TIMED,
+        before: &[],
+        parts: TIMES,
+        out: b"epoch 0 lines 3 watermark none rows 3\nepoch 1 lines 1 watermark 2024-01-01T12:06:00Z rows 1\ndone epochs 2\n",
+        status: 0,
+        after: TIMED_FILES,
+    },
+    Row {
+        words: STATUS,
+        query: TIMED,
+        before: TIMED_FILES,
+        parts: &[],
+        out: b"partitions 1\nplanned 2\ncommitted 2\nwatermark 2024-01-01T12:06:00Z\npart 0 0 2\npart 0 1 1\npart 0 2 1\n",
+        status: 0,
+        after: TIMED_FILES,
+    },
+    Row {
+        words: &["ssq", "explain", "q.sql"],
+        query: QA,
+        before: &[],
+        parts: &[],
+        out: b"CREATE STREAM s (ts TIMESTAMP) FROM 's' WATERMARK FOR ts DELAY '10 minutes'; SELECT window_start, COUNT(*) AS n FROM s GROUP BY WINDOW(ts, '5 minutes') OUTPUT APPEND;\nshape Group mode Append late window_end closes yes\n",
         status: 0,
         after: &[],
     },
 ];
 
-static REFUSED: [Row; 7] = [
+static REFUSED: [Row; 11] = [
     // Blanks are no row, other fields are ignored, and the first bad line stops its epoch.
     Row {
         words: BY_TWO,
         query: FILTER,
         before: &[],
-        log: b"  \n{\"id\":1,\"v\":11,\"x\":[1.5]}\n{\"id\":\"7\",\"v\":1}\n",
+        parts: &[b"  \n{\"id\":1,\"v\":11,\"x\":[1.5]}\n{\"id\":\"7\",\"v\":1}\n"],
         out: b"epoch 0 lines 2 watermark none rows 1\nstopped 4 BadLine s 0 2 WrongType id\n",
         status: 4,
         after: &[META, PLAN_0, PLAN_1, COMMIT_0, OUT_0],
@@ -199,7 +320,7 @@ static REFUSED: [Row; 7] = [
         words: RUN,
         query: FILTER,
         before: &[],
-        log: b"{\"id\":3,\"v\":9223372036854775807}\n",
+        parts: &[b"{\"id\":3,\"v\":9223372036854775807}\n"],
         out: b"stopped 5 Overflow s 0 0\n",
         status: 5,
         after: &[META, SHORT_0],
@@ -208,7 +329,7 @@ static REFUSED: [Row; 7] = [
         words: RUN,
         query: b"CREATE STREAM s (id BIGINT, v BIGINT) FROM 's';\nSELECT id, v + 1 AS w FROM s WHERE v > 11 OUTPUT APPEND;\n",
         before: DONE,
-        log: THREE,
+        parts: &[THREE],
         out: b"stopped 9 OtherQuery CREATE STREAM s (id BIGINT, v BIGINT) FROM 's'; SELECT id, v + 1 AS w FROM s WHERE v > 10 OUTPUT APPEND;\n",
         status: 9,
         after: DONE,
@@ -217,7 +338,7 @@ static REFUSED: [Row; 7] = [
         words: RUN,
         query: FILTER,
         before: DONE,
-        log: TWO,
+        parts: &[TWO],
         out: b"stopped 9 LogShort s 0 3 2\n",
         status: 9,
         after: DONE,
@@ -226,7 +347,7 @@ static REFUSED: [Row; 7] = [
         words: &["ssq", "walk", "q.sql"],
         query: FILTER,
         before: &[],
-        log: b"",
+        parts: &[b""],
         out: b"stopped 2 Usage\n",
         status: 2,
         after: &[],
@@ -235,7 +356,7 @@ static REFUSED: [Row; 7] = [
         words: &["ssq", "run", "q.sql", "--max-lines", "0"],
         query: FILTER,
         before: &[],
-        log: b"",
+        parts: &[b""],
         out: b"stopped 2 Usage\n",
         status: 2,
         after: &[],
@@ -244,10 +365,48 @@ static REFUSED: [Row; 7] = [
         words: RUN,
         query: b"SELECT id FROM s OUTPUT APPEND;",
         before: &[],
-        log: b"",
-        out: b"stopped 3 NotYet Query\n",
+        parts: &[b""],
+        out: b"stopped 3 UnknownName at 7\n",
         status: 3,
         after: &[],
+    },
+    // Another number of partitions than is kept, and a part more.
+    Row {
+        words: &["ssq", "run", "q.sql", "--partitions", "4"],
+        query: FILTER,
+        before: DONE,
+        parts: &[THREE],
+        out: b"stopped 9 OtherPartitions 1 4\n",
+        status: 9,
+        after: DONE,
+    },
+    Row {
+        words: RUN,
+        query: FILTER,
+        before: DONE,
+        parts: &[THREE, b""],
+        out: b"stopped 9 OtherParts s 1 2\n",
+        status: 9,
+        after: DONE,
+    },
+    // Of two parts with a fault each, the one of the first part is told, and told again by a further run.
+    Row {
+        words: RUN,
+        query: FILTER,
+        before: &[],
+        parts: &[OVERFLOWS, TORN_ROW],
+        out: b"stopped 5 Overflow s 0 2\n",
+        status: 5,
+        after: &[META_TWO, PLAN_TWO],
+    },
+    Row {
+        words: RUN,
+        query: FILTER,
+        before: &[META_TWO, PLAN_TWO],
+        parts: &[OVERFLOWS, TORN_ROW],
+        out: b"stopped 5 Overflow s 0 2\n",
+        status: 5,
+        after: &[META_TWO, PLAN_TWO],
     },
 ];
 
@@ -264,38 +423,66 @@ fn words_of(alloc: Global, words: &[&str]) -> Result<Vec<String>, AllocError> {
     Ok(all)
 }
 
-fn disk_of(alloc: Global, files: &[(Name, &[u8])]) -> Result<MemDisk, DiskError> {
+/// A disk on which these files are settled.
+fn disk_of(alloc: Global, files: Files) -> Result<MemDisk, DiskError> {
     let mut disk = MemDisk::new(alloc);
     for (name, bytes) in files {
-        settle(alloc, &mut disk, *name, bytes)?;
+        let mut stage = disk.stage(alloc)?;
+        stage.write(bytes)?;
+        let Ok(sealed) = stage.sync() else {
+            return Err(DiskError::Fault);
+        };
+        disk.publish(sealed, *name)?;
     }
+    disk.sync_names()?;
     Ok(disk)
 }
 
+/// The query's file, and a log for each part.
+fn inputs_of(alloc: Global, query: &[u8], parts: &[&[u8]]) -> Result<MemInputs, AllocError> {
+    let mut inputs = MemInputs::new(alloc).with_text(alloc, "q.sql", query)?;
+    for lines in parts {
+        inputs = inputs.with_part(alloc, "s", MemLog::torn(alloc, lines)?)?;
+    }
+    Ok(inputs)
+}
+
+/// Runs the words of a row.
 fn run<R: Threads + Wait + Sync>(
     rt: &R,
     alloc: Global,
     row: &Row,
     disk: MemDisk,
-    log: MemLog,
+    inputs: MemInputs,
     out: MemOut,
 ) -> Result<Over, AllocError> {
     let words = words_of(alloc, row.words)?;
-    let inputs = MemInputs::new(alloc)
-        .with_text(alloc, "q.sql", row.query)?
-        .with_part(alloc, "s", log)?;
     Ok(stream_main(rt, alloc, words.as_slice(), disk, inputs, out, &OpenGate))
 }
 
-/// Runs a row over a disk, with a log and an output that never fail.
+/// Runs a row over a disk, with logs and an output that never fail.
 fn run_on<R: Threads + Wait + Sync>(
     rt: &R,
     alloc: Global,
     row: &Row,
     disk: MemDisk,
 ) -> Result<Over, AllocError> {
-    let log = MemLog::torn(alloc, row.log)?;
-    run(rt, alloc, row, disk, log, MemOut::new(alloc))
+    let inputs = inputs_of(alloc, row.query, row.parts)?;
+    run(rt, alloc, row, disk, inputs, MemOut::new(alloc))
+}
+
+/// Runs a row over an empty disk and one log, which may fail.
+fn run_log<R: Threads + Wait + Sync>(
+    rt: &R,
+    alloc: Global,
+    row: &Row,
+    log: MemLog,
+    out: MemOut,
+) -> Result<Over, AllocError> {
+    let inputs = MemInputs::new(alloc)
+        .with_text(alloc, "q.sql", row.query)?
+        .with_part(alloc, "s", log)?;
+    run(rt, alloc, row, MemDisk::new(alloc), inputs, out)
 }
 
 /// Whether the disk has exactly these files.
@@ -312,6 +499,14 @@ fn holds<D: Disk>(alloc: Global, disk: &mut D, files: &[(Name, &[u8])]) -> bool 
         all = all && read && *name == *found;
     }
     all
+}
+
+/// Whether the disk has this file.
+fn has<D: Disk>(alloc: Global, disk: &mut D, file: (Name, &[u8])) -> bool {
+    match disk.read(alloc, file.0) {
+        Ok(Some(read)) => read.as_slice() == file.1,
+        _ => false,
+    }
 }
 
 /// Whether a run of the row over the disk ends as the row says.
@@ -350,6 +545,128 @@ fn refusals_are_told(rt: HostRuntime) -> Result<(), Fail> {
     Ok(())
 }
 
+/// The lines that tell why queries are not run, for each rule of modes and for what is not run yet.
+static UNRUN: [(&[u8], &[u8]); 12] = [
+    (
+        b"CREATE STREAM s (ts TIMESTAMP) FROM 's'; SELECT window_start, COUNT(*) AS n FROM s GROUP BY WINDOW(ts, '5 minutes') OUTPUT APPEND;",
+        b"stopped 3 AppendNeedsWatermark\n",
+    ),
+    (
+        b"CREATE STREAM s (id BIGINT, v BIGINT) FROM 's'; SELECT id, v + 1 AS w FROM s WHERE v > 10 OUTPUT COMPLETE;",
+        b"stopped 3 CompleteNeedsAggregate\n",
+    ),
+    (
+        b"CREATE STREAM l (id BIGINT, t TIMESTAMP) FROM 'l' WATERMARK FOR t DELAY '10 minutes'; CREATE STREAM r (id BIGINT, t TIMESTAMP) FROM 'r' WATERMARK FOR t DELAY '10 minutes'; SELECT l.id, l.t AS lt, r.t AS rt FROM l JOIN r ON l.id = r.id AND r.t BETWEEN l.t AND l.t + INTERVAL '1 hour' OUTPUT UPDATE;",
+        b"stopped 3 JoinNeedsAppend\n",
+    ),
+    (
+        b"CREATE STREAM l (id BIGINT, t TIMESTAMP) FROM 'l' WATERMARK FOR t DELAY '10 minutes'; CREATE STREAM r (id BIGINT, t TIMESTAMP) FROM 'r' WATERMARK FOR t DELAY '10 minutes'; SELECT l.id, r.t AS rt FROM l LEFT JOIN r ON l.id = r.id OUTPUT APPEND;",
+        b"stopped 3 OuterNeedsBound\n",
+    ),
+    (
+        b"CREATE STREAM l (id BIGINT, t TIMESTAMP) FROM 'l' WATERMARK FOR t DELAY '10 minutes'; CREATE STREAM r (id BIGINT, t TIMESTAMP) FROM 'r'; SELECT l.id, l.t AS lt, r.t AS rt FROM l JOIN r ON l.id = r.id AND r.t BETWEEN l.t AND l.t + INTERVAL '1 hour' OUTPUT APPEND;",
+        b"stopped 3 BoundNeedsWatermark\n",
+    ),
+    (
+        b"CREATE STREAM s (k STRING) FROM 's'; SELECT k, COUNT(*) AS n FROM s GROUP BY k ORDER BY n DESC OUTPUT UPDATE;",
+        b"stopped 3 SortNeedsComplete\n",
+    ),
+    (
+        b"CREATE STREAM s (k STRING, v BIGINT) FROM 's'; SELECT k, SUM(v) AS t FROM s WHERE v > 0 GROUP BY k HAVING SUM(v) > 1 OUTPUT UPDATE;",
+        b"stopped 3 HavingInUpdate\n",
+    ),
+    (
+        b"CREATE STREAM s (k STRING, v BIGINT) FROM 's'; SELECT SUM(v) AS t FROM s WHERE v > 0 GROUP BY k OUTPUT UPDATE;",
+        b"stopped 3 KeyNotShown\n",
+    ),
+    (
+        b"CREATE STREAM s (id BIGINT) FROM 's';\nSELECT id FROM s LIMIT 3 OUTPUT APPEND;",
+        b"stopped 3 Limit at 55\n",
+    ),
+    (
+        b"CREATE STREAM s (id BIGINT) FROM 's';\nSELECT DISTINCT id FROM s OUTPUT APPEND;",
+        b"stopped 3 Distinct at 45\n",
+    ),
+    (QA, b"stopped 3 NotYet Group\n"),
+    (b"", b"stopped 3 Expected at 0\n"),
+];
+
+#[test]
+fn queries_are_not_run(rt: HostRuntime) -> Result<(), Fail> {
+    let alloc = rt.alloc();
+    for (query, line) in &UNRUN {
+        let row = Row {
+            words: RUN,
+            query: *query,
+            before: &[],
+            parts: &[],
+            out: *line,
+            status: 3,
+            after: &[],
+        };
+        assert!(rt; ends_so(&rt, alloc, &row, MemDisk::new(alloc))?);
+    }
+    Ok(())
+}
+
+/// A part with too many lines, and a stream with too many parts.
+#[test]
+fn limits_are_told(rt: HostRuntime) -> Result<(), Fail> {
+    let alloc = rt.alloc();
+    let row = &WORKED[2];
+    let log = MemLog::repeat(alloc, b"{}", 1_099_511_627_777)?;
+    let over = run_log(&rt, alloc, row, log, MemOut::new(alloc))?;
+    assert_eq!(rt; over.status, 11);
+    assert_eq!(rt;
+        over.out.bytes(),
+        b"stopped 11 Full lines s 0 1099511627777\n".as_slice()
+    );
+
+    let mut inputs = MemInputs::new(alloc).with_text(alloc, "q.sql", FILTER)?;
+    for _ in 0..65 {
+        inputs = inputs.with_part(alloc, "s", MemLog::torn(alloc, b"")?)?;
+    }
+    let over = run(
+        &rt,
+        alloc,
+        row,
+        MemDisk::new(alloc),
+        inputs,
+        MemOut::new(alloc),
+    )?;
+    assert_eq!(rt; over.status, 11);
+    assert_eq!(rt;
+        over.out.bytes(),
+        b"stopped 11 Full parts s 65\n".as_slice()
+    );
+    Ok(())
+}
+
+/// Of 64 parts one has lines.
+#[test]
+fn one_of_many_parts_grows(rt: HostRuntime) -> Result<(), Fail> {
+    let alloc = rt.alloc();
+    let row = &WORKED[0];
+    let mut inputs = MemInputs::new(alloc).with_text(alloc, "q.sql", FILTER)?;
+    for part in 0..64 {
+        let lines = if part == 40 { THREE } else { b"".as_slice() };
+        inputs = inputs.with_part(alloc, "s", MemLog::torn(alloc, lines)?)?;
+    }
+    let over = run(
+        &rt,
+        alloc,
+        row,
+        MemDisk::new(alloc),
+        inputs,
+        MemOut::new(alloc),
+    )?;
+    assert_eq!(rt; over.status, 0);
+    assert_eq!(rt; over.out.bytes(), TOLD);
+    let mut disk = over.disk;
+    assert!(rt; has(alloc, &mut disk, OUT_0) && has(alloc, &mut disk, OUT_1));
+    Ok(())
+}
+
 /// The output fails, and then the log.
 #[test]
 fn faults_have_their_status(rt: HostRuntime) -> Result<(), Fail> {
@@ -364,28 +681,21 @@ fn faults_have_their_status(rt: HostRuntime) -> Result<(), Fail> {
         mut disk,
         inputs: _,
         out,
-    } = run(&rt, alloc, row, MemDisk::new(alloc), log, out)?;
+    } = run_log(&rt, alloc, row, log, out)?;
     assert_eq!(rt; status, 8);
     assert_eq!(rt; out.bytes(), b"stopped 8 OutFault\n".as_slice());
     assert!(rt; holds(alloc, &mut disk, DONE));
     let over = run_on(&rt, alloc, row, disk)?;
     assert_eq!(rt; over.out.bytes(), b"done epochs 2\n".as_slice());
 
-    // The log fails at the first line that is read: the epoch is planned and no more.
+    // The log fails at a line that is read: the epoch is planned and no more.
     let log = MemLog::torn(alloc, THREE)?.failing(vec![in alloc; 2]?);
     let Ended {
         status,
         mut disk,
         inputs: _,
         out,
-    } = run(
-        &rt,
-        alloc,
-        row,
-        MemDisk::new(alloc),
-        log,
-        MemOut::new(alloc),
-    )?;
+    } = run_log(&rt, alloc, row, log, MemOut::new(alloc))?;
     assert_eq!(rt; status, 6);
     assert_eq!(rt; out.bytes(), b"stopped 6 LogFault\n".as_slice());
     assert!(rt; holds(alloc, &mut disk, &[META, PLAN_0]));
@@ -439,7 +749,7 @@ fn stopped_and_crashed<R: Threads + Wait + Sync>(
     Ok(Some(disk.crash_at(alloc, u64::MAX, image)?))
 }
 
-/// Of the first row the sync of the second epoch's rows fails, and then twice the first sync of a run, each time with a crash.
+/// Of the first row the second epoch's rows are not published, and then twice the first sync of a run fails, each time with a crash.
 #[test]
 fn twice_the_first_sync_fails(rt: HostRuntime) -> Result<(), Fail> {
     let alloc = rt.alloc();

@@ -1,6 +1,5 @@
-pub mod Passing
 pub mod Telling
 pub mod PartLines
-pub mod LookLemmas
+pub mod Passing
 pub mod Going
-pub mod Complete
+pub mod Looking

@@ -1,154 +1,267 @@
 -- What is passed on to the call above.
-use Rattle.std.proofs.Common.{◌≡◌, ◌≢◌, ◌≤◌, ◌∙◌, ℕ, List, [], Option, Some, None, Result, Ok, Err, refl, sym, ap, subst, inl, inr, arith, min}
-use Rattle.std.specs.Prelude.{OnOk, IfErr, IsSome}
-use Rattle.ssq_outside.specs.History.{History, files_now}
+use Rattle.std.proofs.Common.{◌≡◌, ◌≤◌, ◌∙◌, ℕ, List, [], ◌∷◌, Option, Some, None, Result, Ok, Err, refl, sym, ap, subst, inl, inr, arith}
+use Rattle.std.specs.Prelude.{IfOk, IfErr, IsSome}
+use Rattle.ssq_outside.specs.Faults.{Rises}
+use Rattle.ssq_outside.specs.Files.{Files}
+use Rattle.ssq_outside.specs.History.{History, LeavesNow, LeavesOnly}
 use Rattle.ssq_outside.specs.Logs.{Held, Line}
-use Rattle.ssq_outside.specs.declared.inputs.InputError.{InputError}
-use Rattle.ssq_outside.specs.declared.inputs.InputError.TheVariants as input
-use Rattle.ssq_query.specs.declared.query.Query.{Query as Asking}
-use Rattle.ssq_query.specs.Binding.{bound_of}
+use Rattle.ssq_outside.proofs.Steps.{begins, files_are_image}
 use Rattle.ssq_shape.specs.declared.bound.Bound.{Bound}
-use Rattle.ssq_words.specs.Asking.{Asked, asks_run, asks_status, asked}
-use Rattle.ssq_round.specs.Standing.{IsJobOf}
-use Rattle.ssq_job.specs.declared.fault.JobFault.{JobFault}
-use Rattle.ssq_job.specs.Ending.{JobEnd}
-use Rattle.ssq_job.specs.Entry.{Entry, Reads, AlwaysStands}
-use Rattle.ssq_job.specs.Faults.{IsNoRefusal}
+use Rattle.ssq_shape.specs.declared.bound.Stream.{Stream}
+use Rattle.ssq_board.specs.declared.front.Cause.{Cause}
+use Rattle.ssq_board.specs.declared.front.Cause.TheVariants as cause
+use Rattle.ssq_logs.specs.declared.fault.PartsFault.TheVariants as parts
+use Rattle.ssq_logs.specs.declared.fault.LengthFault.{LengthFault}
+use Rattle.ssq_logs.specs.declared.fault.LengthFault.TheVariants as lengths
+use Rattle.ssq_logs.specs.Opened.{Part, IsLogOf, AreLogsOf}
+use Rattle.ssq_open.specs.declared.fault.OpenFault.TheVariants as opening
+use Rattle.ssq_runner.specs.declared.ask.Ask.{Ask}
+use Rattle.ssq_runner.specs.declared.fault.RunFault.{RunFault}
+use Rattle.ssq_runner.specs.declared.fault.RunFault.TheVariants as run
+use Rattle.ssq_runner.specs.Sources as source
+use Rattle.ssq_runner.specs.Sources.{RunOver, unparted, over}
+use Rattle.ssq_bind.specs.Explained.{explained}
+use Rattle.ssq_words.specs.declared.error.AskError.{AskError}
+use Rattle.ssq_words.specs.declared.error.AskError.TheVariants as words
+use Rattle.ssq_words.specs.Asking.{Asked, asks_explain, asked, IsCause}
+use Rattle.ssq_accept.specs.declared.refusal.Refusal.{Refusal}
+use Rattle.ssq_accept.specs.declared.refusal.Refusal.TheVariants as refusal
 use Rattle.ssq_run.specs.declared.stop.Stop.{Stop}
-use Rattle.ssq_run.specs.declared.stop.Stop.TheVariants.{Usage, Query, LogFault, OtherParts, NoMemory}
-use Rattle.ssq_run.specs.Queries.{IsQueryAt, stream_of, source_of, job_of}
-use Rattle.ssq_run.specs.Stopping.{stop_of_input, stop_of_end, ReadCause, WordsCause, IsPastWords, LogRises}
+use Rattle.ssq_run.specs.declared.stop.Stop.TheVariants.{Usage, Refused, LogFault, DiskFault, OutFault, NoMemory}
+use Rattle.ssq_run.specs.Queries.{IsQueryFor, IsRefusedFor}
+use Rattle.ssq_run.specs.Stopping.{stop_in, stop_of_ask, stop_of_refusal, stop_of_end, IsToldAs, IsUnread, WordsCause, IsPastWords, HasCount}
 use Rattle.ssq_run.specs.Looked.{LookEnd}
-use Rattle.ssq_run.specs.Program.{Given, IsIdle, IsOutside, GoesOn, SourceEnd, unstarted, not_one_part, ran, file_of, ProgramEnd, no_file, no_query, query_run, looked}
+use Rattle.ssq_run.specs.Program.{Given, Went, IsUntouched, IsIdle, went_of, ask_of, HasObeyed, has_run, has_explained, has_looked, ran_out, ProgramEnd, unread, no_command, no_file, refused, obeyed}
 
--- nothing was done
-pub idle : (start : History) (old told : List ℕ) → told ≡ [] → IsIdle start start old old told
-idle start old told none = record { still = refl; unwritten = refl; untold = none }
+-- what is not touched leaves what it might have left
+pub still_leaves : (h : History) (P : Files → Type 0) → LeavesNow h P → LeavesOnly h h P
+still_leaves h P now = (begins P P P h now (λ f p. p) (now.each _ (files_are_image _))).since
 
-pub input_outside : (error : InputError) → IsOutside (Some (stop_of_input error))
-input_outside input.Fault = inl refl
-input_outside input.NoMemory = inr refl
+-- a run's fault has its count
+pub run_counts : (streams : List Stream) (counts : List ℕ) (d0 d1 i0 i1 o0 o1 : ℕ) (end : Result (Unit {0}) RunFault) → source.HasCount d0 d1 i0 i1 o0 o1 end → HasCount i0 i1 d0 d1 o0 o1 (stop_of_end streams counts end)
+run_counts streams counts d0 d1 i0 i1 o0 o1 (Ok done) is = tt
+run_counts streams counts d0 d1 i0 i1 o0 o1 (Err (run.Parts (parts.Full stream))) is = tt
+run_counts streams counts d0 d1 i0 i1 o0 o1 (Err (run.Parts parts.LogFault)) is = is
+run_counts streams counts d0 d1 i0 i1 o0 o1 (Err (run.Parts parts.NoMemory)) is = tt
+run_counts streams counts d0 d1 i0 i1 o0 o1 (Err (run.Lines (lengths.Full number lines))) is = tt
+run_counts streams counts d0 d1 i0 i1 o0 o1 (Err (run.Lines lengths.LogFault)) is = is
+run_counts streams counts d0 d1 i0 i1 o0 o1 (Err (run.Lines lengths.NoMemory)) is = tt
+run_counts streams counts d0 d1 i0 i1 o0 o1 (Err (run.Open (opening.OtherQuery kept))) is = tt
+run_counts streams counts d0 d1 i0 i1 o0 o1 (Err (run.Open (opening.OtherPartitions kept wanted))) is = tt
+run_counts streams counts d0 d1 i0 i1 o0 o1 (Err (run.Open (opening.OtherParts stream kept found))) is = tt
+run_counts streams counts d0 d1 i0 i1 o0 o1 (Err (run.Open (opening.LogShort stream part logged found))) is = tt
+run_counts streams counts d0 d1 i0 i1 o0 o1 (Err (run.Open (opening.Damaged name))) is = tt
+run_counts streams counts d0 d1 i0 i1 o0 o1 (Err (run.Open opening.DiskFault)) is = is
+run_counts streams counts d0 d1 i0 i1 o0 o1 (Err (run.Open opening.NoMemory)) is = tt
+run_counts streams counts d0 d1 i0 i1 o0 o1 (Err (run.Round (cause.BadLine stream part offset fault))) is = tt
+run_counts streams counts d0 d1 i0 i1 o0 o1 (Err (run.Round (cause.Overflow stream part offset))) is = tt
+run_counts streams counts d0 d1 i0 i1 o0 o1 (Err (run.Round cause.LogFault)) is = is
+run_counts streams counts d0 d1 i0 i1 o0 o1 (Err (run.Round (cause.LogShort stream part logged found))) is = tt
+run_counts streams counts d0 d1 i0 i1 o0 o1 (Err (run.Round (cause.Damaged name))) is = tt
+run_counts streams counts d0 d1 i0 i1 o0 o1 (Err (run.Round cause.DiskFault)) is = is
+run_counts streams counts d0 d1 i0 i1 o0 o1 (Err (run.Round cause.Full)) is = tt
+run_counts streams counts d0 d1 i0 i1 o0 o1 (Err (run.Round cause.NoMemory)) is = tt
+run_counts streams counts d0 d1 i0 i1 o0 o1 (Err run.OutFault) is = is
+run_counts streams counts d0 d1 i0 i1 o0 o1 (Err run.NoMemory) is = tt
 
--- the fault of a result, if it is one
-abbrev pub fault_in : {T : Type 0} → Result T JobFault → Option JobFault
-fault_in (Ok done) = None
-fault_in (Err fault) = Some fault
+-- and is no fault of the words
+pub run_past : (streams : List Stream) (counts : List ℕ) (end : Result (Unit {0}) RunFault) → IsPastWords (stop_of_end streams counts end)
+run_past streams counts (Ok done) = tt
+run_past streams counts (Err (run.Parts (parts.Full stream))) = tt
+run_past streams counts (Err (run.Parts parts.LogFault)) = tt
+run_past streams counts (Err (run.Parts parts.NoMemory)) = tt
+run_past streams counts (Err (run.Lines (lengths.Full number lines))) = tt
+run_past streams counts (Err (run.Lines lengths.LogFault)) = tt
+run_past streams counts (Err (run.Lines lengths.NoMemory)) = tt
+run_past streams counts (Err (run.Open (opening.OtherQuery kept))) = tt
+run_past streams counts (Err (run.Open (opening.OtherPartitions kept wanted))) = tt
+run_past streams counts (Err (run.Open (opening.OtherParts stream kept found))) = tt
+run_past streams counts (Err (run.Open (opening.LogShort stream part logged found))) = tt
+run_past streams counts (Err (run.Open (opening.Damaged name))) = tt
+run_past streams counts (Err (run.Open opening.DiskFault)) = tt
+run_past streams counts (Err (run.Open opening.NoMemory)) = tt
+run_past streams counts (Err (run.Round (cause.BadLine stream part offset fault))) = tt
+run_past streams counts (Err (run.Round (cause.Overflow stream part offset))) = tt
+run_past streams counts (Err (run.Round cause.LogFault)) = tt
+run_past streams counts (Err (run.Round (cause.LogShort stream part logged found))) = tt
+run_past streams counts (Err (run.Round (cause.Damaged name))) = tt
+run_past streams counts (Err (run.Round cause.DiskFault)) = tt
+run_past streams counts (Err (run.Round cause.Full)) = tt
+run_past streams counts (Err (run.Round cause.NoMemory)) = tt
+run_past streams counts (Err run.OutFault) = tt
+run_past streams counts (Err run.NoMemory) = tt
 
--- what holds where a job is done, and where it stopped, holds of how it ended
-pub ended : {T : Type 0} (P : Option JobFault → Type 0) (r : Result T JobFault) → OnOk r (P None) → IfErr r (λ fault. P (Some fault)) → P (fault_in r)
-ended P (Ok done) ok err = ok
-ended P (Err fault) ok err = err
+-- where the lines were not counted the parts are those of the streams, and else they are of no account
+pub told_of : (streams : List Stream) (counts parts_are : List ℕ) (end : Result (Unit {0}) RunFault) → ((why : LengthFault) → end ≡ Err (run.Lines why) → counts ≡ parts_are) → stop_of_end streams counts end ≡ stop_of_end streams parts_are end
+told_of streams counts parts_are (Ok done) same = refl
+told_of streams counts parts_are (Err (run.Lines why)) same = ap (λ c. stop_of_end streams c (Err (run.Lines why))) (same why refl)
+told_of streams counts parts_are (Err (run.Parts why)) same = refl
+told_of streams counts parts_are (Err (run.Open why)) same = refl
+told_of streams counts parts_are (Err (run.Round why)) same = refl
+told_of streams counts parts_are (Err run.OutFault) same = refl
+told_of streams counts parts_are (Err run.NoMemory) same = refl
 
-pub went_on : {T : Type 0} (r : Result T JobFault) → IfErr r IsNoRefusal → GoesOn (fault_in r)
-went_on (Ok done) is = tt
-went_on (Err fault) is = is
+-- what is told of a run, or want of memory, has its count, and is no fault of the words
+pub told_counts : (streams : List Stream) (counts : List ℕ) (d0 d1 i0 i1 o0 o1 : ℕ) (end : Result (Unit {0}) RunFault) (stop : Option Stop) → source.HasCount d0 d1 i0 i1 o0 o1 end → IsToldAs stop (stop_of_end streams counts end) → HasCount i0 i1 d0 d1 o0 o1 stop
+told_counts streams counts d0 d1 i0 i1 o0 o1 end stop is (inl same) = let C : Option Stop → Type 0 = HasCount i0 i1 d0 d1 o0 o1 in subst C (sym same) (run_counts streams counts d0 d1 i0 i1 o0 o1 end is)
+told_counts streams counts d0 d1 i0 i1 o0 o1 end stop is (inr memory) = let C : Option Stop → Type 0 = HasCount i0 i1 d0 d1 o0 o1 in subst C (sym memory) tt
 
--- it was the query over the lines of its log
-pub is_job : (query : Asking) (bound : Bound) (held mid : Held) (source : List ℕ) (lines : List Line) → bound ≡ bound_of query → source ≡ source_of query → mid ≡ held → lines ≡ mid.lines source 0
-    → IsJobOf (job_of query (held.lines (source_of query) 0)) bound lines
-is_job query bound held mid source lines so named same read =
-    record { same_query = sym so; same_lines = ap (λ s. held.lines s 0) (sym named) ∙ ap (λ (h : Held). h.lines source 0) (sym same) ∙ sym read }
+pub told_past : (streams : List Stream) (counts : List ℕ) (end : Result (Unit {0}) RunFault) (stop : Option Stop) → IsToldAs stop (stop_of_end streams counts end) → IsPastWords stop
+told_past streams counts end stop (inl same) = subst IsPastWords (sym same) (run_past streams counts end)
+told_past streams counts end stop (inr memory) = subst IsPastWords (sym memory) tt
 
--- the one part of the source was run
-pub source_ran : (held : Held) (shown mid_shown : List ℕ → ℕ → ℕ) (query : Asking) (source : List ℕ) (most : Option ℕ) (rounds parts known known_now : ℕ) (start now : History) (OutTells : Type 0)
-    (old written told : List ℕ) (end : Option JobFault) (stop : Option Stop)
-    → source ≡ source_of query → parts ≡ min (held.parts source) 65 → parts ≡ 1
-    → mid_shown source 0 ≤ known → ((stream : List ℕ) (part : ℕ) → shown stream part ≤ mid_shown stream part)
-    → JobEnd (record { job = job_of query (held.lines (source_of query) 0); most = most; rounds = rounds; known = known; start = start; written = old }) known_now now OutTells written told end
-    → AlwaysStands (job_of query (held.lines (source_of query) 0)) start now
-    → ((entry : Entry) → Reads (job_of query (held.lines (source_of query) 0)) entry (files_now start) → entry.cuts entry.planned ≤ known → GoesOn end)
-    → stop ≡ stop_of_end query end
-    → SourceEnd held shown query most rounds start now OutTells old written told stop
-source_ran held shown mid_shown query source most rounds parts known known_now start now OutTells old written told end stop named counted one begins grown left always goes is =
-    let from : shown source 0 ≤ known = omega (arith, grown source 0, begins) in
-    let P : List ℕ → Type 0 = λ s. shown s 0 ≤ known in
-    let at_least : shown (source_of query) 0 ≤ known = subst P named from in
-    let one_part : held.parts source ≡ 1 = omega (arith, counted, one) in
-    ran (ap held.parts (sym named) ∙ one_part) known known_now end at_least left always (λ entry reads long. goes entry reads (omega (arith, long, at_least))) is
+pub told_by_parts : (streams : List Stream) (counts parts_are : List ℕ) (end : Result (Unit {0}) RunFault) (stop : Option Stop) → ((why : LengthFault) → end ≡ Err (run.Lines why) → counts ≡ parts_are) → IsToldAs stop (stop_of_end streams counts end) → IsToldAs stop (stop_of_end streams parts_are end)
+told_by_parts streams counts parts_are end stop same (inl is) = inl (is ∙ told_of streams counts parts_are end same)
+told_by_parts streams counts parts_are end stop same (inr memory) = inr memory
 
--- the parts are not exactly one
-pub other_parts : (held : Held) (shown : List ℕ → ℕ → ℕ) (query : Asking) (source : List ℕ) (most : Option ℕ) (rounds parts : ℕ) (start : History) (OutTells : Type 0) (old told : List ℕ)
-    → source ≡ source_of query → parts ≡ min (held.parts source) 65 → parts ≢ 1 → told ≡ []
-    → SourceEnd held shown query most rounds start start OutTells old old told (Some (OtherParts (stream_of query) 1 parts))
-other_parts held shown query source most rounds parts start OutTells old told named counted other none =
-    let same : parts ≡ min (held.parts (source_of query)) 65 = counted ∙ ap (λ s. min (held.parts s) 65) named in
-    not_one_part (λ one. other (same ∙ ap (λ n. min n 65) one)) (ap (λ n. Some (OtherParts (stream_of query) 1 n)) same) (idle start old told none)
+-- a look that was denied tells nothing
+pub denied_look : (bound : Bound) (files : Files) (text : List ℕ) (end : Option Stop) (stop : Stop) → text ≡ [] → end ≡ Some stop → LookEnd bound files [] (Some stop) → LookEnd bound files text end
+denied_look bound files text end stop none is look =
+    let T : List ℕ → Type 0 = λ t. LookEnd bound files t (Some stop) in
+    let E : Option Stop → Type 0 = λ e. LookEnd bound files text e in
+    subst E (sym is) (subst T (sym none) look)
 
--- the query's file was not read, or is no query
-pub not_read : (given : Given) (start : History) (OutTells : Type 0) (old told : List ℕ) (what : Asked) (stop : Stop) → asked given.words ≡ Some what → told ≡ [] → ReadCause given.held (file_of what) stop
-    → ProgramEnd given start start OutTells old old told (Some stop)
-not_read given start OutTells old told what Query is none cause = no_query what is cause refl (idle start old told none)
-not_read given start OutTells old told what LogFault is none cause = no_file what is (inl refl) (idle start old told none)
-not_read given start OutTells old told what NoMemory is none cause = no_file what is (inr refl) (idle start old told none)
-not_read given start OutTells old told what _ is none cause = absurd cause
+-- a count that was lower before
+pub counts_since : (i i0 i1 d0 d1 o0 o1 : ℕ) (stop : Option Stop) → i ≤ i0 → HasCount i0 i1 d0 d1 o0 o1 stop → HasCount i i1 d0 d1 o0 o1 stop
+counts_since i i0 i1 d0 d1 o0 o1 (Some LogFault) less is = omega (arith, less, is)
+counts_since i i0 i1 d0 d1 o0 o1 (Some DiskFault) less is = is
+counts_since i i0 i1 d0 d1 o0 o1 (Some OutFault) less is = is
+counts_since i i0 i1 d0 d1 o0 o1 None less is = tt
+counts_since i i0 i1 d0 d1 o0 o1 (Some _) less is = tt
 
-pub not_read_at : (given : Given) (start : History) (OutTells : Type 0) (old told : List ℕ) (what : Asked) (stop : Stop) (held : Held) → asked given.words ≡ Some what → given.held ≡ held → told ≡ []
-    → ReadCause held (file_of what) stop → ProgramEnd given start start OutTells old old told (Some stop)
-not_read_at given start OutTells old told what stop held is same none cause =
-    let P : Held → Type 0 = λ h. ReadCause h (file_of what) stop in
-    not_read given start OutTells old told what stop is none (subst P (sym same) cause)
+-- where only the inputs were asked
+pub inputs_count : (i0 i1 d0 d1 o0 o1 : ℕ) (stop : Option Stop) → HasCount i0 i1 0 0 0 0 stop → HasCount i0 i1 d0 d1 o0 o1 stop
+inputs_count i0 i1 d0 d1 o0 o1 (Some LogFault) is = is
+inputs_count i0 i1 d0 d1 o0 o1 (Some DiskFault) is = absurd (omega (arith, is))
+inputs_count i0 i1 d0 d1 o0 o1 (Some OutFault) is = absurd (omega (arith, is))
+inputs_count i0 i1 d0 d1 o0 o1 None is = tt
+inputs_count i0 i1 d0 d1 o0 o1 (Some _) is = tt
 
--- memory ran out before the query was run
-pub not_prepared : (given : Given) (start : History) (OutTells : Type 0) (old told : List ℕ) (what : Asked) → asked given.words ≡ Some what → told ≡ []
-    → ProgramEnd given start start OutTells old old told (Some NoMemory)
-not_prepared given start OutTells old told what is none = no_file what is (inr refl) (idle start old told none)
+-- and where only the disk was
+pub disk_counts : (i0 i1 d0 d1 o0 o1 : ℕ) (stop : Option Stop) → HasCount 0 0 d0 d1 0 0 stop → HasCount i0 i1 d0 d1 o0 o1 stop
+disk_counts i0 i1 d0 d1 o0 o1 (Some LogFault) is = absurd (omega (arith, is))
+disk_counts i0 i1 d0 d1 o0 o1 (Some DiskFault) is = is
+disk_counts i0 i1 d0 d1 o0 o1 (Some OutFault) is = absurd (omega (arith, is))
+disk_counts i0 i1 d0 d1 o0 o1 None is = tt
+disk_counts i0 i1 d0 d1 o0 o1 (Some _) is = tt
 
--- what was known when the program began is no more than what was known when the source was run
-source_earlier : (held0 held1 : Held) (shown0 shown1 : List ℕ → ℕ → ℕ) (query : Asking) (most : Option ℕ) (rounds : ℕ) (start now : History) (OutTells : Type 0) (old written told : List ℕ) (stop : Option Stop)
-    → held1 ≡ held0 → ((stream : List ℕ) (part : ℕ) → shown0 stream part ≤ shown1 stream part)
-    → SourceEnd held1 shown1 query most rounds start now OutTells old written told stop → SourceEnd held0 shown0 query most rounds start now OutTells old written told stop
-source_earlier held0 held1 shown0 shown1 query most rounds start now OutTells old written told stop same less end =
-    let P : Held → Type 0 = λ h. SourceEnd h shown0 query most rounds start now OutTells old written told stop in
-    subst P same (known_less end)
-  where
-    known_less : SourceEnd held1 shown1 query most rounds start now OutTells old written told stop → SourceEnd held1 shown0 query most rounds start now OutTells old written told stop
-    known_less (unstarted outside still) = unstarted outside still
-    known_less (not_one_part parts is still) = not_one_part parts is still
-    known_less (ran parts known known_now end at_least left always goes is) =
-        let less_known = less (source_of query) 0 in
-        ran parts known known_now end (omega (arith, less_known, at_least)) left always (λ entry reads long. goes entry reads (omega (arith, long, less_known))) is
-
--- the query was run
-pub ran_query : (given : Given) (held0 held1 : Held) (query : Asking) (file : List ℕ) (shown0 shown1 : List ℕ → ℕ → ℕ) (most : Option ℕ) (rounds : ℕ) (start now : History) (OutTells : Type 0) (old written told : List ℕ) (stop : Option Stop)
-    → asked given.words ≡ Some (asks_run file most rounds) → given.held ≡ held0 → given.shown ≡ shown0 → IsQueryAt held0 file query → held1 ≡ held0
-    → ((stream : List ℕ) (part : ℕ) → shown0 stream part ≤ shown1 stream part)
-    → SourceEnd held1 shown1 query most rounds start now OutTells old written told stop → ProgramEnd given start now OutTells old written told stop
-ran_query given held0 held1 query file shown0 shown1 most rounds start now OutTells old written told stop is has shows written_so same less end =
-    let Q : Held → Type 0 = λ h. IsQueryAt h file query in
-    let S : (List ℕ → ℕ → ℕ) → Type 0 = λ shown. (stream : List ℕ) (part : ℕ) → shown stream part ≤ shown1 stream part in
-    query_run file most rounds query is (subst Q (sym has) written_so)
-    (source_earlier given.held held1 given.shown shown1 query most rounds start now OutTells old written told stop (same ∙ sym has) (subst S (sym shows) less) end)
-
--- the checkpoint was looked at
-pub was_looked : (given : Given) (held : Held) (query : Asking) (file : List ℕ) (start now : History) (OutTells : Type 0) (old told : List ℕ) (stop : Option Stop)
-    → asked given.words ≡ Some (asks_status file) → given.held ≡ held → IsQueryAt held file query → now ≡ start → LookEnd query (files_now start) told stop
-    → ProgramEnd given start now OutTells old old told stop
-was_looked given held query file start now OutTells old told stop is has written_so still end =
-    let Q : Held → Type 0 = λ h. IsQueryAt h file query in
-    looked file query is (subst Q (sym has) written_so) still refl end
-
--- it was denied, and nothing is told
-pub was_denied : (given : Given) (held : Held) (query : Asking) (file : List ℕ) (start now : History) (OutTells : Type 0) (old told : List ℕ) (stop : Option Stop)
-    → asked given.words ≡ Some (asks_status file) → given.held ≡ held → IsQueryAt held file query → now ≡ start → told ≡ [] → LookEnd query (files_now start) [] stop
-    → ProgramEnd given start now OutTells old old told stop
-was_denied given held query file start now OutTells old told stop is has written_so still none end =
-    let T : List ℕ → Type 0 = λ t. LookEnd query (files_now start) t stop in
-    was_looked given held query file start now OutTells old told stop is has written_so still (subst T (sym none) end)
+-- a refusal is told as such, or memory ran out
+pub refusal_unread : (held : Held) (what : Asked) (why : Refusal) → IsRefusedFor held what why → IsUnread held what (stop_of_refusal why)
+refusal_unread held what (refusal.Parse at own) is = (is, refl)
+refusal_unread held what (refusal.Bind fault) is = (is, refl)
+refusal_unread held what (refusal.Mode fault) is = (is, refl)
+refusal_unread held what (refusal.NotYet shape) is = (is, refl)
+refusal_unread held what refusal.NoMemory is = tt
 
 some_asked : (words : List (List ℕ)) (what : Asked) → asked words ≡ Some what → IsSome (asked words)
 some_asked words what is = cc
 
 -- the words were taken, so the stop is another
-pub words_taken : (words : List (List ℕ)) (what : Asked) (stop : Stop) → asked words ≡ Some what → IsPastWords stop → WordsCause words stop
-words_taken words what Usage is past = absurd past
-words_taken words what NoMemory is past = tt
-words_taken words what _ is past = some_asked words what is
+pub words_taken : (words : List (List ℕ)) (what : Asked) (stop : Option Stop) → asked words ≡ Some what → IsPastWords stop → WordsCause words stop
+words_taken words what (Some Usage) is past = absurd past
+words_taken words what (Some NoMemory) is past = tt
+words_taken words what None is past = some_asked words what is
+words_taken words what (Some _) is past = some_asked words what is
 
--- a fault of the inputs that was counted from a later count on was counted from an earlier one on
-log_earlier : (old mid now : ℕ) (stop : Stop) → old ≤ mid → LogRises mid now stop → LogRises old now stop
-log_earlier old mid now LogFault less rises = omega (arith, less, rises)
-log_earlier old mid now _ less rises = tt
+module _ {L : Type 0} (told tells : Type 0) (lines : L → List Line) (available : L → ℕ) (answers : L → List ℕ) (faults : L → ℕ) where
+  -- logs that begin with what is known later begin with what was known before
+  logs_earlier : (held : Held) (known later : List ℕ → ℕ → ℕ) → ((stream : List ℕ) (part : ℕ) → known stream part ≤ later stream part) → (own : List Part) (logs : List L)
+      → AreLogsOf told lines available answers faults held later own logs → AreLogsOf told lines available answers faults held known own logs
+  logs_earlier held known later less [] [] are = are
+  logs_earlier held known later less [] (log ∷ logs) are = are
+  logs_earlier held known later less (part ∷ own) [] are = are
+  logs_earlier held known later less (part ∷ own) (log ∷ logs) are = (
+    record {
+      right = are.0.right;
+      begins = λ t. (let at = are.0.begins t in let lower = less part.source part.number in omega (arith, at, lower));
+      unasked = are.0.unasked;
+      fresh = are.0.fresh;
+    },
+    logs_earlier held known later less own logs are.1,
+  )
 
-pub logs_earlier : {T : Type 0} (old mid now : ℕ) (result : Result T Stop) → old ≤ mid → IfErr result (LogRises mid now) → IfErr result (LogRises old now)
-logs_earlier old mid now (Ok done) less cause = tt
-logs_earlier old mid now (Err stop) less cause = log_earlier old mid now stop less cause
+  -- what was known when the program began is no more than what was known when the query was run
+  run_earlier : (held : Held) (known later : List ℕ → ℕ → ℕ) → ((stream : List ℕ) (part : ℕ) → known stream part ≤ later stream part) → (bound : Bound) (ask : Ask) (OutTells : Type 0) (went : Went) (end : Result (Unit {0}) RunFault)
+      → RunOver told tells lines available answers faults held later bound ask went.start went.now went.disk_faults went.disk_faults_now went.returned went.returned_now OutTells went.old went.written went.text end
+      → RunOver told tells lines available answers faults held known bound ask went.start went.now went.disk_faults went.disk_faults_now went.returned went.returned_now OutTells went.old went.written went.text end
+  run_earlier held known later less bound ask OutTells went end (unparted why is still left) = unparted why is still left
+  run_earlier held known later less bound ask OutTells went end (over g counts of start disk old own setting logs how back) =
+      over g counts of start disk old (logs_earlier held known later less _ _ own) setting logs how back
+
+  pub obeyed_earlier : (held : Held) (known later : List ℕ → ℕ → ℕ) → ((stream : List ℕ) (part : ℕ) → known stream part ≤ later stream part) → (bound : Bound) (OutTells : Type 0) (went : Went) (stop : Option Stop) (what : Asked)
+      → HasObeyed told tells lines available answers faults held later bound OutTells went stop what → HasObeyed told tells lines available answers faults held known bound OutTells went stop what
+  obeyed_earlier held known later less bound OutTells went stop what (has_run file partitions most rounds ran) =
+      has_run file partitions most rounds (record { end = ran.end; over = run_earlier held known later less bound (ask_of partitions most rounds) OutTells went ran.end ran.over; is = ran.is })
+  obeyed_earlier held known later less bound OutTells went stop what (has_explained file same text none) = has_explained file same text none
+  obeyed_earlier held known later less bound OutTells went stop what (has_looked file same end) = has_looked file same end
+  obeyed_earlier held known later less bound OutTells went stop what (ran_out own idle is) = ran_out own idle is
+
+  -- a command of another name
+  pub obeyed_as : (held : Held) (known : List ℕ → ℕ → ℕ) (bound : Bound) (OutTells : Type 0) (went : Went) (stop : Option Stop) (what other : Asked) → other ≡ what
+      → HasObeyed told tells lines available answers faults held known bound OutTells went stop what → HasObeyed told tells lines available answers faults held known bound OutTells went stop other
+  obeyed_as held known bound OutTells went stop what other same obeyed_so =
+      let P : Asked → Type 0 = HasObeyed told tells lines available answers faults held known bound OutTells went stop in subst P (sym same) obeyed_so
+
+  -- what a query is was told, or memory ran out
+  pub explained_end : (held : Held) (known : List ℕ → ℕ → ℕ) (bound : Bound) (OutTells : Type 0) (went : Went) (file : List ℕ) (end : Result (Unit {0}) Stop) → IsUntouched went → IfOk end (λ done. went.text ≡ explained bound)
+      → IfErr end (λ stop. (stop ≡ NoMemory) × (went.text ≡ [])) → HasObeyed told tells lines available answers faults held known bound OutTells went (stop_in end) (asks_explain file)
+  explained_end held known bound OutTells went file (Ok done) same text memory = has_explained file same text refl
+  explained_end held known bound OutTells went file (Err stop) same text memory = ran_out (asks_explain file) (record { untouched = same; untold = memory.1 }) (ap Some memory.0)
+
+  -- the words gave no command
+  pub ask_end : (given : Given) (OutTells : Type 0) (went : Went) (error : AskError) (stop : Option Stop) → IsCause given.words error → stop ≡ Some (stop_of_ask error) → IsIdle went
+      → ProgramEnd told tells lines available answers faults given OutTells went stop
+  ask_end given OutTells went words.Usage stop cause is idle = no_command cause is idle
+  ask_end given OutTells went words.NoMemory stop cause is idle = unread is idle
+
+  -- the query's file was not read, or is refused
+  unread_end : (given : Given) (OutTells : Type 0) (went : Went) (what : Asked) (own : Stop) → asked given.words ≡ Some what → IsIdle went → IsUnread given.held what own
+      → ProgramEnd told tells lines available answers faults given OutTells went (Some own)
+  unread_end given OutTells went what (Refused why) is idle cause = refused what is why cause.0 (ap Some (sym cause.1)) idle
+  unread_end given OutTells went what LogFault is idle cause = no_file what is (inl refl) idle
+  unread_end given OutTells went what NoMemory is idle cause = no_file what is (inr refl) idle
+  unread_end given OutTells went what _ is idle cause = absurd cause
+
+  pub read_end : (given : Given) (OutTells : Type 0) (went : Went) (what : Asked) (own : Stop) (stop : Option Stop) → asked given.words ≡ Some what → IsUnread given.held what own → stop ≡ Some own → IsIdle went
+      → ProgramEnd told tells lines available answers faults given OutTells went stop
+  read_end given OutTells went what own stop is cause same idle =
+      let P : Option Stop → Type 0 = ProgramEnd told tells lines available answers faults given OutTells went in subst P (sym same) (unread_end given OutTells went what own is idle cause)
+
+  -- the command was obeyed, over inputs of which more may have been known
+  pub obeyed_end : (given : Given) (held : Held) (later : List ℕ → ℕ → ℕ) (OutTells : Type 0) (went : Went) (stop : Option Stop) (what : Asked) (bound : Bound) → asked given.words ≡ Some what → held ≡ given.held
+      → ((stream : List ℕ) (part : ℕ) → given.known stream part ≤ later stream part) → IsQueryFor given.held what bound → HasObeyed told tells lines available answers faults held later bound OutTells went stop what
+      → ProgramEnd told tells lines available answers faults given OutTells went stop
+  obeyed_end given held later OutTells went stop what bound is same less query obeyed_so =
+      let H : Held → Type 0 = λ h. HasObeyed told tells lines available answers faults h given.known bound OutTells went stop what in
+      obeyed what bound is query (subst H same (obeyed_earlier held given.known later less bound OutTells went stop what obeyed_so))
+
+-- nothing was done
+pub idle_of : (start now : History) (disk_faults disk_faults_now : ℕ) (returned returned_now : List (List ℕ)) (old written text : List ℕ) → now ≡ start → returned_now ≡ returned → written ≡ old → text ≡ []
+    → IsIdle (went_of start now disk_faults disk_faults_now returned returned_now old written text)
+idle_of start now disk_faults disk_faults_now returned returned_now old written text still back same none = record { untouched = record { still = still; none_back = back; unwritten = same }; untold = none }
+
+-- why the words gave no command
+pub ask_words : (line : List (List ℕ)) (error : AskError) (stop : Option Stop) → IsCause line error → stop ≡ Some (stop_of_ask error) → WordsCause line stop
+ask_words line error stop cause is = let W : Option Stop → Type 0 = WordsCause line in subst W (sym is) (by_error error cause)
+  where
+    by_error : (e : AskError) → IsCause line e → WordsCause line (Some (stop_of_ask e))
+    by_error words.Usage c = c
+    by_error words.NoMemory c = tt
+
+pub ask_counts : (i0 i1 d0 d1 o0 o1 : ℕ) (error : AskError) (stop : Option Stop) → stop ≡ Some (stop_of_ask error) → HasCount i0 i1 d0 d1 o0 o1 stop
+ask_counts i0 i1 d0 d1 o0 o1 error stop is = let C : Option Stop → Type 0 = HasCount i0 i1 d0 d1 o0 o1 in subst C (sym is) (by_error error)
+  where
+    by_error : (e : AskError) → HasCount i0 i1 d0 d1 o0 o1 (Some (stop_of_ask e))
+    by_error words.Usage = tt
+    by_error words.NoMemory = tt
+
+-- a stop of the inputs alone
+pub read_counts : (i0 i1 d0 d1 o0 o1 : ℕ) (own stop : Option Stop) → HasCount i0 i1 0 0 0 0 own → stop ≡ own → HasCount i0 i1 d0 d1 o0 o1 stop
+read_counts i0 i1 d0 d1 o0 o1 own stop counts is = let C : Option Stop → Type 0 = HasCount i0 i1 d0 d1 o0 o1 in subst C (sym is) (inputs_count i0 i1 d0 d1 o0 o1 own counts)
+
+pub read_words : (words : List (List ℕ)) (what : Asked) (own stop : Option Stop) → asked words ≡ Some what → IsPastWords own → stop ≡ own → WordsCause words stop
+read_words words what own stop is past same = let W : Option Stop → Type 0 = WordsCause words in subst W (sym same) (words_taken words what own is past)
+
+-- what leaves the disk as it is leaves what it might have left
+pub same_leaves : (start now : History) (P : Files → Type 0) → now ≡ start → LeavesNow start P → LeavesOnly start now P
+same_leaves start now P same each = let L : History → Type 0 = λ h. LeavesOnly start h P in subst L (sym same) (still_leaves start P each)

@@ -1,13 +1,13 @@
 -- What was written.
-use Rattle.std.proofs.Common.{◌≡◌, ◌≢◌, ◌⊎◌, ◌++◌, ◌≤◌, ◌∙◌, arith, ℕ, List, Option, Some, None, Result, Ok, Err, refl, ap, sym, inl, inr, length, take}
-use Rattle.std.specs.Prelude.{OnOk, OnErr, IfErr, IsSome}
+use Rattle.std.proofs.Common.{◌≡◌, ◌≢◌, ◌⊎◌, ◌++◌, ◌≤◌, ◌∙◌, arith, ℕ, List, Option, Some, None, Result, Ok, Err, refl, ap, sym, subst, inl, inr, length, take}
+use Rattle.std.specs.Prelude.{OnOk, OnErr, IsSome}
 use Rattle.std.proofs.Math.Seq.{take-length}
 use Rattle.std.proofs.lemmas.List.{append-nil}
 use Rattle.ssq_outside.specs.Faults.{Rises}
 use Rattle.ssq_run.specs.declared.stop.Stop.{Stop}
 use Rattle.ssq_run.specs.declared.stop.Stop.TheVariants.{Usage, LogFault, DiskFault, OutFault, NoMemory}
 use Rattle.ssq_run.specs.Lines.{stop_line}
-use Rattle.ssq_run.specs.Stopping.{status_of, stop_in, LogRises, DiskRises, OutRises, WordsCause}
+use Rattle.ssq_run.specs.Stopping.{status_of, status_in, HasCount, WordsCause}
 use Rattle.ssq_run.specs.Program.{Wrote, whole, cut, cut_done, starved, HasEnded, IsStatus}
 use Rattle.ssq_words.specs.Asking.{asked}
 
@@ -60,58 +60,63 @@ wrote_since stop told old new earlier before now status less (cut_done is none r
 wrote_since stop told old new earlier before now status less (starved is n m put) = starved is n m put
 
 -- the status tells the stop
-usage_stop : (words : List (List ℕ)) (stop : Stop) → WordsCause words stop → status_of stop ≡ 2 → asked words ≡ None
-usage_stop words Usage cause is = cause
-usage_stop words _ cause is = absurd (omega (arith, is))
+status_is : (stop : Option Stop) (n before now status : ℕ) → n ≢ 8 → n ≢ 10 → IsStatus stop before now status → status ≡ n → status_in stop ≡ n
+status_is stop n before now status eight ten (inl is) same = sym is ∙ same
+status_is stop n before now status eight ten (inr (inl is)) same = absurd (eight (sym same ∙ is.0))
+status_is stop n before now status eight ten (inr (inr is)) same = absurd (ten (sym same ∙ is))
 
-log_stop : (before now : ℕ) (stop : Stop) → LogRises before now stop → status_of stop ≡ 6 → Rises before now
-log_stop before now LogFault cause is = cause
-log_stop before now _ cause is = absurd (omega (arith, is))
+usage_stop : (words : List (List ℕ)) (stop : Option Stop) → WordsCause words stop → status_in stop ≡ 2 → asked words ≡ None
+usage_stop words (Some Usage) cause is = cause
+usage_stop words None cause is = absurd (omega (arith, is))
+usage_stop words (Some _) cause is = absurd (omega (arith, is))
 
-disk_stop : (before now : ℕ) (stop : Stop) → DiskRises before now stop → status_of stop ≡ 7 → Rises before now
-disk_stop before now DiskFault cause is = cause
-disk_stop before now _ cause is = absurd (omega (arith, is))
+pub usage_told : (words : List (List ℕ)) (stop : Option Stop) (before now status : ℕ) → WordsCause words stop → IsStatus stop before now status → status ≡ 2 → asked words ≡ None
+usage_told words stop before now status cause answer same = usage_stop words stop cause (status_is stop 2 before now status (λ e. absurd (omega (arith, e))) (λ e. absurd (omega (arith, e))) answer same)
 
-out_stop : (before now : ℕ) (stop : Stop) → OutRises before now stop → status_of stop ≡ 8 → Rises before now
-out_stop before now OutFault cause is = cause
-out_stop before now _ cause is = absurd (omega (arith, is))
+module _ (i0 i1 d0 d1 o0 o1 : ℕ) where
+  log_stop : (stop : Option Stop) → HasCount i0 i1 d0 d1 o0 o1 stop → status_in stop ≡ 6 → Rises i0 i1
+  log_stop (Some LogFault) cause is = cause
+  log_stop None cause is = absurd (omega (arith, is))
+  log_stop (Some _) cause is = absurd (omega (arith, is))
 
--- a status that only a stop has
-of_stop : {T : Type 0} (r : Result T Stop) (n before now status : ℕ) (P : Stop → Type 0) (Q : Type 0) → n ≢ 0 → n ≢ 8 → n ≢ 10
-    → ((stop : Stop) → P stop → status_of stop ≡ n → Q) → IfErr r P → IsStatus (stop_in r) before now status → status ≡ n → Q
-of_stop (Ok done) n before now status P Q zero eight ten by cause (inl is) same = absurd (zero (sym same ∙ is))
-of_stop (Err stop) n before now status P Q zero eight ten by cause (inl is) same = by stop cause (sym is ∙ same)
-of_stop r n before now status P Q zero eight ten by cause (inr (inl is)) same = absurd (eight (sym same ∙ is.0))
-of_stop r n before now status P Q zero eight ten by cause (inr (inr is)) same = absurd (ten (sym same ∙ is))
+  disk_stop : (stop : Option Stop) → HasCount i0 i1 d0 d1 o0 o1 stop → status_in stop ≡ 7 → Rises d0 d1
+  disk_stop (Some DiskFault) cause is = cause
+  disk_stop None cause is = absurd (omega (arith, is))
+  disk_stop (Some _) cause is = absurd (omega (arith, is))
 
-pub usage_told : {T : Type 0} (words : List (List ℕ)) (r : Result T Stop) (before now status : ℕ) → IfErr r (WordsCause words) → IsStatus (stop_in r) before now status → status ≡ 2 → asked words ≡ None
-usage_told words r before now status = of_stop r 2 before now status (WordsCause words) (asked words ≡ None) (λ e. absurd (omega (arith, e))) (λ e. absurd (omega (arith, e))) (λ e. absurd (omega (arith, e))) (usage_stop words)
+  out_stop : (stop : Option Stop) → HasCount i0 i1 d0 d1 o0 o1 stop → status_in stop ≡ 8 → Rises o0 o1
+  out_stop (Some OutFault) cause is = cause
+  out_stop None cause is = absurd (omega (arith, is))
+  out_stop (Some _) cause is = absurd (omega (arith, is))
 
-pub log_told : {T : Type 0} (r : Result T Stop) (f0 f1 before now status : ℕ) → IfErr r (LogRises f0 f1) → IsStatus (stop_in r) before now status → status ≡ 6 → Rises f0 f1
-log_told r f0 f1 before now status = of_stop r 6 before now status (LogRises f0 f1) (Rises f0 f1) (λ e. absurd (omega (arith, e))) (λ e. absurd (omega (arith, e))) (λ e. absurd (omega (arith, e))) (log_stop f0 f1)
+  pub log_told : (stop : Option Stop) (before now status : ℕ) → HasCount i0 i1 d0 d1 o0 o1 stop → IsStatus stop before now status → status ≡ 6 → Rises i0 i1
+  log_told stop before now status cause answer same = log_stop stop cause (status_is stop 6 before now status (λ e. absurd (omega (arith, e))) (λ e. absurd (omega (arith, e))) answer same)
 
-pub disk_told : {T : Type 0} (r : Result T Stop) (f0 f1 before now status : ℕ) → IfErr r (DiskRises f0 f1) → IsStatus (stop_in r) before now status → status ≡ 7 → Rises f0 f1
-disk_told r f0 f1 before now status = of_stop r 7 before now status (DiskRises f0 f1) (Rises f0 f1) (λ e. absurd (omega (arith, e))) (λ e. absurd (omega (arith, e))) (λ e. absurd (omega (arith, e))) (disk_stop f0 f1)
+  pub disk_told : (stop : Option Stop) (before now status : ℕ) → HasCount i0 i1 d0 d1 o0 o1 stop → IsStatus stop before now status → status ≡ 7 → Rises d0 d1
+  disk_told stop before now status cause answer same = disk_stop stop cause (status_is stop 7 before now status (λ e. absurd (omega (arith, e))) (λ e. absurd (omega (arith, e))) answer same)
 
--- the output failed before the end, or at it
-pub out_told : {T : Type 0} (r : Result T Stop) (f0 f1 f2 status : ℕ) → IfErr r (OutRises f0 f1) → f0 ≤ f1 → f1 ≤ f2 → IsStatus (stop_in r) f1 f2 status → status ≡ 8 → Rises f0 f2
-out_told (Ok done) f0 f1 f2 status cause less later (inl is) same = absurd (omega (arith, is, same))
-out_told (Err stop) f0 f1 f2 status cause less later (inl is) same = let rises = out_stop f0 f1 stop cause (sym is ∙ same) in omega (arith, rises, later)
-out_told r f0 f1 f2 status cause less later (inr (inl is)) same = omega (arith, is.2, less)
-out_told r f0 f1 f2 status cause less later (inr (inr is)) same = absurd (omega (arith, is, same))
+  -- the output failed before the end, or at it
+  pub out_told : (stop : Option Stop) (o2 status : ℕ) → HasCount i0 i1 d0 d1 o0 o1 stop → o0 ≤ o1 → o1 ≤ o2 → IsStatus stop o1 o2 status → status ≡ 8 → Rises o0 o2
+  out_told stop o2 status cause less later (inl is) same = let rises = out_stop stop cause (sym is ∙ same) in omega (arith, rises, later)
+  out_told stop o2 status cause less later (inr (inl is)) same = let rises = is.2 in omega (arith, rises, less)
+  out_told stop o2 status cause less later (inr (inr is)) same = absurd (omega (arith, is, same))
 
 -- words that are no command are told so
 no_words : (words : List (List ℕ)) → asked words ≡ None → IsSome (asked words) → ⊥
 no_words words none some = cc
 
-usage_only : (words : List (List ℕ)) (stop : Stop) → asked words ≡ None → WordsCause words stop → (status_of stop ≡ 2) ⊎ (status_of stop ≡ 10)
-usage_only words Usage none cause = inl refl
-usage_only words NoMemory none cause = inr refl
-usage_only words _ none cause = absurd (no_words words none cause)
+usage_only : (words : List (List ℕ)) (stop : Option Stop) → asked words ≡ None → WordsCause words stop → (status_in stop ≡ 2) ⊎ (status_in stop ≡ 10)
+usage_only words (Some Usage) none cause = inl refl
+usage_only words (Some NoMemory) none cause = inr refl
+usage_only words None none cause = absurd (no_words words none cause)
+usage_only words (Some _) none cause = absurd (no_words words none cause)
 
-pub no_command_told : {T : Type 0} (words : List (List ℕ)) (r : Result T Stop) (before now status : ℕ) → asked words ≡ None → OnOk r (IsSome (asked words)) → IfErr r (WordsCause words)
-    → IsStatus (stop_in r) before now status → (status ≡ 2) ⊎ (status ≡ 10)
-no_command_told words (Ok done) before now status none taken cause answer = absurd (no_words words none taken)
-no_command_told words (Err stop) before now status none taken cause (inl is) = elim (usage_only words stop none cause) [ inl two ↦ inl (is ∙ two) | inr ten ↦ inr (is ∙ ten) ]
-no_command_told words (Err stop) before now status none taken cause (inr (inl is)) = absurd (some_stop stop is.1)
-no_command_told words (Err stop) before now status none taken cause (inr (inr is)) = inr is
+done_words : (words : List (List ℕ)) (stop : Option Stop) → stop ≡ None → WordsCause words stop → asked words ≡ None → ⊥
+done_words words stop is cause none =
+    let W : Option Stop → Type 0 = WordsCause words in
+    no_words words none (subst W is cause)
+
+pub no_command_told : (words : List (List ℕ)) (stop : Option Stop) (before now status : ℕ) → asked words ≡ None → WordsCause words stop → IsStatus stop before now status → (status ≡ 2) ⊎ (status ≡ 10)
+no_command_told words stop before now status none cause (inl is) = elim (usage_only words stop none cause) [ inl two ↦ inl (is ∙ two) | inr ten ↦ inr (is ∙ ten) ]
+no_command_told words stop before now status none cause (inr (inl is)) = absurd (done_words words stop is.1 cause none)
+no_command_told words stop before now status none cause (inr (inr is)) = inr is

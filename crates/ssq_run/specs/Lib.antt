@@ -1,5 +1,7 @@
+pub mod Places
 pub mod Queries
 pub mod Stopping
 pub mod Lines
 pub mod Looked
 pub mod Program
+pub mod Going

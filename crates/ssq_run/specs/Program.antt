@@ -1,22 +1,20 @@
 -- How the program ends: the refusals in their order, and what is told and left.
-use Rattle.std.specs.Prelude.{◌≡◌, ◌≢◌, ◌⊎◌, ◌≤◌, ◌<◌, ◌+◌, ◌++◌, ℕ, false, List, [], length, take, min, slice_get, Option, Some, None, ⊤}
+use Rattle.std.specs.Prelude.{◌≡◌, ◌≢◌, ◌⊎◌, ◌++◌, ℕ, List, [], take, Option, Some, None, Result}
 use Rattle.ssq_outside.specs.Faults.{Rises}
-use Rattle.ssq_outside.specs.Files.{Files}
 use Rattle.ssq_outside.specs.History.{History, files_now}
 use Rattle.ssq_outside.specs.Logs.{Held, Line}
-use Rattle.ssq_meaning.specs.Meaning.{is_faulty}
-use Rattle.ssq_round.specs.Faults.{most_lines, most_epochs}
-use Rattle.ssq_query.specs.declared.query.Query.{Query as Asking}
-use Rattle.ssq_query.specs.Binding.{bound_of}
-use Rattle.ssq_words.specs.Asking.{Asked, asks_run, asks_status, asked}
-use Rattle.ssq_job.specs.declared.fault.JobFault.{JobFault}
-use Rattle.ssq_job.specs.Ending.{JobEnd}
-use Rattle.ssq_job.specs.Entry.{Entry, Reads, IsEmptyOrStands, AlwaysStands}
-use Rattle.ssq_job.specs.Faults.{IsNoRefusal}
+use Rattle.ssq_shape.specs.declared.bound.Bound.{Bound}
+use Rattle.ssq_accept.specs.declared.refusal.Refusal.{Refusal}
+use Rattle.ssq_bind.specs.Explained.{explained}
+use Rattle.ssq_logs.specs.Parts.{counts_in}
+use Rattle.ssq_runner.specs.declared.ask.Ask.{Ask}
+use Rattle.ssq_runner.specs.declared.fault.RunFault.{RunFault}
+use Rattle.ssq_runner.specs.Sources.{RunOver}
+use Rattle.ssq_words.specs.Asking.{Asked, asks_run, asks_explain, asks_status, asked}
 use Rattle.ssq_run.specs.declared.stop.Stop.{Stop}
-use Rattle.ssq_run.specs.declared.stop.Stop.TheVariants.{Usage, Query, LogFault, OutFault, OtherParts, NoMemory}
-use Rattle.ssq_run.specs.Queries.{IsQueryAt, IsNoQueryAt, stream_of, source_of, job_of}
-use Rattle.ssq_run.specs.Stopping.{stop_of_end, status_in}
+use Rattle.ssq_run.specs.declared.stop.Stop.TheVariants.{Usage, LogFault, OutFault, NoMemory}
+use Rattle.ssq_run.specs.Queries.{IsQueryFor, IsRefusedFor}
+use Rattle.ssq_run.specs.Stopping.{stop_of_refusal, stop_of_end, status_in, IsToldAs}
 use Rattle.ssq_run.specs.Lines.{stop_line}
 use Rattle.ssq_run.specs.Looked.{LookEnd}
 
@@ -24,105 +22,83 @@ use Rattle.ssq_run.specs.Looked.{LookEnd}
 pub record Given : Type 0 where
   pub words : List (List ℕ)
   pub held : Held
-  pub shown : List ℕ → ℕ → ℕ
+  pub known : List ℕ → ℕ → ℕ
 
--- nothing was done to the disk, nothing was written, and nothing is left to tell
-pub record IsIdle (start now : History) (old written told : List ℕ) : Type 0 where
-  pub still : now ≡ start
-  pub unwritten : written ≡ old
-  pub untold : told ≡ []
+-- what is asked of a run
+abbrev pub ask_of : Option ℕ → Option ℕ → ℕ → Ask
+ask_of partitions most rounds = record { partitions = partitions; cap = most; rounds = rounds }
+
+-- the query's file
+abbrev pub file_of : Asked → List ℕ
+file_of (asks_run file partitions most rounds) = file
+file_of (asks_explain file) = file
+file_of (asks_status file) = file
+
+-- What the outside was as the program began and is as it ends: the disk at each moment, the logs that came back, and what was written;
+-- and what is left to be written.
+pub record Went : Type 0 where
+  pub start : History
+  pub now : History
+  pub disk_faults : ℕ
+  pub disk_faults_now : ℕ
+  pub returned : List (List ℕ)
+  pub returned_now : List (List ℕ)
+  pub old : List ℕ
+  pub written : List ℕ
+  pub text : List ℕ
+
+-- nothing was done to the disk, no log came back, and nothing was written
+pub record IsUntouched (went : Went) : Type 0 where
+  pub still : went.now ≡ went.start
+  pub none_back : went.returned_now ≡ went.returned
+  pub unwritten : went.written ≡ went.old
+
+-- and nothing is left to be
+pub record IsIdle (went : Went) : Type 0 where
+  pub untouched : IsUntouched went
+  pub untold : went.text ≡ []
 
 -- the inputs failed, or memory ran out
 abbrev pub IsOutside : Option Stop → Type 0
 IsOutside stop = (stop ≡ Some LogFault) ⊎ (stop ≡ Some NoMemory)
 
--- It is nothing for which a checkpoint that stands is refused.
-abbrev pub GoesOn : Option JobFault → Type 0
-GoesOn None = ⊤
-GoesOn (Some fault) = IsNoRefusal fault
+module _ {L : Type 0} (told tells : Type 0) (lines : L → List Line) (available : L → ℕ) (answers : L → List ℕ) (faults : L → ℕ) where
+  -- a run went so, and this is why it stopped, told by the names of its streams
+  pub record HasRun (held : Held) (known : List ℕ → ℕ → ℕ) (bound : Bound) (ask : Ask) (OutTells : Type 0) (went : Went) (stop : Option Stop) : Type 0 where
+    pub end : Result (Unit {0}) RunFault
+    pub over : RunOver told tells lines available answers faults held known bound ask went.start went.now went.disk_faults went.disk_faults_now went.returned went.returned_now OutTells went.old went.written went.text end
+    pub is : told → IsToldAs stop (stop_of_end bound.streams (counts_in held bound.streams) end)
 
--- How the run of a query over its source ends: the inputs failed before it began, or memory ran out; the stream's parts, which are
--- counted to 65, are not exactly one; or it was run over its one part, of which at least as many lines were known to be there
--- as when the program began. Whenever a crash comes, the checkpoint stands where it stood; and where it stands, and the log has
--- lost no line, the run is not refused.
-pub data SourceEnd (held : Held) (shown : List ℕ → ℕ → ℕ) (query : Asking) (most : Option ℕ) (rounds : ℕ) (start now : History) (OutTells : Type 0) (old written told : List ℕ) (stop : Option Stop) : Type 0 where
-  unstarted : IsOutside stop → IsIdle start now old written told → SourceEnd held shown query most rounds start now OutTells old written told stop
-  not_one_part : held.parts (source_of query) ≢ 1 → stop ≡ Some (OtherParts (stream_of query) 1 (min (held.parts (source_of query)) 65)) → IsIdle start now old written told
-      → SourceEnd held shown query most rounds start now OutTells old written told stop
-  ran : held.parts (source_of query) ≡ 1 → (known known_now : ℕ) (end : Option JobFault) → shown (source_of query) 0 ≤ known
-      → JobEnd (record { job = job_of query (held.lines (source_of query) 0); most = most; rounds = rounds; known = known; start = start; written = old }) known_now now OutTells written told end
-      → AlwaysStands (job_of query (held.lines (source_of query) 0)) start now
-      → ((entry : Entry) → Reads (job_of query (held.lines (source_of query) 0)) entry (files_now start) → entry.cuts entry.planned ≤ shown (source_of query) 0 → GoesOn end)
-      → stop ≡ stop_of_end query end
-      → SourceEnd held shown query most rounds start now OutTells old written told stop
+  -- How a command goes whose file is a query: the query was run; or it was explained, or its checkpoint was looked at, which changes nothing;
+  -- or memory ran out.
+  pub data HasObeyed (held : Held) (known : List ℕ → ℕ → ℕ) (bound : Bound) (OutTells : Type 0) (went : Went) (stop : Option Stop) : Asked → Type 0 where
+    has_run : (file : List ℕ) (partitions most : Option ℕ) (rounds : ℕ) → HasRun held known bound (ask_of partitions most rounds) OutTells went stop → HasObeyed held known bound OutTells went stop (asks_run file partitions most rounds)
+    has_explained : (file : List ℕ) → IsUntouched went → went.text ≡ explained bound → stop ≡ None → HasObeyed held known bound OutTells went stop (asks_explain file)
+    has_looked : (file : List ℕ) → IsUntouched went → LookEnd bound (files_now went.start) went.text stop → HasObeyed held known bound OutTells went stop (asks_status file)
+    ran_out : (what : Asked) → IsIdle went → stop ≡ Some NoMemory → HasObeyed held known bound OutTells went stop what
 
--- the query's file
-abbrev pub file_of : Asked → List ℕ
-file_of (asks_run file most rounds) = file
-file_of (asks_status file) = file
+  -- How the program ends, in the order of its work: memory ran out for its words; they are no command; the query's file could not be read;
+  -- it is refused; or the command was obeyed.
+  pub data ProgramEnd (given : Given) (OutTells : Type 0) (went : Went) (stop : Option Stop) : Type 0 where
+    unread : stop ≡ Some NoMemory → IsIdle went → ProgramEnd given OutTells went stop
+    no_command : asked given.words ≡ None → stop ≡ Some Usage → IsIdle went → ProgramEnd given OutTells went stop
+    no_file : (what : Asked) → asked given.words ≡ Some what → IsOutside stop → IsIdle went → ProgramEnd given OutTells went stop
+    refused : (what : Asked) → asked given.words ≡ Some what → (why : Refusal) → IsRefusedFor given.held what why → stop ≡ Some (stop_of_refusal why) → IsIdle went → ProgramEnd given OutTells went stop
+    obeyed : (what : Asked) (bound : Bound) → asked given.words ≡ Some what → IsQueryFor given.held what bound → HasObeyed given.held given.known bound OutTells went stop what → ProgramEnd given OutTells went stop
 
--- How the program ends, in the order of its work: memory ran out for its words; they are no command; the query's file could not be
--- read, or is no query; the query was run, or its checkpoint was looked at, which changes nothing.
-pub data ProgramEnd (given : Given) (start now : History) (OutTells : Type 0) (old written told : List ℕ) (stop : Option Stop) : Type 0 where
-  unread : stop ≡ Some NoMemory → IsIdle start now old written told → ProgramEnd given start now OutTells old written told stop
-  no_command : asked given.words ≡ None → stop ≡ Some Usage → IsIdle start now old written told → ProgramEnd given start now OutTells old written told stop
-  no_file : (what : Asked) → asked given.words ≡ Some what → IsOutside stop → IsIdle start now old written told → ProgramEnd given start now OutTells old written told stop
-  no_query : (what : Asked) → asked given.words ≡ Some what → IsNoQueryAt given.held (file_of what) → stop ≡ Some Query → IsIdle start now old written told
-      → ProgramEnd given start now OutTells old written told stop
-  query_run : (file : List ℕ) (most : Option ℕ) (rounds : ℕ) (query : Asking) → asked given.words ≡ Some (asks_run file most rounds) → IsQueryAt given.held file query
-      → SourceEnd given.held given.shown query most rounds start now OutTells old written told stop → ProgramEnd given start now OutTells old written told stop
-  looked : (file : List ℕ) (query : Asking) → asked given.words ≡ Some (asks_status file) → IsQueryAt given.held file query
-      → now ≡ start → written ≡ old → LookEnd query (files_now start) told stop → ProgramEnd given start now OutTells old written told stop
-
--- The words ask for the run of a query over its one part; the files stand for that job, or no file is there; and at least as many
--- lines of the log are known to be there as are planned.
-pub record CanGoOn (given : Given) (files : Files) : Type 0 where
-  pub file : List ℕ
-  pub most : Option ℕ
-  pub rounds : ℕ
-  pub query : Asking
-  pub entry : Entry
-  pub asks : asked given.words ≡ Some (asks_run file most rounds)
-  pub is : IsQueryAt given.held file query
-  pub one_part : given.held.parts (source_of query) ≡ 1
-  pub reads : Reads (job_of query (given.held.lines (source_of query) 0)) entry files
-  pub long : entry.cuts entry.planned ≤ given.shown (source_of query) 0
-
--- It can go on, and no limit is in the way: the log will come to hold no more lines than are taken; and since each epoch that is
--- still to be planned has a line of its own, fewer epochs than the most are needed.
-pub record HasRoom (given : Given) (files : Files) : Type 0 where
-  pub can : CanGoOn given files
-  pub few_lines : length (given.held.lines (source_of can.query) 0) ≤ most_lines
-  pub few_epochs : can.entry.planned + length (given.held.lines (source_of can.query) 0) < most_epochs + can.entry.cuts can.entry.planned
-
--- And no line from the first one on that is not committed is a fault.
-pub record IsFaultless (given : Given) (files : Files) : Type 0 where
-  pub room : HasRoom given files
-  pub good : (at : ℕ) (line : Line) → room.can.entry.cuts room.can.entry.committed ≤ at → slice_get (given.held.lines (source_of room.can.query) 0) at ≡ Some line
-      → is_faulty (bound_of room.can.query) line ≡ false
-
--- The words ask how far the checkpoint of a query has come, and it is empty, or stands for a job of that query.
-pub record CanLook (given : Given) (files : Files) : Type 0 where
-  pub file : List ℕ
-  pub query : Asking
-  pub lines : List Line
-  pub asks : asked given.words ≡ Some (asks_status file)
-  pub is : IsQueryAt given.held file query
-  pub stands : IsEmptyOrStands (job_of query lines) files
-
--- no fault of the inputs, the disk or the output was counted
-pub record NoneFailed (inputs inputs_now disk disk_now out out_now : ℕ) : Type 0 where
-  pub inputs_whole : Rises inputs inputs_now → ⊥
-  pub disk_whole : Rises disk disk_now → ⊥
-  pub out_whole : Rises out out_now → ⊥
-
--- it was done to its end, or memory ran out
-abbrev pub IsDone : ℕ → Type 0
-IsDone status = (status ≡ 0) ⊎ (status ≡ 10)
-
--- or a line was a fault
-abbrev pub IsDoneToALine : ℕ → Type 0
-IsDoneToALine status = IsDone status ⊎ ((status ≡ 4) ⊎ (status ≡ 5))
+-- What the outside was and is, as what a call was given and what it leaves.
+abbrev pub went_of : (start now : History) (disk_faults disk_faults_now : ℕ) (returned returned_now : List (List ℕ)) (old written text : List ℕ) → Went
+went_of start now disk_faults disk_faults_now returned returned_now old written text = record {
+  start = start;
+  now = now;
+  disk_faults = disk_faults;
+  disk_faults_now = disk_faults_now;
+  returned = returned;
+  returned_now = returned_now;
+  old = old;
+  written = written;
+  text = text;
+}
 
 -- what stands behind what was told
 abbrev pub line_in : Option Stop → List ℕ
@@ -146,12 +122,12 @@ IsStatus stop before now status = (status ≡ status_in stop) ⊎ (((status ≡ 
 abbrev pub HasEnded : Option Stop → List ℕ → ℕ → List ℕ → Type 0
 HasEnded stop told status text = ((status ≡ status_in stop) × (text ≡ told ++ line_in stop)) ⊎ ((stop ≢ None) × (status ≡ 10) × (text ≡ told))
 
--- How the program ended, and what it wrote: for a stop, if there was one, what was written as rounds ended, and what was left to be
--- told.
-pub record ProgramWrote (given : Given) (start now : History) (OutTells : Type 0) (old new : List ℕ) (before after status : ℕ) : Type 0 where
-  pub stop : Option Stop
-  pub written : List ℕ
-  pub told : List ℕ
-  pub end : ProgramEnd given start now OutTells old written told stop
-  pub answer : IsStatus stop before after status
-  pub wrote : OutTells → Wrote stop told written new before after status
+module _ {L : Type 0} (told tells : Type 0) (lines : L → List Line) (available : L → ℕ) (answers : L → List ℕ) (faults : L → ℕ) where
+  -- How the program ended, and what it wrote: why it stopped, if it did; what was written as rounds ended, and what was left to be written.
+  pub record ProgramWrote (given : Given) (start now : History) (disk_faults disk_faults_now : ℕ) (returned returned_now : List (List ℕ)) (OutTells : Type 0) (old new : List ℕ) (before after status : ℕ) : Type 0 where
+    pub stop : Option Stop
+    pub written : List ℕ
+    pub text : List ℕ
+    pub end : ProgramEnd told tells lines available answers faults given OutTells (went_of start now disk_faults disk_faults_now returned returned_now old written text) stop
+    pub answer : IsStatus stop before after status
+    pub wrote : OutTells → Wrote stop text written new before after status

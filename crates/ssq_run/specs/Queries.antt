@@ -1,41 +1,40 @@
--- What is said of queries: how a file is written as one, the names in it, and the job that it is over a log.
-use Rattle.std.specs.Prelude.{ℕ, List, [], take, slice_index_or}
-use Rattle.ssq_outside.specs.Logs.{Held, Line}
-use Rattle.ssq_query.specs.declared.query.Query.{Query}
-use Rattle.ssq_query.specs.Binding.{bound_of}
-use Rattle.ssq_query.specs.Canonical.{canonical}
-use Rattle.ssq_query.specs.File.{IsWritten, IsNoQuery}
-use Rattle.ssq_query.specs.Names.{column_names}
-use Rattle.ssq_round.specs.Standing.{Job}
+-- What is said of a query's file.
+use Rattle.std.specs.Prelude.{ℕ, List, take}
+use Rattle.ssq_outside.specs.Logs.{Held}
+use Rattle.ssq_ast.specs.declared.query.Query.{Query}
+use Rattle.ssq_shape.specs.declared.bound.Bound.{Bound}
+use Rattle.ssq_accept.specs.Accepting.{IsAccepted, IsRefused, IsKnown, IsUnknown}
+use Rattle.ssq_terms.specs.Setting.{IsPlain}
+use Rattle.ssq_words.specs.Asking.{Asked, asks_run, asks_explain, asks_status}
+use Rattle.ssq_accept.specs.declared.refusal.Refusal.{Refusal}
 
 -- what is read of a query's file: a longer one is no query
 abbrev pub read_of : Held → List ℕ → List ℕ
 read_of held file = take 65537 (held.text file)
 
--- the file of this name is written as this query
-abbrev pub IsQueryAt : Held → List ℕ → Query → Type 0
-IsQueryAt held file query = IsWritten (read_of held file) query
+-- the file of this name is accepted for a run, as this bound query
+pub record IsQueryAt (held : Held) (file : List ℕ) (bound : Bound) : Type 0 where
+  pub query : Query
+  pub accepted : IsAccepted (read_of held file) query bound
 
--- it is written as no query
-abbrev pub IsNoQueryAt : Held → List ℕ → Type 0
-IsNoQueryAt held file = IsNoQuery (read_of held file)
+-- it is this bound query, whether or not that is run yet
+pub record IsKnownAt (held : Held) (file : List ℕ) (bound : Bound) : Type 0 where
+  pub query : Query
+  pub known : IsKnown (read_of held file) query bound
 
--- the text by which a checkpoint keeps the query
-abbrev pub text_of : Query → List ℕ
-text_of query = canonical query
+-- what a command is about
+abbrev pub IsQueryFor : Held → Asked → Bound → Type 0
+IsQueryFor held (asks_run file partitions most rounds) bound = IsQueryAt held file bound
+IsQueryFor held (asks_explain file) bound = IsKnownAt held file bound
+IsQueryFor held (asks_status file) bound = IsKnownAt held file bound
 
--- the declared name of the one stream
-abbrev pub stream_of : Query → List ℕ
-stream_of query = query.stream
+-- its file is refused, and this is why
+abbrev pub IsRefusedFor : Held → Asked → Refusal → Type 0
+IsRefusedFor held (asks_run file partitions most rounds) why = IsRefused (read_of held file) why
+IsRefusedFor held (asks_explain file) why = IsUnknown (read_of held file) why
+IsRefusedFor held (asks_status file) why = IsUnknown (read_of held file) why
 
--- the name of its source
-abbrev pub source_of : Query → List ℕ
-source_of query = query.source
-
--- the name of one of its columns
-abbrev pub column_of : Query → ℕ → List ℕ
-column_of query column = slice_index_or (column_names query.columns) column []
-
--- the query over the lines of its log: it means what its bound query means
-abbrev pub job_of : Query → List Line → Job
-job_of query lines = record { bound = bound_of query; text = text_of query; lines = lines }
+-- a query that is to be run keeps nothing
+abbrev pub KeepsNothing : Asked → Bound → Type 0
+KeepsNothing (asks_run file partitions most rounds) bound = IsPlain bound
+KeepsNothing _ bound = Unit {0}

@@ -1,25 +1,34 @@
 -- How faults become the program's stop, its status, and when each may come.
-use Rattle.std.specs.Prelude.{◌≡◌, ℕ, List, Option, Some, None, Result, Ok, Err, IsSome, ⊤}
+use Rattle.std.specs.Prelude.{◌≡◌, ◌⊎◌, ℕ, List, Option, Some, None, Result, Ok, Err, IsSome}
 use Rattle.ssq_outside.specs.Faults.{Rises}
 use Rattle.ssq_outside.specs.Logs.{Held}
 use Rattle.ssq_outside.specs.declared.inputs.InputError.{InputError}
 use Rattle.ssq_outside.specs.declared.inputs.InputError.TheVariants as input
-use Rattle.ssq_json.specs.declared.bad_row.BadRow.{BadRow}
-use Rattle.ssq_json.specs.declared.bad_row.BadRow.TheVariants as bad
-use Rattle.ssq_query.specs.declared.fault.QueryFault.{QueryFault}
-use Rattle.ssq_query.specs.declared.fault.QueryFault.TheVariants as query_fault
-use Rattle.ssq_query.specs.declared.query.Query.{Query as Asking}
-use Rattle.ssq_words.specs.Asking.{asked}
+use Rattle.ssq_value.specs.declared.column.Column.{Column}
+use Rattle.ssq_shape.specs.declared.bound.Stream.{Stream}
+use Rattle.ssq_board.specs.declared.front.RowFault.{RowFault}
+use Rattle.ssq_board.specs.declared.front.RowFault.TheVariants as row
+use Rattle.ssq_board.specs.declared.front.Cause.{Cause}
+use Rattle.ssq_board.specs.declared.front.Cause.TheVariants as cause
+use Rattle.ssq_logs.specs.declared.fault.PartsFault.{PartsFault}
+use Rattle.ssq_logs.specs.declared.fault.PartsFault.TheVariants as parts
+use Rattle.ssq_logs.specs.declared.fault.LengthFault.{LengthFault}
+use Rattle.ssq_logs.specs.declared.fault.LengthFault.TheVariants as lengths
+use Rattle.ssq_open.specs.declared.fault.OpenFault.{OpenFault}
+use Rattle.ssq_open.specs.declared.fault.OpenFault.TheVariants as opening
+use Rattle.ssq_runner.specs.declared.fault.RunFault.{RunFault}
+use Rattle.ssq_runner.specs.declared.fault.RunFault.TheVariants as run
+use Rattle.ssq_accept.specs.declared.refusal.Refusal.{Refusal}
+use Rattle.ssq_accept.specs.declared.refusal.Refusal.TheVariants as refusal
+use Rattle.ssq_words.specs.Asking.{Asked, asked}
 use Rattle.ssq_words.specs.declared.error.AskError.{AskError}
 use Rattle.ssq_words.specs.declared.error.AskError.TheVariants as words
-use Rattle.ssq_opening.specs.declared.fault.OpenFault.{OpenFault}
-use Rattle.ssq_opening.specs.declared.fault.OpenFault.TheVariants as opening
-use Rattle.ssq_job.specs.declared.fault.JobFault.{JobFault}
-use Rattle.ssq_job.specs.declared.fault.JobFault.TheVariants as job
 use Rattle.ssq_run.specs.declared.stop.Stop.{Stop}
-use Rattle.ssq_run.specs.declared.stop.Stop.TheVariants.{Usage, Query, BadLine, Overflow, LogFault, DiskFault, OutFault, OtherQuery, OtherPartitions, OtherParts, LogShort, Damaged, NoMemory, FullLines, FullEpochs}
+use Rattle.ssq_run.specs.declared.stop.Stop.TheVariants.{Usage, Refused, BadLine, Overflow, LogFault, DiskFault, OutFault, OtherQuery, OtherPartitions, OtherParts, LogShort, Damaged, NoMemory, FullParts, FullLines, FullEpochs}
+use Rattle.ssq_run.specs.declared.stop.Wrong.{Wrong}
 use Rattle.ssq_run.specs.declared.stop.Wrong.TheVariants.{TooLong, NotJson, NotObject, WrongType, NoEventTime}
-use Rattle.ssq_run.specs.Queries.{IsNoQueryAt, stream_of, column_of}
+use Rattle.ssq_run.specs.Places.{name_of, columns_of, column_of, place_of}
+use Rattle.ssq_run.specs.Queries.{IsRefusedFor}
 
 abbrev pub stop_of_ask : AskError → Stop
 stop_of_ask words.Usage = Usage
@@ -29,49 +38,67 @@ abbrev pub stop_of_input : InputError → Stop
 stop_of_input input.Fault = LogFault
 stop_of_input input.NoMemory = NoMemory
 
-abbrev pub stop_of_query : QueryFault → Stop
-stop_of_query query_fault.NotYet = Query
-stop_of_query query_fault.NoMemory = NoMemory
+abbrev pub stop_of_refusal : Refusal → Stop
+stop_of_refusal (refusal.Parse at own) = Refused (refusal.Parse at own)
+stop_of_refusal (refusal.Bind fault) = Refused (refusal.Bind fault)
+stop_of_refusal (refusal.Mode fault) = Refused (refusal.Mode fault)
+stop_of_refusal (refusal.NotYet shape) = Refused (refusal.NotYet shape)
+stop_of_refusal refusal.NoMemory = NoMemory
 
--- the line at an offset of the one part is bad, with this cause
-abbrev pub stop_of_bad : Asking → ℕ → BadRow → Stop
-stop_of_bad query at bad.TooLong = BadLine (stream_of query) 0 at TooLong
-stop_of_bad query at bad.NotJson = BadLine (stream_of query) 0 at NotJson
-stop_of_bad query at bad.NotObject = BadLine (stream_of query) 0 at NotObject
-stop_of_bad query at (bad.WrongType column) = BadLine (stream_of query) 0 at (WrongType (column_of query column))
-stop_of_bad query at bad.NoEventTime = BadLine (stream_of query) 0 at NoEventTime
-stop_of_bad query at bad.NoMemory = NoMemory
+-- what is wrong with a line of a stream that has these columns
+abbrev pub wrong_of : List Column → RowFault → Wrong
+wrong_of columns row.TooLong = TooLong
+wrong_of columns row.NotJson = NotJson
+wrong_of columns row.NotObject = NotObject
+wrong_of columns (row.WrongType column) = WrongType (column_of columns column)
+wrong_of columns row.NoEventTime = NoEventTime
 
--- a run's fault, told by the names of its query, which has one stream of one part
-abbrev pub stop_of_job : Asking → JobFault → Stop
-stop_of_job query (job.OtherQuery kept) = OtherQuery kept
-stop_of_job query (job.OtherPartitions kept asked) = OtherPartitions kept asked
-stop_of_job query (job.OtherParts stream kept found) = OtherParts (stream_of query) kept found
-stop_of_job query (job.LogShort logged found) = LogShort (stream_of query) 0 logged found
-stop_of_job query (job.Damaged name) = Damaged name
-stop_of_job query (job.Bad offset cause) = stop_of_bad query offset cause
-stop_of_job query (job.Overflow offset) = Overflow (stream_of query) 0 offset
-stop_of_job query (job.FullLines lines) = FullLines (stream_of query) 0 lines
-stop_of_job query job.FullEpochs = FullEpochs
-stop_of_job query job.LogFault = LogFault
-stop_of_job query job.DiskFault = DiskFault
-stop_of_job query job.OutFault = OutFault
-stop_of_job query job.NoMemory = NoMemory
+abbrev pub stop_of_parts : List Stream → PartsFault → Stop
+stop_of_parts streams (parts.Full stream) = FullParts (name_of streams stream)
+stop_of_parts streams parts.LogFault = LogFault
+stop_of_parts streams parts.NoMemory = NoMemory
 
--- and a look's
-abbrev pub stop_of_open : Asking → OpenFault → Stop
-stop_of_open query (opening.OtherQuery kept) = OtherQuery kept
-stop_of_open query (opening.OtherPartitions kept asked) = OtherPartitions kept asked
-stop_of_open query (opening.OtherParts stream kept found) = OtherParts (stream_of query) kept found
-stop_of_open query (opening.LogShort stream part logged found) = LogShort (stream_of query) part logged found
-stop_of_open query (opening.Damaged name) = Damaged name
-stop_of_open query opening.DiskFault = DiskFault
-stop_of_open query opening.NoMemory = NoMemory
+abbrev pub stop_of_lines : List Stream → List ℕ → LengthFault → Stop
+stop_of_lines streams counts (lengths.Full number lines) = FullLines (name_of streams (place_of counts number).stream) (place_of counts number).part lines
+stop_of_lines streams counts lengths.LogFault = LogFault
+stop_of_lines streams counts lengths.NoMemory = NoMemory
 
--- how the job ended, told so
-abbrev pub stop_of_end : Asking → Option JobFault → Option Stop
-stop_of_end query None = None
-stop_of_end query (Some fault) = Some (stop_of_job query fault)
+abbrev pub stop_of_open : List Stream → OpenFault → Stop
+stop_of_open streams (opening.OtherQuery kept) = OtherQuery kept
+stop_of_open streams (opening.OtherPartitions kept asked) = OtherPartitions kept asked
+stop_of_open streams (opening.OtherParts stream kept found) = OtherParts (name_of streams stream) kept found
+stop_of_open streams (opening.LogShort stream part logged found) = LogShort (name_of streams stream) part logged found
+stop_of_open streams (opening.Damaged name) = Damaged name
+stop_of_open streams opening.DiskFault = DiskFault
+stop_of_open streams opening.NoMemory = NoMemory
+
+abbrev pub stop_of_cause : List Stream → Cause → Stop
+stop_of_cause streams (cause.BadLine stream part offset fault) = BadLine (name_of streams stream) part offset (wrong_of (columns_of streams stream) fault)
+stop_of_cause streams (cause.Overflow stream part offset) = Overflow (name_of streams stream) part offset
+stop_of_cause streams cause.LogFault = LogFault
+stop_of_cause streams (cause.LogShort stream part logged found) = LogShort (name_of streams stream) part logged found
+stop_of_cause streams (cause.Damaged name) = Damaged name
+stop_of_cause streams cause.DiskFault = DiskFault
+stop_of_cause streams cause.Full = FullEpochs
+stop_of_cause streams cause.NoMemory = NoMemory
+
+-- a run's fault, told by the names of its streams, which have so many parts each
+abbrev pub stop_of_run : List Stream → List ℕ → RunFault → Stop
+stop_of_run streams counts (run.Parts fault) = stop_of_parts streams fault
+stop_of_run streams counts (run.Lines fault) = stop_of_lines streams counts fault
+stop_of_run streams counts (run.Open fault) = stop_of_open streams fault
+stop_of_run streams counts (run.Round why) = stop_of_cause streams why
+stop_of_run streams counts run.OutFault = OutFault
+stop_of_run streams counts run.NoMemory = NoMemory
+
+-- how a run ended, told so
+abbrev pub stop_of_end : List Stream → List ℕ → Result (Unit {0}) RunFault → Option Stop
+stop_of_end streams counts (Ok done) = None
+stop_of_end streams counts (Err fault) = Some (stop_of_run streams counts fault)
+
+-- it is told so, or memory ran out for that
+abbrev pub IsToldAs : Option Stop → Option Stop → Type 0
+IsToldAs stop as_is = (stop ≡ as_is) ⊎ (stop ≡ Some NoMemory)
 
 -- the stop of a result, if it is one
 abbrev pub stop_in : {T : Type 0} → Result T Stop → Option Stop
@@ -81,7 +108,7 @@ stop_in (Err stop) = Some stop
 -- the status of a stop
 abbrev pub status_of : Stop → ℕ
 status_of Usage = 2
-status_of Query = 3
+status_of (Refused why) = 3
 status_of (BadLine stream part offset wrong) = 4
 status_of (Overflow stream part offset) = 5
 status_of LogFault = 6
@@ -93,6 +120,7 @@ status_of (OtherParts stream kept found) = 9
 status_of (LogShort stream part logged found) = 9
 status_of (Damaged name) = 9
 status_of NoMemory = 10
+status_of (FullParts stream) = 11
 status_of (FullLines stream part lines) = 11
 status_of FullEpochs = 11
 
@@ -100,35 +128,27 @@ abbrev pub status_in : Option Stop → ℕ
 status_in None = 0
 status_in (Some stop) = status_of stop
 
--- a fault of the inputs is told only where it was counted
-abbrev pub LogRises : ℕ → ℕ → Stop → Type 0
-LogRises before now LogFault = Rises before now
-LogRises before now _ = ⊤
-
--- a fault of the disk likewise
-abbrev pub DiskRises : ℕ → ℕ → Stop → Type 0
-DiskRises before now DiskFault = Rises before now
-DiskRises before now _ = ⊤
-
--- and one of the output
-abbrev pub OutRises : ℕ → ℕ → Stop → Type 0
-OutRises before now OutFault = Rises before now
-OutRises before now _ = ⊤
+-- a fault of the inputs, the disk or the output is told only where it was counted
+abbrev pub HasCount : (inputs inputs_now disk disk_now out out_now : ℕ) → Option Stop → Type 0
+HasCount inputs inputs_now disk disk_now out out_now (Some LogFault) = Rises inputs inputs_now
+HasCount inputs inputs_now disk disk_now out out_now (Some DiskFault) = Rises disk disk_now
+HasCount inputs inputs_now disk disk_now out out_now (Some OutFault) = Rises out out_now
+HasCount inputs inputs_now disk disk_now out out_now _ = Unit {0}
 
 -- what can come once the words are taken
-abbrev pub IsPastWords : Stop → Type 0
-IsPastWords Usage = ⊥
-IsPastWords _ = ⊤
+abbrev pub IsPastWords : Option Stop → Type 0
+IsPastWords (Some Usage) = ⊥
+IsPastWords _ = Unit {0}
 
--- why a query's file was not read: it is no query, the inputs failed, or memory ran out
-abbrev pub ReadCause : Held → List ℕ → Stop → Type 0
-ReadCause held file Query = IsNoQueryAt held file
-ReadCause held file LogFault = ⊤
-ReadCause held file NoMemory = ⊤
-ReadCause held file _ = ⊥
+-- why a command's query was not had: its file is refused, the inputs failed, or memory ran out
+abbrev pub IsUnread : Held → Asked → Stop → Type 0
+IsUnread held what (Refused why) = IsRefusedFor held what why × (stop_of_refusal why ≡ Refused why)
+IsUnread held what LogFault = Unit {0}
+IsUnread held what NoMemory = Unit {0}
+IsUnread held what _ = ⊥
 
--- The words are no command; or they are one, and there is another cause. Memory may run out at any time.
-abbrev pub WordsCause : List (List ℕ) → Stop → Type 0
-WordsCause words Usage = asked words ≡ None
-WordsCause words NoMemory = ⊤
+-- The words are no command; or they are one, and there is another cause, or none. Memory may run out at any time.
+abbrev pub WordsCause : List (List ℕ) → Option Stop → Type 0
+WordsCause words (Some Usage) = asked words ≡ None
+WordsCause words (Some NoMemory) = Unit {0}
 WordsCause words _ = IsSome (asked words)

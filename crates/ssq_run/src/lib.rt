@@ -1,9 +1,12 @@
 //! The top call of the engine: `stream_main` does all that the program does, over the traits of the outside.
+//!
+//! The definitions are in `specs/`: `Program` says how the program ends, `Going` what it promises, `Stopping` why it stops and with which
+//! status, `Lines` what it tells.
 #![tactic(auto)]
 
+mod faults;
+mod obey;
 mod prepare;
-mod refused;
-mod run;
 mod status;
 mod stop;
 mod stream;

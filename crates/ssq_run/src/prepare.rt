@@ -1,32 +1,81 @@
-//! A query's file.
+//! A command's query.
 
-ghost use Rattle.std.specs.Prelude.{◌≡◌, ◌≤◌, List, ℕ, IfOk, IfErr};
-ghost use Rattle.ssq_query.specs.Taken.{IsTaken};
-ghost use Rattle.ssq_run.specs.Queries.{IsQueryAt};
-ghost use Rattle.ssq_run.specs.Stopping.{LogRises, DiskRises, OutRises, ReadCause, IsPastWords};
+ghost use Rattle.std.specs.Prelude.{◌≡◌, ◌≤◌, List, ℕ, length, take, Err, IfOk, IfErr};
+ghost use Rattle.ssq_accept.specs.Accepting.{IsAccepted, IsRefused, IsKnown, IsUnknown};
+ghost use Rattle.ssq_terms.specs.Setting.{IsPlain};
+ghost use Rattle.ssq_words.specs.Asking.{asked_of};
+ghost use Rattle.ssq_ast.specs.declared.query.Query.{Query as QueryOf};
+ghost use Rattle.ssq_run.specs.Program.{file_of};
+ghost use Rattle.ssq_run.specs.Queries.{IsQueryFor, KeepsNothing};
+ghost use Rattle.ssq_run.specs.Stopping.{HasCount, IsPastWords, IsUnread, stop_in};
 
 use crate::stop::Stop;
+use ssq_accept::{Accepted, Refusal, accept, recognise};
 use ssq_outside::Inputs;
-use ssq_query::{Query, read_query};
+use ssq_shape::Bound;
+use ssq_words::Command;
 use std::alloc::Global;
 
 /// More bytes than a query's file may have.
 const PAST_QUERY: usize = 65_537;
 
-/// Reads a query's file.
-pub fn read_file<I: Inputs>(alloc: Global, inputs: &mut I, file: &str) -> Result<Query, Stop>
-    ensures written { I.tells → IfOk result (IsQueryAt (I.held inputs.old) file.now) }
-    ensures taken { IfOk result IsTaken }
-    ensures stop { I.tells → IfErr result (ReadCause (I.held inputs.old) file.now) }
-    ensures only { IfErr result IsPastWords }
-    ensures same { I.tells → I.held inputs.new ≡ I.held inputs.old }
-    ensures grown { I.tells → (stream : List ℕ) (part : ℕ) → I.available inputs.old stream part ≤ I.available inputs.new stream part }
-    ensures counted { I.faults inputs.old ≤ I.faults inputs.new }
-    ensures cause { IfErr result (LogRises (I.faults inputs.old) (I.faults inputs.new)) }
-    ensures not_the_disk { (before now : ℕ) → IfErr result (DiskRises before now) }
-    ensures not_the_output { (before now : ℕ) → IfErr result (OutRises before now) }
+/// The query's file.
+fn file_of<'a>(command: Command<'a>) -> &'a str
+    ensures { result.now ≡ file_of (asked_of command.entry) }
 {
-    let bytes = inputs.text(alloc, file, PAST_QUERY)?;
-    let query = read_query(alloc, bytes.as_slice())?;
-    Ok(query)
+    match command {
+        Command::Run { query, .. } => query,
+        Command::Explain { query } => query,
+        Command::Status { query } => query,
+    }
+}
+
+/// The query that is run.
+fn run_query(alloc: Global, bytes: &[u8]) -> Result<Bound, Refusal>
+    ensures accepted { IfOk result (λ bound. (query : QueryOf) × IsAccepted bytes.now query bound) }
+    ensures plain { IfOk result IsPlain }
+    ensures few { IfOk result (λ bound. length bound.streams ≤ 2) }
+    ensures refused { IfErr result (IsRefused bytes.now) }
+{
+    let Accepted { query: _, bound } = accept(alloc, bytes)?;
+    Ok(bound)
+}
+
+/// The query that is only told of.
+fn known_query(alloc: Global, bytes: &[u8]) -> Result<Bound, Refusal>
+    ensures known { IfOk result (λ bound. (query : QueryOf) × IsKnown bytes.now query bound) }
+    ensures few { IfOk result (λ bound. length bound.streams ≤ 2) }
+    ensures refused { IfErr result (IsUnknown bytes.now) }
+{
+    let Accepted { query: _, bound } = recognise(alloc, bytes)?;
+    Ok(bound)
+}
+
+/// Reads the query of a command.
+pub(crate) fn read_query<I: Inputs>(
+    alloc: Global,
+    inputs: &mut I,
+    command: Command<'_>,
+) -> Result<Bound, Stop>
+    ensures is { I.tells → IfOk result (IsQueryFor (I.held inputs.old) (asked_of command.entry)) }
+    ensures plain { IfOk result (KeepsNothing (asked_of command.entry)) }
+    ensures few { IfOk result (λ bound. length bound.streams ≤ 2) }
+    ensures unread { I.tells → IfErr result (IsUnread (I.held inputs.old) (asked_of command.entry)) }
+    ensures held { I.tells → I.held inputs.new ≡ I.held inputs.old }
+    ensures unreturned { I.tells → I.returned inputs.new ≡ I.returned inputs.old }
+    ensures grown { I.tells → (stream : List ℕ) (part : ℕ) → I.available inputs.old stream part ≤ I.available inputs.new stream part }
+    ensures only { IsPastWords (stop_in result) }
+    ensures counted { I.faults inputs.old ≤ I.faults inputs.new }
+    ensures cause { HasCount (I.faults inputs.old) (I.faults inputs.new) 0 0 0 0 (stop_in result) }
+{
+    let bytes = inputs.text(alloc, file_of(command), PAST_QUERY)?;
+    let read = match command {
+        Command::Run { .. } => run_query(alloc, bytes.as_slice()),
+        Command::Explain { .. } => known_query(alloc, bytes.as_slice()),
+        Command::Status { .. } => known_query(alloc, bytes.as_slice()),
+    };
+    match read {
+        Ok(bound) => Ok(bound),
+        Err(refusal) => Err(Stop::from(refusal)),
+    }
 }

@@ -1,117 +1,126 @@
 //! How far the checkpoint of a query has come.
 
-ghost use Rattle.std.specs.Prelude.{◌≡◌, ◌≤◌, ◌+◌, ◌++◌, ℕ, [], None, Some, string_bytes, IfOk, IfErr, OnOk};
+ghost use Rattle.std.specs.Prelude.{◌≡◌, ◌≤◌, ◌^◌, ◌++◌, [], length, All, Some, None, IfOk, IfErr, OnOk};
+ghost use Rattle.std.specs.Option.{ForSome};
+ghost use Rattle.ssq_time.specs.Time.{IsStampTime};
 ghost use Rattle.ssq_outside.specs.History.{files_now};
-ghost use Rattle.ssq_opening.specs.Opening.{last_ends};
-ghost use Rattle.ssq_plans.specs.Records.{lines, part_line};
-ghost use Rattle.ssq_run.specs.Lines.{planned_with, number_line, heading, status_text};
+ghost use Rattle.ssq_plans.specs.Records.{lines, part_line, time_or_none};
+ghost use Rattle.ssq_open.specs.Looking.{begins};
+ghost use Rattle.ssq_open.specs.Epochs.{last_ends};
+ghost use Rattle.ssq_run.specs.Lines.{last_watermark, number_line, watermark_line, status_text};
 ghost use Rattle.ssq_run.specs.Looked.{LookEnd};
-ghost use Rattle.ssq_run.specs.Stopping.{LogRises, DiskRises, OutRises, IsPastWords};
+ghost use Rattle.ssq_run.specs.Stopping.{HasCount, IsPastWords, stop_in};
 
-use crate::refused::stop_of_open;
+use crate::faults::stop_of_open;
 use crate::stop::Stop;
-use ssq_opening::{Opened, look};
+use ssq_field::put_decimal_to;
+use ssq_open::{Opened, begins, look};
 use ssq_outside::Disk;
-use ssq_plans::PartEnd;
-use ssq_query::{Query, text};
-use ssq_value::texts_are_utf8;
+use ssq_plans::{PartEnd, Plan};
+use ssq_shape::Bound;
+use ssq_time::put_time;
 use std::alloc::{AllocError, Global};
 
-/// How many epochs are planned.
-fn planned(opened: &Opened) -> u64
-    ensures { result ≡ planned_with opened.now.committed opened.now.pending }
-{
-    match opened.pending {
-        Some(_) => opened.committed as u64 + 1,
-        None => opened.committed as u64,
-    }
-}
-
-/// Where the planned epochs end.
-fn last_ends(opened: &Opened) -> &[PartEnd]
-    ensures { result.now ≡ last_ends opened.now.ends opened.now.pending }
-{
-    match &opened.pending {
-        Some(plan) => plan.ends.as_slice(),
-        None => opened.ends.as_slice(),
-    }
-}
-
 /// Adds a line that tells a number.
-fn push_number(alloc: Global, text: &mut String, name: &str, number: u64) -> Result<(), AllocError>
-    ensures { OnOk result (string_bytes text.new ≡ string_bytes text.old ++ number_line name.now number) }
+fn put_number(text: &mut Vec<u8>, name: &[u8], number: u64) -> Result<(), AllocError>
+    ensures { OnOk result (text.new.items ≡ text.old.items ++ number_line name.now number) }
 {
-    let line = format!(in alloc; "{name} {number}\n")?;
-    text.push_str(line.as_str())
+    text.extend_from_slice(name)?;
+    text.extend_from_slice(b" ")?;
+    put_decimal_to(text, number)?;
+    text.extend_from_slice(b"\n")
 }
 
-/// What stands before the lines of the parts.
-fn heading(
-    alloc: Global,
-    partitions: u32,
-    planned: u64,
-    committed: u32,
-) -> Result<String, AllocError>
-    ensures { IfOk result (λ text. string_bytes text ≡ heading partitions planned committed) }
+/// The watermark of the last plan, if there is one.
+fn last_watermark(plans: &[Plan]) -> Option<i64>
+    requires { All (λ plan. ForSome plan.watermark IsStampTime) plans.now }
+    ensures is { result ≡ last_watermark plans.now }
+    ensures stamp { ForSome result IsStampTime }
 {
-    let mut text = String::new(alloc);
-    push_number(alloc, &mut text, "partitions", partitions as u64)?;
-    push_number(alloc, &mut text, "planned", planned)?;
-    push_number(alloc, &mut text, "committed", committed as u64)?;
-    text.push_str("watermark none\n")?;
-    Ok(text)
+    match plans.last() {
+        Some(plan) => plan.watermark,
+        None => None,
+    }
+}
+
+/// Adds the line of a watermark.
+fn put_watermark(text: &mut Vec<u8>, watermark: Option<i64>) -> Result<(), AllocError>
+    requires { ForSome watermark IsStampTime }
+    ensures { OnOk result (text.new.items ≡ text.old.items ++ watermark_line watermark) }
+{
+    text.extend_from_slice(b"watermark ")?;
+    match watermark {
+        Some(time) => put_time(text, time)?,
+        None => text.extend_from_slice(b"none")?,
+    }
+    text.extend_from_slice(b"\n")
 }
 
 /// Adds the line of a part.
-fn push_part(alloc: Global, text: &mut String, part: &PartEnd) -> Result<(), AllocError>
-    ensures { OnOk result (string_bytes text.new ≡ string_bytes text.old ++ part_line part.now) }
+fn put_part(text: &mut Vec<u8>, part: &PartEnd) -> Result<(), AllocError>
+    ensures { OnOk result (text.new.items ≡ text.old.items ++ part_line part.now) }
 {
-    let (stream, number, end) = (part.stream, part.part, part.end);
-    let line = format!(in alloc; "part {stream} {number} {end}\n")?;
-    text.push_str(line.as_str())
+    text.extend_from_slice(b"part ")?;
+    put_decimal_to(text, part.stream as u64)?;
+    text.extend_from_slice(b" ")?;
+    put_decimal_to(text, part.part as u64)?;
+    text.extend_from_slice(b" ")?;
+    put_decimal_to(text, part.end)?;
+    text.extend_from_slice(b"\n")
 }
 
 /// Adds the line of each part.
 #[tactic(auto, using(crate::proofs::PartLines::part_steps))]
-fn push_parts(alloc: Global, text: &mut String, ends: &[PartEnd]) -> Result<(), AllocError>
-    ensures { OnOk result (string_bytes text.new ≡ string_bytes text.old ++ lines (λ at part. part_line part) 0 ends.now) }
+fn put_parts(text: &mut Vec<u8>, ends: &[PartEnd]) -> Result<(), AllocError>
+    ensures { OnOk result (text.new.items ≡ text.old.items ++ lines (λ at part. part_line part) 0 ends.now) }
 {
     for part in ends {
-        push_part(alloc, text, part)?;
+        put_part(text, part)?;
     }
     Ok(())
 }
 
-/// What is told of a checkpoint.
-fn status_text(alloc: Global, opened: &Opened) -> Result<String, AllocError>
-    ensures { IfOk result (λ text. string_bytes text ≡ status_text opened.now) }
+/// Adds the line of each part: where the planned epochs end.
+fn put_ends(alloc: Global, text: &mut Vec<u8>, found: &Opened) -> Result<(), AllocError>
+    requires { length found.now.meta.parts ≤ 2 ^ 32 }
+    ensures { OnOk result (text.new.items ≡ text.old.items ++ lines (λ at part. part_line part) 0 (last_ends (begins found.now.meta.parts) found.now.plans)) }
 {
-    let mut text = heading(
-        alloc,
-        opened.meta.partitions,
-        planned(opened),
-        opened.committed,
-    )?;
-    push_parts(alloc, &mut text, last_ends(opened))?;
+    match found.plans.as_slice().last() {
+        Some(plan) => put_parts(text, plan.ends.as_slice()),
+        None => {
+            let first = begins(alloc, found.meta.parts.as_slice())?;
+            put_parts(text, first.as_slice())
+        }
+    }
+}
+
+/// What is told of a checkpoint.
+fn status_text(alloc: Global, found: &Opened) -> Result<Vec<u8>, AllocError>
+    requires marks { All (λ plan. ForSome plan.watermark IsStampTime) found.now.plans }
+    requires few { length found.now.meta.parts ≤ 2 ^ 32 }
+    ensures { IfOk result (λ text. text.items ≡ status_text found.now) }
+{
+    let mut text = Vec::new(alloc);
+    put_number(&mut text, b"partitions", found.meta.partitions as u64)?;
+    put_number(&mut text, b"planned", found.plans.len() as u64)?;
+    put_number(&mut text, b"committed", found.committed as u64)?;
+    put_watermark(&mut text, last_watermark(found.plans.as_slice()))?;
+    put_ends(alloc, &mut text, found)?;
     Ok(text)
 }
 
 /// Looks at the checkpoint of a query, and says what there is to tell of it.
-pub fn status<D: Disk>(alloc: Global, disk: &mut D, query: Query) -> Result<String, Stop>
-    ensures told { D.tells → IfOk result (λ told. LookEnd query (files_now (D.history disk.old)) (string_bytes told) None) }
-    ensures stop { D.tells → IfErr result (λ stop. LookEnd query (files_now (D.history disk.old)) [] (Some stop)) }
-    ensures only { IfErr result IsPastWords }
+pub(crate) fn status<D: Disk>(alloc: Global, disk: &mut D, bound: &Bound) -> Result<Vec<u8>, Stop>
+    requires few { length bound.now.streams ≤ 2 }
+    ensures told { D.tells → IfOk result (λ told. LookEnd bound.now (files_now (D.history disk.old)) told.items None) }
+    ensures stop { D.tells → IfErr result (λ stop. LookEnd bound.now (files_now (D.history disk.old)) [] (Some stop)) }
+    ensures only { IsPastWords (stop_in result) }
     ensures same { D.tells → D.history disk.new ≡ D.history disk.old }
-    ensures counted { D.faults disk.old ≤ D.faults disk.new }
-    ensures cause { IfErr result (DiskRises (D.faults disk.old) (D.faults disk.new)) }
-    ensures not_the_inputs { (before now : ℕ) → IfErr result (LogRises before now) }
-    ensures not_the_output { (before now : ℕ) → IfErr result (OutRises before now) }
+    ensures cause { HasCount 0 0 (D.faults disk.old) (D.faults disk.new) 0 0 (stop_in result) }
 {
-    let text = text(alloc, &query)?;
-    texts_are_utf8(&text);
-    match look(alloc, disk, &text, 1) {
-        Ok(None) => Ok(String::from_str(alloc, "no checkpoint\n")?),
-        Ok(Some(opened)) => Ok(status_text(alloc, &opened)?),
-        Err(fault) => Err(stop_of_open(query, fault)),
+    match look(alloc, disk, bound) {
+        Ok(None) => Ok(Vec::from_slice(alloc, b"no checkpoint\n")?),
+        Ok(Some(found)) => Ok(status_text(alloc, &found)?),
+        Err(fault) => Err(stop_of_open(alloc, bound.streams.as_slice(), fault)?),
     }
 }

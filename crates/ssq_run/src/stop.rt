@@ -3,9 +3,9 @@
 ghost use Rattle.std.specs.Prelude.{◌≡◌, ℕ};
 ghost use Rattle.ssq_run.specs.Stopping.{status_of};
 
+use ssq_accept::Refusal;
 use ssq_outside::{InputError, Name};
 use ssq_plans::NameText;
-use ssq_query::QueryFault;
 use ssq_value::Text;
 use ssq_words::AskError;
 use std::alloc::AllocError;
@@ -47,8 +47,8 @@ impl fmt::Display for Wrong {
 pub enum Stop {
     /// The words are no command.
     Usage,
-    /// The file is no query that can be run yet.
-    Query,
+    /// The file is no query that is run.
+    Refused(Refusal),
     /// The first line of a planned epoch that shows nothing is bad.
     BadLine {
         stream: Text,
@@ -77,7 +77,7 @@ pub enum Stop {
         kept: u32,
         asked: u32,
     },
-    /// A stream has another number of parts than it had, or than can be run yet.
+    /// A stream has another number of parts than it had.
     OtherParts {
         stream: Text,
         kept: u32,
@@ -96,10 +96,14 @@ pub enum Stop {
     },
     /// Memory ran out.
     NoMemory,
+    /// A stream has more than 64 parts.
+    FullParts {
+        stream: Text,
+    },
     /// A part has more than 1,099,511,627,776 lines.
     FullLines {
         stream: Text,
-        part: u32,
+        part: usize,
         lines: u64,
     },
     /// An epoch is to be planned, and 4,294,967,295 are.
@@ -113,7 +117,7 @@ impl Stop {
     {
         match self {
             Stop::Usage => 2,
-            Stop::Query => 3,
+            Stop::Refused(_) => 3,
             Stop::BadLine { .. } => 4,
             Stop::Overflow { .. } => 5,
             Stop::LogFault => 6,
@@ -125,6 +129,7 @@ impl Stop {
             Stop::LogShort { .. } => 9,
             Stop::Damaged { .. } => 9,
             Stop::NoMemory => 10,
+            Stop::FullParts { .. } => 11,
             Stop::FullLines { .. } => 11,
             Stop::FullEpochs => 11,
         }
@@ -141,7 +146,7 @@ impl fmt::Display for Stop {
     fn fmt<W: fmt::Write>(&self, f: &mut fmt::Formatter<W>) -> fmt::Result {
         match self {
             Stop::Usage => write!(f, "stopped 2 Usage"),
-            Stop::Query => write!(f, "stopped 3 NotYet Query"),
+            Stop::Refused(refusal) => write!(f, "stopped 3 {refusal}"),
             Stop::BadLine {
                 stream,
                 part,
@@ -181,6 +186,7 @@ impl fmt::Display for Stop {
             ),
             Stop::Damaged { name } => write!(f, "stopped 9 Damaged {}", NameText(*name)),
             Stop::NoMemory => write!(f, "stopped 10 NoMemory"),
+            Stop::FullParts { stream } => write!(f, "stopped 11 Full parts {} 65", stream.as_str()),
             Stop::FullLines {
                 stream,
                 part,
@@ -223,16 +229,16 @@ impl From<InputError> for Stop {
     }
 }
 
-impl From<QueryFault> for Stop {
+impl From<Refusal> for Stop {
     ghost use Rattle.std.specs.Prelude.{◌≡◌};
-    ghost use Rattle.ssq_run.specs.Stopping.{stop_of_query};
+    ghost use Rattle.ssq_run.specs.Stopping.{stop_of_refusal};
 
-    ghost from_gives = { λ error stop. stop ≡ stop_of_query error };
+    ghost from_gives = { λ refusal stop. stop ≡ stop_of_refusal refusal };
 
-    fn from(error: QueryFault) -> Stop {
-        match error {
-            QueryFault::NotYet => Stop::Query,
-            QueryFault::NoMemory => Stop::NoMemory,
+    fn from(refusal: Refusal) -> Stop {
+        match refusal {
+            Refusal::NoMemory => Stop::NoMemory,
+            _ => Stop::Refused(refusal),
         }
     }
 }

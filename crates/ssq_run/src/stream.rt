@@ -1,23 +1,30 @@
 //! The top call.
 
-ghost use Rattle.std.specs.Prelude.{◌≡◌, ◌≢◌, ◌≤◌, ◌⊎◌, ℕ, List, [], Some, None, map, string_bytes, IfErr, OnOk, IsSome};
-ghost use Rattle.std.specs.Option.{ForSome};
+ghost use Rattle.std.specs.Prelude.{◌≡◌, ◌≢◌, ◌≤◌, ◌⊎◌, ℕ, None, map, string_bytes};
+ghost use Rattle.std.specs.List.Sorted.{IsPermutation};
+ghost use Rattle.ssq_shape.specs.declared.bound.Shape.TheVariants as shape;
+ghost use Rattle.ssq_meaning.specs.Cut.{Cuts as OffsetsOf, AreCuts};
+ghost use Rattle.ssq_meaning.specs.Laws.{outs, batch};
 ghost use Rattle.ssq_outside.specs.Faults.{Rises};
-ghost use Rattle.ssq_outside.specs.History.{files_now};
-ghost use Rattle.ssq_words.specs.Asking.{asks_run, asked};
-ghost use Rattle.ssq_run.specs.Program.{Given, ProgramEnd, ProgramWrote, CanGoOn, HasRoom, IsFaultless, CanLook, NoneFailed, IsDone, IsDoneToALine};
-ghost use Rattle.ssq_run.specs.Stopping.{stop_in, LogRises, DiskRises, OutRises, WordsCause, IsPastWords};
+ghost use Rattle.ssq_outside.specs.History.{LeavesNow, LeavesOnly};
+ghost use Rattle.ssq_core.specs.Sound.{StandsOrEmpty};
+ghost use Rattle.ssq_core.specs.Standing.{Stands};
+ghost use Rattle.ssq_course.specs.Setting.{Setting as SettingOf, parts_in, job_of};
+ghost use Rattle.ssq_words.specs.Asking.{asked};
+ghost use Rattle.ssq_run.specs.Going.{IsAskedFor, CanGoOn, HasRoom, IsFaultless, CanLook, NoneFailed, IsDone, IsDoneToALine};
+ghost use Rattle.ssq_run.specs.Program.{went_of, ProgramEnd, ProgramWrote};
+ghost use Rattle.ssq_run.specs.Stopping.{stop_in, HasCount, WordsCause};
 
-use crate::prepare::read_file;
-use crate::run::run_source;
-use crate::status::status;
+use crate::obey::{Done, obey, stopped};
+use crate::prepare::read_query;
 use crate::stop::Stop;
 use crate::tell::tell;
-use ssq_job::Ask;
+use ssq_accept::files_have_one_answer;
+use ssq_meaning::rows_add_up;
 use ssq_outside::{Disk, Gate, Inputs, Output};
-use ssq_query::bind;
-use ssq_round::Prepared;
-use ssq_words::{Command, ask};
+use ssq_runner::runs_go_on;
+use ssq_terms::job_is_wanted;
+use ssq_words::ask;
 use std::alloc::Global;
 use std::sync::Wait;
 use std::thread::Threads;
@@ -32,81 +39,48 @@ pub struct Ended<D: Disk, I: Inputs, O: Output> {
     pub out: O,
 }
 
-/// Runs the query of a file.
-fn run_file<D: Disk, I: Inputs, O: Output>(
+/// Does what the words ask for.
+fn work<D: Disk, I: Inputs, O: Output, G: Gate>(
     alloc: Global,
-    disk: &mut D,
-    inputs: &mut I,
-    out: &mut O,
-    file: &str,
-    ask: Ask,
-    told: &mut String,
-) -> Result<(), Stop>
-    requires some { ForSome ask.most (λ most. 1 ≤ most) }
-    requires rounds { 1 ≤ ask.rounds }
-    requires untold { string_bytes told.old ≡ [] }
-    ensures end { D.tells → I.tells → (given : Given) → given.held ≡ I.held inputs.old → given.shown ≡ I.available inputs.old →
-        asked given.words ≡ Some (asks_run file.now ask.most ask.rounds) →
-        ProgramEnd given (D.history disk.old) (D.history disk.new) O.tells (O.content out.old) (O.content out.new) (string_bytes told.new) (stop_in result) }
-    ensures only { IfErr result IsPastWords }
-    ensures out_counted { O.faults out.old ≤ O.faults out.new }
-    ensures inputs_cause { IfErr result (LogRises (I.faults inputs.old) (I.faults inputs.new)) }
-    ensures disk_cause { IfErr result (DiskRises (D.faults disk.old) (D.faults disk.new)) }
-    ensures out_cause { IfErr result (OutRises (O.faults out.old) (O.faults out.new)) }
-{
-    let query = read_file(alloc, inputs, file)?;
-    let bound = bind(alloc, &query)?;
-    let prepared = Prepared::new(alloc, bound)?;
-    run_source(alloc, disk, inputs, out, query, &prepared, ask, told)
-}
-
-/// Does what the words ask for. What is left to be written is put into `told`.
-fn work<D: Disk, I: Inputs, O: Output>(
-    alloc: Global,
+    gate: &G,
     words: &[String],
-    disk: &mut D,
+    disk: D,
     inputs: &mut I,
     out: &mut O,
-    told: &mut String,
-) -> Result<(), Stop>
-    requires untold { string_bytes told.old ≡ [] }
-    ensures end { D.tells → I.tells → ProgramEnd
-        (record { words = map string_bytes words.now; held = I.held inputs.old; shown = I.available inputs.old })
-        (D.history disk.old) (D.history disk.new) O.tells (O.content out.old) (O.content out.new) (string_bytes told.new) (stop_in result) }
-    ensures words { IfErr result (WordsCause (map string_bytes words.now)) }
-    ensures taken { OnOk result (IsSome (asked (map string_bytes words.now))) }
-    ensures out_counted { O.faults out.old ≤ O.faults out.new }
-    ensures inputs_cause { IfErr result (LogRises (I.faults inputs.old) (I.faults inputs.new)) }
-    ensures disk_cause { IfErr result (DiskRises (D.faults disk.old) (D.faults disk.new)) }
-    ensures out_cause { IfErr result (OutRises (O.faults out.old) (O.faults out.new)) }
+) -> Done<D>
+    ensures end { D.tells → I.tells → ProgramEnd I.tells (D.tells × I.Log.tells) I.Log.lines I.Log.available I.Log.answers I.Log.faults
+        (record { words = map string_bytes words.now; held = I.held inputs.old; known = I.available inputs.old }) O.tells
+        (went_of (D.history disk) (D.history result.disk) (D.faults disk) (D.faults result.disk) (I.returned inputs.old) (I.returned inputs.new) (O.content out.old) (O.content out.new) result.text.items) (stop_in result.end) }
+    ensures stands { D.tells → I.tells → (s : SettingOf) → IsAskedFor (record { words = map string_bytes words.now; held = I.held inputs.old; known = I.available inputs.old }) (D.history disk) s →
+        LeavesNow (D.history disk) (StandsOrEmpty (job_of s)) → LeavesOnly (D.history disk) (D.history result.disk) (StandsOrEmpty (job_of s)) }
+    ensures stay { D.tells → I.tells → (s : SettingOf) → IsAskedFor (record { words = map string_bytes words.now; held = I.held inputs.old; known = I.available inputs.old }) (D.history disk) s →
+        LeavesNow (D.history disk) (Stands (job_of s)) → LeavesOnly (D.history disk) (D.history result.disk) (Stands (job_of s)) }
+    ensures held { I.tells → I.held inputs.new ≡ I.held inputs.old }
+    ensures words { WordsCause (map string_bytes words.now) (stop_in result.end) }
+    ensures cause { HasCount (I.faults inputs.old) (I.faults inputs.new) (D.faults disk) (D.faults result.disk) (O.faults out.old) (O.faults out.new) (stop_in result.end) }
+    ensures counted { O.faults out.old ≤ O.faults out.new }
 {
     match ask(alloc, words) {
-        Ok(
-            Command::Run {
-                query,
-                most_lines: most,
-                rounds,
-            },
-        ) => run_file(alloc, disk, inputs, out, query, Ask { most, rounds }, told),
-        Ok(Command::Status { query }) => {
-            let query = read_file(alloc, inputs, query)?;
-            *told = status(alloc, disk, query)?;
-            Ok(())
-        }
-        Err(error) => Err(Stop::from(error)),
+        Ok(command) => match read_query(alloc, inputs, command) {
+            Ok(bound) => obey(alloc, gate, command, &bound, disk, inputs, out),
+            Err(stop) => stopped(alloc, disk, stop),
+        },
+        Err(error) => stopped(alloc, disk, Stop::from(error)),
     }
 }
 
 /// Does all that the program does: what the words ask for, on this disk and these inputs, with what there is to say on this
 /// output. `words` begin with the program's name. The outside comes back with the program's status.
 ///
-/// `run QUERY [--max-lines N] [--rounds R]` runs the query of the file QUERY over the log of its one part, in R rounds, and in epochs of
-/// at most N lines, over a checkpoint that is empty or of this query. As a round ends it writes one line for each of its epochs,
-/// and at the end how many epochs there are. `status QUERY` says how far the checkpoint has come, and changes nothing.
+/// `run QUERY [--partitions P] [--max-lines N] [--rounds R]` runs the query of the file QUERY over the parts of its streams, in R rounds, and in
+/// epochs of at most N lines of each part, over a checkpoint that is empty or of this query. As a round ends it writes one line for each of its
+/// epochs, and at the end how many epochs there are. `explain QUERY` tells what the query is. `status QUERY` says how far the checkpoint has
+/// come. Both change nothing.
 ///
-/// A refusal is one line, and its number is the status: 2, the words are none of these; 3, the file is no query that can be run yet; 4
+/// A refusal is one line, and its number is the status: 2, the words are none of these; 3, the file is no query that is run; 4
 /// and 5, the first line of the planned epoch that is bad or overflows; 6, 7 and 8, the inputs, the disk or the output failed; 9, the
-/// checkpoint is not of this query and these parts, is damaged, or its log has lost lines; 10, memory ran out; 11, a limit is met.
+/// checkpoint is not of this query, these partitions and these parts, is damaged, or a log has lost lines; 10, memory ran out; 11, a limit is
+/// met.
 pub fn stream_main<R: Threads + Wait + Sync, D: Disk, I: Inputs, O: Output, G: Gate>(
     _rt: &R,
     alloc: Global,
@@ -114,29 +88,43 @@ pub fn stream_main<R: Threads + Wait + Sync, D: Disk, I: Inputs, O: Output, G: G
     disk: D,
     inputs: I,
     out: O,
-    _gate: &G,
+    gate: &G,
 ) -> Ended<D, I, O>
-    // How it ends, in the order of its work: what is left on the disk, what was written, and why.
-    ensures ending { D.tells → I.tells → ProgramWrote
-        (record { words = map string_bytes words.now; held = I.held inputs; shown = I.available inputs })
-        (D.history disk) (D.history result.disk) O.tells (O.content out) (O.content result.out) (O.faults out) (O.faults result.out) result.status }
+    // Whenever a crash comes: where each image of the disk stood for the query that is to be run, or stood empty, so does each image of each
+    // moment.
+    ensures stands { D.tells → I.tells → (s : SettingOf) → IsAskedFor (record { words = map string_bytes words.now; held = I.held inputs; known = I.available inputs }) (D.history disk) s →
+        LeavesNow (D.history disk) (StandsOrEmpty (job_of s)) → LeavesOnly (D.history disk) (D.history result.disk) (StandsOrEmpty (job_of s)) }
+    // And where each stood, so does each: none is empty.
+    ensures stay { D.tells → I.tells → (s : SettingOf) → IsAskedFor (record { words = map string_bytes words.now; held = I.held inputs; known = I.available inputs }) (D.history disk) s →
+        LeavesNow (D.history disk) (Stands (job_of s)) → LeavesOnly (D.history disk) (D.history result.disk) (Stands (job_of s)) }
 
-    // A checkpoint that stands for the job, whose log has lost no line, is never refused as another's or as damaged.
+    // What the epochs of a query that keeps nothing show, one after the other, are the rows of the batch query on all lines that they cover,
+    // each as often, however these were cut.
+    ensures adds_up { (s : SettingOf) (cuts : OffsetsOf) (n : ℕ) → s.job.bound.shape ≡ shape.Plain → AreCuts (parts_in s) cuts n →
+        IsPermutation (outs s.job.bound (parts_in s) cuts n) (batch s.job.bound (parts_in s) (cuts n)) }
+
+    // How it ends, in the order of its work: what is left on the disk, which logs came back, what was written, and why.
+    ensures ending { D.tells → I.tells → ProgramWrote I.tells (D.tells × I.Log.tells) I.Log.lines I.Log.available I.Log.answers I.Log.faults
+        (record { words = map string_bytes words.now; held = I.held inputs; known = I.available inputs })
+        (D.history disk) (D.history result.disk) (D.faults disk) (D.faults result.disk) (I.returned inputs) (I.returned result.inputs) O.tells (O.content out) (O.content result.out) (O.faults out) (O.faults result.out) result.status }
+    ensures held { I.tells → I.held result.inputs ≡ I.held inputs }
+
+    // A checkpoint that stands for the query that is to be run, and whose logs have lost no line, is never refused as another's or as damaged.
     ensures goes_on { D.tells → I.tells → CanGoOn
-        (record { words = map string_bytes words.now; held = I.held inputs; shown = I.available inputs }) (files_now (D.history disk)) → result.status ≢ 9 }
+        (record { words = map string_bytes words.now; held = I.held inputs; known = I.available inputs }) (D.history disk) → result.status ≢ 9 }
 
     // And these are all the ways to end. Where the outside did not fail, it is done to its end, or memory ran out: for a run that can go
     // on with no limit in its way, unless a line is a fault; and for a look at a checkpoint that stands or is empty.
     ensures is_done_to_a_line { D.tells → I.tells → HasRoom
-        (record { words = map string_bytes words.now; held = I.held inputs; shown = I.available inputs }) (files_now (D.history disk)) →
+        (record { words = map string_bytes words.now; held = I.held inputs; known = I.available inputs }) (D.history disk) →
         NoneFailed (I.faults inputs) (I.faults result.inputs) (D.faults disk) (D.faults result.disk) (O.faults out) (O.faults result.out) →
         IsDoneToALine result.status }
     ensures is_done { D.tells → I.tells → IsFaultless
-        (record { words = map string_bytes words.now; held = I.held inputs; shown = I.available inputs }) (files_now (D.history disk)) →
+        (record { words = map string_bytes words.now; held = I.held inputs; known = I.available inputs }) (D.history disk) →
         NoneFailed (I.faults inputs) (I.faults result.inputs) (D.faults disk) (D.faults result.disk) (O.faults out) (O.faults result.out) →
         IsDone result.status }
     ensures is_told { D.tells → I.tells → CanLook
-        (record { words = map string_bytes words.now; held = I.held inputs; shown = I.available inputs }) (files_now (D.history disk)) →
+        (record { words = map string_bytes words.now; held = I.held inputs; known = I.available inputs }) (D.history disk) →
         NoneFailed (I.faults inputs) (I.faults result.inputs) (D.faults disk) (D.faults result.disk) (O.faults out) (O.faults result.out) →
         IsDone result.status }
 
@@ -149,12 +137,14 @@ pub fn stream_main<R: Threads + Wait + Sync, D: Disk, I: Inputs, O: Output, G: G
     ensures disk_fault { result.status ≡ 7 → Rises (D.faults disk) (D.faults result.disk) }
     ensures out_fault { result.status ≡ 8 → Rises (O.faults out) (O.faults result.out) }
 {
-    let mut disk = disk;
+    runs_go_on::<D, I, O>();
+    rows_add_up();
+    files_have_one_answer();
+    job_is_wanted();
     let mut inputs = inputs;
     let mut out = out;
-    let mut told = String::new(alloc);
-    let end = work(alloc, words, &mut disk, &mut inputs, &mut out, &mut told);
-    let status = tell(alloc, &mut out, told, end);
+    let Done { disk, text, end } = work(alloc, gate, words, disk, &mut inputs, &mut out);
+    let status = tell(alloc, &mut out, text, end);
     Ended {
         status,
         disk,

@@ -17,12 +17,12 @@ fn stop_line(alloc: Global, stop: &Stop) -> Result<String, AllocError>
 }
 
 /// Adds the line of a stop to what was told. After an `Err` the text is as before.
-fn add_stop(alloc: Global, told: &mut String, stop: &Stop) -> Result<(), AllocError>
-    ensures ok { OnOk result (string_bytes told.new ≡ string_bytes told.old ++ stop_line stop.now) }
-    ensures err { OnErr result (string_bytes told.new ≡ string_bytes told.old) }
+fn add_stop(alloc: Global, told: &mut Vec<u8>, stop: &Stop) -> Result<(), AllocError>
+    ensures ok { OnOk result (told.new.items ≡ told.old.items ++ stop_line stop.now) }
+    ensures err { OnErr result (told.new.items ≡ told.old.items) }
 {
     let line = stop_line(alloc, stop)?;
-    told.push_str(line.as_str())
+    told.extend_from_slice(line.as_bytes())
 }
 
 /// Writes a line where the output still takes it.
@@ -35,8 +35,8 @@ fn say<O: Output>(out: &mut O, line: &[u8])
 
 /// The status, and what there is to write: what was told, and the line of the stop, if there is one. Where memory runs out that
 /// line is absent, and the status is 10.
-fn ended(alloc: Global, mut told: String, end: Result<(), Stop>) -> (u8, String)
-    ensures { HasEnded (stop_in end) (string_bytes told) result.0 (string_bytes result.1) }
+fn ended(alloc: Global, mut told: Vec<u8>, end: Result<(), Stop>) -> (u8, Vec<u8>)
+    ensures { HasEnded (stop_in end) told.items result.0 result.1.items }
 {
     match end {
         Ok(()) => (0, told),
@@ -48,13 +48,13 @@ fn ended(alloc: Global, mut told: String, end: Result<(), Stop>) -> (u8, String)
 }
 
 /// Writes what was told and how the program ended, and answers its status.
-pub fn tell<O: Output>(alloc: Global, out: &mut O, told: String, end: Result<(), Stop>) -> u8
+pub fn tell<O: Output>(alloc: Global, out: &mut O, told: Vec<u8>, end: Result<(), Stop>) -> u8
     ensures counted { O.faults out.old ≤ O.faults out.new }
     ensures status { IsStatus (stop_in end) (O.faults out.old) (O.faults out.new) result }
-    ensures wrote { O.tells → Wrote (stop_in end) (string_bytes told) (O.content out.old) (O.content out.new) (O.faults out.old) (O.faults out.new) result }
+    ensures wrote { O.tells → Wrote (stop_in end) told.items (O.content out.old) (O.content out.new) (O.faults out.old) (O.faults out.new) result }
 {
     let (status, text) = ended(alloc, told, end);
-    match out.put(text.as_bytes()) {
+    match out.put(text.as_slice()) {
         Ok(()) => status,
         Err(OutError::NoMemory) => {
             say(out, b"stopped 10 NoMemory\n");

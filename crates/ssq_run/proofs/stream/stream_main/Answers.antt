@@ -1,56 +1,75 @@
 use Rattle.std.proofs.Common.{map, string_bytes}
+use Rattle.ssq_run.specs.Program.{Given, went_of}
 use Rattle.ssq_run.specs.Stopping.{stop_in}
-use Rattle.ssq_run.proofs.Going.{never_9}
-use Rattle.ssq_run.proofs.Complete.{done_to_a_line, done, looked_well}
+use Rattle.ssq_run.proofs.Going as going
+use Rattle.ssq_run.proofs.Looking.{looked_well}
 use Rattle.ssq_run.proofs.Telling.{status_since, wrote_since, usage_told, no_command_told, log_told, disk_told, out_told}
 use Rattle.ssq_run.proofs.stream.stream_main.Goals as goal
 
 pub returns-clause-ending : goal.returns-clause-ending
 returns-clause-ending g c = λ tells told. record {
-  stop = stop_in c.work-end.result;
-  written = g.O.Output.content c.work-end.new.out;
-  told = string_bytes c.work-end.new.told;
-  end = c.work-end.ensures.end tells told;
-  answer = status_since _ _ _ _ _ c.work-end.ensures.out_counted c.tell-status.ensures.status;
-  wrote = λ out_tells. wrote_since _ _ _ _ _ _ _ _ c.work-end.ensures.out_counted (c.tell-status.ensures.wrote out_tells);
+  stop = stop_in c.work-disk.result.end;
+  written = g.O.Output.content c.work-disk.new.out;
+  text = c.work-disk.result.text.items;
+  end = c.work-disk.ensures.end tells told;
+  answer = status_since _ _ _ _ _ c.work-disk.ensures.counted c.tell-status.ensures.status;
+  wrote = λ out_tells. wrote_since _ _ _ _ _ _ _ _ c.work-disk.ensures.counted (c.tell-status.ensures.wrote out_tells);
 }
 
 pub returns-clause-usage : goal.returns-clause-usage
-returns-clause-usage g c = usage_told (map string_bytes c.args.words.now) c.work-end.result _ _ _ c.work-end.ensures.words c.tell-status.ensures.status
+returns-clause-usage g c = usage_told (map string_bytes c.args.words.now) (stop_in c.work-disk.result.end) _ _ _ c.work-disk.ensures.words c.tell-status.ensures.status
 
 pub returns-clause-no_command : goal.returns-clause-no_command
-returns-clause-no_command g c = λ none. no_command_told (map string_bytes c.args.words.now) c.work-end.result _ _ _ none c.work-end.ensures.taken c.work-end.ensures.words c.tell-status.ensures.status
+returns-clause-no_command g c = λ none. no_command_told (map string_bytes c.args.words.now) (stop_in c.work-disk.result.end) _ _ _ none c.work-disk.ensures.words c.tell-status.ensures.status
 
 pub returns-clause-inputs_fault : goal.returns-clause-inputs_fault
-returns-clause-inputs_fault g c = log_told c.work-end.result _ _ _ _ _ c.work-end.ensures.inputs_cause c.tell-status.ensures.status
+returns-clause-inputs_fault g c = log_told _ _ _ _ _ _ (stop_in c.work-disk.result.end) _ _ _ c.work-disk.ensures.cause c.tell-status.ensures.status
 
 pub returns-clause-disk_fault : goal.returns-clause-disk_fault
-returns-clause-disk_fault g c = disk_told c.work-end.result _ _ _ _ _ c.work-end.ensures.disk_cause c.tell-status.ensures.status
+returns-clause-disk_fault g c = disk_told _ _ _ _ _ _ (stop_in c.work-disk.result.end) _ _ _ c.work-disk.ensures.cause c.tell-status.ensures.status
 
 pub returns-clause-out_fault : goal.returns-clause-out_fault
-returns-clause-out_fault g c = out_told c.work-end.result _ _ _ _ c.work-end.ensures.out_cause c.work-end.ensures.out_counted c.tell-status.ensures.counted c.tell-status.ensures.status
+returns-clause-out_fault g c = out_told _ _ _ _ _ _ (stop_in c.work-disk.result.end) _ _ c.work-disk.ensures.cause c.work-disk.ensures.counted c.tell-status.ensures.counted c.tell-status.ensures.status
 
 pub returns-clause-goes_on : goal.returns-clause-goes_on
 returns-clause-goes_on g c = λ tells told can.
-    never_9 _ _ _ g.O.Output.tells _ _ _ (stop_in c.work-end.result) _ _ _ (c.work-end.ensures.end tells told) c.tell-status.ensures.status can
+    let given : Given = record { words = map string_bytes c.args.words.now; held = g.I.Inputs.held c.args.inputs; known = g.I.Inputs.available c.args.inputs } in
+    going.goes_on g.I.Inputs.tells (g.D.Disk.tells × g.I.Log.Log.tells) g.I.Log.Log.lines g.I.Log.Log.available g.I.Log.Log.answers g.I.Log.Log.faults given g.O.Output.tells
+    (went_of (g.D.Disk.history c.args.disk) (g.D.Disk.history c.work-disk.result.disk) (g.D.Disk.faults c.args.disk) (g.D.Disk.faults c.work-disk.result.disk) (g.I.Inputs.returned c.args.inputs) (g.I.Inputs.returned c.work-disk.new.inputs) (g.O.Output.content c.args.out) (g.O.Output.content c.work-disk.new.out) c.work-disk.result.text.items)
+    (stop_in c.work-disk.result.end) told (tells, g.met.I.Inputs.logs_tell told) c.files_have_one_answer.ensures.accepted (c.work-disk.ensures.end tells told) _ _ _ c.tell-status.ensures.status c.runs_go_on.ensures.goes_on can
 
 pub returns-clause-is_done_to_a_line : goal.returns-clause-is_done_to_a_line
-returns-clause-is_done_to_a_line g c = λ tells told can none.
-    done_to_a_line _ _ _ g.O.Output.tells _ _ _ (stop_in c.work-end.result) _ _ _ _ _ _ _ _ _ (c.work-end.ensures.end tells told) c.tell-status.ensures.status
-    (log_told c.work-end.result _ _ _ _ _ c.work-end.ensures.inputs_cause c.tell-status.ensures.status)
-    (disk_told c.work-end.result _ _ _ _ _ c.work-end.ensures.disk_cause c.tell-status.ensures.status)
-    (out_told c.work-end.result _ _ _ _ c.work-end.ensures.out_cause c.work-end.ensures.out_counted c.tell-status.ensures.counted c.tell-status.ensures.status) can none
+returns-clause-is_done_to_a_line g c = λ tells told room none.
+    let given : Given = record { words = map string_bytes c.args.words.now; held = g.I.Inputs.held c.args.inputs; known = g.I.Inputs.available c.args.inputs } in
+    going.done_to_a_line g.I.Inputs.tells (g.D.Disk.tells × g.I.Log.Log.tells) g.I.Log.Log.lines g.I.Log.Log.available g.I.Log.Log.answers g.I.Log.Log.faults given g.O.Output.tells
+    (went_of (g.D.Disk.history c.args.disk) (g.D.Disk.history c.work-disk.result.disk) (g.D.Disk.faults c.args.disk) (g.D.Disk.faults c.work-disk.result.disk) (g.I.Inputs.returned c.args.inputs) (g.I.Inputs.returned c.work-disk.new.inputs) (g.O.Output.content c.args.out) (g.O.Output.content c.work-disk.new.out) c.work-disk.result.text.items)
+    (stop_in c.work-disk.result.end) told (tells, g.met.I.Inputs.logs_tell told) c.files_have_one_answer.ensures.accepted (c.work-disk.ensures.end tells told) _ _ _ c.tell-status.ensures.status
+    _ _ _ _ _ _ none
+    (log_told _ _ _ _ _ _ (stop_in c.work-disk.result.end) _ _ _ c.work-disk.ensures.cause c.tell-status.ensures.status)
+    (disk_told _ _ _ _ _ _ (stop_in c.work-disk.result.end) _ _ _ c.work-disk.ensures.cause c.tell-status.ensures.status)
+    (out_told _ _ _ _ _ _ (stop_in c.work-disk.result.end) _ _ c.work-disk.ensures.cause c.work-disk.ensures.counted c.tell-status.ensures.counted c.tell-status.ensures.status)
+    c.runs_go_on.ensures.goes_on c.runs_go_on.ensures.no_limit room
 
 pub returns-clause-is_done : goal.returns-clause-is_done
-returns-clause-is_done g c = λ tells told can none.
-    done _ _ _ g.O.Output.tells _ _ _ (stop_in c.work-end.result) _ _ _ _ _ _ _ _ _ (c.work-end.ensures.end tells told) c.tell-status.ensures.status
-    (log_told c.work-end.result _ _ _ _ _ c.work-end.ensures.inputs_cause c.tell-status.ensures.status)
-    (disk_told c.work-end.result _ _ _ _ _ c.work-end.ensures.disk_cause c.tell-status.ensures.status)
-    (out_told c.work-end.result _ _ _ _ c.work-end.ensures.out_cause c.work-end.ensures.out_counted c.tell-status.ensures.counted c.tell-status.ensures.status) can none
+returns-clause-is_done g c = λ tells told fine none.
+    let given : Given = record { words = map string_bytes c.args.words.now; held = g.I.Inputs.held c.args.inputs; known = g.I.Inputs.available c.args.inputs } in
+    going.all_done g.I.Inputs.tells (g.D.Disk.tells × g.I.Log.Log.tells) g.I.Log.Log.lines g.I.Log.Log.available g.I.Log.Log.answers g.I.Log.Log.faults given g.O.Output.tells
+    (went_of (g.D.Disk.history c.args.disk) (g.D.Disk.history c.work-disk.result.disk) (g.D.Disk.faults c.args.disk) (g.D.Disk.faults c.work-disk.result.disk) (g.I.Inputs.returned c.args.inputs) (g.I.Inputs.returned c.work-disk.new.inputs) (g.O.Output.content c.args.out) (g.O.Output.content c.work-disk.new.out) c.work-disk.result.text.items)
+    (stop_in c.work-disk.result.end) told (tells, g.met.I.Inputs.logs_tell told) c.files_have_one_answer.ensures.accepted (c.work-disk.ensures.end tells told) _ _ _ c.tell-status.ensures.status
+    _ _ _ _ _ _ none
+    (log_told _ _ _ _ _ _ (stop_in c.work-disk.result.end) _ _ _ c.work-disk.ensures.cause c.tell-status.ensures.status)
+    (disk_told _ _ _ _ _ _ (stop_in c.work-disk.result.end) _ _ _ c.work-disk.ensures.cause c.tell-status.ensures.status)
+    (out_told _ _ _ _ _ _ (stop_in c.work-disk.result.end) _ _ c.work-disk.ensures.cause c.work-disk.ensures.counted c.tell-status.ensures.counted c.tell-status.ensures.status)
+    c.runs_go_on.ensures.goes_on c.runs_go_on.ensures.no_limit c.runs_go_on.ensures.no_fault fine
 
 pub returns-clause-is_told : goal.returns-clause-is_told
 returns-clause-is_told g c = λ tells told can none.
-    looked_well _ _ _ g.O.Output.tells _ _ _ (stop_in c.work-end.result) _ _ _ _ _ _ _ _ _ (c.work-end.ensures.end tells told) c.tell-status.ensures.status
-    (log_told c.work-end.result _ _ _ _ _ c.work-end.ensures.inputs_cause c.tell-status.ensures.status)
-    (disk_told c.work-end.result _ _ _ _ _ c.work-end.ensures.disk_cause c.tell-status.ensures.status)
-    (out_told c.work-end.result _ _ _ _ c.work-end.ensures.out_cause c.work-end.ensures.out_counted c.tell-status.ensures.counted c.tell-status.ensures.status) can none
+    let given : Given = record { words = map string_bytes c.args.words.now; held = g.I.Inputs.held c.args.inputs; known = g.I.Inputs.available c.args.inputs } in
+    looked_well g.I.Inputs.tells (g.D.Disk.tells × g.I.Log.Log.tells) g.I.Log.Log.lines g.I.Log.Log.available g.I.Log.Log.answers g.I.Log.Log.faults given g.O.Output.tells
+    (went_of (g.D.Disk.history c.args.disk) (g.D.Disk.history c.work-disk.result.disk) (g.D.Disk.faults c.args.disk) (g.D.Disk.faults c.work-disk.result.disk) (g.I.Inputs.returned c.args.inputs) (g.I.Inputs.returned c.work-disk.new.inputs) (g.O.Output.content c.args.out) (g.O.Output.content c.work-disk.new.out) c.work-disk.result.text.items)
+    (stop_in c.work-disk.result.end) c.files_have_one_answer.ensures.known c.job_is_wanted.ensures.wanted c.job_is_wanted.ensures.parts can _ _ _ c.tell-status.ensures.status
+    _ _ _ _ _ _ none
+    (log_told _ _ _ _ _ _ (stop_in c.work-disk.result.end) _ _ _ c.work-disk.ensures.cause c.tell-status.ensures.status)
+    (disk_told _ _ _ _ _ _ (stop_in c.work-disk.result.end) _ _ _ c.work-disk.ensures.cause c.tell-status.ensures.status)
+    (out_told _ _ _ _ _ _ (stop_in c.work-disk.result.end) _ _ c.work-disk.ensures.cause c.work-disk.ensures.counted c.tell-status.ensures.counted c.tell-status.ensures.status)
+    (c.work-disk.ensures.end tells told)

@@ -1,6 +1,0 @@
-use Rattle.std.proofs.Common.{◌≡◌, ◌++◌}
-use Rattle.ssq_opening.specs.Looking.{parts_of}
-use Rattle.ssq_opening.proofs.cuts.push_parts.Given as goal
-
-abbrev pub invariant-loop-part : goal.invariant-loop-part
-invariant-loop-part l = l.ends ≡ l.initial.ends ++ parts_of l.stream l.part

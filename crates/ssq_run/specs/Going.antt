@@ -1,0 +1,75 @@
+-- What is presupposed of the program's promises.
+use Rattle.std.specs.Prelude.{◌≡◌, ◌⊎◌, ℕ, List, Option, Some}
+use Rattle.ssq_outside.specs.Faults.{Rises}
+use Rattle.ssq_outside.specs.History.{History, files_now}
+use Rattle.ssq_shape.specs.declared.bound.Bound.{Bound}
+use Rattle.ssq_core.specs.Sound.{StandsOrEmpty}
+use Rattle.ssq_course.specs.Setting.{Setting, job_of}
+use Rattle.ssq_open.specs.declared.wanted.Lens.{Lens}
+use Rattle.ssq_terms.specs.Setting.{IsSettingOf, AreFound, found_lines}
+use Rattle.ssq_runner.specs.Sources.{IsSettingFor}
+use Rattle.ssq_runner.specs.Complete as run
+use Rattle.ssq_words.specs.Asking.{asks_run, asks_status, asked}
+use Rattle.ssq_run.specs.Program.{Given}
+use Rattle.ssq_run.specs.Queries.{IsQueryAt, IsKnownAt}
+
+-- the words ask for the run of a file that is this query
+pub record AsksRun (given : Given) : Type 0 where
+  pub file : List ℕ
+  pub partitions : Option ℕ
+  pub most : Option ℕ
+  pub rounds : ℕ
+  pub bound : Bound
+  pub asks : asked given.words ≡ Some (asks_run file partitions most rounds)
+  pub is : IsQueryAt given.held file bound
+
+-- This is the query that is to be run, over all lines that its logs will come to hold.
+pub record IsAskedFor (given : Given) (start : History) (s : Setting) : Type 0 where
+  pub asks : AsksRun given
+  pub setting : IsSettingFor given.held asks.bound asks.partitions start s
+
+-- The checkpoint is empty, or stands for the query that is to be run, and of no part more lines are planned than were known to be there.
+pub record CanGoOn (given : Given) (start : History) : Type 0 where
+  pub asks : AsksRun given
+  pub setting : Setting
+  pub can : run.CanGoOn given.held given.known asks.bound asks.partitions start setting
+
+-- And no limit is in the way.
+pub record HasRoom (given : Given) (start : History) : Type 0 where
+  pub asks : AsksRun given
+  pub setting : Setting
+  pub room : run.HasRoom given.held given.known asks.bound asks.partitions start setting
+
+-- And no line from the first one on that is not committed is a fault.
+pub record IsFaultless (given : Given) (start : History) : Type 0 where
+  pub asks : AsksRun given
+  pub setting : Setting
+  pub faultless : run.IsFaultless given.held given.known asks.bound asks.partitions start setting
+
+-- The words ask how far the checkpoint of a query has come, and it is empty, or stands for a job of that query, of whatever partitions, parts and
+-- lines.
+pub record CanLook (given : Given) (start : History) : Type 0 where
+  pub file : List ℕ
+  pub bound : Bound
+  pub partitions : Option ℕ
+  pub lens : Lens
+  pub setting : Setting
+  pub asks : asked given.words ≡ Some (asks_status file)
+  pub is : IsKnownAt given.held file bound
+  pub of : IsSettingOf setting bound partitions lens
+  pub found : AreFound (found_lines lens) setting.lines
+  pub stands : StandsOrEmpty (job_of setting) (files_now start)
+
+-- no fault of the inputs, the disk or the output was counted
+pub record NoneFailed (inputs inputs_now disk disk_now out out_now : ℕ) : Type 0 where
+  pub inputs_whole : Rises inputs inputs_now → ⊥
+  pub disk_whole : Rises disk disk_now → ⊥
+  pub out_whole : Rises out out_now → ⊥
+
+-- it was done to its end, or memory ran out
+abbrev pub IsDone : ℕ → Type 0
+IsDone status = (status ≡ 0) ⊎ (status ≡ 10)
+
+-- or a line was a fault
+abbrev pub IsDoneToALine : ℕ → Type 0
+IsDoneToALine status = IsDone status ⊎ ((status ≡ 4) ⊎ (status ≡ 5))

@@ -1,5 +1,0 @@
-pub mod Course
-pub mod Standing
-pub mod Settled
-pub mod Staying
-pub mod Laws
