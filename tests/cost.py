@@ -1,15 +1,23 @@
 #!/usr/bin/env python3
-"""Measures what an epoch of 10 lines costs at epochs 100, 1000 and 4000, and a run with nothing new.
+"""Measures the built program in a real folder.
 
-    python3 tests/cost.py      (`make` builds bin/ssq; device calls are counted where strace is there)
+    python3 tests/cost.py [FOLDER]      (`make` builds bin/ssq; device calls are counted where strace is there)
 
-Prints microseconds and device calls an epoch, over 50 epochs, less what the opening costs. It is not part of the gate.
+- What an epoch costs over 1 and over 8 parts, 10 lines of each, at epochs 100, 1000 and 4000: microseconds and device calls
+  over 50 epochs, less what opening costs.
+- What opening costs there: a run with nothing new.
+- 1,000,000 lines of one part in one epoch.
+
+Checkpoints lie in new folders inside FOLDER; without one, where temporary files lie. In a folder of memory (/dev/shm) the disk's
+syncs cost nothing. A program that does not take 8 parts is measured over 1 alone. It is not part of the gate.
 """
 import collections
 import json
+import os
 import pathlib
 import shutil
 import subprocess
+import sys
 import tempfile
 import time
 
@@ -20,48 +28,93 @@ QUERY = (
 )
 CALLS = "openat,rename,renameat,renameat2,fsync,fdatasync,write,read,unlink,mkdir,lseek,pread64,getdents64,statx,newfstatat,fstat"
 EPOCHS = 50
+LINES = 10  # of each part in an epoch
+MANY = 1_000_000
 
 
-def grow(folder, epochs):
-    with open(folder / "s.0.jsonl", "a") as log:
-        for number in range(10 * epochs):
-            log.write(json.dumps({"id": number, "v": number % 23}, separators=(",", ":")) + "\n")
+class Work:
+    """A folder with a query and the logs of its parts."""
+
+    def __init__(self, place, parts):
+        self.folder = pathlib.Path(tempfile.mkdtemp(prefix="ssq-cost-", dir=place))
+        self.logs = [self.folder / f"s.{part}.jsonl" for part in range(parts)]
+        (self.folder / "q.sql").write_text(QUERY)
+        self.grow(0)
+
+    def __enter__(self):
+        return self
+
+    def __exit__(self, *fault):
+        shutil.rmtree(self.folder)
+
+    def grow(self, lines):
+        """Adds lines to each part."""
+        text = "".join(json.dumps({"id": n, "v": n % 23}, separators=(",", ":")) + "\n" for n in range(lines))
+        for log in self.logs:
+            with open(log, "a") as file:
+                file.write(text)
+
+    def run(self, *words, before=()):
+        """Runs to the end: seconds, and what it used. None where the program does not take the parts."""
+        start = time.perf_counter()
+        run = subprocess.Popen([*before, SSQ, "run", "q.sql", *words], cwd=self.folder, stdout=subprocess.PIPE, text=True)
+        output = run.stdout.read()
+        _, status, used = os.wait4(run.pid, 0)
+        seconds = time.perf_counter() - start
+        if output.startswith("stopped 9 OtherParts"):
+            return None
+        if status != 0:
+            sys.exit(f"it stopped: {output[-200:]}")
+        return seconds, used
+
+    def run_epochs(self, **how):
+        return self.run("--max-lines", str(LINES), **how)
+
+    def calls(self):
+        """The device calls of a run, by name."""
+        trace = self.folder / "trace"
+        self.run_epochs(before=["strace", "-f", "-e", "trace=" + CALLS, "-o", trace])
+        return collections.Counter(line.split()[1].split("(")[0] for line in trace.read_text().splitlines() if "(" in line)
 
 
-def run(folder, before=()):
-    start = time.perf_counter()
-    subprocess.run([*before, SSQ, "run", "q.sql", "--max-lines", "10"], cwd=folder, check=True, stdout=subprocess.DEVNULL)
-    return time.perf_counter() - start
+def measure_epochs(place, parts):
+    with Work(place, parts) as work:
+        if work.run_epochs() is None:
+            print(f"{parts} parts: not taken")
+            return
+        done = 0
+        for at in (100, 1000, 4000):
+            work.grow(LINES * (at - done))
+            work.run_epochs()
+            opening = min(work.run_epochs()[0] for _ in range(5))
+            work.grow(LINES * EPOCHS)
+            some = work.run_epochs()[0]
+            print(f"{parts} parts, at epoch {at}: {(some - opening) / EPOCHS * 1e6:.0f} us an epoch, {opening * 1e3:.1f} ms to open")
+            done = at + EPOCHS
+            if shutil.which("strace"):
+                idle = work.calls()
+                work.grow(LINES * EPOCHS)
+                calls = work.calls() - idle
+                done += EPOCHS
+                print("  device calls an epoch:", {name: round(count / EPOCHS, 2) for name, count in sorted(calls.items())})
 
 
-def traced(folder):
-    """The device calls of a run, by name."""
-    trace = folder / "trace"
-    run(folder, ["strace", "-f", "-e", "trace=" + CALLS, "-o", trace])
-    names = (l.split()[1].split("(")[0] for l in trace.read_text().splitlines() if "(" in l)
-    return collections.Counter(names)
+def measure_lines(place):
+    with Work(place, 1) as work:
+        work.grow(MANY)
+        seconds, used = work.run()
+        size = work.logs[0].stat().st_size
+        print(
+            f"{MANY} lines ({size / 1e6:.0f} MB) in one epoch: {seconds:.2f} s, {used.ru_utime + used.ru_stime:.2f} s of processor, "
+            f"{seconds / MANY * 1e9:.0f} ns a line, {used.ru_maxrss / 1024:.0f} MB of memory"
+        )
 
 
 def main():
-    folder = pathlib.Path(tempfile.mkdtemp(prefix="ssq-cost-"))
-    (folder / "q.sql").write_text(QUERY)
-    (folder / "s.0.jsonl").touch()
-    done = 0
-    for at in (100, 1000, 4000):
-        grow(folder, at - done)
-        run(folder)
-        nothing = min(run(folder) for _ in range(5))
-        grow(folder, EPOCHS)
-        some = run(folder)
-        print(f"at epoch {at}: {(some - nothing) / EPOCHS * 1e6:.0f} us an epoch; with nothing new {nothing * 1e3:.1f} ms")
-        done = at + EPOCHS
-        if shutil.which("strace"):
-            idle = traced(folder)
-            grow(folder, EPOCHS)
-            calls = traced(folder) - idle
-            done += EPOCHS
-            print("  device calls an epoch:", {name: round(count / EPOCHS, 2) for name, count in sorted(calls.items())})
-    shutil.rmtree(folder)
+    place = sys.argv[1] if len(sys.argv) > 1 else None
+    for parts in (1, 8):
+        measure_epochs(place, parts)
+    measure_lines(place)
 
 
 if __name__ == "__main__":
