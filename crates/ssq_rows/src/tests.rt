@@ -688,8 +688,8 @@ fn faults_have_their_status(rt: HostRuntime) -> Result<(), Fail> {
     let over = run_on(&rt, alloc, row, disk)?;
     assert_eq!(rt; over.out.bytes(), b"done epochs 2\n".as_slice());
 
-    // The log fails at a line that is read: the epoch is planned and no more.
-    let log = MemLog::torn(alloc, THREE)?.failing(vec![in alloc; 2]?);
+    // The log fails at the first line that is read: the epoch is planned and no more.
+    let log = MemLog::torn(alloc, THREE)?.failing(vec![in alloc; 1]?);
     let Ended {
         status,
         mut disk,
