@@ -15,11 +15,11 @@ use Rattle.ssq_shape.specs.declared.bound.Bound.{Bound}
 use Rattle.ssq_shape.specs.declared.bound.Grouping.{Grouping}
 use Rattle.ssq_shape.specs.declared.bound.Mode.{Mode}
 use Rattle.ssq_shape.specs.declared.bound.Mode.TheVariants as mode
-use Rattle.ssq_grouped.specs.declared.total.Total.{Total}
-use Rattle.ssq_grouped.specs.Group.{is_same}
-use Rattle.ssq_grouped.specs.GroupLaws.{times}
-use Rattle.ssq_grouped.specs.Meaning.{Values}
-use Rattle.ssq_grouped.specs.Times.{is_past}
+use Rattle.ssq_meaning.specs.declared.total.Total.{Total}
+use Rattle.ssq_meaning.specs.Group.{is_same}
+use Rattle.ssq_meaning.specs.GroupLaws.{times}
+use Rattle.ssq_meaning.specs.Meaning.{Values}
+use Rattle.ssq_meaning.specs.Times.{is_past}
 use Rattle.ssq_agg.specs.declared.kept.Group.{Group}
 use Rattle.ssq_agg.specs.declared.shown.Shown.{Shown}
 use Rattle.ssq_agg.specs.Closed.{is_ended, AreClosed, AreAll}

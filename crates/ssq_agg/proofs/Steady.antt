@@ -13,12 +13,12 @@ use Rattle.ssq_shape.specs.declared.bound.Function.{Function}
 use Rattle.ssq_shape.specs.declared.bound.Function.TheVariants as function
 use Rattle.ssq_shape.specs.declared.bound.Grouping.{Grouping}
 use Rattle.ssq_shape.specs.Evaluation.{cell_at, is_null}
-use Rattle.ssq_grouped.specs.declared.fed_row.FedRow.{FedRow}
-use Rattle.ssq_grouped.specs.declared.total.Total.{Total}
-use Rattle.ssq_grouped.specs.Group.{is_same, has_key, members, totals_in, is_closed}
-use Rattle.ssq_grouped.specs.GroupLaws.{held}
-use Rattle.ssq_grouped.specs.Meaning.{Values}
-use Rattle.ssq_grouped.specs.Totals.{summand, sum_of, total_of, column_of, totals_from, with_row}
+use Rattle.ssq_meaning.specs.declared.fed_row.FedRow.{FedRow}
+use Rattle.ssq_meaning.specs.declared.total.Total.{Total}
+use Rattle.ssq_meaning.specs.Group.{is_same, has_key, members, totals_in, is_closed}
+use Rattle.ssq_meaning.specs.GroupLaws.{held}
+use Rattle.ssq_meaning.specs.Meaning.{Values}
+use Rattle.ssq_meaning.specs.Totals.{summand, sum_of, total_of, column_of, totals_from, with_row}
 use Rattle.ssq_agg.specs.Fits.{Fits, AllFit}
 use Rattle.ssq_agg.specs.Groups.{AreSteady, HasBigints, Held, IsBigint, started}
 use Rattle.ssq_agg.proofs.Stepping.{held_is}

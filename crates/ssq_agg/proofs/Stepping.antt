@@ -10,14 +10,14 @@ use Rattle.ssq_shape.specs.declared.bound.Grouping.{Grouping}
 use Rattle.ssq_shape.specs.declared.bound.Mode.{Mode}
 use Rattle.ssq_shape.specs.declared.bound.Mode.TheVariants as mode
 use Rattle.ssq_shape.specs.Evaluation.{Overflow}
-use Rattle.ssq_grouped.specs.declared.fed_row.FedRow.{FedRow}
-use Rattle.ssq_grouped.specs.declared.total.Total.{Total}
-use Rattle.ssq_grouped.specs.Group.{is_same, has_key, members, totals_in, group_row, row_of_key, key_overflows, is_closed, due_keys, least_key}
-use Rattle.ssq_grouped.specs.GroupLaws.{times, times_due, held_if, held, next_held, is_due_now}
-use Rattle.ssq_grouped.specs.Meaning.{Values}
-use Rattle.ssq_grouped.specs.Operator.{group}
-use Rattle.ssq_grouped.specs.Times.{is_past}
-use Rattle.ssq_grouped.specs.Totals.{with_row}
+use Rattle.ssq_meaning.specs.declared.fed_row.FedRow.{FedRow}
+use Rattle.ssq_meaning.specs.declared.total.Total.{Total}
+use Rattle.ssq_meaning.specs.Group.{is_same, has_key, members, totals_in, group_row, row_of_key, key_overflows, is_closed, due_keys, least_key}
+use Rattle.ssq_meaning.specs.GroupLaws.{times, times_due, held_if, held, next_held, is_due_now}
+use Rattle.ssq_meaning.specs.Meaning.{Values}
+use Rattle.ssq_meaning.specs.Operator.{group}
+use Rattle.ssq_meaning.specs.Times.{is_past}
+use Rattle.ssq_meaning.specs.Totals.{with_row}
 use Rattle.ssq_agg.specs.declared.kept.Group.{Group}
 use Rattle.ssq_agg.specs.Closed.{is_ended, AreClosed}
 use Rattle.ssq_agg.specs.Groups.{Held, touched}

@@ -12,10 +12,10 @@ use Rattle.ssq_value.specs.Order.{values_cmp}
 use Rattle.ssq_value.specs.OrderLaws.{values_cmp_total, values_cmp_exact}
 use Rattle.ssq_value.specs.declared.value.Value.{Value}
 use Rattle.ssq_shape.specs.declared.bound.Aggregate.{Aggregate}
-use Rattle.ssq_grouped.specs.declared.fed_row.FedRow.{FedRow}
-use Rattle.ssq_grouped.specs.declared.total.Total.{Total}
-use Rattle.ssq_grouped.specs.Group.{is_same, members}
-use Rattle.ssq_grouped.specs.Totals.{with_row}
+use Rattle.ssq_meaning.specs.declared.fed_row.FedRow.{FedRow}
+use Rattle.ssq_meaning.specs.declared.total.Total.{Total}
+use Rattle.ssq_meaning.specs.Group.{is_same, members}
+use Rattle.ssq_meaning.specs.Totals.{with_row}
 use Rattle.ssq_agg.specs.Fits.{AllFit}
 use Rattle.ssq_agg.specs.Groups.{AreSteady, Held, goes_on, started, touched}
 

@@ -3,9 +3,9 @@ use Rattle.std.specs.Prelude.{◌≡◌, ◌++◌, Bool, true, false, List, [], 
 use Rattle.ssq_shape.specs.declared.bound.Bound.{Bound}
 use Rattle.ssq_shape.specs.declared.bound.Grouping.{Grouping}
 use Rattle.ssq_shape.specs.Evaluation.{Overflow}
-use Rattle.ssq_grouped.specs.declared.total.Total.{Total}
-use Rattle.ssq_grouped.specs.Group.{group_row, lesser_key}
-use Rattle.ssq_grouped.specs.Meaning.{Values}
+use Rattle.ssq_meaning.specs.declared.total.Total.{Total}
+use Rattle.ssq_meaning.specs.Group.{group_row, lesser_key}
+use Rattle.ssq_meaning.specs.Meaning.{Values}
 use Rattle.ssq_agg.specs.declared.kept.Group.{Group}
 use Rattle.ssq_agg.specs.declared.shown.Shown.{Shown}
 

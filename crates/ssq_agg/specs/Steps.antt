@@ -8,13 +8,13 @@ use Rattle.ssq_shape.specs.declared.bound.Bound.{Bound}
 use Rattle.ssq_shape.specs.declared.bound.Grouping.{Grouping}
 use Rattle.ssq_shape.specs.declared.bound.Mode.{Mode}
 use Rattle.ssq_shape.specs.declared.bound.Mode.TheVariants as mode
-use Rattle.ssq_grouped.specs.declared.fed_row.FedRow.{FedRow}
-use Rattle.ssq_grouped.specs.declared.total.Total.{Total}
-use Rattle.ssq_grouped.specs.Group.{is_same, closing_time}
-use Rattle.ssq_grouped.specs.GroupLaws.{Follows, held, times, is_due_now}
-use Rattle.ssq_grouped.specs.Meaning.{Values}
-use Rattle.ssq_grouped.specs.Operator.{group}
-use Rattle.ssq_grouped.specs.Times.{is_past}
+use Rattle.ssq_meaning.specs.declared.fed_row.FedRow.{FedRow}
+use Rattle.ssq_meaning.specs.declared.total.Total.{Total}
+use Rattle.ssq_meaning.specs.Group.{is_same, closing_time}
+use Rattle.ssq_meaning.specs.GroupLaws.{Follows, held, times, is_due_now}
+use Rattle.ssq_meaning.specs.Meaning.{Values}
+use Rattle.ssq_meaning.specs.Operator.{group}
+use Rattle.ssq_meaning.specs.Times.{is_past}
 use Rattle.ssq_agg.specs.declared.fault.StepFault.{StepFault}
 use Rattle.ssq_agg.specs.declared.fault.StepFault.TheVariants.{Overflow, NoMemory}
 use Rattle.ssq_agg.specs.declared.kept.Group.{Group}

@@ -3,7 +3,7 @@
 ghost use Rattle.std.specs.Prelude.{◌≡◌, ℤ, List, Option, IfOk, IfErr};
 ghost use Rattle.std.specs.BTreeMap.{get};
 ghost use Rattle.ssq_value.specs.Order.{values_cmp};
-ghost use Rattle.ssq_grouped.specs.declared.fed_row.FedRow.{FedRow as Fed};
+ghost use Rattle.ssq_meaning.specs.declared.fed_row.FedRow.{FedRow as Fed};
 ghost use Rattle.ssq_agg.specs.Closed.{AreClosed};
 ghost use Rattle.ssq_agg.specs.Shown.{others_of};
 ghost use Rattle.ssq_agg.specs.Steps.{Given, IsCause, IsStep, ShowsDue};
@@ -13,7 +13,7 @@ use crate::groups::touched;
 use crate::kept::{Group, Kept};
 use crate::shown::{Shown, nothing_shown, show_each, show_touched};
 use crate::totals::Totals;
-use ssq_grouped::{
+use ssq_meaning::{
     FedRow, groups_are_due_by_what_is_kept, groups_are_kept_whole, groups_come_in_any_order,
 };
 use ssq_shape::{Bound, Grouping, Mode};

@@ -4,14 +4,14 @@ ghost use Rattle.std.specs.Prelude.{◌≡◌, ◌∷◌, ◌++◌, [], Some, Li
 ghost use Rattle.std.specs.BTreeMap.{get};
 ghost use Rattle.ssq_value.specs.declared.value.Value.{Value as Cell};
 ghost use Rattle.ssq_value.specs.Order.{values_cmp};
-ghost use Rattle.ssq_grouped.specs.Group.{is_same, members};
-ghost use Rattle.ssq_grouped.specs.Totals.{with_row};
+ghost use Rattle.ssq_meaning.specs.Group.{is_same, members};
+ghost use Rattle.ssq_meaning.specs.Totals.{with_row};
 ghost use Rattle.ssq_agg.specs.Fits.{AllFit};
 ghost use Rattle.ssq_agg.specs.Groups.{AreSteady, goes_on, started, touched};
 
 use crate::kept::Kept;
 use crate::totals::Totals;
-use ssq_grouped::FedRow;
+use ssq_meaning::FedRow;
 use ssq_shape::Aggregate;
 use ssq_value::{Row, Value};
 use std::alloc::{AllocError, Global};

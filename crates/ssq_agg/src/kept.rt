@@ -2,7 +2,7 @@
 
 ghost use Rattle.std.specs.Prelude.{◌≡◌, ℤ, List, Option, Some, IfOk};
 ghost use Rattle.ssq_value.specs.declared.value.Value.{Value as Cell};
-ghost use Rattle.ssq_grouped.specs.declared.total.Total.{Total as Sum};
+ghost use Rattle.ssq_meaning.specs.declared.total.Total.{Total as Sum};
 ghost use Rattle.ssq_agg.specs.Closed.{AreAll, AreClosed};
 
 use crate::totals::Totals;

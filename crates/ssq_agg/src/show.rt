@@ -2,11 +2,11 @@
 
 ghost use Rattle.std.specs.Prelude.{◌≡◌, pos, IfOk};
 ghost use Rattle.ssq_expr.specs.Answers.{Answers, itself};
-ghost use Rattle.ssq_grouped.specs.Totals.{fitting, value_of, values_of_totals};
-ghost use Rattle.ssq_grouped.specs.Group.{group_items, passes_having, group_row};
+ghost use Rattle.ssq_meaning.specs.Totals.{fitting, value_of, values_of_totals};
+ghost use Rattle.ssq_meaning.specs.Group.{group_items, passes_having, group_row};
 
 use ssq_expr::{EvalFault, eval_group};
-use ssq_grouped::Total;
+use ssq_meaning::Total;
 use ssq_shape::{Bound, Grouping, Output, Typed};
 use ssq_value::{Row, Value};
 use std::alloc::{AllocError, Global};
@@ -67,7 +67,7 @@ fn passes(
     Ok(matches!(value, Value::Truth(true)))
 }
 
-#[tactic(auto, unfolding(ssq_grouped::specs::Group::group_items))]
+#[tactic(auto, unfolding(ssq_meaning::specs::Group::group_items))]
 fn items_of(
     alloc: Global,
     outputs: &[Output],
@@ -85,7 +85,7 @@ fn items_of(
 }
 
 /// The row that a group shows: none where HAVING is not TRUE on it.
-#[tactic(auto, unfolding(ssq_grouped::specs::Group::group_row))]
+#[tactic(auto, unfolding(ssq_meaning::specs::Group::group_row))]
 pub(crate) fn show(
     alloc: Global,
     bound: &Bound,

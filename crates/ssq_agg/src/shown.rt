@@ -3,7 +3,7 @@
 ghost use Rattle.std.specs.Prelude.{◌≡◌, [], ◌∷◌, ◌++◌, None, Some, All, IfOk};
 ghost use Rattle.std.specs.BTreeMap.{IsOrdered, get};
 ghost use Rattle.ssq_value.specs.Order.{values_cmp};
-ghost use Rattle.ssq_grouped.specs.Group.{lesser_key};
+ghost use Rattle.ssq_meaning.specs.Group.{lesser_key};
 ghost use Rattle.ssq_agg.specs.Shown.{Shows, pairs_of};
 
 use crate::kept::Group;

@@ -3,10 +3,10 @@
 ghost use Rattle.std.specs.Prelude.{◌≡◌, ◌<◌, ◌+◌, ◌^◌, ◌+ℤ◌, if◌then◌else◌, [], length, IfOk, OnOk, FitsSigned};
 ghost use Rattle.std.specs.Int.{w128};
 ghost use Rattle.ssq_shape.specs.Evaluation.{cell_at, is_null};
-ghost use Rattle.ssq_grouped.specs.Totals.{counted, greater, lesser, summand, total_of, totals_of, with_row, with_row_from, with_value};
+ghost use Rattle.ssq_meaning.specs.Totals.{counted, greater, lesser, summand, total_of, totals_of, with_row, with_row_from, with_value};
 ghost use Rattle.ssq_agg.specs.Fits.{AllFit, Fits};
 
-use ssq_grouped::Total;
+use ssq_meaning::Total;
 use ssq_shape::{Aggregate, Function};
 use ssq_value::{Value, order};
 use std::alloc::{AllocError, Global};
@@ -46,7 +46,7 @@ fn added(sum: i128, value: &Value) -> i128
 }
 
 /// Whether a value takes the place of the least so far.
-#[tactic(auto, unfolding(ssq_grouped::specs::Totals::lesser))]
+#[tactic(auto, unfolding(ssq_meaning::specs::Totals::lesser))]
 fn is_lesser(least: &Value, value: &Value) -> bool
     ensures { (if result then value.now else least.now) ≡ lesser least.now value.now }
 {
@@ -58,7 +58,7 @@ fn is_lesser(least: &Value, value: &Value) -> bool
 }
 
 /// Whether a value takes the place of the greatest so far.
-#[tactic(auto, unfolding(ssq_grouped::specs::Totals::greater))]
+#[tactic(auto, unfolding(ssq_meaning::specs::Totals::greater))]
 fn is_greater(greatest: &Value, value: &Value) -> bool
     ensures { (if result then value.now else greatest.now) ≡ greater greatest.now value.now }
 {
@@ -122,7 +122,7 @@ fn add_at(total: &mut Total, row: &[Value], at: usize) -> Result<(), AllocError>
     }
 }
 
-#[tactic(auto, unfolding(ssq_grouped::specs::Totals::with_row_from))]
+#[tactic(auto, unfolding(ssq_meaning::specs::Totals::with_row_from))]
 fn add_from(totals: &mut [Total], row: &[Value], at: usize) -> Result<(), AllocError>
     requires { at + length totals.old < 2 ^ 64 }
     ensures { AllFit (with_row_from at totals.old row.now) → OnOk result (totals.new ≡ with_row_from at totals.old row.now) }
@@ -155,7 +155,7 @@ fn none_of(function: Function) -> Total
 }
 
 /// The totals of no row.
-#[tactic(auto, unfolding(ssq_grouped::specs::Totals::totals_from))]
+#[tactic(auto, unfolding(ssq_meaning::specs::Totals::totals_from))]
 pub(crate) fn nothing(alloc: Global, aggregates: &[Aggregate]) -> Result<Vec<Total>, AllocError>
     ensures { IfOk result (λ totals. totals.items ≡ totals_of aggregates.now []) }
 {

@@ -1,11 +1,11 @@
 //! The totals of a group.
 
 ghost use Rattle.std.specs.Prelude.{◌≡◌, [], IfOk, OnOk};
-ghost use Rattle.ssq_grouped.specs.Totals.{totals_of, with_row};
+ghost use Rattle.ssq_meaning.specs.Totals.{totals_of, with_row};
 ghost use Rattle.ssq_agg.specs.Fits.{AllFit};
 
 use crate::total::{add_row, nothing};
-use ssq_grouped::Total;
+use ssq_meaning::Total;
 use ssq_shape::Aggregate;
 use ssq_value::Value;
 use std::alloc::{AllocError, Global};
@@ -17,7 +17,7 @@ pub struct Totals(Vec<Total>);
 
 impl Model for Totals {
     ghost use Rattle.std.specs.Prelude.{List};
-    ghost use Rattle.ssq_grouped.specs.declared.total.Total.{Total as Sum};
+    ghost use Rattle.ssq_meaning.specs.declared.total.Total.{Total as Sum};
 
     ghost Value = { List Sum };
 

@@ -21,7 +21,7 @@ use Rattle.ssq_meaning.specs.Feeding.{read_at, handed_by, shown_once, line_evalu
 use Rattle.ssq_meaning.specs.Operator.{plain, operator_for, operator_of}
 use Rattle.ssq_meaning.specs.Epochs.{fed_between, fed, watermark, watermark_before, accepted, out}
 use Rattle.ssq_meaning.specs.Laws.{outs, batch_of, batch}
-use Rattle.ssq_meaning.proofs.Epochs.{take-more}
+use Rattle.ssq_meaning.proofs.Between.{take-more}
 
 -- the rows as they are shown
 abbrev pub values_of : List FedRow → List Values

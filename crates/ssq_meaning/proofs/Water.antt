@@ -9,7 +9,7 @@ use Rattle.ssq_meaning.specs.Cut.{Cut, Cuts, of_parts}
 use Rattle.ssq_meaning.specs.Times.{later, earlier, greatest, AtMost, Delay, delays, less_delay, watermark_by}
 use Rattle.ssq_meaning.specs.Feeding.{time_at, time_in}
 use Rattle.ssq_meaning.specs.Epochs.{time_of_stream, time_between, seen, watermark}
-use Rattle.ssq_meaning.proofs.Epochs.{lines_between-none}
+use Rattle.ssq_meaning.proofs.Between.{lines_between-none}
 
 pub AtMost-refl : (t : Option ℤ) → AtMost t t
 AtMost-refl None = tt

@@ -7,13 +7,15 @@ use Rattle.ssq_json.specs.declared.bad_row.BadRow.{BadRow}
 use Rattle.ssq_shape.specs.declared.bound.Bound.{Bound}
 use Rattle.ssq_shape.specs.declared.bound.Stream.{Stream}
 use Rattle.ssq_shape.specs.declared.bound.Shape.{Shape}
-use Rattle.ssq_shape.specs.declared.bound.Shape.TheVariants.{Plain}
+use Rattle.ssq_shape.specs.declared.bound.Shape.TheVariants.{Plain, Group}
 use Rattle.ssq_shape.specs.Evaluation.{Overflow as Excess, and_then, time_in as time_of_value}
 use Rattle.ssq_shape.specs.Plain.{shown as shown_row}
 use Rattle.ssq_meaning.specs.declared.line.LineFault.{LineFault}
 use Rattle.ssq_meaning.specs.declared.line.LineFault.TheVariants.{Bad, Overflow}
 use Rattle.ssq_meaning.specs.declared.fed_row.FedRow.{FedRow}
 use Rattle.ssq_meaning.specs.Meaning.{Line, Values, lines_between}
+use Rattle.ssq_meaning.specs.Group.{handed_to_groups}
+pub use Rattle.ssq_meaning.specs.Handed.{Handed}
 use Rattle.ssq_meaning.specs.Parts.{Part}
 use Rattle.ssq_meaning.specs.Times.{greatest}
 
@@ -25,21 +27,17 @@ layout_in (Some stream) = stream.schema
 abbrev pub layout_at : Bound → ℕ → Layout
 layout_at query stream = layout_in (slice_get query.streams stream)
 
--- What is handed on of a row, beside its place: its key, its time key, and what the operator needs of it.
-pub record Handed : Type 0 where
-  pub key : Values
-  pub time : Option ℤ
-  pub values : Values
-
 -- a query that keeps nothing has one key, which has no values, and no time key
 abbrev pub shown_once : Option Values → List Handed
 shown_once None = []
 shown_once (Some values) = record { key = []; time = None; values = values } ∷ []
 
 -- What is handed on of a row of a stream, or that evaluating it overflows. Plain: the row as SELECT shows it, where WHERE is TRUE;
--- WHERE and then the items of SELECT are evaluated. What the other shapes hand on is to come: nothing is said of them yet.
+-- WHERE and then the items of SELECT are evaluated. Groups: the arguments of the aggregates, once for each window, where WHERE is TRUE.
+-- What Dedup and Join hand on is to come: nothing is said of them yet.
 abbrev pub handed_by : Shape → Bound → ℕ → Values → Result (List Handed) Excess
 handed_by Plain query stream row = and_then (shown_row query row) (λ values. Ok (shown_once values))
+handed_by (Group grouping) query stream row = handed_to_groups query grouping row
 handed_by _ query stream row = and_then (shown_row query row) (λ values. Ok (shown_once values))
 
 abbrev pub handed : Bound → ℕ → Values → Result (List Handed) Excess

@@ -2,7 +2,13 @@ pub mod Meaning
 pub mod Parts
 pub mod Cut
 pub mod Times
+pub mod Handed
+pub mod Totals
+pub mod Group
+pub mod Spans
 pub mod Feeding
 pub mod Operator
 pub mod Epochs
 pub mod Laws
+pub mod GroupLaws
+pub mod Table

@@ -1,10 +1,13 @@
 -- What a query does with the rows that are fed: the operator of its shape.
-use Rattle.std.specs.Prelude.{ℕ, ℤ, Bool, false, List, [], map, Option, None}
+use Rattle.std.specs.Prelude.{ℕ, ℤ, Bool, false, List, [], ◌++◌, map, filter, filter_map, Option, None}
 use Rattle.ssq_shape.specs.declared.bound.Bound.{Bound}
 use Rattle.ssq_shape.specs.declared.bound.Shape.{Shape}
-use Rattle.ssq_shape.specs.declared.bound.Shape.TheVariants.{Plain}
+use Rattle.ssq_shape.specs.declared.bound.Grouping.{Grouping}
+use Rattle.ssq_shape.specs.declared.bound.Shape.TheVariants.{Plain, Group}
 use Rattle.ssq_meaning.specs.declared.fed_row.FedRow.{FedRow}
+use Rattle.ssq_meaning.specs.Group.{row_of_key, key_overflows, due_keys, least_key, kept}
 use Rattle.ssq_meaning.specs.Meaning.{Values}
+use Rattle.ssq_meaning.specs.Times.{is_past}
 
 -- An operator, by the rows that were accepted before an epoch (old) and those of the epoch itself that are not late (new), and by the
 -- watermarks of the epoch before and its own.
@@ -27,9 +30,20 @@ plain = record {
   state = λ rows now. [];
 }
 
--- The operator of a shape, for a query of that shape. Those of the shapes that keep state are to come: nothing is said of them yet.
+-- Groups: a row is late where its key's time is past; an epoch shows the rows of the keys that it considers, over all rows that were
+-- accepted, and its fault is the least of these keys that overflows; what is open is kept.
+abbrev pub group : Bound → Grouping → Operator
+group query grouping = record {
+  is_late = λ now row. is_past now row.time;
+  added = λ old new before now. filter_map (row_of_key query grouping (old ++ new)) (due_keys query grouping old new before now);
+  fault = λ old new before now. least_key (filter (key_overflows query grouping (old ++ new)) (due_keys query grouping old new before now));
+  state = kept query grouping;
+}
+
+-- The operator of a shape, for a query of that shape. Those of Dedup and Join are to come: nothing is said of them yet.
 abbrev pub operator_for : Shape → Bound → Operator
 operator_for Plain query = plain
+operator_for (Group grouping) query = group query grouping
 operator_for _ query = plain
 
 unfoldable pub operator_of : Bound → Operator

@@ -1,13 +1,14 @@
 //! Laws of epochs, of each query.
 
-ghost use Rattle.std.specs.Prelude.{◌≡◌, ◌+◌, ◌≤◌, ℕ, List, [], ◌∷◌};
+ghost use Rattle.std.specs.Prelude.{◌≡◌, ◌+◌, ◌<◌, ◌≤◌, ℕ, List, [], ◌∷◌, None};
 ghost use Rattle.std.specs.List.Sorted.{IsPermutation};
 ghost use Rattle.ssq_shape.specs.declared.bound.Bound.{Bound as Query};
 ghost use Rattle.ssq_shape.specs.declared.bound.Shape.TheVariants as shape;
 ghost use Rattle.ssq_meaning.specs.Parts.{Part};
 ghost use Rattle.ssq_meaning.specs.Cut.{Cuts, AreCuts, AreSameTo};
 ghost use Rattle.ssq_meaning.specs.Times.{AtMost};
-ghost use Rattle.ssq_meaning.specs.Epochs.{seen, watermark};
+ghost use Rattle.ssq_meaning.specs.Epochs.{accepted, bucket, key_fault, on_time, seen, watermark, watermark_before};
+ghost use Rattle.ssq_meaning.specs.Operator.{operator_of};
 ghost use Rattle.ssq_meaning.specs.Laws.{SaysSame, outs, batch};
 
 /// The law of cuts: what is said of the first n epochs, and the watermark of the next, hang on where these epochs end, and on nothing
@@ -38,4 +39,12 @@ pub fn rows_add_up()
         IsPermutation (outs query parts cuts n) (batch query parts (cuts n)) }
     ensures list { (query : Query) (part : Part) (cuts : Cuts) (n : ℕ) → query.shape ≡ shape.Plain → AreCuts (part ∷ []) cuts n →
         outs query (part ∷ []) cuts n ≡ batch query (part ∷ []) (cuts n) }
+{}
+
+/// The law of keys that overflow, of a query of any shape: where no partition has one in an epoch, the epoch has none.
+pub fn keys_overflow_in_their_partitions()
+    ensures { (query : Query) (parts : List Part) (cuts : Cuts) (e partitions : ℕ) → 1 ≤ partitions →
+        ((p : ℕ) → p < partitions → (operator_of query).fault (bucket partitions p (accepted query parts cuts e)) (bucket partitions p (on_time query parts cuts e))
+        (watermark_before query parts cuts e) (watermark query parts cuts e) ≡ None) →
+        key_fault query parts cuts e ≡ None }
 {}

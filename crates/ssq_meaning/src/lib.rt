@@ -4,14 +4,24 @@
 //! order of work. What runs a query is proved against them.
 #![tactic(auto)]
 
-mod cuts;
+mod closing;
 mod fed_row;
+mod groups;
 mod laws;
 mod line;
+mod total;
 
-pub use cuts::{epochs_add_up, next_end};
+pub use closing::closing_time;
 pub use fed_row::{FedRow, View};
-pub use laws::{
-    epochs_hang_on_their_cuts, epochs_without_lines_are_quiet, rows_add_up, watermarks_never_fall,
+pub use groups::{
+    epochs_of_groups_follow, forgotten_groups_lose_no_row, groups_add_up,
+    groups_are_considered_once, groups_are_due_by_what_is_kept, groups_are_kept_whole,
+    groups_come_in_any_order, groups_fall_into_partitions, groups_in_append_add_up,
+    groups_in_complete_are_shown_whole, groups_in_update_replace_their_rows, kept_groups_are_found,
 };
-pub use line::{LineFault, schema_of, show_line};
+pub use laws::{
+    epochs_hang_on_their_cuts, epochs_without_lines_are_quiet, keys_overflow_in_their_partitions,
+    rows_add_up, watermarks_never_fall,
+};
+pub use line::LineFault;
+pub use total::Total;

@@ -2,9 +2,9 @@ use Rattle.std.proofs.Common.{◌≡◌, ap, sym, ◌∙◌, subst}
 use Rattle.std.specs.BTreeMap.{get}
 use Rattle.std.specs.List.Sorted.{IsPermutation}
 use Rattle.ssq_value.specs.Order.{values_cmp}
-use Rattle.ssq_grouped.specs.Group.{members}
-use Rattle.ssq_grouped.specs.Meaning.{Values}
-use Rattle.ssq_grouped.specs.Operator.{group}
+use Rattle.ssq_meaning.specs.Group.{members}
+use Rattle.ssq_meaning.specs.Meaning.{Values}
+use Rattle.ssq_meaning.specs.Operator.{group}
 use Rattle.ssq_agg.specs.Groups.{AreSteady, touched}
 use Rattle.ssq_agg.proofs.Stepping.{state_is, rows_are, fault_are}
 use Rattle.ssq_agg.proofs.epoch.step.Goals as goal

@@ -2,8 +2,8 @@ use Rattle.std.proofs.Common.{◌≡◌, Some, ap, sym, ◌∙◌, subst}
 use Rattle.std.specs.Prelude.{if◌then◌else◌}
 use Rattle.std.specs.BTreeMap.{get}
 use Rattle.ssq_value.specs.Order.{values_cmp}
-use Rattle.ssq_grouped.specs.Group.{is_same}
-use Rattle.ssq_grouped.specs.Totals.{with_row}
+use Rattle.ssq_meaning.specs.Group.{is_same}
+use Rattle.ssq_meaning.specs.Totals.{with_row}
 use Rattle.ssq_agg.specs.Fits.{AllFit}
 use Rattle.ssq_agg.specs.Groups.{goes_on, started}
 use Rattle.ssq_agg.proofs.Taking.{on_ok, fresh, again, is_there}

@@ -2,7 +2,7 @@ use Rattle.std.proofs.Common.{◌≡◌, List, take}
 use Rattle.std.specs.BTreeMap.{get}
 use Rattle.ssq_value.specs.declared.value.Value.{Value}
 use Rattle.ssq_value.specs.Order.{values_cmp}
-use Rattle.ssq_grouped.specs.Group.{members}
+use Rattle.ssq_meaning.specs.Group.{members}
 use Rattle.ssq_agg.specs.Groups.{AreSteady, touched}
 use Rattle.ssq_agg.proofs.groups.touched.Given as goal
 

@@ -1,6 +1,6 @@
 use Rattle.std.proofs.Common.{◌≡◌, ◌++◌, drop, Ok}
 use Rattle.ssq_shape.specs.Evaluation.{and_then}
-use Rattle.ssq_grouped.specs.Group.{group_items}
+use Rattle.ssq_meaning.specs.Group.{group_items}
 use Rattle.ssq_agg.proofs.show.items_of.Given as goal
 
 abbrev pub invariant-loop-output : goal.invariant-loop-output

@@ -1,5 +1,5 @@
 use Rattle.std.proofs.Common.{◌≡◌, take}
-use Rattle.ssq_grouped.specs.Totals.{values_of_totals}
+use Rattle.ssq_meaning.specs.Totals.{values_of_totals}
 use Rattle.ssq_agg.proofs.show.values_of.Given as goal
 
 abbrev pub invariant-loop-total : goal.invariant-loop-total

@@ -1,5 +1,5 @@
 use Rattle.std.proofs.Common.{◌≡◌, ◌++◌, [], drop}
-use Rattle.ssq_grouped.specs.Totals.{totals_from, totals_of}
+use Rattle.ssq_meaning.specs.Totals.{totals_from, totals_of}
 use Rattle.ssq_agg.proofs.total.nothing.Given as goal
 
 abbrev pub invariant-loop-aggregate : goal.invariant-loop-aggregate

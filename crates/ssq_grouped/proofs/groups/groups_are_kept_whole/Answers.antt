@@ -1,5 +1,0 @@
-use Rattle.ssq_grouped.proofs.Counted.{kept_whole}
-use Rattle.ssq_grouped.proofs.groups.groups_are_kept_whole.Goals as goal
-
-pub returns : goal.returns
-returns c = kept_whole

@@ -1,8 +1,0 @@
-use Rattle.ssq_grouped.proofs.GroupEpochs.{epochs_append, considered_once}
-use Rattle.ssq_grouped.proofs.groups.groups_in_append_add_up.Goals as goal
-
-pub returns-clause-rows : goal.returns-clause-rows
-returns-clause-rows c = epochs_append
-
-pub returns-clause-once : goal.returns-clause-once
-returns-clause-once c = considered_once

@@ -1,5 +1,0 @@
-use Rattle.ssq_grouped.proofs.Tables.{epochs_complete}
-use Rattle.ssq_grouped.proofs.groups.groups_in_complete_are_shown_whole.Goals as goal
-
-pub returns : goal.returns
-returns c = epochs_complete
