@@ -5,7 +5,8 @@ pub mod Times
 pub mod Handed
 pub mod Totals
 pub mod Group
-pub mod Spans
+pub mod Windows
+pub mod Fit
 pub mod Feeding
 pub mod Operator
 pub mod Epochs

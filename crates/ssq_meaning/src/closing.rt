@@ -7,7 +7,7 @@ ghost use Rattle.ssq_value.specs.Kind.{IfTime};
 ghost use Rattle.ssq_shape.specs.Evaluation.{time_in};
 ghost use Rattle.ssq_shape.specs.Late.{event_of, is_column_of, is_event, is_window_of};
 ghost use Rattle.ssq_meaning.specs.Group.{closing_time, end_of, event_time, time_by, window_end};
-ghost use Rattle.ssq_meaning.specs.Spans.{HasSpan};
+ghost use Rattle.ssq_meaning.specs.Windows.{HasWindow};
 
 use ssq_shape::{Bound, GroupKey, Grouping, Mode, Stream, TimeKey, time_key};
 use ssq_value::Value;
@@ -67,7 +67,7 @@ fn sum_of(start: i64, size: i64) -> i64
 
 /// Where a window ends, by its start.
 fn end_of(key: &GroupKey, start: &Value) -> Option<i64>
-    requires size { HasSpan key.now }
+    requires size { HasWindow key.now }
     requires years { IfTime IsStampTime start.now }
     ensures { result ≡ end_of key.now start.now }
 {
@@ -82,7 +82,7 @@ fn end_of(key: &GroupKey, start: &Value) -> Option<i64>
 
 #[tactic(auto, unfolding(crate::specs::Group::window_end))]
 fn window_end(event: Option<usize>, keys: &[GroupKey], values: &[Value]) -> Option<i64>
-    requires sizes { AllByRecursion HasSpan keys.now }
+    requires sizes { AllByRecursion HasWindow keys.now }
     requires years { AllByRecursion (IfTime IsStampTime) values.now }
     ensures { result ≡ window_end event keys.now values.now }
 {
@@ -114,7 +114,7 @@ fn time_by(
     keys: &[GroupKey],
     values: &[Value],
 ) -> Option<i64>
-    requires sizes { AllByRecursion HasSpan keys.now }
+    requires sizes { AllByRecursion HasWindow keys.now }
     requires years { AllByRecursion (IfTime IsStampTime) values.now }
     ensures { result ≡ time_by key event keys.now values.now }
 {
@@ -132,7 +132,7 @@ fn time_by(
 /// The key has times of the years 0001 to 9999.
 #[tactic(auto, unfolding(crate::specs::Group::closing_time))]
 pub fn closing_time(bound: &Bound, grouping: &Grouping, key: &[Value]) -> Option<i64>
-    requires sizes { AllByRecursion HasSpan grouping.now.keys }
+    requires sizes { AllByRecursion HasWindow grouping.now.keys }
     requires years { AllByRecursion (IfTime IsStampTime) key.now }
     ensures { result ≡ closing_time bound.now grouping.now key.now }
 {
