@@ -8,6 +8,7 @@ use Rattle.ssq_time.specs.Time.{IsStampTime, is_stamp_time}
 use Rattle.ssq_value.specs.declared.value.Value.{Value}
 use Rattle.ssq_value.specs.Kind.{IfTime}
 use Rattle.ssq_shape.specs.Evaluation.{Overflow, Evaluated, and_then, evaluated, evaluated_with}
+use Rattle.ssq_shape.specs.Fit.{IsFit}
 use Rattle.ssq_shape.specs.Plain.{projected}
 use Rattle.ssq_shape.specs.Laws.{value_timed}
 use Rattle.ssq_shape.specs.declared.typed.Typed.{Typed}
@@ -36,11 +37,18 @@ value_years row x all = value_timed IsStampTime printable [] tt row all x
 pub group_years : (aggregates : List (Option Value)) (keys : List Value) (x : Typed) → All (λ aggregate. IfSome aggregate (IfTime IsStampTime)) aggregates → All (IfTime IsStampTime) keys → IfOk (evaluated_with aggregates x keys) (IfTime IsStampTime)
 group_years aggregates keys x found all = value_timed IsStampTime printable aggregates (recursion_from_All (λ aggregate. IfSome aggregate (IfTime IsStampTime)) aggregates found) keys all x
 
-pub values_years : (row : List Value) (outputs : List Output) → All (IfTime IsStampTime) row → IfOk (projected outputs row) (All (IfTime IsStampTime))
+-- what holds of each item's value holds of all
+values_have : (P : Value → Type 0) (row : List Value) (outputs : List Output) → ((x : Typed) → IfOk (evaluated x row) P) → IfOk (projected outputs row) (All P)
 unfolding projected
-values_years row [] all = All-nil (IfTime IsStampTime)
-values_years row (output ∷ outputs) all = step (evaluated output.value row) (projected outputs row) (value_years row output.value all) (values_years row outputs all) where
-  step : (first : Evaluated) (others : Result (List Value) Overflow) → IfOk first (IfTime IsStampTime) → IfOk others (All (IfTime IsStampTime)) → IfOk (and_then first (λ value. and_then others (λ values. Ok (value ∷ values)))) (All (IfTime IsStampTime))
+values_have P row [] each = All-nil P
+values_have P row (output ∷ outputs) each = step (evaluated output.value row) (projected outputs row) (each output.value) (values_have P row outputs each) where
+  step : (first : Evaluated) (others : Result (List Value) Overflow) → IfOk first P → IfOk others (All P) → IfOk (and_then first (λ value. and_then others (λ values. Ok (value ∷ values)))) (All P)
   step (Err e) others one more = tt
   step (Ok value) (Err e) one more = tt
-  step (Ok value) (Ok values) one more = All-cons (IfTime IsStampTime) value values one more
+  step (Ok value) (Ok values) one more = All-cons P value values one more
+
+pub values_years : (row : List Value) (outputs : List Output) → All (IfTime IsStampTime) row → IfOk (projected outputs row) (All (IfTime IsStampTime))
+values_years row outputs all = values_have (IfTime IsStampTime) row outputs (λ x. value_years row x all)
+
+pub values_fit : (row : List Value) (outputs : List Output) → ((x : Typed) → IfOk (evaluated x row) IsFit) → IfOk (projected outputs row) (All IsFit)
+values_fit row outputs each = values_have IsFit row outputs each

@@ -1,19 +1,21 @@
 //! The evaluation of an expression on a row, and on a group.
 
-ghost use Rattle.std.specs.Prelude.{◌≡◌, All, IfOk, IfSome};
+ghost use Rattle.std.specs.Prelude.{◌≡◌, All, IfOk, IfSome, Ok as OkOf};
 ghost use Rattle.std.specs.Cow.{cow_value};
+ghost use Rattle.ssq_value.specs.declared.value.Value.TheVariants.{Int as IntOf, Text as TextOf};
 ghost use Rattle.ssq_time.specs.Time.{IsStampTime};
 ghost use Rattle.ssq_value.specs.Kind.{IfTime};
 ghost use Rattle.ssq_shape.specs.Evaluation.{aggregate_at, cell_at, constant, evaluated, evaluated_with};
+ghost use Rattle.ssq_shape.specs.Fit.{IsFit};
 ghost use Rattle.ssq_expr.specs.Answers.{Answers, itself};
 
 use crate::fault::EvalFault;
 use crate::operators::{
-    arithmetic, both, compared, either, is_null, joined, negated, negation, number_in, shifted,
-    time_in, timestamp, truth_in, truth_value,
+    LONGEST, arithmetic, both, compared, either, is_null, joined, negated, negation, number_in,
+    shifted, time_in, timestamp, truth_in, truth_value,
 };
-use ssq_shape::{Comparison, Typed};
-use ssq_value::Value;
+use ssq_shape::{Comparison, Typed, values_stay_fit};
+use ssq_value::{Text, Value};
 use std::alloc::Global;
 use std::borrow::Cow;
 
@@ -36,12 +38,33 @@ fn aggregate_at<'a>(aggregates: &'a [Option<Value>], at: usize) -> Result<Cow<'a
     }
 }
 
+/// A text of at most 1,048,576 bytes.
+fn fitting_text<'a>(value: &'a Value, text: &Text) -> Result<Cow<'a, Value>, EvalFault>
+    requires { value.now ≡ TextOf text.now }
+    ensures { Answers cow_value result (constant value.now) }
+{
+    if text.len() <= LONGEST {
+        Ok(Cow::Borrowed(value))
+    } else {
+        Err(EvalFault::Overflow)
+    }
+}
+
+/// Each number has 64 bits.
+fn fitting_number<'a>(number: i64) -> Cow<'a, Value>
+    ensures { constant (IntOf number) ≡ OkOf (cow_value result) }
+{
+    Cow::Owned(Value::Int(number))
+}
+
 fn constant<'a>(value: &'a Value) -> Result<Cow<'a, Value>, EvalFault>
     ensures { Answers cow_value result (constant value.now) }
 {
     match value {
         Value::Time(time) => Ok(Cow::Owned(timestamp(*time)?)),
-        _ => Ok(Cow::Borrowed(value)),
+        Value::Text(text) => fitting_text(value, text),
+        Value::Int(number) => Ok(fitting_number(*number)),
+        Value::Null | Value::Truth(_) => Ok(Cow::Borrowed(value)),
     }
 }
 
@@ -148,7 +171,10 @@ pub fn eval(alloc: Global, expression: &Typed, row: &[Value]) -> Result<Value, E
     ensures value { Answers itself result (evaluated expression.now row.now) }
     // A time is one that can be printed, where each time of the row is.
     ensures years { All (IfTime IsStampTime) row.now → IfOk result (IfTime IsStampTime) }
+    // It is one that a query can keep, where each value of the row is.
+    ensures fit { All IsFit row.now → IfOk result IsFit }
 {
+    values_stay_fit();
     let value = evaluate(alloc, expression, row, &[])?;
     Ok(value.into_owned()?)
 }

@@ -14,7 +14,7 @@ use std::borrow::Cow;
 use std::cmp::Ordering;
 
 /// The most bytes of a text that `||` makes.
-const LONGEST: usize = 1_048_576;
+pub(crate) const LONGEST: usize = 1_048_576;
 
 /// The number that a value is, if it is one.
 fn number_of(value: &Value) -> Option<i64>

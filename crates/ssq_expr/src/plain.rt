@@ -4,12 +4,13 @@ ghost use Rattle.std.specs.Prelude.{All, IfOk, IfSome};
 ghost use Rattle.ssq_time.specs.Time.{IsStampTime};
 ghost use Rattle.ssq_value.specs.Kind.{IfTime};
 ghost use Rattle.ssq_shape.specs.Plain.{passes, projected, shown};
+ghost use Rattle.ssq_shape.specs.Fit.{IsFit};
 ghost use Rattle.ssq_expr.specs.Answers.{Answers, itself};
 
 use crate::evaluate::{eval, evaluate};
 use crate::fault::EvalFault;
 use crate::operators::truth_in;
-use ssq_shape::{Bound, Output, Typed};
+use ssq_shape::{Bound, Output, Typed, values_stay_fit};
 use ssq_value::{Row, Value};
 use std::alloc::{AllocError, Global};
 
@@ -41,7 +42,10 @@ pub fn project(alloc: Global, outputs: &[Output], row: &[Value]) -> Result<Row, 
     ensures row { Answers itself result (projected outputs.now row.now) }
     // Its times are ones that can be printed, where each time of the row is.
     ensures years { All (IfTime IsStampTime) row.now → IfOk result (All (IfTime IsStampTime)) }
+    // They are ones that a query can keep, where each value of the row is.
+    ensures fit { All IsFit row.now → IfOk result (All IsFit) }
 {
+    values_stay_fit();
     let values = values_of(alloc, outputs, row)?;
     Ok(Row::from_vec(values))
 }
@@ -51,6 +55,8 @@ pub fn show(alloc: Global, bound: &Bound, row: &[Value]) -> Result<Option<Row>, 
     ensures row { Answers itself result (shown bound.now row.now) }
     // Its times are ones that can be printed, where each time of the row is.
     ensures years { All (IfTime IsStampTime) row.now → IfOk result (λ shown. IfSome shown (All (IfTime IsStampTime))) }
+    // They are ones that a query can keep, where each value of the row is.
+    ensures fit { All IsFit row.now → IfOk result (λ shown. IfSome shown (All IsFit)) }
 {
     if !passes(alloc, &bound.filter, row)? {
         return Ok(None);

@@ -83,10 +83,14 @@ cell_at row at = cell_or_null (slice_get row at) where
   cell_or_null None = Null
   cell_or_null (Some value) = value
 
--- A constant is itself. No time is outside the years 0001 to 9999, a constant one included.
+-- A constant is itself. No number is outside 64 bits, no time outside the years 0001 to 9999, and no text longer than `||` makes one, a
+-- constant one included.
 abbrev pub constant : Value → Evaluated
+constant Null = Ok Null
+constant (Int number) = bigint number
+constant (Text text) = if nat_le (length text) longest then Ok (Text text) else Err overflow
 constant (Time time) = timestamp time
-constant value = Ok value
+constant (Truth truth) = Ok (Truth truth)
 
 -- An aggregate's value, by its number; a sum that is not in 64 bits has none, and overflows where it is evaluated. An
 -- aggregate that is not there counts as NULL.

@@ -1,9 +1,10 @@
 -- The value of an expression has the expression's type, and its times are of the years 0001 to 9999.
-use Rattle.std.proofs.Common.{◌≡◌, ℕ, zero, suc, ℤ, pos, neg_ℤ, ◌+ℤ◌, ◌-ℤ◌, ◌*ℤ◌, Bool, true, false, List, [], ◌∷◌, ◌++◌, Option, Some, None, Result, Ok, Err, refl, subst}
-use Rattle.std.specs.Prelude.{All, IfOk, IfSome, if◌then◌else◌, slice_get, int_div, int_rem}
+use Rattle.std.proofs.Common.{◌≡◌, ℕ, zero, suc, ℤ, pos, neg_ℤ, ◌+ℤ◌, ◌-ℤ◌, ◌*ℤ◌, Bool, true, false, List, [], ◌∷◌, ◌++◌, Option, Some, None, Result, Ok, Err, refl, subst, ap, ◌∙◌}
+use Rattle.std.specs.Prelude.{All, IfOk, IfSome, if◌then◌else◌, slice_get, int_div, int_rem, nat_le, length, map}
 use Rattle.std.specs.List.{AllByRecursion}
 use Rattle.std.specs.Ordering.{int_eq}
 use Rattle.std.proofs.lemmas.List.Elements.{recursion_from_All}
+use lib.ListN.{length-append}
 use Rattle.ssq_value.specs.declared.column.ColType.{ColType}
 use Rattle.ssq_value.specs.declared.column.ColType.TheVariants as kind
 use Rattle.ssq_value.specs.declared.value.Value.{Value}
@@ -16,7 +17,7 @@ use Rattle.ssq_shape.specs.declared.typed.Comparison.TheVariants.{AtMost, AtLeas
 use Rattle.ssq_shape.specs.declared.typed.Typed.{Typed}
 use Rattle.ssq_shape.specs.Boxes.{only}
 use Rattle.ssq_shape.specs.declared.typed.Typed.TheVariants.{Column, Aggregate, Constant, Negated', Not', IsNull', Arithmetic', Shifted', Joined', Compared', Between', And', Or'}
-use Rattle.ssq_shape.specs.Evaluation.{Overflow, overflow, Evaluated, and_then, bigint, cell_at, aggregate_at, constant, negated, calculated, arithmetic, shifted, joined, compared, number_in, time_in, text_in, truth_in, truth_value, truth_of, negation, both, either, conjunction, disjunction, evaluated_with}
+use Rattle.ssq_shape.specs.Evaluation.{is_bigint, is_null, longest, Overflow, overflow, Evaluated, and_then, bigint, cell_at, aggregate_at, constant, negated, calculated, arithmetic, shifted, joined, compared, number_in, time_in, text_in, truth_in, truth_value, truth_of, negation, both, either, conjunction, disjunction, evaluated_with}
 use Rattle.ssq_shape.specs.Kinds.{gives, kind_with, AreHeldBy, AreFoundIn}
 
 -- ---- what holds of each value that an operator can give
@@ -33,21 +34,21 @@ then_ok : {A : Type 0} (P : Value → Type 0) (r : Result A Overflow) (f : A →
 then_ok P (Ok a) f holds = holds a
 then_ok P (Err e) f holds = tt
 
-bigint_ok : (P : Value → Type 0) → ((n : ℤ) → P (Int n)) → (z : ℤ) → IfOk (bigint z) P
-bigint_ok P int z = if_fits P _ (Int z) (λ _. int z)
+bigint_ok : (P : Value → Type 0) → ((n : ℤ) → is_bigint n ≡ true → P (Int n)) → (z : ℤ) → IfOk (bigint z) P
+bigint_ok P int z = if_fits P _ (Int z) (λ fits. int z fits)
 
-negated_ok : (P : Value → Type 0) → P Null → ((n : ℤ) → P (Int n)) → (o : Option ℤ) → IfOk (negated o) P
+negated_ok : (P : Value → Type 0) → P Null → ((n : ℤ) → is_bigint n ≡ true → P (Int n)) → (o : Option ℤ) → IfOk (negated o) P
 negated_ok P null int None = null
 negated_ok P null int (Some n) = bigint_ok P int (neg_ℤ n)
 
-calculated_ok : (P : Value → Type 0) → P Null → ((n : ℤ) → P (Int n)) → (op : Arithmetic) (a b : ℤ) → IfOk (calculated op a b) P
+calculated_ok : (P : Value → Type 0) → P Null → ((n : ℤ) → is_bigint n ≡ true → P (Int n)) → (op : Arithmetic) (a b : ℤ) → IfOk (calculated op a b) P
 calculated_ok P null int Plus a b = bigint_ok P int (a +ℤ b)
 calculated_ok P null int Minus a b = bigint_ok P int (a -ℤ b)
 calculated_ok P null int Times a b = bigint_ok P int (a *ℤ b)
 calculated_ok P null int Quotient a b = if_either P (int_eq b (pos 0)) (Ok Null) (bigint (int_div a b)) null (bigint_ok P int (int_div a b))
 calculated_ok P null int Remainder a b = if_either P (int_eq b (pos 0)) (Ok Null) (bigint (int_rem a b)) null (bigint_ok P int (int_rem a b))
 
-arithmetic_ok : (P : Value → Type 0) → P Null → ((n : ℤ) → P (Int n)) → (op : Arithmetic) (a b : Option ℤ) → IfOk (arithmetic op a b) P
+arithmetic_ok : (P : Value → Type 0) → P Null → ((n : ℤ) → is_bigint n ≡ true → P (Int n)) → (op : Arithmetic) (a b : Option ℤ) → IfOk (arithmetic op a b) P
 arithmetic_ok P null int op None b = null
 arithmetic_ok P null int op (Some a) None = null
 arithmetic_ok P null int op (Some a) (Some b) = calculated_ok P null int op a b
@@ -56,10 +57,10 @@ shifted_ok : (P : Value → Type 0) → P Null → ((t : ℤ) → is_stamp_time 
 shifted_ok P null time None by = null
 shifted_ok P null time (Some t) by = if_fits P _ (Time (t +ℤ by)) (λ fits. time (t +ℤ by) fits)
 
-joined_ok : (P : Value → Type 0) → P Null → ((t : List ℕ) → P (Text t)) → (a b : Option (List ℕ)) → IfOk (joined a b) P
+joined_ok : (P : Value → Type 0) → P Null → ((t : List ℕ) → nat_le (length t) longest ≡ true → P (Text t)) → (a b : Option (List ℕ)) → IfOk (joined a b) P
 joined_ok P null text None b = null
 joined_ok P null text (Some a) None = null
-joined_ok P null text (Some a) (Some b) = if_fits P _ (Text (a ++ b)) (λ _. text _)
+joined_ok P null text (Some a) (Some b) = if_fits P _ (Text (a ++ b)) (λ fits. text (a ++ b) (ap (λ n. nat_le n longest) (length-append a b) ∙ fits))
 
 truth_ok : (P : Value → Type 0) → P Null → ((t : Bool) → P (Truth t)) → (o : Option Bool) → P (truth_value o)
 truth_ok P null truth None = null
@@ -96,8 +97,8 @@ aggregate_held (own ∷ kinds) (aggregate ∷ aggregates) (suc at) kind found th
 
 constant_held : (value : Value) (kind : ColType) → kind_of value ≡ Some kind → IfOk (constant value) (IsHeldBy kind)
 constant_held Null kind is = absurd cc
-constant_held (Int n) kind is = cc
-constant_held (Text text) kind is = cc
+constant_held (Int n) kind is = if_fits (IsHeldBy kind) _ (Int n) (λ _. cc)
+constant_held (Text text) kind is = if_fits (IsHeldBy kind) _ (Text text) (λ _. cc)
 constant_held (Time t) kind is = if_fits (IsHeldBy kind) _ (Time t) (λ _. cc)
 constant_held (Truth truth) kind is = cc
 
@@ -112,51 +113,67 @@ unfolding evaluated_with kind_with
 value_held aggregate_kinds kinds aggregates row (Column at) own found held is = cell_held kinds row at own held is
 value_held aggregate_kinds kinds aggregates row (Aggregate at) own found held is = aggregate_held aggregate_kinds aggregates at own found is
 value_held aggregate_kinds kinds aggregates row (Constant value) own found held is = constant_held value own is
-value_held aggregate_kinds kinds aggregates row (Negated' p (only x)) own found held is = by_kind kind.Bigint own _ _ is (then_ok (IsHeldBy kind.Bigint) (evaluated_with aggregates x row) _ (λ value. negated_ok (IsHeldBy kind.Bigint) tt (λ _. refl) (number_in value)))
+value_held aggregate_kinds kinds aggregates row (Negated' p (only x)) own found held is = by_kind kind.Bigint own _ _ is (then_ok (IsHeldBy kind.Bigint) (evaluated_with aggregates x row) _ (λ value. negated_ok (IsHeldBy kind.Bigint) tt (λ _ _. refl) (number_in value)))
 value_held aggregate_kinds kinds aggregates row (Not' p (only x)) own found held is = by_kind kind.Bool own _ _ is (then_ok (IsHeldBy kind.Bool) (evaluated_with aggregates x row) _ (λ value. truth_ok (IsHeldBy kind.Bool) tt (λ _. refl) (negation (truth_in value))))
 value_held aggregate_kinds kinds aggregates row (IsNull' p (only x)) own found held is = by_kind kind.Bool own _ _ is (then_ok (IsHeldBy kind.Bool) (evaluated_with aggregates x row) _ (λ _. refl))
-value_held aggregate_kinds kinds aggregates row (Arithmetic' op p (only a) q (only b)) own found held is = by_kind kind.Bigint own _ _ is (then_ok (IsHeldBy kind.Bigint) (evaluated_with aggregates a row) _ (λ left. then_ok (IsHeldBy kind.Bigint) (evaluated_with aggregates b row) _ (λ right. arithmetic_ok (IsHeldBy kind.Bigint) tt (λ _. refl) op (number_in left) (number_in right))))
+value_held aggregate_kinds kinds aggregates row (Arithmetic' op p (only a) q (only b)) own found held is = by_kind kind.Bigint own _ _ is (then_ok (IsHeldBy kind.Bigint) (evaluated_with aggregates a row) _ (λ left. then_ok (IsHeldBy kind.Bigint) (evaluated_with aggregates b row) _ (λ right. arithmetic_ok (IsHeldBy kind.Bigint) tt (λ _ _. refl) op (number_in left) (number_in right))))
 value_held aggregate_kinds kinds aggregates row (Shifted' p (only x) by) own found held is = by_kind kind.Timestamp own _ _ is (then_ok (IsHeldBy kind.Timestamp) (evaluated_with aggregates x row) _ (λ value. shifted_ok (IsHeldBy kind.Timestamp) tt (λ _ _. refl) (time_in value) by))
-value_held aggregate_kinds kinds aggregates row (Joined' p (only a) q (only b)) own found held is = by_kind kind.Str own _ _ is (then_ok (IsHeldBy kind.Str) (evaluated_with aggregates a row) _ (λ left. then_ok (IsHeldBy kind.Str) (evaluated_with aggregates b row) _ (λ right. joined_ok (IsHeldBy kind.Str) tt (λ _. refl) (text_in left) (text_in right))))
+value_held aggregate_kinds kinds aggregates row (Joined' p (only a) q (only b)) own found held is = by_kind kind.Str own _ _ is (then_ok (IsHeldBy kind.Str) (evaluated_with aggregates a row) _ (λ left. then_ok (IsHeldBy kind.Str) (evaluated_with aggregates b row) _ (λ right. joined_ok (IsHeldBy kind.Str) tt (λ _ _. refl) (text_in left) (text_in right))))
 value_held aggregate_kinds kinds aggregates row (Compared' comparison p (only a) q (only b)) own found held is = by_kind kind.Bool own _ _ is (then_ok (IsHeldBy kind.Bool) (evaluated_with aggregates a row) _ (λ left. then_ok (IsHeldBy kind.Bool) (evaluated_with aggregates b row) _ (λ right. truth_ok (IsHeldBy kind.Bool) tt (λ _. refl) (compared comparison left right))))
 value_held aggregate_kinds kinds aggregates row (Between' p (only a) q (only b) r (only c)) own found held is = by_kind kind.Bool own _ _ is (then_ok (IsHeldBy kind.Bool) (evaluated_with aggregates a row) _ (λ value. then_ok (IsHeldBy kind.Bool) (evaluated_with aggregates b row) _ (λ least. conjunction_ok (IsHeldBy kind.Bool) tt (λ _. refl) (compared AtLeast value least) (and_then (evaluated_with aggregates c row) (λ most. Ok (compared AtMost value most))))))
 value_held aggregate_kinds kinds aggregates row (And' p (only a) q (only b)) own found held is = by_kind kind.Bool own _ _ is (then_ok (IsHeldBy kind.Bool) (evaluated_with aggregates a row) _ (λ left. conjunction_ok (IsHeldBy kind.Bool) tt (λ _. refl) (truth_in left) (truth_of (evaluated_with aggregates b row))))
 value_held aggregate_kinds kinds aggregates row (Or' p (only a) q (only b)) own found held is = by_kind kind.Bool own _ _ is (then_ok (IsHeldBy kind.Bool) (evaluated_with aggregates a row) _ (λ left. disjunction_ok (IsHeldBy kind.Bool) tt (λ _. refl) (truth_in left) (truth_of (evaluated_with aggregates b row))))
 
+-- ---- what stays so
+
+-- what holds of each value that an operator or a constant can give
+pub record HoldsOfResults (P : Value → Type 0) : Type 0 where
+  pub null : P Null
+  pub int : (n : ℤ) → is_bigint n ≡ true → P (Int n)
+  pub text : (t : List ℕ) → nat_le (length t) longest ≡ true → P (Text t)
+  pub time : (t : ℤ) → is_stamp_time t ≡ true → P (Time t)
+  pub truth : (t : Bool) → P (Truth t)
+
+cell_has : (P : Value → Type 0) (row : List Value) (at : ℕ) → P Null → AllByRecursion P row → P (cell_at row at)
+cell_has P [] at null all = null
+cell_has P (value ∷ row) zero null all = all.0
+cell_has P (value ∷ row) (suc at) null all = cell_has P row at null all.1
+
+aggregate_has : (P : Value → Type 0) (aggregates : List (Option Value)) (at : ℕ) → P Null → AllByRecursion (λ aggregate. IfSome aggregate P) aggregates → IfOk (aggregate_at aggregates at) P
+aggregate_has P [] at null all = null
+aggregate_has P (None ∷ aggregates) zero null all = tt
+aggregate_has P (Some value ∷ aggregates) zero null all = all.0
+aggregate_has P (aggregate ∷ aggregates) (suc at) null all = aggregate_has P aggregates at null all.1
+
+constant_has : (P : Value → Type 0) → HoldsOfResults P → (value : Value) → IfOk (constant value) P
+constant_has P results Null = results.null
+constant_has P results (Int n) = if_fits P _ (Int n) (λ fits. results.int n fits)
+constant_has P results (Text text) = if_fits P _ (Text text) (λ fits. results.text text fits)
+constant_has P results (Time t) = if_fits P _ (Time t) (λ fits. results.time t fits)
+constant_has P results (Truth truth) = results.truth truth
+
+-- what holds of each such value, of each of the row and of each of the aggregates, holds of the value of an expression
+pub value_has : (P : Value → Type 0) → HoldsOfResults P → (aggregates : List (Option Value)) → AllByRecursion (λ aggregate. IfSome aggregate P) aggregates → (row : List Value) → AllByRecursion P row → (x : Typed) → IfOk (evaluated_with aggregates x row) P
+unfolding evaluated_with
+value_has P rs aggregates found row all (Column at) = cell_has P row at rs.null all
+value_has P rs aggregates found row all (Aggregate at) = aggregate_has P aggregates at rs.null found
+value_has P rs aggregates found row all (Constant value) = constant_has P rs value
+value_has P rs aggregates found row all (Negated' p (only x)) = then_ok P (evaluated_with aggregates x row) _ (λ value. negated_ok P rs.null rs.int (number_in value))
+value_has P rs aggregates found row all (Not' p (only x)) = then_ok P (evaluated_with aggregates x row) _ (λ value. truth_ok P rs.null rs.truth (negation (truth_in value)))
+value_has P rs aggregates found row all (IsNull' p (only x)) = then_ok P (evaluated_with aggregates x row) _ (λ value. rs.truth (is_null value))
+value_has P rs aggregates found row all (Arithmetic' op p (only a) q (only b)) = then_ok P (evaluated_with aggregates a row) _ (λ left. then_ok P (evaluated_with aggregates b row) _ (λ right. arithmetic_ok P rs.null rs.int op (number_in left) (number_in right)))
+value_has P rs aggregates found row all (Shifted' p (only x) by) = then_ok P (evaluated_with aggregates x row) _ (λ value. shifted_ok P rs.null rs.time (time_in value) by)
+value_has P rs aggregates found row all (Joined' p (only a) q (only b)) = then_ok P (evaluated_with aggregates a row) _ (λ left. then_ok P (evaluated_with aggregates b row) _ (λ right. joined_ok P rs.null rs.text (text_in left) (text_in right)))
+value_has P rs aggregates found row all (Compared' comparison p (only a) q (only b)) = then_ok P (evaluated_with aggregates a row) _ (λ left. then_ok P (evaluated_with aggregates b row) _ (λ right. truth_ok P rs.null rs.truth (compared comparison left right)))
+value_has P rs aggregates found row all (Between' p (only a) q (only b) r (only c)) = then_ok P (evaluated_with aggregates a row) _ (λ value. then_ok P (evaluated_with aggregates b row) _ (λ least. conjunction_ok P rs.null rs.truth (compared AtLeast value least) (and_then (evaluated_with aggregates c row) (λ most. Ok (compared AtMost value most)))))
+value_has P rs aggregates found row all (And' p (only a) q (only b)) = then_ok P (evaluated_with aggregates a row) _ (λ left. conjunction_ok P rs.null rs.truth (truth_in left) (truth_of (evaluated_with aggregates b row)))
+value_has P rs aggregates found row all (Or' p (only a) q (only b)) = then_ok P (evaluated_with aggregates a row) _ (λ left. disjunction_ok P rs.null rs.truth (truth_in left) (truth_of (evaluated_with aggregates b row)))
+
 -- ---- times
 
-cell_timed : (Q : ℤ → Type 0) (row : List Value) (at : ℕ) → AllByRecursion (IfTime Q) row → IfTime Q (cell_at row at)
-cell_timed Q [] at all = tt
-cell_timed Q (value ∷ row) zero all = all.0
-cell_timed Q (value ∷ row) (suc at) all = cell_timed Q row at all.1
+times_hold : (Q : ℤ → Type 0) → ((t : ℤ) → is_stamp_time t ≡ true → Q t) → HoldsOfResults (IfTime Q)
+times_hold Q printable = record { null = tt; int = λ n fits. tt; text = λ t fits. tt; time = printable; truth = λ t. tt }
 
-aggregate_timed : (Q : ℤ → Type 0) (aggregates : List (Option Value)) (at : ℕ) → AllByRecursion (λ aggregate. IfSome aggregate (IfTime Q)) aggregates → IfOk (aggregate_at aggregates at) (IfTime Q)
-aggregate_timed Q [] at all = tt
-aggregate_timed Q (None ∷ aggregates) zero all = tt
-aggregate_timed Q (Some value ∷ aggregates) zero all = all.0
-aggregate_timed Q (aggregate ∷ aggregates) (suc at) all = aggregate_timed Q aggregates at all.1
-
-constant_timed : (Q : ℤ → Type 0) → ((t : ℤ) → is_stamp_time t ≡ true → Q t) → (value : Value) → IfOk (constant value) (IfTime Q)
-constant_timed Q printable Null = tt
-constant_timed Q printable (Int n) = tt
-constant_timed Q printable (Text text) = tt
-constant_timed Q printable (Time t) = if_fits (IfTime Q) _ (Time t) (λ fits. printable t fits)
-constant_timed Q printable (Truth truth) = tt
-
--- what holds of each time of the years 0001 to 9999, of each of the row and of each of the aggregates, holds of the
--- value where it is a time
+-- so a value that is a time is one of the years 0001 to 9999, where each time of the row and of the aggregates is
 pub value_timed : (Q : ℤ → Type 0) → ((t : ℤ) → is_stamp_time t ≡ true → Q t) → (aggregates : List (Option Value)) → AllByRecursion (λ aggregate. IfSome aggregate (IfTime Q)) aggregates → (row : List Value) → All (IfTime Q) row → (x : Typed) → IfOk (evaluated_with aggregates x row) (IfTime Q)
-unfolding evaluated_with
-value_timed Q printable aggregates found row all (Column at) = cell_timed Q row at (recursion_from_All (IfTime Q) row all)
-value_timed Q printable aggregates found row all (Aggregate at) = aggregate_timed Q aggregates at found
-value_timed Q printable aggregates found row all (Constant value) = constant_timed Q printable value
-value_timed Q printable aggregates found row all (Negated' p (only x)) = then_ok (IfTime Q) (evaluated_with aggregates x row) _ (λ value. negated_ok (IfTime Q) tt (λ _. tt) (number_in value))
-value_timed Q printable aggregates found row all (Not' p (only x)) = then_ok (IfTime Q) (evaluated_with aggregates x row) _ (λ value. truth_ok (IfTime Q) tt (λ _. tt) (negation (truth_in value)))
-value_timed Q printable aggregates found row all (IsNull' p (only x)) = then_ok (IfTime Q) (evaluated_with aggregates x row) _ (λ _. tt)
-value_timed Q printable aggregates found row all (Arithmetic' op p (only a) q (only b)) = then_ok (IfTime Q) (evaluated_with aggregates a row) _ (λ left. then_ok (IfTime Q) (evaluated_with aggregates b row) _ (λ right. arithmetic_ok (IfTime Q) tt (λ _. tt) op (number_in left) (number_in right)))
-value_timed Q printable aggregates found row all (Shifted' p (only x) by) = then_ok (IfTime Q) (evaluated_with aggregates x row) _ (λ value. shifted_ok (IfTime Q) tt printable (time_in value) by)
-value_timed Q printable aggregates found row all (Joined' p (only a) q (only b)) = then_ok (IfTime Q) (evaluated_with aggregates a row) _ (λ left. then_ok (IfTime Q) (evaluated_with aggregates b row) _ (λ right. joined_ok (IfTime Q) tt (λ _. tt) (text_in left) (text_in right)))
-value_timed Q printable aggregates found row all (Compared' comparison p (only a) q (only b)) = then_ok (IfTime Q) (evaluated_with aggregates a row) _ (λ left. then_ok (IfTime Q) (evaluated_with aggregates b row) _ (λ right. truth_ok (IfTime Q) tt (λ _. tt) (compared comparison left right)))
-value_timed Q printable aggregates found row all (Between' p (only a) q (only b) r (only c)) = then_ok (IfTime Q) (evaluated_with aggregates a row) _ (λ value. then_ok (IfTime Q) (evaluated_with aggregates b row) _ (λ least. conjunction_ok (IfTime Q) tt (λ _. tt) (compared AtLeast value least) (and_then (evaluated_with aggregates c row) (λ most. Ok (compared AtMost value most)))))
-value_timed Q printable aggregates found row all (And' p (only a) q (only b)) = then_ok (IfTime Q) (evaluated_with aggregates a row) _ (λ left. conjunction_ok (IfTime Q) tt (λ _. tt) (truth_in left) (truth_of (evaluated_with aggregates b row)))
-value_timed Q printable aggregates found row all (Or' p (only a) q (only b)) = then_ok (IfTime Q) (evaluated_with aggregates a row) _ (λ left. disjunction_ok (IfTime Q) tt (λ _. tt) (truth_in left) (truth_of (evaluated_with aggregates b row)))
+value_timed Q printable aggregates found row all x = value_has (IfTime Q) (times_hold Q printable) aggregates found row (recursion_from_All (IfTime Q) row all) x

@@ -4,3 +4,4 @@ pub mod Plain
 pub mod Laws
 pub mod Boxes
 pub mod Late
+pub mod Fit

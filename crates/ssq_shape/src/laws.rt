@@ -7,6 +7,7 @@ ghost use Rattle.ssq_value.specs.Kind.{IsHeldBy, IfTime};
 ghost use Rattle.ssq_time.specs.Time.{is_stamp_time};
 ghost use Rattle.ssq_shape.specs.declared.typed.Typed.{Typed as Expression};
 ghost use Rattle.ssq_shape.specs.Evaluation.{evaluated, evaluated_with};
+ghost use Rattle.ssq_shape.specs.Fit.{IsFit};
 ghost use Rattle.ssq_shape.specs.Kinds.{kind_in, kind_with, AreHeldBy, AreFoundIn};
 
 /// The law of types: a well-typed expression, on a row of the types with which it was bound, gives NULL or a value
@@ -35,4 +36,10 @@ pub fn groups_stay_printable()
     ensures { (aggregates : List (Option Cell)) (keys : List Cell) (expression : Expression) →
         All (λ aggregate. IfSome aggregate (IfTime (λ t. is_stamp_time t ≡ true))) aggregates → All (IfTime (λ t. is_stamp_time t ≡ true)) keys →
         IfOk (evaluated_with aggregates expression keys) (IfTime (λ t. is_stamp_time t ≡ true)) }
+{}
+
+/// The law of what a query can give: where each value of the row is a number of 64 bits, a time of the years 0001 to 9999 or a text of at
+/// most 1,048,576 bytes, so is the value.
+pub fn values_stay_fit()
+    ensures { (row : List Cell) (expression : Expression) → All IsFit row → IfOk (evaluated expression row) IsFit }
 {}

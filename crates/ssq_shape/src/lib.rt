@@ -18,5 +18,6 @@ pub use bound::{
 pub use late::{TimeKey, closes, time_key};
 pub use laws::{
     groups_have_their_kind, groups_stay_printable, times_stay_printable, values_have_their_kind,
+    values_stay_fit,
 };
 pub use typed::{Arithmetic, Comparison, Typed};
