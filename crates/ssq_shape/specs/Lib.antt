@@ -5,3 +5,4 @@ pub mod Laws
 pub mod Boxes
 pub mod Late
 pub mod Fit
+pub mod Windows
