@@ -1,3 +1,4 @@
 pub mod Printed
 pub mod Rows
 pub mod Sorting
+pub mod Worked

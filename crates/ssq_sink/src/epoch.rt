@@ -1,6 +1,6 @@
 //! The rows of an epoch as the text of its sink file.
 
-ghost use Rattle.std.specs.Prelude.{◌≡◌, ◌++◌, ℕ, Bool, List, map, IfOk, OnOk, count_by};
+ghost use Rattle.std.specs.Prelude.{◌≡◌, ◌++◌, ℕ, Bool, List, [], map, IfOk, OnOk, count_by};
 ghost use Rattle.std.specs.List.{All, flat_map};
 ghost use Rattle.std.specs.List.Sorted.{IsPermutation};
 ghost use Rattle.std.specs.Str.{IsUtf8};
@@ -8,33 +8,34 @@ ghost use Rattle.ssq_value.specs.declared.value.Value.{Value as Cell};
 ghost use Rattle.ssq_time.specs.Time.{IsStampTime};
 ghost use Rattle.ssq_value.specs.Kind.{IfTime};
 ghost use Rattle.ssq_json.specs.RowText.{heads_of, names_of};
-ghost use Rattle.ssq_shape.specs.Plain.{output_names};
-ghost use Rattle.ssq_sink.specs.Sink.{is_row_below, line_with, sink_text};
-ghost use Rattle.ssq_sink.specs.Sorted.{sorted};
+ghost use Rattle.ssq_shape.specs.declared.bound.Bound.{Bound as Query};
+ghost use Rattle.ssq_sink.specs.Sink.{line_with, ordered_text, sink_text};
 
+use crate::order::sort;
 use ssq_json::{Heads, put_row, utf8_text};
-use ssq_shape::{Bound, Output};
+use ssq_shape::{Bound, Output, SortKey};
 use ssq_value::{Row, Schema, Text};
 use std::alloc::{AllocError, Global};
 
-/// The text of an epoch's sink file: the rows sorted value by value from the left, one JSON line each, with a line feed behind
-/// each. Of no rows it is empty. The rows have the columns of SELECT, and times of the years 0001 to 9999.
+/// The text of an epoch's sink file: the rows sorted by the keys of ORDER BY, and where they tie on these value by value from the left,
+/// one JSON line each, with a line feed behind each. NULL sorts first, and under DESC last. Of no rows the text is empty. The rows have the
+/// columns of SELECT, and times of the years 0001 to 9999.
 pub fn epoch_text(alloc: Global, bound: &Bound, rows: Vec<Row>) -> Result<Text, AllocError>
     requires { All (All (IfTime IsStampTime)) rows.items }
-    ensures { IfOk result (λ text. text ≡ sink_text (output_names bound.now) rows.items) }
+    ensures { IfOk result (λ text. text ≡ sink_text bound.now rows.items) }
 {
     let heads = output_heads(alloc, bound.outputs.as_slice())?;
-    rows_text(alloc, &heads, rows)
+    rows_text(alloc, &heads, bound.order.as_slice(), rows)
 }
 
-/// The same as bytes, where the rows have the columns of the schema.
+/// The same as bytes, where the rows have the columns of the schema and are sorted value by value alone.
 pub fn schema_text(alloc: Global, schema: &Schema, rows: Vec<Row>) -> Result<Vec<u8>, AllocError>
     requires { All (All (IfTime IsStampTime)) rows.items }
     ensures { IfOk result
-        (λ text. text.items ≡ sink_text (names_of schema.now.columns) rows.items) }
+        (λ text. text.items ≡ ordered_text (names_of schema.now.columns) [] rows.items) }
 {
     let heads = Heads::new(alloc, schema.columns())?;
-    let text = rows_text(alloc, &heads, rows)?;
+    let text = rows_text(alloc, &heads, &[], rows)?;
     Ok(text.into_string().into_bytes())
 }
 
@@ -49,23 +50,20 @@ fn output_heads(alloc: Global, outputs: &[Output]) -> Result<Heads, AllocError>
     Ok(heads)
 }
 
-/// The rows with these heads, sorted, one line each.
-fn rows_text(alloc: Global, heads: &Heads, rows: Vec<Row>) -> Result<Text, AllocError>
+/// The rows with these heads, sorted by these keys, one line each.
+fn rows_text(
+    alloc: Global,
+    heads: &Heads,
+    order: &[SortKey],
+    rows: Vec<Row>,
+) -> Result<Text, AllocError>
     requires { All (All (IfTime IsStampTime)) rows.items }
-    ensures { (names : List (List ℕ)) → heads.now ≡ heads_of names → IfOk result (λ text. text ≡ sink_text names rows.items) }
+    ensures { (names : List (List ℕ)) → heads.now ≡ heads_of names → IfOk result (λ text. text ≡ ordered_text names order.now rows.items) }
 {
-    let rows = sort(rows);
+    let rows = sort(order, rows);
     let mut text = Vec::new(alloc);
     put_lines(&mut text, heads, rows.as_slice())?;
     Ok(utf8_text(text))
-}
-
-fn sort(mut rows: Vec<Row>) -> Vec<Row>
-    ensures sorted { result.items ≡ sorted is_row_below rows.items }
-    ensures permutation { IsPermutation rows.items result.items }
-{
-    rows.sort_unstable();
-    rows
 }
 
 fn put_lines(text: &mut Vec<u8>, heads: &Heads, rows: &[Row]) -> Result<(), AllocError>
@@ -84,9 +82,9 @@ fn put_lines(text: &mut Vec<u8>, heads: &Heads, rows: &[Row]) -> Result<(), Allo
 /// The law of `epoch_text`: the order in which the rows come changes nothing, so two lists with the same rows, each as often,
 /// have one text.
 pub fn order_is_free()
-    ensures permuted { (names : List (List ℕ)) (left right : List (List Cell))
-        → IsPermutation left right → sink_text names left ≡ sink_text names right }
-    ensures same_rows { (names : List (List ℕ)) (left right : List (List Cell))
+    ensures permuted { (query : Query) (left right : List (List Cell))
+        → IsPermutation left right → sink_text query left ≡ sink_text query right }
+    ensures same_rows { (query : Query) (left right : List (List Cell))
         → ((test : List Cell → Bool) → count_by test left ≡ count_by test right)
-        → sink_text names left ≡ sink_text names right }
+        → sink_text query left ≡ sink_text query right }
 {}

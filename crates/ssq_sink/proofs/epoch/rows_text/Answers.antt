@@ -4,7 +4,7 @@ use Rattle.std.proofs.lemmas.List.Sorted.{All-permutation}
 use Rattle.std.proofs.lemmas.Str.{IsUtf8-nil}
 use Rattle.ssq_time.specs.Time.{IsStampTime}
 use Rattle.ssq_value.specs.Kind.{IfTime}
-use Rattle.ssq_sink.proofs.Rows.{lines-sink_text}
+use Rattle.ssq_sink.proofs.Rows.{lines-ordered_text}
 use Rattle.ssq_sink.proofs.epoch.rows_text.Goals as goal
 
 pub put_lines-requires : goal.put_lines-requires
@@ -18,4 +18,4 @@ utf8_text-requires c = c.in_ok-put_lines.ensures.utf8 (subst IsUtf8 (sym c.new-t
 pub returns : goal.returns
 returns c names made =
     c.utf8_text.ensures
-    ∙ lines-sink_text names _ _ _ _ _ made (c.as_slice.ensures.value ∙ c.sort-rows.ensures.sorted) c.new-text.ensures.items c.in_ok-put_lines.ensures.text
+    ∙ lines-ordered_text names _ _ _ _ _ _ made (c.as_slice.ensures.value ∙ c.sort-rows.ensures.sorted) c.new-text.ensures.items c.in_ok-put_lines.ensures.text
