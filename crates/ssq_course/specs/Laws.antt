@@ -1,5 +1,5 @@
 -- What holds of the job of each query.
-use Rattle.std.specs.Prelude.{◌≡◌, ◌<◌, ◌+◌, ◌^◌, ℕ, All, length, true}
+use Rattle.std.specs.Prelude.{◌≡◌, ◌<◌, ◌≤◌, ◌+◌, ◌^◌, ℕ, All, length, true}
 use Rattle.std.specs.Option.{ForSome}
 use Rattle.ssq_time.specs.Time.{IsStampTime}
 use Rattle.ssq_meaning.specs.Parts.{Part}
@@ -11,7 +11,7 @@ use Rattle.ssq_course.specs.Setting.{Setting, parts_in, watermark_at, course_of,
 
 -- what its files hold of the first epochs hangs on where these end, and an epoch has a fault only where one of its tasks has
 abbrev pub AreCausal : Type 0
-AreCausal = (s : Setting) → IsCausal (job_of s)
+AreCausal = (s : Setting) → 1 ≤ s.job.partitions → IsCausal (job_of s)
 
 -- Files that stand for two courses say of both the same: how many epochs are planned and committed, the record of the job, each plan and
 -- each commit; and where the plans can be written, each end and watermark.

@@ -3,7 +3,7 @@
 ghost use Rattle.ssq_course.specs.Laws.{AreCausal, FilesSayTheirCourse, PlansCanBeWritten};
 
 /// The law of jobs: what the files of a query's checkpoint hold of its first epochs hangs on where these end, and on nothing that comes
-/// later; and an epoch has a fault only where one of its tasks has.
+/// later; and an epoch has a fault only where one of its tasks has. Each key is in a partition, so there has to be one.
 pub fn jobs_are_causal()
     ensures { AreCausal }
 {}
