@@ -1,20 +1,17 @@
 -- Each turn of a round leaves less to do.
-use Rattle.std.proofs.Common.{◌≡◌, ◌⊎◌, ◌+◌, ◌-◌, ◌*◌, ◌≤◌, ◌<◌, ◌&&◌, ◌||◌, not, nat_lt, ℕ, zero, suc, Bool, true, false, true≢false, List, [], ◌∷◌, length, Option, Some, None, if◌then◌else◌, sym, refl, ap, ◌∙◌, subst, inl, inr, arith, rules}
-use mathlib.Core.Option.{some}
+use Rattle.std.proofs.Common.{◌≡◌, ◌⊎◌, ◌+◌, ◌-◌, ◌*◌, ◌≤◌, ◌<◌, ◌&&◌, ◌||◌, not, nat_lt, ℕ, zero, suc, Bool, true, false, true≢false, List, [], ◌∷◌, Option, Some, None, if◌then◌else◌, sym, refl, ap, subst, inl, inr, arith}
 use Rattle.ssq_outside.specs.declared.gate.TaskId.{TaskId}
-use Rattle.ssq_outside.specs.declared.gate.Kind.{Kind}
 use Rattle.ssq_core.specs.Course.{Ends}
 use Rattle.ssq_board.specs.declared.front.Cause.{Cause}
 use Rattle.ssq_board.specs.declared.front.Place.TheVariants as place
-use Rattle.ssq_board.specs.declared.front.Entry.{Entry}
 use Rattle.ssq_board.specs.declared.front.Entry.TheVariants as entry
-use Rattle.ssq_board.specs.Core.{Scope, Core, within, next_end, next_ends, is_behind, is_more, is_open, is_stopped, moved, need, need_of, file_need, stop_need, May, after, after_all}
+use Rattle.ssq_board.specs.Core.{Scope, Core, within, next_end, next_ends, is_behind, is_open, is_stopped, need, May, after, after_all}
 use Rattle.ssq_board.specs.Shown.{IsSound}
-use Rattle.ssq_board.specs.Rounds.{HasCap, Comes, brings_rows, works, Worked, lines_left, one_if, weigh, epochs_left, weight, left}
+use Rattle.ssq_board.specs.Rounds.{HasCap, Comes, brings_rows, works, Worked, Versioned, lines_left, one_if, weigh, epochs_left, weight, left}
 use Rattle.ssq_board.proofs.Lists.{nat_lt-not, nat_lt-less}
 use Rattle.ssq_board.proofs.Sounds.{step_sound}
 use Rattle.ssq_board.proofs.Placing.{at_here}
-use Rattle.ssq_board.proofs.Needs.{need_claim, need_report, need_falls, need_sync, need_plan}
+use Rattle.ssq_board.proofs.Needs.{need_claim, need_report, need_version, need_falls, need_sync, need_plan}
 
 one_few : (b : Bool) → one_if b ≤ 1
 one_few true = omega arith
@@ -170,6 +167,23 @@ work_falls r c n w = by_end w.3
     by_end : Comes r c n (works w.0 w.1 c.front.committed) → left r n < left r c
     by_end (inr stopped) = stop_falls r c n running stopped
     by_end (inl is) = subst (λ x. left r x < left r c) (sym is) (by_rows (brings_rows w.0.kind w.1) c.front.committed)
+
+pub version_falls : (r : Scope) (c n : Core) → Versioned r c n → left r n < left r c
+version_falls r c n w = by_end w.3
+  where
+    running : is_stopped c.front.stop ≡ false
+    running = unstopped c.front.stop w.2.0
+
+    two : need (after r (after r c (entry.Claim w.0)) (entry.Version w.0)) + 2 ≤ need c
+    two = (let a = need_claim r c w.0 w.2.4 in let b = need_version r (after r c (entry.Claim w.0)) w.0 (at_here c w.0 place.Waits place.Away w.2.4) in omega arith)
+
+    by_end : Comes r c n (entry.Claim w.0 ∷ entry.Version w.0 ∷ []) → left r n < left r c
+    by_end (inr stopped) = stop_falls r c n running stopped
+    by_end (inl is) = subst (λ x. left r x < left r c) (sym is) (
+        let x = after r (after r c (entry.Claim w.0)) (entry.Version w.0) in
+        let a = left_most r x in let b = left_is r c running in let k = two in
+        let s = one_few (not x.front.settled) in
+        omega arith)
 
 and_no : (b : Bool) → one_if (b && false) ≡ 0
 and_no true = refl

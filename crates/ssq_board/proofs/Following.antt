@@ -1,85 +1,34 @@
 -- Entries that came are legal events of the machine.
-use Rattle.std.proofs.Common.{◌≡◌, ◌≢◌, ◌⊎◌, ◌+◌, ◌≤◌, ◌<◌, ◌&&◌, ◌==◌, ◌++◌, not, nat_lt, ℕ, zero, suc, Bool, true, false, true≢false, List, [], ◌∷◌, length, set, Option, Some, None, is_some, if◌then◌else◌, sym, refl, ap, ◌∙◌, subst, inl, inr, arith, rules, le_refl}
+use Rattle.std.proofs.Common.{◌≡◌, ◌⊎◌, ◌+◌, ◌&&◌, ◌++◌, ℕ, Bool, true, false, true≢false, List, [], ◌∷◌, set, Option, Some, None, sym, refl, ap, ◌∙◌, subst, inl, inr}
 use Rattle.std.specs.List.{list_all}
-use mathlib.Core.Option.{some, some-injective, some-ne-none}
-use lib.ListN.{get_elem?}
+use mathlib.Core.Option.{some, some-ne-none}
 use Rattle.ssq_outside.specs.declared.gate.TaskId.{TaskId}
 use Rattle.ssq_outside.specs.declared.gate.Kind.{Kind}
 use Rattle.ssq_outside.specs.declared.gate.Kind.TheVariants as kind
-use Rattle.ssq_outside.specs.declared.name.Name.TheVariants as name
-use Rattle.ssq_outside.specs.Files.{Had, Content}
-use Rattle.ssq_outside.specs.History.{History, had_now, Elapses}
+use Rattle.ssq_outside.specs.History.{History, had_now}
 use Rattle.ssq_core.specs.declared.event.Event.{Event}
 use Rattle.ssq_core.specs.declared.event.Event.TheVariants as event
-use Rattle.ssq_core.specs.Course.{Course, Cuts, Job, truth}
+use Rattle.ssq_core.specs.Course.{Cuts, Job}
 use Rattle.ssq_core.specs.Machine.{Desk, placed, seals, result_of, Change, nothing, misses, publishes, removes, syncs, Allows, Leaves, IsMarked, MayOn, MayFail, ComesBack, OwesNone}
 use Rattle.ssq_core.specs.Machine as machine
 use Rattle.ssq_board.specs.declared.front.Cause.{Cause}
-use Rattle.ssq_board.specs.declared.front.Place.{Place}
 use Rattle.ssq_board.specs.declared.front.Place.TheVariants as place
 use Rattle.ssq_board.specs.declared.front.Entry.{Entry}
 use Rattle.ssq_board.specs.declared.front.Entry.TheVariants as entry
-use Rattle.ssq_board.specs.Core.{Scope, Core, is_fine, is_open, is_stopped, is_of_line, may_start, at, moved, with_front, tasks_of, due, or_stop, stops, stopped_front, May, after, events_of, events_all, cuts_by}
+use Rattle.ssq_board.specs.Core.{Scope, Core, comes_back, fault_at, is_fine, is_open, is_stopped, is_of_line, may_start, at, moved, with_front, tasks_of, due, or_stop, stops, stopped_front, May, after, events_of, events_all, cuts_by}
 use Rattle.ssq_board.specs.Core as board
 use Rattle.ssq_board.specs.Shown.{IsSound}
-use Rattle.ssq_board.specs.Follows.{Terms, State, Step, Leads, change_of, Goes, Tries, IsTried, Moves, IsOwnBy, IsOwn, IsRight, IsDone, ShowsAt, Shows, life_of, shown}
-use Rattle.ssq_board.proofs.Lists.{nat_lt-not}
-use Rattle.ssq_board.proofs.Sounds.{running_of, step_sound, due_none, outside_due}
-use Rattle.ssq_board.proofs.Placing.{placed_at, placed_twice, placed_shows, stopped_shows, maps_back, reduces_back, runs}
-use Rattle.ssq_board.proofs.Planning.{runs_on, goes_on, out_desk, out_may_on, out_shows, sync_may_on, sync_shows, commit_desk, commit_may_on, commit_shows, next_cuts, plan_desk, plan_may_on, plan_shows}
-
--- a disk to which nothing was done
-elapses_same : (h : History) (P : Had → Type 0) → Elapses h h P
-elapses_same h P = record { later = le_refl h.moment; kept = λ k le. refl; fresh = λ k less le. absurd (omega arith) }
-
--- a desk never owes a Stop
-owes_none : (o : Option Cause) → OwesNone (life_of o)
-owes_none None t e = cc
-owes_none (Some f) t e = cc
-
--- a desk that runs is not stopped
-not_over : (o : Option Cause) → o ≡ None → life_of o ≡ machine.stopped → ⊥
-not_over None run e = cc
-not_over (Some f) run e = cc
-
--- one list of events after another
-pub leads_more : (tells : Type 0) (job : Job) (s : machine.State) (es : List Event) (mid : machine.State) (fs : List Event) (n : machine.State) → machine.Leads tells job s es mid → machine.Leads tells job mid fs n
-    → machine.Leads tells job s (es ++ fs) n
-leads_more tells job s [] mid fs n l more = subst (λ x. machine.Leads tells job x fs n) (sym l) more
-leads_more tells job s (e ∷ es) mid fs n l more = (l.0, l.1, leads_more tells job l.0 es mid fs n l.2 more)
-
--- what a call that is done may leave at each moment, and what it leaves
-pub went : (change : Change) (old new : History) → Goes change old new → Elapses old new (Allows change (had_now old)) × Leaves change (had_now old) (had_now new)
-went nothing old new same = subst (λ (h : History). Elapses old h (Allows nothing (had_now old)) × Leaves nothing (had_now old) (had_now h)) (sym same) (elapses_same old (Allows nothing (had_now old)), refl)
-went (misses t) old new same =
-    subst (λ (h : History). Elapses old h (Allows (misses t) (had_now old)) × Leaves (misses t) (had_now old) (had_now h)) (sym same) (elapses_same old (Allows (misses t) (had_now old)), refl)
-went (publishes q bytes) old new g = g
-went (removes q) old new g = g
-went syncs old new g = g
-
-pub tried : (change : Change) (old new : History) → Tries change old new → Elapses old new (Allows change (had_now old))
-tried nothing old new same = subst (λ (h : History). Elapses old h (Allows nothing (had_now old))) (sym same) (elapses_same old (Allows nothing (had_now old)))
-tried (misses t) old new same = subst (λ (h : History). Elapses old h (Allows (misses t) (had_now old))) (sym same) (elapses_same old (Allows (misses t) (had_now old)))
-tried (publishes q bytes) old new g = g
-tried (removes q) old new g = g
-tried syncs old new g = g
+use Rattle.ssq_board.specs.Follows.{Terms, State, Leads, change_of, Moves, IsOwnBy, IsOwn, BringsNone, IsRight, ShowsAt, Shows, life_of, shown}
+use Rattle.ssq_board.proofs.Lists.{nat_lt-is}
+use Rattle.ssq_board.proofs.Sounds.{step_sound, due_none, outside_due}
+use Rattle.ssq_board.proofs.Placing.{placed_at, placed_twice, HasBrought, placed_shows, stopped_shows, maps_back, reduces_back, deltas_there, runs}
+use Rattle.ssq_board.proofs.Planning.{runs_on, goes_on, out_desk, out_may_on, out_shows, sync_may_on, sync_shows, commit_desk, commit_may_on, commit_shows, plan_desk, plan_may_on, plan_shows}
+use Rattle.ssq_board.proofs.Leading.{elapses_same, owes_none, not_over, leads_more, went, tried, out_not_done, waits_back, out_failed, out_back, back_failed, report_stops, due_why, Follows}
+use Rattle.ssq_board.proofs.Versions.{version_follows, missed_follows}
 
 module _ (told : Type 0) (job : Job) (r : Scope) (next : Cuts → ℕ → Bool) (terms : Terms job r next) where
-  -- where an entry leads, from a desk that is shown
-  abbrev pub Follows : History → Core → Desk → Entry → History → Core → Type 0
-  Follows old c d e new n = (d' : Desk) × machine.Leads told job (shown old c d) (events_of c e) (shown new n d') × (d'.cuts ≡ cuts_by r d.cuts c e) × Shows job r next terms n d'
-
-  out_not_done : (course : Course) (t : TaskId) (there p : machine.Place) → there ≡ p → ((b : Content) → p ≡ machine.back false b → ⊥) → IsDone course t there → ⊥
-  out_not_done course t there p is never done = never done.bytes (sym is ∙ done.is)
-
-  waits_back : (b : Content) → machine.waits ≡ machine.back false b → ⊥
-  waits_back b e = cc
-
-  out_failed : machine.out ≡ machine.failed → ⊥
-  out_failed e = cc
-
-  out_back : (b : Content) → machine.out ≡ machine.back false b → ⊥
-  out_back b e = cc
+  abbrev From : History → Core → Desk → Entry → History → Core → Type 0
+  From = Follows told job r next terms
 
   fresh_of : (c : Core) (k : Kind) → may_start c k ≡ true → c.front.fresh ≡ true
   fresh_of c kind.Map h = h
@@ -95,6 +44,9 @@ module _ (told : Type 0) (job : Job) (r : Scope) (next : Cuts → ℕ → Bool) 
       first false b h = h
   fresh_of c kind.Upkeep h = absurd (true≢false (sym h))
 
+  away_back : place.Away ≡ place.Back None → ⊥
+  away_back e = cc
+
   second : (a b : Bool) → (a && b) ≡ true → b ≡ true
   second true b h = h
   second false b h = absurd (true≢false (sym h))
@@ -103,7 +55,7 @@ module _ (told : Type 0) (job : Job) (r : Scope) (next : Cuts → ℕ → Bool) 
   first_of true b h = refl
   first_of false b h = h
 
-  pub claim_follows : (disk : History) (c : Core) (d : Desk) (t : TaskId) → IsSound r c → Shows job r next terms c d → May r c (entry.Claim t) → Follows disk c d (entry.Claim t) disk (after r c (entry.Claim t))
+  pub claim_follows : (disk : History) (c : Core) (d : Desk) (t : TaskId) → IsSound r c → Shows job r next terms c d → May r c (entry.Claim t) → From disk c d (entry.Claim t) disk (after r c (entry.Claim t))
   claim_follows disk c d t sound s m = (
     placed t machine.out d,
     (
@@ -118,11 +70,18 @@ module _ (told : Type 0) (job : Job) (r : Scope) (next : Cuts → ℕ → Bool) 
       refl,
     ),
     refl,
-    placed_shows job r next terms c d t place.Waits place.Away machine.out c.front.stop m.1 m.2 fresh m.4 (out_not_done (job.course d.cuts) t (d.tasks t) machine.waits waiting.1 waits_back) refl (λ run. (run, out_failed)) s,
+    placed_shows job r next terms c d t place.Waits place.Away machine.out c.front.stop m.1 m.2 fresh m.4 (out_not_done (job.course d.cuts) t (d.tasks t) machine.waits waiting.1 waits_back) refl has (λ run. (run, out_failed)) s,
   )
     where
       fresh : c.front.fresh ≡ true
       fresh = fresh_of c t.kind m.3
+
+      has : HasBrought (job.course d.cuts) c d t place.Away c.front.stop
+      has = record {
+        own = λ i same back. absurd (away_back back);
+        all = λ same. deltas_there job r next terms c d sound s m.1 m.0
+            (second (list_all is_fine c.maps) (list_all is_fine c.reduces) (second c.front.fresh (list_all is_fine c.maps && list_all is_fine c.reduces) (ap (λ (x : TaskId). may_start c x.kind) same ∙ m.3)));
+      }
 
       waiting : ((job.course d.cuts).is_task t ≡ true) × (d.tasks t ≡ machine.waits)
       waiting = s.tasks m.1 t place.Waits m.2 m.4
@@ -140,41 +99,9 @@ module _ (told : Type 0) (job : Job) (r : Scope) (next : Cuts → ℕ → Bool) 
       )
       by kind.Upkeep h = absurd (true≢false (sym h))
 
-  -- the Stop behind a report
-  report_stops : (disk : History) (c : Core) (d n : Desk) (t : TaskId) (f : Option Cause) (pre : List Event) (o : Option Cause) → ((o ≡ None) ⊎ (c.front.stop ≡ None))
-      → machine.Leads told job (shown disk c d) pre (record { disk = disk; desk = Some n; life = life_of c.front.stop })
-      → machine.Leads told job (shown disk c d) (pre ++ stops o) (record { disk = disk; desk = Some n; life = life_of (or_stop c.front.stop o) })
-  report_stops disk c d n t f pre None why l =
-      leads_more told job (shown disk c d) pre (record { disk = disk; desk = Some n; life = life_of c.front.stop }) [] (record { disk = disk; desk = Some n; life = life_of (or_stop c.front.stop None) }) l
-      (λ i. record { disk = disk; desk = Some n; life = life_of (or_none c.front.stop i) })
-    where
-      or_none : (o : Option Cause) → o ≡ or_stop o None
-      or_none None = refl
-      or_none (Some g) = refl
-  report_stops disk c d n t f pre (Some g) (inl none) l = absurd (some_none none)
-    where
-      some_none : Some g ≡ None → ⊥
-      some_none e = cc
-  report_stops disk c d n t f pre (Some g) (inr run) l =
-      leads_more told job (shown disk c d) pre (record { disk = disk; desk = Some n; life = life_of c.front.stop }) (event.Stop ∷ []) (record { disk = disk; desk = Some n; life = life_of (or_stop c.front.stop (Some g)) }) l (
-        record { disk = disk; desk = Some n; life = machine.stopped },
-        (nothing, not_over c.front.stop run, inl refl, (λ t. elapses_same disk (Allows nothing (had_now disk))), refl),
-        (λ i. record { disk = disk; desk = Some n; life = life_of (or_stop (sym run i) (Some g)) }),
-      )
-
-  due_why : (c : Core) (t : TaskId) (f : Option Cause) → (due c t f ≡ None) ⊎ (c.front.stop ≡ None)
-  due_why c t f = by c.front.stop refl
-    where
-      by : (o : Option Cause) → c.front.stop ≡ o → (due c t f ≡ None) ⊎ (c.front.stop ≡ None)
-      by None is = inr is
-      by (Some g) is = inl (ap (λ (x : Option Cause). if is_stopped x then None else board.due_stop (set (tasks_of t.kind c) t.number (place.Back f))) is)
-
   -- where a task failed, its cause is one of the outside
   abbrev FailedBy : machine.Place → Option Cause → Type 0
   FailedBy there f = there ≡ machine.failed → (g : Cause) × (f ≡ Some g) × (is_of_line g ≡ false)
-
-  back_failed : {b : Bool} {c : Content} {A : Type 0} → machine.back b c ≡ machine.failed → A
-  back_failed e = absurd (cc)
 
   out_reduce : {A : Type 0} → kind.Out ≡ kind.Reduce → A
   out_reduce e = absurd (cc)
@@ -216,23 +143,22 @@ module _ (told : Type 0) (job : Job) (r : Scope) (next : Cuts → ℕ → Bool) 
       by true is fault = leads (machine.back ((job.course d.cuts).is_fault t) None) (λ e. back_failed e) (inr (None, inl (out, refl, inl fault), inl (refl, refl, owes_none c.front.stop, inr (λ k h. refl))))
 
   fine_leads : (disk : History) (c : Core) (d : Desk) (k : Kind) (e i : ℕ) → at c (record { epoch = e; kind = k; number = i }) ≡ some place.Away → d.tasks (record { epoch = e; kind = k; number = i }) ≡ machine.out
-      → (job.course d.cuts).is_fault (record { epoch = e; kind = k; number = i }) ≡ false → ReportLeads disk c d (record { epoch = e; kind = k; number = i }) None
-  fine_leads disk c d kind.Map e i here out own =
+      → (job.course d.cuts).is_fault (record { epoch = e; kind = k; number = i }) ≡ false → BringsNone (job.course d.cuts) (record { epoch = e; kind = k; number = i }) None → ReportLeads disk c d (record { epoch = e; kind = k; number = i }) None
+  fine_leads disk c d kind.Map e i here out own bare =
       let t : TaskId = record { epoch = e; kind = kind.Map; number = i } in (
         machine.back ((job.course d.cuts).is_fault t) None,
         record { bytes = None; is = ap (λ (b : Bool). machine.back b None) own; has = λ h. absurd (true≢false (sym h)) },
         (λ e. back_failed e),
         one_report disk c d t (machine.back ((job.course d.cuts).is_fault t) None) (inr (None, inl (out, refl, inr refl), inl (refl, refl, owes_none c.front.stop, inr (λ k h. refl)))),
       )
-  fine_leads disk c d kind.Reduce e i here out own =
-      let t : TaskId = record { epoch = e; kind = kind.Reduce; number = i } in
-      let none : nat_lt i (job.course d.cuts).keeping ≡ false = nat_lt-not i (job.course d.cuts).keeping (let k = terms.stateless d.cuts in omega arith) in (
+  fine_leads disk c d kind.Reduce e i here out own bare =
+      let t : TaskId = record { epoch = e; kind = kind.Reduce; number = i } in (
         machine.back ((job.course d.cuts).is_fault t) None,
-        record { bytes = None; is = ap (λ (b : Bool). machine.back b None) own; has = λ h. absurd (true≢false (sym h ∙ none)) },
+        record { bytes = None; is = ap (λ (b : Bool). machine.back b None) own; has = λ h. absurd (true≢false (sym h ∙ bare)) },
         (λ e. back_failed e),
-        one_report disk c d t (machine.back ((job.course d.cuts).is_fault t) None) (inr (None, inl (out, refl, inr none), inl (refl, refl, owes_none c.front.stop, inr (λ k h. refl)))),
+        one_report disk c d t (machine.back ((job.course d.cuts).is_fault t) None) (inr (None, inl (out, refl, inr bare), inl (refl, refl, owes_none c.front.stop, inr (λ k h. refl)))),
       )
-  fine_leads disk c d kind.Out e i here out own =
+  fine_leads disk c d kind.Out e i here out own bare =
       let t : TaskId = record { epoch = e; kind = kind.Out; number = i } in
       let rows = (job.course d.cuts).rows e in
       let sealed_desk = placed t (machine.sealed rows) d in
@@ -256,27 +182,30 @@ module _ (told : Type 0) (job : Job) (r : Scope) (next : Cuts → ℕ → Bool) 
           ),
         ),
       )
-  fine_leads disk c d kind.Upkeep e i here out own = absurd (some-ne-none place.Away (sym here))
+  fine_leads disk c d kind.Upkeep e i here out own bare = absurd (some-ne-none place.Away (sym here))
 
-  report_leads : (disk : History) (c : Core) (d : Desk) (t : TaskId) (f : Option Cause) → at c t ≡ some place.Away → d.tasks t ≡ machine.out → IsOwn (job.course d.cuts) t f → ReportLeads disk c d t f
-  report_leads disk c d t (Some g) here out own = fault_leads disk c d t g out own
-  report_leads disk c d t None here out own = fine_leads disk c d t.kind t.epoch t.number here out own
+  report_leads : (disk : History) (c : Core) (d : Desk) (t : TaskId) (f : Option Cause) → at c t ≡ some place.Away → d.tasks t ≡ machine.out → IsOwn (job.course d.cuts) t f → BringsNone (job.course d.cuts) t f → ReportLeads disk c d t f
+  report_leads disk c d t (Some g) here out own bare = fault_leads disk c d t g out own
+  report_leads disk c d t None here out own bare = fine_leads disk c d t.kind t.epoch t.number here out own bare
+
+  back_is : (f g : Option Cause) → place.Back f ≡ place.Back g → f ≡ g
+  back_is f g e = ap fault_at e
 
   more_of : (a : List Event) (e : Event) (b : List Event) → (a ++ e ∷ []) ++ b ≡ a ++ (e ∷ b)
   more_of [] e b = refl
   more_of (x ∷ xs) e b = ap (λ (l : List Event). x ∷ l) (more_of xs e b)
 
-  pub report_follows : (disk : History) (c : Core) (d : Desk) (t : TaskId) (f : Option Cause) → Shows job r next terms c d → May r c (entry.Report t f) → IsOwn (job.course d.cuts) t f
-      → Follows disk c d (entry.Report t f) disk (after r c (entry.Report t f))
-  report_follows disk c d t f s m own =
+  pub report_follows : (disk : History) (c : Core) (d : Desk) (t : TaskId) (f : Option Cause) → Shows job r next terms c d → May r c (entry.Report t f) → IsRight job next d.cuts (entry.Report t f)
+      → From disk c d (entry.Report t f) disk (after r c (entry.Report t f))
+  report_follows disk c d t f s m right =
       let out : d.tasks t ≡ machine.out = s.tasks m.0 t place.Away m.1 m.2 in
-      let l = report_leads disk c d t f m.2 out own in
+      let l = report_leads disk c d t f m.2 out right.0 right.1 in
       let fresh : c.front.fresh ≡ true = elim (s.claimed t m.1) [ inl waits ↦ absurd (out_waits (sym out ∙ waits)) | inr h ↦ h ] in (
         placed t l.0 d,
         subst (λ (es : List Event). machine.Leads told job (shown disk c d) es (shown disk (after r c (entry.Report t f)) (placed t l.0 d))) (more_of (board.seals t.kind t f) (event.Report t) (stops (due c t f)))
-            (report_stops disk c d (placed t l.0 d) t f (board.seals t.kind t f ++ event.Report t ∷ []) (due c t f) (due_why c t f) l.3),
+            (report_stops told job (shown disk c d) disk c (placed t l.0 d) (board.seals t.kind t f ++ event.Report t ∷ []) (due c t f) (due_why c t f) l.3),
         refl,
-        placed_shows job r next terms c d t place.Away (place.Back f) l.0 (or_stop c.front.stop (due c t f)) m.0 m.1 fresh m.2 (out_not_done (job.course d.cuts) t (d.tasks t) machine.out out out_back) l.1
+        placed_shows job r next terms c d t place.Away (place.Back f) l.0 (or_stop c.front.stop (due c t f)) m.0 m.1 fresh m.2 (out_not_done (job.course d.cuts) t (d.tasks t) machine.out out out_back) l.1 (has out)
             (λ run. (let n = due_none c t f run in (
               n.0,
               λ e. (let w = l.2 e in
@@ -287,27 +216,37 @@ module _ (told : Type 0) (job : Job) (r : Scope) (next : Cuts → ℕ → Bool) 
       out_waits : machine.out ≡ machine.waits → ⊥
       out_waits e = cc
 
+      -- it brings no version; and where it is the out task, all deltas are there since it went out
+      has : d.tasks t ≡ machine.out → HasBrought (job.course d.cuts) c d t (place.Back f) (or_stop c.front.stop (due c t f))
+      has out = record {
+        own = λ i same back run less. absurd (true≢false (sym (nat_lt-is i (job.course d.cuts).keeping less)
+            ∙ subst (λ (x : TaskId). BringsNone (job.course d.cuts) x None) (sym same) (subst (BringsNone (job.course d.cuts) t) (back_is f None back) right.1)));
+        all = λ same. elim (s.reduced m.0) [ inl waits ↦ absurd (out_waits (sym out ∙ sym (ap d.tasks same) ∙ waits)) | inr all ↦ all ];
+      }
+
   -- what a call that failed may have tried is what the machine lets fail
-  tried_fails : (disk : History) (c : Core) (d : Desk) (change : Change) → IsSound r c → Shows job r next terms c d → (e : Entry) → May r c e → change ≡ change_of job (cuts_by r d.cuts c e) e
+  tried_fails : (disk : History) (c : Core) (d : Desk) (change : Change) → IsSound r c → Shows job r next terms c d → (e : Entry) → May r c e → comes_back e ≡ false → change ≡ change_of job c (cuts_by r d.cuts c e) e
       → (change ≡ nothing) ⊎ MayFail job (shown disk c d) change
-  tried_fails disk c d change sound s (entry.Plan e) m is =
+  tried_fails disk c d change sound s (entry.Plan e) m other is =
       let n = plan_desk job r next terms c d sound s e in
       inr (inl (event.Plan e, Some n, subst (λ (x : Change). machine.May job (shown disk c d) (event.Plan e) x (Some n)) (sym is) (d, n, refl, refl, plan_may_on job r next terms c d sound s e m)))
-  tried_fails disk c d change sound s (entry.Claim t) m is = inl is
-  tried_fails disk c d change sound s (entry.Report t f) m is = inl is
-  tried_fails disk c d change sound s (entry.OutFile e) m is =
+  tried_fails disk c d change sound s (entry.Claim t) m other is = inl is
+  tried_fails disk c d change sound s (entry.Report t f) m other is = inl is
+  tried_fails disk c d change sound s (entry.Version t) m other is = absurd (true≢false other)
+  tried_fails disk c d change sound s (entry.Missed t) m other is = absurd (true≢false other)
+  tried_fails disk c d change sound s (entry.OutFile e) m other is =
       let n = out_desk job r next terms c d sound s e in
       inr (inl (event.OutFile e, Some n, subst (λ (x : Change). machine.May job (shown disk c d) (event.OutFile e) x (Some n)) (sym is) (d, n, refl, refl, out_may_on job r next terms c d sound s e m)))
-  tried_fails disk c d change sound s (entry.Sync clock) m is =
+  tried_fails disk c d change sound s (entry.Sync clock) m other is =
       let n = machine.with_sync d in
       inr (inl (event.Sync clock, Some n, subst (λ (x : Change). machine.May job (shown disk c d) (event.Sync clock) x (Some n)) (sym is) (d, n, refl, refl, sync_may_on job r next terms c d sound s clock m)))
-  tried_fails disk c d change sound s (entry.Commit e b) m is =
+  tried_fails disk c d change sound s (entry.Commit e b) m other is =
       let n = commit_desk job r next terms c d sound s e in
       inr (inl (event.Commit e, Some n, subst (λ (x : Change). machine.May job (shown disk c d) (event.Commit e) x (Some n)) (sym is) (d, n, refl, refl, commit_may_on job r next terms c d sound s e b m)))
-  tried_fails disk c d change sound s (entry.Stop f) m is = inl is
+  tried_fails disk c d change sound s (entry.Stop f) m other is = inl is
 
   pub stop_follows : (old new : History) (c : Core) (d : Desk) (f : Cause) → IsSound r c → Shows job r next terms c d → May r c (entry.Stop f) → Moves job r c d.cuts (entry.Stop f) old new
-      → Follows old c d (entry.Stop f) new (after r c (entry.Stop f))
+      → From old c d (entry.Stop f) new (after r c (entry.Stop f))
   stop_follows old new c d f sound s m moves = (
     d,
     (
@@ -315,7 +254,7 @@ module _ (told : Type 0) (job : Job) (r : Scope) (next : Cuts → ℕ → Bool) 
       (
         moves.0,
         not_over c.front.stop m.0,
-        elim moves.1 [ inl none ↦ inl none | inr x ↦ tried_fails old c d moves.0 sound s x.0 x.1 x.2 ],
+        elim moves.1 [ inl none ↦ inl none | inr x ↦ tried_fails old c d moves.0 sound s x.0 x.1 x.2 x.3 ],
         (λ t. tried moves.0 old new moves.2),
         refl,
       ),
@@ -326,17 +265,17 @@ module _ (told : Type 0) (job : Job) (r : Scope) (next : Cuts → ℕ → Bool) 
   )
 
   pub plan_follows : (old new : History) (c : Core) (d : Desk) (e : ℕ) → IsSound r c → Shows job r next terms c d → May r c (entry.Plan e) → Moves job r c d.cuts (entry.Plan e) old new
-      → Follows old c d (entry.Plan e) new (after r c (entry.Plan e))
+      → From old c d (entry.Plan e) new (after r c (entry.Plan e))
   plan_follows old new c d e sound s m moves =
       let n = plan_desk job r next terms c d sound s e in (
         n,
         (
           shown new (after r c (entry.Plan e)) n,
           (
-            change_of job (cuts_by r d.cuts c (entry.Plan e)) (entry.Plan e),
+            change_of job c (cuts_by r d.cuts c (entry.Plan e)) (entry.Plan e),
             Some n,
             (d, n, refl, refl, plan_may_on job r next terms c d sound s e m),
-            (λ t. (let w = went (change_of job (cuts_by r d.cuts c (entry.Plan e)) (entry.Plan e)) old new moves in (w.0, w.1, tt))),
+            (λ t. (let w = went (change_of job c (cuts_by r d.cuts c (entry.Plan e)) (entry.Plan e)) old new moves in (w.0, w.1, tt))),
             (λ i. record { disk = new; desk = Some n; life = sym (runs_on c m.0) i }),
           ),
           refl,
@@ -346,17 +285,17 @@ module _ (told : Type 0) (job : Job) (r : Scope) (next : Cuts → ℕ → Bool) 
       )
 
   pub out_follows : (old new : History) (c : Core) (d : Desk) (e : ℕ) → IsSound r c → Shows job r next terms c d → May r c (entry.OutFile e) → Moves job r c d.cuts (entry.OutFile e) old new
-      → Follows old c d (entry.OutFile e) new (after r c (entry.OutFile e))
+      → From old c d (entry.OutFile e) new (after r c (entry.OutFile e))
   out_follows old new c d e sound s m moves =
       let n = out_desk job r next terms c d sound s e in (
         n,
         (
           shown new (after r c (entry.OutFile e)) n,
           (
-            change_of job d.cuts (entry.OutFile e),
+            change_of job c d.cuts (entry.OutFile e),
             Some n,
             (d, n, refl, refl, out_may_on job r next terms c d sound s e m),
-            (λ t. (let w = went (change_of job d.cuts (entry.OutFile e)) old new moves in (w.0, w.1, tt))),
+            (λ t. (let w = went (change_of job c d.cuts (entry.OutFile e)) old new moves in (w.0, w.1, tt))),
             (λ i. record { disk = new; desk = Some n; life = sym (runs_on c m.0) i }),
           ),
           refl,
@@ -366,7 +305,7 @@ module _ (told : Type 0) (job : Job) (r : Scope) (next : Cuts → ℕ → Bool) 
       )
 
   pub sync_follows : (old new : History) (c : Core) (d : Desk) (clock : ℕ) → IsSound r c → Shows job r next terms c d → May r c (entry.Sync clock) → Moves job r c d.cuts (entry.Sync clock) old new
-      → Follows old c d (entry.Sync clock) new (after r c (entry.Sync clock))
+      → From old c d (entry.Sync clock) new (after r c (entry.Sync clock))
   sync_follows old new c d clock sound s m moves =
       let n = machine.with_sync d in (
         n,
@@ -386,17 +325,17 @@ module _ (told : Type 0) (job : Job) (r : Scope) (next : Cuts → ℕ → Bool) 
       )
 
   pub commit_follows : (old new : History) (c : Core) (d : Desk) (e : ℕ) (b : Bool) → IsSound r c → Shows job r next terms c d → May r c (entry.Commit e b) → Moves job r c d.cuts (entry.Commit e b) old new
-      → b ≡ next d.cuts (e + 1) → Follows old c d (entry.Commit e b) new (after r c (entry.Commit e b))
+      → b ≡ next d.cuts (e + 1) → From old c d (entry.Commit e b) new (after r c (entry.Commit e b))
   commit_follows old new c d e b sound s m moves right =
       let n = commit_desk job r next terms c d sound s e in (
         n,
         (
           shown new (after r c (entry.Commit e b)) n,
           (
-            change_of job d.cuts (entry.Commit e b),
+            change_of job c d.cuts (entry.Commit e b),
             Some n,
             (d, n, refl, refl, commit_may_on job r next terms c d sound s e b m),
-            (λ t. (let w = went (change_of job d.cuts (entry.Commit e b)) old new moves in (w.0, w.1, tt))),
+            (λ t. (let w = went (change_of job c d.cuts (entry.Commit e b)) old new moves in (w.0, w.1, tt))),
             (λ i. record { disk = new; desk = Some n; life = sym (runs_on c m.0) i }),
           ),
           refl,
@@ -407,10 +346,12 @@ module _ (told : Type 0) (job : Job) (r : Scope) (next : Cuts → ℕ → Bool) 
 
   -- each entry
   pub entry_follows : (old new : History) (c : Core) (d : Desk) (e : Entry) → IsSound r c → Shows job r next terms c d → May r c e → Moves job r c d.cuts e old new → IsRight job next d.cuts e
-      → Follows old c d e new (after r c e)
+      → From old c d e new (after r c e)
   entry_follows old new c d (entry.Plan e) sound s m moves right = plan_follows old new c d e sound s m moves
-  entry_follows old new c d (entry.Claim t) sound s m moves right = subst (λ (h : History). Follows old c d (entry.Claim t) h (after r c (entry.Claim t))) (sym moves) (claim_follows old c d t sound s m)
-  entry_follows old new c d (entry.Report t f) sound s m moves right = subst (λ (h : History). Follows old c d (entry.Report t f) h (after r c (entry.Report t f))) (sym moves) (report_follows old c d t f s m right)
+  entry_follows old new c d (entry.Claim t) sound s m moves right = subst (λ (h : History). From old c d (entry.Claim t) h (after r c (entry.Claim t))) (sym moves) (claim_follows old c d t sound s m)
+  entry_follows old new c d (entry.Report t f) sound s m moves right = subst (λ (h : History). From old c d (entry.Report t f) h (after r c (entry.Report t f))) (sym moves) (report_follows old c d t f s m right)
+  entry_follows old new c d (entry.Version t) sound s m moves right = version_follows told job r next terms old new c d t s m right moves
+  entry_follows old new c d (entry.Missed t) sound s m moves right = missed_follows told job r next terms old new c d t s m right moves
   entry_follows old new c d (entry.OutFile e) sound s m moves right = out_follows old new c d e sound s m moves
   entry_follows old new c d (entry.Sync clock) sound s m moves right = sync_follows old new c d clock sound s m moves
   entry_follows old new c d (entry.Commit e b) sound s m moves right = commit_follows old new c d e b sound s m moves right

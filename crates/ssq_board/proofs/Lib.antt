@@ -3,6 +3,8 @@ pub mod Sounds
 pub mod Readies
 pub mod Placing
 pub mod Planning
+pub mod Leading
+pub mod Versions
 pub mod Following
 pub mod Opening
 pub mod Telling

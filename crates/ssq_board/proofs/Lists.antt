@@ -1,9 +1,8 @@
 -- Lists of places, and of ends.
-use Rattle.std.proofs.Common.{◌≡◌, ◌≢◌, ◌⊎◌, ◌+◌, ◌≤◌, ◌<◌, ◌&&◌, ◌||◌, nat_lt, ℕ, zero, suc, Bool, true, false, true≢false, List, [], ◌∷◌, map, length, set, replicate, Option, Some, None, if◌then◌else◌, sym, refl, ap, ◌∙◌, subst, inl, inr, arith, rules}
-use Rattle.std.specs.List.{list_all, list_any}
-use mathlib.Core.Option.{some, none, some-injective, some-ne-none}
+use Rattle.std.proofs.Common.{◌≡◌, ◌≢◌, ◌⊎◌, ◌≤◌, ◌<◌, ◌&&◌, ◌||◌, nat_lt, ℕ, zero, suc, Bool, true, false, true≢false, List, [], ◌∷◌, map, length, set, replicate, Option, None, if◌then◌else◌, sym, refl, ap, ◌∙◌, inl, inr, arith, rules}
+use Rattle.std.specs.List.{list_all}
+use mathlib.Core.Option.{some, some-injective, some-ne-none}
 use lib.ListN.{get_elem?}
-use Rattle.ssq_plans.specs.declared.part.PartEnd.{PartEnd}
 use Rattle.ssq_core.specs.Course.{Ends}
 use Rattle.ssq_board.specs.declared.front.Place.{Place}
 use Rattle.ssq_board.specs.declared.front.Place.TheVariants as place
@@ -105,6 +104,10 @@ dealt_at (f ∷ fs) (t ∷ ts) zero p e = by (nat_lt f.end t.end) refl
     by true is = inl (sym (some-injective _ p e) ∙ ap (λ (b : Bool). if b then place.Waits else place.Rests) is, is)
     by false is = inr (sym (some-injective _ p e) ∙ ap (λ (b : Bool). if b then place.Waits else place.Rests) is, is)
 dealt_at (f ∷ fs) (t ∷ ts) (suc i) p e = dealt_at fs ts i p e
+
+-- a task that is back waits no more
+pub back_no_more : place.Back None ≡ place.Waits → ⊥
+back_no_more e = cc
 
 pub nat_lt-not : (a b : ℕ) → b ≤ a → nat_lt a b ≡ false
 nat_lt-not a b le = grind (arith, rules)

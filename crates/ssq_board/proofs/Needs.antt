@@ -1,11 +1,12 @@
 -- How many entries can still come, after each entry.
-use Rattle.std.proofs.Common.{◌≡◌, ◌⊎◌, ◌+◌, ◌*◌, ◌≤◌, ◌<◌, nat_lt, ℕ, zero, suc, Bool, true, false, true≢false, List, [], ◌∷◌, length, set, Option, Some, None, if◌then◌else◌, sym, refl, ap, ◌∙◌, subst, inl, inr, arith}
+use Rattle.std.proofs.Common.{◌≡◌, ◌+◌, ◌*◌, ◌≤◌, nat_lt, ℕ, zero, suc, Bool, true, false, true≢false, List, [], ◌∷◌, length, set, Option, Some, None, if◌then◌else◌, sym, ap, ◌∙◌, arith}
 use mathlib.Core.Option.{some, some-injective, some-ne-none}
 use lib.ListN.{get_elem?}
 use Rattle.ssq_outside.specs.declared.gate.TaskId.{TaskId}
 use Rattle.ssq_outside.specs.declared.gate.Kind.{Kind}
 use Rattle.ssq_outside.specs.declared.gate.Kind.TheVariants as kind
 use Rattle.ssq_board.specs.declared.front.Cause.{Cause}
+use Rattle.ssq_board.specs.declared.front.Cause.TheVariants as cause
 use Rattle.ssq_board.specs.declared.front.Place.{Place}
 use Rattle.ssq_board.specs.declared.front.Place.TheVariants as place
 use Rattle.ssq_board.specs.declared.front.Entry.{Entry}
@@ -13,7 +14,7 @@ use Rattle.ssq_board.specs.declared.front.Entry.TheVariants as entry
 use Rattle.ssq_board.specs.Core.{Scope, Core, total, need_of, file_need, stop_need, need, is_open, at, moved, with_front, with_tasks, tasks_of, stopped_front, or_stop, due, May, after}
 use Rattle.ssq_board.specs.Shown.{IsSound}
 use Rattle.ssq_board.specs.Rounds.{spends}
-use Rattle.ssq_board.proofs.Lists.{nat_lt-not, put_here}
+use Rattle.ssq_board.proofs.Lists.{nat_lt-not}
 
 total_set : {A : Type 0} (g : A → ℕ) (l : List A) (j : ℕ) (v w : A) → get_elem? l j ≡ some v → total g (set l j w) + g v ≡ total g l + g w
 total_set g [] j v w e = absurd (some-ne-none v (sym e))
@@ -63,6 +64,13 @@ need_claim r c t here = (let a = need_moved c t place.Waits place.Away c.front.s
 pub need_report : (r : Scope) (c : Core) (t : TaskId) (f : Option Cause) → at c t ≡ some place.Away → need (after r c (entry.Report t f)) + 1 ≤ need c
 need_report r c t f here = (let a = need_moved c t place.Away (place.Back f) (or_stop c.front.stop (due c t f)) here in let b = stop_less c.front.stop (due c t f) in omega arith)
 
+-- a version spends as a report does
+pub need_version : (r : Scope) (c : Core) (t : TaskId) → at c t ≡ some place.Away → need (after r c (entry.Version t)) + 1 ≤ need c
+need_version r c t here = need_report r c t None here
+
+pub need_missed : (r : Scope) (c : Core) (t : TaskId) → at c t ≡ some place.Away → need (after r c (entry.Missed t)) + 1 ≤ need c
+need_missed r c t here = (let a = need_moved c t place.Away (place.Back (Some cause.DiskFault)) (Some cause.DiskFault) here in omega arith)
+
 open_is : (c : Core) → is_open c ≡ true → file_need c ≡ (if c.front.written then 1 else 2)
 open_is c e = ap (λ b. if b then (if c.front.written then 1 else 2) else 0) e
 
@@ -74,6 +82,8 @@ need_falls r c (entry.Plan e) d m h = absurd (true≢false (sym h))
 need_falls r c (entry.Sync clock) d m h = absurd (true≢false (sym h))
 need_falls r c (entry.Claim t) d m h = (let a = need_claim r c t m.4 in omega arith)
 need_falls r c (entry.Report t f) d m h = need_report r c t f m.2
+need_falls r c (entry.Version t) d m h = need_version r c t m.2
+need_falls r c (entry.Missed t) d m h = need_missed r c t m.2
 need_falls r c (entry.OutFile e) d m h =
     let two : file_need c ≡ 2 = open_is c m.2 ∙ ap (λ (b : Bool). if b then 1 else 2) m.3 in
     let one : file_need (after r c (entry.OutFile e)) ≡ 1 = open_is (after r c (entry.OutFile e)) m.2 in

@@ -1,5 +1,5 @@
 -- What the machine's Open leaves is shown by the first state.
-use Rattle.std.proofs.Common.{◌≡◌, ◌⊎◌, ◌+◌, ◌≤◌, ◌<◌, nat_lt, ℕ, zero, suc, Bool, true, false, true≢false, List, [], ◌∷◌, length, replicate, Option, Some, None, is_some, sym, refl, ap, ◌∙◌, subst, inl, inr, arith}
+use Rattle.std.proofs.Common.{◌≡◌, ◌+◌, ◌<◌, nat_lt, ℕ, Bool, true, false, true≢false, replicate, None, is_some, sym, refl, ap, ◌∙◌, subst, inl, inr, arith}
 use mathlib.Core.Option.{some, some-ne-none}
 use lib.ListN.{get_elem?}
 use Rattle.ssq_outside.specs.declared.name.Name.{Name}
@@ -14,10 +14,10 @@ use Rattle.ssq_core.specs.Machine as machine
 use Rattle.ssq_core.specs.Sound.{AreProper}
 use Rattle.ssq_board.specs.declared.front.Place.{Place}
 use Rattle.ssq_board.specs.declared.front.Place.TheVariants as place
-use Rattle.ssq_board.specs.Core.{Scope, Core, dealt, has_line, has_line_at, is_open, tasks_of}
-use Rattle.ssq_board.specs.Shown.{Start, IsStart, planned_by, first_place, first_by}
+use Rattle.ssq_board.specs.Core.{Scope, has_line, has_line_at, tasks_of}
+use Rattle.ssq_board.specs.Shown.{Start, planned_by, first_place, first_by}
 use Rattle.ssq_board.specs.Follows.{Terms, map_task, ShowsAt, Shows}
-use Rattle.ssq_board.proofs.Lists.{at_length, replicate_length, replicate_at, one_at, dealt_at, dealt_length, line_below, nat_lt-is, nat_lt-not}
+use Rattle.ssq_board.proofs.Lists.{at_length, replicate_length, replicate_at, one_at, dealt_at, dealt_length, line_below, back_no_more, nat_lt-is, nat_lt-not}
 
 module _ (job : Job) (r : Scope) (next : Cuts → ℕ → Bool) (terms : Terms job r next) (s : Start) (files : Files) (d : Desk) (committed : d.committed ≡ s.committed)
     (begins : d.cuts 0 ≡ terms.start) (from : d.cuts s.committed ≡ s.from) (op : opened job files d) where
@@ -52,6 +52,8 @@ module _ (job : Job) (r : Scope) (next : Cuts → ℕ → Bool) (terms : Terms j
     commits = λ e less. there_of (name.Commit e) (commit_file e less);
     written = λ o. absurd (true≢false (sym o ∙ closed));
     tasks = λ o. absurd (true≢false (sym o ∙ closed));
+    deltas = λ o. absurd (true≢false (sym o ∙ closed));
+    reduced = λ o. absurd (true≢false (sym o ∙ closed));
     mapped = λ o. absurd (true≢false (sym o ∙ closed));
     claimed = λ t epoch. inl (op.4 t);
     later = λ t le. op.4 t;
@@ -74,6 +76,8 @@ module _ (job : Job) (r : Scope) (next : Cuts → ℕ → Bool) (terms : Terms j
     commits = λ e less. there_of (name.Commit e) (commit_file e less);
     written = λ o w. absurd (true≢false (sym w));
     tasks = λ o t p epoch here. by_kind t.kind t p refl epoch here;
+    deltas = λ o run i less here. absurd (back_no_more (replicate_at r.partitions i (first_place true) (place.Back None) here));
+    reduced = λ o. inl (op.4 (out_task s.committed));
     mapped = λ o i is. (let b = line_below s.from s.to i (sym (map_is i) ∙ is) in let l = dealt_length s.from s.to in omega arith);
     claimed = λ t epoch. inl (op.4 t);
     later = λ t le. op.4 t;

@@ -1,9 +1,8 @@
 -- A task that leaves the desk or comes back: the desk still shows the machine's.
-use Rattle.std.proofs.Common.{◌≡◌, ◌≢◌, ◌⊎◌, ◌+◌, ◌≤◌, ◌<◌, ◌&&◌, ◌==◌, nat_lt, ℕ, zero, suc, Bool, true, false, true≢false, List, [], ◌∷◌, length, set, Option, Some, None, is_some, if◌then◌else◌, sym, refl, ap, ◌∙◌, subst, inl, inr, arith, rules}
+use Rattle.std.proofs.Common.{◌≡◌, ◌≢◌, ◌⊎◌, ◌≤◌, ◌<◌, ◌&&◌, ◌==◌, ℕ, Bool, true, false, true≢false, List, length, set, Option, Some, None, is_some, if◌then◌else◌, sym, refl, ap, ◌∙◌, subst, inl, inr, arith, rules}
 use Rattle.std.specs.List.{list_all}
 use mathlib.Core.Option.{some, some-injective, some-ne-none}
 use lib.ListN.{get_elem?}
-use Rattle.ssq_outside.specs.declared.name.Name.{Name}
 use Rattle.ssq_outside.specs.declared.name.Name.TheVariants as name
 use Rattle.ssq_outside.specs.declared.gate.TaskId.{TaskId}
 use Rattle.ssq_outside.specs.declared.gate.Kind.{Kind}
@@ -16,10 +15,10 @@ use Rattle.ssq_board.specs.declared.front.Cause.{Cause}
 use Rattle.ssq_board.specs.declared.front.Front.{Front}
 use Rattle.ssq_board.specs.declared.front.Place.{Place}
 use Rattle.ssq_board.specs.declared.front.Place.TheVariants as place
-use Rattle.ssq_board.specs.Core.{Scope, Core, tasks_of, if_map, if_reduce, if_out, with_tasks, at, moved, with_front, is_open, is_fine, stopped_front}
+use Rattle.ssq_board.specs.Core.{Scope, Core, tasks_of, if_map, with_tasks, at, moved, with_front, is_open, is_fine, stopped_front}
 use Rattle.ssq_board.specs.Shown.{IsSound}
-use Rattle.ssq_board.specs.Follows.{Terms, map_task, IsDone, ShowsAt, Shows}
-use Rattle.ssq_board.proofs.Lists.{put_here, put_else, set_length, at_length, there_at, all_fine, nat_lt-less}
+use Rattle.ssq_board.specs.Follows.{Terms, map_task, IsDone, ShowsAt, AreThere, Shows}
+use Rattle.ssq_board.proofs.Lists.{put_here, put_else, set_length, there_at, all_fine, nat_lt-less}
 use Rattle.ssq_board.proofs.Sounds.{open_less}
 
 pub done_back : (course : Course) (t : TaskId) (there : machine.Place) → IsDone course t there → IsBack course t there
@@ -94,13 +93,19 @@ maps_still c t p = by t.kind
     by kind.Out = refl
     by kind.Upkeep = refl
 
+-- What has to be there for a task to go to this place, unless a Stop comes by that: the delta of its partition, where it brought one; and
+-- all of the epoch, where it is the out task.
+pub record HasBrought (course : Course) (c : Core) (d : Desk) (t : TaskId) (p : Place) (o : Option Cause) : Type 0 where
+  pub own : (i : ℕ) → reduce c.front.committed i ≡ t → p ≡ place.Back None → o ≡ None → i < course.keeping → d.there (name.Delta i c.front.committed) ≡ true
+  pub all : out_task c.front.committed ≡ t → AreThere course d c.front.committed
+
 module _ (job : Job) (r : Scope) (due : Cuts → ℕ → Bool) (terms : Terms job r due) where
   -- A task of the epoch that runs goes from one place to another, where it wasn't done, and perhaps brings about a Stop: it does where
   -- it comes back after a fault of the outside.
   pub placed_shows : (c : Core) (d : Desk) (t : TaskId) (q p : Place) (there : machine.Place) (o : Option Cause) → is_open c ≡ true → t.epoch ≡ c.front.committed → c.front.fresh ≡ true → at c t ≡ some q
-      → (IsDone (job.course d.cuts) t (d.tasks t) → ⊥) → ShowsAt (job.course d.cuts) t there p → (o ≡ None → (c.front.stop ≡ None) × (there ≡ machine.failed → ⊥)) → Shows job r due terms c d
-      → Shows job r due terms (with_front (moved c t p) (stopped_front c.front o)) (placed t there d)
-  placed_shows c d t q p there o opened epoch fresh here never shows whole s = record {
+      → (IsDone (job.course d.cuts) t (d.tasks t) → ⊥) → ShowsAt (job.course d.cuts) t there p → HasBrought (job.course d.cuts) c d t p o → (o ≡ None → (c.front.stop ≡ None) × (there ≡ machine.failed → ⊥))
+      → Shows job r due terms c d → Shows job r due terms (with_front (moved c t p) (stopped_front c.front o)) (placed t there d)
+  placed_shows c d t q p there o opened epoch fresh here never shows has whole s = record {
     planned = s.planned;
     committed = s.committed;
     starts = s.starts;
@@ -112,6 +117,8 @@ module _ (job : Job) (r : Scope) (due : Cuts → ℕ → Bool) (terms : Terms jo
     commits = s.commits;
     written = λ o w. ((s.written o w).0, still (s.written o w).1);
     tasks = λ o' u x at_epoch found. by_task u x at_epoch (same_at u.kind (moved c t p) (stopped_front c.front o) u.number ∙ found) (same_task u t) refl;
+    deltas = λ o' run i less found. delta run i less (same_at kind.Reduce (moved c t p) (stopped_front c.front o) i ∙ found) (same_task (reduce c.front.committed i) t) refl;
+    reduced = λ o'. out_by (same_task (out_task c.front.committed) t) refl;
     mapped = λ o i is. subst (λ (n : ℕ). i < n) (sym (maps_still c t p)) (s.mapped o i is);
     claimed = λ u at_epoch. inr fresh;
     later = λ u le. later u le (same_task u t) refl;
@@ -137,6 +144,21 @@ module _ (job : Job) (r : Scope) (due : Cuts → ℕ → Bool) (terms : Terms jo
           rw same (subst (ShowsAt course u there) place_is (subst (λ (v : TaskId). ShowsAt course v there p) (sym is) shows))
       by_task u x at_epoch found false other = rw other (s.tasks opened u x at_epoch (sym (at_else c t u p (at_epoch ∙ sym epoch) other) ∙ found))
 
+      delta : o ≡ None → (i : ℕ) → i < course.keeping → at (moved c t p) (reduce c.front.committed i) ≡ some (place.Back None) → (b : Bool) → same_task (reduce c.front.committed i) t ≡ b → d.there (name.Delta i c.front.committed) ≡ true
+      delta run i less found true same =
+          let is = same_task-true (reduce c.front.committed i) t same in
+          let place_is : p ≡ place.Back None = some-injective p (place.Back None) (sym (at_here c t q p here) ∙ ap (at (moved c t p)) (sym is) ∙ found) in
+          has.own i is place_is run less
+      delta run i less found false other = s.deltas opened (whole run).0 i less (sym (at_else c t (reduce c.front.committed i) p (sym epoch) other) ∙ found)
+
+      out_by : (b : Bool) → same_task (out_task c.front.committed) t ≡ b
+          → ((if same_task (out_task c.front.committed) t then there else d.tasks (out_task c.front.committed)) ≡ machine.waits) ⊎ AreThere course d c.front.committed
+      out_by true same = inr (has.all (same_task-true (out_task c.front.committed) t same))
+      out_by false other = elim (s.reduced opened) [
+        | inl waits ↦ inl (ap (λ (b : Bool). if b then there else d.tasks (out_task c.front.committed)) other ∙ waits)
+        | inr all ↦ inr all
+      ]
+
       later : (u : TaskId) → c.front.planned ≤ u.epoch → (b : Bool) → same_task u t ≡ b → (if same_task u t then there else d.tasks u) ≡ machine.waits
       later u le true same = absurd (let o = open_less c opened in let e = ap (λ (x : TaskId). x.epoch) (same_task-true u t same) in omega arith)
       later u le false other = rw other (s.later u le)
@@ -159,6 +181,8 @@ module _ (job : Job) (r : Scope) (due : Cuts → ℕ → Bool) (terms : Terms jo
     commits = s.commits;
     written = s.written;
     tasks = λ opened t p epoch here. s.tasks opened t p epoch (same_at t.kind c (stopped_front c.front (Some g)) t.number ∙ here);
+    deltas = λ opened run. absurd (some_none run);
+    reduced = s.reduced;
     mapped = s.mapped;
     claimed = s.claimed;
     later = s.later;
@@ -192,16 +216,35 @@ module _ (job : Job) (r : Scope) (due : Cuts → ℕ → Bool) (terms : Terms jo
       it : t ≡ map_task c.front.committed t.number
       it = λ i. record { epoch = epoch i; kind = same i; number = t.number }
 
+  -- a reduce task of the epoch has its place
+  reduce_at : (c : Core) (d : Desk) (p : ℕ) → IsSound r c → (job.course d.cuts).is_task (reduce c.front.committed p) ≡ true → (q : Place) × (at c (reduce c.front.committed p) ≡ some q)
+  reduce_at c d p sound task =
+      let below = nat_lt-less p r.partitions (sym (terms.reduces d.cuts c.front.committed p) ∙ task) in
+      there_at c.reduces p (let l = sound.reduces in omega arith)
+
   pub reduces_back : (c : Core) (d : Desk) → IsSound r c → Shows job r due terms c d → is_open c ≡ true → list_all is_fine c.reduces ≡ true → AreBack (job.course d.cuts) c.front.committed kind.Reduce d.tasks
   reduces_back c d sound s opened fine t is epoch same =
       subst (λ (x : TaskId). IsBack (job.course d.cuts) x (d.tasks x)) (sym it)
       (let task = sym (ap (job.course d.cuts).is_task it) ∙ is in
-      let below = nat_lt-less t.number r.partitions (sym (terms.reduces d.cuts c.front.committed t.number) ∙ task) in
-      let p = there_at c.reduces t.number (let l = sound.reduces in omega arith) in
+      let p = reduce_at c d t.number sound task in
       fine_back c d (reduce c.front.committed t.number) p.0 s opened refl p.1 (all_fine is_fine c.reduces t.number p.0 fine p.1) task)
     where
       it : t ≡ reduce c.front.committed t.number
       it = λ i. record { epoch = epoch i; kind = same i; number = t.number }
+
+  -- then their deltas are there
+  pub deltas_there : (c : Core) (d : Desk) → IsSound r c → Shows job r due terms c d → is_open c ≡ true → c.front.stop ≡ None → list_all is_fine c.reduces ≡ true → AreThere (job.course d.cuts) d c.front.committed
+  deltas_there c d sound s opened run fine i less =
+      let task = terms.causal.reduces d.cuts c.front.committed i less in
+      let p = reduce_at c d i sound task in
+      by task p.0 p.1 (all_fine is_fine c.reduces i p.0 fine p.1)
+    where
+      by : (job.course d.cuts).is_task (reduce c.front.committed i) ≡ true → (q : Place) → at c (reduce c.front.committed i) ≡ some q → is_fine q ≡ true → d.there (name.Delta i c.front.committed) ≡ true
+      by task place.Rests here f = absurd (true≢false (sym task ∙ s.tasks opened (reduce c.front.committed i) place.Rests refl here))
+      by task (place.Back None) here f = s.deltas opened run i less here
+      by task place.Waits here f = absurd (true≢false (sym f))
+      by task place.Away here f = absurd (true≢false (sym f))
+      by task (place.Back (Some g)) here f = absurd (true≢false (sym f))
 
   -- the epoch runs
   pub runs : (c : Core) (d : Desk) (e : ℕ) → IsSound r c → Shows job r due terms c d → is_open c ≡ true → c.front.fresh ≡ true → e ≡ c.front.committed → IsRunning d e

@@ -1,6 +1,6 @@
 -- Entries that publish or sync may come on the machine's desk, and the desk shows it after them.
-use Rattle.std.proofs.Common.{◌≡◌, ◌≢◌, ◌⊎◌, ◌+◌, ◌≤◌, ◌<◌, ◌&&◌, ◌||◌, ◌==◌, nat_lt, ℕ, zero, suc, Bool, true, false, true≢false, List, [], ◌∷◌, map, length, Option, Some, None, is_some, if◌then◌else◌, sym, refl, ap, ◌∙◌, subst, inl, inr, arith, rules}
-use mathlib.Core.Option.{some, some-injective, some-ne-none}
+use Rattle.std.proofs.Common.{◌≡◌, ◌⊎◌, ◌+◌, ◌<◌, ◌&&◌, ◌||◌, ℕ, Bool, true, false, true≢false, List, map, Option, Some, None, if◌then◌else◌, sym, refl, ap, ◌∙◌, subst, inl, inr, arith}
+use mathlib.Core.Option.{some, some-ne-none}
 use lib.ListN.{get_elem?}
 use Rattle.std.proofs.lemmas.Bool.{cases_lt}
 use Rattle.ssq_outside.specs.declared.name.Name.{Name}
@@ -11,18 +11,17 @@ use Rattle.ssq_outside.specs.declared.gate.Kind.TheVariants as kind
 use Rattle.ssq_outside.specs.Files.{same_name}
 use Rattle.ssq_outside.proofs.Names.{same_name-same}
 use Rattle.ssq_core.specs.declared.event.Event.TheVariants as event
-use Rattle.ssq_core.specs.Course.{Course, Cuts, Ends, Job, truth, AreSameUpTo}
+use Rattle.ssq_core.specs.Course.{Course, Cuts, Ends, Job, AreSameUpTo}
 use Rattle.ssq_core.specs.Machine.{Desk, with_file, with_plan, with_commit, with_sync, out_task, reduce, publishes, syncs, IsRunning, GoesOn, MayOn}
 use Rattle.ssq_core.specs.Machine as machine
 use Rattle.ssq_core.specs.Sound.{AreProper}
-use Rattle.ssq_board.specs.declared.front.Cause.{Cause}
 use Rattle.ssq_board.specs.declared.front.Place.{Place}
 use Rattle.ssq_board.specs.declared.front.Place.TheVariants as place
 use Rattle.ssq_board.specs.declared.front.Entry.TheVariants as entry
-use Rattle.ssq_board.specs.Core.{Scope, Core, next_ends, is_behind, is_more, has_line, has_line_at, dealt, is_open, is_stopped, at, tasks_of, extended, cuts_by, May, after}
+use Rattle.ssq_board.specs.Core.{Scope, Core, next_ends, is_behind, has_line, has_line_at, is_open, at, tasks_of, extended, May, after}
 use Rattle.ssq_board.specs.Shown.{IsSound}
-use Rattle.ssq_board.specs.Follows.{Terms, map_task, change_of, IsDone, ShowsAt, Shows, life_of}
-use Rattle.ssq_board.proofs.Lists.{at_length, const_at, map_length, one_at, dealt_at, dealt_length, line_below, not_behind, nat_lt-is, nat_lt-not, nat_lt-less}
+use Rattle.ssq_board.specs.Follows.{Terms, map_task, change_of, IsDone, ShowsAt, AreThere, Shows, life_of}
+use Rattle.ssq_board.proofs.Lists.{at_length, const_at, map_length, one_at, dealt_at, dealt_length, line_below, not_behind, back_no_more, nat_lt-is, nat_lt-not}
 use Rattle.ssq_board.proofs.Sounds.{open_less, open_not}
 use Rattle.ssq_board.proofs.Placing.{runs}
 
@@ -30,14 +29,14 @@ pub runs_on : (c : Core) → c.front.stop ≡ None → life_of c.front.stop ≡ 
 runs_on c e = ap life_of e
 
 -- a file that is there is there after a publish
-there_still : (q p : Name) (d : Desk) → d.there q ≡ true → (with_file p d).there q ≡ true
+pub there_still : (q p : Name) (d : Desk) → d.there q ≡ true → (with_file p d).there q ≡ true
 there_still q p d h = by (same_name q p) refl
   where
     by : (b : Bool) → same_name q p ≡ b → (if same_name q p then true else d.there q) ≡ true
     by true is = ap (λ (b : Bool). if b then true else d.there q) is
     by false is = ap (λ (b : Bool). if b then true else d.there q) is ∙ h
 
-there_now : (p : Name) (d : Desk) → (with_file p d).there p ≡ true
+pub there_now : (p : Name) (d : Desk) → (with_file p d).there p ≡ true
 there_now p d = ap (λ (b : Bool). if b then true else d.there p) (same_name-same p)
 
 -- a task that is done was claimed
@@ -70,7 +69,7 @@ module _ (job : Job) (r : Scope) (due : Cuts → ℕ → Bool) (terms : Terms jo
   abbrev pub out_desk : ℕ → Desk
   out_desk e = with_file (name.Out e) d
 
-  pub out_may_on : (e : ℕ) → May r c (entry.OutFile e) → MayOn job d (life_of c.front.stop) (event.OutFile e) (change_of job d.cuts (entry.OutFile e)) (out_desk e)
+  pub out_may_on : (e : ℕ) → May r c (entry.OutFile e) → MayOn job d (life_of c.front.stop) (event.OutFile e) (change_of job c d.cuts (entry.OutFile e)) (out_desk e)
   out_may_on e m =
       let t = out_task c.front.committed in
       let done : IsDone (job.course d.cuts) t (d.tasks t) = s.tasks m.2 t (place.Back None) refl m.4 in
@@ -100,6 +99,8 @@ module _ (job : Job) (r : Scope) (due : Cuts → ℕ → Bool) (terms : Terms jo
       s.tasks o (out_task c.front.committed) (place.Back None) refl m.4,
     );
     tasks = λ o t p epoch here. s.tasks o t p epoch (same_here t p here);
+    deltas = λ o run i less here. there_still (name.Delta i c.front.committed) (name.Out e) d (s.deltas o m.0 i less here);
+    reduced = λ o. elim (s.reduced o) [ inl waits ↦ inl waits | inr all ↦ inr (λ i less. there_still (name.Delta i c.front.committed) (name.Out e) d (all i less)) ];
     mapped = s.mapped;
     claimed = s.claimed;
     later = s.later;
@@ -133,6 +134,8 @@ module _ (job : Job) (r : Scope) (due : Cuts → ℕ → Bool) (terms : Terms jo
     commits = s.commits;
     written = s.written;
     tasks = λ o t p epoch here. s.tasks o t p epoch (same_here t p here);
+    deltas = λ o run i less here. s.deltas o m i less here;
+    reduced = s.reduced;
     mapped = s.mapped;
     claimed = λ t epoch. inr refl;
     later = s.later;
@@ -153,7 +156,7 @@ module _ (job : Job) (r : Scope) (due : Cuts → ℕ → Bool) (terms : Terms jo
   abbrev pub commit_desk : ℕ → Desk
   commit_desk e = with_file (name.Commit e) (with_commit d)
 
-  pub commit_may_on : (e : ℕ) (next : Bool) → May r c (entry.Commit e next) → MayOn job d (life_of c.front.stop) (event.Commit e) (change_of job d.cuts (entry.Commit e next)) (commit_desk e)
+  pub commit_may_on : (e : ℕ) (next : Bool) → May r c (entry.Commit e next) → MayOn job d (life_of c.front.stop) (event.Commit e) (change_of job c d.cuts (entry.Commit e next)) (commit_desk e)
   commit_may_on e next m =
       let w = s.written m.2 m.4 in (
         w.1.bytes,
@@ -161,10 +164,16 @@ module _ (job : Job) (r : Scope) (due : Cuts → ℕ → Bool) (terms : Terms jo
         runs job r due terms c d e sound s m.2 m.3 m.1,
         subst (λ (x : ℕ). d.tasks (out_task x) ≡ machine.back false w.1.bytes) (sym m.1) w.1.is,
         subst (λ (x : ℕ). d.sure (name.Out x) ≡ true) (sym m.1) (s.settled m.5 (name.Out c.front.committed) w.0),
-        (λ p below. absurd (let k = terms.stateless d.cuts in omega arith)),
+        (λ i less. subst (λ (x : ℕ). d.sure (name.Delta i x) ≡ true) (sym m.1) (s.settled m.5 (name.Delta i c.front.committed) (are_there i less))),
         refl,
         refl,
       )
+    where
+      are_there : AreThere (job.course d.cuts) d c.front.committed
+      are_there = elim (s.reduced m.2) [
+        | inl waits ↦ absurd (done_went (job.course d.cuts) (out_task c.front.committed) (d.tasks (out_task c.front.committed)) (s.written m.2 m.4).1 waits)
+        | inr all ↦ all
+      ]
 
   pub commit_shows : (e : ℕ) (next : Bool) → May r c (entry.Commit e next) → next ≡ due d.cuts (e + 1) → Shows job r due terms (after r c (entry.Commit e next)) (commit_desk e)
   commit_shows e next m right = record {
@@ -182,6 +191,8 @@ module _ (job : Job) (r : Scope) (due : Cuts → ℕ → Bool) (terms : Terms jo
     ];
     written = λ o w. absurd (true≢false (sym o ∙ closed));
     tasks = λ o. absurd (true≢false (sym o ∙ closed));
+    deltas = λ o. absurd (true≢false (sym o ∙ closed));
+    reduced = λ o. absurd (true≢false (sym o ∙ closed));
     mapped = λ o. absurd (true≢false (sym o ∙ closed));
     claimed = λ t epoch. inl (s.later t (let a = sound.near in omega arith));
     later = s.later;
@@ -235,7 +246,7 @@ module _ (job : Job) (r : Scope) (due : Cuts → ℕ → Bool) (terms : Terms jo
   all_committed : (e : ℕ) → May r c (entry.Plan e) → c.front.committed ≡ c.front.planned
   all_committed e m = (let a = open_not c m.2 in let b = sound.before in omega arith)
 
-  pub plan_may_on : (e : ℕ) → May r c (entry.Plan e) → MayOn job d (life_of c.front.stop) (event.Plan e) (change_of job next_cuts (entry.Plan e)) (plan_desk e)
+  pub plan_may_on : (e : ℕ) → May r c (entry.Plan e) → MayOn job d (life_of c.front.stop) (event.Plan e) (change_of job c next_cuts (entry.Plan e)) (plan_desk e)
   plan_may_on e m = (
     next_cuts,
     goes_on m.0,
@@ -265,6 +276,8 @@ module _ (job : Job) (r : Scope) (due : Cuts → ℕ → Bool) (terms : Terms jo
     commits = λ k less. there_still (name.Commit k) (name.Plan e) d (s.commits k less);
     written = λ o w. absurd (true≢false (sym w));
     tasks = λ o t p epoch here. by_kind t.kind t p refl epoch here;
+    deltas = λ o run i less here. absurd (back_no_more (const_at place.Waits (place.Back None) c.reduces i here));
+    reduced = λ o. inl (waiting (out_task c.front.committed) refl);
     mapped = λ o i is. (let b = line_below c.ends (next_ends r.cap c.ends r.available) i (sym (map_is i) ∙ is) in let l = dealt_length c.ends (next_ends r.cap c.ends r.available) in omega arith);
     claimed = λ t epoch. inl (waiting t epoch);
     later = λ t le. s.later t (omega (arith, le));

@@ -1,7 +1,7 @@
 -- On one thread something can always be done, as long as the round is not over and not stopped.
-use Rattle.std.proofs.Common.{◌≡◌, ◌≢◌, ◌⊎◌, ◌+◌, ◌≤◌, ◌<◌, ◌&&◌, ◌||◌, not, nat_lt, ℕ, zero, suc, Bool, true, false, true≢false, List, [], ◌∷◌, map, length, set, replicate, Option, Some, None, if◌then◌else◌, sym, refl, ap, ◌∙◌, subst, inl, inr, arith}
+use Rattle.std.proofs.Common.{◌≡◌, ◌⊎◌, ◌+◌, ◌&&◌, ◌||◌, not, nat_lt, ℕ, zero, suc, Bool, true, false, true≢false, List, [], ◌∷◌, map, length, set, replicate, Option, Some, None, if◌then◌else◌, sym, refl, ap, ◌∙◌, subst, inl, inr, arith}
 use Rattle.std.specs.List.{list_all, list_any}
-use mathlib.Core.Option.{some, some-injective, some-ne-none}
+use mathlib.Core.Option.{some, some-ne-none}
 use lib.ListN.{get_elem?}
 use Rattle.ssq_outside.specs.declared.gate.TaskId.{TaskId}
 use Rattle.ssq_outside.specs.declared.gate.Kind.{Kind}
@@ -10,13 +10,11 @@ use Rattle.ssq_core.specs.Course.{Ends}
 use Rattle.ssq_board.specs.declared.front.Cause.{Cause}
 use Rattle.ssq_board.specs.declared.front.Place.{Place}
 use Rattle.ssq_board.specs.declared.front.Place.TheVariants as place
-use Rattle.ssq_board.specs.declared.front.Entry.{Entry}
 use Rattle.ssq_board.specs.declared.front.Entry.TheVariants as entry
-use Rattle.ssq_board.specs.declared.front.Ready.{Ready}
 use Rattle.ssq_board.specs.declared.front.Ready.TheVariants as ready
-use Rattle.ssq_board.specs.Core.{Scope, Core, next_ends, dealt, is_waiting, is_fine, is_here, is_open, is_stopped, is_more, fault_at, fault_in, worse, due_of, due_stop, or_stop, due, tasks_of, with_tasks, moved, if_map, if_reduce, if_out, May, after, after_all, ready_tasks, ready_of}
+use Rattle.ssq_board.specs.Core.{Scope, Core, next_ends, dealt, is_waiting, is_fine, is_here, is_open, is_stopped, is_more, fault_at, fault_in, worse, due_of, due_stop, or_stop, tasks_of, with_tasks, moved, if_out, May, after, after_all, ready_tasks, ready_of}
 use Rattle.ssq_board.specs.Shown.{Start, first, first_by, first_place, IsSound}
-use Rattle.ssq_board.specs.Rounds.{Comes, brings_rows, works, Worked, is_away, IsAtRest}
+use Rattle.ssq_board.specs.Rounds.{Comes, brings_rows, works, Worked, Versioned, is_away, IsAtRest}
 use Rattle.ssq_board.proofs.Lists.{nat_lt-not}
 use Rattle.ssq_board.proofs.Sounds.{running_of}
 use Rattle.ssq_board.proofs.Readies.{past, chosen, not_true}
@@ -237,6 +235,16 @@ work_rests r c t f e sound rest m = by (brings_rows t.kind f) refl
       ];
     }
 
+-- a reduce task brings its version
+version_rests : (r : Scope) (c : Core) (t : TaskId) → IsAtRest c → May r c (entry.Claim t) → t.kind ≡ kind.Reduce → IsAtRest (after r (after r c (entry.Claim t)) (entry.Version t))
+version_rests r c t rest m is = record {
+  here = front_here (after r (after r c (entry.Claim t)) (entry.Report t None)) (after r (after r c (entry.Claim t)) (entry.Version t)) refl refl refl (work_here r c t None rest.here);
+  outs = λ o s. elim (rest.outs m.1 m.0) [ inl waits ↦ inl (same_outs r c t None t.kind refl (λ out. reduce_out (sym is ∙ out)) ∙ waits) | inr written ↦ inr written ];
+}
+  where
+    reduce_out : kind.Reduce ≡ kind.Out → ⊥
+    reduce_out e = cc
+
 same_here : (n : ℕ) (b : Bool) → list_any is_away (replicate n (first_place b)) ≡ false
 same_here zero b = refl
 same_here (suc n) true = same_here n true
@@ -277,6 +285,13 @@ sync_turn r c n clock running rest (inr stopped) = inr stopped
 pub commit_turn : (r : Scope) (c n : Core) (e : ℕ) (b : Bool) → IsSound r c → IsAtRest c → Comes r c n (entry.Commit e b ∷ []) → IsAtRest n ⊎ (is_stopped n.front.stop ≡ true)
 commit_turn r c n e b sound rest (inl is) = inl (subst IsAtRest (sym is) (commit_rests r c e b sound rest))
 commit_turn r c n e b sound rest (inr stopped) = inr stopped
+
+pub version_turn : (r : Scope) (c n : Core) → IsAtRest c → Versioned r c n → IsAtRest n ⊎ (is_stopped n.front.stop ≡ true)
+version_turn r c n rest w = by_end w.3
+  where
+    by_end : Comes r c n (entry.Claim w.0 ∷ entry.Version w.0 ∷ []) → IsAtRest n ⊎ (is_stopped n.front.stop ≡ true)
+    by_end (inl is) = inl (subst IsAtRest (sym is) (version_rests r c w.0 rest w.2 w.1))
+    by_end (inr stopped) = inr stopped
 
 pub work_turn : (r : Scope) (c n : Core) → IsSound r c → IsAtRest c → Worked r c n → IsAtRest n ⊎ (is_stopped n.front.stop ≡ true)
 work_turn r c n sound rest w = by_end w.3

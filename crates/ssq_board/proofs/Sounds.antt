@@ -1,5 +1,5 @@
 -- What is so of every state that entries lead to.
-use Rattle.std.proofs.Common.{◌≡◌, ◌⊎◌, ◌+◌, ◌≤◌, ◌<◌, ◌&&◌, not, nat_lt, ℕ, zero, suc, Bool, true, false, true≢false, List, [], ◌∷◌, map, length, set, replicate, Option, Some, None, if◌then◌else◌, sym, refl, ap, ◌∙◌, subst, inl, inr, arith, rules}
+use Rattle.std.proofs.Common.{◌≡◌, ◌+◌, ◌≤◌, ◌<◌, ◌&&◌, not, nat_lt, ℕ, zero, suc, Bool, true, false, true≢false, List, [], ◌∷◌, map, length, set, replicate, Option, Some, None, if◌then◌else◌, sym, refl, ap, ◌∙◌, subst, inl, inr, arith}
 use Rattle.std.specs.List.{list_all}
 use Rattle.std.proofs.lemmas.Bool.{cases_lt}
 use mathlib.Core.Option.{some, some-injective, some-ne-none}
@@ -9,14 +9,15 @@ use Rattle.ssq_outside.specs.declared.gate.Kind.{Kind}
 use Rattle.ssq_outside.specs.declared.gate.Kind.TheVariants as kind
 use Rattle.ssq_core.specs.Course.{Ends, Cuts, Job}
 use Rattle.ssq_board.specs.declared.front.Cause.{Cause}
+use Rattle.ssq_board.specs.declared.front.Cause.TheVariants as cause
 use Rattle.ssq_board.specs.declared.front.Front.{Front}
 use Rattle.ssq_board.specs.declared.front.Place.{Place}
 use Rattle.ssq_board.specs.declared.front.Place.TheVariants as place
 use Rattle.ssq_board.specs.declared.front.Entry.{Entry}
 use Rattle.ssq_board.specs.declared.front.Entry.TheVariants as entry
-use Rattle.ssq_board.specs.Core.{Scope, Core, next_ends, dealt, is_here, is_open, is_stopped, tasks_of, if_map, if_reduce, if_out, with_tasks, at, moved, with_front, is_of_line, worse_by, fault_at, fault_in, worse, due_of, due_stop, or_stop, due, May, stopped_front, after}
-use Rattle.ssq_board.specs.Shown.{Start, first_by, first, first_maps, first_place, IsStart, IsSound}
-use Rattle.ssq_board.specs.Follows.{State, Step, Leads}
+use Rattle.ssq_board.specs.Core.{Scope, Core, next_ends, dealt, is_here, is_open, is_stopped, tasks_of, if_map, if_reduce, if_out, with_tasks, moved, with_front, is_of_line, worse_by, fault_at, fault_in, worse, due_of, due_stop, or_stop, due, May, stopped_front, version_front, after}
+use Rattle.ssq_board.specs.Shown.{Start, first_by, first, first_place, IsStart, IsSound}
+use Rattle.ssq_board.specs.Follows.{State, Leads}
 use Rattle.ssq_board.proofs.Lists.{set_length, replicate_length, map_length, dealt_length, next_length, nat_lt-not, nat_lt-less, nat_lt-is}
 
 pub open_less : (c : Core) → is_open c ≡ true → c.front.committed < c.front.planned
@@ -236,6 +237,12 @@ step_sound r c (entry.Plan e) m d = (let o = open_not c m.2 in record {
 step_sound r c (entry.Claim t) m d = moved_sound r c t place.Away c.front d refl refl (λ run. moved_due c t place.Away (d.calm run) (away_due (tasks_of t.kind c) t.number m.4 ∙ d.calm run t.kind))
 step_sound r c (entry.Report t f) m d =
     moved_sound r c t (place.Back f) (stopped_front c.front (or_stop c.front.stop (due c t f))) d refl refl (λ run. let n = due_none c t f run in moved_due c t (place.Back f) (d.calm n.0) n.1)
+step_sound r c (entry.Version t) m d =
+    moved_sound r c t (place.Back None) (version_front c.front (or_stop c.front.stop (due c t None))) d refl refl (λ run. let n = due_none c t None run in moved_due c t (place.Back None) (d.calm n.0) n.1)
+step_sound r c (entry.Missed t) m d = moved_sound r c t (place.Back (Some cause.DiskFault)) (stopped_front c.front (Some cause.DiskFault)) d refl refl (λ run. absurd (some_none run))
+  where
+    some_none : Some cause.DiskFault ≡ None → ⊥
+    some_none e = cc
 step_sound r c (entry.OutFile e) m d = record { near = d.near; before = d.before; ends = d.ends; maps = d.maps; reduces = d.reduces; outs = d.outs; out_there = d.out_there; calm = λ run k. front_calm c (after r c (entry.OutFile e)).front k (d.calm m.0 k) }
 step_sound r c (entry.Sync clock) m d = record { near = d.near; before = d.before; ends = d.ends; maps = d.maps; reduces = d.reduces; outs = d.outs; out_there = d.out_there; calm = λ run k. front_calm c (after r c (entry.Sync clock)).front k (d.calm m k) }
 step_sound r c (entry.Commit e due) m d = (let o = open_less c m.2 in record {

@@ -1,5 +1,5 @@
 -- What is told is what the history acknowledged.
-use Rattle.std.proofs.Common.{◌≡◌, ◌⊎◌, ◌+◌, ◌≤◌, ◌++◌, ℕ, Bool, true, false, true≢false, List, [], ◌∷◌, length, set, Option, Some, None, sym, refl, ap, ◌∙◌, subst, inl, inr, arith}
+use Rattle.std.proofs.Common.{◌≡◌, ◌⊎◌, ◌+◌, ◌&&◌, ◌++◌, ℕ, Bool, true, false, true≢false, List, [], ◌∷◌, length, Option, Some, None, sym, refl, ap, ◌∙◌, subst, inl, inr, arith}
 use Rattle.ssq_outside.specs.declared.gate.TaskId.{TaskId}
 use Rattle.ssq_outside.specs.declared.gate.Kind.{Kind}
 use Rattle.ssq_outside.specs.declared.gate.Kind.TheVariants as kind
@@ -13,7 +13,7 @@ use Rattle.ssq_board.specs.declared.front.Entry.TheVariants as entry
 use Rattle.ssq_board.specs.declared.front.Ready.TheVariants as ready
 use Rattle.ssq_board.specs.Core.{Scope, Core, May, after, is_stopped, or_stop, due, seals, stops, events_all, ready_of}
 use Rattle.ssq_board.specs.Shown.{Start, first, IsSound}
-use Rattle.ssq_board.specs.Follows.{State, Step, Leads}
+use Rattle.ssq_board.specs.Follows.{State, Leads}
 use Rattle.ssq_board.specs.Told.{acknowledged_of, AreFrom, IsTold, IsCovered}
 use Rattle.ssq_board.proofs.Readies.{over_is}
 
@@ -57,6 +57,10 @@ ack_report kind.Out t (Some h) (Some g) p rest = refl
 ack_report kind.Upkeep t f None p rest = refl
 ack_report kind.Upkeep t f (Some g) p rest = refl
 
+ack_version : (t : TaskId) (o : Option Cause) (p : Option ℕ) (rest : List Event) → acknowledged p ((event.Seal t ∷ event.Report t ∷ stops o) ++ rest) ≡ acknowledged (after_stop o p) rest
+ack_version t None p rest = refl
+ack_version t (Some g) p rest = refl
+
 stays_stopped : (a o : Option Cause) → is_stopped a ≡ true → is_stopped (or_stop a o) ≡ true
 stays_stopped None o h = absurd (true≢false (sym h))
 stays_stopped (Some f) o h = refl
@@ -72,6 +76,19 @@ report_at r c t f None p a is (inr (inl at)) = inr (inl at)
 report_at r c t f (Some g) p a is (inr (inl at)) = inr (inr (refl, at.1, at.2, (ap (λ (x : Option Cause). is_stopped (or_stop c.front.stop x)) is ∙ now_stopped c.front.stop g)))
 report_at r c t f None p a is (inr (inr at)) = inr (inr (at.0, at.1, at.2, stays_stopped c.front.stop (due c t f) at.3))
 report_at r c t f (Some g) p a is (inr (inr at)) = inr (inr (refl, at.1, at.2, stays_stopped c.front.stop (due c t f) at.3))
+
+-- a version is a report, but for what is settled
+version_at : (r : Scope) (c : Core) (t : TaskId) (p : Option ℕ) (a : ℕ) → IsAt c p a → IsAt (after r c (entry.Version t)) (after_stop (due c t None) p) a
+version_at r c t p a at = by (report_at r c t None (due c t None) p a refl at)
+  where
+    unsettled : (o : Option Cause) (b : Bool) → b ≡ false → (is_stopped o && b) ≡ false
+    unsettled None b e = refl
+    unsettled (Some f) b e = e
+
+    by : IsAt (after r c (entry.Report t None)) (after_stop (due c t None) p) a → IsAt (after r c (entry.Version t)) (after_stop (due c t None) p) a
+    by (inl x) = inl x
+    by (inr (inl x)) = inr (inl (x.0, x.1, unsettled c.front.stop c.front.settled x.2))
+    by (inr (inr x)) = inr (inr (x.0, x.1, unsettled c.front.stop c.front.settled x.2, x.3))
 
 module _ (r : Scope) where
   abbrev Tells : List Event → ℕ → Option ℕ → Core → Type 0
@@ -89,6 +106,12 @@ module _ (r : Scope) where
   told (entry.Report t f ∷ es) c n p a at l =
       let more = told es (after r c (entry.Report t f)) n (after_stop (due c t f) p) a (report_at r c t f (due c t f) p a refl at) l.1 in
       subst (λ (x : List ℕ). AreFrom a x × ((q : Option ℕ) × IsAt n q (a + length x))) (sym (ack_report t.kind t f (due c t f) p (events_all r (after r c (entry.Report t f)) es))) more
+  told (entry.Version t ∷ es) c n p a at l =
+      let more = told es (after r c (entry.Version t)) n (after_stop (due c t None) p) a (version_at r c t p a at) l.1 in
+      subst (λ (x : List ℕ). AreFrom a x × ((q : Option ℕ) × IsAt n q (a + length x))) (sym (ack_version t (due c t None) p (events_all r (after r c (entry.Version t)) es))) more
+  told (entry.Missed t ∷ es) c n p a (inl at) l = told es (after r c (entry.Missed t)) n None a (inl (refl, at.1)) l.1
+  told (entry.Missed t ∷ es) c n p a (inr (inl at)) l = told es (after r c (entry.Missed t)) n None a (inr (inr (refl, at.1, at.2, refl))) l.1
+  told (entry.Missed t ∷ es) c n p a (inr (inr at)) l = told es (after r c (entry.Missed t)) n None a (inr (inr (refl, at.1, at.2, refl))) l.1
   told (entry.OutFile e ∷ es) c n p a (inl at) l = told es (after r c (entry.OutFile e)) n p a (inl at) l.1
   told (entry.OutFile e ∷ es) c n p a (inr (inl at)) l = told es (after r c (entry.OutFile e)) n p a (inr (inl (at.0, at.1, refl))) l.1
   told (entry.OutFile e ∷ es) c n p a (inr (inr at)) l = absurd (unstopped c l.0.0 at.3)

@@ -1,5 +1,5 @@
 -- The states of a desk, what may come in each, and what each entry does.
-use Rattle.std.specs.Prelude.{◌≡◌, ◌⊎◌, ◌<◌, ◌≤◌, ◌+◌, ◌==◌, ◌&&◌, ◌||◌, not, nat_lt, ℕ, zero, suc, Bool, true, false, List, [], ◌∷◌, ◌++◌, Option, Some, None, map, replicate, set, length, if◌then◌else◌}
+use Rattle.std.specs.Prelude.{◌≡◌, ◌<◌, ◌+◌, ◌&&◌, ◌||◌, not, nat_lt, ℕ, zero, suc, Bool, true, false, List, [], ◌∷◌, ◌++◌, Option, Some, None, map, set, if◌then◌else◌}
 use Rattle.std.specs.List.{list_all, list_any}
 use mathlib.Core.Option.{some}
 use mathlib.Core.Option as math
@@ -197,11 +197,20 @@ HasCause r c cause.DiskFault = Unit {0}
 HasCause r c cause.NoMemory = Unit {0}
 HasCause r c _ = ⊥
 
+-- a task comes back
+abbrev pub comes_back : Entry → Bool
+comes_back (entry.Report t f) = true
+comes_back (entry.Version t) = true
+comes_back (entry.Missed t) = true
+comes_back _ = false
+
 -- an entry that may come
 abbrev pub May : Scope → Core → Entry → Type 0
 May r c (entry.Plan e) = (c.front.stop ≡ None) × (e ≡ c.front.planned) × (is_open c ≡ false) × (c.front.settled ≡ true) × (is_more r c ≡ true) × (e < 4294967295)
 May r c (entry.Claim t) = (c.front.stop ≡ None) × (is_open c ≡ true) × (t.epoch ≡ c.front.committed) × (may_start c t.kind ≡ true) × (at c t ≡ some place.Waits)
 May r c (entry.Report t f) = (is_open c ≡ true) × (t.epoch ≡ c.front.committed) × (at c t ≡ some place.Away)
+May r c (entry.Version t) = (is_open c ≡ true) × (t.epoch ≡ c.front.committed) × (at c t ≡ some place.Away) × (t.kind ≡ kind.Reduce)
+May r c (entry.Missed t) = (is_open c ≡ true) × (t.epoch ≡ c.front.committed) × (at c t ≡ some place.Away) × (t.kind ≡ kind.Reduce) × (c.front.stop ≡ None)
 May r c (entry.OutFile e) = (c.front.stop ≡ None) × (e ≡ c.front.committed) × (is_open c ≡ true) × (c.front.written ≡ false) × (get_elem? c.outs 0 ≡ some (place.Back None))
 May r c (entry.Sync clock) = c.front.stop ≡ None
 May r c (entry.Commit e due) = (c.front.stop ≡ None) × (e ≡ c.front.committed) × (is_open c ≡ true) × (c.front.fresh ≡ true) × (c.front.written ≡ true) × (c.front.settled ≡ true)
@@ -224,6 +233,19 @@ committed_front f due = record { planned = f.planned; committed = f.committed + 
 abbrev pub stopped_front : Front → Option Cause → Front
 stopped_front f stop = record { planned = f.planned; committed = f.committed; fresh = f.fresh; settled = f.settled; written = f.written; has_lines = f.has_lines; due = f.due; stop = stop }
 
+-- a version that comes back is a file more, but not after a Stop
+abbrev pub version_front : Front → Option Cause → Front
+version_front f stop = record {
+  planned = f.planned;
+  committed = f.committed;
+  fresh = f.fresh;
+  settled = is_stopped f.stop && f.settled;
+  written = f.written;
+  has_lines = f.has_lines;
+  due = f.due;
+  stop = stop;
+}
+
 -- what it does to the desk
 abbrev pub after : Scope → Core → Entry → Core
 after r c (entry.Plan e) = record {
@@ -235,6 +257,8 @@ after r c (entry.Plan e) = record {
 }
 after r c (entry.Claim t) = moved c t place.Away
 after r c (entry.Report t f) = with_front (moved c t (place.Back f)) (stopped_front c.front (or_stop c.front.stop (due c t f)))
+after r c (entry.Version t) = with_front (moved c t (place.Back None)) (version_front c.front (or_stop c.front.stop (due c t None)))
+after r c (entry.Missed t) = with_front (moved c t (place.Back (Some cause.DiskFault))) (stopped_front c.front (Some cause.DiskFault))
 after r c (entry.OutFile e) = with_front c (written_front c.front)
 after r c (entry.Sync clock) = with_front c (synced_front c.front)
 after r c (entry.Commit e due) = with_front c (committed_front c.front due)
@@ -244,8 +268,8 @@ abbrev pub after_all : Scope → Core → List Entry → Core
 after_all r c [] = c
 after_all r c (e ∷ es) = after_all r (after r c e) es
 
--- The events of the machine that an entry stands for: an out task that brings its files has sealed them, and a report brings about the
--- Stop that is due.
+-- The events of the machine that an entry stands for: an out task that brings its files has sealed them, and so has a reduce task that
+-- brings a version; and a task that comes back brings about the Stop that is due.
 abbrev pub seals : Kind → TaskId → Option Cause → List Event
 seals kind.Out t None = event.Seal t ∷ []
 seals _ t f = []
@@ -258,6 +282,8 @@ abbrev pub events_of : Core → Entry → List Event
 events_of c (entry.Plan e) = event.Plan e ∷ []
 events_of c (entry.Claim t) = event.Claim t ∷ []
 events_of c (entry.Report t f) = seals t.kind t f ++ (event.Report t ∷ stops (due c t f))
+events_of c (entry.Version t) = event.Seal t ∷ event.Report t ∷ stops (due c t None)
+events_of c (entry.Missed t) = event.Seal t ∷ event.Report t ∷ event.Stop ∷ []
 events_of c (entry.OutFile e) = event.OutFile e ∷ []
 events_of c (entry.Sync clock) = event.Sync clock ∷ []
 events_of c (entry.Commit e due) = event.Commit e ∷ []

@@ -1,12 +1,12 @@
 -- When the state of a desk shows a desk of the machine, and what an entry does to the disk.
-use Rattle.std.specs.Prelude.{◌≡◌, ◌⊎◌, ◌<◌, ◌≤◌, ◌+◌, nat_lt, ℕ, Bool, true, false, List, [], ◌∷◌, ◌++◌, length, Option, Some, None, is_some}
+use Rattle.std.specs.Prelude.{◌≡◌, ◌⊎◌, ◌<◌, ◌≤◌, ◌+◌, nat_lt, ℕ, Bool, true, false, List, [], ◌∷◌, length, Option, Some, None}
 use mathlib.Core.Option.{some}
 use Rattle.ssq_outside.specs.declared.name.Name.{Name}
 use Rattle.ssq_outside.specs.declared.name.Name.TheVariants as name
 use Rattle.ssq_outside.specs.declared.gate.TaskId.{TaskId}
 use Rattle.ssq_outside.specs.declared.gate.Kind.{Kind}
 use Rattle.ssq_outside.specs.declared.gate.Kind.TheVariants as kind
-use Rattle.ssq_outside.specs.Files.{Content, Had}
+use Rattle.ssq_outside.specs.Files.{Content}
 use Rattle.ssq_outside.specs.History.{History, had_now, Elapses}
 use Rattle.ssq_core.specs.Course.{Course, Ends, Cuts, Job, truth, IsCausal}
 use Rattle.ssq_core.specs.Machine.{Desk, Change, nothing, misses, publishes, removes, syncs, Allows, Leaves, result_of, reduce, out_task}
@@ -17,13 +17,13 @@ use Rattle.ssq_board.specs.declared.front.Place.{Place}
 use Rattle.ssq_board.specs.declared.front.Place.TheVariants as place
 use Rattle.ssq_board.specs.declared.front.Entry.{Entry}
 use Rattle.ssq_board.specs.declared.front.Entry.TheVariants as entry
-use Rattle.ssq_board.specs.Core.{Scope, Core, next_ends, is_behind, has_line, has_line_at, at, is_open, is_of_line, May, after, cuts_by}
+use Rattle.ssq_board.specs.Core.{Scope, Core, next_ends, is_behind, has_line, has_line_at, at, is_open, is_of_line, comes_back, May, after, cuts_by}
 
 abbrev pub map_task : ℕ → ℕ → TaskId
 map_task e i = record { epoch = e; kind = kind.Map; number = i }
 
 -- What the numbers of a desk rest on: which tasks an epoch of the job has, which cut may come next, and (due) whether after the first so
--- many epochs one without lines is due. The query keeps no state.
+-- many epochs one without lines is due.
 pub record Terms (job : Job) (r : Scope) (due : Cuts → ℕ → Bool) : Type 0 where
   pub causal : IsCausal job
   -- where the job's parts begin
@@ -32,7 +32,6 @@ pub record Terms (job : Job) (r : Scope) (due : Cuts → ℕ → Bool) : Type 0 
   pub maps : (cuts : Cuts) (e i : ℕ) → (job.course cuts).is_task (map_task e i) ≡ has_line_at (cuts e) (cuts (e + 1)) i
   pub reduces : (cuts : Cuts) (e p : ℕ) → (job.course cuts).is_task (reduce e p) ≡ nat_lt p r.partitions
   pub outs : (cuts : Cuts) (e : ℕ) → (job.course cuts).is_task (out_task e) ≡ true
-  pub stateless : (cuts : Cuts) → (job.course cuts).keeping ≡ 0
   -- the next cut may come where it has lines, or one without lines is due
   pub next : (cuts : Cuts) (e : ℕ) → cuts 0 ≡ start → AreProper job cuts e → cuts (e + 1) ≡ next_ends r.cap (cuts e) r.available
       → (is_behind (cuts e) r.available ≡ true) ⊎ (due cuts e ≡ true) → job.is_next cuts e ≡ true
@@ -46,15 +45,22 @@ pub record State : Type 0 where
   pub core : Core
   pub cuts : Cuts
 
--- What an entry does to the disk: a file that it publishes is the true one of its name.
-abbrev pub change_of : Job → Cuts → Entry → Change
-change_of job cuts (entry.Plan e) = publishes (name.Plan e) (truth (job.course cuts) (name.Plan e))
-change_of job cuts (entry.Claim t) = nothing
-change_of job cuts (entry.Report t f) = nothing
-change_of job cuts (entry.OutFile e) = publishes (name.Out e) (truth (job.course cuts) (name.Out e))
-change_of job cuts (entry.Sync clock) = syncs
-change_of job cuts (entry.Commit e due) = publishes (name.Commit e) (truth (job.course cuts) (name.Commit e))
-change_of job cuts (entry.Stop f) = nothing
+-- what a version does that comes back: after a Stop nothing
+abbrev pub publishes_by : Job → Cuts → TaskId → Option Cause → Change
+publishes_by job cuts t None = publishes (name.Delta t.number t.epoch) (truth (job.course cuts) (name.Delta t.number t.epoch))
+publishes_by job cuts t (Some f) = nothing
+
+-- What an entry does to the disk: a file that it publishes is the true one of its name. One that was missed was tried.
+abbrev pub change_of : Job → Core → Cuts → Entry → Change
+change_of job c cuts (entry.Plan e) = publishes (name.Plan e) (truth (job.course cuts) (name.Plan e))
+change_of job c cuts (entry.Claim t) = nothing
+change_of job c cuts (entry.Report t f) = nothing
+change_of job c cuts (entry.Version t) = publishes_by job cuts t c.front.stop
+change_of job c cuts (entry.Missed t) = publishes_by job cuts t None
+change_of job c cuts (entry.OutFile e) = publishes (name.Out e) (truth (job.course cuts) (name.Out e))
+change_of job c cuts (entry.Sync clock) = syncs
+change_of job c cuts (entry.Commit e due) = publishes (name.Commit e) (truth (job.course cuts) (name.Commit e))
+change_of job c cuts (entry.Stop f) = nothing
 
 -- in a call that is done
 abbrev pub Goes : Change → History → History → Type 0
@@ -72,15 +78,16 @@ Tries (publishes q bytes) old new = Elapses old new (Allows (publishes q bytes) 
 Tries (removes q) old new = Elapses old new (Allows (removes q) (had_now old))
 Tries syncs old new = Elapses old new (Allows syncs (had_now old))
 
--- What a call that failed may have tried: nothing, or an entry that may come.
+-- What a call that failed may have tried, where the Stop is its entry: nothing, or an entry that may come, but for a task that comes back.
 abbrev pub IsTried : Job → Scope → Core → Cuts → Change → Type 0
-IsTried job r c cuts change = (change ≡ nothing) ⊎ ((e : Entry) × May r c e × (change ≡ change_of job (cuts_by r cuts c e) e))
+IsTried job r c cuts change = (change ≡ nothing) ⊎ ((e : Entry) × May r c e × (comes_back e ≡ false) × (change ≡ change_of job c (cuts_by r cuts c e) e))
 
--- the disk's part of an entry: a Stop has the call that failed
+-- the disk's part of an entry: a Stop has the call that failed, and so has a version that was missed
 abbrev pub Moves : Job → Scope → Core → Cuts → Entry → History → History → Type 0
 Moves job r c cuts (entry.Stop f) old new = (change : Change) × IsTried job r c cuts change × Tries change old new
+Moves job r c cuts (entry.Missed t) old new = Tries (change_of job c cuts (entry.Missed t)) old new
 Moves job r c cuts (entry.Sync clock) old new = Goes syncs old new × (clock ≡ new.moment)
-Moves job r c cuts e old new = Goes (change_of job (cuts_by r cuts c e) e) old new
+Moves job r c cuts e old new = Goes (change_of job c (cuts_by r cuts c e) e) old new
 
 -- A result is its task's own: without a fault exactly where the task has none. What came from outside says nothing of it.
 abbrev pub IsOwnBy : Bool → Bool → Type 0
@@ -91,9 +98,23 @@ abbrev pub IsOwn : Course → TaskId → Option Cause → Type 0
 IsOwn course t None = course.is_fault t ≡ false
 IsOwn course t (Some f) = IsOwnBy (course.is_fault t) (is_of_line f)
 
+-- A task brings no version: it met a fault, or is no reduce task of a partition that keeps state.
+abbrev pub BringsNoneBy : Course → TaskId → Kind → Option Cause → Type 0
+BringsNoneBy course t kind.Reduce None = machine.seals course t ≡ false
+BringsNoneBy course t _ f = Unit {0}
+
+abbrev pub BringsNone : Course → TaskId → Option Cause → Type 0
+BringsNone course t f = BringsNoneBy course t t.kind f
+
+-- it brings one: it met no fault, and its partition keeps state
+abbrev pub BringsVersion : Course → TaskId → Type 0
+BringsVersion course t = IsOwn course t None × (machine.seals course t ≡ true)
+
 -- what an entry tells is so: of its task, and of what is due next
 abbrev pub IsRight : Job → (Cuts → ℕ → Bool) → Cuts → Entry → Type 0
-IsRight job due cuts (entry.Report t f) = IsOwn (job.course cuts) t f
+IsRight job due cuts (entry.Report t f) = IsOwn (job.course cuts) t f × BringsNone (job.course cuts) t f
+IsRight job due cuts (entry.Version t) = BringsVersion (job.course cuts) t
+IsRight job due cuts (entry.Missed t) = BringsVersion (job.course cuts) t
 IsRight job due cuts (entry.Commit e next) = next ≡ due cuts (e + 1)
 IsRight job due cuts _ = Unit {0}
 
@@ -123,8 +144,12 @@ ShowsAt course t there place.Away = there ≡ machine.out
 ShowsAt course t there (place.Back None) = IsDone course t there
 ShowsAt course t there (place.Back (Some f)) = Unit {0}
 
--- The desk shows a desk of the machine: their counts are the same; what is settled is settled there; and each task of the epoch that
--- runs is where its place says.
+-- the deltas of an epoch are there, one for each partition that keeps state
+abbrev pub AreThere : Course → Desk → ℕ → Type 0
+AreThere course d e = (p : ℕ) → p < course.keeping → d.there (name.Delta p e) ≡ true
+
+-- The desk shows a desk of the machine: their counts are the same; what is settled is settled there; each task of the epoch that runs is
+-- where its place says; and the deltas that its reduce tasks brought are there. What the stores hold is the machine's own (`Sound`).
 pub record Shows (job : Job) (r : Scope) (next_due : Cuts → ℕ → Bool) (terms : Terms job r next_due) (c : Core) (d : Desk) : Type 0 where
   pub planned : d.planned ≡ c.front.planned
   pub committed : d.committed ≡ c.front.committed
@@ -138,6 +163,9 @@ pub record Shows (job : Job) (r : Scope) (next_due : Cuts → ℕ → Bool) (ter
   pub written : is_open c ≡ true → c.front.written ≡ true → (d.there (name.Out c.front.committed) ≡ true)
       × IsDone (job.course d.cuts) (out_task c.front.committed) (d.tasks (out_task c.front.committed))
   pub tasks : is_open c ≡ true → (t : TaskId) (p : Place) → t.epoch ≡ c.front.committed → at c t ≡ some p → ShowsAt (job.course d.cuts) t (d.tasks t) p
+  -- as long as the desk runs the delta of each partition is there whose reduce task brought it, and once the out task went out all are
+  pub deltas : is_open c ≡ true → c.front.stop ≡ None → (p : ℕ) → p < (job.course d.cuts).keeping → at c (reduce c.front.committed p) ≡ some (place.Back None) → d.there (name.Delta p c.front.committed) ≡ true
+  pub reduced : is_open c ≡ true → (d.tasks (out_task c.front.committed) ≡ machine.waits) ⊎ AreThere (job.course d.cuts) d c.front.committed
   -- each map task of the epoch has its place
   pub mapped : is_open c ≡ true → (i : ℕ) → (job.course d.cuts).is_task (map_task c.front.committed i) ≡ true → i < length c.maps
   -- tasks were claimed only where the plan is settled, and none of a later epoch
@@ -149,7 +177,7 @@ pub record Shows (job : Job) (r : Scope) (next_due : Cuts → ℕ → Bool) (ter
   pub has_lines : is_open c ≡ true → c.front.has_lines ≡ false → has_line (d.cuts c.front.committed) (d.cuts c.front.planned) ≡ false
   pub due : is_open c ≡ false → c.front.due ≡ next_due d.cuts c.front.planned
 
--- the machine's state that it shows: a desk never owes a Stop, since a report is one entry with the Stop that it brings about
+-- the machine's state that it shows: a desk never owes a Stop, since a task that comes back is one entry with the Stop that it brings about
 abbrev pub life_of : Option Cause → machine.Life
 life_of None = machine.running
 life_of (Some f) = machine.stopped

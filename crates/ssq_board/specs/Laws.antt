@@ -1,9 +1,6 @@
 -- What follows of entries: that they are legal events of the machine.
-use Rattle.std.specs.Prelude.{◌≡◌, ◌≤◌, ◌<◌, ◌+◌, ◌*◌, ◌⊎◌, length, ℕ, Bool, true, false, List, [], ◌∷◌, Option, Some, None, is_some}
-use Rattle.ssq_outside.specs.declared.name.Name.{Name}
-use Rattle.ssq_outside.specs.declared.gate.TaskId.{TaskId}
+use Rattle.std.specs.Prelude.{◌≡◌, ◌≤◌, ◌<◌, ◌+◌, ◌*◌, ◌⊎◌, length, ℕ, Bool, true, false, List, [], ◌∷◌, Some, None}
 use Rattle.ssq_outside.specs.Files.{Files}
-use Rattle.ssq_outside.specs.History.{History}
 use Rattle.ssq_core.specs.Course.{Cuts, Job}
 use Rattle.ssq_core.specs.Machine.{Desk, opened}
 use Rattle.ssq_core.specs.Machine as machine
@@ -14,13 +11,13 @@ use Rattle.ssq_board.specs.declared.front.Cause.{Cause}
 use Rattle.ssq_board.specs.declared.front.Place.{Place}
 use Rattle.ssq_board.specs.declared.front.Place.TheVariants as place
 use Rattle.ssq_board.specs.declared.front.Entry.{Entry}
-use Rattle.ssq_board.specs.Core.{Scope, Core, May, IsFull, after, is_open, is_stopped, is_behind, is_here, is_of_line, due_stop, need, ready_of, events_of, events_all}
+use Rattle.ssq_board.specs.Core.{Scope, Core, May, IsFull, after, is_open, is_stopped, is_behind, is_here, is_of_line, due_stop, need, ready_of, events_all}
 use Rattle.ssq_board.specs.Shown.{Start, IsStart, IsSound, first}
 use Rattle.ssq_board.specs.declared.front.Entry.TheVariants as entry
 use Rattle.ssq_board.specs.declared.front.Ready.TheVariants as ready
-use Rattle.ssq_board.specs.Rounds.{WaitsFor, HasCap, Comes, Worked, IsAtRest, spends, left}
+use Rattle.ssq_board.specs.Rounds.{WaitsFor, HasCap, Comes, Worked, Versioned, IsAtRest, spends, left}
 use Rattle.ssq_board.specs.Told.{IsTold, IsCovered}
-use Rattle.ssq_board.specs.Follows.{Terms, State, Step, Leads, Shows, shown}
+use Rattle.ssq_board.specs.Follows.{Terms, State, Leads, Shows, shown}
 
 -- From a desk that the state shows, each list of entries that came is a legal list of events of the machine, and leads to a desk that
 -- the state then shows.
@@ -79,6 +76,7 @@ RoomIsKept = (r : Scope) (c : Core) → IsSound r c → Spends r c
 pub record Falls (r : Scope) (c n : Core) : Type 0 where
   pub plan : HasCap r.cap → (e : ℕ) → May r c (entry.Plan e) → Comes r c n (entry.Plan e ∷ []) → left r n < left r c
   pub work : Worked r c n → left r n < left r c
+  pub version : Versioned r c n → left r n < left r c
   pub sync : (clock : ℕ) → ready_of r c ≡ ready.Sync → Comes r c n (entry.Sync clock ∷ []) → left r n < left r c
   pub commit : (e : ℕ) (due : Bool) → May r c (entry.Commit e due) → Comes r c n (entry.Commit e due ∷ []) → left r n < left r c
 
@@ -91,6 +89,7 @@ pub record Rests (r : Scope) (c n : Core) : Type 0 where
   pub never_idle : ready_of r c ≡ ready.Idle → ⊥
   pub plan : (e : ℕ) → Comes r c n (entry.Plan e ∷ []) → IsAtRest n ⊎ (is_stopped n.front.stop ≡ true)
   pub work : Worked r c n → IsAtRest n ⊎ (is_stopped n.front.stop ≡ true)
+  pub version : Versioned r c n → IsAtRest n ⊎ (is_stopped n.front.stop ≡ true)
   pub sync : (clock : ℕ) → ready_of r c ≡ ready.Sync → Comes r c n (entry.Sync clock ∷ []) → IsAtRest n ⊎ (is_stopped n.front.stop ≡ true)
   pub commit : (e : ℕ) (due : Bool) → Comes r c n (entry.Commit e due ∷ []) → IsAtRest n ⊎ (is_stopped n.front.stop ≡ true)
 

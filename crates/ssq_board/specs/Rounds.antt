@@ -1,10 +1,9 @@
 -- What is left of a round, and what each turn of it does on one thread.
-use Rattle.std.specs.Prelude.{◌≡◌, ◌⊎◌, ◌+◌, ◌-◌, ◌*◌, ◌≤◌, ◌<◌, ◌&&◌, not, nat_lt, ℕ, zero, suc, Bool, true, false, List, [], ◌∷◌, length, Option, Some, None, if◌then◌else◌}
+use Rattle.std.specs.Prelude.{◌≡◌, ◌⊎◌, ◌+◌, ◌-◌, ◌*◌, ◌<◌, ◌&&◌, not, ℕ, zero, suc, Bool, true, false, List, [], ◌∷◌, length, Option, Some, None, if◌then◌else◌}
 use Rattle.std.specs.List.{list_all, list_any}
 use Rattle.ssq_outside.specs.declared.gate.TaskId.{TaskId}
 use Rattle.ssq_outside.specs.declared.gate.Kind.{Kind}
 use Rattle.ssq_outside.specs.declared.gate.Kind.TheVariants as kind
-use Rattle.ssq_plans.specs.declared.part.PartEnd.{PartEnd}
 use Rattle.ssq_core.specs.Course.{Ends}
 use Rattle.ssq_board.specs.declared.front.Cause.{Cause}
 use Rattle.ssq_board.specs.declared.front.Place.{Place}
@@ -38,6 +37,10 @@ works t f e = entry.Claim t ∷ entry.Report t f ∷ (if brings_rows t.kind f th
 
 abbrev pub Worked : Scope → Core → Core → Type 0
 Worked r c n = (t : TaskId) × (f : Option Cause) × May r c (entry.Claim t) × Comes r c n (works t f c.front.committed)
+
+-- A reduce task was claimed, and its version is back.
+abbrev pub Versioned : Scope → Core → Core → Type 0
+Versioned r c n = (t : TaskId) × (t.kind ≡ kind.Reduce) × May r c (entry.Claim t) × Comes r c n (entry.Claim t ∷ entry.Version t ∷ [])
 
 -- how many lines no plan covers
 abbrev pub lines_left : Ends → List ℕ → ℕ

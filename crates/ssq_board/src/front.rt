@@ -59,7 +59,7 @@ pub enum Place {
     Waits,
     /// A worker has it.
     Away,
-    /// It was reported: with its result, or with what it met in place of one.
+    /// It was reported: with its result, or with what it met in place of one, or with what the publishing of its result met.
     Back(Option<Cause>),
 }
 
@@ -108,9 +108,14 @@ pub enum Entry {
     Plan(u32),
     /// A task left the desk.
     Claim(TaskId),
-    /// A task came back: with its result, or with what it met in place of one. Where that is the fault for which its phase stops,
-    /// the desk is stopped.
+    /// A task came back, and published nothing: with its result, or with what it met in place of one. Where that is the fault for
+    /// which its phase stops, the desk is stopped.
     Report(TaskId, Option<Cause>),
+    /// A reduce task came back with the sealed delta of its partition. The delta was published, but not after a Stop. Where its phase
+    /// has a fault of another task and all its tasks are back by that, the desk is stopped.
+    Version(TaskId),
+    /// A reduce task came back with the sealed delta of its partition, the publishing of which failed. By that the desk is stopped.
+    Missed(TaskId),
     /// The rows of this epoch were published.
     OutFile(u32),
     /// Names were synced. The disk's clock stood here as it returned.
