@@ -1,5 +1,5 @@
 -- What an opening found of a job's checkpoint, and where the round of a desk begins on it.
-use Rattle.std.specs.Prelude.{◌≡◌, ◌⊎◌, ◌<◌, nat_lt, ℕ, Bool, false, [], length, get_or, Option}
+use Rattle.std.specs.Prelude.{◌≡◌, ◌⊎◌, ◌<◌, nat_lt, ℕ, false, [], length, get_or, Option}
 use Rattle.ssq_outside.specs.History.{History, files_now}
 use Rattle.ssq_outside.specs.Files.{Files}
 use Rattle.ssq_shape.specs.declared.bound.Bound.{Bound}
@@ -18,7 +18,7 @@ use Rattle.ssq_board.specs.Shown.{Start}
 use Rattle.ssq_board.specs.Follows.{Terms}
 use Rattle.ssq_board.specs.Laws.{IsOpenedAt}
 use Rattle.ssq_terms.specs.Setting.{IsSettingOf, AreFound, found_lines}
-use Rattle.ssq_terms.specs.Laws.{due_at, IsScopeOf}
+use Rattle.ssq_terms.specs.Laws.{never, IsScopeOf}
 
 -- What was found is what the job's files hold of the epochs so far: each plan, and the greatest times over the committed epochs. Where none
 -- is committed, no times are found.
@@ -30,18 +30,17 @@ abbrev pub FoundIsJobs : Type 0
 FoundIsJobs = (s : Sought) (job : Job) (files : Files) (now : History) (found : Opened) → IsWantedJob s job → IsOpen s files now found
     → (of : IsDeskOf s job (files_now now) found) → IsJobsFound s job (files_now now) found of
 
--- Where a round begins on what was found: with the epochs that are committed, and the one that is planned and not committed, if one is; and
--- with whether one without lines is due.
-abbrev pub start_of : Lens → Opened → Bool → Start
-start_of lens found due = record {
+-- Where a round begins on what was found: with the epochs that are committed, and the one that is planned and not committed, if one is.
+abbrev pub start_of : Lens → Opened → Start
+start_of lens found = record {
   committed = found.committed;
   is_planned = nat_lt found.committed (length found.plans);
   from = cut_of (starts (found_from 0 lens.streams)) found.plans found.committed;
   to = last_ends (starts (found_from 0 lens.streams)) found.plans;
-  due = due;
+  due = false;
 }
 
 abbrev pub DeskOpensAsFound : Type 0
-DeskOpensAsFound = (s : Setting) (bound : Bound) (partitions : Option ℕ) (lens : Lens) (r : Scope) (files : Files) (found : Opened) (due : Bool) → IsSettingOf s bound partitions lens → AreFound (found_lines lens) s.lines → IsScopeOf r s lens
-    → (terms : Terms (job_of s) r (due_at s)) → terms.start ≡ starts (found_from 0 lens.streams) → (of : IsDeskOf (asked bound partitions lens) (job_of s) files found)
-    → (nat_lt found.committed (length found.plans) ≡ false → due ≡ due_at s of.desk.cuts found.committed) → IsOpenedAt (job_of s) r (due_at s) terms (start_of lens found due) of.desk
+DeskOpensAsFound = (s : Setting) (bound : Bound) (partitions : Option ℕ) (lens : Lens) (r : Scope) (files : Files) (found : Opened) → IsSettingOf s bound partitions lens → AreFound (found_lines lens) s.lines → IsScopeOf r s lens
+    → (terms : Terms (job_of s) r never) → terms.start ≡ starts (found_from 0 lens.streams) → (of : IsDeskOf (asked bound partitions lens) (job_of s) files found)
+    → IsOpenedAt (job_of s) r never terms (start_of lens found) of.desk

@@ -4,9 +4,7 @@ use Rattle.std.specs.Option.{ForSome}
 use Rattle.std.specs.Str.{IsUtf8}
 use Rattle.ssq_shape.specs.declared.bound.Bound.{Bound}
 use Rattle.ssq_shape.specs.declared.bound.Stream.{Stream}
-use Rattle.ssq_shape.specs.declared.bound.Shape.{Shape}
-use Rattle.ssq_shape.specs.declared.bound.Shape.TheVariants.{Plain, Group, Dedup, Join}
-use Rattle.ssq_shape.specs.Windows.{HasWindows}
+use Rattle.ssq_shape.specs.declared.bound.Shape.TheVariants.{Plain}
 use Rattle.ssq_meaning.specs.Meaning.{Line}
 use Rattle.ssq_meaning.specs.Epochs.{joined}
 use Rattle.ssq_water.specs.Water.{HasDelays}
@@ -29,28 +27,20 @@ AreFound (found ∷ more) (lines ∷ rest) = (found ≤ length lines) × (length
 abbrev pub HasEventIfDelayed : Stream → Type 0
 HasEventIfDelayed stream = stream.delay ≡ None → stream.schema.event ≡ None
 
--- The shapes of query that run: those that keep nothing, and groups.
-abbrev pub Runs : Shape → Type 0
-Runs Plain = Unit {0}
-Runs (Group grouping) = Unit {0}
-Runs (Dedup columns) = ⊥
-Runs (Join joining) = ⊥
-
--- A query that can be run: its text is UTF-8 of a length of 64 bits, its delays and windows are ones that the language has, and a stream has
--- an event column only with a delay.
-pub record CanRun (bound : Bound) : Type 0 where
-  pub shape : Runs bound.shape
+-- A query that keeps nothing: its text is UTF-8 of a length of 64 bits, its delays are ones that the language has, and a stream has an
+-- event column only with one.
+pub record IsPlain (bound : Bound) : Type 0 where
+  pub shape : bound.shape ≡ Plain
   pub utf8 : IsUtf8 bound.text
   pub few : length bound.text < 2 ^ 64
   pub delays : HasDelays bound
-  pub windows : HasWindows bound
   pub events : All HasEventIfDelayed bound.streams
 
 -- The setting is of this query, with 1 to 64 partitions, which are those that are asked for, where that is asked; and of the parts of
 -- its streams, with one log for each.
 pub record IsSettingOf (s : Setting) (bound : Bound) (partitions : Option ℕ) (lens : Lens) : Type 0 where
   pub query : s.job.bound ≡ bound
-  pub runs : CanRun bound
+  pub plain : IsPlain bound
   pub asked : CanBeAsked bound partitions lens
   pub some_partitions : 1 ≤ s.job.partitions
   pub few_partitions : s.job.partitions ≤ 64
