@@ -6,4 +6,6 @@
 
 mod law;
 
-pub use law::{files_say_their_course, jobs_are_causal, plans_can_be_written};
+pub use law::{
+    files_say_their_course, jobs_are_causal, partitions_show_rows, plans_can_be_written,
+};
