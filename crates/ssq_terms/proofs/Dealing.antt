@@ -141,7 +141,7 @@ next_comes s cuts found cap e are some start proper next behind =
     subst (λ (ends : Ends). is_within (parts_in s) (cuts e) ends ≡ true) (sym next) (next_within cap (parts_in s) found (cuts e) are (cut_ends s cuts found e are start proper)) in
     let longer : is_longer (cuts e) (cuts (e + 1)) ≡ true = subst (λ (ends : Ends). is_longer (cuts e) ends ≡ true) (sym next) (next_longer cap (cuts e) (cut_of found) some behind) in
     both_true (is_start (parts_in s) (cuts 0)) _ begins (both_true (is_within (parts_in s) (cuts e) (cuts (e + 1))) _ goes
-    (either_so (is_longer (cuts e) (cuts (e + 1))) (closes s.job.bound.shape && is_above (watermark_at s cuts e) (watermark_before s.job.bound (parts_in s) (cuts_of cuts) e)) longer))
+    (either_so (is_longer (cuts e) (cuts (e + 1))) (closes s.job.bound && is_above (watermark_at s cuts e) (watermark_before s.job.bound (parts_in s) (cuts_of cuts) e)) longer))
   where
     either_so : (a b : Bool) → a ≡ true → (a || b) ≡ true
     either_so a b is = rw is refl
@@ -174,12 +174,11 @@ have_terms s bound partitions lens r is lines of =
     let found = found_from 0 lens.streams in
     let numbers : r.available ≡ cut_of found = of.available ∙ sym (found_numbers 0 lens.streams) in (
       record {
-        causal = are_causal s;
+        causal = are_causal s is.some_partitions;
         start = starts found;
         maps = λ cuts e i. lines_at (cuts e) (cuts (e + 1)) i;
         reduces = λ cuts e p. ap (nat_lt p) (sym of.partitions);
         outs = λ cuts e. refl;
-        stateless = λ cuts. ap (λ (shape : Shape). keeping_of shape s.job.partitions) (ap (λ (b : Bound). b.shape) is.query ∙ is.plain.shape);
         next = λ cuts e start proper next more. comes cuts e numbers start proper next more;
         dues = λ cuts other n same. refl;
         quiet = λ cuts e proper quiet. refl;

@@ -13,7 +13,6 @@ use Rattle.ssq_route.specs.Place.{place_of, fnv_1a}
 use Rattle.ssq_shape.specs.declared.bound.Bound.{Bound}
 use Rattle.ssq_shape.specs.declared.bound.Shape.{Shape}
 use Rattle.ssq_shape.specs.declared.bound.Shape.TheVariants.{Plain}
-use Rattle.ssq_shape.specs.Plain.{output_names}
 use Rattle.ssq_meaning.specs.declared.fed_row.FedRow.{FedRow}
 use Rattle.ssq_meaning.specs.Meaning.{Line, Values, lines_between}
 use Rattle.ssq_meaning.specs.Cut.{of_parts}
@@ -168,8 +167,8 @@ rows_together s cuts e shown plain some are =
 
 pub show_rows : PartitionsShowRows
 show_rows s cuts e shown plain some are =
-    sink_text-permutation (output_names s.job.bound) (joined shown) (values_of (fed s.job.bound (parts_in s) (cuts_of cuts) e)) (rows_together s cuts e shown plain some are)
-    ∙ ap (sink_text (output_names s.job.bound)) (sym (out_is s.job.bound plain (parts_in s) (cuts_of cuts) e))
+    sink_text-permutation s.job.bound (joined shown) (values_of (fed s.job.bound (parts_in s) (cuts_of cuts) e)) (rows_together s cuts e shown plain some are)
+    ∙ ap (sink_text s.job.bound) (sym (out_is s.job.bound plain (parts_in s) (cuts_of cuts) e))
 
 pub count_rows : PartitionsCountRows
 count_rows s cuts e shown plain some are =

@@ -40,7 +40,7 @@ pub record IsNext (s : Setting) (cuts : Cuts) (e : ℕ) : Type 0 where
 
 pub is_next_if : (s : Setting) (cuts : Cuts) (e : ℕ) → is_next_of s cuts e ≡ true → IsNext s cuts e
 is_next_if s cuts e next =
-    let more = has_line (cuts e) (cuts (e + 1)) || (closes s.job.bound.shape && is_above (watermark_at s cuts e) (watermark_before s.job.bound (parts_in s) (cuts_of cuts) e)) in
+    let more = has_line (cuts e) (cuts (e + 1)) || (closes s.job.bound && is_above (watermark_at s cuts e) (watermark_before s.job.bound (parts_in s) (cuts_of cuts) e)) in
     let first = both_are (is_start (parts_in s) (cuts 0)) (is_within (parts_in s) (cuts e) (cuts (e + 1)) && more) next in
     let second = both_are (is_within (parts_in s) (cuts e) (cuts (e + 1))) more first.1 in
     record { start = first.0; within = second.0 }
@@ -82,7 +82,7 @@ module _ (s : Setting) (bound : Bound) (partitions : Option ℕ) (lens : Lens) (
 
   own_job : IsWantedJob (asked s.job.bound partitions lens) (job_of s)
   own_job = record {
-    causal = are_causal s;
+    causal = are_causal s is.some_partitions;
     record_is = λ cuts. record_is;
     wanted = λ cuts. wanted;
     one_record = λ cuts other. refl;

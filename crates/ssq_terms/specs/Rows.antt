@@ -3,7 +3,6 @@ use Rattle.std.specs.Prelude.{◌≡◌, ◌<◌, ◌≤◌, ◌+◌, ◌==◌, 
 use Rattle.std.specs.List.Sorted.{IsPermutation}
 use Rattle.ssq_shape.specs.declared.bound.Bound.{Bound}
 use Rattle.ssq_shape.specs.declared.bound.Shape.TheVariants.{Plain}
-use Rattle.ssq_shape.specs.Plain.{output_names}
 use Rattle.ssq_meaning.specs.declared.fed_row.FedRow.{FedRow}
 use Rattle.ssq_meaning.specs.Meaning.{Values}
 use Rattle.ssq_meaning.specs.Parts.{Part}
@@ -49,7 +48,7 @@ pub record AreShown (s : Setting) (cuts : Cuts) (e : ℕ) (shown : List (List Va
 -- their text is that of the epoch's sink file
 abbrev pub PartitionsShowRows : Type 0
 PartitionsShowRows = (s : Setting) (cuts : Cuts) (e : ℕ) (shown : List (List Values)) → s.job.bound.shape ≡ Plain → 1 ≤ s.job.partitions → AreShown s cuts e shown
-    → sink_text (output_names s.job.bound) (joined shown) ≡ rows_at s cuts e
+    → sink_text s.job.bound (joined shown) ≡ rows_at s cuts e
 
 -- and there are as many as the epoch shows
 abbrev pub PartitionsCountRows : Type 0
