@@ -1,5 +1,5 @@
 -- Where the tasks of a kind are, and the counts.
-use Rattle.std.proofs.Common.{◌≡◌, ◌≤◌, true, false, true≢false, List, [], ◌∷◌, length, set, replicate, map, sym, refl, ap, ◌∙◌, inl, inr, arith}
+use Rattle.std.proofs.Common.{◌≡◌, ◌≤◌, Bool, true, false, true≢false, List, [], ◌∷◌, length, set, replicate, map, sym, refl, ap, ◌∙◌, inl, inr, arith}
 use mathlib.Core.Option.{some}
 use lib.ListN.{get_elem?}
 use Rattle.std.specs.List.{list_any}
@@ -10,7 +10,7 @@ use Rattle.ssq_board.specs.declared.front.Place.{Place}
 use Rattle.ssq_board.specs.declared.front.Place.TheVariants as place
 use Rattle.ssq_board.specs.declared.front.Ready.TheVariants as ready
 use Rattle.ssq_board.specs.declared.front.Entry.TheVariants as entry
-use Rattle.ssq_board.specs.Core.{Scope, Core, May, is_waiting, ready_of, moved, with_tasks, tasks_of}
+use Rattle.ssq_board.specs.Core.{Scope, Core, May, is_waiting, ready_of, moved, with_front, with_tasks, tasks_of}
 use Rattle.ssq_board.proofs.Readies.{waits_for, out_may}
 
 -- the tasks of the kind of which one moved
@@ -42,6 +42,12 @@ out_last r c e none none' few = let w = waits_for r c e in elim w.first [
     | inr last ↦ out_may r c e 0 none none' (only_waits c.outs few last.2)
   ]
 ]
+
+-- what is known but for whether names are settled
+abbrev pub with_settled : Core → Bool → Core
+with_settled c settled =
+    let f = c.front in
+    with_front c (record { planned = f.planned; committed = f.committed; fresh = f.fresh; settled = settled; written = f.written; has_lines = f.has_lines; due = f.due; stop = f.stop })
 
 -- as many tasks, all at one place
 pub all_at : {A : Type 0} (l : List A) (p : Place) → replicate (length l) p ≡ map (λ _. p) l

@@ -1,5 +1,5 @@
 -- Between epochs all tasks are back.
-use Rattle.std.proofs.Common.{◌≡◌, ◌⊎◌, ◌≤◌, ◌+◌, ℕ, zero, suc, Bool, true, false, true≢false, List, [], ◌∷◌, length, map, replicate, set, Option, None, nat_lt, ◌&&◌, sym, refl, ap, ◌∙◌, subst, inl, inr, arith}
+use Rattle.std.proofs.Common.{◌≡◌, ◌⊎◌, ◌≤◌, ◌+◌, ℕ, zero, suc, Bool, true, false, true≢false, List, [], ◌∷◌, length, map, replicate, set, Option, Some, None, nat_lt, ◌&&◌, sym, refl, ap, ◌∙◌, subst, inl, inr, arith}
 use Rattle.std.specs.List.{list_all}
 use mathlib.Core.Option.{some, some-injective, some-ne-none}
 use lib.ListN.{get_elem?}
@@ -7,6 +7,7 @@ use Rattle.ssq_outside.specs.declared.gate.Kind.{Kind}
 use Rattle.ssq_outside.specs.declared.gate.Kind.TheVariants as kind
 use Rattle.ssq_core.specs.Course.{Cuts, Job}
 use Rattle.ssq_board.specs.declared.front.Cause.{Cause}
+use Rattle.ssq_board.specs.declared.front.Cause.TheVariants as cause
 use Rattle.ssq_board.specs.declared.front.Place.{Place}
 use Rattle.ssq_board.specs.declared.front.Place.TheVariants as place
 use Rattle.ssq_board.specs.declared.front.Entry.{Entry}
@@ -85,6 +86,10 @@ step_last : (r : Scope) (c : Core) (e : Entry) → May r c e → IsSound r c →
 step_last r c (entry.Plan e) m s w d = record { out = λ o. absurd (waits_out o); between = λ e. absurd (open_after c s.before e) }
 step_last r c (entry.Claim t) m s w d = claimed c t.number t.kind m.1 m.3 m.4 d
 step_last r c (entry.Report t f) m s w d = reported c t.number f (or_stop c.front.stop (due c t f)) t.kind m.0 m.2 d
+step_last r c (entry.Version t) m s w d =
+    let same = reported c t.number None (or_stop c.front.stop (due c t None)) t.kind m.0 m.2 d in
+    record { out = λ o. (let all = same.out o in record { maps = all.maps; reduces = all.reduces }); between = λ b. never c m.0 b }
+step_last r c (entry.Missed t) m s w d = reported c t.number (Some cause.DiskFault) (Some cause.DiskFault) t.kind m.0 m.2 d
 step_last r c (entry.OutFile e) m s w d = record { out = λ o. (let all = d.out o in record { maps = all.maps; reduces = all.reduces }); between = λ b. (let all = d.between b in record { maps = all.maps; reduces = all.reduces }) }
 step_last r c (entry.Sync clock) m s w d = record { out = λ o. (let all = d.out o in record { maps = all.maps; reduces = all.reduces }); between = λ b. (let all = d.between b in record { maps = all.maps; reduces = all.reduces }) }
 step_last r c (entry.Commit e next) m s w d = (let all = d.out (inr (w m.4)) in record { out = λ o. record { maps = all.maps; reduces = all.reduces }; between = λ b. record { maps = all.maps; reduces = all.reduces } })
@@ -130,6 +135,8 @@ step_out : (r : Scope) (c : Core) (e : Entry) → May r c e → IsSound r c → 
 step_out r c (entry.Plan e) m s w d = λ closed. absurd (open_after c s.before closed)
 step_out r c (entry.Claim t) m s w d = λ closed. never c m.1 closed
 step_out r c (entry.Report t f) m s w d = λ closed. never c m.0 closed
+step_out r c (entry.Version t) m s w d = λ closed. never c m.0 closed
+step_out r c (entry.Missed t) m s w d = λ closed. never c m.0 closed
 step_out r c (entry.OutFile e) m s w d = d
 step_out r c (entry.Sync clock) m s w d = d
 step_out r c (entry.Commit e next) m s w d = λ closed. only_fine c.outs s.outs (w m.4)

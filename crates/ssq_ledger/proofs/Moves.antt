@@ -1,10 +1,14 @@
 -- What the disk's calls give of an entry.
-use Rattle.std.proofs.Common.{◌≡◌, ℕ, List, subst}
+use Rattle.std.proofs.Common.{◌≡◌, ℕ, true, false, true≢false, List, Option, Some, None, is_some, refl, sym, subst}
 use Rattle.ssq_outside.specs.declared.name.Name.{Name}
+use Rattle.ssq_outside.specs.declared.name.Name.TheVariants as name
+use Rattle.ssq_outside.specs.declared.gate.TaskId.{TaskId}
 use Rattle.ssq_outside.specs.Files.{added}
 use Rattle.ssq_outside.specs.History.{History, had_now, Elapses}
+use Rattle.ssq_core.specs.Course.{Cuts, Job, truth}
 use Rattle.ssq_core.specs.Machine.{publishes}
-use Rattle.ssq_board.specs.Follows.{Goes, Tries}
+use Rattle.ssq_board.specs.declared.front.Cause.{Cause}
+use Rattle.ssq_board.specs.Follows.{Goes, Tries, publishes_by}
 
 pub went : (q : Name) (bytes true_bytes : List ℕ) (old new : History) → bytes ≡ true_bytes → Elapses old new (λ had. had ≡ added q bytes (had_now old)) → had_now new ≡ added q bytes (had_now old) → Goes (publishes q true_bytes) old new
 went q bytes true_bytes old new is steps now = subst (λ (b : List ℕ). Elapses old new (λ had. had ≡ added q b (had_now old)) × (had_now new ≡ added q b (had_now old))) is (steps, now)
@@ -18,3 +22,16 @@ went_from q bytes true_bytes old mid new same is steps now = subst (λ (x : Hist
 
 pub tried_from : (q : Name) (bytes true_bytes : List ℕ) (old mid new : History) → mid ≡ old → bytes ≡ true_bytes → Elapses mid new (λ had. had ≡ added q bytes (had_now mid)) → Tries (publishes q true_bytes) old new
 tried_from q bytes true_bytes old mid new same is steps = subst (λ (x : History). Tries (publishes q true_bytes) x new) same (tried q bytes true_bytes mid new is steps)
+
+-- a version that comes back is published, but not after a Stop
+pub version_went : (job : Job) (cuts : Cuts) (t : TaskId) (stop : Option Cause) (old new : History) → stop ≡ None → Goes (publishes (name.Delta t.number t.epoch) (truth (job.course cuts) (name.Delta t.number t.epoch))) old new
+    → Goes (publishes_by job cuts t stop) old new
+version_went job cuts t stop old new running = subst (λ (o : Option Cause). Goes (publishes_by job cuts t o) old new) (sym running)
+
+pub version_kept : (job : Job) (cuts : Cuts) (t : TaskId) (stop : Option Cause) (disk : History) → is_some stop ≡ true → Goes (publishes_by job cuts t stop) disk disk
+version_kept job cuts t None disk is = absurd (true≢false (sym is))
+version_kept job cuts t (Some f) disk is = refl
+
+pub none_of : (stop : Option Cause) → is_some stop ≡ false → stop ≡ None
+none_of None is = refl
+none_of (Some f) is = absurd (true≢false is)

@@ -1,11 +1,12 @@
 -- The rows of an epoch are published only once its out task is back.
-use Rattle.std.proofs.Common.{◌≡◌, ℕ, zero, suc, Bool, true, false, true≢false, List, [], ◌∷◌, Option, None, set, sym, refl, ◌∙◌, subst}
+use Rattle.std.proofs.Common.{◌≡◌, ℕ, zero, suc, Bool, true, false, true≢false, List, [], ◌∷◌, Option, Some, None, set, sym, refl, ◌∙◌, subst}
 use mathlib.Core.Option.{some, some-injective, some-ne-none}
 use lib.ListN.{get_elem?}
 use Rattle.ssq_outside.specs.declared.gate.Kind.{Kind}
 use Rattle.ssq_outside.specs.declared.gate.Kind.TheVariants as kind
 use Rattle.ssq_core.specs.Course.{Cuts, Job}
 use Rattle.ssq_board.specs.declared.front.Cause.{Cause}
+use Rattle.ssq_board.specs.declared.front.Cause.TheVariants as cause
 use Rattle.ssq_board.specs.declared.front.Place.{Place}
 use Rattle.ssq_board.specs.declared.front.Place.TheVariants as place
 use Rattle.ssq_board.specs.declared.front.Entry.{Entry}
@@ -47,6 +48,8 @@ pub step_back : (r : Scope) (c : Core) (e : Entry) → May r c e → IsBackWritt
 step_back r c (entry.Plan e) m d = λ written. absurd (true≢false (sym written))
 step_back r c (entry.Claim t) m d = moved_back c t.number place.Waits place.Away waits_other t.kind m.4 d
 step_back r c (entry.Report t f) m d = reported_back c t.number f (or_stop c.front.stop (due c t f)) t.kind m.2 d
+step_back r c (entry.Version t) m d = reported_back c t.number None (or_stop c.front.stop (due c t None)) t.kind m.2 d
+step_back r c (entry.Missed t) m d = reported_back c t.number (Some cause.DiskFault) (Some cause.DiskFault) t.kind m.2 d
 step_back r c (entry.OutFile e) m d = λ written. m.4
 step_back r c (entry.Sync clock) m d = d
 step_back r c (entry.Commit e next) m d = d

@@ -1,10 +1,11 @@
 -- What a ledger shows, and what is so of every ledger.
-use Rattle.std.specs.Prelude.{◌≡◌, ◌+◌, ◌≤◌, ◌^◌, ◌++◌, ℕ, ℤ, Bool, true, false, List, length, Option, Some, None, Result, Ok, Err}
+use Rattle.std.specs.Prelude.{◌≡◌, ◌⊎◌, ◌+◌, ◌≤◌, ◌^◌, ◌++◌, [], ◌∷◌, ℕ, ℤ, Bool, true, false, List, length, Option, Some, None, Result, Ok, Err}
 use Rattle.ssq_outside.specs.History.{History}
 use Rattle.ssq_outside.specs.Faults.{Rises}
 use Rattle.ssq_outside.specs.declared.gate.TaskId.{TaskId}
+use Rattle.ssq_outside.specs.declared.name.Name.TheVariants as name
 use Rattle.ssq_plans.specs.declared.seen.SeenBy.{SeenBy}
-use Rattle.ssq_core.specs.Course.{Cuts, Job, IsCausal, AreSameUpTo}
+use Rattle.ssq_core.specs.Course.{Cuts, Job, IsCausal, AreSameUpTo, truth}
 use Rattle.ssq_board.specs.declared.front.Cause.{Cause}
 use Rattle.ssq_board.specs.declared.front.Cause.TheVariants as cause
 use Rattle.std.specs.List.{list_all}
@@ -17,9 +18,9 @@ use Rattle.ssq_board.specs.declared.front.Entry.TheVariants as entry
 use Rattle.ssq_board.specs.declared.front.Entry.{Entry}
 use Rattle.ssq_outside.specs.declared.disk.DiskError.{DiskError}
 use Rattle.ssq_outside.specs.declared.disk.DiskError.TheVariants as disk
-use Rattle.ssq_board.specs.Core.{Scope, Core, May, need, after, after_all, cuts_all, has_line, is_open, is_fine}
+use Rattle.ssq_board.specs.Core.{Scope, Core, May, need, after, after_all, cuts_all, has_line, is_open, is_fine, due}
 use Rattle.ssq_board.specs.Shown.{Start, IsStart, IsSound, first, planned_by}
-use Rattle.ssq_board.specs.Follows.{State, Terms, Leads, IsOwn}
+use Rattle.ssq_board.specs.Follows.{State, Terms, Leads, IsOwn, BringsNone, BringsVersion}
 
 -- What was opened: the job, its cuts so far, when an epoch without lines is due, and where the round begins.
 pub record Opening : Type 0 where
@@ -91,6 +92,13 @@ module _ {D O : Type 0} where
   abbrev pub IsTrue : (O → Opening) → Shown D O → TaskId → Option Cause → Type 0
   IsTrue opening s t f = IsOwn ((opening s.opening).job.course (cuts_of opening s)) t f
 
+  -- it brings no version of a partition's state; or it does, and these are the bytes of its delta
+  abbrev pub HasNone : (O → Opening) → Shown D O → TaskId → Option Cause → Type 0
+  HasNone opening s t f = BringsNone ((opening s.opening).job.course (cuts_of opening s)) t f
+
+  abbrev pub HasVersion : (O → Opening) → Shown D O → TaskId → List ℕ → Type 0
+  HasVersion opening s t bytes = BringsVersion ((opening s.opening).job.course (cuts_of opening s)) t × (bytes ≡ truth ((opening s.opening).job.course (cuts_of opening s)) (name.Delta t.number t.epoch))
+
   -- These entries came. The disk is what it is now.
   abbrev pub did : Shown D O → D → List Entry → Shown D O
   did s disk es = record { opening = s.opening; opened = s.opened; scope = s.scope; disk = disk; core = after_all s.scope s.core es; history = s.history ++ es }
@@ -131,6 +139,12 @@ cause_of disk.NoMemory = cause.NoMemory
 abbrev pub answer : Option Cause → Result (Unit {0}) Cause
 answer None = Ok tt
 answer (Some f) = Err f
+
+-- A version came back: the Stop that this brings about is the answer. Or its publishing failed, where the ledger ran, and the disk counted that.
+module _ {D O : Type 0} where
+  abbrev pub IsVersioned : Shown D O → Shown D O → TaskId → Result (Unit {0}) Cause → Type 0 → Type 0
+  IsVersioned old new t result risen = ((new ≡ did old new.disk (entry.Version t ∷ [])) × (result ≡ answer (due old.core t None)))
+      ⊎ ((old.core.front.stop ≡ None) × (new ≡ did old new.disk (entry.Missed t ∷ [])) × (result ≡ Err cause.DiskFault) × risen)
 
 -- why a call of the disk failed: the disk counted a fault, or memory ran out
 abbrev pub HasRisen : Cause → ℕ → ℕ → Type 0

@@ -196,6 +196,27 @@ impl Board {
         stop
     }
 
+    /// Takes a reduce task back whose delta was published, or is not to be. Answers the cause for which its phase stops by that.
+    pub(crate) fn take_version(&mut self, id: TaskId) -> Option<Cause>
+        requires { at self.old id ≡ some place.Away }
+        ensures now { (scope : Scope) → self.new ≡ after scope self.old (entry.Version id) }
+        ensures stop { result ≡ due self.old id None }
+    {
+        let settled = both(is_stopped(self.front.stop), self.front.settled);
+        let stop = self.report(id, None);
+        self.front.settled = settled;
+        stop
+    }
+
+    /// Takes a reduce task back whose delta could not be published.
+    pub(crate) fn miss(&mut self, id: TaskId)
+        requires { at self.old id ≡ some place.Away }
+        ensures { (scope : Scope) → self.new ≡ after scope self.old (entry.Missed id) }
+    {
+        self.put(id, Place::Back(Some(Cause::DiskFault)));
+        self.stop(Cause::DiskFault);
+    }
+
     /// The cause for which the phase of these tasks is to stop: none where all are stopped.
     fn due(&self, kind: Kind) -> Option<Cause>
         ensures { result ≡ (if is_stopped self.now.front.stop then None else due_stop (tasks_of kind self.now)) }
@@ -379,6 +400,12 @@ fn planned_by(is_planned: bool, committed: u32) -> u32
     ensures { result ≡ planned_by is_planned committed }
 {
     if is_planned { committed + 1 } else { committed }
+}
+
+fn is_stopped(stop: Option<Cause>) -> bool
+    ensures { result ≡ is_stopped stop }
+{
+    stop.is_some()
 }
 
 fn both(one: bool, other: bool) -> bool

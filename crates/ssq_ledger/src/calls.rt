@@ -10,8 +10,10 @@ ghost use Rattle.ssq_core.specs.Course.{truth};
 ghost use Rattle.ssq_board.specs.declared.front.Entry.TheVariants as entry;
 ghost use Rattle.ssq_board.specs.declared.front.Cause.TheVariants as cause;
 ghost use Rattle.ssq_board.specs.declared.front.Ready.TheVariants as ready;
-ghost use Rattle.ssq_board.specs.Core.{May, HasCause, after, cuts_by, ready_of, due, with_front, stopped_front};
-ghost use Rattle.ssq_ledger.specs.Shown.{Shown, IsTrue, HasRisen, IsUnplanned, did, cuts_of, cause_of, answer};
+ghost use mathlib.Core.Option.{some};
+ghost use Rattle.ssq_board.specs.declared.front.Place.TheVariants as place;
+ghost use Rattle.ssq_board.specs.Core.{Scope, May, HasCause, at, after, cuts_by, ready_of, due, with_front, stopped_front};
+ghost use Rattle.ssq_ledger.specs.Shown.{Shown, IsTrue, HasNone, HasVersion, IsVersioned, HasRisen, IsUnplanned, did, cuts_of, cause_of, answer};
 
 use crate::board::Board;
 use crate::ledger::{Ledger, Opening};
@@ -42,16 +44,44 @@ impl<D: Disk, O: Opening> Ledger<D, O> {
         self.entries.push_reserved(Entry::Claim(id));
     }
 
-    /// Takes a task back: with its result, or with what it met in place of one. Answers the Stop that this brings about.
+    /// Takes a task back that brings no version of a partition's state: with its result, or with what it met in place of one. Answers
+    /// the Stop that this brings about.
     pub fn report(&mut self, id: TaskId, fault: Option<Cause>) -> Result<(), Cause>
         requires may { May self.old.scope self.old.core (entry.Report id fault) }
         requires right { (D.tells × O.tells self.old.opening self.old.scope) → IsTrue O.opening self.old id fault }
+        requires bare { (D.tells × O.tells self.old.opening self.old.scope) → HasNone O.opening self.old id fault }
         ensures did { self.new ≡ did self.old self.old.disk (entry.Report id fault ∷ []) }
         ensures answer { result ≡ answer (due self.old.core id fault) }
     {
         let stop = self.board.report(id, fault);
         self.entries.push_reserved(Entry::Report(id, fault));
         answer(stop)
+    }
+
+    /// Takes a reduce task back that brings the next version of its partition, and publishes its sealed delta. After a Stop the file is
+    /// dropped, and the disk is left alone. Answers the Stop that this brings about: `DiskFault` where the publishing failed. It takes no
+    /// memory.
+    pub fn report_version(
+        &mut self,
+        id: TaskId,
+        file: <D::Stage as Stage>::Sealed,
+    ) -> Result<(), Cause>
+        requires may { May self.old.scope self.old.core (entry.Version id) }
+        requires right { (D.tells × O.tells self.old.opening self.old.scope) → HasVersion O.opening self.old id (D.Stage.sealed file) }
+        ensures did { IsVersioned self.old self.new id result (Rises (D.faults self.old.disk) (D.faults self.new.disk)) }
+        ensures kept { self.old.core.front.stop ≢ None → self.new.disk ≡ self.old.disk }
+        ensures counted { D.faults self.old.disk ≤ D.faults self.new.disk }
+    {
+        if self.board.front().stop.is_some() {
+            return note_version(&mut self.board, &mut self.entries, id);
+        }
+        match self.disk.publish(file, Name::Delta(id.number, id.epoch)) {
+            Ok(()) => note_version(&mut self.board, &mut self.entries, id),
+            Err(_) => {
+                note_missed(&mut self.board, &mut self.entries, id);
+                Err(Cause::DiskFault)
+            }
+        }
     }
 
     /// Publishes the rows of the epoch that runs. It takes no memory.
@@ -200,6 +230,32 @@ fn halt(board: &mut Board, entries: &mut Vec<Entry>, cause: Cause)
 {
     board.stop(cause);
     entries.push_reserved(Entry::Stop(cause));
+}
+
+/// Notes a version that came back. Answers the Stop that this brings about.
+fn note_version(board: &mut Board, entries: &mut Vec<Entry>, id: TaskId) -> Result<(), Cause>
+    requires away { at board.old id ≡ some place.Away }
+    requires room { length entries.old.items < vec_capacity entries.old }
+    ensures board { (scope : Scope) → board.new ≡ after scope board.old (entry.Version id) }
+    ensures items { entries.new.items ≡ entries.old.items ++ entry.Version id ∷ [] }
+    ensures capacity { vec_capacity entries.new ≡ vec_capacity entries.old }
+    ensures answer { result ≡ answer (due board.old id None) }
+{
+    let stop = board.take_version(id);
+    entries.push_reserved(Entry::Version(id));
+    answer(stop)
+}
+
+/// Notes a version that came back and could not be published.
+fn note_missed(board: &mut Board, entries: &mut Vec<Entry>, id: TaskId)
+    requires away { at board.old id ≡ some place.Away }
+    requires room { length entries.old.items < vec_capacity entries.old }
+    ensures board { (scope : Scope) → board.new ≡ after scope board.old (entry.Missed id) }
+    ensures items { entries.new.items ≡ entries.old.items ++ entry.Missed id ∷ [] }
+    ensures capacity { vec_capacity entries.new ≡ vec_capacity entries.old }
+{
+    board.miss(id);
+    entries.push_reserved(Entry::Missed(id));
 }
 
 /// How many entries can come before the next sync, with so many tasks: a claim and a report of each, the rows and the commit, a Stop,

@@ -1,5 +1,5 @@
 -- What a round that is over leaves, and what a run keeps.
-use Rattle.std.proofs.Common.{◌≡◌, ◌<◌, ◌≤◌, ◌∷◌, [], ℕ, Bool, true, false, true≢false, List, Option, Some, None, refl, sym, ap, ◌∙◌, subst, inl, inr, arith}
+use Rattle.std.proofs.Common.{◌≡◌, ◌&&◌, ◌<◌, ◌≤◌, ◌∷◌, [], ℕ, Bool, true, false, true≢false, List, Option, Some, None, refl, sym, ap, ◌∙◌, subst, inl, inr, arith}
 use Rattle.std.specs.Prelude.{is_some}
 use Rattle.std.proofs.lemmas.Bool.{cases_lt, ltb-true}
 use Rattle.ssq_outside.specs.declared.name.Name.{Name}
@@ -23,7 +23,8 @@ use Rattle.ssq_core.proofs.Acked.{settled_stay, acknowledged_stay}
 use Rattle.ssq_board.specs.declared.front.Cause.{Cause}
 use Rattle.ssq_board.specs.declared.front.Entry.{Entry}
 use Rattle.ssq_board.specs.declared.front.Entry.TheVariants as entry
-use Rattle.ssq_board.specs.Core.{Scope, Core, is_open, May, after, due, or_stop, events_all}
+use Rattle.ssq_board.specs.declared.front.Cause.TheVariants as cause
+use Rattle.ssq_board.specs.Core.{Scope, Core, is_open, is_stopped, May, after, due, or_stop, events_all}
 use Rattle.ssq_board.specs.Shown.{Start, IsSound}
 use Rattle.ssq_board.specs.Follows.{Terms, State, Leads, Moves, Shows, shown, life_of}
 use Rattle.ssq_board.proofs.Following.{list_follows}
@@ -52,6 +53,10 @@ synced_still old new is = is ∙ ap settled_at (sym (ap files_of is))
 
 still_by : (job : Job) (r : Scope) (s : State) (e : Entry) (n : State) → IsStill s → May r s.core e → Moves job r s.core s.cuts e s.disk n.disk → n.core ≡ after r s.core e → IsStill n
 still_by job r s (entry.Plan e) n still may moves is runs settled = false_true (sym (ap (λ (c : Core). c.front.settled) is) ∙ settled)
+still_by job r s (entry.Version t) n still may moves is runs settled =
+    let running : is_stopped s.core.front.stop ≡ false = ap is_stopped (first_none s.core.front.stop (due s.core t None) (sym (ap (λ (c : Core). c.front.stop) is) ∙ runs)) in
+    false_true (sym (ap (λ (c : Core). c.front.settled) is ∙ ap (λ (b : Bool). b && s.core.front.settled) running) ∙ settled)
+still_by job r s (entry.Missed t) n still may moves is runs settled = some_none cause.DiskFault (sym (ap (λ (c : Core). c.front.stop) is) ∙ runs)
 still_by job r s (entry.OutFile e) n still may moves is runs settled = false_true (sym (ap (λ (c : Core). c.front.settled) is) ∙ settled)
 still_by job r s (entry.Commit e next) n still may moves is runs settled = false_true (sym (ap (λ (c : Core). c.front.settled) is) ∙ settled)
 still_by job r s (entry.Stop f) n still may moves is runs settled = some_none f (sym (ap (λ (c : Core). c.front.stop) is) ∙ runs)
@@ -107,8 +112,16 @@ stands_here job d had sound settled =
     (λ e is. commit_below (job.course d.cuts) d.planned d.committed sound.b sound.a had e (files_of had (name.Commit e)) sound.holds (files_are_image had (name.Commit e)) is)
 
 -- the desk that opens on files that stand
-abbrev found_desk : Cuts → ℕ → ℕ → Files → Desk
-found_desk cuts n k files = record { cuts = cuts; planned = n; committed = k; there = λ q. is_some (files q); sure = λ q. is_some (files q); tasks = λ t. waits; stores = λ p. [] }
+abbrev found_desk : Job → Cuts → ℕ → ℕ → Files → Desk
+found_desk job cuts n k files = record {
+  cuts = cuts;
+  planned = n;
+  committed = k;
+  there = λ q. is_some (files q);
+  sure = λ q. is_some (files q);
+  tasks = λ t. waits;
+  stores = λ p. (job.course cuts).state p k;
+}
 
 pub sound_by : (job : Job) (stop : Option Cause) (d : Desk) (had : Had) → stop ≡ None → IsSoundWith job (life_of stop) (Some d) had → IsSoundAt job d had
 sound_by job None d had is sound = sound
@@ -133,10 +146,10 @@ round_leaves_found tells t job r next terms st es s n b l runs settled between c
     let agrees : AreSameUpTo f.0.cuts cuts n.core.front.planned = λ e most. ap (λ (c : Cuts). c e) f.2 ∙ sym (same e most) in
     let stands : StandsAt (job.course cuts) n.core.front.planned n.core.front.committed (files_now n.disk) =
     agree_stands (job.course f.0.cuts) (job.course cuts) n.core.front.planned n.core.front.committed (files_now n.disk) (terms.causal.agrees f.0.cuts cuts n.core.front.planned agrees) at' in
-    let d = found_desk cuts n.core.front.planned n.core.front.committed (files_now n.disk) in record {
+    let d = found_desk job cuts n.core.front.planned n.core.front.committed (files_now n.disk) in record {
       settled = record { is = is_still };
       desk = d;
-      is = (stands, (λ e less. terms.causal.follows f.0.cuts cuts n.core.front.planned e agrees less (shows.proper e less)), (λ q. refl), (λ q. refl), (λ t. refl), (λ p less. absurd (let z = terms.stateless cuts in omega (arith, less, z))));
+      is = (stands, (λ e less. terms.causal.follows f.0.cuts cuts n.core.front.planned e agrees less (shows.proper e less)), (λ q. refl), (λ q. refl), (λ t. refl), (λ p less. refl));
       are = refl;
       planned = refl;
       committed = refl;

@@ -1,5 +1,5 @@
 -- The files that a round leaves are those of its plans.
-use Rattle.std.proofs.Common.{◌≡◌, ◌⊎◌, ◌<◌, ◌≤◌, ◌+◌, ◌||◌, [], ◌∷◌, ℕ, Bool, true, false, true≢false, List, Some, None, if◌then◌else◌, nat_lt, refl, sym, ap, ◌∙◌, subst, inl, inr, arith}
+use Rattle.std.proofs.Common.{◌≡◌, ◌&&◌, Option, None, ◌⊎◌, ◌<◌, ◌≤◌, ◌+◌, ◌||◌, [], ◌∷◌, ℕ, Bool, true, false, true≢false, List, Some, if◌then◌else◌, nat_lt, refl, sym, ap, ◌∙◌, subst, inl, inr, arith}
 use Rattle.std.specs.Prelude.{IsSome, is_some}
 use Rattle.std.proofs.lemmas.Bool.{cases_lt, ltb-true, ltb-false}
 use Rattle.ssq_outside.specs.declared.name.Name.{Name}
@@ -9,7 +9,7 @@ use Rattle.ssq_outside.specs.History.{History, had_now, files_now, LeavesNow, El
 use Rattle.ssq_core.specs.Course.{Course, Ends, Cuts, Job, AgreeUpTo, AreSameUpTo, truth}
 use Rattle.ssq_core.specs.Standing.{is_allowed}
 use Rattle.ssq_core.specs.Settled.{IsSettledAs}
-use Rattle.ssq_core.specs.Machine.{Desk, opened, publishes}
+use Rattle.ssq_core.specs.Machine.{Desk, opened, publishes, seals_by}
 use Rattle.ssq_core.specs.Sound.{Sound, IsSoundAt}
 use Rattle.ssq_core.proofs.Hads.{added_cases, settled_may}
 use Rattle.ssq_core.proofs.Holding.{agree_truth, lt_true, more_allowed}
@@ -17,9 +17,12 @@ use Rattle.ssq_core.proofs.Desks.{settled_first}
 use Rattle.ssq_core.proofs.Moves.{moves_on, open_sound}
 use Rattle.ssq_board.specs.declared.front.Entry.{Entry}
 use Rattle.ssq_board.specs.declared.front.Entry.TheVariants as entry
-use Rattle.ssq_board.specs.Core.{Scope, Core, May, cuts_by, events_all, extended, is_behind, next_ends}
+use Rattle.ssq_outside.specs.declared.gate.TaskId.{TaskId}
+use Rattle.ssq_outside.specs.declared.gate.Kind.TheVariants as kind
+use Rattle.ssq_board.specs.declared.front.Cause.{Cause}
+use Rattle.ssq_board.specs.Core.{Scope, Core, May, comes_back, cuts_by, events_all, extended, is_behind, is_open, is_stopped, next_ends}
 use Rattle.ssq_board.specs.Shown.{Start, IsSound}
-use Rattle.ssq_board.specs.Follows.{Terms, State, Step, Leads, Shows, Tries, IsTried, change_of, shown}
+use Rattle.ssq_board.specs.Follows.{Terms, State, Step, Leads, Shows, Goes, Tries, IsTried, BringsVersion, publishes_by, change_of, shown}
 use Rattle.ssq_board.proofs.Following.{list_follows}
 use Rattle.ssq_board.proofs.Opening.{shows_first}
 use Rattle.ssq_board.proofs.Sounds.{first_sound, step_sound}
@@ -126,6 +129,9 @@ elapsed_now old new P step = elim (cases_lt old.moment new.moment) [
   | inr early ↦ inl (step.kept new.moment early ∙ ap old.had_at (let l = step.later in let e : new.moment ≡ old.moment = omega (arith, l, early) in e))
 ]
 
+both_true : {a b : Bool} → a ≡ true → b ≡ true → (a && b) ≡ true
+both_true p q = λ i. p i && q i
+
 module _ (job : Job) (r : Scope) (next : Cuts → ℕ → Bool) (terms : Terms job r next) where
   -- one more true file was published, or not
   file_tried : (old new : History) (cuts : Cuts) (n : ℕ) (q : Name) → HasTruth (job.course cuts) n (had_now old) → is_allowed (job.course cuts).keeping n n q ≡ true → Tries (publishes q (truth (job.course cuts) q)) old new → HasTruth (job.course cuts) n (had_now new)
@@ -139,28 +145,38 @@ module _ (job : Job) (r : Scope) (next : Cuts → ℕ → Bool) (terms : Terms j
       more_true (job.course (extended cuts n ends)) n had (agree_true (job.course cuts) (job.course (extended cuts n ends)) n had (terms.causal.agrees cuts (extended cuts n ends) n (λ e le. sym (extended_below cuts n ends e le))) has)
 
   -- a call that failed
-  tried_true : (old new : History) (c : Core) (cuts : Cuts) (e : Entry) → HasTruth (job.course cuts) c.front.planned (had_now old) → May r c e → Tries (change_of job (cuts_by r cuts c e) e) old new
+  tried_true : (old new : History) (c : Core) (cuts : Cuts) (e : Entry) → HasTruth (job.course cuts) c.front.planned (had_now old) → May r c e → comes_back e ≡ false → Tries (change_of job c (cuts_by r cuts c e) e) old new
       → IsTrueSo job r new cuts c.front.planned c.ends c.front.due c.front.committed c.front.settled
-  tried_true old new c cuts (entry.Plan e) has may step =
+  tried_true old new c cuts (entry.Plan e) has may other step =
       so_tried (ltb-false c.front.committed c.front.planned may.2) may.3 may.4 (file_tried old new (extended cuts c.front.planned (next_ends r.cap c.ends r.available)) (c.front.planned + 1) (name.Plan e) (plan_true cuts c.front.planned (next_ends r.cap c.ends r.available) (had_now old) has)
       (lt_true e (c.front.planned + 1) (let at = may.1 in omega (arith, at))) step)
-  tried_true old new c cuts (entry.OutFile e) has may step =
+  tried_true old new c cuts (entry.OutFile e) has may other step =
       so_far (file_tried old new cuts c.front.planned (name.Out e) has (lt_true e c.front.planned (let at = may.1 in let l = ltb-true c.front.committed c.front.planned may.2 in omega (arith, at, l))) step)
-  tried_true old new c cuts (entry.Commit e due) has may step =
+  tried_true old new c cuts (entry.Commit e due) has may other step =
       so_far (file_tried old new cuts c.front.planned (name.Commit e) has (lt_true e c.front.planned (let at = may.1 in let l = ltb-true c.front.committed c.front.planned may.2 in omega (arith, at, l))) step)
-  tried_true old new c cuts (entry.Sync clock) has may step = so_far (elim (elapsed_now old new (IsSyncStep (had_now old)) step) [
+  tried_true old new c cuts (entry.Sync clock) has may other step = so_far (elim (elapsed_now old new (IsSyncStep (had_now old)) step) [
     | inl same ↦ subst (HasTruth (job.course cuts) c.front.planned) (sym same) has
     | inr sync ↦ λ q x is. has q x (sync.fewer q x is)
   ])
-  tried_true old new c cuts (entry.Claim t) has may step = so_far (subst (λ (h : History). HasTruth (job.course cuts) c.front.planned (had_now h)) (sym step) has)
-  tried_true old new c cuts (entry.Report t f) has may step = so_far (subst (λ (h : History). HasTruth (job.course cuts) c.front.planned (had_now h)) (sym step) has)
-  tried_true old new c cuts (entry.Stop f) has may step = so_far (subst (λ (h : History). HasTruth (job.course cuts) c.front.planned (had_now h)) (sym step) has)
+  tried_true old new c cuts (entry.Claim t) has may other step = so_far (subst (λ (h : History). HasTruth (job.course cuts) c.front.planned (had_now h)) (sym step) has)
+  tried_true old new c cuts (entry.Report t f) has may other step = absurd (true≢false other)
+  tried_true old new c cuts (entry.Version t) has may other step = absurd (true≢false other)
+  tried_true old new c cuts (entry.Missed t) has may other step = absurd (true≢false other)
+  tried_true old new c cuts (entry.Stop f) has may other step = so_far (subst (λ (h : History). HasTruth (job.course cuts) c.front.planned (had_now h)) (sym step) has)
 
   stop_true : (old new : History) (c : Core) (cuts : Cuts) (change : _) → HasTruth (job.course cuts) c.front.planned (had_now old) → IsTried job r c cuts change → Tries change old new → IsTrueSo job r new cuts c.front.planned c.ends c.front.due c.front.committed c.front.settled
   stop_true old new c cuts change has (inl none) step =
       let same : new ≡ old = subst (λ x. Tries x old new) none step in
       so_far (subst (λ (h : History). HasTruth (job.course cuts) c.front.planned (had_now h)) (sym same) has)
-  stop_true old new c cuts change has (inr tried) step = tried_true old new c cuts tried.0 has tried.1 (subst (λ x. Tries x old new) tried.2 step)
+  stop_true old new c cuts change has (inr tried) step = tried_true old new c cuts tried.0 has tried.1 tried.2 (subst (λ x. Tries x old new) tried.3 step)
+
+  -- the delta of a task of the epoch that runs was published, or not
+  delta_true : (old new : History) (c : Core) (cuts : Cuts) (t : TaskId) → HasTruth (job.course cuts) c.front.planned (had_now old) → t.epoch ≡ c.front.committed → is_open c ≡ true → t.kind ≡ kind.Reduce
+      → BringsVersion (job.course cuts) t → Tries (publishes_by job cuts t None) old new → HasTruth (job.course cuts) c.front.planned (had_now new)
+  delta_true old new c cuts t has epoch opened same brings step =
+      let keeps : nat_lt t.number (job.course cuts).keeping ≡ true = ap (seals_by (job.course cuts) t) (sym same) ∙ brings.1 in
+      let planned : nat_lt t.epoch c.front.planned ≡ true = lt_true t.epoch c.front.planned (let l = ltb-true c.front.committed c.front.planned opened in omega (arith, epoch, l)) in
+      file_tried old new cuts c.front.planned (name.Delta t.number t.epoch) has (both_true keeps planned) step
 
   -- what a running desk shows is true to the cuts
   running_true : (s : State) (d : Desk) → d.cuts ≡ s.cuts → Shows job r next terms s.core d → s.core.front.stop ≡ None → Sound job (shown s.disk s.core d) → HasTruth (job.course s.cuts) s.core.front.planned (had_now s.disk)
@@ -190,6 +206,23 @@ module _ (job : Job) (r : Scope) (next : Cuts → ℕ → Bool) (terms : Terms j
         still_true s n (step.moves t) step.cuts (ap (λ (c : Core). c.front.planned) step.core) (ap (λ (c : Core). c.ends) step.core) (ap (λ (c : Core). c.front.due) step.core) (ap (λ (c : Core). c.front.committed) step.core) (ap (λ (c : Core). c.front.settled) step.core) is
     step_true (entry.Report u f) s n d d' step cuts shows sound cuts' shows' sound' is =
         still_true s n (step.moves t) step.cuts (ap (λ (c : Core). c.front.planned) step.core) (ap (λ (c : Core). c.ends) step.core) (ap (λ (c : Core). c.front.due) step.core) (ap (λ (c : Core). c.front.committed) step.core) (ap (λ (c : Core). c.front.settled) step.core) is
+    step_true (entry.Version u) s n d d' step cuts shows sound cuts' shows' sound' is = by s.core.front.stop refl
+      where
+        -- after a Stop nothing was done to the disk
+        by : (o : Option Cause) → s.core.front.stop ≡ o → IsTrueState job r n
+        by None runs =
+            let moves : Goes (publishes_by job s.cuts u None) s.disk n.disk = subst (λ (o : Option Cause). Goes (publishes_by job s.cuts u o) s.disk n.disk) runs (step.moves t) in
+            let has = delta_true s.disk n.disk s.core s.cuts u (running_true s d cuts shows runs sound) step.may.1 step.may.0 step.may.3 (step.right t) moves.0 in
+            so_far (subst (λ (m : ℕ). HasTruth (job.course n.cuts) m (had_now n.disk)) (sym (ap (λ (c : Core). c.front.planned) step.core))
+            (subst (λ (k : Cuts). HasTruth (job.course k) s.core.front.planned (had_now n.disk)) (sym step.cuts) has))
+        by (Some f) stops =
+            let kept : n.disk ≡ s.disk = subst (λ (o : Option Cause). Goes (publishes_by job s.cuts u o) s.disk n.disk) stops (step.moves t) in
+            still_true s n kept step.cuts (ap (λ (c : Core). c.front.planned) step.core) (ap (λ (c : Core). c.ends) step.core) (ap (λ (c : Core). c.front.due) step.core) (ap (λ (c : Core). c.front.committed) step.core)
+            (ap (λ (c : Core). c.front.settled) step.core ∙ ap (λ (o : Option Cause). is_stopped o && s.core.front.settled) stops) is
+    step_true (entry.Missed u) s n d d' step cuts shows sound cuts' shows' sound' is =
+        let has = delta_true s.disk n.disk s.core s.cuts u (running_true s d cuts shows step.may.4 sound) step.may.1 step.may.0 step.may.3 (step.right t) (step.moves t) in
+        so_far (subst (λ (m : ℕ). HasTruth (job.course n.cuts) m (had_now n.disk)) (sym (ap (λ (c : Core). c.front.planned) step.core))
+        (subst (λ (k : Cuts). HasTruth (job.course k) s.core.front.planned (had_now n.disk)) (sym step.cuts) has))
     step_true (entry.Stop f) s n d d' step cuts shows sound cuts' shows' sound' is =
         let m = step.moves t in
         let mid : State = record { disk = n.disk; core = s.core; cuts = s.cuts } in

@@ -70,5 +70,5 @@ invariant_of-self-in-Err g c =
     ∙ ap (λ n. truth (o.job.course (cuts_after o s.scope s.entries.items)) (name.Commit n)) (sym epoch)) in
     let kept : s.entries.cap ≤ c.halt.new.entries.cap = (let k = c.halt.ensures.capacity in omega arith) in
     spent _ _ _ _ _ _ _ _ c.self.invariant _ _ _ _ (entry.Stop cause.DiskFault) refl (m.0, tt)
-    (λ t. (publishes (name.Commit c.front-epoch.result.committed) (truth (o.job.course (cuts_after o s.scope s.entries.items)) (name.Commit c.front-epoch.result.committed)), inr (e, m', refl), tried (name.Commit c.front-epoch.result.committed) _ _ _ _ (right t) (c.publish.ensures.steps t.0)))
+    (λ t. (publishes (name.Commit c.front-epoch.result.committed) (truth (o.job.course (cuts_after o s.scope s.entries.items)) (name.Commit c.front-epoch.result.committed)), inr (e, m', refl, refl), tried (name.Commit c.front-epoch.result.committed) _ _ _ _ (right t) (c.publish.ensures.steps t.0)))
     (λ t. tt) c.halt.ensures.board c.halt.ensures.items kept

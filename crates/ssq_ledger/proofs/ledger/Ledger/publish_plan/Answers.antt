@@ -87,4 +87,4 @@ invariant_of-self-in-Err-publish g c =
     ∙ ap (λ n. truth (o.job.course cuts) (name.Plan n)) (sym epoch)) in
     let items = c.halt-in-Err-publish.ensures.items ∙ ap (λ (l : List Entry). l ++ entry.Stop cause.DiskFault ∷ []) c.make_room.ensures.items in
     let kept : s.entries.cap ≤ c.halt-in-Err-publish.new.entries.cap = (let k = c.halt-in-Err-publish.ensures.capacity in let q : s.entries.cap ≤ c.make_room.new.entries.cap = c.make_room.ensures.kept in omega arith) in
-    spent _ _ _ _ _ _ _ _ c.self.invariant _ _ _ _ (entry.Stop cause.DiskFault) refl (m.0, tt) (λ t. (publishes (name.Plan c.front-epoch.result.planned) (truth (o.job.course cuts) (name.Plan c.front-epoch.result.planned)), inr (e, m', refl), tried_from (name.Plan c.front-epoch.result.planned) _ _ _ _ _ (c.seal.ensures.same t.0) (right t) (c.publish.ensures.steps t.0))) (λ t. tt) c.halt-in-Err-publish.ensures.board items kept
+    spent _ _ _ _ _ _ _ _ c.self.invariant _ _ _ _ (entry.Stop cause.DiskFault) refl (m.0, tt) (λ t. (publishes (name.Plan c.front-epoch.result.planned) (truth (o.job.course cuts) (name.Plan c.front-epoch.result.planned)), inr (e, m', refl, refl), tried_from (name.Plan c.front-epoch.result.planned) _ _ _ _ _ (c.seal.ensures.same t.0) (right t) (c.publish.ensures.steps t.0))) (λ t. tt) c.halt-in-Err-publish.ensures.board items kept

@@ -1,7 +1,7 @@
 use Rattle.std.proofs.Common.{◌≤◌, ◌<◌, ◌∷◌, [], sym, refl, ap, ◌∙◌, subst, arith}
 use Rattle.ssq_board.specs.declared.front.Entry.TheVariants as entry
 use Rattle.ssq_board.specs.Core.{May}
-use Rattle.ssq_ledger.specs.Shown.{Shown, IsTrue, did}
+use Rattle.ssq_ledger.specs.Shown.{Shown, IsTrue, HasNone, did}
 use Rattle.ssq_ledger.proofs.Ledgers.{has_room, spent}
 use Rattle.ssq_ledger.proofs.ledger.Ledger.report.Goals as goal
 
@@ -26,7 +26,10 @@ invariant_of-self g c =
     let m : May s.scope s.board e = subst (λ (x : Shown g.row.D.Denot g.row.O.Denot). May x.scope x.core e) (sym c.self.view_is) c.requires.may in
     let kept : s.entries.cap ≤ c.push_reserved.new.self.cap = (let k = c.push_reserved.ensures.capacity in omega arith) in
     spent _ _ _ _ _ _ _ _ c.self.invariant _ _ _ _ e refl m (λ t. refl)
-    (λ t. subst (λ (x : Shown g.row.D.Denot g.row.O.Denot). g.D.Disk.tells × g.O.Opening.tells x.opening x.scope → IsTrue g.O.Opening.opening x c.args.id c.args.fault) (sym c.self.view_is) c.requires.right t)
+    (λ t. (
+      subst (λ (x : Shown g.row.D.Denot g.row.O.Denot). g.D.Disk.tells × g.O.Opening.tells x.opening x.scope → IsTrue g.O.Opening.opening x c.args.id c.args.fault) (sym c.self.view_is) c.requires.right t,
+      subst (λ (x : Shown g.row.D.Denot g.row.O.Denot). g.D.Disk.tells × g.O.Opening.tells x.opening x.scope → HasNone g.O.Opening.opening x c.args.id c.args.fault) (sym c.self.view_is) c.requires.bare t,
+    ))
     (c.report-stop.ensures.now s.scope) c.push_reserved.ensures.items kept
 
 pub returns-clause-did : goal.returns-clause-did

@@ -74,4 +74,4 @@ invariant_of-self-in-Err g c =
     let running : s.board.front.stop ≡ None = ap (λ (x : Shown g.row.D.Denot g.row.O.Denot). x.core.front.stop) c.self.view_is ∙ c.requires in
     let items = c.halt-in-Err.ensures.items ∙ ap (λ (l : List Entry). l ++ entry.Stop cause.DiskFault ∷ []) c.make_room.ensures.items in
     let kept : s.entries.cap ≤ c.halt-in-Err.new.entries.cap = (let k = c.halt-in-Err.ensures.capacity in let q : s.entries.cap ≤ c.make_room.new.entries.cap = c.make_room.ensures.kept in omega arith) in
-    spent _ _ _ _ _ _ _ _ c.self.invariant _ _ _ _ (entry.Stop cause.DiskFault) refl (running, tt) (λ t. (syncs, inr (entry.Sync 0, running, refl), c.sync_names.ensures.steps t.0)) (λ t. tt) c.halt-in-Err.ensures.board items kept
+    spent _ _ _ _ _ _ _ _ c.self.invariant _ _ _ _ (entry.Stop cause.DiskFault) refl (running, tt) (λ t. (syncs, inr (entry.Sync 0, running, refl, refl), c.sync_names.ensures.steps t.0)) (λ t. tt) c.halt-in-Err.ensures.board items kept
