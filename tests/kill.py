@@ -1,22 +1,30 @@
 #!/usr/bin/env python3
 """Kills runs of the built program at random moments, and judges every file that they leave.
 
-    python3 tests/kill.py [RUNS] [SEED]      (200 killed runs; `make` builds bin/ssq)
+    python3 tests/kill.py [RUNS] [SEED] [--shape plain|group]      (200 killed runs, plain; `make` builds bin/ssq)
 
 A query with a watermark reads three parts, to which a writer appends while runs of many rounds go over them and between the
 runs. Each run is killed (SIGKILL) after a random time, from the first millisecond on, so that openings are hit too, and the
 next one begins on what is left: one to five killed runs for each checkpoint, then one that is let end by itself.
 
-After each run the plans are read, to learn the cuts, and nothing else is taken from the program: what each plan, commit and
-sink file has to hold, and each line that was printed, is computed here from the logs, and compared byte for byte. Plans
-that were there stay. Each epoch whose line was printed has its commit and its sink file, and none is printed twice. After the
-last run each line of the logs is in exactly one epoch.
+- plain: WHERE and SELECT. A program that takes one part alone, and no watermark, is tried over one part without one; the last line
+  says so.
+- group: overlapping windows and a key with NULLs, in Append, Update and Complete in turn, over three partitions. Some rows are late,
+  some of them for one of their windows alone.
 
-A program that takes one part alone, and no watermark, is tried over one part without one; the last line says so.
+After each run the plans are read, to learn the cuts, and nothing else is taken from the program: what each plan, commit, sink
+file and file of the state has to hold, and each line that was printed, is computed from the logs (tests/model.py), and compared
+byte for byte. Plans that were there stay. Each epoch whose line was printed has its commit and its sink file, and none is printed
+twice. Of the state each delta is there that the next run needs, and no file that may not be. After the last run each line of the
+logs is in exactly one epoch, no window is left to be closed, and of the state there is what a run that is done leaves; a program
+that makes no snapshots yet has to have all deltas.
 
 It is not part of the gate, since it takes minutes and its timing is the machine's. A killed process loses nothing that the
 system had taken from it, so this shows crashes of the program, and not of the machine: those are proved.
 """
+import argparse
+import collections
+import dataclasses
 import datetime
 import itertools
 import json
@@ -31,87 +39,85 @@ import tempfile
 import threading
 import time
 
+import model
+from model import Aggregate, Direction, Function, Kind, Mode, Query, Window, compare, compute, disjunction
+
 SSQ = pathlib.Path(__file__).resolve().parent.parent / "bin" / "ssq"
+COLUMNS = {"ts": Kind.TIMESTAMP, "k": Kind.STRING, "v": Kind.BIGINT}
 STREAM = "CREATE STREAM s (ts TIMESTAMP, k STRING, v BIGINT) FROM 's'"
 WATERMARK = " WATERMARK FOR ts DELAY '10 seconds'"
-SELECT = "SELECT k, v + 1 AS w, ts FROM s WHERE v > 10 OUTPUT APPEND;"
-DELAY = datetime.timedelta(seconds=10)
+SECOND = datetime.timedelta(seconds=1)
 START = datetime.datetime(2024, 1, 1)
 LINES = 800  # of each part
 CAP = 10  # lines of a part in an epoch
 
 
+@dataclasses.dataclass
 class Job:
-    """A query over some parts: what its files hold, for these logs and cuts."""
+    """A query over some parts and partitions."""
 
-    def __init__(self, parts, watched):
-        self.parts, self.watched = parts, watched
-        self.query = f"{STREAM}{WATERMARK if watched else ''};\n{SELECT}\n"
-
-    def text(self):
-        """The canonical text of the query."""
-        return self.query.strip().replace("\n", " ")
+    name: str
+    query: Query
+    parts: int
+    partitions: int = 1
 
     def logs(self, folder):
         return [folder / f"s.{part}.jsonl" for part in range(self.parts)]
 
-    def seen(self, rows, cut):
-        """The greatest event time of all rows before the cut, those that WHERE drops too."""
-        times = [row["ts"] for part, end in zip(rows, cut) for row in part[:end] if row]
-        return max(times) if times and self.watched else None
+    def words(self):
+        return ["--partitions", str(self.partitions)] if self.partitions > 1 else []
 
-    def watermark(self, rows, cut):
-        """That of the epoch which begins at the cut."""
-        seen = self.seen(rows, cut)
-        return seen - DELAY if seen else None
-
-    def meta(self):
-        text = self.text()
-        return record("partitions 1", f"parts 0 {self.parts}", f"query {len(text)}", text)
-
-    def epoch(self, rows, number, begin, end):
-        """The files of an epoch, and the line that tells it."""
-        watermark = stamp(self.watermark(rows, begin))
-        ends = [f"part 0 {part} {to}" for part, to in enumerate(end)]
-        seen = [f"seen 0 {stamp(self.seen(rows, end))}"] if self.watched else []
-        read = [row for part, a, b in zip(rows, begin, end) for row in part[a:b]]
-        shown = sorted(filter(None, map(projected, read)), key=lambda row: [(value is not None, value) for value in row])
-        files = {
-            f"offsets/{number}": record(f"plan {number}", f"watermark {watermark}", *ends),
-            f"commits/{number}": record(f"commit {number}", *seen),
-            f"sink/{number}": "".join(map(row_text, shown)),
-        }
-        return files, f"epoch {number} lines {len(read)} watermark {watermark} rows {len(shown)}"
+    def epochs(self, logs, cuts):
+        return model.Epochs(self.query, logs, cuts, self.partitions)
 
 
-def stamp(time):
-    if time is None:
-        return "none"
-    return time.strftime("%Y-%m-%dT%H:%M:%S.%fZ" if time.microsecond else "%Y-%m-%dT%H:%M:%SZ")
+def plain_job(parts, watched):
+    query = Query(
+        text=f"{STREAM}{WATERMARK if watched else ''}; SELECT k, v + 1 AS w, ts FROM s WHERE v > 10 OUTPUT APPEND;",
+        columns=COLUMNS,
+        event="ts" if watched else None,
+        delay=10 * SECOND if watched else None,
+        where=lambda row: compare(row["v"], ">", 10),
+        items={"k": lambda row: row["k"], "w": lambda row: compute(row["v"], "+", 1), "ts": lambda row: row["ts"]},
+        mode=Mode.APPEND,
+    )
+    return Job("three parts with a watermark" if watched else "one part, since the program takes no more", query, parts)
 
 
-def record(*lines):
-    return "".join(line + "\n" for line in ("v1", *lines, "end"))
-
-
-def row_of(line):
-    """The row that a line is; a line of blanks is none."""
-    if not line.strip():
-        return None
-    found = json.loads(line)
-    form = "%Y-%m-%dT%H:%M:%S.%fZ" if "." in found["ts"] else "%Y-%m-%dT%H:%M:%SZ"
-    return {"ts": datetime.datetime.strptime(found["ts"], form), "k": found.get("k"), "v": found.get("v")}
-
-
-def projected(row):
-    """What SELECT shows of a row, if WHERE is TRUE on it."""
-    if row and row["v"] is not None and row["v"] > 10:
-        return (row["k"], row["v"] + 1, row["ts"])
-    return None
-
-
-def row_text(row):
-    return json.dumps({"k": row[0], "w": row[1], "ts": stamp(row[2])}, separators=(",", ":")) + "\n"
+def group_job(mode):
+    """Windows of 20 seconds, one every 10, and a key. HAVING stands where it may, and ORDER BY. In Update a row may change no total of
+    its key."""
+    having = " HAVING COUNT(*) > 1" if mode is not Mode.UPDATE else ""
+    order = " ORDER BY n DESC, k DESC" if mode is Mode.COMPLETE else ""
+    query = Query(
+        text=f"{STREAM}{WATERMARK}; "
+        "SELECT window_end, k, COUNT(v) AS n, SUM(v * 3) AS t, MIN(v) AS lo, MAX(ts) AS last FROM s WHERE v IS NULL OR v > 3 "
+        f"GROUP BY WINDOW(ts, '20 seconds', '10 seconds'), k{having}{order} OUTPUT {mode.name};",
+        columns=COLUMNS,
+        event="ts",
+        delay=10 * SECOND,
+        where=lambda row: disjunction(row["v"] is None, lambda: compare(row["v"], ">", 3)),
+        group=(Window("ts", 20 * SECOND, 10 * SECOND), "k"),
+        aggregates=(
+            Aggregate(Function.COUNT, lambda row: row["v"]),
+            Aggregate(Function.SUM, lambda row: compute(row["v"], "*", 3)),
+            Aggregate(Function.MIN, lambda row: row["v"]),
+            Aggregate(Function.MAX, lambda row: row["ts"]),
+            *([Aggregate(Function.COUNT)] if having else []),
+        ),
+        having=(lambda group: compare(group[4], ">", 1)) if having else None,
+        items={
+            "window_end": lambda group: group["window_end"],
+            "k": lambda group: group["k"],
+            "n": lambda group: group[0],
+            "t": lambda group: group[1],
+            "lo": lambda group: group[2],
+            "last": lambda group: group[3],
+        },
+        order=(("n", Direction.DESC), ("k", Direction.DESC)) if order else (),
+        mode=mode,
+    )
+    return Job(mode.name, query, parts=3, partitions=3)
 
 
 def made_line(chance, number):
@@ -119,7 +125,7 @@ def made_line(chance, number):
     if chance.random() < 0.05:
         return "  \n"
     at = START + datetime.timedelta(seconds=number + chance.randrange(-20, 20), milliseconds=chance.choice([0, 0, 250]))
-    line = {"ts": stamp(at), "k": chance.choice(["a", "b", "c", None]), "v": chance.choice([None, *range(30)]), "x": [number]}
+    line = {"ts": model.stamp(at), "k": chance.choice(["a", "b", "c", None]), "v": chance.choice([None, *range(30)]), "x": [number]}
     return json.dumps({name: value for name, value in line.items() if value is not None or chance.random() < 0.5}) + "\n"
 
 
@@ -150,39 +156,75 @@ class Checkpoint:
     """A checkpoint that runs work on, with what they told and planned so far."""
 
     def __init__(self, folder, job):
-        self.folder, self.job, self.told, self.cuts = folder, job, [], []
-        (folder / "q.sql").write_text(job.query)
+        self.folder, self.job = folder, job
+        self.told, self.cuts = [], []
+        self.wanted, self.lines = {}, []  # each file that its epochs may have, and the line that tells each epoch
+        (folder / "q.sql").write_text(job.query.text + "\n")
+
+    def files(self):
+        """The files of the epochs, by their paths."""
+        root = self.folder / "checkpoint"
+        paths = (path for kind in ("offsets", "commits", "sink", "state") for path in (root / kind).rglob("*"))
+        return {str(path.relative_to(root)): path.read_bytes() for path in paths if path.is_file()}
 
     def judge(self, output):
-        """Checks what a run printed and each file that is there, against the logs. The numbers of plans and of commits."""
-        files = {}
-        for kind in ("offsets", "commits", "sink"):
-            for path in (self.folder / "checkpoint" / kind).glob("*"):
-                files[f"{kind}/{path.name}"] = path.read_text()
+        """Checks what a run printed and each file that is there, against the logs. The epochs, and the number of commits."""
+        files = self.files()
         counts = {kind: sum(name.startswith(kind) for name in files) for kind in ("offsets", "commits", "sink")}
         plans, commits, sinks = counts.values()
         names = [f"{kind}/{number}" for kind, count in counts.items() for number in range(count)]
-        assert sorted(files) == sorted(names), f"epochs have gaps: {sorted(files)}"
+        assert sorted(name for name in files if not name.startswith("state")) == sorted(names), f"epochs have gaps: {sorted(files)}"
         assert plans - 1 <= commits <= plans and commits <= sinks <= plans, f"{counts}"
 
-        cuts = [tuple(map(int, re.findall(r"^part 0 \d+ (\d+)$", files[f"offsets/{e}"], re.M))) for e in range(plans)]
+        texts = [files[f"offsets/{e}"].decode() for e in range(plans)]
+        cuts = [tuple(map(int, re.findall(r"^part 0 \d+ (\d+)$", text, re.M))) for text in texts]
         assert cuts[: len(self.cuts)] == self.cuts, "a cut that was planned has changed"
-        self.cuts = cuts
 
+        logs = [log.read_bytes().split(b"\n")[:-1] for log in self.job.logs(self.folder)]
+        epochs = self.job.epochs(logs, cuts)
+        self.judge_cuts(epochs)
         meta = self.folder / "checkpoint" / "metadata"
-        assert meta.read_text() == self.job.meta() if meta.exists() else not files, "metadata"
-        rows = [[row_of(line) for line in log.read_text().split("\n")[:-1]] for log in self.job.logs(self.folder)]
-        lines, begin = [], (0,) * self.job.parts
-        for number, end in enumerate(cuts):
-            assert len(end) == self.job.parts and any(a < b for a, b in zip(begin, end)), f"cut {number}: {end}"
-            assert all(a <= b <= min(a + CAP, len(part)) for a, b, part in zip(begin, end, rows)), f"cut {number}: {end}"
-            wanted, line = self.job.epoch(rows, number, begin, end)
-            for name, text in wanted.items():
-                assert files.get(name, text) == text, f"{name} holds\n{files[name]}and not\n{text}"
-            lines.append(line)
-            begin = end
-        self.judge_output(output, lines[:commits])
-        return plans, commits, begin == tuple(map(len, rows))
+        assert meta.read_bytes() == epochs.meta() if meta.exists() else not files, "metadata"
+        for e in range(len(self.cuts), plans):
+            assert epochs.fault(e) is None, epochs.fault(e)
+            self.wanted |= epochs.files(e)
+            self.lines.append(epochs.told(e))
+        self.cuts = cuts
+        for name, content in files.items():
+            assert name in self.wanted, f"{name} is no file of these epochs"
+            assert content == self.wanted[name], f"{name} holds\n{legible(name, content)}\nand not\n{legible(name, self.wanted[name])}"
+        self.judge_state(files, plans, commits)
+        self.judge_output(output, self.lines[:commits])
+        return epochs, commits
+
+    def judge_cuts(self, epochs):
+        """Each epoch that is new has lines of its parts, as many as it may; or it has none, and is there to close windows."""
+        for e in range(len(self.cuts), len(epochs.cuts)):
+            begin, end = epochs.begin(e), epochs.cuts[e]
+            assert len(end) == self.job.parts, f"cut {e}: {end}"
+            assert all(a <= b <= min(a + CAP, len(part)) for a, b, part in zip(begin, end, epochs.parts)), f"cut {e}: {end}"
+            assert begin != end or epochs.is_closing(e), f"epoch {e} has nothing to do"
+
+    def judge_state(self, files, plans, commits):
+        """No file of the state is there that may not be, and each that the next run needs is."""
+        for partition, (deltas, snapshots) in enumerate(self.versions(files)):
+            for version in deltas:
+                assert model.delta_may_be(version, plans, commits), f"delta {version} of {partition}, with {commits} commits"
+            for version in snapshots:
+                assert model.snapshot_may_be(version, commits), f"snapshot {version} of {partition}, with {commits} commits"
+            lacking = set(model.needed_deltas(snapshots, commits)) - set(deltas)
+            assert not lacking, f"deltas {sorted(lacking)} of {partition} are not there, with {commits} commits"
+
+    def judge_end(self, commits):
+        """What a run that is done leaves of the state: what upkeep leaves, or all deltas where the program has none."""
+        for partition, versions in enumerate(self.versions(self.files())):
+            assert versions in (model.state_at_end(commits), (list(range(commits)), [])), f"state {partition}: {versions}"
+
+    def versions(self, files):
+        """The versions of the deltas and of the snapshots of each partition that keeps state."""
+        for partition in range(self.job.partitions if self.job.query.keeps_state() else 0):
+            found = [re.fullmatch(rf"state/{partition}/(\d+)[.](delta|snapshot)", name) for name in files]
+            yield tuple(sorted(int(name[1]) for name in found if name and name[2] == kind) for kind in ("delta", "snapshot"))
 
     def judge_output(self, output, committed):
         """Each whole line tells an epoch that is committed, in order and for the first time."""
@@ -195,85 +237,116 @@ class Checkpoint:
                 self.told.append(committed.index(line))
 
 
-def started(folder, out, *more):
-    return subprocess.Popen([SSQ, "run", "q.sql", "--max-lines", str(CAP), *more], cwd=folder, stdout=out)
+def legible(name, content):
+    return content.hex() if name.startswith("state") else content.decode()
 
 
-def killed_run(folder, chance):
+def started(folder, job, out, *more):
+    return subprocess.Popen([SSQ, "run", "q.sql", "--max-lines", str(CAP), *job.words(), *more], cwd=folder, stdout=out)
+
+
+def killed_run(folder, job, chance):
     """Runs until a random moment. What it printed."""
     with open(folder / "out", "w+") as out:
-        run = started(folder, out, "--rounds", "1000000")
+        run = started(folder, job, out, "--rounds", "1000000")
         time.sleep(chance.choice([0.002, 0.02, 0.3, 1.0]) * chance.random())
         run.send_signal(signal.SIGKILL)
-        assert run.wait() == -signal.SIGKILL, "it ended by itself"
+        status = run.wait()
         out.seek(0)
-        return out.read()
+        output = out.read()
+        assert status == -signal.SIGKILL, f"it ended by itself: {output[-200:]}"
+        return output
 
 
-def whole_run(folder):
+def whole_run(folder, job):
     """Runs to the end. What it printed."""
-    run = started(folder, subprocess.PIPE)
+    run = started(folder, job, subprocess.PIPE)
     output = run.communicate()[0].decode()
     assert run.returncode == 0, output
     return output
 
 
 def trial(folder, job, kills, chance):
-    """One checkpoint: runs that are killed, and a last one. Epochs told before a kill, plans left open, epochs in all."""
+    """One checkpoint: runs that are killed, and a last one. What came of it, in numbers."""
     checkpoint = Checkpoint(folder, job)
     writer = Writer(job.logs(folder), chance)
     writer.start()
-    opened = 0
+    found = collections.Counter()
     for _ in range(kills):
-        plans, commits, _ = checkpoint.judge(killed_run(folder, chance))
-        opened += plans - commits
-    early = len(checkpoint.told)
+        epochs, commits = checkpoint.judge(killed_run(folder, job, chance))
+        found["opened"] += len(epochs.cuts) - commits
+    found["early"] = len(checkpoint.told)
     writer.done.set()
     writer.join()
-    output = whole_run(folder)
-    plans, commits, covered = checkpoint.judge(output)
+    output = whole_run(folder, job)
+    epochs, commits = checkpoint.judge(output)
+    plans = found["epochs"] = len(epochs.cuts)
     assert plans == commits and output.endswith(f"done epochs {plans}\n"), output[-200:]
-    assert covered, f"not each line is in an epoch: {checkpoint.cuts[-1:]}"
-    return early, opened, plans
+    assert epochs.next_cut() is None, f"not each line is in an epoch, or a window is left to be closed: {epochs.cuts[-1:]}"
+    checkpoint.judge_end(commits)
+    found["late"] = sum(len(epochs.fed(e)) - len(epochs.on_time(e)) for e in range(plans))
+    found["closing"] = sum(epochs.begin(e) == epochs.cuts[e] for e in range(plans))
+    return found
 
 
-def job_taken():
-    """Three parts with a watermark where the program takes them, else one part without."""
-    for job in (Job(3, True), Job(1, False)):
-        folder = pathlib.Path(tempfile.mkdtemp(prefix="ssq-kill-"))
-        (folder / "q.sql").write_text(job.query)
-        for log in job.logs(folder):
-            log.touch()
-        run = started(folder, subprocess.PIPE)
-        output = run.communicate()[0].decode()
-        shutil.rmtree(folder)
-        if run.returncode == 0:
-            return job
-        if not output.startswith(("stopped 3 NotYet", "stopped 9 OtherParts")):
-            break
-    sys.exit(f"the query is not taken: {output}")
+def refusal_of(job):
+    """What the program says of a query that it does not take, over logs without lines."""
+    folder = pathlib.Path(tempfile.mkdtemp(prefix="ssq-kill-"))
+    (folder / "q.sql").write_text(job.query.text + "\n")
+    for log in job.logs(folder):
+        log.touch()
+    run = started(folder, job, subprocess.PIPE)
+    output = run.communicate()[0].decode()
+    shutil.rmtree(folder)
+    return output if run.returncode else None
+
+
+def jobs_taken(shape):
+    """Plain: three parts with a watermark where the program takes them, else one part without. Group: all three modes."""
+    if shape == "group":
+        jobs = [group_job(mode) for mode in Mode]
+        refusal = next(filter(None, map(refusal_of, jobs)), None)
+    else:
+        jobs = [plain_job(3, True)]
+        refusal = refusal_of(jobs[0])
+        if refusal and refusal.startswith(("stopped 3 NotYet", "stopped 9 OtherParts")):
+            jobs = [plain_job(1, False)]
+            refusal = refusal_of(jobs[0])
+    if refusal:
+        sys.exit(f"the query is not taken: {refusal}")
+    return jobs
+
+
+def asked():
+    words = argparse.ArgumentParser(description="Kills runs of bin/ssq at random moments, and judges what they leave.")
+    words.add_argument("runs", nargs="?", type=int, default=200)
+    words.add_argument("seed", nargs="?", type=int, default=int(time.time()))
+    words.add_argument("--shape", choices=["plain", "group"], default="plain")
+    return words.parse_args()
 
 
 def main():
-    runs = int(sys.argv[1]) if len(sys.argv) > 1 else 200
-    seed = int(sys.argv[2]) if len(sys.argv) > 2 else int(time.time())
-    chance = random.Random(seed)
-    job = job_taken()
-    killed = early = opened = epochs = 0
+    ask = asked()
+    chance = random.Random(ask.seed)
+    jobs = jobs_taken(ask.shape)
+    killed, found = 0, collections.Counter()
     for number in itertools.count():
-        if killed >= runs:
+        if killed >= ask.runs:
             break
-        kills = min(chance.randrange(1, 6), runs - killed)
+        job = jobs[number % len(jobs)]
+        kills = min(chance.randrange(1, 6), ask.runs - killed)
         folder = pathlib.Path(tempfile.mkdtemp(prefix="ssq-kill-"))
         try:
-            found = trial(folder, job, kills, chance)
+            found += trial(folder, job, kills, chance)
         except AssertionError as wrong:
-            sys.exit(f"checkpoint {number} of seed {seed}: {wrong}; what is left is in {folder}")
+            sys.exit(f"checkpoint {number} ({job.name}) of seed {ask.seed}: {wrong}; what is left is in {folder}")
         shutil.rmtree(folder)
-        killed, early, opened, epochs = killed + kills, early + found[0], opened + found[1], epochs + found[2]
-    over = "three parts with a watermark" if job.watched else "one part, since the program takes no more"
-    print(f"{killed} runs killed over {over}, seed {seed}: {number} checkpoints, {early} epochs told before a kill,")
-    print(f"{opened} planned and not committed at a kill, {epochs} epochs in all, each file right")
+        killed += kills
+    over = "groups in each mode" if ask.shape == "group" else jobs[0].name
+    print(f"{killed} runs killed over {over}, seed {ask.seed}: {number} checkpoints, {found['early']} epochs told before a kill,")
+    print(f"{found['opened']} planned and not committed at a kill, {found['epochs']} epochs in all, each file right")
+    if ask.shape == "group":
+        print(f"{found['late']} rows late, {found['closing']} epochs without lines")
 
 
 if __name__ == "__main__":

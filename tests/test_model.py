@@ -1,0 +1,504 @@
+#!/usr/bin/env python3
+"""Tests the model by which the engine is judged (tests/model.py).
+
+    python3 tests/test_model.py
+
+The values that are expected were worked by hand from the rules, or come from elsewhere (FNV-1a's own test values); none of them was
+computed by the model. So were the sink files of the examples with groups, which are compared too.
+"""
+import dataclasses
+import datetime
+import pathlib
+import unittest
+
+from model import (
+    Aggregate,
+    BadLine,
+    Direction,
+    Epochs,
+    Function,
+    Kind,
+    Mode,
+    Overflow,
+    Query,
+    Window,
+    compare,
+    compute,
+    conjunction,
+    cuts_of_run,
+    disjunction,
+    key_bytes,
+    partition_of,
+    read_line,
+    row_order,
+    state_at_end,
+    time_of,
+    windows_of,
+)
+
+ROOT = pathlib.Path(__file__).resolve().parent.parent
+LEAST, MOST = -(2**63), 2**63 - 1
+COUNT = Aggregate(Function.COUNT)
+
+
+def total(column, function=Function.SUM):
+    return Aggregate(function, lambda row: row[column])
+
+
+def minutes(number):
+    return datetime.timedelta(minutes=number)
+
+
+def at(time, **more):
+    """A line whose event time is this time of the first day of 2024."""
+    values = "".join(f',"{name}":{value}' for name, value in more.items())
+    return f'{{"ts":"2024-01-01T{time}:00Z"{values}}}'.encode()
+
+
+def lines(*texts):
+    return [text.encode() for text in texts]
+
+
+def run(query, *parts, most=None, partitions=1):
+    """The epochs after one round over these parts."""
+    return Epochs(query, parts, cuts_of_run(query, [parts], most), partitions)
+
+
+FILTER = Query(
+    text="CREATE STREAM s (id BIGINT, v BIGINT) FROM 's'; SELECT id, v + 1 AS w FROM s WHERE v > 10 OUTPUT APPEND;",
+    columns={"id": Kind.BIGINT, "v": Kind.BIGINT},
+    where=lambda row: compare(row["v"], ">", 10),
+    items={"id": lambda row: row["id"], "w": lambda row: compute(row["v"], "+", 1)},
+    mode=Mode.APPEND,
+)
+
+
+def counted(size, slide=None):
+    """The rows of each window of so many minutes, in Append."""
+    spans = f"'{size} minutes'" + (f", '{slide} minutes'" if slide else "")
+    return Query(
+        text="CREATE STREAM s (ts TIMESTAMP) FROM 's' WATERMARK FOR ts DELAY '10 minutes'; "
+        f"SELECT window_start, COUNT(*) AS n FROM s GROUP BY WINDOW(ts, {spans}) OUTPUT APPEND;",
+        columns={"ts": Kind.TIMESTAMP},
+        event="ts",
+        delay=minutes(10),
+        group=(Window("ts", minutes(size), minutes(slide or size)),),
+        aggregates=(COUNT,),
+        items={"window_start": lambda group: group["window_start"], "n": lambda group: group[0]},
+        mode=Mode.APPEND,
+    )
+
+
+def summed(where):
+    """The sum of each key, in Update."""
+    return Query(
+        text="CREATE STREAM s (k STRING, v BIGINT) FROM 's'; "
+        f"SELECT k, SUM(v) AS t FROM s {'WHERE v > 0 ' if where else ''}GROUP BY k OUTPUT UPDATE;",
+        columns={"k": Kind.STRING, "v": Kind.BIGINT},
+        where=(lambda row: compare(row["v"], ">", 0)) if where else None,
+        group=("k",),
+        aggregates=(total("v"),),
+        items={"k": lambda group: group["k"], "t": lambda group: group[0]},
+        mode=Mode.UPDATE,
+    )
+
+
+def ordered(name, direction):
+    """The rows of each key, in Complete."""
+    return Query(
+        text="CREATE STREAM s (k STRING) FROM 's'; "
+        f"SELECT k, COUNT(*) AS n FROM s GROUP BY k ORDER BY {name}{' DESC' if direction is Direction.DESC else ''} OUTPUT COMPLETE;",
+        columns={"k": Kind.STRING},
+        group=("k",),
+        aggregates=(COUNT,),
+        items={"k": lambda group: group["k"], "n": lambda group: group[0]},
+        order=((name, direction),),
+        mode=Mode.COMPLETE,
+    )
+
+
+VISITS = Query(
+    text="CREATE STREAM visits (ts TIMESTAMP, page STRING) FROM 'visits' WATERMARK FOR ts DELAY '5 minutes'; "
+    "SELECT window_start, window_end, page, COUNT(*) AS n FROM visits GROUP BY WINDOW(ts, '10 minutes'), page OUTPUT APPEND;",
+    columns={"ts": Kind.TIMESTAMP, "page": Kind.STRING},
+    event="ts",
+    delay=minutes(5),
+    group=(Window("ts", minutes(10), minutes(10)), "page"),
+    aggregates=(COUNT,),
+    items={
+        "window_start": lambda group: group["window_start"],
+        "window_end": lambda group: group["window_end"],
+        "page": lambda group: group["page"],
+        "n": lambda group: group[0],
+    },
+    mode=Mode.APPEND,
+)
+SALES = Query(
+    text="CREATE STREAM sales (shop STRING, cents BIGINT) FROM 'sales'; "
+    "SELECT shop, COUNT(*) AS n, SUM(cents) AS total FROM sales WHERE cents <> 0 GROUP BY shop OUTPUT UPDATE;",
+    columns={"shop": Kind.STRING, "cents": Kind.BIGINT},
+    where=lambda row: compare(row["cents"], "<>", 0),
+    group=("shop",),
+    aggregates=(COUNT, total("cents")),
+    items={"shop": lambda group: group["shop"], "n": lambda group: group[0], "total": lambda group: group[1]},
+    mode=Mode.UPDATE,
+)
+GAMES = Query(
+    text="CREATE STREAM games (player STRING, points BIGINT) FROM 'games'; "
+    "SELECT player, SUM(points) AS total, MAX(points) AS best FROM games GROUP BY player HAVING COUNT(*) > 1 "
+    "ORDER BY total DESC, best DESC OUTPUT COMPLETE;",
+    columns={"player": Kind.STRING, "points": Kind.BIGINT},
+    group=("player",),
+    aggregates=(total("points"), total("points", Function.MAX), COUNT),
+    having=lambda group: compare(group[2], ">", 1),
+    items={"player": lambda group: group["player"], "total": lambda group: group[0], "best": lambda group: group[1]},
+    order=(("total", Direction.DESC), ("best", Direction.DESC)),
+    mode=Mode.COMPLETE,
+)
+
+
+class Plain(unittest.TestCase):
+    def test_rows_are_filtered(self):
+        epochs = run(FILTER, lines('{"id":1,"v":11}', '{"id":2,"v":5}', '{"id":3,"v":20}'), most=2)
+        self.assertEqual(
+            epochs.output(),
+            ["epoch 0 lines 2 watermark none rows 1", "epoch 1 lines 1 watermark none rows 1", "done epochs 2"],
+        )
+        self.assertEqual(epochs.meta(), f"v1\npartitions 1\nparts 0 1\nquery 104\n{FILTER.text}\nend\n".encode())
+        self.assertEqual(
+            epochs.files(0),
+            {
+                "offsets/0": b"v1\nplan 0\nwatermark none\npart 0 0 2\nend\n",
+                "commits/0": b"v1\ncommit 0\nend\n",
+                "sink/0": b'{"id":1,"w":12}\n',
+            },
+        )
+        self.assertEqual(epochs.sink(1), b'{"id":3,"w":21}\n')
+
+    def test_an_epoch_that_is_planned_keeps_its_cut(self):
+        log = lines('{"id":1,"v":11}', '{"id":2,"v":5}', '{"id":3,"v":20}', '{"id":4,"v":30}')
+        before = cuts_of_run(FILTER, [[log[:3]]], 2)
+        epochs = Epochs(FILTER, [log], cuts_of_run(FILTER, [[log]], None, before))
+        self.assertEqual(
+            epochs.output(1),
+            ["epoch 1 lines 1 watermark none rows 1", "epoch 2 lines 1 watermark none rows 1", "done epochs 3"],
+        )
+        self.assertEqual(epochs.sink(1), b'{"id":3,"w":21}\n')
+        self.assertEqual(epochs.sink(2), b'{"id":4,"w":31}\n')
+
+    def test_the_fault_is_the_first_line_in_the_order_of_parts(self):
+        first = lines('{"id":1,"v":11}', '{"id":2,"v":12}', '{"id":3,"v":9223372036854775807}')
+        second = [b'{"id":4,"v":1}'] * 5 + [b"{"]
+        epochs = run(FILTER, first, second)
+        self.assertEqual(epochs.output(), ["stopped 5 Overflow s 0 2"])
+        self.assertEqual(epochs.plan(0), b"v1\nplan 0\nwatermark none\npart 0 0 3\npart 0 1 6\nend\n")
+        again = cuts_of_run(FILTER, [[first, second]], None, epochs.cuts)
+        self.assertEqual(again, epochs.cuts)
+
+    def test_blanks_are_no_row_and_a_bad_line_stops(self):
+        log = lines("", " \t ", '{"id":1,"v":11,"x":[1.5]}', '{"id":"7","v":1}')
+        epochs = run(FILTER, log, most=3)
+        self.assertEqual(epochs.output(), ["epoch 0 lines 3 watermark none rows 1", "stopped 4 BadLine s 0 3 WrongType id"])
+
+
+class Append(unittest.TestCase):
+    LATER = "epoch 2 lines 1 watermark 2024-01-01T12:06:00Z rows 1"
+
+    def test_a_window_closes_and_a_late_row_is_left_out(self):
+        for partitions in 1, 3:
+            epochs = run(counted(5), [at("12:03"), at("12:16"), at("12:02")], [at("12:04")], most=1, partitions=partitions)
+            self.assertEqual(
+                epochs.output(),
+                [
+                    "epoch 0 lines 2 watermark none rows 0",
+                    "epoch 1 lines 1 watermark 2024-01-01T11:54:00Z rows 0",
+                    "epoch 2 lines 1 watermark 2024-01-01T12:06:00Z rows 1",
+                    "done epochs 3",
+                ],
+            )
+            self.assertEqual(epochs.sink(2), b'{"window_start":"2024-01-01T12:00:00Z","n":2}\n')
+        self.assertEqual(
+            epochs.plan(2), b"v1\nplan 2\nwatermark 2024-01-01T12:06:00Z\npart 0 0 3\npart 0 1 1\nend\n"
+        )
+        self.assertEqual(epochs.commit(2), b"v1\ncommit 2\nseen 0 2024-01-01T12:16:00Z\nend\n")
+
+    def test_a_window_is_closed_at_its_end(self):
+        epochs = run(counted(5), [at("12:03"), at("12:15"), at("12:02")], [at("12:04")], most=1)
+        self.assertEqual(epochs.output()[2], "epoch 2 lines 1 watermark 2024-01-01T12:05:00Z rows 1")
+        self.assertEqual(epochs.sink(2), b'{"window_start":"2024-01-01T12:00:00Z","n":2}\n')
+
+    def test_an_epoch_without_lines_closes(self):
+        log = [at("12:03"), at("12:16")]
+        epochs = run(counted(5), log, most=1)
+        self.assertEqual(
+            epochs.output(),
+            [
+                "epoch 0 lines 1 watermark none rows 0",
+                "epoch 1 lines 1 watermark 2024-01-01T11:53:00Z rows 0",
+                "epoch 2 lines 0 watermark 2024-01-01T12:06:00Z rows 1",
+                "done epochs 3",
+            ],
+        )
+        self.assertEqual(epochs.sink(2), b'{"window_start":"2024-01-01T12:00:00Z","n":1}\n')
+        again = Epochs(counted(5), [log], cuts_of_run(counted(5), [[log]], 1, epochs.cuts))
+        self.assertEqual(again.output(3), ["done epochs 3"])
+
+    def test_a_row_is_late_for_one_of_its_windows(self):
+        epochs = run(counted(10, 5), [at("12:22"), at("12:07"), at("12:30")], most=1)
+        self.assertEqual(
+            epochs.output(),
+            [
+                "epoch 0 lines 1 watermark none rows 0",
+                "epoch 1 lines 1 watermark 2024-01-01T12:12:00Z rows 0",
+                "epoch 2 lines 1 watermark 2024-01-01T12:12:00Z rows 0",
+                "epoch 3 lines 0 watermark 2024-01-01T12:20:00Z rows 1",
+                "done epochs 4",
+            ],
+        )
+        self.assertEqual([epochs.sink(e) for e in range(3)], [b"", b"", b""])
+        self.assertEqual(epochs.sink(3), b'{"window_start":"2024-01-01T12:05:00Z","n":1}\n')
+
+    def test_a_sum_has_to_fit_only_where_it_is_shown(self):
+        query = Query(
+            text="",
+            columns={"ts": Kind.TIMESTAMP, "v": Kind.BIGINT},
+            event="ts",
+            delay=minutes(10),
+            group=(Window("ts", minutes(5), minutes(5)),),
+            aggregates=(total("v"),),
+            items={"window_start": lambda group: group["window_start"], "t": lambda group: group[0]},
+            mode=Mode.APPEND,
+        )
+        log = [at("12:01", v=MOST), at("12:02", v=1), at("12:03", v=-5), at("12:20", v=0)]
+        epochs = run(query, log, most=1)
+        self.assertEqual(epochs.output()[-2:], ["epoch 4 lines 0 watermark 2024-01-01T12:10:00Z rows 1", "done epochs 5"])
+        self.assertEqual(epochs.sink(4), b'{"window_start":"2024-01-01T12:00:00Z","t":9223372036854775803}\n')
+
+    def test_what_is_closed_is_forgotten(self):
+        epochs = run(counted(5), [at("12:03"), at("12:16")], most=1)
+        sizes = [[len(state) for state in epochs.state(e)] for e in range(3)]
+        self.assertEqual(sizes, [[1], [2], [1]])
+        key = "03" + (2**63 + 1704110400 * 10**6).to_bytes(8, "big").hex()  # 2024-01-01T12:00:00Z
+        head = "53535144454c5431" + "00000000" + "00000002" + "0000000000000001"
+        self.assertEqual(next(epochs.deltas(2)).hex(), head + "00" + "00000009" + key)
+
+
+    def test_the_event_time_is_a_key(self):
+        query = dataclasses.replace(
+            counted(5), group=("ts",), items={"ts": lambda group: group["ts"], "n": lambda group: group[0]}
+        )
+        epochs = run(query, [at("12:00"), at("12:10"), at("12:00"), at("12:01")], most=1)
+        watermarks = [line.split()[5] for line in epochs.output()[:-1]]
+        self.assertEqual(watermarks, ["none", "2024-01-01T11:50:00Z"] + ["2024-01-01T12:00:00Z"] * 2)
+        self.assertEqual(epochs.sink(2), b'{"ts":"2024-01-01T12:00:00Z","n":1}\n')
+        self.assertEqual([epochs.sink(e) for e in (0, 1, 3)], [b""] * 3)
+        self.assertEqual(len(epochs.state(3)[0]), 2)
+
+    def test_what_having_hides_is_never_shown(self):
+        query = dataclasses.replace(counted(5), having=lambda group: compare(group[0], ">", 1))
+        epochs = run(query, [at("12:03"), at("12:06"), at("12:07"), at("12:30")], most=1)
+        self.assertEqual(epochs.output()[-2:], ["epoch 4 lines 0 watermark 2024-01-01T12:20:00Z rows 1", "done epochs 5"])
+        self.assertEqual(epochs.sink(4), b'{"window_start":"2024-01-01T12:05:00Z","n":2}\n')
+        self.assertEqual(epochs.state(4)[0].keys(), {key_bytes([datetime.datetime(2024, 1, 1, 12, 30)])})
+
+
+class Update(unittest.TestCase):
+    def test_a_late_row_changes_nothing(self):
+        query = dataclasses.replace(counted(5), mode=Mode.UPDATE)
+        epochs = run(query, [at("12:03"), at("12:16"), at("12:02"), at("12:17")], most=1)
+        self.assertEqual(
+            [epochs.sink(e) for e in range(4)],
+            [
+                b'{"window_start":"2024-01-01T12:00:00Z","n":1}\n',
+                b'{"window_start":"2024-01-01T12:15:00Z","n":1}\n',
+                b"",
+                b'{"window_start":"2024-01-01T12:15:00Z","n":2}\n',
+            ],
+        )
+        self.assertEqual(epochs.output()[-1], "done epochs 4")
+
+    def test_windows_over_another_column_have_no_time(self):
+        window = Window("u", minutes(5), minutes(5))
+        columns = {"ts": Kind.TIMESTAMP, "u": Kind.TIMESTAMP}
+        query = dataclasses.replace(counted(5), mode=Mode.UPDATE, columns=columns, group=(window,))
+        log = [at("12:03", u='"2024-01-01T12:00:00Z"'), at("13:00"), at("13:00", u='"2024-01-01T12:01:00Z"')]
+        epochs = run(query, log, most=1)
+        self.assertEqual([len(epochs.rows(e)) for e in range(3)], [1, 0, 1])
+        self.assertEqual(epochs.sink(2), b'{"window_start":"2024-01-01T12:00:00Z","n":2}\n')
+
+    def test_the_keys_with_new_rows_are_shown(self):
+        log = lines('{"k":"a","v":2}', '{"k":"a","v":0}', '{"k":"a","v":3}')
+        epochs = run(summed(True), log, most=1)
+        self.assertEqual([epochs.sink(e) for e in range(3)], [b'{"k":"a","t":2}\n', b"", b'{"k":"a","t":5}\n'])
+        delta = next(epochs.deltas(0))
+        self.assertEqual(len(delta), 63)
+        self.assertEqual(
+            delta.hex(),
+            "53535144454c5431" + "00000000" + "00000000" + "0000000000000001"
+            "01" + "00000006" + "040000000161" + "00000018" + "0000000000000001" + "00000000000000000000000000000002",
+        )
+        self.assertEqual(next(epochs.deltas(1)).hex(), "53535144454c5431" + "00000000" + "00000001" + "0000000000000000")
+        self.assertEqual(
+            next(epochs.snapshots(2)).hex(),
+            "535351534e415031" + "00000000" + "00000002" + "0000000000000001"
+            "00000006" + "040000000161" + "00000018" + "0000000000000002" + "00000000000000000000000000000005",
+        )
+
+    def test_a_key_overflows_where_it_is_shown(self):
+        log = lines('{"k":"a","v":9223372036854775807}', '{"k":"a","v":1}', '{"k":"a","v":-5}')
+        epochs = run(summed(False), log, most=1)
+        self.assertEqual(epochs.output(), ["epoch 0 lines 1 watermark none rows 1", 'stopped 5 Overflow key ["a"]'])
+        self.assertEqual(len(epochs.cuts), 2)
+
+    def test_the_least_key_is_the_fault(self):
+        log = [f'{{"k":{k},"v":9223372036854775807}}'.encode() for k in ['"b"', "null", '"a"', '"b"', "null", '"a"']]
+        self.assertEqual(run(summed(False), log).output(), ["stopped 5 Overflow key [null]"])
+        bad = run(summed(False), log + [b"7"])
+        self.assertEqual(bad.output(), ["stopped 4 BadLine s 0 6 NotObject"])
+
+
+class Complete(unittest.TestCase):
+    LOG = lines('{"k":"b"}', "{}", '{"k":"a"}', '{"k":null}', '{"k":"b"}')
+
+    def test_order_comes_first(self):
+        epochs = run(ordered("n", Direction.DESC), self.LOG)
+        self.assertEqual(epochs.sink(0), b'{"k":null,"n":2}\n{"k":"b","n":2}\n{"k":"a","n":1}\n')
+
+    def test_null_comes_last_in_descending_order(self):
+        epochs = run(ordered("k", Direction.DESC), self.LOG)
+        self.assertEqual(epochs.sink(0), b'{"k":"b","n":2}\n{"k":"a","n":1}\n{"k":null,"n":2}\n')
+        self.assertEqual(run(ordered("k", Direction.ASC), self.LOG).sink(0)[:9], b'{"k":null')
+
+    def test_all_keys_are_shown_and_kept(self):
+        epochs = run(ordered("k", Direction.ASC), self.LOG, most=2)
+        self.assertEqual([len(epochs.rows(e)) for e in range(3)], [2, 3, 3])
+        self.assertEqual([len(epochs.state(e)[0]) for e in range(3)], [2, 3, 3])
+
+    def test_nothing_is_late(self):
+        query = Query(
+            text="",
+            columns={"ts": Kind.TIMESTAMP},
+            event="ts",
+            delay=minutes(10),
+            group=(),
+            aggregates=(COUNT, total("ts", Function.MIN), total("ts", Function.MAX)),
+            having=lambda group: compare(group[0], ">", 1),
+            items={"n": lambda group: group[0], "lo": lambda group: group[1], "hi": lambda group: group[2]},
+            mode=Mode.COMPLETE,
+        )
+        epochs = run(query, [at("12:30"), at("13:00"), at("12:00")], most=1)
+        self.assertEqual(epochs.sink(0), b"")
+        self.assertEqual(epochs.sink(2), b'{"n":3,"lo":"2024-01-01T12:00:00Z","hi":"2024-01-01T13:00:00Z"}\n')
+        self.assertEqual(epochs.plan(2), b"v1\nplan 2\nwatermark 2024-01-01T12:50:00Z\npart 0 0 3\nend\n")
+
+
+class Examples(unittest.TestCase):
+    def judge(self, name, query, most):
+        folder = next(path for path in ROOT.glob(f"examples*/{name}"))
+        self.assertEqual((folder / "query.sql").read_text().split(), query.text.split())
+        (log,) = folder.glob("*.jsonl")
+        self.assertIn(f"--max-lines {most}", (folder / "words").read_text())
+        epochs = run(query, log.read_bytes().split(b"\n")[:-1], most=most)
+        kept = {int(path.name): path.read_bytes() for path in (folder / "sink").iterdir()}
+        self.assertEqual({e: epochs.sink(e) for e in range(len(epochs.cuts))}, kept)
+
+    def test_windows(self):
+        self.judge("windows", VISITS, 4)
+
+    def test_totals(self):
+        self.judge("totals", SALES, 4)
+
+    def test_leaders(self):
+        self.judge("leaders", GAMES, 6)
+
+    def test_the_first(self):
+        self.judge("first", FILTER, 2)
+
+
+class State(unittest.TestCase):
+    def test_old_files_go(self):
+        self.assertEqual(state_at_end(31), (list(range(10, 31)), [9, 19, 29]))
+        self.assertEqual(state_at_end(60), (list(range(40, 60)), [39, 49, 59]))
+        self.assertEqual(state_at_end(9), (list(range(9)), []))
+
+    def test_keys_have_bytes(self):
+        self.assertEqual(key_bytes([1, None, "a"]).hex(), "02" + "8000000000000001" + "00" + "04" + "00000001" + "61")
+        self.assertEqual(key_bytes([True, False]).hex(), "01010100")
+        self.assertEqual(key_bytes([LEAST, -1]).hex(), "02" + "0000000000000000" + "02" + "7fffffffffffffff")
+
+    def test_keys_have_places(self):
+        found = [partition_of(key, count) for key, count in [(b"", 64), (b"a", 64), (b"foobar", 64), (b"a", 1)]]
+        self.assertEqual(found, [37, 12, 40, 0])
+        self.assertEqual(partition_of(b"foobar", 2**64), 0x85944171F73967E8)
+
+
+class Values(unittest.TestCase):
+    def test_windows_contain_their_time(self):
+        epoch, second = datetime.datetime(1970, 1, 1), datetime.timedelta(seconds=1)
+        cases = [
+            ((420, 600, 300), [0, 300]),
+            ((-1e-6, 300, 300), [-300]),
+            ((0, 600, 180), [-540, -360, -180, 0]),
+        ]
+        for (time, size, slide), starts in cases:
+            found = windows_of(epoch + time * second, size * second, slide * second)
+            self.assertEqual(found, [epoch + start * second for start in starts])
+
+    def test_times_are_read(self):
+        self.assertEqual(time_of("2024-01-01T00:00:00Z"), datetime.datetime(2024, 1, 1))
+        self.assertEqual(time_of("1970-01-01T00:00:00.5Z"), datetime.datetime(1970, 1, 1, microsecond=500000))
+        for text in "2024-02-30T00:00:00Z", "2024-01-01T24:00:00Z", "2024-01-01T00:00:60Z", "0999-01-01T00:00:00Z", "2024-01-01T00:00:00":
+            self.assertIsNone(time_of(text), text)
+
+    def test_numbers_are_computed(self):
+        self.assertEqual([compute(-7, "DIV", 2), compute(-7, "%", 2), compute(LEAST, "%", -1)], [-3, -1, 0])
+        self.assertIsNone(compute(None, "+", 1))
+        for left, sign, right in (MOST, "+", 1), (LEAST, "-", 1), (2**62, "*", 2), (LEAST, "DIV", -1):
+            self.assertRaises(Overflow, compute, left, sign, right)
+
+    def test_logic_is_three_valued(self):
+        overflows = lambda: compute(MOST, "+", 1)
+        self.assertIs(conjunction(False, overflows), False)
+        self.assertIs(disjunction(True, overflows), True)
+        self.assertIs(conjunction(None, lambda: False), False)
+        self.assertIs(disjunction(None, lambda: True), True)
+        self.assertIsNone(conjunction(None, lambda: True))
+        self.assertIsNone(disjunction(None, lambda: False))
+        self.assertIsNone(compare(None, "=", None))
+
+    def test_values_stand_in_order(self):
+        values = [None, False, True, LEAST, 0, MOST, datetime.datetime(2024, 1, 1), "", "B", "a", "é", "\uffff", "\U0001f600"]
+        self.assertEqual(sorted(reversed(values), key=lambda value: row_order([value])), values)
+
+    def test_lines_are_read(self):
+        columns = {"n": Kind.BIGINT, "k": Kind.STRING, "b": Kind.BOOLEAN, "ts": Kind.TIMESTAMP}
+        query = Query(text="", columns=columns, items={}, mode=Mode.APPEND, event="ts")
+        found = read_line(query, b'{"n":1,"n":2,"ts":"2024-01-01T00:00:00Z","b":false,"x":[1.5],"k":null}')
+        self.assertEqual(found, {"n": 2, "k": None, "b": False, "ts": datetime.datetime(2024, 1, 1)})
+        causes = {
+            b"": None,
+            b" " * 1_048_577: "TooLong",
+            b"{": "NotJson",
+            b'{"x":1e999}': "NotJson",
+            b'{"x":NaN}': "NotJson",
+            b'{"x":"\\ud800"}': "NotJson",
+            b'{"x":"\xff"}': "NotJson",
+            b"[]": "NotObject",
+            b'{"k":1,"n":true}': "WrongType n",
+            b'{"n":-0}': "WrongType n",
+            b'{"n":1.0}': "WrongType n",
+            b'{"n":9223372036854775808}': "WrongType n",
+            b'{"n":1,"b":0}': "WrongType b",
+            b'{"ts":"2024-01-01"}': "WrongType ts",
+            b'{"n":1}': "NoEventTime",
+        }
+        for line, cause in causes.items():
+            try:
+                self.assertIsNone(read_line(query, line))
+                self.assertIsNone(cause, line)
+            except BadLine as bad:
+                self.assertEqual(str(bad), cause, line)
+
+
+if __name__ == "__main__":
+    unittest.main()
