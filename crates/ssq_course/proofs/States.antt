@@ -1,36 +1,34 @@
 -- The states of a query are states, and what epochs change are changes.
-use Rattle.std.proofs.Common.{◌≡◌, ◌≤◌, ◌<◌, ◌+◌, ◌-◌, ◌^◌, [], ◌∷◌, ℕ, zero, suc, ℤ, List, Option, None, Bool, true, false, refl, ap, sym, subst, length, arith, inl, inr}
-use Rattle.std.specs.Prelude.{◌==◌, if◌then◌else◌, is_some}
+use Rattle.std.proofs.Common.{◌≡◌, ◌≤◌, ◌<◌, ◌+◌, ◌-◌, ◌*◌, ◌^◌, [], ◌∷◌, ℕ, zero, suc, ℤ, List, Option, None, Bool, true, false, refl, ap, sym, subst, length, arith, inl, inr}
+use Rattle.std.specs.Prelude.{◌==◌, if◌then◌else◌, is_some, All, sum}
 use Rattle.std.specs.declared.cmp.Ordering.{Ordering}
 use Rattle.std.specs.declared.cmp.Ordering.TheVariants.{Less, Equal, Greater}
 use Rattle.std.specs.BTreeMap.{insert_entry}
-use Rattle.std.specs.List.{AllByRecursion}
 use Rattle.std.specs.Ordering.{match_ordering}
 use Rattle.std.proofs.lemmas.Bool.{cases_lt}
 use Rattle.std.proofs.lemmas.List.{length-append}
-use Rattle.std.proofs.lemmas.List.Elements.{All-nil, recursion_from_All}
+use Rattle.std.proofs.lemmas.List.Elements.{All-filter, All-nil}
 use Rattle.ssq_value.specs.Key.{keys_of}
 use Rattle.ssq_route.specs.Place.{place_of}
 use Rattle.ssq_shape.specs.declared.bound.Bound.{Bound}
+use Rattle.ssq_shape.specs.declared.bound.Grouping.{Grouping}
 use Rattle.ssq_shape.specs.declared.bound.Shape.{Shape}
 use Rattle.ssq_shape.specs.declared.bound.Shape.TheVariants.{Plain, Group, Dedup, Join}
+use Rattle.ssq_shape.specs.Windows.{HasWindows, HasWindowsBy}
 use Rattle.ssq_meaning.specs.declared.fed_row.FedRow.{FedRow}
-use Rattle.ssq_meaning.specs.Cut.{Cuts as Offsets}
+use Rattle.ssq_meaning.specs.Cut.{AreCuts, Cuts as Offsets}
 use Rattle.ssq_meaning.specs.Epochs.{accepted, bucket, on_time, state, watermark_before}
-use Rattle.ssq_meaning.specs.Group.{distinct}
+use Rattle.ssq_meaning.specs.Fit.{IsFitRow}
+use Rattle.ssq_meaning.specs.Group.{distinct, kept}
 use Rattle.ssq_meaning.specs.Operator.{operator_for, operator_of}
 use Rattle.ssq_meaning.specs.Parts.{Part}
-use Rattle.ssq_meaning.proofs.Coding.{kept_ascends}
-use Rattle.ssq_meaning.proofs.Following.{lengths_are}
-use Rattle.ssq_meaning.proofs.Keys.{All-by}
 use Rattle.ssq_version.specs.State.{Ascends, Change, IsShort, IsState, State, between, by_bytes, said_of, value_at, with_gone}
 use Rattle.ssq_version.specs.Text.{snapshot_text}
 use Rattle.ssq_version.proofs.Leading.{between_kept, news_few}
 use Rattle.ssq_core.specs.Course.{Cuts}
 use Rattle.ssq_course.specs.Setting.{Setting, cuts_of, parts_in, state_at}
-use Rattle.ssq_course.specs.States.{AreOfStates, CanHold, StatesCanBeHeld}
-use Rattle.ssq_course.proofs.Sizes.{filter_few, kept_few, kept_is_state, none_kept}
-use Rattle.ssq_course.proofs.Texts.{HasShortTexts, accepted_short}
+use Rattle.ssq_course.specs.States.{AreOfStates, AreWithinLimits, CanHold, CanHoldBy, CoverFewLines, StatesCanBeHeld}
+use Rattle.ssq_course.proofs.Sizes.{HasKeyOf, kept_few, kept_is_state, none_kept}
 
 -- ---- how many keys a change has
 
@@ -72,6 +70,15 @@ accepted_grow query parts cuts e (suc n) le = elim (cases_lt n e) [
   | inr low ↦ omega (arith, accepted_grow query parts cuts e n low, length-append (accepted query parts cuts n) (on_time query parts cuts n))
 ]
 
+-- what the laws of ssq_meaning say of the rows that are accepted, and of what is kept of them
+pub record RowLaws : Type 0 where
+  pub fit : (query : Bound) → HasWindows query → (parts : List Part) (cuts : Offsets) (e : ℕ) → All IsFitRow (accepted query parts cuts e)
+  pub own_fit : (rows : List FedRow) (partitions p : ℕ) → All IsFitRow rows → All IsFitRow (bucket partitions p rows)
+  pub few : (query : Bound) → HasWindows query → (parts : List Part) (cuts : Offsets) (e : ℕ) → AreCuts parts cuts e → length (accepted query parts cuts e) ≤ 64 * sum (cuts e)
+  pub own_few : (rows : List FedRow) (partitions p : ℕ) → length (bucket partitions p rows) ≤ length rows
+  pub lengths : (query : Bound) (grouping : Grouping) → query.shape ≡ Group grouping → (parts : List Part) (cuts : Offsets) (e : ℕ) → All (HasKeyOf grouping) (accepted query parts cuts e)
+  pub ascend : (query : Bound) (grouping : Grouping) (rows : List FedRow) (now : Option ℤ) → Ascends (kept query grouping rows now)
+
 -- what a state is, with fewer than 2^63 entries
 abbrev IsSmall : State → Type 0
 IsSmall state = IsState state × (length state < 2 ^ 63)
@@ -80,55 +87,60 @@ none_is_small : IsSmall []
 unfolding Rattle.std.specs.List.Sorted.IsStrictlySortedBy
 none_is_small = (record { ascend = tt; keys = All-nil IsShort; values = All-nil IsShort }, omega arith)
 
-module _ (query : Bound) (parts : List Part) (cuts : Offsets) (partitions p : ℕ) where
-  abbrev own : ℕ → List FedRow
-  own e = bucket partitions p (accepted query parts cuts e)
+starts_by : (shape : Shape) (query : Bound) → (operator_for shape query).state [] None ≡ []
+unfolding distinct
+starts_by Plain query = refl
+starts_by (Group grouping) query = none_kept
+starts_by (Dedup columns) query = refl
+starts_by (Join joining) query = refl
 
-  held_by : (shape : Shape) → query.shape ≡ shape → (n : ℕ) → CanHold shape (length (accepted query parts cuts n)) → (e : ℕ) → e ≤ n
-      → IsSmall ((operator_for shape query).state (own e) (watermark_before query parts cuts e))
-  held_by Plain is n can e le = none_is_small
-  held_by (Group grouping) is n can e le =
-      let is_own : FedRow → Bool = λ row. place_of (keys_of row.key) partitions == p in (
-        kept_is_state query grouping (own e) (watermark_before query parts cuts e) can.0 (All-by HasShortTexts is_own (accepted query parts cuts e) (accepted_short query grouping is can.0.arguments parts cuts e))
-            (All-by (λ (row : FedRow). length row.key ≡ length grouping.keys) is_own (accepted query parts cuts e) (recursion_from_All _ (accepted query parts cuts e) (lengths_are query grouping is parts cuts e))),
-        omega (arith, kept_few query grouping (own e) (watermark_before query parts cuts e), filter_few is_own (accepted query parts cuts e), accepted_grow query parts cuts e n le, can.1),
-      )
-  held_by (Dedup columns) is n can e le = none_is_small
-  held_by (Join joining) is n can e le = none_is_small
-
-  starts_by : (shape : Shape) → (operator_for shape query).state [] None ≡ []
-  unfolding distinct
-  starts_by Plain = refl
-  starts_by (Group grouping) = none_kept
-  starts_by (Dedup columns) = refl
-  starts_by (Join joining) = refl
-
-  ascends_by : (shape : Shape) (rows : List FedRow) (now : Option ℤ) → Ascends ((operator_for shape query).state rows now)
+module _ (laws : RowLaws) where
+  ascends_by : (shape : Shape) (query : Bound) (rows : List FedRow) (now : Option ℤ) → Ascends ((operator_for shape query).state rows now)
   unfolding Rattle.std.specs.List.Sorted.IsStrictlySortedBy
-  ascends_by Plain rows now = tt
-  ascends_by (Group grouping) rows now = kept_ascends query grouping rows now
-  ascends_by (Dedup columns) rows now = tt
-  ascends_by (Join joining) rows now = tt
+  ascends_by Plain query rows now = tt
+  ascends_by (Group grouping) query rows now = laws.ascend query grouping rows now
+  ascends_by (Dedup columns) query rows now = tt
+  ascends_by (Join joining) query rows now = tt
 
-pub are_of_states : (s : Setting) (cuts : Cuts) → AreOfStates s cuts
-unfolding operator_of accepted
-are_of_states s cuts = record {
-  snapshots = λ p v. ap (λ (n : ℕ). snapshot_text p n (state_at s cuts p (v + 1))) (let same : v + 1 - 1 ≡ v = omega arith in same);
-  deltas = λ p v. refl;
-  start = λ p. starts_by s.job.bound (parts_in s) (cuts_of cuts) s.job.partitions p s.job.bound.shape;
-  ascend = λ p e. ascends_by s.job.bound (parts_in s) (cuts_of cuts) s.job.partitions p s.job.bound.shape (bucket s.job.partitions p (accepted s.job.bound (parts_in s) (cuts_of cuts) e)) (watermark_before s.job.bound (parts_in s) (cuts_of cuts) e);
-}
+  pub are_of_states : (s : Setting) (cuts : Cuts) → AreOfStates s cuts
+  unfolding operator_of accepted
+  are_of_states s cuts = record {
+    snapshots = λ p v. ap (λ (n : ℕ). snapshot_text p n (state_at s cuts p (v + 1))) (let same : v + 1 - 1 ≡ v = omega arith in same);
+    deltas = λ p v. refl;
+    start = λ p. starts_by s.job.bound.shape s.job.bound;
+    ascend = λ p e. ascends_by s.job.bound.shape s.job.bound (bucket s.job.partitions p (accepted s.job.bound (parts_in s) (cuts_of cuts) e)) (watermark_before s.job.bound (parts_in s) (cuts_of cuts) e);
+  }
 
-module _ (s : Setting) (cuts : Cuts) (n : ℕ) (can : CanHold s.job.bound.shape (length (accepted s.job.bound (parts_in s) (cuts_of cuts) n))) where
-  is_small : (p e : ℕ) → e ≤ n → IsSmall (state_at s cuts p e)
+  groups_are_small : (s : Setting) (cuts : Cuts) (n : ℕ) (grouping : Grouping) → s.job.bound.shape ≡ Group grouping → AreWithinLimits grouping → CoverFewLines s cuts n → (p e : ℕ) → e ≤ n
+      → IsSmall (kept s.job.bound grouping (bucket s.job.partitions p (accepted s.job.bound (parts_in s) (cuts_of cuts) e)) (watermark_before s.job.bound (parts_in s) (cuts_of cuts) e))
+  groups_are_small s cuts n grouping is limits lines p e le =
+      let query = s.job.bound in
+      let parts = parts_in s in
+      let windows : HasWindows query = subst HasWindowsBy (sym is) limits.windows in
+      let rows = accepted query parts (cuts_of cuts) e in
+      let own = bucket s.job.partitions p rows in
+      let now = watermark_before query parts (cuts_of cuts) e in (
+        kept_is_state query grouping own now limits (laws.own_fit rows s.job.partitions p (laws.fit query windows parts (cuts_of cuts) e))
+            (All-filter (λ (row : FedRow). place_of (keys_of row.key) s.job.partitions == p) (HasKeyOf grouping) rows (laws.lengths query grouping is parts (cuts_of cuts) e)) (laws.ascend query grouping own now),
+        omega (arith, kept_few query grouping own now, laws.own_few rows s.job.partitions p, accepted_grow query parts (cuts_of cuts) e n le, laws.few query windows parts (cuts_of cuts) n lines.are_cuts, lines.few),
+      )
+
+  small_by : (s : Setting) (cuts : Cuts) (n : ℕ) (shape : Shape) → s.job.bound.shape ≡ shape → CanHoldBy shape s cuts n → (p e : ℕ) → e ≤ n
+      → IsSmall ((operator_for shape s.job.bound).state (bucket s.job.partitions p (accepted s.job.bound (parts_in s) (cuts_of cuts) e)) (watermark_before s.job.bound (parts_in s) (cuts_of cuts) e))
+  small_by s cuts n Plain is can p e le = none_is_small
+  small_by s cuts n (Group grouping) is can p e le = groups_are_small s cuts n grouping is can.0 can.1 p e le
+  small_by s cuts n (Dedup columns) is can p e le = none_is_small
+  small_by s cuts n (Join joining) is can p e le = none_is_small
+
+  is_small : (s : Setting) (cuts : Cuts) (n : ℕ) → CanHold s cuts n → (p e : ℕ) → e ≤ n → IsSmall (state_at s cuts p e)
   unfolding operator_of
-  is_small p e le = held_by s.job.bound (parts_in s) (cuts_of cuts) s.job.partitions p s.job.bound.shape refl n can e le
+  is_small s cuts n can p e le = small_by s cuts n s.job.bound.shape refl can p e le
 
-pub can_be_held : StatesCanBeHeld
-can_be_held s cuts n can = record {
-  states = λ p e le. (is_small s cuts n can p e le).0;
-  few = λ p e le. omega (arith, (is_small s cuts n can p e le).1);
-  changes = λ p v less. between_kept (state_at s cuts p v) (state_at s cuts p (v + 1)) (is_small s cuts n can p v (omega (arith, less))).0 (is_small s cuts n can p (v + 1) (omega (arith, less))).0;
-  few_changes = λ p v less.
-      omega (arith, between_few (state_at s cuts p v) (state_at s cuts p (v + 1)), (is_small s cuts n can p v (omega (arith, less))).1, (is_small s cuts n can p (v + 1) (omega (arith, less))).1);
-}
+  pub can_be_held : StatesCanBeHeld
+  can_be_held s cuts n can = record {
+    states = λ p e le. (is_small s cuts n can p e le).0;
+    few = λ p e le. omega (arith, (is_small s cuts n can p e le).1);
+    changes = λ p v less. between_kept (state_at s cuts p v) (state_at s cuts p (v + 1)) (is_small s cuts n can p v (omega (arith, less))).0 (is_small s cuts n can p (v + 1) (omega (arith, less))).0;
+    few_changes = λ p v less.
+        omega (arith, between_few (state_at s cuts p v) (state_at s cuts p (v + 1)), (is_small s cuts n can p v (omega (arith, less))).1, (is_small s cuts n can p (v + 1) (omega (arith, less))).1);
+  }

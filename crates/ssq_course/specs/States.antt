@@ -1,18 +1,14 @@
 -- The states of a query, as its files hold them.
-use Rattle.std.specs.Prelude.{◌≡◌, ◌<◌, ◌≤◌, ◌+◌, ◌^◌, ℕ, [], length, Option, Some, None}
-use Rattle.std.specs.List.{AllByRecursion}
-use Rattle.ssq_json.specs.Fits.{IfText, IsLineText}
-use Rattle.ssq_shape.specs.declared.bound.Aggregate.{Aggregate}
+use Rattle.std.specs.Prelude.{◌≡◌, ◌<◌, ◌≤◌, ◌+◌, ◌^◌, ℕ, [], length, sum}
 use Rattle.ssq_shape.specs.declared.bound.Grouping.{Grouping}
 use Rattle.ssq_shape.specs.declared.bound.Shape.{Shape}
 use Rattle.ssq_shape.specs.declared.bound.Shape.TheVariants.{Plain, Group, Dedup, Join}
-use Rattle.ssq_shape.specs.declared.typed.Typed.{Typed}
-use Rattle.ssq_shape.specs.declared.typed.Typed.TheVariants.{Constant}
-use Rattle.ssq_meaning.specs.Epochs.{accepted}
+use Rattle.ssq_shape.specs.Windows.{HasGroupWindows}
+use Rattle.ssq_meaning.specs.Cut.{AreCuts}
 use Rattle.ssq_version.specs.State.{Ascends, IsState, IsChange, between}
 use Rattle.ssq_version.specs.Text.{delta_text, snapshot_text}
 use Rattle.ssq_core.specs.Course.{Cuts}
-use Rattle.ssq_course.specs.Setting.{Setting, parts_in, cuts_of, state_at, course_of}
+use Rattle.ssq_course.specs.Setting.{Setting, parts_in, cut_of, cuts_of, state_at, course_of}
 
 -- ---- of any rows
 
@@ -26,27 +22,30 @@ pub record AreOfStates (s : Setting) (cuts : Cuts) : Type 0 where
 
 -- ---- of rows that can be held
 
--- A text that is an argument by itself, and so the same for each row, is no longer than a line may be. Any other text is in a line, or made
--- by `||`.
-abbrev pub IsShortArgument : Option Typed → Type 0
-IsShortArgument None = Unit {0}
-IsShortArgument (Some (Constant value)) = IfText IsLineText value
-IsShortArgument (Some x) = Unit {0}
-
--- Groups whose keys and totals have fewer than 2^32 bytes, whatever the lines are: GROUP BY has at most 64 parts, and there are at most 64
--- aggregates, each with such an argument. The bytes of a value are then 1048581 at most.
-pub record AreShort (grouping : Grouping) : Type 0 where
+-- Groups within the limits of the language: GROUP BY has at most 64 parts, at most one of them a window, of one to 64 slides, and there are
+-- at most 64 aggregates. A value has 1,048,581 bytes at most, so that the bytes of a key, and of its totals, are fewer than 2^32, whatever
+-- the lines are.
+pub record AreWithinLimits (grouping : Grouping) : Type 0 where
   pub keys : length grouping.keys ≤ 64
   pub aggregates : length grouping.aggregates ≤ 64
-  pub arguments : AllByRecursion (λ (aggregate : Aggregate). IsShortArgument aggregate.argument) grouping.aggregates
+  pub windows : HasGroupWindows grouping
 
--- Whether the states can be held after so many accepted rows: those of groups where these are short and the rows are fewer than 2^63. Of
--- the shapes that are to come nothing is said yet.
-abbrev pub CanHold : Shape → ℕ → Type 0
-CanHold Plain rows = Unit {0}
-CanHold (Group grouping) rows = AreShort grouping × (rows < 2 ^ 63)
-CanHold (Dedup columns) rows = Unit {0}
-CanHold (Join joining) rows = Unit {0}
+-- The cuts of the first n epochs begin with no line and never fall, and they cover fewer than 2^57 lines of all parts. A line feeds at most
+-- 64 rows, so that fewer than 2^63 are accepted.
+pub record CoverFewLines (s : Setting) (cuts : Cuts) (n : ℕ) : Type 0 where
+  pub are_cuts : AreCuts (parts_in s) (cuts_of cuts) n
+  pub few : sum (cut_of (cuts n)) < 2 ^ 57
+
+-- Whether the states of the first n epochs can be held, by the query's shape: those of groups where these are within the limits and the
+-- lines are few. Of the shapes that are to come nothing is said yet.
+abbrev pub CanHoldBy : Shape → Setting → Cuts → ℕ → Type 0
+CanHoldBy Plain s cuts n = Unit {0}
+CanHoldBy (Group grouping) s cuts n = AreWithinLimits grouping × CoverFewLines s cuts n
+CanHoldBy (Dedup columns) s cuts n = Unit {0}
+CanHoldBy (Join joining) s cuts n = Unit {0}
+
+abbrev pub CanHold : Setting → Cuts → ℕ → Type 0
+CanHold s cuts n = CanHoldBy s.job.bound.shape s cuts n
 
 -- The states of the first n epochs, and what these epochs change, have a spelling: keys ascend, keys and values are behind lengths in four
 -- bytes, and entries are counted in eight.
@@ -57,4 +56,4 @@ pub record AreStates (s : Setting) (cuts : Cuts) (n : ℕ) : Type 0 where
   pub few_changes : (p v : ℕ) → v < n → length (between (state_at s cuts p v) (state_at s cuts p (v + 1))) < 2 ^ 64
 
 abbrev pub StatesCanBeHeld : Type 0
-StatesCanBeHeld = (s : Setting) (cuts : Cuts) (n : ℕ) → CanHold s.job.bound.shape (length (accepted s.job.bound (parts_in s) (cuts_of cuts) n)) → AreStates s cuts n
+StatesCanBeHeld = (s : Setting) (cuts : Cuts) (n : ℕ) → CanHold s cuts n → AreStates s cuts n

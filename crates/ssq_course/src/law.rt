@@ -5,6 +5,10 @@ ghost use Rattle.ssq_course.specs.Setting.{Setting};
 ghost use Rattle.ssq_course.specs.States.{AreOfStates, StatesCanBeHeld};
 ghost use Rattle.ssq_course.specs.Laws.{AreCausal, FilesSayTheirCourse, PartitionsShowRows, PlansCanBeWritten};
 
+use ssq_meaning::{
+    epochs_of_groups_follow, fed_rows_are_few, fed_rows_are_fit, kept_groups_are_found,
+};
+
 /// The law of jobs: what the files of a query's checkpoint hold of its first epochs hangs on where these end, and on nothing that comes
 /// later; and an epoch has a fault only where one of its tasks has. Each key is in a partition, so there has to be one.
 pub fn jobs_are_causal()
@@ -29,8 +33,13 @@ pub fn partitions_show_rows()
 {}
 
 /// The law of the state's files: they are those of the states after each epoch and of what each epoch changes. These have a spelling where
-/// the query's groups are short, whatever the lines are.
+/// the query's groups are within the limits of the language and its epochs cover fewer than 2^57 lines, whatever these are.
 pub fn files_hold_states()
     ensures files { (s : Setting) (cuts : Cuts) → AreOfStates s cuts }
     ensures held { StatesCanBeHeld }
-{}
+{
+    fed_rows_are_fit();
+    fed_rows_are_few();
+    epochs_of_groups_follow();
+    kept_groups_are_found();
+}

@@ -1,8 +1,18 @@
-use Rattle.ssq_course.proofs.States.{are_of_states, can_be_held}
+use Rattle.ssq_course.proofs.States.{RowLaws, are_of_states, can_be_held}
 use Rattle.ssq_course.proofs.law.files_hold_states.Goals as goal
 
+row_laws : (c : goal.After-kept_groups_are_found) → RowLaws
+row_laws c = record {
+  fit = c.fed_rows_are_fit.ensures.accepted;
+  own_fit = c.fed_rows_are_fit.ensures.bucket;
+  few = c.fed_rows_are_few.ensures.accepted;
+  own_few = c.fed_rows_are_few.ensures.bucket;
+  lengths = c.epochs_of_groups_follow.ensures.lengths;
+  ascend = c.kept_groups_are_found.ensures.ascend;
+}
+
 pub returns-clause-files : goal.returns-clause-files
-returns-clause-files c = are_of_states
+returns-clause-files c = are_of_states (row_laws c)
 
 pub returns-clause-held : goal.returns-clause-held
-returns-clause-held c = can_be_held
+returns-clause-held c = can_be_held (row_laws c)
