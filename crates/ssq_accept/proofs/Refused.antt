@@ -5,9 +5,11 @@ use Rattle.ssq_accept.specs.declared.refusal.Refusal.{Refusal}
 use Rattle.ssq_accept.specs.declared.refusal.Refusal.TheVariants as refusal
 use Rattle.ssq_ast.specs.declared.query.Query.{Query}
 use Rattle.ssq_bind.proofs.SpanLemmas.{delays_are_spans}
+use Rattle.ssq_bind.proofs.WindowLemmas.{windows_if_written}
 use Rattle.ssq_bind.specs.Delays.{HasSpan}
 use Rattle.ssq_lex.specs.Cut.{cut_of}
 use Rattle.ssq_shape.specs.declared.bound.Bound.{Bound}
+use Rattle.ssq_shape.specs.Windows.{HasWindows}
 use Rattle.ssq_accept.specs.Accepting.{IsRead, IsNoQuery, IsBoundAs, IsUnbound, MayRun, MayNotRun, Forbids, Keeps, IsLater, IsHeld, IsTaken, IsStopped, IsAccepted, IsRefused, IsAllowed, IsNotAllowed, IsKnown, IsUnknown}
 
 pub mode_holds : (bound : Bound) (why : Refusal) → MayNotRun bound why → IsHeld bound why
@@ -52,6 +54,10 @@ query_stops file query (refusal.Mode fault) read is = record { query = query; re
 query_stops file query (refusal.NotYet own) read is = record { query = query; read = read; unbroken = is.0; may_run = is.1; keeps = is.2 }
 query_stops file query refusal.NoMemory read is = is
 
+-- a query that was read from a file and is bound has windows that fit
+windows_of : (file : List ℕ) (query : Query) (bound : Bound) → IsRead file query → IsBoundAs query bound → HasWindows bound
+windows_of file query bound read names = windows_if_written query bound names.is names.unbroken (cut_of file).tokens read.written.written
+
 pub is_accepted : (file : List ℕ) (query : Query) (bound : Bound) → IsRead file query → IsTaken query bound → IsAccepted file query bound
 is_accepted file query bound read taken = record {
   read = read;
@@ -59,9 +65,13 @@ is_accepted file query bound read taken = record {
   may_run = taken.run.may_run;
   plain = taken.run.plain;
   delays = subst (λ (b : Bound). All HasSpan b.streams) (sym taken.names.is) (delays_are_spans (cut_of file).tokens query read.written.written);
+  windows = windows_of file query bound read taken.names;
 }
 
 -- ---- a file that is only to be known
+
+pub is_known : (file : List ℕ) (query : Query) (bound : Bound) → IsRead file query → IsAllowed query bound → IsKnown file query bound
+is_known file query bound read allowed = record { read = read; allowed = allowed; windows = windows_of file query bound read allowed.names }
 
 pub names_forbid : (query : Query) (why : Refusal) → IsUnbound query why → IsNotAllowed query why
 names_forbid query (refusal.Parse at cause) is = is

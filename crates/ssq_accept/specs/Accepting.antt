@@ -22,6 +22,7 @@ use Rattle.ssq_parse.specs.File.{query_of, IsQuery}
 use Rattle.ssq_shape.specs.declared.bound.Bound.{Bound}
 use Rattle.ssq_shape.specs.declared.bound.Shape.{Shape}
 use Rattle.ssq_shape.specs.declared.bound.Shape.TheVariants as shape
+use Rattle.ssq_shape.specs.Windows.{HasWindows}
 
 -- ---- a file is a query
 
@@ -135,22 +136,25 @@ IsNotAllowed query (refusal.Mode fault) = AreNone (QueryFaults query) × Forbids
 IsNotAllowed query (refusal.NotYet own) = ⊥
 IsNotAllowed query refusal.NoMemory = Unit {0}
 
--- the file is this query, written by the grammar; it breaks no rule of binding, and no rule of modes forbids it
+-- The file is this query, written by the grammar; it breaks no rule of binding, and no rule of modes forbids it. So it
+-- groups rows by at most one window, whose size and slide are spans, and whose size is one to 64 slides.
 pub record IsKnown (file : List ℕ) (query : Query) (bound : Bound) : Type 0 where
   pub read : IsRead file query
   pub allowed : IsAllowed query bound
+  pub windows : HasWindows bound
 
 -- ---- the whole
 
 -- The file is this query, written by the grammar; it breaks no rule of binding, no rule of modes forbids it, and it keeps
 -- nothing. So it reads one stream or two, whose delays are 1 second to 366 days long, an event column stands only with a
--- delay, and the canonical text is UTF-8 of a length of 64 bits.
+-- delay, its windows fit as those of a query that is known, and the canonical text is UTF-8 of a length of 64 bits.
 pub record IsAccepted (file : List ℕ) (query : Query) (bound : Bound) : Type 0 where
   pub read : IsRead file query
   pub names : IsBoundAs query bound
   pub may_run : MayRun bound
   pub plain : bound.shape ≡ shape.Plain
   pub delays : All HasSpan bound.streams
+  pub windows : HasWindows bound
 
 -- the query breaks a rule, and this is the first of them
 pub record IsBroken (file : List ℕ) (fault : BindFault) : Type 0 where

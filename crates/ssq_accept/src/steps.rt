@@ -126,7 +126,7 @@ fn allowed(alloc: Global, query: &Query) -> Result<Bound, Refusal>
 /// # Errors
 ///
 /// As [`accept`], but never [`Refusal::NotYet`].
-#[tactic(auto, using(crate::proofs::Refused::none_known, crate::proofs::Refused::query_unknown))]
+#[tactic(auto, using(crate::proofs::Refused::none_known, crate::proofs::Refused::query_unknown, crate::proofs::Refused::is_known))]
 pub fn recognise(alloc: Global, bytes: &[u8]) -> Result<Accepted, Refusal>
     ensures known { IfOk result (λ known. IsKnown bytes.now known.query known.bound) }
     ensures refused { IfErr result (IsUnknown bytes.now) }

@@ -12,4 +12,5 @@ pub mod SameText
 pub mod SameValues
 pub mod SameQueries
 pub mod SpanLemmas
+pub mod WindowLemmas
 pub mod SoundLemmas

@@ -11,7 +11,7 @@ use Rattle.ssq_ast.specs.declared.query.Join.{Join}
 use Rattle.ssq_ast.specs.declared.query.Query.{Query}
 use Rattle.ssq_ast.specs.declared.query.Stream.{Stream as Declared}
 use Rattle.ssq_ast.specs.declared.query.Watermark.{Watermark}
-use Rattle.ssq_ast.specs.Expression.{behind}
+use Rattle.ssq_ast.specs.Expression.{Words, behind}
 use Rattle.ssq_ast.specs.Statement.{WrittenStream, WrittenWatermark, decl_words, separated, watermark_tree, declared_words, declared_tree, each_tree, Each, IsSpanText, IsRegularStream}
 use Rattle.ssq_check.specs.Names.{declared, left_stream, join_stream, right_stream}
 use Rattle.ssq_bind.specs.Bound.{bound_of}
@@ -41,7 +41,7 @@ span_is text = by (position (λ byte. byte == 32) text)
     by None = tt
     by (Some space) = with_is (number_of (take space text)) (unit_of (drop (space + 1) text))
 
-text_is : (text : List ℕ) (micros : ℤ) → span_of text ≡ Some micros → IsSpan micros
+pub text_is : (text : List ℕ) (micros : ℤ) → span_of text ≡ Some micros → IsSpan micros
 text_is text micros is = subst (λ o. IfSome o IsSpan) is (span_is text)
 
 -- the watermark of a declared stream, if it has one, has a span
@@ -55,9 +55,11 @@ written_delay (Some watermark) places is = text_is watermark.delay.text watermar
 written_stream : (stream : WrittenStream) (places : List ℕ) → IsRegularStream stream → Delayed (declared_tree stream places)
 written_stream stream places is = written_delay stream.watermark (drop 3 (behind (separated (map decl_words stream.columns)) (drop 4 places))) is.delay
 
-written_streams : (streams : List WrittenStream) (places : List ℕ) → Each IsRegularStream streams → Each Delayed (each_tree declared_words declared_tree 0 streams places)
-written_streams [] places is = tt
-written_streams (stream ∷ streams) places is = (written_stream stream places is.0, written_streams streams (drop 0 (behind (declared_words stream) places)) is.1)
+-- what each part of a list has, each tree of the list has
+pub trees_have : {A B : Type 0} (P : A → Type 0) (Q : B → Type 0) (written : A → Words) (made : A → List ℕ → B) (gap : ℕ)
+    → ((part : A) (places : List ℕ) → P part → Q (made part places)) → (parts : List A) (places : List ℕ) → Each P parts → Each Q (each_tree written made gap parts places)
+trees_have P Q written made gap each [] places is = tt
+trees_have P Q written made gap each (part ∷ parts) places is = (each part places is.0, trees_have P Q written made gap each parts (drop gap (behind (written part) places)) is.1)
 
 -- the stream that is declared under a name, if there is one
 declared_has : (streams : List Declared) (name : List ℕ) → Each Delayed streams → IfSome (declared streams name) Delayed
@@ -87,4 +89,4 @@ streams_have query is =
 
 pub delays_are_spans : DelaysAreSpans
 delays_are_spans tokens query is =
-    streams_have query (subst (λ (made : Query). Each Delayed made.streams) is.meant (written_streams is.written.streams (map (λ token. token.start) tokens) is.regular.streams))
+    streams_have query (subst (λ (made : Query). Each Delayed made.streams) is.meant (trees_have IsRegularStream Delayed declared_words declared_tree 0 written_stream is.written.streams (map (λ token. token.start) tokens) is.regular.streams))

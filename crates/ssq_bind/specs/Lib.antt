@@ -8,5 +8,6 @@ pub mod Explained
 pub mod Typed
 pub mod Timed
 pub mod Delays
+pub mod Windows
 pub mod Places
 pub mod Sound

@@ -4,6 +4,7 @@ ghost use Rattle.ssq_bind.specs.Delays.{DelaysAreSpans};
 ghost use Rattle.ssq_bind.specs.Places.{PlacesAreIgnored};
 ghost use Rattle.ssq_bind.specs.Timed.{EventsHaveDelays};
 ghost use Rattle.ssq_bind.specs.Typed.{RowsAreTyped};
+ghost use Rattle.ssq_bind.specs.Windows.{WindowsAreFit};
 
 /// The law of types: an expression on rows that has a type has the same type once it is bound.
 pub fn rows_are_typed()
@@ -18,6 +19,12 @@ pub fn events_have_delays()
 /// The law of delays: a query that was read from tokens reads streams whose delays are 1 second to 366 days long.
 pub fn delays_are_spans()
     ensures { DelaysAreSpans }
+{}
+
+/// The law of windows: a query that was read from tokens and breaks no rule of binding groups its rows by at most one
+/// window, whose size and slide are 1 second to 366 days long, and whose size is one to 64 slides.
+pub fn windows_are_fit()
+    ensures { WindowsAreFit }
 {}
 
 /// The law of places: queries that are the same, places aside, are bound to the same bound query.

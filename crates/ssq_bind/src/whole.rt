@@ -8,6 +8,7 @@ ghost use Rattle.ssq_check.specs.Whole.{QueryFaults, IsRefusedBy};
 ghost use Rattle.ssq_bind.specs.Bound.{context_of, shown_of, grouping_of, kept_by, shape_of, mode_of, filter_value, bound_of};
 ghost use Rattle.ssq_bind.specs.Sound.{IsSoundBound};
 ghost use Rattle.ssq_bind.specs.Streams.{streams_of};
+ghost use Rattle.ssq_bind.specs.Windows.{HasWindowsIfWritten};
 
 use crate::context::Context;
 use crate::group::{columns_by, group_keys, keys_by, order_by, window_size};
@@ -247,6 +248,7 @@ pub fn bind(alloc: Global, query: &Query) -> Result<Bound, Refusal>
     ensures bound { IfOk result (λ bound. bound ≡ bound_of query.now) }
     ensures taken { OnOk result (AreNone (QueryFaults query.now)) }
     ensures sound { IfOk result IsSoundBound }
+    ensures windows { IfOk result (HasWindowsIfWritten query.now) }
     ensures refused { IfErr result (IsRefusedBy (QueryFaults query.now)) }
 {
     check(alloc, query)?;

@@ -1,0 +1,5 @@
+use Rattle.ssq_bind.proofs.WindowLemmas.{windows_if_written}
+use Rattle.ssq_bind.proofs.whole.bind.Goals as goal
+
+pub returns-clause-windows : goal.returns-clause-windows
+returns-clause-windows c = windows_if_written c.args.query.now c.in-Ok.bound c.in-Ok.ensures.bound c.in_ok-check.ensures.taken
