@@ -171,6 +171,8 @@ step_ahead r first c (entry.Plan e) may is = record {
 }
 step_ahead r first c (entry.Claim t) may is = record { low = is.low; before = is.before; few = is.few; ahead = is.ahead }
 step_ahead r first c (entry.Report t f) may is = record { low = is.low; before = is.before; few = is.few; ahead = is.ahead }
+step_ahead r first c (entry.Version t) may is = record { low = is.low; before = is.before; few = is.few; ahead = λ closed unsettled. absurd (true≢false (sym may.0 ∙ closed)) }
+step_ahead r first c (entry.Missed t) may is = record { low = is.low; before = is.before; few = is.few; ahead = is.ahead }
 step_ahead r first c (entry.OutFile e) may is = record { low = is.low; before = is.before; few = is.few; ahead = λ closed unsettled. absurd (true≢false (sym may.2 ∙ closed)) }
 step_ahead r first c (entry.Sync clock) may is = record { low = is.low; before = is.before; few = is.few; ahead = λ closed unsettled. absurd (true≢false unsettled) }
 step_ahead r first c (entry.Commit e due) may is = record {

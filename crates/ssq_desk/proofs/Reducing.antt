@@ -1,5 +1,5 @@
 -- A reduce task is taken back.
-use Rattle.std.proofs.Common.{◌≡◌, ◌<◌, [], ◌∷◌, ℕ, ℤ, zero, suc, Bool, true, false, true≢false, List, length, set, Option, Some, None, Result, Ok, Err, inl, inr, refl, sym, ap, ◌∙◌, subst, arith}
+use Rattle.std.proofs.Common.{◌≡◌, ◌<◌, [], ◌∷◌, ℕ, ℤ, zero, suc, Bool, true, false, true≢false, List, length, set, Option, Some, None, Result, Ok, Err, inl, inr, refl, sym, ap, ◌∙◌, subst, arith, nat_lt}
 use Rattle.std.specs.Prelude.{All, is_some, not, IfOk, if◌then◌else◌}
 use Rattle.std.specs.List.{list_all}
 use Rattle.std.specs.Global.{Vec}
@@ -29,14 +29,14 @@ use Rattle.ssq_task.specs.Lists.{joined_vecs}
 use Rattle.ssq_task.specs.Reducing.{IsReduced}
 use Rattle.ssq_feed.specs.Causes.{LogWent}
 use Rattle.ssq_core.specs.Course.{Cuts}
-use Rattle.ssq_course.specs.Setting.{Setting, course_of}
+use Rattle.ssq_course.specs.Setting.{Setting, course_of, keeping_of}
 use Rattle.ssq_board.specs.declared.front.Cause.{Cause}
 use Rattle.ssq_board.specs.declared.front.Cause.TheVariants as cause
 use Rattle.ssq_board.specs.declared.front.Entry.TheVariants as entry
 use Rattle.ssq_board.specs.declared.front.Place.{Place}
 use Rattle.ssq_board.specs.declared.front.Place.TheVariants as place
 use Rattle.ssq_board.specs.Core.{May, after, is_here, is_of_line, is_stopped, worse, worse_by, fault_at, fault_in, due_of, due_stop, or_stop}
-use Rattle.ssq_board.specs.Follows.{IsOwn}
+use Rattle.ssq_board.specs.Follows.{IsOwn, BringsNone}
 use Rattle.ssq_board.proofs.Leasts.{cause_counts}
 use Rattle.ssq_board.proofs.Lists.{put_else}
 use Rattle.ssq_ledger.specs.Shown.{Shown, IsLegal, IsInOrder, cuts_of}
@@ -113,6 +113,11 @@ own_reduced s cuts e p (Ok rows) keeps_none = (line_faults s cuts e keeps_none).
 own_reduced s cuts e p (Err (reduce.Overflow key)) keeps_none = tt
 own_reduced s cuts e p (Err reduce.DiskFault) keeps_none = tt
 own_reduced s cuts e p (Err reduce.NoMemory) keeps_none = tt
+
+-- it brings no version, where the query keeps no state
+bare_reduced : (s : Setting) (cuts : Cuts) (e p : ℕ) (f : Option Cause) → s.job.bound.shape ≡ Plain → BringsNone (course_of s cuts) (reduce_id e p) f
+bare_reduced s cuts e p None keeps_none = ap (λ (shape : Shape). nat_lt p (keeping_of shape s.job.partitions)) keeps_none
+bare_reduced s cuts e p (Some g) keeps_none = tt
 
 -- why it brought nothing is no line's
 own_stops : (reads : Type 0) (s : Setting) (cuts : Cuts) (e : ℕ) (o : Result (Vec Values) ReduceFault) (g : Cause) → fault_of cause_of_reduce o ≡ Some g → IsStopOf reads s cuts e g
@@ -228,6 +233,9 @@ module _ {D L S F : Type 0} (stores logs : Type 0) (lines : L → List Line) (av
   pub reduced_right : (done : Reduced) (f : Option Cause) → f ≡ fault_of cause_of_reduce done.outcome → IsOwn (course_of (setting_of lines shown.opening) (cuts_of (opening_in lines) shown)) (reduce_id done.epoch done.partition) f
   reduced_right done f is = subst (IsOwn (course_of (setting_of lines shown.opening) (cuts_of (opening_in lines) shown)) (reduce_id done.epoch done.partition)) (sym is)
       (own_reduced (setting_of lines shown.opening) (cuts_of (opening_in lines) shown) done.epoch done.partition done.outcome whole.round.plain.shape)
+
+  pub reduced_bare : (done : Reduced) (f : Option Cause) → BringsNone (course_of (setting_of lines shown.opening) (cuts_of (opening_in lines) shown)) (reduce_id done.epoch done.partition) f
+  reduced_bare done f = bare_reduced (setting_of lines shown.opening) (cuts_of (opening_in lines) shown) done.epoch done.partition f whole.round.plain.shape
 
   -- what is held once it is back
   pub reduced_back : (task : ReduceTask) (done : Reduced) (f : Option Cause) (x : Share) → IsReduceOf stores logs lines shown task → IsReduced task done → f ≡ fault_of cause_of_reduce done.outcome → IfOk done.outcome (λ rows. x.rows ≡ rows)

@@ -11,12 +11,16 @@ use Rattle.ssq_desk.specs.Handed.{IsReduceOf}
 use Rattle.ssq_desk.specs.Results.{cause_of_reduce, fault_of}
 use Rattle.ssq_desk.specs.Whole.{IsWhole}
 use Rattle.ssq_desk.proofs.Handing.{moved_whole}
-use Rattle.ssq_desk.proofs.Reducing.{reduced_right, reduced_back, reduced_faulty}
+use Rattle.ssq_desk.proofs.Reducing.{reduced_right, reduced_bare, reduced_back, reduced_faulty}
 use Rattle.ssq_desk.proofs.desk.Desk.report_reduced.Goals as goal
 
 pub report-requires-clause-right : goal.report-requires-clause-right
 report-requires-clause-right g c =
     λ t. reduced_right _ _ _ _ _ _ g.D.Disk.history _ _ _ _ c.self.invariant c.is_legal.ensures.legal c.is_in_order.ensures c.args.done c.split_reduced-rows.result.1 c.split_reduced-rows.ensures.cause
+
+pub report-requires-clause-bare : goal.report-requires-clause-bare
+report-requires-clause-bare g c =
+    λ t. reduced_bare _ _ _ _ _ _ g.D.Disk.history _ _ _ _ c.self.invariant c.is_legal.ensures.legal c.is_in_order.ensures c.args.done c.split_reduced-rows.result.1
 
 pub invariant_of-self : goal.invariant_of-self
 invariant_of-self g c =
