@@ -1,39 +1,37 @@
 -- The lines of a range, one after the other.
-use Rattle.std.proofs.Common.{◌≡◌, ◌<◌, ◌≤◌, ◌+◌, ◌-◌, ◌++◌, [], ◌∷◌, ℕ, zero, suc, ℤ, List, Option, Some, None, Result, Ok, Err, refl, ap, sym, ◌∙◌, subst, inl, inr, arith, take, map, length, append_assoc}
-use Rattle.std.specs.Prelude.{All, OnOk, IfSome, nat_lt, true, slice_get, option_and_then}
+use Rattle.std.proofs.Common.{◌≡◌, ◌<◌, ◌≤◌, ◌+◌, ◌-◌, ◌++◌, [], ◌∷◌, ℕ, zero, suc, ℤ, List, Option, Some, None, Ok, Err, refl, ap, sym, ◌∙◌, subst, inl, inr, arith, take, drop, map, length, append_assoc}
+use Rattle.std.specs.Prelude.{All, IfSome, nat_lt, true, slice_get, option_and_then}
 use Rattle.std.specs.List.{flat_map, enumerate_from}
 use Rattle.std.specs.Int.{int_max}
 use Rattle.std.proofs.lemmas.Int.{ints}
 use Rattle.std.proofs.lemmas.Bool.{cases_lt, lt-ltb}
-use Rattle.std.proofs.lemmas.List.{append-nil, map-append, take_all, length-take-le}
-use Rattle.std.proofs.lemmas.List.Elements.{All-nil, All-cons, All-head, All-tail, All-append}
+use Rattle.std.proofs.lemmas.List.{append-nil, drop_more, take_all, length-take-le}
+use Rattle.std.proofs.lemmas.Option.{slice_get_within, get_or_from_slice_get}
+use Rattle.std.proofs.lemmas.List.Elements.{All-nil, All-head, All-tail, All-append}
 use Rattle.ssq_outside.specs.Faults.{Rises}
-use Rattle.ssq_time.specs.Time.{IsLineTime, IsStampTime}
+use Rattle.ssq_time.specs.Time.{IsLineTime}
 use Rattle.ssq_value.specs.declared.value.Value.{Value}
 use Rattle.ssq_value.specs.declared.value.Value.TheVariants.{Null, Int, Text, Time, Truth}
 use Rattle.ssq_value.specs.Kind.{IfTime}
-use Rattle.ssq_value.specs.Key.{keys_of}
 use Rattle.ssq_value.specs.Layout.{Layout}
 use Rattle.ssq_route.specs.Buckets.{buckets_of}
 use Rattle.ssq_json.specs.Line.{row_of, longest}
 use Rattle.ssq_json.specs.Fits.{FitsSchema}
 use Rattle.ssq_json.specs.declared.bad_row.BadRow.TheVariants.{TooLong}
 use Rattle.ssq_shape.specs.declared.bound.Bound.{Bound}
-use Rattle.ssq_shape.specs.declared.bound.Shape.{Shape}
-use Rattle.ssq_shape.specs.declared.bound.Shape.TheVariants.{Plain, Group, Dedup, Join}
-use Rattle.ssq_shape.specs.Evaluation.{time_in as time_of_value, and_then}
-use Rattle.ssq_shape.specs.Plain.{shown as shown_row}
+use Rattle.ssq_shape.specs.Evaluation.{time_in as time_of_value}
 use Rattle.ssq_meaning.specs.declared.fed_row.FedRow.{FedRow}
 use Rattle.ssq_meaning.specs.declared.line.LineFault.{LineFault}
 use Rattle.ssq_meaning.specs.declared.line.LineFault.TheVariants as line
+use Rattle.ssq_meaning.specs.Fit.{IsFitRow}
 use Rattle.ssq_meaning.specs.Meaning.{Line, Values, lines_between}
 use Rattle.ssq_meaning.specs.Parts.{Part}
 use Rattle.ssq_meaning.specs.Times.{later, greatest}
-use Rattle.ssq_meaning.specs.Feeding.{layout_at, read_at, handed_by, shown_once, line_evaluated, line_read, line_handed, fed_if, fed_at, time_of_row, time_if, time_at, fault_if, fault_at, first_of_all, or_else, fed_in, time_in, fault_in}
-use Rattle.ssq_meaning.proofs.Epochs.{lines_between-front}
+use Rattle.ssq_meaning.specs.Feeding.{Handed, layout_at, read_at, handed, line_evaluated, line_read, line_handed, placed, fed_if, fed_at, time_of_row, time_if, time_at, fault_if, fault_at, first_of_all, or_else, fed_in, time_in, fault_in}
 use Rattle.ssq_feed.specs.declared.fault.FeedFault.{FeedFault}
 use Rattle.ssq_feed.specs.declared.fault.FeedFault.TheVariants.{BadLine, Overflow, LogFault, LogShort, NoMemory}
-use Rattle.ssq_feed.specs.Rows.{keyed, dealt, once, IsPrintable, IsFedFrom, IsRead, GivesOf, LineCause, IsFirst}
+use Rattle.ssq_feed.specs.Dealing.{Deals}
+use Rattle.ssq_feed.specs.Rows.{dealt, IsFedFrom, IsRead, GivesOf, LineCause, IsFirst}
 use Rattle.ssq_feed.specs.Causes.{LogWent, FeedCause, ReadCause}
 
 -- ---- one line
@@ -55,23 +53,16 @@ row_time_years schema row all = by_event schema.event where
   by_event None = tt
   by_event (Some at) = time_years row at all
 
-handed_plain : (shape : Shape) (query : Bound) (stream : ℕ) (row : Values) → handed_by shape query stream row ≡ and_then (shown_row query row) (λ values. Ok (shown_once values))
-handed_plain Plain query stream row = refl
-handed_plain (Group grouping) query stream row = refl
-handed_plain (Dedup columns) query stream row = refl
-handed_plain (Join joining) query stream row = refl
-
--- what a row gives that was read and shown
-pub gives : (query : Bound) (stream : ℕ) (bytes : Line) (schema : Layout) (row : Values) (time : Option ℤ) (values : Option Values)
-    → schema ≡ layout_at query stream → row_of schema bytes ≡ Ok (Some row) → shown_row query row ≡ Ok values → time ≡ time_of_row schema row
-    → FitsSchema schema row → IfSome values (All (IfTime IsStampTime)) → GivesOf query stream bytes time values
-gives query stream bytes schema row time values layout read is timed fits printable =
+-- what a row gives that was read
+pub gives : (query : Bound) (stream : ℕ) (bytes : Line) (schema : Layout) (row : Values) (time : Option ℤ) (rows : List Handed)
+    → schema ≡ layout_at query stream → row_of schema bytes ≡ Ok (Some row) → handed query stream row ≡ Ok rows → time ≡ time_of_row schema row
+    → FitsSchema schema row → GivesOf query stream bytes time rows
+gives query stream bytes schema row time rows layout read is timed fits =
     let read_is : read_at query stream bytes ≡ Ok (Some row) = ap (λ (l : Layout). row_of l bytes) (sym layout) ∙ read in
     record {
-      handed = ap (line_read query stream) read_is ∙ ap line_evaluated (handed_plain query.shape query stream row) ∙ ap (λ r. line_evaluated (and_then r (λ values. Ok (shown_once values)))) is;
+      handed = ap (line_read query stream) read_is ∙ ap line_evaluated is;
       timed = ap (time_if (layout_at query stream)) read_is ∙ ap (λ (l : Layout). time_of_row l row) (sym layout) ∙ sym timed;
       years = subst (λ (t : Option ℤ). IfSome t IsLineTime) (sym timed) (row_time_years schema row fits.years);
-      printable = printable;
     }
 
 too_long : (query : Bound) (stream : ℕ) (line : Line) → nat_lt longest (length line) ≡ true → read_at query stream line ≡ Err TooLong
@@ -88,24 +79,6 @@ read_at-take query stream line =
       | inr short ↦ ap (read_at query stream) (take_all 1048577 line short)
     ]
 
--- ---- the buckets
-
-pub on_ok : {T E A B : Type 0} (r : Result T E) → OnOk r A → (A → B) → OnOk r B
-on_ok (Ok x) a f = f a
-on_ok (Err e) a f = a
-
--- a row without a key goes into the bucket of the key that has no bytes
-pub row_added : (partitions : ℕ) (old new : List (List FedRow)) (rows : List FedRow) (stream part at : ℕ) (key values : Values) → key ≡ []
-    → ((added : List (List ℕ × FedRow)) → old ≡ buckets_of partitions added
-    → new ≡ buckets_of partitions (added ++ ([], record { stream = stream; part = part; offset = at; key = key; time = None; values = values }) ∷ []))
-    → old ≡ dealt partitions rows → new ≡ dealt partitions (rows ++ once stream part at (Some values))
-unfolding keys_of
-row_added partitions old new rows stream part at key values none all is =
-    let P : Values → Type 0 = λ k. (added : List (List ℕ × FedRow)) → old ≡ buckets_of partitions added
-    → new ≡ buckets_of partitions (added ++ ([], record { stream = stream; part = part; offset = at; key = k; time = None; values = values }) ∷ []) in
-    let row : List FedRow = once stream part at (Some values) in
-    subst P none all (map keyed rows) is ∙ ap (buckets_of partitions) (sym (map-append keyed rows row))
-
 -- ---- line after line
 
 -- Up to an offset: the rows so far and those of the lines that are left are the rows of the range, the greatest time is that of what was read
@@ -113,7 +86,7 @@ row_added partitions old new rows stream part at key values none all is =
 pub record SoFar (tells : Type 0) (query : Bound) (part : Part) (from at to partitions : ℕ) (time : Option ℤ) (buckets : List (List FedRow)) : Type 0 where
   pub rows : List FedRow
   pub apart : buckets ≡ dealt partitions rows
-  pub printable : All IsPrintable rows
+  pub fit : All IsFitRow rows
   pub years : IfSome time IsLineTime
   pub left : tells → rows ++ fed_in query part at to ≡ fed_in query part from to
   pub greatest : tells → later time (time_in query part at to) ≡ time_in query part from to
@@ -124,7 +97,7 @@ pub begun : (tells : Type 0) (query : Bound) (part : Part) (from to partitions :
 begun tells query part from to partitions buckets none = record {
   rows = [];
   apart = none;
-  printable = All-nil IsPrintable;
+  fit = All-nil IsFitRow;
   years = tt;
   left = λ tells. refl;
   greatest = λ tells. refl;
@@ -139,16 +112,14 @@ later_assoc (Some r) (Some s) (Some t) = ap Some (max_assoc r s t) where
   max_assoc : (a b c : ℤ) → int_max (int_max a b) c ≡ int_max a (int_max b c)
   max_assoc a b c = grind (arith, ints)
 
-once_is : (part : Part) (at : ℕ) (values : Option Values) → fed_if part at (Ok (shown_once values)) ≡ once part.stream part.part at values
-once_is part at None = refl
-once_is part at (Some values) = refl
-
-unfaulty : (part : Part) (at : ℕ) (values : Option Values) → fault_if part at (Ok (shown_once values)) ≡ None
-unfaulty part at values = refl
-
-once_printable : (stream part at : ℕ) (values : Option Values) → IfSome values (All (IfTime IsStampTime)) → All IsPrintable (once stream part at values)
-once_printable stream part at None is = All-nil IsPrintable
-once_printable stream part at (Some values) is = All-cons IsPrintable (record { stream = stream; part = part; offset = at; key = []; time = None; values = values }) [] is (All-nil IsPrintable)
+-- the lines from an offset on are the line there and those after it
+lines_between-front : (at to : ℕ) (lines : List Line) (line : Line) → at < to → slice_get lines at ≡ Some line
+    → lines_between at to lines ≡ line ∷ lines_between (at + 1) to lines
+lines_between-front at to lines line inside there =
+    let e : to - at ≡ suc (to - (at + 1)) = omega arith in
+    let within : at < length lines = slice_get_within lines at line there in
+    let d : drop at lines ≡ line ∷ drop (at + 1) lines = drop_more lines at line within ∙ ap (λ (x : Line). x ∷ drop (at + 1) lines) (get_or_from_slice_get lines at line line there) in
+    rw (e, d) refl
 
 -- what holds of the line there
 record Front (query : Bound) (part : Part) (at to : ℕ) (bytes : Line) : Type 0 where
@@ -170,23 +141,23 @@ in_front query part at to bytes inside is =
     }
 
 -- one line more
-pub goes_on : (tells : Type 0) (query : Bound) (part : Part) (from at to partitions : ℕ) (time own more : Option ℤ) (values : Option Values) (bytes : Line) (old new : List (List FedRow))
-    → SoFar tells query part from at to partitions time old → at < to → (tells → IsRead part.lines at bytes) → GivesOf query part.stream bytes own values
-    → more ≡ later time own → IfSome more IsLineTime
-    → ((rows : List FedRow) → old ≡ dealt partitions rows → new ≡ dealt partitions (rows ++ once part.stream part.part at values))
+pub goes_on : (tells : Type 0) (query : Bound) (part : Part) (from at to partitions : ℕ) (time own more : Option ℤ) (rows : List Handed) (bytes : Line) (old new : List (List FedRow))
+    → SoFar tells query part from at to partitions time old → at < to → (tells → IsRead part.lines at bytes) → GivesOf query part.stream bytes own rows
+    → more ≡ later time own → IfSome more IsLineTime → length old ≡ partitions → Deals old new (map (placed part at) rows)
     → SoFar tells query part from (at + 1) to partitions more new
-goes_on tells query part from at to partitions time own more values bytes old new so_far inside read given more_is years added =
-    let row = once part.stream part.part at values in
+goes_on tells query part from at to partitions time own more rows bytes old new so_far inside read given more_is years len deals =
+    let own_rows = map (placed part at) rows in
+    let P : ℕ → Type 0 = λ n. (before : List FedRow) → old ≡ dealt n before → new ≡ dealt n (before ++ own_rows) in
+    let behind : P partitions = subst P len deals.behind in
     record {
-      rows = so_far.rows ++ row;
-      apart = added so_far.rows so_far.apart;
-      printable = All-append IsPrintable so_far.rows row so_far.printable (once_printable part.stream part.part at values given.printable);
+      rows = so_far.rows ++ own_rows;
+      apart = behind so_far.rows so_far.apart;
+      fit = All-append IsFitRow so_far.rows own_rows so_far.fit deals.fit;
       years = years;
       left = λ is.
           let front = in_front query part at to bytes inside (read is) in
-          let fed : fed_in query part at to ≡ row ++ fed_in query part (at + 1) to = front.fed ∙ ap (λ r. fed_if part at r ++ fed_in query part (at + 1) to) given.handed
-          ∙ ap (λ r. r ++ fed_in query part (at + 1) to) (once_is part at values) in
-          append_assoc so_far.rows row (fed_in query part (at + 1) to) ∙ ap (λ r. so_far.rows ++ r) (sym fed) ∙ so_far.left is;
+          let fed : fed_in query part at to ≡ own_rows ++ fed_in query part (at + 1) to = front.fed ∙ ap (λ r. fed_if part at r ++ fed_in query part (at + 1) to) given.handed in
+          append_assoc so_far.rows own_rows (fed_in query part (at + 1) to) ∙ ap (λ r. so_far.rows ++ r) (sym fed) ∙ so_far.left is;
       greatest = λ is.
           let front = in_front query part at to bytes inside (read is) in
           let rest = time_in query part (at + 1) to in
@@ -211,7 +182,7 @@ ended tells query part from at to partitions time buckets so_far le =
     record {
       rows = so_far.rows;
       apart = so_far.apart;
-      printable = so_far.printable;
+      fit = so_far.fit;
       years = so_far.years;
       are = λ is. sym (append-nil so_far.rows)
           ∙ ap (λ (ls : List Line). so_far.rows ++ flat_map (λ (l : ℕ × Line). fed_at query part l.0 l.1) (enumerate_from at ls)) (sym over) ∙ so_far.left is;

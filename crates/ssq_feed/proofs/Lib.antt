@@ -1,2 +1,5 @@
+pub mod Arguments
+pub mod Windowing
+pub mod Members
 pub mod Feeding
 pub mod Dealing

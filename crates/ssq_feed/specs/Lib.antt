@@ -1,3 +1,6 @@
 pub mod Rows
+pub mod Keys
+pub mod Handing
+pub mod Dealing
 pub mod Causes
 pub mod Outcome

@@ -1,7 +1,6 @@
 -- What a map task makes of the lines of its part.
-use Rattle.std.specs.Prelude.{◌≡◌, ◌≢◌, ⊤, ℕ, ℤ, List, [], ◌∷◌, map, take, slice_get, All, Option, Some, None, Ok, Err, IfSome}
-use Rattle.ssq_time.specs.Time.{IsLineTime, IsStampTime}
-use Rattle.ssq_value.specs.Kind.{IfTime}
+use Rattle.std.specs.Prelude.{◌≡◌, ◌≢◌, ⊤, ℕ, ℤ, List, map, take, slice_get, All, Option, Some, None, Ok, Err, IfSome}
+use Rattle.ssq_time.specs.Time.{IsLineTime}
 use Rattle.ssq_value.specs.Key.{keys_of}
 use Rattle.ssq_route.specs.Buckets.{buckets_of}
 use Rattle.ssq_json.specs.declared.bad_row.BadRow.TheVariants as bad
@@ -9,9 +8,10 @@ use Rattle.ssq_shape.specs.declared.bound.Bound.{Bound}
 use Rattle.ssq_meaning.specs.declared.fed_row.FedRow.{FedRow}
 use Rattle.ssq_meaning.specs.declared.line.LineFault.{LineFault}
 use Rattle.ssq_meaning.specs.declared.line.LineFault.TheVariants as line
-use Rattle.ssq_meaning.specs.Meaning.{Line, Values}
+use Rattle.ssq_meaning.specs.Fit.{IsFitRow}
+use Rattle.ssq_meaning.specs.Meaning.{Line}
 use Rattle.ssq_meaning.specs.Parts.{Part}
-use Rattle.ssq_meaning.specs.Feeding.{shown_once, line_handed, time_at, fed_in, time_in, fault_in}
+use Rattle.ssq_meaning.specs.Feeding.{Handed, line_handed, time_at, fed_in, time_in, fault_in}
 use Rattle.ssq_feed.specs.declared.fault.FeedFault.{FeedFault}
 use Rattle.ssq_feed.specs.declared.fault.FeedFault.TheVariants.{BadLine, Overflow, LogFault, LogShort, NoMemory}
 
@@ -23,21 +23,12 @@ keyed row = (keys_of row.key, row)
 abbrev pub dealt : ℕ → List FedRow → List (List FedRow)
 dealt partitions rows = buckets_of partitions (map keyed rows)
 
--- the row that a line of a part shows, where it shows one, as it is fed: it has no key and no time key
-abbrev pub once : (stream part offset : ℕ) → Option Values → List FedRow
-once stream part offset None = []
-once stream part offset (Some values) = record { stream = stream; part = part; offset = offset; key = []; time = None; values = values } ∷ []
-
--- no time of the row could not be printed
-abbrev pub IsPrintable : FedRow → Type 0
-IsPrintable row = All (IfTime IsStampTime) row.values
-
 -- What a map task brings of the lines of a part from one offset up to another, as its greatest event time and its buckets: that of
--- these lines, none of which has a fault, and their rows.
+-- these lines, none of which has a fault, and their rows, each of which a state can hold.
 pub record IsFedFrom (tells : Type 0) (query : Bound) (part : Part) (from to partitions : ℕ) (time : Option ℤ) (buckets : List (List FedRow)) : Type 0 where
   pub rows : List FedRow
   pub apart : buckets ≡ dealt partitions rows
-  pub printable : All IsPrintable rows
+  pub fit : All IsFitRow rows
   pub years : IfSome time IsLineTime
   pub are : tells → rows ≡ fed_in query part from to
   pub greatest : tells → time ≡ time_in query part from to
@@ -49,12 +40,11 @@ pub record IsRead (lines : List Line) (at : ℕ) (bytes : List ℕ) : Type 0 whe
   pub there : slice_get lines at ≡ Some line
   pub cut : bytes ≡ take 1048577 line
 
--- what a line gives: the event time of its row, and the row as SELECT shows it, where it shows one
-pub record GivesOf (query : Bound) (stream : ℕ) (bytes : Line) (time : Option ℤ) (values : Option Values) : Type 0 where
-  pub handed : line_handed query stream bytes ≡ Ok (shown_once values)
+-- what a line gives: the event time of its row, and the rows that are handed on
+pub record GivesOf (query : Bound) (stream : ℕ) (bytes : Line) (time : Option ℤ) (rows : List Handed) : Type 0 where
+  pub handed : line_handed query stream bytes ≡ Ok rows
   pub timed : time_at query stream bytes ≡ time
   pub years : IfSome time IsLineTime
-  pub printable : IfSome values (All (IfTime IsStampTime))
 
 -- why a line at this offset gives nothing
 abbrev pub LineCause : Bound → (stream : ℕ) → Line → (at : ℕ) → FeedFault → Type 0

@@ -10,7 +10,8 @@ pub enum FeedFault {
     /// The first faulty line of the range: it is bad, with the first cause, which is never want of memory.
     #[error("line {offset} is bad")]
     BadLine { offset: u64, cause: BadRow },
-    /// The first faulty line of the range: WHERE, or where that is TRUE an item of SELECT, is outside of its type's range.
+    /// The first faulty line of the range: WHERE, or where that is TRUE an item of SELECT or an argument of an aggregate, is outside of its
+    /// type's range.
     #[error("a result on line {offset} is outside of its type's range")]
     Overflow { offset: u64 },
     /// The log failed.

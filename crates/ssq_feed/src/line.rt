@@ -2,24 +2,28 @@
 
 ghost use Rattle.std.specs.Prelude.{◌≡◌, OnOk, IfOk, IfErr};
 ghost use Rattle.ssq_meaning.specs.Feeding.{layout_at, time_of_row};
+ghost use Rattle.ssq_meaning.specs.Windows.{HasWindows};
+ghost use Rattle.ssq_feed.specs.Handing.{IsFitHanded, handed_rows};
 ghost use Rattle.ssq_feed.specs.Rows.{IsRead, GivesOf, LineCause};
 ghost use Rattle.ssq_feed.specs.Causes.{LogWent, ReadCause};
 
 use crate::fault::FeedFault;
-use ssq_expr::{EvalFault, show};
+use crate::handed::{HandedOn, handed_on};
+use crate::times::time_at;
+use ssq_expr::EvalFault;
 use ssq_json::{BadRow, read_row};
 use ssq_outside::{LineError, Log};
 use ssq_shape::Bound;
-use ssq_value::{Row, Schema, Value};
+use ssq_value::{Schema, Value};
 use std::alloc::Global;
 
 /// What a line gives; a blank one gives nothing.
 #[derive(Drop)]
-pub(crate) struct LineGift {
+pub(crate) struct LineGift<'a> {
     /// The event time of its row.
     pub(crate) time: Option<i64>,
-    /// The row as SELECT shows it, where WHERE is TRUE on it.
-    pub(crate) values: Option<Row>,
+    /// What its row hands on.
+    pub(crate) handed: HandedOn<'a>,
 }
 
 /// Reads the line at an offset of a range that ends at `to`, into the buffer.
@@ -45,34 +49,33 @@ pub(crate) fn read_line<L: Log>(
 fn event_time(schema: &Schema, row: &[Value]) -> Option<i64>
     ensures { result ≡ time_of_row schema.now row.now }
 {
-    match row.get(schema.event()?) {
-        Some(Value::Time(time)) => Some(*time),
-        _ => None,
-    }
+    time_at(row, schema.event()?)
 }
 
 /// What the bytes of the line at an offset give.
-pub(crate) fn take_line(
+pub(crate) fn take_line<'a>(
     alloc: Global,
-    bound: &Bound,
+    bound: &'a Bound,
     stream: u32,
     schema: &Schema,
     at: u64,
     line: &[u8],
-) -> Result<LineGift, FeedFault>
-    requires { schema.now ≡ layout_at bound.now stream }
-    ensures gives { IfOk result (λ gift. GivesOf bound.now stream line.now gift.time gift.values) }
+) -> Result<LineGift<'a>, FeedFault>
+    requires schema { schema.now ≡ layout_at bound.now stream }
+    requires windows { HasWindows bound.now }
+    ensures gives { IfOk result (λ gift. GivesOf bound.now stream line.now gift.time (handed_rows bound.now gift.handed)) }
+    ensures fit { IfOk result (λ gift. IsFitHanded gift.handed) }
     ensures fault { IfErr result (LineCause bound.now stream line.now at) }
 {
     match read_row(alloc, line, schema) {
         Ok(None) => Ok(LineGift {
             time: None,
-            values: None,
+            handed: HandedOn::Nothing,
         }),
         Ok(Some(row)) => {
             let time = event_time(schema, row.as_slice());
-            match show(alloc, bound, row.as_slice()) {
-                Ok(values) => Ok(LineGift { time, values }),
+            match handed_on(alloc, bound, row) {
+                Ok(handed) => Ok(LineGift { time, handed }),
                 Err(EvalFault::Overflow) => Err(FeedFault::Overflow { offset: at }),
                 Err(EvalFault::NoMemory) => Err(FeedFault::NoMemory),
             }

@@ -1,6 +1,7 @@
 //! The map task as a value, and its result.
 
 ghost use Rattle.std.specs.Prelude.{◌≤◌};
+ghost use Rattle.ssq_meaning.specs.Windows.{HasWindows};
 ghost use Rattle.ssq_feed.specs.Outcome.{IsFed};
 
 use crate::fault::FeedFault;
@@ -49,12 +50,16 @@ pub struct Fed<'a, L: Log> {
     pub outcome: Result<FedRows, FeedFault>,
 }
 
-/// Reads the lines of the task's range one by one, and hands on their rows.
+/// Reads the lines of the task's range one by one, and hands on their rows: of a grouped query once for each group of a row, of any other
+/// the row as SELECT shows it.
+///
+/// There is at least one partition. The windows of the query are of 1 second to 366 days, and as long as one to 64 of their slides.
 ///
 /// The first faulty line of the range stops it, and so does a log that fails, has too few lines, or want of memory. The log comes
 /// back in each case.
 pub fn feed<'a, L: Log>(alloc: Global, task: MapTask<'a, L>) -> Fed<'a, L>
-    requires { 1 ≤ task.view.partitions }
+    requires partitions { 1 ≤ task.view.partitions }
+    requires windows { HasWindows task.view.bound.now }
     ensures { IsFed L.tells L.lines L.available L.answers L.faults task.entry result }
 {
     let MapTask {

@@ -1,18 +1,24 @@
-use Rattle.std.proofs.Common.{◌≡◌, ◌++◌, ◌∙◌, ℕ, List, sym, subst, refl, arith}
+use Rattle.std.proofs.Common.{◌∙◌, ℕ, List, sym, subst, refl, arith}
 use Rattle.std.proofs.lemmas.Result.{err_from_is_err_and}
-use Rattle.ssq_meaning.specs.declared.fed_row.FedRow.{FedRow}
 use Rattle.ssq_meaning.specs.Meaning.{Line}
 use Rattle.ssq_meaning.specs.Parts.{Part}
-use Rattle.ssq_feed.specs.Rows.{dealt, once, IsRead}
-use Rattle.ssq_feed.proofs.Feeding.{begun, goes_on, went_on, line_stops}
+use Rattle.ssq_feed.specs.Handing.{handed_rows}
+use Rattle.ssq_feed.specs.Rows.{IsRead}
+use Rattle.ssq_feed.proofs.Feeding.{begun, goes_on, went_on, read_stops, line_stops}
 use Rattle.ssq_feed.proofs.range.feed_lines.Goals as goal
 
 pub loop-at-init : goal.loop-at-init
 loop-at-init g c = record {
-  so_far = begun _ _ _ _ _ _ _ c.in_ok-buckets.ensures.empty;
-  len = c.in_ok-buckets.ensures.len;
+  so_far = begun _ _ _ _ _ _ _ c.in_ok-dealer.ensures.empty;
+  len = c.in_ok-dealer.ensures.len;
   log = record { same = λ is. refl; grown = λ is. omega arith; unasked = λ is. refl; counted = omega arith };
 }
+
+pub returns-in_err-read_line-clause-fault : goal.returns-in_err-read_line-clause-fault
+returns-in_err-read_line-clause-fault g c =
+    let p = err_from_is_err_and c.from_residual-in_err-read_line.result c.from_residual-in_err-read_line.ensures.1 in
+    rw (p.1, p.2) (read_stops g.L.Log.tells g.L.Log.lines g.L.Log.available g.L.Log.answers g.L.Log.faults c.args.view.bound.now c.args.stream c.args.part c.args.from c.loop-at.at c.args.to
+    c.args.log.now c.loop-at.log c.read_line.new.log _ c.loop-at.invariant.log c.loop-at-test.true c.in_err-read_line.ensures.fault)
 
 pub returns-in_err-gift-clause-fault : goal.returns-in_err-gift-clause-fault
 returns-in_err-gift-clause-fault g c =
@@ -22,7 +28,7 @@ returns-in_err-gift-clause-fault g c =
     subst Q (c.read_line.ensures.log.same tells ∙ c.loop-at.invariant.log.same tells) (subst P (sym c.as_slice.ensures.value) (c.in_ok-read_line.ensures.read tells)) in
     let p = err_from_is_err_and c.from_residual-in_err-gift.result c.from_residual-in_err-gift.ensures.1 in
     rw (p.1, p.2) (line_stops g.L.Log.tells g.L.Log.lines g.L.Log.available g.L.Log.answers g.L.Log.faults c.args.view.bound.now c.args.stream c.args.part c.args.from c.loop-at.at c.args.to c.args.view.partitions
-    c.loop-at.time c.loop-at.buckets c.as_slice.result.now c.args.log.now c.read_line.new.log _ c.loop-at.invariant.so_far c.loop-at-test.true read c.in_err-gift.ensures.fault)
+    c.loop-at.time c.loop-at.dealer.buckets c.as_slice.result.now c.args.log.now c.read_line.new.log _ c.loop-at.invariant.so_far c.loop-at-test.true read c.in_err-gift.ensures.fault)
 
 pub loop-at-preserved : goal.loop-at-preserved
 loop-at-preserved g c =
@@ -31,13 +37,12 @@ loop-at-preserved g c =
     let read : g.L.Log.tells → IsRead (g.L.Log.lines c.args.log.now) c.loop-at.at c.as_slice.result.now = λ tells.
     subst Q (c.read_line.ensures.log.same tells ∙ c.loop-at.invariant.log.same tells) (subst P (sym c.as_slice.ensures.value) (c.in_ok-read_line.ensures.read tells)) in
     let given = c.in_ok-gift.ensures.gives in
-    let Added : ℕ → Type 0 = λ n. (rows : List FedRow) → c.loop-at.buckets ≡ dealt n rows → c.add_row.new.buckets ≡ dealt n (rows ++ once c.args.stream c.args.part c.loop-at.at c.in_ok-gift.gift.values) in
-    let added : Added c.args.view.partitions = subst Added c.loop-at.invariant.len c.in_ok-add_row.ensures.added in
     let of : Part = record { stream = c.args.stream; part = c.args.part; lines = g.L.Log.lines c.args.log.now } in
     record {
       so_far = goes_on g.L.Log.tells c.args.view.bound.now of c.args.from c.loop-at.at c.args.to c.args.view.partitions c.loop-at.time c.in_ok-gift.gift.time c.later-time.result
-          c.in_ok-gift.gift.values c.as_slice.result.now c.loop-at.buckets c.add_row.new.buckets
-          c.loop-at.invariant.so_far c.loop-at-test.true read given c.later-time.ensures.later (c.later-time.ensures.years c.loop-at.invariant.so_far.years given.years) added;
-      len = c.add_row.ensures.len ∙ c.loop-at.invariant.len;
+          (handed_rows c.args.view.bound.now c.in_ok-gift.gift.handed) c.as_slice.result.now c.loop-at.dealer.buckets c.hand_on.new.self.buckets
+          c.loop-at.invariant.so_far c.loop-at-test.true read given c.later-time.ensures.later (c.later-time.ensures.years c.loop-at.invariant.so_far.years given.years)
+          c.loop-at.invariant.len c.in_ok-hand_on.ensures;
+      len = c.in_ok-hand_on.ensures.len ∙ c.loop-at.invariant.len;
       log = went_on g.L.Log.tells g.L.Log.lines g.L.Log.available g.L.Log.answers g.L.Log.faults c.args.log.now c.loop-at.log c.read_line.new.log c.loop-at.invariant.log c.read_line.ensures.log;
     }

@@ -1,0 +1,123 @@
+-- Rows that are dealt, one behind the other, and those that go to the groups of a row.
+use Rattle.std.proofs.Common.{◌≡◌, ◌+◌, ◌-◌, ◌≤◌, ◌++◌, ℕ, List, [], ◌∷◌, Some, Result, Ok, Err, arith, refl, ap, sym, ◌∙◌, subst, map, length, take, append_assoc}
+use Rattle.std.specs.Prelude.{All, OnOk, slice_get}
+use Rattle.std.specs.List.{flat_map}
+use Rattle.std.proofs.lemmas.List.{append-nil, map-append, take_all, take_more}
+use Rattle.std.proofs.lemmas.List.Concat.{flat_map-append}
+use Rattle.std.proofs.lemmas.List.Elements.{All-nil, All-append}
+use Rattle.std.proofs.lemmas.Option.{slice_get_within, get_or_from_slice_get}
+use Rattle.ssq_value.specs.declared.value.Value.{Value}
+use Rattle.ssq_shape.specs.declared.bound.Bound.{Bound}
+use Rattle.ssq_shape.specs.declared.bound.GroupKey.{GroupKey}
+use Rattle.ssq_shape.specs.declared.bound.Grouping.{Grouping}
+use Rattle.ssq_meaning.specs.declared.fed_row.FedRow.{FedRow}
+use Rattle.ssq_meaning.specs.Fit.{IsFit, IsFitRow}
+use Rattle.ssq_meaning.specs.Group.{key_values, row_keys, member}
+use Rattle.ssq_meaning.specs.Meaning.{Values}
+use Rattle.ssq_feed.specs.declared.dealer.Origin.{Origin}
+use Rattle.ssq_feed.specs.Keys.{begun_with}
+use Rattle.ssq_feed.specs.Rows.{dealt}
+use Rattle.ssq_feed.specs.Dealing.{Deals, from_origin, member_row, member_rows}
+
+pub deals_none : (buckets : List (List FedRow)) → Deals buckets buckets []
+deals_none buckets = record {
+  len = refl;
+  behind = λ before is. is ∙ ap (dealt (length buckets)) (sym (append-nil before));
+  fit = All-nil IsFitRow;
+}
+
+pub deals_more : (first old new : List (List FedRow)) (rows more : List FedRow) → Deals first old rows → Deals old new more → Deals first new (rows ++ more)
+deals_more first old new rows more one two =
+    let P : ℕ → Type 0 = λ n. (before : List FedRow) → old ≡ dealt n before → new ≡ dealt n (before ++ more) in
+    let behind : P (length first) = subst P one.len two.behind in
+    record {
+      len = two.len ∙ one.len;
+      behind = λ before is. behind (before ++ rows) (one.behind before is) ∙ ap (dealt (length first)) (append_assoc before rows more);
+      fit = All-append IsFitRow rows more one.fit two.fit;
+    }
+
+module _ (origin : Origin) (query : Bound) (grouping : Grouping) (arguments : Values) (parts : List GroupKey) (key row : Values) where
+  -- the rows that go to the groups whose keys go on with this value
+  abbrev pub rows_with : Value → List FedRow
+  rows_with value = member_rows origin query grouping arguments (begun_with (key ++ value ∷ []) (row_keys parts row))
+
+  keys_of_values : (values : List Value)
+      → begun_with key (flat_map (λ value. map (λ rest. value ∷ rest) (row_keys parts row)) values)
+      ≡ flat_map (λ value. begun_with (key ++ value ∷ []) (row_keys parts row)) values
+  keys_of_values [] = refl
+  keys_of_values (value ∷ values) =
+      map-append (λ rest. key ++ rest) (map (λ rest. value ∷ rest) (row_keys parts row)) (flat_map (λ v. map (λ rest. v ∷ rest) (row_keys parts row)) values)
+      ∙ ap (λ front. front ++ map (λ rest. key ++ rest) (flat_map (λ v. map (λ rest. v ∷ rest) (row_keys parts row)) values)) (one (row_keys parts row))
+      ∙ ap (λ rest. begun_with (key ++ value ∷ []) (row_keys parts row) ++ rest) (keys_of_values values)
+    where
+      one : (rests : List Values) → map (λ rest. key ++ rest) (map (λ rest. value ∷ rest) rests) ≡ map (λ rest. (key ++ value ∷ []) ++ rest) rests
+      one [] = refl
+      one (rest ∷ rests) =
+          ap (λ k. k ∷ map (λ r. key ++ r) (map (λ r. value ∷ r) rests)) (sym (append_assoc key (value ∷ []) rest)) ∙ ap (λ ks. ((key ++ value ∷ []) ++ rest) ∷ ks) (one rests)
+
+  rows_of_keys : (f : Value → List Values) (values : List Value)
+      → member_rows origin query grouping arguments (flat_map f values) ≡ flat_map (λ value. member_rows origin query grouping arguments (f value)) values
+  rows_of_keys f [] = refl
+  rows_of_keys f (value ∷ values) =
+      ap (map (from_origin origin)) (map-append (member query grouping arguments) (f value) (flat_map f values))
+      ∙ map-append (from_origin origin) (map (member query grouping arguments) (f value)) (map (member query grouping arguments) (flat_map f values))
+      ∙ ap (λ rest. member_rows origin query grouping arguments (f value) ++ rest) (rows_of_keys f values)
+
+  -- a row goes to the groups whose keys go on with one of its values
+  pub rows_of_part : (part : GroupKey)
+      → member_rows origin query grouping arguments (begun_with key (row_keys (part ∷ parts) row)) ≡ flat_map rows_with (key_values part row)
+  unfolding row_keys
+  rows_of_part part =
+      ap (member_rows origin query grouping arguments) (keys_of_values (key_values part row))
+      ∙ rows_of_keys (λ value. begun_with (key ++ value ∷ []) (row_keys parts row)) (key_values part row)
+
+  pub deals_value : (first old new : List (List FedRow)) (values : List Value) (nth : ℕ) (value : Value)
+      → Deals first old (flat_map rows_with (take nth values)) → slice_get values nth ≡ Some value → Deals old new (rows_with value)
+      → Deals first new (flat_map rows_with (take (nth + 1) values))
+  deals_value first old new values nth value before there is =
+      let P : List FedRow → Type 0 = Deals first new in
+      let more : take (nth + 1) values ≡ take nth values ++ value ∷ [] =
+      take_more values nth value (slice_get_within values nth value there) ∙ ap (λ v. take nth values ++ v ∷ []) (get_or_from_slice_get values nth value value there) in
+      let rows : flat_map rows_with (take (nth + 1) values) ≡ flat_map rows_with (take nth values) ++ rows_with value =
+      ap (flat_map rows_with) more ∙ flat_map-append rows_with (take nth values) (value ∷ [])
+      ∙ ap (λ rest. flat_map rows_with (take nth values) ++ rest) (append-nil (rows_with value)) in
+      subst P (sym rows) (deals_more first old new (flat_map rows_with (take nth values)) (rows_with value) before is)
+
+  -- once they are dealt by each value that the row has for a part, they are by that part and those behind it
+  pub deals_part : (first new : List (List FedRow)) (part : GroupKey) (whole : List GroupKey) (values : List Value) (last count : ℕ) → whole ≡ part ∷ parts
+      → values ≡ key_values part row → count ≡ length values → 1 ≤ count → last ≡ count - 1 → Deals first new (flat_map rows_with (take (last + 1) values))
+      → Deals first new (member_rows origin query grouping arguments (begun_with key (row_keys whole row)))
+  deals_part first new part whole values last count whole_is values_are count_is some last_is deals =
+      let P : List FedRow → Type 0 = Deals first new in
+      let every : take (last + 1) values ≡ values = take_all (last + 1) values (omega (arith, count_is, some, last_is)) in
+      subst P (ap (flat_map rows_with) (every ∙ values_are) ∙ sym (rows_of_part part)
+      ∙ ap (λ (ps : List GroupKey). member_rows origin query grouping arguments (begun_with key (row_keys ps row))) (sym whole_is)) deals
+
+  -- no row is dealt by a part for which the row has no value
+  pub deals_nothing : (buckets : List (List FedRow)) (part : GroupKey) (whole : List GroupKey) (values : List Value) (count : ℕ) → whole ≡ part ∷ parts
+      → values ≡ key_values part row → count ≡ length values → (1 ≤ count → ⊥)
+      → Deals buckets buckets (member_rows origin query grouping arguments (begun_with key (row_keys whole row)))
+  deals_nothing buckets part whole values count whole_is values_are count_is none =
+      let P : List FedRow → Type 0 = Deals buckets buckets in
+      let empty : values ≡ [] = none_of values (omega (arith, count_is, none)) in
+      subst P (ap (flat_map rows_with) (sym empty ∙ values_are) ∙ sym (rows_of_part part)
+      ∙ ap (λ (ps : List GroupKey). member_rows origin query grouping arguments (begun_with key (row_keys ps row))) (sym whole_is)) (deals_none buckets)
+    where
+      none_of : (values : List Value) → length values ≡ 0 → values ≡ []
+      none_of [] is = refl
+      none_of (value ∷ values) is = absurd (omega (arith, is))
+
+-- a key that has all its parts
+pub rows_of_key : (origin : Origin) (query : Bound) (grouping : Grouping) (arguments key row : Values) (parts : List GroupKey) → length parts ≡ 0
+    → member_rows origin query grouping arguments (begun_with key (row_keys parts row)) ≡ member_row origin query grouping arguments key ∷ []
+unfolding row_keys
+rows_of_key origin query grouping arguments key row [] is = ap (λ k. member_row origin query grouping arguments k ∷ []) (append-nil key)
+rows_of_key origin query grouping arguments key row (part ∷ parts) is = absurd (omega (arith, is))
+
+pub value_fits : (values : List Value) (nth : ℕ) (value : Value) → All IsFit values → slice_get values nth ≡ Some value → IsFit value
+value_fits values nth value all there =
+    subst IsFit (get_or_from_slice_get values nth value value there) (all nth value (slice_get_within values nth value there))
+
+pub on_ok : {T E A B : Type 0} (r : Result T E) → OnOk r A → (A → B) → OnOk r B
+on_ok (Ok x) a f = f a
+on_ok (Err e) a f = a

@@ -1,0 +1,55 @@
+-- The windows that hold a time, as values of a key.
+use Rattle.std.proofs.Common.{◌≡◌, ℕ, ◌<◌, ℤ, pos, ◌+ℤ◌, ◌*ℤ◌, ◌≤ℤ◌, Some, refl, ap, sym, ◌∙◌, arith, subst, map, length, zero-add}
+use Rattle.std.specs.Prelude.{All, slice_get, option_map, ◌<ℤ◌}
+use Rattle.std.specs.List.{range_with_len}
+use Rattle.std.proofs.lemmas.Int.{ints}
+use Rattle.std.proofs.lemmas.List.{length-map}
+use Rattle.std.proofs.lemmas.List.Elements.{All-map}
+use Rattle.std.proofs.lemmas.List.FromFn.{length-range_with_len, get_or-range_with_len, length-map-range_with_len}
+use Rattle.std.proofs.lemmas.Option.{slice_get-map, slice_get-get_or}
+use Rattle.ssq_time.specs.Time.{IsLineTime, IsStampTime, IsSpan}
+use Rattle.ssq_value.specs.declared.value.Value.TheVariants.{Time}
+use Rattle.ssq_window.specs.Window.{AreWindows, first_start, window_count}
+use Rattle.ssq_meaning.specs.Fit.{IsFit}
+use Rattle.ssq_meaning.specs.Group.{window_starts}
+use Rattle.ssq_feed.specs.Keys.{starts_of}
+use Rattle.ssq_feed.specs.declared.starts.Starts.{Starts}
+
+-- a window that holds a time of the years 1000 to 9000 begins in the years 0001 to 9999
+start_years : (t size start : ℤ) → IsLineTime t → IsSpan size → start ≤ℤ t → t <ℤ (start +ℤ size) → IsStampTime start
+start_years t size start time span begun unfinished = (omega (arith, ints, time.0, time.1, span.0, span.1), omega (arith, ints, time.0, time.1, span.0, span.1))
+
+pub starts_years : (t size slide first : ℤ) (count : ℕ) → IsLineTime t → IsSpan size → AreWindows t size slide first count
+    → (k : ℕ) → k < count → IsStampTime (first +ℤ (pos k *ℤ slide))
+starts_years t size slide first count time span windows k below =
+    let one = windows.each k below in
+    start_years t size (first +ℤ (pos k *ℤ slide)) time span one.begun one.unfinished
+
+-- a state can hold the starts
+pub starts_fit : (starts : Starts) → All IsFit (map Time (starts_of starts))
+starts_fit starts =
+    All-map IsFit Time (starts_of starts) (All-map (λ t. IsFit (Time t)) (λ k. starts.first +ℤ (pos k *ℤ starts.slide)) (range_with_len 0 starts.count) each)
+  where
+    each : All (λ k. IsFit (Time (starts.first +ℤ (pos k *ℤ starts.slide)))) (range_with_len 0 starts.count)
+    each = λ k d below.
+        let less : k < starts.count = omega (arith, below, length-range_with_len 0 starts.count) in
+        let P : ℕ → Type 0 = λ n. IsFit (Time (starts.first +ℤ (pos n *ℤ starts.slide))) in
+        subst P (sym (get_or-range_with_len 0 starts.count k d less ∙ zero-add k)) (starts.years k less, tt)
+
+pub starts_are : (time size slide first step : ℤ) (count : ℕ) → first ≡ first_start time size slide → step ≡ slide → count ≡ window_count time size slide
+    → map (λ k. first +ℤ (pos k *ℤ step)) (range_with_len 0 count) ≡ window_starts time size slide
+starts_are time size slide first step count first_is step_is count_is = rw (first_is, step_is, count_is) refl
+
+pub count_is : (starts : Starts) → length (map Time (starts_of starts)) ≡ starts.count
+count_is starts =
+    length-map (starts_of starts) Time ∙ length-map-range_with_len (λ k. starts.first +ℤ (pos k *ℤ starts.slide)) 0 starts.count
+
+pub start_at : (starts : Starts) (nth : ℕ) → nth < length (map Time (starts_of starts))
+    → slice_get (map Time (starts_of starts)) nth ≡ Some (Time (starts.first +ℤ (pos nth *ℤ starts.slide)))
+start_at starts nth below =
+    let start : ℕ → ℤ = λ k. starts.first +ℤ (pos k *ℤ starts.slide) in
+    let numbers = range_with_len 0 starts.count in
+    let less : nth < starts.count = omega (arith, below, count_is starts) in
+    let number : slice_get numbers nth ≡ Some nth = slice_get-get_or numbers nth 0 (omega (arith, less, length-range_with_len 0 starts.count))
+    ∙ ap Some (get_or-range_with_len 0 starts.count nth 0 less ∙ zero-add nth) in
+    slice_get-map Time (map start numbers) nth ∙ ap (option_map Time) (slice_get-map start numbers nth ∙ ap (option_map start) number)

@@ -1,0 +1,29 @@
+-- What dealing rows does to the buckets.
+use Rattle.std.specs.Prelude.{◌≡◌, List, ◌++◌, map, length, All}
+use Rattle.ssq_shape.specs.declared.bound.Bound.{Bound}
+use Rattle.ssq_shape.specs.declared.bound.Grouping.{Grouping}
+use Rattle.ssq_meaning.specs.declared.fed_row.FedRow.{FedRow}
+use Rattle.ssq_meaning.specs.Feeding.{Handed}
+use Rattle.ssq_meaning.specs.Fit.{IsFitRow}
+use Rattle.ssq_meaning.specs.Group.{member}
+use Rattle.ssq_meaning.specs.Meaning.{Values}
+use Rattle.ssq_feed.specs.declared.dealer.Origin.{Origin}
+use Rattle.ssq_feed.specs.Rows.{dealt}
+
+-- a row that is handed on, with the line that it is from
+abbrev pub from_origin : Origin → Handed → FedRow
+from_origin origin row =
+    record { stream = origin.stream; part = origin.part; offset = origin.offset; key = row.key; time = row.time; values = row.values }
+
+-- the row that goes to the group of a key, and those that go to the groups of these keys
+abbrev pub member_row : Origin → Bound → Grouping → Values → Values → FedRow
+member_row origin query grouping arguments key = from_origin origin (member query grouping arguments key)
+
+abbrev pub member_rows : Origin → Bound → Grouping → Values → List Values → List FedRow
+member_rows origin query grouping arguments keys = map (from_origin origin) (map (member query grouping arguments) keys)
+
+-- Behind what was dealt before, these rows are dealt; a state can hold each of them.
+pub record Deals (old new : List (List FedRow)) (rows : List FedRow) : Type 0 where
+  pub len : length new ≡ length old
+  pub behind : (before : List FedRow) → old ≡ dealt (length old) before → new ≡ dealt (length old) (before ++ rows)
+  pub fit : All IsFitRow rows

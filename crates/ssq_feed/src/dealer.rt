@@ -1,0 +1,194 @@
+//! Rows on their way to their partitions.
+
+ghost use Rattle.std.specs.Prelude.{◌≡◌, ◌≤◌, ◌∷◌, ◌++◌, [], length, map, All, IfOk, OnOk};
+ghost use Rattle.std.specs.List.{AllByRecursion};
+ghost use Rattle.ssq_meaning.specs.Fit.{IsFit, IsFitRow};
+ghost use Rattle.ssq_meaning.specs.Group.{row_keys};
+ghost use Rattle.ssq_meaning.specs.Windows.{HasWindow};
+ghost use Rattle.ssq_feed.specs.Rows.{dealt};
+ghost use Rattle.ssq_feed.specs.Keys.{IsReadRow, begun_with};
+ghost use Rattle.ssq_feed.specs.Handing.{IsFitHanded, handed_rows};
+ghost use Rattle.ssq_feed.specs.Dealing.{Deals, from_origin, member_row, member_rows};
+
+use crate::handed::HandedOn;
+use crate::key_values::KeyValues;
+use ssq_meaning::{FedRow, closing_time};
+use ssq_route::Buckets;
+use ssq_shape::{Bound, GroupKey, Grouping};
+use ssq_value::{Row, Value, put_key};
+use std::alloc::{AllocError, Global};
+
+/// The line that a fed row is from.
+#[derive(Clone, Copy)]
+pub(crate) struct Origin {
+    pub(crate) stream: u32,
+    pub(crate) part: u32,
+    pub(crate) offset: u64,
+}
+
+/// A row that goes to its groups.
+#[derive(Clone, Copy)]
+struct Source<'a> {
+    origin: Origin,
+    bound: &'a Bound,
+    grouping: &'a Grouping,
+    row: &'a [Value],
+}
+
+/// Deals rows to the buckets of their partitions.
+#[derive(Drop)]
+pub(crate) struct Dealer {
+    buckets: Buckets<FedRow>,
+    /// The bytes of the key at hand, in room that the next key's take over.
+    key: Vec<u8>,
+}
+
+/// A key that goes on with one more value than its front, with room for so many values.
+fn longer(
+    alloc: Global,
+    room: usize,
+    front: &[Value],
+    value: Value,
+) -> Result<Vec<Value>, AllocError>
+    ensures { IfOk result (λ key. key.items ≡ front.now ++ value ∷ []) }
+{
+    let mut key = Vec::with_capacity(alloc, room)?;
+    key.extend_with_clones(front)?;
+    key.push(value)?;
+    Ok(key)
+}
+
+/// The same key with one more value.
+fn pushed(mut key: Vec<Value>, value: Value) -> Result<Vec<Value>, AllocError>
+    ensures { IfOk result (λ longer. longer.items ≡ key.items ++ value ∷ []) }
+{
+    key.push(value)?;
+    Ok(key)
+}
+
+impl Dealer {
+    pub(crate) fn new(alloc: Global, partitions: u32) -> Result<Dealer, AllocError>
+        requires { 1 ≤ partitions }
+        ensures empty { IfOk result (λ made. made.buckets ≡ dealt partitions []) }
+        ensures len { IfOk result (λ made. length made.buckets ≡ partitions) }
+    {
+        Ok(Dealer {
+            buckets: Buckets::new(alloc, partitions)?,
+            key: Vec::new(alloc),
+        })
+    }
+
+    pub(crate) fn into_buckets(self) -> Buckets<FedRow>
+        ensures { result ≡ self.buckets }
+    {
+        let Dealer { buckets, .. } = self;
+        buckets
+    }
+
+    /// Puts a row into the bucket of its key's partition, behind those that are there.
+    fn deal(&mut self, row: FedRow) -> Result<(), AllocError>
+        requires { IsFitRow row }
+        ensures { OnOk result (Deals self.old.buckets self.new.buckets (row ∷ [])) }
+    {
+        self.key.clear();
+        put_key(&mut self.key, row.key.as_slice())?;
+        self.buckets.add(self.key.as_slice(), row)
+    }
+
+    /// Deals a row to one group.
+    fn deal_member(&mut self, from: &Source<'_>, key: Row, arguments: Row) -> Result<(), AllocError>
+        requires windows { AllByRecursion HasWindow from.now.grouping.now.keys }
+        requires key { All IsFit key }
+        requires arguments { All IsFit arguments }
+        ensures { OnOk result (Deals self.old.buckets self.new.buckets
+            (member_row from.now.origin from.now.bound.now from.now.grouping.now arguments key ∷ [])) }
+    {
+        let Origin {
+            stream,
+            part,
+            offset,
+        } = from.origin;
+        let time = closing_time(from.bound, from.grouping, key.as_slice());
+        self.deal(FedRow {
+            stream,
+            part,
+            offset,
+            key,
+            time,
+            values: arguments,
+        })
+    }
+
+    /// Deals a row to each of its groups whose keys begin like this, by the parts of a key that are left. The arguments are cloned for each
+    /// group but the last.
+    fn deal_groups(
+        &mut self,
+        alloc: Global,
+        from: &Source<'_>,
+        parts: &[GroupKey],
+        key: Vec<Value>,
+        arguments: Row,
+    ) -> Result<(), AllocError>
+        requires windows { AllByRecursion HasWindow from.now.grouping.now.keys }
+        requires left { AllByRecursion HasWindow parts.now }
+        requires read { IsReadRow from.now.row.now }
+        requires key { All IsFit key.items }
+        requires arguments { All IsFit arguments }
+        ensures { OnOk result (Deals self.old.buckets self.new.buckets
+            (member_rows from.now.origin from.now.bound.now from.now.grouping.now arguments (begun_with key.items (row_keys parts.now from.now.row.now)))) }
+    {
+        let Some((part, parts)) = parts.split_first() else {
+            return self.deal_member(from, Row::from_vec(key), arguments);
+        };
+        let values = KeyValues::of(part, from.row);
+        let Some(last) = values.count().checked_sub(1) else {
+            return Ok(());
+        };
+        let room = from.grouping.keys.len();
+        for nth in 0..last {
+            let begun = longer(alloc, room, key.as_slice(), values.value(nth)?)?;
+            self.deal_groups(alloc, from, parts, begun, arguments.clone()?)?;
+        }
+        let key = pushed(key, values.value(last)?)?;
+        self.deal_groups(alloc, from, parts, key, arguments)
+    }
+
+    /// Deals what a row hands on.
+    pub(crate) fn hand_on(
+        &mut self,
+        alloc: Global,
+        bound: &Bound,
+        origin: Origin,
+        handed: HandedOn<'_>,
+    ) -> Result<(), AllocError>
+        requires { IsFitHanded handed }
+        ensures { OnOk result (Deals self.old.buckets self.new.buckets (map (from_origin origin) (handed_rows bound.now handed.entry))) }
+    {
+        match handed {
+            HandedOn::Nothing => Ok(()),
+            HandedOn::Shown(values) => self.deal(FedRow {
+                stream: origin.stream,
+                part: origin.part,
+                offset: origin.offset,
+                key: Row::new(alloc),
+                time: None,
+                values,
+            }),
+            HandedOn::Grouped {
+                grouping,
+                row,
+                arguments,
+            } => {
+                let from = Source {
+                    origin,
+                    bound,
+                    grouping,
+                    row: row.as_slice(),
+                };
+                let parts = grouping.keys.as_slice();
+                let key = Vec::with_capacity(alloc, parts.len())?;
+                self.deal_groups(alloc, &from, parts, key, arguments)
+            }
+        }
+    }
+}

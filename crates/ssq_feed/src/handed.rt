@@ -1,0 +1,111 @@
+//! What a row hands on, by the shape of the query.
+
+ghost use Rattle.std.specs.Prelude.{ℕ, IfOk};
+ghost use Rattle.std.specs.List.{AllByRecursion};
+ghost use Rattle.ssq_expr.specs.Answers.{Answers, itself};
+ghost use Rattle.ssq_meaning.specs.Feeding.{handed};
+ghost use Rattle.ssq_meaning.specs.Group.{argument_of, arguments_of, handed_to_groups};
+ghost use Rattle.ssq_meaning.specs.Windows.{HasWindow, HasWindows};
+ghost use Rattle.ssq_feed.specs.Keys.{IsReadRow};
+ghost use Rattle.ssq_feed.specs.Handing.{IsFitHanded, handed_rows, handed_shown};
+
+use crate::short::with_short_texts;
+use ssq_expr::{EvalFault, eval, passes, show};
+use ssq_shape::{Aggregate, Bound, Grouping, Shape, Typed};
+use ssq_value::{Row, Value};
+use std::alloc::{AllocError, Global};
+
+/// What a row hands on.
+#[derive(Drop)]
+pub(crate) enum HandedOn<'a> {
+    /// Nothing: there is no row, or WHERE is not TRUE on it.
+    Nothing,
+    /// The row as SELECT shows it.
+    Shown(Row),
+    /// The arguments of the aggregates, to each group of the row.
+    Grouped {
+        grouping: &'a Grouping,
+        /// The row as it was read, of which the groups' keys are made.
+        row: Row,
+        arguments: Row,
+    },
+}
+
+fn argument_of(alloc: Global, argument: &Option<Typed>, row: &[Value]) -> Result<Value, EvalFault>
+    ensures { Answers itself result (argument_of argument.now row.now) }
+{
+    match argument {
+        Some(argument) => eval(alloc, argument, row),
+        None => Ok(Value::Truth(true)),
+    }
+}
+
+/// The arguments of the aggregates, evaluated from the left.
+#[tactic(auto, unfolding(ssq_meaning::specs::Group::arguments_of))]
+fn arguments_of(
+    alloc: Global,
+    aggregates: &[Aggregate],
+    row: &[Value],
+) -> Result<Vec<Value>, EvalFault>
+    ensures { Answers (λ values. values.items) result (arguments_of aggregates.now row.now) }
+{
+    let mut values = Vec::with_capacity(alloc, aggregates.len())?;
+    for aggregate in aggregates {
+        let value = argument_of(alloc, &aggregate.argument, row)?;
+        values.push(value).map_err(AllocError::from)?;
+    }
+    Ok(values)
+}
+
+fn shown<'a>(alloc: Global, bound: &Bound, row: &[Value]) -> Result<HandedOn<'a>, EvalFault>
+    requires read { IsReadRow row.now }
+    ensures handed { Answers (handed_rows bound.now) result (handed_shown bound.now row.now) }
+    ensures fit { IfOk result IsFitHanded }
+{
+    match show(alloc, bound, row)? {
+        Some(values) => Ok(HandedOn::Shown(with_short_texts(values)?)),
+        None => Ok(HandedOn::Nothing),
+    }
+}
+
+#[tactic(auto, unfolding(ssq_meaning::specs::Group::handed_to_groups))]
+fn grouped<'a>(
+    alloc: Global,
+    bound: &Bound,
+    grouping: &'a Grouping,
+    row: Row,
+) -> Result<HandedOn<'a>, EvalFault>
+    requires windows { AllByRecursion HasWindow grouping.now.keys }
+    requires read { IsReadRow row }
+    ensures handed { Answers (handed_rows bound.now) result (handed_to_groups bound.now grouping.now row) }
+    ensures fit { IfOk result IsFitHanded }
+{
+    if !passes(alloc, &bound.filter, row.as_slice())? {
+        return Ok(HandedOn::Nothing);
+    }
+    let arguments = arguments_of(alloc, grouping.aggregates.as_slice(), row.as_slice())?;
+    let arguments = with_short_texts(Row::from_vec(arguments))?;
+    Ok(HandedOn::Grouped {
+        grouping,
+        row,
+        arguments,
+    })
+}
+
+/// What a row that was read hands on. WHERE is evaluated first, and where it is TRUE the items of SELECT or the arguments of the
+/// aggregates, from the left.
+pub(crate) fn handed_on<'a>(
+    alloc: Global,
+    bound: &'a Bound,
+    row: Row,
+) -> Result<HandedOn<'a>, EvalFault>
+    requires windows { HasWindows bound.now }
+    requires read { IsReadRow row }
+    ensures handed { (stream : ℕ) → Answers (handed_rows bound.now) result (handed bound.now stream row) }
+    ensures fit { IfOk result IsFitHanded }
+{
+    match &bound.shape {
+        Shape::Group(grouping) => grouped(alloc, bound, grouping, row),
+        Shape::Plain | Shape::Dedup(_) | Shape::Join(_) => shown(alloc, bound, row.as_slice()),
+    }
+}
