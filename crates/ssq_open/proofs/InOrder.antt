@@ -7,17 +7,21 @@ use Rattle.std.proofs.Math.Seq.{get_or-append_seam}
 use Rattle.std.proofs.lemmas.Bool.{and_parts, ltb-true}
 use Rattle.std.proofs.lemmas.List.Elements.{All-nil, All-same, All-push, All-weaker}
 use Rattle.ssq_time.specs.Time.{IsStampTime}
+use Rattle.ssq_plans.specs.declared.meta.Meta.{Meta}
 use Rattle.ssq_plans.specs.declared.plan.Plan.{Plan}
 use Rattle.ssq_plans.specs.declared.commit.Commit.{Commit}
 use Rattle.ssq_plans.specs.declared.part.PartEnd.{PartEnd}
 use Rattle.ssq_plans.specs.Records.{HasLineTime, IsSeen, IsMeta, IsMetaRecord, IsPlan, IsCommit}
 use Rattle.ssq_open.specs.declared.streams.Watermarked.{Watermarked}
 use Rattle.ssq_open.specs.declared.wanted.Opened.{Opened}
+use Rattle.ssq_open.specs.declared.kept.Epochs.{Epochs}
+use Rattle.ssq_open.specs.Stateful.{keeping_in}
+use Rattle.ssq_open.specs.Stores.{AreStores}
 use Rattle.ssq_open.specs.Watermarks.{has_lines}
 use Rattle.ssq_open.specs.Sought.{Sought, IsJob}
-use Rattle.ssq_open.specs.Opening.{CanBeSought, IsFirst, first_short}
+use Rattle.ssq_open.specs.Opening.{CanBeSought, first_meta, first_short}
 use Rattle.ssq_open.specs.Epochs.{starts, follows, is_next, is_own, no_plan, cut_of, last_ends}
-use Rattle.ssq_open.specs.Numbers.{ArePlansInOrder, AreTimesInOrder, AreEpochsInOrder, IsInOrder}
+use Rattle.ssq_open.specs.Numbers.{ArePlansInOrder, AreTimesInOrder, AreEpochsInOrder, IsCheckedInOrder, IsInOrder}
 use Rattle.ssq_open.proofs.Walks.{short-none}
 use Rattle.ssq_open.proofs.Planning.{below_next, longer}
 use Rattle.ssq_open.proofs.Beginning.{first_is}
@@ -66,39 +70,46 @@ own_times streams e c own is = record {
 }
 
 -- what a kept checkpoint holds, of the job that is wanted
-pub kept_in_order : (s : Sought) (found : Opened) → IsMetaRecord found.meta → IsJob s found.meta → AreEpochsInOrder s.streams (starts s.found) (record { plans = found.plans; committed = found.committed; seen = found.seen })
-    → first_short (last_ends (starts s.found) found.plans) s.found ≡ None → IsInOrder s found
-kept_in_order s found meta job order long = record {
+pub checked_in_order : (s : Sought) (meta : Meta) (epochs : Epochs) → IsMetaRecord meta → IsJob s meta → AreEpochsInOrder s.streams (starts s.found) epochs
+    → first_short (last_ends (starts s.found) epochs.plans) s.found ≡ None → IsCheckedInOrder s meta epochs
+checked_in_order s meta epochs range job order long = record { range = range.0; job = job; order = order; long = long }
+
+pub kept_in_order : (s : Sought) (found : Opened) → IsCheckedInOrder s found.meta (record { plans = found.plans; committed = found.committed; seen = found.seen })
+    → AreStores (keeping_in s.keeps found.meta.partitions) found.committed found.stores → IsInOrder s found
+kept_in_order s found is stores = record {
   numbers = record {
-    before = order.before;
-    near = order.near;
-    few_plans = order.plans.few;
-    follow = order.plans.follow;
-    marks = order.plans.marks;
-    seen = order.times.lines;
-    years = order.times.years;
+    before = is.order.before;
+    near = is.order.near;
+    few_plans = is.order.plans.few;
+    follow = is.order.plans.follow;
+    marks = is.order.plans.marks;
+    seen = is.order.times.lines;
+    years = is.order.times.years;
   };
-  range = meta.0;
-  job = job;
-  long = long;
+  range = is.range;
+  job = is.job;
+  long = is.long;
+  stores = stores;
 }
 
 -- a checkpoint that was begun has no epoch
-pub first_in_order : (s : Sought) (found : Opened) → CanBeSought s.partitions s.parts → IsFirst s found → IsInOrder s found
-first_in_order s found can is = record {
+pub first_in_order : (s : Sought) (found : Opened) → CanBeSought s.partitions s.parts → found.meta ≡ first_meta s → found.plans ≡ [] → found.committed ≡ 0 → found.seen ≡ []
+    → AreStores (keeping_in s.keeps found.meta.partitions) 0 found.stores → IsInOrder s found
+first_in_order s found can meta plans committed seen stores = record {
   numbers = record {
-    before = omega (arith, is.committed);
+    before = omega (arith, committed);
     near = omega (arith, count);
     few_plans = omega (arith, count);
     follow = λ e less. absurd (omega (arith, less, count));
-    marks = All-same Printed found.plans [] is.plans (All-nil Printed);
-    seen = inl is.seen;
-    years = All-same HasLineTime found.seen [] is.seen (All-nil HasLineTime);
+    marks = All-same Printed found.plans [] plans (All-nil Printed);
+    seen = inl seen;
+    years = All-same HasLineTime found.seen [] seen (All-nil HasLineTime);
   };
-  range = subst IsMeta (sym is.meta) (first_is s can);
-  job = subst (IsJob s) (sym is.meta) (record { ours = record { ours = record { query = refl; streams = refl }; partitions = λ asked sought. rw sought refl }; parts = refl });
-  long = ap (λ plans. first_short (last_ends (starts s.found) plans) s.found) is.plans ∙ short-none s.found;
+  range = subst IsMeta (sym meta) (first_is s can);
+  job = subst (IsJob s) (sym meta) (record { ours = record { ours = record { query = refl; streams = refl }; partitions = λ asked sought. rw sought refl }; parts = refl });
+  long = ap (λ plans. first_short (last_ends (starts s.found) plans) s.found) plans ∙ short-none s.found;
+  stores = subst (λ (n : ℕ). AreStores (keeping_in s.keeps found.meta.partitions) n found.stores) (sym committed) stores;
 }
   where
     count : length found.plans ≡ 0
-    count = ap length is.plans
+    count = ap length plans

@@ -12,7 +12,7 @@ use Rattle.ssq_open.specs.declared.streams.Watermarked.{Watermarked}
 use Rattle.ssq_open.specs.declared.fault.OpenFault.{OpenFault}
 use Rattle.ssq_open.specs.declared.fault.OpenFault.TheVariants.{OtherQuery, OtherPartitions, OtherParts, LogShort, Damaged, DiskFault, NoMemory}
 use Rattle.ssq_open.specs.Epochs.{IsThere, IsGoodPlan, IsGoodCommit, IsSinkRight, ArePlans, ArePlansOf, AreCommits, IsMarked, IsSeenAt, IsProgress}
-use Rattle.ssq_open.specs.Refused.{PlansRefuse, CommitsRefuse, CommitsPassed, MarkRefuses, SinksRefuse, StateRefuses, in_plans, in_commits, in_watermarks, ProgressRefuses, of_progress, in_sinks, in_state, EpochsRefuse}
+use Rattle.ssq_open.specs.Refused.{PlansRefuse, CommitsRefuse, CommitsPassed, MarkRefuses, SinksRefuse, StrayRefuses, in_plans, in_commits, in_watermarks, ProgressRefuses, of_progress, in_sinks, in_state, EpochsRefuse}
 
 -- what the names say of how many epochs are planned, and how many of these are committed
 pub record AreCounted (names : List Name) (n k : ℕ) : Type 0 where
@@ -112,34 +112,34 @@ mark_refused streams files first n k (OtherParts stream kept found) plans commit
 mark_refused streams files first n k (LogShort stream part logged found) plans commits refused = refused
 
 -- the epochs are refused where their plans and commits are
-pub progress_refused : (streams : List Watermarked) (files : Files) (first : List PartEnd) (fault : OpenFault) → ProgressRefuses streams files first fault → EpochsRefuse streams files first fault
-progress_refused streams files first (Damaged at) refused = of_progress refused
-progress_refused streams files first DiskFault refused = tt
-progress_refused streams files first NoMemory refused = tt
-progress_refused streams files first (OtherQuery kept) refused = refused
-progress_refused streams files first (OtherPartitions kept asked) refused = refused
-progress_refused streams files first (OtherParts stream kept found) refused = refused
-progress_refused streams files first (LogShort stream part logged found) refused = refused
+pub progress_refused : (keeping : ℕ) (streams : List Watermarked) (files : Files) (first : List PartEnd) (fault : OpenFault) → ProgressRefuses streams files first fault → EpochsRefuse keeping streams files first fault
+progress_refused keeping streams files first (Damaged at) refused = of_progress refused
+progress_refused keeping streams files first DiskFault refused = tt
+progress_refused keeping streams files first NoMemory refused = tt
+progress_refused keeping streams files first (OtherQuery kept) refused = refused
+progress_refused keeping streams files first (OtherPartitions kept asked) refused = refused
+progress_refused keeping streams files first (OtherParts stream kept found) refused = refused
+progress_refused keeping streams files first (LogShort stream part logged found) refused = refused
 
-pub sinks_refused : (streams : List Watermarked) (files : Files) (first : List PartEnd) (plans : List Plan) (k : ℕ) (seen : List SeenBy) (fault : OpenFault) → IsProgress streams files first plans k seen → SinksRefuse files (length plans) k fault
-    → EpochsRefuse streams files first fault
-sinks_refused streams files first plans k seen (Damaged at) progress refused = in_sinks plans k refused.0 seen progress refused.1 refused.2
-sinks_refused streams files first plans k seen DiskFault progress refused = tt
-sinks_refused streams files first plans k seen NoMemory progress refused = tt
-sinks_refused streams files first plans k seen (OtherQuery kept) progress refused = refused
-sinks_refused streams files first plans k seen (OtherPartitions kept asked) progress refused = refused
-sinks_refused streams files first plans k seen (OtherParts stream kept found) progress refused = refused
-sinks_refused streams files first plans k seen (LogShort stream part logged found) progress refused = refused
+pub sinks_refused : (keeping : ℕ) (streams : List Watermarked) (files : Files) (first : List PartEnd) (plans : List Plan) (k : ℕ) (seen : List SeenBy) (fault : OpenFault) → IsProgress streams files first plans k seen → SinksRefuse files (length plans) k fault
+    → EpochsRefuse keeping streams files first fault
+sinks_refused keeping streams files first plans k seen (Damaged at) progress refused = in_sinks plans k refused.0 seen progress refused.1 refused.2
+sinks_refused keeping streams files first plans k seen DiskFault progress refused = tt
+sinks_refused keeping streams files first plans k seen NoMemory progress refused = tt
+sinks_refused keeping streams files first plans k seen (OtherQuery kept) progress refused = refused
+sinks_refused keeping streams files first plans k seen (OtherPartitions kept asked) progress refused = refused
+sinks_refused keeping streams files first plans k seen (OtherParts stream kept found) progress refused = refused
+sinks_refused keeping streams files first plans k seen (LogShort stream part logged found) progress refused = refused
 
-pub state_refused : (streams : List Watermarked) (files : Files) (first : List PartEnd) (plans : List Plan) (k : ℕ) (seen : List SeenBy) (fault : OpenFault) → IsProgress streams files first plans k seen
-    → ((f : ℕ) → IsSinkRight files (length plans) k f) → StateRefuses files fault → EpochsRefuse streams files first fault
-state_refused streams files first plans k seen (Damaged at) progress sinks refused = in_state plans k seen progress sinks refused
-state_refused streams files first plans k seen DiskFault progress sinks refused = tt
-state_refused streams files first plans k seen NoMemory progress sinks refused = tt
-state_refused streams files first plans k seen (OtherQuery kept) progress sinks refused = refused
-state_refused streams files first plans k seen (OtherPartitions kept asked) progress sinks refused = refused
-state_refused streams files first plans k seen (OtherParts stream kept found) progress sinks refused = refused
-state_refused streams files first plans k seen (LogShort stream part logged found) progress sinks refused = refused
+pub state_refused : (keeping : ℕ) (streams : List Watermarked) (files : Files) (first : List PartEnd) (plans : List Plan) (k : ℕ) (seen : List SeenBy) (fault : OpenFault) → IsProgress streams files first plans k seen
+    → ((f : ℕ) → IsSinkRight files (length plans) k f) → StrayRefuses files keeping (length plans) fault → EpochsRefuse keeping streams files first fault
+state_refused keeping streams files first plans k seen (Damaged at) progress sinks refused = in_state plans k seen progress sinks refused
+state_refused keeping streams files first plans k seen DiskFault progress sinks refused = tt
+state_refused keeping streams files first plans k seen NoMemory progress sinks refused = tt
+state_refused keeping streams files first plans k seen (OtherQuery kept) progress sinks refused = refused
+state_refused keeping streams files first plans k seen (OtherPartitions kept asked) progress sinks refused = refused
+state_refused keeping streams files first plans k seen (OtherParts stream kept found) progress sinks refused = refused
+state_refused keeping streams files first plans k seen (LogShort stream part logged found) progress sinks refused = refused
 
 pub counted_as : (names : List Name) (n k k' : ℕ) → ((e : ℕ) → Contains names (name.Plan e) → e < n) → ((e : ℕ) → n ≡ e + 1 → Contains names (name.Plan e)) → k ≤ n → n ≤ k + 1
     → ((e : ℕ) → n ≡ e + 1 → k ≡ n → Contains names (name.Commit e)) → ((e : ℕ) → n ≡ e + 1 → k ≡ e → Contains names (name.Commit e) → ⊥) → k' ≡ k → AreCounted names n k'

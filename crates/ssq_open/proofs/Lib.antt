@@ -10,3 +10,5 @@ pub mod Opens
 pub mod Passing
 pub mod Standings
 pub mod Looks
+pub mod Storing
+pub mod Stated

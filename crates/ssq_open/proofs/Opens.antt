@@ -7,6 +7,8 @@ use Rattle.ssq_outside.specs.Files.{Files, IsEmpty, AreNames, IsSyncStep, IsImag
 use Rattle.ssq_outside.specs.History.{History, had_now, files_now, Elapses, LeavesNow, LeavesOnly}
 use Rattle.ssq_outside.proofs.Steps.{begins, syncs, files_are_image, weaker, joined}
 use Rattle.ssq_plans.specs.declared.meta.Meta.{Meta}
+use Rattle.ssq_plans.specs.declared.plan.Plan.{Plan}
+use Rattle.ssq_plans.specs.declared.seen.SeenBy.{SeenBy}
 use Rattle.ssq_core.specs.Settled.{IsSettledAs, IsEither}
 use Rattle.ssq_core.proofs.Settling.{stays}
 use Rattle.ssq_open.specs.declared.fault.OpenFault.{OpenFault}
@@ -16,7 +18,9 @@ use Rattle.ssq_open.specs.Sought.{Sought, IsJob}
 use Rattle.ssq_open.specs.Spelled.{IsTheMeta}
 use Rattle.ssq_open.specs.Epochs.{starts}
 use Rattle.ssq_open.specs.Refused.{EpochsRefuse}
-use Rattle.ssq_open.specs.Opening.{Passes, Refuses, IsOutside, IsFirst, IsOpen, kept, begun, IsRefused, unchanged, unfinished, IsImageOpening, only_meta, first_meta, in_epochs, SyncedSince, IsBegun, IsOpening, unsynced}
+use Rattle.ssq_open.specs.Stateful.{keeping_in}
+use Rattle.ssq_open.specs.Stores.{StoresRefuse}
+use Rattle.ssq_open.specs.Opening.{Finds, Passes, Refuses, IsOutside, IsFirst, IsOpen, kept, begun, IsRefused, unchanged, unfinished, IsImageOpening, only_meta, first_meta, in_epochs, in_states, SyncedSince, IsBegun, IsOpening, unsynced}
 
 -- where no name is listed there is no file
 pub none_listed : (files : Files) (names : List Name) → AreNames files names → names ≡ [] → IsEmpty files
@@ -110,7 +114,7 @@ refused_kept s files here now (Err fault) same is some refused =
     unchanged is (subst P same refused) (λ empty. absurd (some empty))
 
 -- the epochs are refused, of a job that is wanted
-pub epochs_refused : (s : Sought) (files : Files) (m : Meta) (fault : OpenFault) → IsTheMeta files m → IsJob s m → EpochsRefuse s.streams files (starts s.found) fault → Refuses s files fault
+pub epochs_refused : (s : Sought) (files : Files) (m : Meta) (fault : OpenFault) → IsTheMeta files m → IsJob s m → EpochsRefuse (keeping_in s.keeps m.partitions) s.streams files (starts s.found) fault → Refuses s files fault
 epochs_refused s files m (Damaged at) is job refused = in_epochs m is job refused
 epochs_refused s files m DiskFault is job refused = tt
 epochs_refused s files m NoMemory is job refused = tt
@@ -118,6 +122,17 @@ epochs_refused s files m (OtherQuery query) is job refused = absurd refused
 epochs_refused s files m (OtherPartitions partitions asked) is job refused = absurd refused
 epochs_refused s files m (OtherParts stream parts found) is job refused = absurd refused
 epochs_refused s files m (LogShort stream part logged found) is job refused = absurd refused
+
+-- or the states are, where every other check is met
+pub states_refused : (s : Sought) (files : Files) (m : Meta) (plans : List Plan) (k : ℕ) (seen : List SeenBy) (fault : OpenFault) → Finds s files m plans k seen
+    → StoresRefuse files (keeping_in s.keeps m.partitions) k fault → Refuses s files fault
+states_refused s files m plans k seen (Damaged at) finds refused = in_states m plans k seen finds refused
+states_refused s files m plans k seen DiskFault finds refused = tt
+states_refused s files m plans k seen NoMemory finds refused = tt
+states_refused s files m plans k seen (OtherQuery query) finds refused = absurd refused
+states_refused s files m plans k seen (OtherPartitions partitions asked) finds refused = absurd refused
+states_refused s files m plans k seen (OtherParts stream parts found) finds refused = absurd refused
+states_refused s files m plans k seen (LogShort stream part logged found) finds refused = absurd refused
 
 -- what holds whatever a call answered
 pub on_ok : {T E : Type 0} {P : Type 0} (r : Result T E) → P → OnOk r P

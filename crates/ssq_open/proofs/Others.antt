@@ -8,8 +8,8 @@ use Rattle.ssq_outside.specs.declared.name.Name.{Name}
 use Rattle.ssq_outside.specs.declared.name.Name.TheVariants as name
 use Rattle.ssq_outside.specs.Files.{Files, AreNames, name_before}
 use Rattle.ssq_open.specs.Listing.{is_commit_from, is_out_from}
-use Rattle.ssq_open.specs.Epochs.{IsThere, IsSinkRight, IsFirstBad, is_state, IsStateless}
-use Rattle.ssq_open.specs.Refused.{IsFirstState}
+use Rattle.ssq_open.specs.Epochs.{IsThere, IsSinkRight, IsFirstBad, is_stray, HasNoStray}
+use Rattle.ssq_open.specs.Refused.{IsFirstStray}
 use Rattle.ssq_open.proofs.Finding.{none_passes, found_contained, found_before}
 
 from_to : (n e : ℕ) → n ≤ e → nat_le n e ≡ true
@@ -118,14 +118,14 @@ sink_passed files names n k w (name.Commit e) are there all below ahead found = 
 sink_passed files names n k w (name.Delta p v) are there all below ahead found = let no = (found_contained (is_out_from n) names (name.Delta p v) found).1 in cc
 sink_passed files names n k w (name.Snapshot p v) are there all below ahead found = let no = (found_contained (is_out_from n) names (name.Snapshot p v) found).1 in cc
 
-pub no_state : (files : Files) (names : List Name) → AreNames files names → find is_state names ≡ None → IsStateless files
-no_state files names are none at state there = none_passes is_state names at none (are.all at there) state
+pub no_stray : (files : Files) (names : List Name) (keeping n : ℕ) → AreNames files names → find (is_stray keeping n) names ≡ None → HasNoStray files keeping n
+no_stray files names keeping n are none at stray there = none_passes (is_stray keeping n) names at none (are.all at there) stray
 
-pub first_state : (files : Files) (names : List Name) (at : Name) → AreNames files names → find is_state names ≡ Some at → IsFirstState files at
-first_state files names at are found =
-    let has = found_contained is_state names at found in
+pub first_stray : (files : Files) (names : List Name) (keeping n : ℕ) (at : Name) → AreNames files names → find (is_stray keeping n) names ≡ Some at → IsFirstStray files keeping n at
+first_stray files names keeping n at are found =
+    let has = found_contained (is_stray keeping n) names at found in
     record {
-      state = has.1;
+      stray = has.1;
       there = are.there at has.0;
-      first = λ other state there. found_before is_state names at other are.in_order found (are.all other there) state;
+      first = λ other stray there. found_before (is_stray keeping n) names at other are.in_order found (are.all other there) stray;
     }

@@ -1,6 +1,6 @@
 -- A checkpoint that passes is not refused, and its files say what is found.
 use Rattle.std.proofs.Common.{◌≡◌, ◌⊎◌, ◌<◌, ◌≤◌, ◌+◌, ◌∙◌, [], ℕ, List, Option, Some, None, length, get_or, sym, ap, subst, inl, inr, arith}
-use Rattle.std.specs.Prelude.{IsSome, slice_index}
+use Rattle.std.specs.Prelude.{IsSome, IsTrue, slice_index}
 use Rattle.std.proofs.lemmas.Bool.{cases_lt}
 use Rattle.std.proofs.lemmas.List.{ext_get_or}
 use Rattle.ssq_outside.specs.declared.name.Name.{Name}
@@ -16,10 +16,13 @@ use Rattle.ssq_open.specs.declared.streams.Watermarked.{Watermarked}
 use Rattle.ssq_open.specs.declared.fault.OpenFault.{OpenFault}
 use Rattle.ssq_open.specs.declared.fault.OpenFault.TheVariants.{OtherQuery, OtherPartitions, OtherParts, LogShort, Damaged, DiskFault, NoMemory}
 use Rattle.ssq_open.specs.Sought.{Sought, IsJob}
+use Rattle.ssq_store.specs.Loaded.{IsDamaged as IsStateDamaged}
+use Rattle.ssq_open.specs.Stateful.{keeping_in}
+use Rattle.ssq_open.specs.Stores.{IsUnloaded}
 use Rattle.ssq_open.specs.Spelled.{IsTheMeta, IsThePlan, IsTheCommit}
-use Rattle.ssq_open.specs.Epochs.{starts, no_plan, last_ends, IsSeenAt, none_yet, by_commit, IsThere, IsGoodPlan, IsGoodCommit, IsPlanRight, IsCommitRight, IsSinkRight, ArePlans, AreCommits, IsProgress, AreEpochs}
+use Rattle.ssq_open.specs.Epochs.{starts, no_plan, last_ends, IsSeenAt, none_yet, by_commit, IsThere, IsGoodPlan, IsGoodCommit, IsPlanRight, IsCommitRight, IsSinkRight, is_stray, ArePlans, AreCommits, IsProgress, AreEpochs}
 use Rattle.ssq_open.specs.Refused.{JobDiffers, RecordDiffers, IsProgressDamage, in_plans, in_commits, in_watermarks, IsDamage, of_progress, in_sinks, in_state}
-use Rattle.ssq_open.specs.Opening.{Finds, Refuses, IsOutside, IsShort, IsDamaged, no_record, other_streams, in_epochs, first_short}
+use Rattle.ssq_open.specs.Opening.{Finds, Refuses, IsOutside, IsShort, IsDamaged, no_record, other_streams, in_epochs, in_states, first_short}
 
 suc_same : (a b : ℕ) → a + 1 ≡ b + 1 → a ≡ b
 suc_same a b e = omega (arith, e)
@@ -131,20 +134,33 @@ no_progress_damage streams files first plans k seen at progress (in_watermarks n
     bad.bad (progress.marked e (omega (arith, less, one_count files first (length plans) n progress.are_plans are)))
 
 -- nor are epochs
-no_damage : (streams : List Watermarked) (files : Files) (first : List PartEnd) (plans : List Plan) (k : ℕ) (seen : List SeenBy) (at : Name) → AreEpochs streams files first plans k seen → IsDamage streams files first at → ⊥
-no_damage streams files first plans k seen at are (of_progress damage) = no_progress_damage streams files first plans k seen at are.progress damage
-no_damage streams files first plans k seen at are (in_sinks others l e times progress is bad) =
+no_damage : (keeping : ℕ) (streams : List Watermarked) (files : Files) (first : List PartEnd) (plans : List Plan) (k : ℕ) (seen : List SeenBy) (at : Name) → AreEpochs keeping streams files first plans k seen → IsDamage keeping streams files first at → ⊥
+no_damage keeping streams files first plans k seen at are (of_progress damage) = no_progress_damage streams files first plans k seen at are.progress damage
+no_damage keeping streams files first plans k seen at are (in_sinks others l e times progress is bad) =
     let P : ℕ → Type 0 = λ n. IsSinkRight files n k e in
     let Q : ℕ → Type 0 = λ k. IsSinkRight files (length others) k e in
     let same = one_finding streams files first plans others k l seen times are.progress progress in
     bad.bad (subst Q same.committed (subst P (ap length same.same_plans) (are.sinks e)))
-no_damage streams files first plans k seen at are (in_state others l times progress sinks state) = are.stateless at state.state state.there
+no_damage keeping streams files first plans k seen at are (in_state others l times progress sinks stray) =
+    let S : ℕ → Type 0 = λ n. IsTrue (is_stray keeping n at) in
+    let same = one_finding streams files first plans others k l seen times are.progress progress in
+    are.no_stray at (subst S (sym (ap length same.same_plans)) stray.stray) stray.there
 
-module _ (s : Sought) (files : Files) (meta : Meta) (plans : List Plan) (k : ℕ) (seen : List SeenBy) (finds : Finds s files meta plans k seen) where
+-- where none of the files that make the states is damaged
+module _ (s : Sought) (files : Files) (meta : Meta) (plans : List Plan) (k : ℕ) (seen : List SeenBy) (finds : Finds s files meta plans k seen)
+    (whole : (p : ℕ) (at : Name) → p < keeping_in s.keeps meta.partitions → IsStateDamaged files p k at → ⊥) where
   not_damaged : (at : Name) → IsDamaged s files at → ⊥
   not_damaged at (no_record is none) = none meta finds.record_is.spells
   not_damaged at (other_streams differs) = no_record_differs s files meta (Damaged at) finds.record_is finds.job differs
-  not_damaged at (in_epochs m is job damage) = no_damage s.streams files (starts s.found) plans k seen at finds.epochs damage
+  not_damaged at (in_epochs m is job damage) =
+      let M : Meta → Type 0 = λ (own : Meta). IsDamage (keeping_in s.keeps own.partitions) s.streams files (starts s.found) at in
+      no_damage (keeping_in s.keeps meta.partitions) s.streams files (starts s.found) plans k seen at finds.epochs (subst M (finds.record_is.only m is.spells) damage)
+  not_damaged at (in_states m others l times other unloaded) =
+      let one = one_finding s.streams files (starts s.found) plans others k l seen times finds.epochs.progress other.epochs.progress in
+      let U : ℕ → Type 0 = λ n. IsUnloaded files (keeping_in s.keeps m.partitions) n at in
+      let M : Meta → Type 0 = λ (own : Meta). IsUnloaded files (keeping_in s.keeps own.partitions) k at in
+      let here : IsUnloaded files (keeping_in s.keeps meta.partitions) k at = subst M (finds.record_is.only m other.record_is.spells) (subst U (sym one.committed) unloaded) in
+      whole here.partition at here.within here.damaged
 
   not_short : (stream part logged found : ℕ) → IsShort s files stream part logged found → ⊥
   not_short stream part logged found short =

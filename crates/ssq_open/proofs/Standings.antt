@@ -1,7 +1,7 @@
 -- A checkpoint that stands for the job that is wanted passes, and a desk opens on it with what is found.
-use Rattle.std.proofs.Common.{◌≡◌, ◌⊎◌, ◌<◌, ◌≤◌, ◌+◌, ◌∙◌, ◌==◌, ◌&&◌, ◌++◌, [], ◌∷◌, zero, suc, ℕ, Bool, true, List, ℤ, Option, Some, None, Result, Ok, Err, refl, sym, ap, subst, inl, inr, arith, length, get_or, eq-eqb}
-use Rattle.std.specs.Prelude.{IsTrue, IsSome, is_some, nat_lt, IfOk, IfErr}
-use Rattle.std.proofs.lemmas.Bool.{cases_lt}
+use Rattle.std.proofs.Common.{◌≡◌, ◌⊎◌, ◌<◌, ◌≤◌, ◌+◌, ◌∙◌, ◌==◌, ◌&&◌, ◌++◌, ◌^◌, [], ◌∷◌, zero, suc, ℕ, Bool, true, false, List, ℤ, Option, Some, None, Result, Ok, Err, refl, sym, ap, subst, inl, inr, arith, length, get_or, eq-eqb}
+use Rattle.std.specs.Prelude.{IsTrue, IsSome, is_some, not, nat_lt, IfOk, IfErr}
+use Rattle.std.proofs.lemmas.Bool.{cases_lt, and_parts}
 use Rattle.std.proofs.lemmas.Bool.Decides.{nat_tests}
 use Rattle.ssq_outside.specs.declared.name.Name.{Name}
 use Rattle.ssq_outside.specs.declared.name.Name.TheVariants as name
@@ -13,6 +13,8 @@ use Rattle.ssq_plans.specs.declared.part.PartEnd.{PartEnd}
 use Rattle.ssq_plans.specs.declared.seen.SeenBy.{SeenBy}
 use Rattle.ssq_plans.specs.Records.{meta_text, plan_text, commit_text}
 use Rattle.ssq_plans.proofs.Apart.{records_apart}
+use Rattle.ssq_store.specs.declared.store.Store.{Store}
+use Rattle.ssq_store.specs.Loaded.{Makes}
 use Rattle.ssq_core.specs.Course.{Course, Cuts, Job, AreSameUpTo, truth, plan_of, commit_of}
 use Rattle.ssq_core.specs.Standing.{Stands, StandsAt, is_needed, is_allowed}
 use Rattle.ssq_core.specs.Staying.{IsNoOther}
@@ -27,16 +29,18 @@ use Rattle.ssq_open.specs.Sought.{Sought}
 use Rattle.ssq_open.specs.Spelled.{IsTheMeta, IsThePlan, IsTheCommit}
 use Rattle.ssq_open.specs.declared.streams.Watermarked.{Watermarked}
 use Rattle.ssq_open.specs.Watermarks.{has_lines, mark_by}
-use Rattle.ssq_open.specs.Epochs.{starts, follows, cut_of, last_ends, no_plan, AreEndsAt, at_start, at_plan, IsThere, IsGoodPlan, IsGoodCommit, IsSinkRight, is_state, ArePlansOf, IsSeenAt, none_yet, by_commit, IsMarkAt, unmarked, marked_by, IsProgress}
+use Rattle.ssq_open.specs.Epochs.{starts, follows, cut_of, last_ends, no_plan, AreEndsAt, at_start, at_plan, IsThere, IsGoodPlan, IsGoodCommit, IsSinkRight, is_stray, ArePlansOf, IsSeenAt, none_yet, by_commit, IsMarkAt, unmarked, marked_by, IsProgress}
 use Rattle.ssq_open.specs.declared.fault.OpenFault.{OpenFault}
 use Rattle.ssq_open.specs.declared.wanted.Opened.{Opened}
 use Rattle.ssq_open.specs.Opening.{Finds, Passes, first_short, first_meta, only_meta, IsOpen, kept, begun, IsRefused, unchanged, unfinished, IsOutside, IsImageOpening}
-use Rattle.ssq_open.specs.Jobs.{IsWantedJob, IsJobs, is_empty, stands, IsDeskOf}
+use Rattle.ssq_open.specs.Stateful.{keeping_in}
+use Rattle.ssq_open.specs.Jobs.{IsWantedJob, IsJobs, is_empty, stands, IsDeskOf, States, AreStates, HoldStates}
 use Rattle.ssq_open.specs.Looking.{Query, begins, IsDenied, IsLookedFor}
 use Rattle.ssq_open.proofs.Looks.{not_denied}
 use Rattle.ssq_open.proofs.Walks.{short-none}
 use Rattle.ssq_open.proofs.Planning.{pushed, longer}
 use Rattle.ssq_open.proofs.Passing.{one_finding, not_refused}
+use Rattle.ssq_open.proofs.Stated.{AreLaws, keeping_few, makes_states}
 
 some_same : (x y : List ℕ) → Some x ≡ Some y → x ≡ y
 some_same x y e = cc
@@ -52,6 +56,10 @@ next_is e n follow less is = let same : (e == e) ≡ true = eq-eqb e e refl in l
 
 own_is : (e : ℕ) (lines : Bool) → lines ≡ true → (e == e && lines) ≡ true
 own_is e lines is = let same : (e == e) ≡ true = eq-eqb e e refl in rw (same, is) refl
+
+not_both : (b : Bool) → b ≡ true → IsTrue (not b) → ⊥
+not_both true is isnt = cc
+not_both false is isnt = cc
 
 -- the plans of the first epochs of a course
 abbrev first_plans : Course → ℕ → List Plan
@@ -142,20 +150,21 @@ module _ (s : Sought) (job : Job) (w : IsWantedJob s job) (files : Files) (st : 
       by_place planned (inl less) = inl less
       by_place planned (inr more) = inr (omega (arith, planned, more, st.at.reached.one_ahead), omega (arith, planned, more))
 
-  -- no partition keeps state
-  none_keeps : (p v : ℕ) → (nat_lt p course.keeping && nat_lt v st.planned) ≡ true → ⊥
-  none_keeps p v is = no_less p (nat_lt v st.planned) (subst (λ (n : ℕ). (nat_lt p n && nat_lt v st.planned) ≡ true) (w.stateless st.cuts) is)
-    where
-      no_less : (p : ℕ) (b : Bool) → (nat_lt p 0 && b) ≡ true → ⊥
-      no_less p b is = grind (arith, nat_tests)
+  -- so many partitions keep state
+  abbrev keeping : ℕ
+  keeping = keeping_in s.keeps course.meta.partitions
 
-  no_state : (q : Name) → IsTrue (is_state q) → IsThere files q → ⊥
-  no_state name.Meta state there = cc
-  no_state (name.Plan e) state there = cc
-  no_state (name.Commit e) state there = cc
-  no_state (name.Out e) state there = cc
-  no_state (name.Delta p v) state there = none_keeps p v (st.at.allowed (name.Delta p v) there)
-  no_state (name.Snapshot p v) state there = none_keeps p v (st.at.allowed (name.Snapshot p v) there)
+  within : (p v : ℕ) → (nat_lt p course.keeping && nat_lt v st.planned) ≡ true → (nat_lt p keeping && nat_lt v st.planned) ≡ true
+  within p v is = subst (λ (n : ℕ). (nat_lt p n && nat_lt v st.planned) ≡ true) (w.keeping st.cuts) is
+
+  -- each file of the state is of one of them, and of a planned version
+  no_stray : (q : Name) → IsTrue (is_stray keeping st.planned q) → IsThere files q → ⊥
+  no_stray name.Meta stray there = cc
+  no_stray (name.Plan e) stray there = cc
+  no_stray (name.Commit e) stray there = cc
+  no_stray (name.Out e) stray there = cc
+  no_stray (name.Delta p v) stray there = not_both (nat_lt p keeping && nat_lt v st.planned) (within p v (st.at.allowed (name.Delta p v) there)) stray
+  no_stray (name.Snapshot p v) stray there = not_both (nat_lt p keeping && nat_lt v st.planned) (within p v (st.at.allowed (name.Snapshot p v) there)) stray
 
   marked_at : (e : ℕ) → e < st.planned → (p : Plan) (mark : Option ℤ) → IsThePlan files e p → IsMarkAt s.streams files e mark → p.watermark ≡ mark
   marked_at e less p mark is (unmarked first none) =
@@ -224,7 +233,7 @@ module _ (s : Sought) (job : Job) (w : IsWantedJob s job) (files : Files) (st : 
     epochs = record {
       progress = progress;
       sinks = λ e. subst (λ (n : ℕ). IsSinkRight files n st.committed e) (sym count) (sink_right e);
-      stateless = no_state;
+      no_stray = λ q. subst (λ (n : ℕ). IsTrue (is_stray keeping n q) → IsThere files q → ⊥) (sym count) (no_stray q);
     };
     long = long_at long;
   }
@@ -248,11 +257,14 @@ module _ (s : Sought) (job : Job) (w : IsWantedJob s job) (files : Files) (st : 
       by_count (name.Plan e) allowed (inr none) = absurd (no_less e st.planned none allowed)
       by_count (name.Commit e) allowed (inr none) = absurd (no_less e st.committed (omega (arith, none, st.at.reached.planned_first)) allowed)
       by_count (name.Out e) allowed (inr none) = absurd (no_less e st.planned none allowed)
-      by_count (name.Delta p v) allowed (inr none) = absurd (none_keeps p v allowed)
-      by_count (name.Snapshot p v) allowed (inr none) = absurd (none_keeps p v allowed)
+      by_count (name.Delta p v) allowed (inr none) = absurd (no_less v st.planned none (and_parts (nat_lt p course.keeping) (nat_lt v st.planned) allowed).1)
+      by_count (name.Snapshot p v) allowed (inr none) = absurd (no_less v st.planned none (and_parts (nat_lt p course.keeping) (nat_lt v st.planned) allowed).1)
 
   faulty_same : (e : ℕ) → e < st.planned → course.is_faulty e ≡ (job.course other).is_faulty e
   faulty_same e less = (w.causal.agrees st.cuts other st.planned (same_cuts (omega (arith, less)))).is_faulty e less
+
+  same_keeping : course.keeping ≡ (job.course other).keeping
+  same_keeping = w.keeping st.cuts ∙ ap (λ (m : Meta). keeping_in s.keeps m.partitions) (w.one_record st.cuts other) ∙ sym (w.keeping other)
 
   stands_other : StandsAt (job.course other) st.planned st.committed files
   stands_other = record {
@@ -262,8 +274,8 @@ module _ (s : Sought) (job : Job) (w : IsWantedJob s job) (files : Files) (st : 
       | inr is ↦ inr (is ∙ ap Some (truth_same q (st.at.allowed q (there_of files q (truth course q) is))))
     ];
     needed = st.at.needed;
-    allowed = λ q there. subst (λ (n : ℕ). is_allowed n st.planned st.committed q ≡ true) (w.stateless st.cuts ∙ sym (w.stateless other)) (st.at.allowed q there);
-    loads = λ p less. absurd (omega (arith, less, w.stateless other));
+    allowed = λ q there. subst (λ (n : ℕ). is_allowed n st.planned st.committed q ≡ true) same_keeping (st.at.allowed q there);
+    loads = λ p less. st.at.loads p (subst (λ (n : ℕ). p < n) (sym same_keeping) less);
     faultless = λ e there. sym (faulty_same e (below_is e st.planned (st.at.allowed (name.Out e) there))) ∙ st.at.faultless e there;
   }
 
@@ -313,7 +325,7 @@ begun_stands s job w first = record {
     are_true = is_true;
     needed = is_needed_there;
     allowed = is_allowed_there;
-    loads = λ p less. absurd (omega (arith, less, w.stateless (λ e. starts s.found)));
+    loads = λ p less. record { from = 0; deltas = λ v from low. absurd (omega (arith, low)); base = inl refl };
     faultless = λ e there. absurd (no_content there);
   };
 }
@@ -367,13 +379,48 @@ desk_opens s job files now found w first (inr st) (kept passes settled) =
     subst D (sym (settled_files now files settled)) (desk_found s job w files st found passes)
 desk_opens s job files now found w first (inr st) (begun none is settled) = absurd (stands_some job files st none)
 
+-- a partition's number, and how many epochs are committed, have 32 bits
+few_partitions : (s : Sought) (job : Job) → IsWantedJob s job → (cuts : Cuts) (p : ℕ) → p < keeping_in s.keeps (job.course cuts).meta.partitions → p < 2 ^ 32
+few_partitions s job w cuts p less =
+    let most = keeping_few s.keeps (job.course cuts).meta.partitions 64 (w.record_is cuts).0.1 in omega (arith, less, most)
+
+few_committed : (course : Course) (n k : ℕ) (files : Files) → StandsAt course n k files → k ≤ 2 ^ 32
+few_committed course n k files at = let first = at.reached.planned_first in let few = at.reached.few in omega (arith, first, few)
+
+-- and the stores hold the job's states
+pub states_held : AreLaws → (s : Sought) (job : Job) (states : States) (files : Files) (now : History) (found : Opened) → IsWantedJob s job → AreStates job states → StandsOrEmpty job files → IsOpen s files now found
+    → HoldStates s states found
+states_held law s job states files now found w are ours (begun none is settled) =
+    let M : Meta → Type 0 = λ m. (p : ℕ) (default : Store) → p < keeping_in s.keeps m.partitions → (get_or found.stores p default).state ≡ [] in
+    let empty = subst M (sym is.meta) is.stores.empty in
+    record { each = λ p default less. empty p default less ∙ sym (are.first (cut_of (starts s.found) found.plans) p) ∙ ap (states (cut_of (starts s.found) found.plans) p) (sym is.committed) }
+states_held law s job states files now found w are (inl none) (kept passes settled) = absurd (not_empty files (meta_text found.meta) none passes.found.record_is.spells.text)
+states_held law s job states files now found w are (inr st) (kept passes settled) =
+    let of : IsDeskOf s job files found = desk_found s job w files st found passes in
+    let cuts : Cuts = of.desk.cuts in
+    let own : Stands job files = record { cuts = cuts; planned = of.desk.planned; committed = of.desk.committed; proper = of.is.1; at = of.is.0 } in
+    let same : found.meta ≡ (job.course cuts).meta = (the_meta s job w files own).only found.meta passes.found.record_is.spells in
+    record {
+      each = λ p default less. (
+          let low : p < keeping_in s.keeps (job.course cuts).meta.partitions = subst (λ (m : Meta). p < keeping_in s.keeps m.partitions) same less in
+          let makes = makes_states law job states are cuts of.desk.planned of.desk.committed files of.is.0 of.is.1 p (subst (λ (n : ℕ). p < n) (sym (w.keeping cuts)) low) in
+          let loaded = subst (λ (n : ℕ). Makes files p n (get_or found.stores p default).state) (sym of.committed) (passes.loaded.made p default less) in
+          let one = law.one files p of.desk.committed (get_or found.stores p default).state (states cuts p of.desk.committed) (few_partitions s job w cuts p low)
+          (few_committed (job.course cuts) of.desk.planned of.desk.committed files of.is.0) loaded makes in
+          one ∙ ap (λ (cut : Cuts). states cut p of.desk.committed) of.cuts ∙ ap (states (cut_of (starts s.found) found.plans) p) of.committed
+          );
+    }
+
 -- and nothing but the outside refuses it
-pub only_outside : (s : Sought) (job : Job) (files now : Files) (fault : OpenFault) → IsWantedJob s job → IsJobs s job files → IsRefused s files now fault → IsOutside fault
-only_outside s job files now fault w (is_empty empty first) (unchanged same refuses outside) = outside empty
-only_outside s job files now fault w (is_empty empty first) (unfinished none same outside) = outside
-only_outside s job files now fault w (stands st long) (unchanged same refuses outside) =
-    not_refused s files (job.course st.cuts).meta (plans s job w files st) st.committed (first_seen (job.course st.cuts) st.committed) (finds s job w files st long) fault refuses
-only_outside s job files now fault w (stands st long) (unfinished none same outside) = outside
+pub only_outside : AreLaws → (s : Sought) (job : Job) (states : States) (files now : Files) (fault : OpenFault) → IsWantedJob s job → AreStates job states → IsJobs s job files → IsRefused s files now fault → IsOutside fault
+only_outside law s job states files now fault w are (is_empty empty first) (unchanged same refuses outside) = outside empty
+only_outside law s job states files now fault w are (is_empty empty first) (unfinished none same outside) = outside
+only_outside law s job states files now fault w are (stands st long) (unchanged same refuses outside) =
+    not_refused s files (job.course st.cuts).meta (plans s job w files st) st.committed (first_seen (job.course st.cuts) st.committed) (finds s job w files st long)
+    (λ p at less damaged. law.sound files p st.committed (states st.cuts p st.committed) at (few_partitions s job w st.cuts p less) (few_committed (job.course st.cuts) st.planned st.committed files st.at)
+    (makes_states law job states are st.cuts st.planned st.committed files st.at st.proper p (subst (λ (n : ℕ). p < n) (sym (w.keeping st.cuts)) less)) damaged)
+    fault refuses
+only_outside law s job states files now fault w are (stands st long) (unfinished none same outside) = outside
 
 -- each image of each moment stands, or stands empty, where each did before
 pub images_stand : (s : Sought) (job : Job) (old new : History) → IsWantedJob s job → (IsEmpty (files_now old) → (cuts : Cuts) → (job.course cuts).meta ≡ first_meta s) → LeavesNow old (StandsOrEmpty job)
@@ -388,9 +435,10 @@ pub ok_desk : (s : Sought) (job : Job) (files : Files) (now : History) (r : Resu
 ok_desk s job files now (Ok found) is w first ours = desk_opens s job files now found w first ours is
 ok_desk s job files now (Err fault) is w first ours = tt
 
-pub err_outside : (s : Sought) (job : Job) (files now : Files) (r : Result Opened OpenFault) → IfErr r (IsRefused s files now) → IsWantedJob s job → IsJobs s job files → IfErr r IsOutside
-err_outside s job files now (Ok found) is w ours = tt
-err_outside s job files now (Err fault) is w ours = only_outside s job files now fault w ours is
+pub err_outside : AreLaws → (s : Sought) (job : Job) (states : States) (files now : Files) (r : Result Opened OpenFault) → IfErr r (IsRefused s files now) → IsWantedJob s job → AreStates job states → IsJobs s job files
+    → IfErr r IsOutside
+err_outside law s job states files now (Ok found) is w are ours = tt
+err_outside law s job states files now (Err fault) is w are ours = only_outside law s job states files now fault w are ours is
 
 -- nor does anything else deny a look at it
 pub look_outside : (query : Query) (s : Sought) (job : Job) (files : Files) → IsLookedFor query s → IsWantedJob s job → StandsOrEmpty job files → (r : Result (Option Opened) OpenFault) → IfErr r (IsDenied query files) → IfErr r IsOutside

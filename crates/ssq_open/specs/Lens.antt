@@ -4,6 +4,7 @@ use Rattle.std.specs.Option.{ForSome}
 use Rattle.ssq_shape.specs.declared.bound.Bound.{Bound}
 use Rattle.ssq_plans.specs.declared.part.PartEnd.{PartEnd}
 use Rattle.ssq_open.specs.declared.wanted.Lens.{Lens}
+use Rattle.ssq_open.specs.Stateful.{keeps_state}
 use Rattle.ssq_open.specs.Watermarks.{watermarked}
 use Rattle.ssq_open.specs.Sought.{Sought}
 
@@ -38,6 +39,7 @@ abbrev pub asked : Bound → Option ℕ → Lens → Sought
 asked bound partitions lens = record {
   query = bound.text;
   streams = watermarked bound.streams;
+  keeps = keeps_state bound.shape;
   partitions = partitions;
   parts = counts_of lens.streams;
   found = found_from 0 lens.streams;

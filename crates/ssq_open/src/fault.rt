@@ -1,6 +1,7 @@
 //! Why a checkpoint is not opened.
 
 use ssq_outside::{DiskError, DiskFault, Name};
+use ssq_store::StoreFault;
 use ssq_value::Text;
 use std::alloc::AllocError;
 use thiserror::Error;
@@ -69,6 +70,21 @@ impl From<DiskFault> for OpenFault {
 
     fn from(_: DiskFault) -> OpenFault {
         OpenFault::DiskFault
+    }
+}
+
+impl From<StoreFault> for OpenFault {
+    ghost use Rattle.std.specs.Prelude.{◌≡◌};
+    ghost use Rattle.ssq_open.specs.Fault.{fault_of_store};
+
+    ghost from_gives = { λ cause fault. fault ≡ fault_of_store cause };
+
+    fn from(fault: StoreFault) -> OpenFault {
+        match fault {
+            StoreFault::Damaged { name } => OpenFault::Damaged { name },
+            StoreFault::DiskFault => OpenFault::DiskFault,
+            StoreFault::NoMemory => OpenFault::NoMemory,
+        }
     }
 }
 

@@ -63,24 +63,26 @@ pub(crate) fn kept_progress<D: Disk>(
     })
 }
 
-/// The epochs of a checkpoint whose files have these names, of parts that begin there.
+/// The epochs of a checkpoint whose files have these names, of parts that begin there, where so many partitions keep state.
 pub(crate) fn kept_epochs<D: Disk>(
     alloc: Global,
     disk: &mut D,
     names: &[Name],
     streams: &[Watermarked],
     first: &[PartEnd],
+    keeping: u32,
 ) -> Result<Epochs, OpenFault>
     ensures kept { D.tells → AreNames (files_now (D.history disk.old)) names.now →
-        IfOk result (λ epochs. AreEpochs streams.now (files_now (D.history disk.old)) first.now epochs.plans epochs.committed epochs.seen) }
+        IfOk result (λ epochs. AreEpochs keeping streams.now (files_now (D.history disk.old)) first.now epochs.plans epochs.committed epochs.seen) }
     ensures in_order { IfOk result (AreEpochsInOrder streams.now first.now) }
-    ensures refused { D.tells → AreNames (files_now (D.history disk.old)) names.now → IfErr result (EpochsRefuse streams.now (files_now (D.history disk.old)) first.now) }
+    ensures refused { D.tells → AreNames (files_now (D.history disk.old)) names.now → IfErr result (EpochsRefuse keeping streams.now (files_now (D.history disk.old)) first.now) }
     ensures same { D.tells → D.history disk.new ≡ D.history disk.old }
     ensures counted { D.faults disk.old ≤ D.faults disk.new }
     ensures cause { IfErr result (λ fault. DiskRises fault (D.faults disk.old) (D.faults disk.new)) }
 {
     let epochs = kept_progress(alloc, disk, names, streams, first)?;
-    check_sinks(names, epochs.plans.len() as u64, epochs.committed)?;
-    check_state(names)?;
+    let planned = epochs.plans.len() as u64;
+    check_sinks(names, planned, epochs.committed)?;
+    check_state(names, keeping, planned)?;
     Ok(epochs)
 }

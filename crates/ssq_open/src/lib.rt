@@ -14,6 +14,8 @@ mod looking;
 mod opening;
 mod plans;
 mod read;
+mod stateful;
+mod stores;
 mod streams;
 mod unread;
 mod wanted;

@@ -5,7 +5,7 @@ ghost use Rattle.std.specs.Option.{option_copied};
 ghost use Rattle.std.specs.List.{find};
 ghost use Rattle.ssq_outside.specs.Files.{name_before};
 ghost use Rattle.ssq_open.specs.Listing.{is_commit_from, is_out_from};
-ghost use Rattle.ssq_open.specs.Epochs.{is_state};
+ghost use Rattle.ssq_open.specs.Epochs.{is_stray};
 
 use ssq_outside::Name;
 
@@ -68,17 +68,24 @@ pub(crate) fn out_from(names: &[Name], from: u64) -> Option<Name>
     names.iter().copied().find(|name| is_out_from(*name, from))
 }
 
-fn is_state(name: Name) -> bool
-    ensures { result ≡ is_state name }
+fn is_stray(name: Name, keeping: u32, planned: u64) -> bool
+    ensures { result ≡ is_stray keeping planned name }
 {
-    matches!(name, Name::Delta(..) | Name::Snapshot(..))
+    match name {
+        Name::Delta(partition, version) => !(partition < keeping && (version as u64) < planned),
+        Name::Snapshot(partition, version) => !(partition < keeping && (version as u64) < planned),
+        _ => false,
+    }
 }
 
-/// The first file of the state.
-pub(crate) fn state_file(names: &[Name]) -> Option<Name>
-    ensures { result ≡ find is_state names.now }
+/// The first file of the state that may not be there, where so many partitions keep state and so many epochs are planned.
+pub(crate) fn stray_file(names: &[Name], keeping: u32, planned: u64) -> Option<Name>
+    ensures { result ≡ find (is_stray keeping planned) names.now }
 {
-    names.iter().copied().find(|name| is_state(*name))
+    names
+        .iter()
+        .copied()
+        .find(|name| is_stray(*name, keeping, planned))
 }
 
 /// How many sink files there are from that of epoch 0 on, before the first that is absent.

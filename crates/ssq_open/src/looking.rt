@@ -1,6 +1,6 @@
 //! A look at a checkpoint, which changes nothing.
 
-ghost use Rattle.std.specs.Prelude.{◌≡◌, ◌≤◌, ◌^◌, length, IfOk, IfErr, IfSome, IfNone};
+ghost use Rattle.std.specs.Prelude.{◌≡◌, ◌≤◌, ◌^◌, [], length, IfOk, IfErr, IfSome, IfNone};
 ghost use Rattle.ssq_outside.specs.Files.{IsEmpty, AreNames};
 ghost use Rattle.ssq_outside.specs.History.{files_now};
 ghost use Rattle.ssq_open.specs.Fault.{DiskRises};
@@ -40,6 +40,7 @@ fn held<D: Disk>(
         IfErr result (Denies (query_of bound.now) (files_now (D.history disk.old))) }
     ensures numbers { IfOk result (λ found. HasNumbers (watermarked bound.now.streams) (begins found.meta.parts) found) }
     ensures streams { IfOk result (λ found. length found.meta.parts ≡ length bound.now.streams) }
+    ensures unloaded { IfOk result (λ found. found.stores ≡ []) }
     ensures same { D.tells → D.history disk.new ≡ D.history disk.old }
     ensures counted { D.faults disk.old ≤ D.faults disk.new }
     ensures cause { IfErr result (λ fault. DiskRises fault (D.faults disk.old) (D.faults disk.new)) }
@@ -52,6 +53,7 @@ fn held<D: Disk>(
         plans: epochs.plans,
         committed: epochs.committed,
         seen: epochs.seen,
+        stores: Sequence::new(alloc),
         names,
     })
 }
@@ -64,6 +66,7 @@ fn looked<D: Disk>(alloc: Global, disk: &mut D, bound: &Bound) -> Result<Option<
     ensures denied { D.tells → IfErr result (IsDenied (query_of bound.now) (files_now (D.history disk.old))) }
     ensures numbers { IfOk result (λ read. IfSome read (λ found. HasNumbers (watermarked bound.now.streams) (begins found.meta.parts) found)) }
     ensures streams { IfOk result (λ read. IfSome read (λ found. length found.meta.parts ≡ length bound.now.streams)) }
+    ensures unloaded { IfOk result (λ read. IfSome read (λ found. found.stores ≡ [])) }
     ensures same { D.tells → D.history disk.new ≡ D.history disk.old }
     ensures counted { D.faults disk.old ≤ D.faults disk.new }
     ensures cause { IfErr result (λ fault. DiskRises fault (D.faults disk.old) (D.faults disk.new)) }
@@ -82,7 +85,7 @@ fn looked<D: Disk>(alloc: Global, disk: &mut D, bound: &Bound) -> Result<Option<
 /// The checks are those of [`open`](crate::open) on the job's record, the plans and the commits, in the same order: the record is
 /// there and canonical (`Damaged`); it is of this query (`OtherQuery`) and has one number of parts for each stream (`Damaged`); and
 /// the plans, the commits and the plans' watermarks are as they have to be, with the parts that the record keeps (`Damaged`). No other file is asked: a
-/// sink file or a file of the state may be absent or too many.
+/// sink file or a file of the state may be absent or too many, and no state is loaded.
 pub fn look<D: Disk>(
     alloc: Global,
     disk: &mut D,
@@ -96,6 +99,7 @@ pub fn look<D: Disk>(
     // On any disk: what is found is in order.
     ensures numbers { IfOk result (λ read. IfSome read (λ found. HasNumbers (watermarked bound.now.streams) (begins found.meta.parts) found)) }
     ensures streams { IfOk result (λ read. IfSome read (λ found. length found.meta.parts ≡ length bound.now.streams)) }
+    ensures unloaded { IfOk result (λ read. IfSome read (λ found. found.stores ≡ [])) }
 
     // Where the checkpoint stands for a job of the query, or is empty, nothing but the outside denies it.
     ensures outside { D.tells → (s : Sought) (job : JobOf) → IsLookedFor (query_of bound.now) s → IsWantedJob s job →

@@ -5,13 +5,15 @@ ghost use Rattle.std.specs.Option.{ForSome};
 ghost use Rattle.ssq_outside.specs.Files.{AreNames, IsEmpty};
 ghost use Rattle.ssq_outside.specs.History.{had_now, files_now, LeavesNow, LeavesOnly};
 ghost use Rattle.ssq_open.specs.Fault.{DiskRises};
-ghost use Rattle.ssq_open.specs.Opening.{CanBeSought, first_meta, first_short, IsOutside, Passes, Refuses, IsOpen, IsRefused, IsImageOpening, SyncedSince, IsBegun, IsOpening};
+ghost use Rattle.ssq_open.specs.Opening.{CanBeSought, Finds, first_meta, first_short, IsOutside, Passes, Refuses, IsOpen, IsRefused, IsImageOpening, SyncedSince, IsBegun, IsOpening};
 ghost use Rattle.ssq_open.specs.Epochs.{starts, last_ends};
-ghost use Rattle.ssq_open.specs.Numbers.{HasNumbers, IsInOrder};
+ghost use Rattle.ssq_open.specs.Numbers.{HasNumbers, IsCheckedInOrder, IsInOrder};
 ghost use Rattle.ssq_open.specs.Sought.{sought};
+ghost use Rattle.ssq_open.specs.Stateful.{keeping_of};
+ghost use Rattle.ssq_open.specs.Stores.{AreStores};
 ghost use Rattle.ssq_open.specs.Lens.{counts_of, found_from, IsFew, CanBeAsked, asked};
 ghost use Rattle.ssq_open.specs.Watermarks.{watermarked};
-ghost use Rattle.ssq_open.specs.Jobs.{IsWantedJob, IsJobs, IsDeskOf};
+ghost use Rattle.ssq_open.specs.Jobs.{IsWantedJob, IsJobs, IsDeskOf, States, AreStates, HoldStates};
 ghost use Rattle.ssq_core.specs.Course.{Cuts, Job as JobOf};
 ghost use Rattle.ssq_core.specs.Sound.{StandsOrEmpty};
 
@@ -19,17 +21,60 @@ use crate::begin::begin;
 use crate::cuts::starts;
 use crate::fault::OpenFault;
 use crate::job::kept_job;
-use crate::kept::kept_epochs;
+use crate::kept::{Epochs, kept_epochs};
 use crate::lengths::check_ends;
 use crate::lens::{counts_of, found_in};
 use crate::plans::last_ends;
+use crate::stateful::{keeping_in, keeps_state};
+use crate::stores::load_stores;
 use crate::streams::{Watermarked, watermarked_among};
 use crate::wanted::{Lens, Opened, Wanted};
 use ssq_outside::{Disk, Name};
-use ssq_plans::PartEnd;
+use ssq_plans::{Meta, PartEnd};
 use ssq_shape::Bound;
+use ssq_store::{loading_is_exact, sealed_files_are_true};
 use ssq_value::Sequence;
 use std::alloc::{AllocError, Global};
+
+/// What a checkpoint holds beside the states of its partitions.
+#[derive(Debug, Drop)]
+struct Checked {
+    meta: Meta,
+    epochs: Epochs,
+}
+
+/// What a checkpoint holds whose files have these names, beside the states of its partitions.
+fn check<D: Disk>(
+    alloc: Global,
+    disk: &mut D,
+    names: &[Name],
+    wanted: &Wanted<'_>,
+) -> Result<Checked, OpenFault>
+    ensures finds { D.tells → AreNames (files_now (D.history disk.old)) names.now →
+        IfOk result (λ found. Finds (sought wanted.now) (files_now (D.history disk.old)) found.meta found.epochs.plans found.epochs.committed found.epochs.seen) }
+    ensures in_order { IfOk result (λ found. IsCheckedInOrder (sought wanted.now) found.meta found.epochs) }
+    ensures refused { D.tells → AreNames (files_now (D.history disk.old)) names.now →
+        IfErr result (Refuses (sought wanted.now) (files_now (D.history disk.old))) }
+    ensures same { D.tells → D.history disk.new ≡ D.history disk.old }
+    ensures counted { D.faults disk.old ≤ D.faults disk.new }
+    ensures cause { IfErr result (λ fault. DiskRises fault (D.faults disk.old) (D.faults disk.new)) }
+{
+    let meta = kept_job(alloc, disk, wanted)?;
+    let first = starts(alloc, wanted.found)?;
+    let epochs = kept_epochs(
+        alloc,
+        disk,
+        names,
+        wanted.streams,
+        first.as_slice(),
+        keeping_in(wanted.keeps, meta.partitions),
+    )?;
+    check_ends(
+        last_ends(first.as_slice(), epochs.plans.as_slice()),
+        wanted.found,
+    )?;
+    Ok(Checked { meta, epochs })
+}
 
 /// What a checkpoint holds whose files have these names.
 fn kept<D: Disk>(
@@ -47,24 +92,15 @@ fn kept<D: Disk>(
     ensures counted { D.faults disk.old ≤ D.faults disk.new }
     ensures cause { IfErr result (λ fault. DiskRises fault (D.faults disk.old) (D.faults disk.new)) }
 {
-    let meta = kept_job(alloc, disk, wanted)?;
-    let first = starts(alloc, wanted.found)?;
-    let epochs = kept_epochs(
-        alloc,
-        disk,
-        names.as_slice(),
-        wanted.streams,
-        first.as_slice(),
-    )?;
-    check_ends(
-        last_ends(first.as_slice(), epochs.plans.as_slice()),
-        wanted.found,
-    )?;
+    let Checked { meta, epochs } = check(alloc, disk, names.as_slice(), wanted)?;
+    let keeping = keeping_in(wanted.keeps, meta.partitions);
+    let stores = load_stores(alloc, disk, keeping, epochs.committed)?;
     Ok(Opened {
         meta,
         plans: epochs.plans,
         committed: epochs.committed,
         seen: epochs.seen,
+        stores,
         names,
     })
 }
@@ -134,10 +170,12 @@ fn asked_of(alloc: Global, bound: &Bound, lens: &Lens) -> Result<Asked, AllocErr
 /// for all files that follow); the commits are there for all planned epochs but the last, and for that or not, canonical, each
 /// with its own number and one line for each watermarked stream in order; each plan has the watermark that the commit before it
 /// gives; the sink files of the committed epochs are there, and no other but that of the epoch which is planned and not committed;
-/// there is no file of the state; and of each part as many lines are found as are planned (`LogShort`). `Damaged` names the first
-/// file in this order, and within a step by number.
+/// the files of the state are of partitions that keep state, and of planned epochs; of each part as many lines are found as are
+/// planned (`LogShort`); and the state of each partition that keeps state can be loaded after the committed epochs. `Damaged` names the
+/// first file in this order, within a step by number, and of the states by partition, within one as a store loads it.
 ///
-/// The query keeps no state. Each plan and commit is read once, in order, and no sink file and no log is read.
+/// A query keeps state in all partitions where it groups, and else in none. Each plan and commit is read once, in order, and so is each file
+/// that a state is loaded from; no sink file and no log is read.
 pub fn open<D: Disk>(
     alloc: Global,
     disk: &mut D,
@@ -151,6 +189,7 @@ pub fn open<D: Disk>(
     ensures numbers { IfOk result (HasNumbers (watermarked bound.now.streams) (starts (found_from 0 lens.now.streams))) }
     ensures job { IfOk result (λ found. (found.meta.parts ≡ counts_of lens.now.streams) × (found.meta.query ≡ bound.now.text) × (1 ≤ found.meta.partitions) × (found.meta.partitions ≤ 64) × ForSome partitions (λ count. found.meta.partitions ≡ count)) }
     ensures long { IfOk result (λ found. first_short (last_ends (starts (found_from 0 lens.now.streams)) found.plans) (found_from 0 lens.now.streams) ≡ None) }
+    ensures stores { IfOk result (λ found. AreStores (keeping_of bound.now.shape found.meta.partitions) found.committed found.stores) }
 
     // What is found is settled, and no crash can leave anything else.
     ensures opened { D.tells → IfOk result (IsOpen (asked bound.now partitions lens.now)
@@ -168,12 +207,14 @@ pub fn open<D: Disk>(
     ensures unfinished { D.tells → OnErr result (IsOpening (asked bound.now partitions lens.now)
         (D.history disk.old) (D.history disk.new)) }
 
-    // Where the checkpoint stands for the job, or is empty and gets the job's record, a desk opens on what is found. Nothing but the outside
-    // refuses it where also of no part fewer lines are found than are planned.
+    // Where the checkpoint stands for the job, or is empty and gets the job's record, a desk opens on what is found, and the stores hold the
+    // job's states. Nothing but the outside refuses it where also of no part fewer lines are found than are planned.
     ensures desk { D.tells → (job : JobOf) → IsWantedJob (asked bound.now partitions lens.now) job →
         (IsEmpty (files_now (D.history disk.old)) → (cuts : Cuts) → (job.course cuts).meta ≡ first_meta (asked bound.now partitions lens.now)) →
         StandsOrEmpty job (files_now (D.history disk.old)) → IfOk result (IsDeskOf (asked bound.now partitions lens.now) job (files_now (D.history disk.new))) }
-    ensures outside { D.tells → (job : JobOf) → IsWantedJob (asked bound.now partitions lens.now) job →
+    ensures states { D.tells → (job : JobOf) (states : States) → IsWantedJob (asked bound.now partitions lens.now) job → AreStates job states →
+        StandsOrEmpty job (files_now (D.history disk.old)) → IfOk result (HoldStates (asked bound.now partitions lens.now) states) }
+    ensures outside { D.tells → (job : JobOf) (states : States) → IsWantedJob (asked bound.now partitions lens.now) job → AreStates job states →
         IsJobs (asked bound.now partitions lens.now) job (files_now (D.history disk.old)) → IfErr result IsOutside }
 
     // Where each image stands for the job or stands empty, so does each image of each moment.
@@ -185,10 +226,13 @@ pub fn open<D: Disk>(
     ensures counted { D.faults disk.old ≤ D.faults disk.new }
     ensures cause { IfErr result (λ fault. DiskRises fault (D.faults disk.old) (D.faults disk.new)) }
 {
+    loading_is_exact();
+    sealed_files_are_true();
     let asked = asked_of(alloc, bound, lens)?;
     let wanted = Wanted {
         query: &bound.text,
         streams: asked.streams.as_slice(),
+        keeps: keeps_state(&bound.shape),
         partitions,
         parts: asked.parts.as_slice(),
         found: asked.found.as_slice(),

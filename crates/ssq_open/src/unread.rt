@@ -2,12 +2,12 @@
 
 ghost use Rattle.std.specs.Prelude.{◌≤◌, ◌+◌, ℕ, OnOk, IfErr};
 ghost use Rattle.ssq_outside.specs.Files.{Files, AreNames};
-ghost use Rattle.ssq_open.specs.Epochs.{IsThere, IsSinkRight, IsStateless};
+ghost use Rattle.ssq_open.specs.Epochs.{IsThere, IsSinkRight, HasNoStray};
 ghost use Rattle.ssq_open.specs.Fault.{DiskRises};
-ghost use Rattle.ssq_open.specs.Refused.{CommitsPassed, SinksRefuse, StateRefuses};
+ghost use Rattle.ssq_open.specs.Refused.{CommitsPassed, SinksRefuse, StrayRefuses};
 
 use crate::fault::OpenFault;
-use crate::listing::{commit_from, out_from, state_file, written};
+use crate::listing::{commit_from, out_from, stray_file, written};
 use ssq_outside::Name;
 
 /// Checks that no epoch is committed that is not planned.
@@ -42,13 +42,13 @@ pub(crate) fn check_sinks(names: &[Name], planned: u64, committed: u32) -> Resul
     }
 }
 
-/// Checks that there is no file of the state.
-pub(crate) fn check_state(names: &[Name]) -> Result<(), OpenFault>
-    ensures ok { (files : Files) → AreNames files names.now → OnOk result (IsStateless files) }
-    ensures err { (files : Files) → AreNames files names.now → IfErr result (StateRefuses files) }
+/// Checks that there is no file of the state but of the partitions that keep state, which are the first so many, and of planned epochs.
+pub(crate) fn check_state(names: &[Name], keeping: u32, planned: u64) -> Result<(), OpenFault>
+    ensures ok { (files : Files) → AreNames files names.now → OnOk result (HasNoStray files keeping planned) }
+    ensures err { (files : Files) → AreNames files names.now → IfErr result (StrayRefuses files keeping planned) }
     ensures not_the_disk { (before now : ℕ) → IfErr result (λ fault. DiskRises fault before now) }
 {
-    match state_file(names) {
+    match stray_file(names, keeping, planned) {
         Some(name) => Err(OpenFault::Damaged { name }),
         None => Ok(()),
     }

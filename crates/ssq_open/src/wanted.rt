@@ -1,8 +1,10 @@
 //! The job that is wanted, and what is found of it.
 
+use crate::stateful::Keeps;
 use crate::streams::Watermarked;
 use ssq_outside::Name;
 use ssq_plans::{Meta, PartEnd, Plan, SeenBy};
+use ssq_store::Store;
 use ssq_value::{Sequence, Text};
 
 /// The lines that were found in the parts of a query's streams.
@@ -19,6 +21,8 @@ pub(crate) struct Wanted<'a> {
     pub(crate) query: &'a Text,
     /// The query's watermarked streams.
     pub(crate) streams: &'a [Watermarked],
+    /// What the query keeps.
+    pub(crate) keeps: Keeps,
     /// How many partitions are asked for, 1 to 64. Where that is not asked, they are as kept, and one in a new checkpoint.
     pub(crate) partitions: Option<u32>,
     /// How many parts each stream has, in the query's order: at most 64 each.
@@ -39,6 +43,9 @@ pub struct Opened {
     pub committed: u32,
     /// The greatest event times over the committed epochs, one for each watermarked stream; nothing where no epoch is committed.
     pub seen: Sequence<SeenBy>,
+    /// The stores of the partitions that keep state, in order, each with the partition's state after the committed epochs. A look loads
+    /// none.
+    pub stores: Sequence<Store>,
     /// The names of the files, in order.
     pub names: Sequence<Name>,
 }

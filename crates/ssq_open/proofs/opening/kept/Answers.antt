@@ -1,36 +1,45 @@
-use Rattle.std.proofs.Common.{◌≡◌, ◌∙◌, List, subst, sym}
+use Rattle.std.proofs.Common.{ℕ, List, subst, sym}
 use Rattle.std.proofs.lemmas.Result.{err_from_is_err_and}
 use Rattle.ssq_outside.specs.declared.name.Name.{Name}
-use Rattle.ssq_outside.specs.Files.{AreNames}
+use Rattle.ssq_outside.specs.Files.{Files, AreNames}
 use Rattle.ssq_outside.specs.History.{History, files_now}
-use Rattle.ssq_plans.specs.declared.part.PartEnd.{PartEnd}
 use Rattle.ssq_open.specs.Sought.{Sought, sought}
 use Rattle.ssq_open.specs.declared.wanted.Opened.{Opened}
-use Rattle.ssq_open.specs.Epochs.{starts}
-use Rattle.ssq_open.specs.Numbers.{AreEpochsInOrder}
-use Rattle.ssq_open.specs.Refused.{EpochsRefuse}
+use Rattle.ssq_open.specs.Stores.{AreStores, AreLoaded, StoresRefuse}
 use Rattle.ssq_open.proofs.InOrder.{kept_in_order}
-use Rattle.ssq_open.proofs.Opens.{epochs_refused}
+use Rattle.ssq_open.proofs.Opens.{states_refused}
 use Rattle.ssq_open.proofs.opening.kept.Goals as goal
 
-pub returns-in_err-epochs-clause-refused : goal.returns-in_err-epochs-clause-refused
-returns-in_err-epochs-clause-refused g c = λ tells are.
-    let p = err_from_is_err_and c.from_residual-in_err-epochs.result c.from_residual-in_err-epochs.ensures.1 in
+pub returns-in_err-stores-clause-refused : goal.returns-in_err-stores-clause-refused
+returns-in_err-stores-clause-refused g c = λ tells are.
+    let p = err_from_is_err_and c.from_residual-in_err-stores.result c.from_residual-in_err-stores.ensures.1 in
     let s : Sought = sought c.args.wanted.now in
-    let A : History → Type 0 = λ h. AreNames (files_now h) c.args.names in
-    let N : List Name → Type 0 = λ names. AreNames (files_now (g.D.Disk.history c.kept_job.new.disk)) names in
-    let R : History → Type 0 = λ h. EpochsRefuse s.streams (files_now h) c.as_slice-2.result.now c.in_err-epochs.field-0.0 in
-    let F : List PartEnd → Type 0 = λ first. EpochsRefuse s.streams (files_now (g.D.Disk.history c.args.disk.now)) first c.in_err-epochs.field-0.0 in
-    let same = c.kept_job.ensures.same tells in
-    let here = subst N (sym c.as_slice.ensures) (subst A (sym same) are) in
-    let begin : c.as_slice-2.result.now ≡ starts c.args.wanted.now.found.now = c.as_slice-2.ensures ∙ c.in_ok-first.ensures in
-    rw (p.1, p.2) (epochs_refused s _ c.in_ok-meta.meta c.in_err-epochs.field-0.0 (c.in_ok-meta.ensures.kept tells) c.in_ok-meta.ensures.job
-    (subst F begin (subst R same (c.in_err-epochs.ensures.refused tells here))))
+    let files : Files = files_now (g.D.Disk.history c.args.disk.now) in
+    let epochs = c.in_ok-meta.field-0.epochs in
+    let A : List Name → Type 0 = λ names. AreNames files names in
+    let R : History → Type 0 = λ h. StoresRefuse (files_now h) c.keeping_in-keeping.result epochs.committed c.in_err-stores.field-0.0 in
+    let K : ℕ → Type 0 = λ keeping. StoresRefuse files keeping epochs.committed c.in_err-stores.field-0.0 in
+    let finds = c.in_ok-meta.ensures.finds tells (subst A (sym c.as_slice.ensures) are) in
+    rw (p.1, p.2) (states_refused s files c.in_ok-meta.field-0.meta epochs.plans epochs.committed epochs.seen c.in_err-stores.field-0.0 finds
+    (subst K c.keeping_in-keeping.ensures (subst R (c.check.ensures.same tells) (c.in_err-stores.ensures.refused tells))))
+
+pub returns-clause-passes : goal.returns-clause-passes
+returns-clause-passes g c = λ tells are.
+    let files : Files = files_now (g.D.Disk.history c.args.disk.now) in
+    let epochs = c.in_ok-meta.field-0.epochs in
+    let A : List Name → Type 0 = λ names. AreNames files names in
+    let L : History → Type 0 = λ h. AreLoaded (files_now h) c.keeping_in-keeping.result epochs.committed c.in_ok-stores.stores in
+    let K : ℕ → Type 0 = λ keeping. AreLoaded files keeping epochs.committed c.in_ok-stores.stores in
+    record {
+      found = c.in_ok-meta.ensures.finds tells (subst A (sym c.as_slice.ensures) are);
+      loaded = subst K c.keeping_in-keeping.ensures (subst L (c.check.ensures.same tells) (c.in_ok-stores.ensures.loaded tells));
+      listed = are;
+    }
 
 pub returns-clause-in_order : goal.returns-clause-in_order
 returns-clause-in_order g c =
     let s : Sought = sought c.args.wanted.now in
-    let E : List PartEnd → Type 0 = λ first. AreEpochsInOrder s.streams first c.in_ok-epochs.epochs in
-    let begin : c.as_slice-2.result.now ≡ starts s.found = c.as_slice-2.ensures ∙ c.in_ok-first.ensures in
-    let found : Opened = record { meta = c.in_ok-meta.meta; plans = c.in_ok-epochs.epochs.plans; committed = c.in_ok-epochs.epochs.committed; seen = c.in_ok-epochs.epochs.seen; names = c.args.names } in
-    kept_in_order s found c.in_ok-meta.ensures.in_range c.in_ok-meta.ensures.job (subst E begin c.in_ok-epochs.ensures.in_order) (rw (c.last_ends.ensures, c.as_slice-3.ensures, c.in_ok-first.ensures, c.as_slice-4.ensures) at c.in_ok-check_ends.ensures.ok)
+    let epochs = c.in_ok-meta.field-0.epochs in
+    let found : Opened = record { meta = c.in_ok-meta.field-0.meta; plans = epochs.plans; committed = epochs.committed; seen = epochs.seen; stores = c.in_ok-stores.stores; names = c.args.names } in
+    let K : ℕ → Type 0 = λ keeping. AreStores keeping epochs.committed c.in_ok-stores.stores in
+    kept_in_order s found c.in_ok-meta.ensures.in_order (subst K c.keeping_in-keeping.ensures c.in_ok-stores.ensures.numbers)

@@ -1,12 +1,9 @@
 use Rattle.std.proofs.Common.{◌∙◌, List, refl, subst, sym, ap}
-use Rattle.std.proofs.lemmas.Result.{IfOk-weaker}
 use Rattle.ssq_outside.specs.declared.name.Name.{Name}
 use Rattle.ssq_outside.specs.Files.{Files, IsEmpty, AreNames, files_of}
 use Rattle.ssq_outside.specs.History.{had_now, files_now}
 use Rattle.ssq_open.specs.Sought.{Sought, sought}
-use Rattle.ssq_open.specs.Opening.{IsFirst, IsImageOpening, unsynced, synced}
-use Rattle.ssq_open.specs.Numbers.{IsInOrder}
-use Rattle.ssq_open.proofs.InOrder.{first_in_order}
+use Rattle.ssq_open.specs.Opening.{IsImageOpening, unsynced, synced}
 use Rattle.ssq_open.proofs.Opens.{none_listed, empty_listed, no_items, some_item, settled_since, files_since, sync_leaves, begin_leaves, same_leaves, open_begun, refused_begun, open_kept, refused_kept, on_ok, on_err, sync_images, synced_still, synced_begun}
 use Rattle.ssq_open.proofs.opening.open_wanted.Goals as goal
 
@@ -26,7 +23,7 @@ returns-then-is_empty-clause-opened g c = λ tells.
     let are = subst P (ap files_of ok) listed in
     let empty = none_listed (files_now (g.D.Disk.history c.args.disk.now)) _ are (no_items _ (sym c.is_empty.ensures ∙ c.if-is_empty.true)) in
     let settled = settled_since (g.D.Disk.history c.args.disk.now) (g.D.Disk.history c.sync_names.new.self) (g.D.Disk.history c.names.new.self) ok (c.names.ensures.same tells) in
-    open_begun s (files_now (g.D.Disk.history c.args.disk.now)) (g.D.Disk.history c.begin.new.disk) c.begin.result empty c.begin.ensures.first (c.begin.ensures.settled tells (files_now (g.D.Disk.history c.args.disk.now)) empty settled)
+    open_begun s (files_now (g.D.Disk.history c.args.disk.now)) (g.D.Disk.history c.begin.new.disk) c.begin.result empty (c.begin.ensures.first tells) (c.begin.ensures.settled tells (files_now (g.D.Disk.history c.args.disk.now)) empty settled)
 
 pub returns-then-is_empty-clause-refused : goal.returns-then-is_empty-clause-refused
 returns-then-is_empty-clause-refused g c = λ tells.
@@ -38,7 +35,7 @@ returns-then-is_empty-clause-refused g c = λ tells.
     let are = subst P (ap files_of ok) listed in
     let empty = none_listed (files_now (g.D.Disk.history c.args.disk.now)) _ are (no_items _ (sym c.is_empty.ensures ∙ c.if-is_empty.true)) in
     let settled = settled_since (g.D.Disk.history c.args.disk.now) (g.D.Disk.history c.sync_names.new.self) (g.D.Disk.history c.names.new.self) ok (c.names.ensures.same tells) in
-    refused_begun s (files_now (g.D.Disk.history c.args.disk.now)) (g.D.Disk.history c.names.new.self) (g.D.Disk.history c.begin.new.disk) c.begin.result empty c.begin.ensures.outside (c.begin.ensures.any_moment tells (files_now (g.D.Disk.history c.args.disk.now)) empty settled)
+    refused_begun s (files_now (g.D.Disk.history c.args.disk.now)) (g.D.Disk.history c.names.new.self) (g.D.Disk.history c.begin.new.disk) c.begin.result empty (c.begin.ensures.outside tells) (c.begin.ensures.any_moment tells (files_now (g.D.Disk.history c.args.disk.now)) empty settled)
 
 pub returns-then-is_empty-clause-any_moment : goal.returns-then-is_empty-clause-any_moment
 returns-then-is_empty-clause-any_moment g c = λ tells.
@@ -149,8 +146,3 @@ returns-clause-unfinished g c = λ tells.
     let settled = settled_since h0 h1 h2 ok (c.names.ensures.same tells) in
     let still = synced_still s h0 h1 h2 (g.D.Disk.history c.kept.new.disk) (c.sync_names.ensures.steps tells) (c.names.ensures.same tells) settled (c.kept.ensures.same tells) in
     on_err c.kept.result (synced still)
-
-pub returns-then-is_empty-clause-in_order : goal.returns-then-is_empty-clause-in_order
-returns-then-is_empty-clause-in_order g c =
-    let s : Sought = sought c.args.wanted.now in
-    IfOk-weaker c.begin.result (IsFirst s) (IsInOrder s) (λ found is. first_in_order s found c.requires is) c.begin.ensures.first
