@@ -1,4 +1,3 @@
-pub mod Arguments
 pub mod Windowing
 pub mod Members
 pub mod Feeding

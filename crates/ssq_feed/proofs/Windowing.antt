@@ -34,7 +34,7 @@ starts_fit starts =
     each = λ k d below.
         let less : k < starts.count = omega (arith, below, length-range_with_len 0 starts.count) in
         let P : ℕ → Type 0 = λ n. IsFit (Time (starts.first +ℤ (pos n *ℤ starts.slide))) in
-        subst P (sym (get_or-range_with_len 0 starts.count k d less ∙ zero-add k)) (starts.years k less, tt)
+        subst P (sym (get_or-range_with_len 0 starts.count k d less ∙ zero-add k)) (starts.years k less)
 
 pub starts_are : (time size slide first step : ℤ) (count : ℕ) → first ≡ first_start time size slide → step ≡ slide → count ≡ window_count time size slide
     → map (λ k. first +ℤ (pos k *ℤ step)) (range_with_len 0 count) ≡ window_starts time size slide

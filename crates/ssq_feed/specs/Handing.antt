@@ -1,6 +1,5 @@
 -- What a row hands on, as the code has it.
 use Rattle.std.specs.Prelude.{List, [], map, All, Some, Result, Ok}
-use Rattle.std.specs.List.{AllByRecursion}
 use Rattle.ssq_shape.specs.declared.bound.Bound.{Bound}
 use Rattle.ssq_shape.specs.Evaluation.{Overflow, and_then}
 use Rattle.ssq_shape.specs.Plain.{shown as shown_row}
@@ -8,7 +7,7 @@ use Rattle.ssq_meaning.specs.Feeding.{Handed, shown_once}
 use Rattle.ssq_meaning.specs.Fit.{IsFit}
 use Rattle.ssq_meaning.specs.Group.{member, row_keys}
 use Rattle.ssq_meaning.specs.Meaning.{Values}
-use Rattle.ssq_meaning.specs.Windows.{HasWindow}
+use Rattle.ssq_meaning.specs.Windows.{HasGroupWindows}
 use Rattle.ssq_feed.specs.declared.handed.HandedOn.{HandedOn}
 use Rattle.ssq_feed.specs.declared.handed.HandedOn.TheVariants as handed
 use Rattle.ssq_feed.specs.Keys.{IsReadRow}
@@ -27,4 +26,4 @@ handed_shown query row = and_then (shown_row query row) (λ values. Ok (shown_on
 abbrev pub IsFitHanded : HandedOn → Type 0
 IsFitHanded handed.Nothing = Unit {0}
 IsFitHanded (handed.Shown values) = All IsFit values
-IsFitHanded (handed.Grouped grouping row arguments) = AllByRecursion HasWindow grouping.now.keys × IsReadRow row × All IsFit arguments
+IsFitHanded (handed.Grouped grouping row arguments) = HasGroupWindows grouping.now × IsReadRow row × All IsFit arguments

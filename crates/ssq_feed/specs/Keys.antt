@@ -1,25 +1,20 @@
 -- What a row has for the parts of a key.
-use Rattle.std.specs.Prelude.{◌^◌, nat_lt, ℤ, pos, ◌+ℤ◌, ◌*ℤ◌, Bool, true, List, [], ◌∷◌, ◌++◌, length, map, All}
+use Rattle.std.specs.Prelude.{ℤ, pos, ◌+ℤ◌, ◌*ℤ◌, List, [], ◌∷◌, ◌++◌, map, All}
 use Rattle.std.specs.List.{range_with_len}
 use Rattle.ssq_time.specs.Time.{IsLineTime}
 use Rattle.ssq_value.specs.declared.value.Value.{Value}
 use Rattle.ssq_value.specs.declared.value.Value.TheVariants as value
 use Rattle.ssq_value.specs.Kind.{IfTime}
-use Rattle.ssq_json.specs.Fits.{IfText, IsLineText}
+use Rattle.ssq_meaning.specs.Fit.{IsFit}
 use Rattle.ssq_meaning.specs.Meaning.{Values}
 use Rattle.ssq_feed.specs.declared.starts.Starts.{Starts}
 use Rattle.ssq_feed.specs.declared.key_values.KeyValues.{KeyValues}
 use Rattle.ssq_feed.specs.declared.key_values.KeyValues.TheVariants as values
 
--- a row that was read: its times are of the years 1000 to 9000, and its texts no longer than a line
+-- a row that was read: its times are of the years 1000 to 9000, and its values are ones that a query can keep
 pub record IsReadRow (row : Values) : Type 0 where
   pub years : All (IfTime IsLineTime) row
-  pub texts : All (IfText IsLineText) row
-
--- whether a text, if the value is one, has fewer than 2^32 bytes
-abbrev pub is_short : Value → Bool
-is_short (value.Text text) = nat_lt (length text) (2 ^ 32)
-is_short _ = true
+  pub fit : All IsFit row
 
 -- the starts, in order
 abbrev pub starts_of : Starts → List ℤ

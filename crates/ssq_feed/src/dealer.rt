@@ -1,10 +1,11 @@
 //! Rows on their way to their partitions.
 
-ghost use Rattle.std.specs.Prelude.{◌≡◌, ◌≤◌, ◌∷◌, ◌++◌, [], length, map, All, IfOk, OnOk};
+ghost use Rattle.std.specs.Prelude.{◌≡◌, ◌≤◌, ◌∷◌, ◌++◌, [], length, map, All, IfOk, OnOk, Some};
 ghost use Rattle.std.specs.List.{AllByRecursion};
+ghost use Rattle.ssq_meaning.specs.Feeding.{shown_once};
 ghost use Rattle.ssq_meaning.specs.Fit.{IsFit, IsFitRow};
 ghost use Rattle.ssq_meaning.specs.Group.{row_keys};
-ghost use Rattle.ssq_meaning.specs.Windows.{HasWindow};
+ghost use Rattle.ssq_meaning.specs.Windows.{HasGroupWindows, HasWindow};
 ghost use Rattle.ssq_feed.specs.Rows.{dealt};
 ghost use Rattle.ssq_feed.specs.Keys.{IsReadRow, begun_with};
 ghost use Rattle.ssq_feed.specs.Handing.{IsFitHanded, handed_rows};
@@ -12,7 +13,7 @@ ghost use Rattle.ssq_feed.specs.Dealing.{Deals, from_origin, member_row, member_
 
 use crate::handed::HandedOn;
 use crate::key_values::KeyValues;
-use ssq_meaning::{FedRow, closing_time};
+use ssq_meaning::{FedRow, closing_time, fit_values_are_spelled};
 use ssq_route::Buckets;
 use ssq_shape::{Bound, GroupKey, Grouping};
 use ssq_value::{Row, Value, put_key};
@@ -85,11 +86,36 @@ impl Dealer {
         buckets
     }
 
+    /// Deals a row as SELECT shows it, whose key has no values.
+    #[tactic(auto, unfolding(ssq_value::specs::Key::keys_of))]
+    fn deal_shown(&mut self, alloc: Global, origin: Origin, values: Row) -> Result<(), AllocError>
+        requires { All IsFit values }
+        ensures { OnOk result (Deals self.old.buckets self.new.buckets (map (from_origin origin) (shown_once (Some values)))) }
+    {
+        let Origin {
+            stream,
+            part,
+            offset,
+        } = origin;
+        self.buckets.add(
+            &[],
+            FedRow {
+                stream,
+                part,
+                offset,
+                key: Row::new(alloc),
+                time: None,
+                values,
+            },
+        )
+    }
+
     /// Puts a row into the bucket of its key's partition, behind those that are there.
     fn deal(&mut self, row: FedRow) -> Result<(), AllocError>
         requires { IsFitRow row }
         ensures { OnOk result (Deals self.old.buckets self.new.buckets (row ∷ [])) }
     {
+        fit_values_are_spelled();
         self.key.clear();
         put_key(&mut self.key, row.key.as_slice())?;
         self.buckets.add(self.key.as_slice(), row)
@@ -97,7 +123,7 @@ impl Dealer {
 
     /// Deals a row to one group.
     fn deal_member(&mut self, from: &Source<'_>, key: Row, arguments: Row) -> Result<(), AllocError>
-        requires windows { AllByRecursion HasWindow from.now.grouping.now.keys }
+        requires windows { HasGroupWindows from.now.grouping.now }
         requires key { All IsFit key }
         requires arguments { All IsFit arguments }
         ensures { OnOk result (Deals self.old.buckets self.new.buckets
@@ -129,7 +155,7 @@ impl Dealer {
         key: Vec<Value>,
         arguments: Row,
     ) -> Result<(), AllocError>
-        requires windows { AllByRecursion HasWindow from.now.grouping.now.keys }
+        requires windows { HasGroupWindows from.now.grouping.now }
         requires left { AllByRecursion HasWindow parts.now }
         requires read { IsReadRow from.now.row.now }
         requires key { All IsFit key.items }
@@ -166,14 +192,7 @@ impl Dealer {
     {
         match handed {
             HandedOn::Nothing => Ok(()),
-            HandedOn::Shown(values) => self.deal(FedRow {
-                stream: origin.stream,
-                part: origin.part,
-                offset: origin.offset,
-                key: Row::new(alloc),
-                time: None,
-                values,
-            }),
+            HandedOn::Shown(values) => self.deal_shown(alloc, origin, values),
             HandedOn::Grouped {
                 grouping,
                 row,

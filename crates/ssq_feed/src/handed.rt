@@ -1,15 +1,14 @@
 //! What a row hands on, by the shape of the query.
 
-ghost use Rattle.std.specs.Prelude.{ℕ, IfOk};
-ghost use Rattle.std.specs.List.{AllByRecursion};
+ghost use Rattle.std.specs.Prelude.{ℕ, All, IfOk};
 ghost use Rattle.ssq_expr.specs.Answers.{Answers, itself};
 ghost use Rattle.ssq_meaning.specs.Feeding.{handed};
+ghost use Rattle.ssq_meaning.specs.Fit.{IsFit};
 ghost use Rattle.ssq_meaning.specs.Group.{argument_of, arguments_of, handed_to_groups};
-ghost use Rattle.ssq_meaning.specs.Windows.{HasWindow, HasWindows};
+ghost use Rattle.ssq_meaning.specs.Windows.{HasGroupWindows, HasWindows};
 ghost use Rattle.ssq_feed.specs.Keys.{IsReadRow};
 ghost use Rattle.ssq_feed.specs.Handing.{IsFitHanded, handed_rows, handed_shown};
 
-use crate::short::with_short_texts;
 use ssq_expr::{EvalFault, eval, passes, show};
 use ssq_shape::{Aggregate, Bound, Grouping, Shape, Typed};
 use ssq_value::{Row, Value};
@@ -32,7 +31,9 @@ pub(crate) enum HandedOn<'a> {
 }
 
 fn argument_of(alloc: Global, argument: &Option<Typed>, row: &[Value]) -> Result<Value, EvalFault>
-    ensures { Answers itself result (argument_of argument.now row.now) }
+    requires fit { All IsFit row.now }
+    ensures value { Answers itself result (argument_of argument.now row.now) }
+    ensures fit { IfOk result IsFit }
 {
     match argument {
         Some(argument) => eval(alloc, argument, row),
@@ -47,7 +48,9 @@ fn arguments_of(
     aggregates: &[Aggregate],
     row: &[Value],
 ) -> Result<Vec<Value>, EvalFault>
-    ensures { Answers (λ values. values.items) result (arguments_of aggregates.now row.now) }
+    requires fit { All IsFit row.now }
+    ensures values { Answers (λ values. values.items) result (arguments_of aggregates.now row.now) }
+    ensures fit { IfOk result (λ values. All IsFit values.items) }
 {
     let mut values = Vec::with_capacity(alloc, aggregates.len())?;
     for aggregate in aggregates {
@@ -63,7 +66,7 @@ fn shown<'a>(alloc: Global, bound: &Bound, row: &[Value]) -> Result<HandedOn<'a>
     ensures fit { IfOk result IsFitHanded }
 {
     match show(alloc, bound, row)? {
-        Some(values) => Ok(HandedOn::Shown(with_short_texts(values)?)),
+        Some(values) => Ok(HandedOn::Shown(values)),
         None => Ok(HandedOn::Nothing),
     }
 }
@@ -75,7 +78,7 @@ fn grouped<'a>(
     grouping: &'a Grouping,
     row: Row,
 ) -> Result<HandedOn<'a>, EvalFault>
-    requires windows { AllByRecursion HasWindow grouping.now.keys }
+    requires windows { HasGroupWindows grouping.now }
     requires read { IsReadRow row }
     ensures handed { Answers (handed_rows bound.now) result (handed_to_groups bound.now grouping.now row) }
     ensures fit { IfOk result IsFitHanded }
@@ -84,11 +87,10 @@ fn grouped<'a>(
         return Ok(HandedOn::Nothing);
     }
     let arguments = arguments_of(alloc, grouping.aggregates.as_slice(), row.as_slice())?;
-    let arguments = with_short_texts(Row::from_vec(arguments))?;
     Ok(HandedOn::Grouped {
         grouping,
         row,
-        arguments,
+        arguments: Row::from_vec(arguments),
     })
 }
 

@@ -8,7 +8,6 @@ mod key_values;
 mod law;
 mod line;
 mod range;
-mod short;
 mod starts;
 mod task;
 mod times;

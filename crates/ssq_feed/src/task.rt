@@ -53,7 +53,8 @@ pub struct Fed<'a, L: Log> {
 /// Reads the lines of the task's range one by one, and hands on their rows: of a grouped query once for each group of a row, of any other
 /// the row as SELECT shows it.
 ///
-/// There is at least one partition. The windows of the query are of 1 second to 366 days, and as long as one to 64 of their slides.
+/// There is at least one partition. A grouped query has at most one window, which is of 1 second to 366 days and as long as one to 64 of
+/// its slides.
 ///
 /// The first faulty line of the range stops it, and so does a log that fails, has too few lines, or want of memory. The log comes
 /// back in each case.
