@@ -1,31 +1,31 @@
 -- The job of each query is causal.
-use Rattle.std.proofs.Common.{◌≡◌, ◌<◌, ◌≤◌, ◌+◌, ◌&&◌, ◌||◌, [], ◌∷◌, ℕ, zero, suc, List, Option, Some, None, Bool, true, false, refl, ap, sym, ◌∙◌, subst, arith, get_or, length, nat_lt}
-use Rattle.std.specs.Prelude.{◌-◌, ℤ, is_some, slice_get, map, take, drop, option_map}
+use Rattle.std.proofs.Common.{◌≡◌, ◌<◌, ◌≤◌, ◌+◌, ◌&&◌, ◌||◌, [], ◌∷◌, ℕ, suc, List, Option, Some, None, Bool, true, false, refl, ap, sym, ◌∙◌, arith, get_or, nat_lt}
+use Rattle.std.specs.Prelude.{◌-◌, is_some, slice_get, map, take, drop, option_map}
 use Rattle.std.specs.List.{enumerate_from}
 use Rattle.std.proofs.lemmas.Bool.{ltb-false}
-use Rattle.ssq_outside.specs.declared.gate.TaskId.{TaskId}
 use Rattle.ssq_outside.specs.declared.gate.Kind.{Kind}
 use Rattle.ssq_outside.specs.declared.gate.Kind.TheVariants as kind
 use Rattle.ssq_shape.specs.declared.bound.Bound.{Bound}
 use Rattle.ssq_shape.specs.declared.bound.Shape.{Shape}
 use Rattle.ssq_shape.specs.declared.bound.Shape.TheVariants.{Plain, Group, Dedup, Join}
-use Rattle.ssq_shape.specs.Plain.{output_names}
 use Rattle.ssq_plans.specs.declared.seen.SeenBy.{SeenBy}
-use Rattle.ssq_meaning.specs.declared.fed_row.FedRow.{FedRow}
 use Rattle.ssq_meaning.specs.Meaning.{Line, lines_between}
 use Rattle.ssq_meaning.specs.Parts.{Part}
 use Rattle.ssq_meaning.specs.Cut.{Cut}
-use Rattle.ssq_meaning.specs.Cut.{Cuts as Offsets}
 use Rattle.ssq_meaning.specs.Cut.{AreSameTo, of_parts}
 use Rattle.ssq_meaning.specs.Times.{delays, is_above}
 use Rattle.ssq_meaning.specs.Feeding.{fault_in, fault_at, first_of_all, or_else}
-use Rattle.ssq_meaning.specs.Operator.{operator_for, operator_of}
-use Rattle.ssq_meaning.specs.Epochs.{seen, watermark, watermark_before, accepted, on_time, bucket, out, fault, fault_between, key_fault, of_line, of_key}
+use Rattle.ssq_meaning.specs.Operator.{operator_of}
+use Rattle.ssq_meaning.specs.Epochs.{bucket, fault, fault_between, of_line, of_key}
 use Rattle.ssq_meaning.specs.Laws.{SaysSame}
 use Rattle.ssq_meaning.proofs.Causal.{says_same}
+use Rattle.ssq_meaning.proofs.Overflowing.{no_key_fault}
+use Rattle.ssq_version.specs.State.{between}
+use Rattle.ssq_version.specs.Text.{delta_text, snapshot_text}
 use Rattle.ssq_sink.specs.Sink.{sink_text}
-use Rattle.ssq_core.specs.Course.{Ends, Cuts, AreSameUpTo, AgreeUpTo, IsCausal}
-use Rattle.ssq_course.specs.Setting.{Setting, keeping_of, parts_in, cut_of, cuts_of, watermark_at, seen_at, rows_at, has_lines, part_fault, partition_fault, is_task_by, is_fault_by, course_of, is_start, is_within, has_line, closes, is_next_of, job_of}
+use Rattle.ssq_core.proofs.Holding.{lt_true}
+use Rattle.ssq_core.specs.Course.{Cuts, AreSameUpTo, AgreeUpTo}
+use Rattle.ssq_course.specs.Setting.{Setting, keeping_of, parts_in, cut_of, cuts_of, seen_at, has_lines, part_fault, is_task_by, is_fault_by, course_of, is_start, is_within, has_line, closes, is_next_of}
 use Rattle.ssq_course.specs.Laws.{AreCausal}
 
 cut_same : (one other : Cuts) (n : ℕ) → AreSameUpTo one other n → AreSameTo (cuts_of one) (cuts_of other) n
@@ -68,7 +68,7 @@ module _ (s : Setting) (one other : Cuts) (n : ℕ) (same : AreSameUpTo one othe
       let to = same (e + 1) (omega (arith, less)) in
       let before = says.same_watermark_before e (omega (arith, less)) in
       let now = says.same_watermark e (omega (arith, less)) in
-      λ i. is_start (parts_in s) (first i) && (is_within (parts_in s) (from i) (to i) && (has_line (from i) (to i) || (closes s.job.bound.shape && is_above (now i) (before i))))
+      λ i. is_start (parts_in s) (first i) && (is_within (parts_in s) (from i) (to i) && (has_line (from i) (to i) || (closes s.job.bound && is_above (now i) (before i))))
 
   agree : AgreeUpTo (course_of s one) (course_of s other) n
   agree = record {
@@ -78,9 +78,12 @@ module _ (s : Setting) (one other : Cuts) (n : ℕ) (same : AreSameUpTo one othe
     watermark = λ e less. says.same_watermark e (omega (arith, less));
     seen = λ e less. seen_same (e + 1) (omega (arith, less));
     is_faulty = λ e less. ap is_some (says.same_fault e less);
-    rows = λ e less. ap (sink_text (output_names s.job.bound)) (says.same_out e less);
-    state = λ p v le. refl;
-    delta = λ p v less. refl;
+    rows = λ e less. ap (sink_text s.job.bound) (says.same_out e less);
+    state = λ p v le. ap (snapshot_text p (v - 1)) (says.same_state s.job.partitions p v le);
+    delta = λ p v less.
+        let old = says.same_state s.job.partitions p v (omega (arith, less)) in
+        let new = says.same_state s.job.partitions p (v + 1) (omega (arith, less)) in
+        λ i. delta_text p v (between (old i) (new i));
     is_task = λ t less. task_same t.epoch t.number t.kind less;
     is_fault = λ t less. fault_same t.epoch t.number t.kind less;
   }
@@ -113,36 +116,26 @@ quiet_lines query (part ∷ parts) (from ∷ froms) (to ∷ tos) quiet =
     by true h = none_of (fault_in query part from to) (quiet 0 h)
     by false h = no_fault_in query part from to (ltb-false from to h)
 
--- no key of a query that keeps nothing overflows
-no_key : (shape : Shape) (query : Bound) (old new : List FedRow) (before now : Option ℤ) → (operator_for shape query).fault old new before now ≡ None
-no_key Plain query old new before now = refl
-no_key (Group grouping) query old new before now = refl
-no_key (Dedup columns) query old new before now = refl
-no_key (Join joining) query old new before now = refl
-
-no_key_fault : (query : Bound) (parts : List Part) (cuts : Offsets) (e : ℕ) → key_fault query parts cuts e ≡ None
-unfolding operator_of
-no_key_fault query parts cuts e = no_key query.shape query (accepted query parts cuts e) (on_time query parts cuts e) (watermark_before query parts cuts e) (watermark query parts cuts e)
-
 -- an epoch in which no task has a fault has none
-faultless : (s : Setting) (cuts : Cuts) (e : ℕ) → ((i : ℕ) → has_lines (cut_of (cuts e)) (cut_of (cuts (e + 1))) i ≡ true → is_fault_by s cuts e i kind.Map ≡ false)
-    → is_some (fault s.job.bound (parts_in s) (cuts_of cuts) e) ≡ false
-faultless s cuts e quiet =
+faultless : (s : Setting) (cuts : Cuts) (e : ℕ) → 1 ≤ s.job.partitions → ((i : ℕ) → has_lines (cut_of (cuts e)) (cut_of (cuts (e + 1))) i ≡ true → is_fault_by s cuts e i kind.Map ≡ false)
+    → ((p : ℕ) → p < s.job.partitions → is_fault_by s cuts e p kind.Reduce ≡ false) → is_some (fault s.job.bound (parts_in s) (cuts_of cuts) e) ≡ false
+faultless s cuts e some quiet still =
     let lines = quiet_lines s.job.bound (parts_in s) (cut_of (cuts e)) (cut_of (cuts (e + 1))) quiet in
-    let keys = no_key_fault s.job.bound (parts_in s) (cuts_of cuts) e in
+    let keys = no_key_fault s.job.bound (parts_in s) (cuts_of cuts) e s.job.partitions some (λ p less. none_of _ (still p less)) in
     λ i. is_some (or_else (option_map of_line (lines i)) (option_map of_key (keys i)))
 
 -- each partition that keeps state is one
 kept_is_one : (shape : Shape) (partitions p : ℕ) → p < keeping_of shape partitions → nat_lt p partitions ≡ true
 kept_is_one Plain partitions p less = absurd (omega (arith, less))
-kept_is_one (Group grouping) partitions p less = absurd (omega (arith, less))
+kept_is_one (Group grouping) partitions p less = lt_true p partitions less
 kept_is_one (Dedup columns) partitions p less = absurd (omega (arith, less))
 kept_is_one (Join joining) partitions p less = absurd (omega (arith, less))
 
 pub are_causal : AreCausal
-are_causal s = record {
+are_causal s some = record {
   agrees = λ one other n same. agree s one other n same;
   follows = λ one other n e same less next. sym (next_same s one other n same e less) ∙ next;
-  faults = λ cuts e quiet. faultless s cuts e (λ i lines. quiet (record { epoch = e; kind = kind.Map; number = i }) lines refl refl);
+  faults = λ cuts e quiet. faultless s cuts e some (λ i lines. quiet (record { epoch = e; kind = kind.Map; number = i }) lines refl refl)
+      (λ p less. quiet (record { epoch = e; kind = kind.Reduce; number = p }) (lt_true p s.job.partitions less) refl refl);
   reduces = λ cuts e p less. kept_is_one s.job.bound.shape s.job.partitions p less;
 }

@@ -1,18 +1,17 @@
 -- Files say how far they go, and what they spell.
-use Rattle.std.proofs.Common.{◌≡◌, ◌⊎◌, ◌<◌, ◌≤◌, ◌+◌, ℕ, List, Some, None, true, refl, ap, sym, ◌∙◌, inl, inr, arith, nat_lt}
+use Rattle.std.proofs.Common.{◌≡◌, ◌⊎◌, ◌<◌, ℕ, List, Some, None, refl, ap, inl, inr, arith}
 use Rattle.std.specs.Prelude.{IsSome}
 use Rattle.std.proofs.lemmas.Bool.{ltb-true, cases_lt}
 use Rattle.ssq_outside.specs.declared.name.Name.{Name}
 use Rattle.ssq_outside.specs.declared.name.Name.TheVariants as name
 use Rattle.ssq_outside.specs.Files.{Content, Files}
 use Rattle.ssq_plans.specs.declared.plan.Plan.{Plan}
-use Rattle.ssq_plans.specs.Records.{plan_text, IsPlan}
+use Rattle.ssq_plans.specs.Records.{plan_text}
 use Rattle.ssq_plans.proofs.Apart.{records_apart}
 use Rattle.ssq_core.specs.Course.{Course, truth, plan_of}
 use Rattle.ssq_core.specs.Standing.{IsThere, StandsAt}
-use Rattle.ssq_core.specs.Staying.{IsNoOther}
 use Rattle.ssq_core.proofs.Holding.{lt_true}
-use Rattle.ssq_course.specs.Laws.{AreSame, FilesSayTheirCourse}
+use Rattle.ssq_course.specs.Laws.{FilesSayTheirCourse}
 
 one_text : (c : Content) (x y : List ℕ) → IsSome c → (c ≡ None) ⊎ (c ≡ Some x) → (c ≡ None) ⊎ (c ≡ Some y) → x ≡ y
 one_text c x y there (inl none) other = cc

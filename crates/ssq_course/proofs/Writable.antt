@@ -1,5 +1,5 @@
 -- The plan of an epoch can be written.
-use Rattle.std.proofs.Common.{◌≡◌, ◌<◌, ◌≤◌, ◌+◌, ◌^◌, ◌==◌, ◌&&◌, ◌||◌, [], ◌∷◌, ℕ, List, true, sym, subst, arith, length, nat_lt}
+use Rattle.std.proofs.Common.{◌≡◌, ◌<◌, ◌+◌, ◌^◌, ◌==◌, ◌&&◌, ◌||◌, [], ◌∷◌, ℕ, List, true, subst, arith, length}
 use Rattle.std.specs.Prelude.{All, nat_le}
 use Rattle.std.proofs.lemmas.Bool.{eqb-true, leb-true}
 use Rattle.std.proofs.lemmas.List.Elements.{All-cons, All-nil, All-head, All-tail}
@@ -38,7 +38,7 @@ within_parts (part ∷ parts) (from ∷ froms) (to ∷ tos) fit is =
 
 pub can_be_written : PlansCanBeWritten
 can_be_written s cuts e fit next few stamp =
-    let more = has_line (cuts e) (cuts (e + 1)) || (closes s.job.bound.shape && is_above (watermark_at s cuts e) (watermark_before s.job.bound (parts_in s) (cuts_of cuts) e)) in
+    let more = has_line (cuts e) (cuts (e + 1)) || (closes s.job.bound && is_above (watermark_at s cuts e) (watermark_before s.job.bound (parts_in s) (cuts_of cuts) e)) in
     let first = both_are (is_start (parts_in s) (cuts 0)) (is_within (parts_in s) (cuts e) (cuts (e + 1)) && more) next in
     let second = both_are (is_within (parts_in s) (cuts e) (cuts (e + 1))) more first.1 in
     (few, stamp, within_parts (parts_in s) (cuts e) (cuts (e + 1)) fit second.0)

@@ -1,24 +1,25 @@
 -- What the files of a query's checkpoint hold, epoch by epoch: the job of a query over its logs.
-use Rattle.std.specs.Prelude.{◌≡◌, ◌<◌, ◌≤◌, ◌+◌, ◌&&◌, ◌||◌, ◌==◌, nat_lt, nat_le, ℕ, zero, suc, ℤ, Bool, true, false, List, [], ◌∷◌, map, get_or, length, slice_get, Option, Some, None, is_some, option_map}
-use Rattle.ssq_outside.specs.declared.gate.TaskId.{TaskId}
+use Rattle.std.specs.Prelude.{◌+◌, ◌-◌, ◌&&◌, ◌||◌, ◌==◌, nat_lt, nat_le, ℕ, zero, suc, ℤ, Bool, true, false, List, [], ◌∷◌, map, get_or, length, slice_get, Option, Some, None, is_some}
 use Rattle.ssq_outside.specs.declared.gate.Kind.{Kind}
 use Rattle.ssq_outside.specs.declared.gate.Kind.TheVariants as kind
 use Rattle.ssq_shape.specs.declared.bound.Bound.{Bound}
 use Rattle.ssq_shape.specs.declared.bound.Shape.{Shape}
-use Rattle.ssq_shape.specs.declared.bound.Shape.TheVariants.{Plain}
-use Rattle.ssq_shape.specs.Plain.{output_names}
+use Rattle.ssq_shape.specs.declared.bound.Shape.TheVariants.{Plain, Group, Dedup, Join}
 use Rattle.ssq_shape.specs.declared.bound.Job.{Job as Query}
-use Rattle.ssq_meaning.specs.Meaning.{Line}
+pub use Rattle.ssq_shape.specs.Late.{closes}
+use Rattle.ssq_meaning.specs.Meaning.{Line, Values}
 use Rattle.ssq_meaning.specs.Parts.{Part, parts_of}
 use Rattle.ssq_meaning.specs.Cut.{Cut}
 use Rattle.ssq_meaning.specs.Cut.{Cuts as Offsets}
 use Rattle.ssq_meaning.specs.Times.{delays, is_above}
 use Rattle.ssq_meaning.specs.Feeding.{fault_in}
 use Rattle.ssq_meaning.specs.Operator.{operator_of}
-use Rattle.ssq_meaning.specs.Epochs.{seen, watermark, watermark_before, accepted, on_time, bucket, out, fault}
+use Rattle.ssq_meaning.specs.Epochs.{seen, watermark, watermark_before, accepted, on_time, bucket, out, fault, state}
 use Rattle.ssq_plans.specs.declared.meta.Meta.{Meta}
 use Rattle.ssq_plans.specs.declared.part.PartEnd.{PartEnd}
 use Rattle.ssq_plans.specs.declared.seen.SeenBy.{SeenBy}
+use Rattle.ssq_version.specs.State.{State, between}
+use Rattle.ssq_version.specs.Text.{delta_text, snapshot_text}
 use Rattle.ssq_sink.specs.Sink.{sink_text}
 use Rattle.ssq_core.specs.Course.{Ends, Course, Cuts, Job}
 
@@ -60,16 +61,30 @@ seen_at s cuts e = map (λ stream. record { stream = stream.0; time = seen s.job
 
 -- the text of the sink file of an epoch
 abbrev pub rows_at : Setting → Cuts → ℕ → List ℕ
-rows_at s cuts e = sink_text (output_names s.job.bound) (out s.job.bound (parts_in s) (cuts_of cuts) e)
+rows_at s cuts e = sink_text s.job.bound (out s.job.bound (parts_in s) (cuts_of cuts) e)
 
 -- whether an epoch has a fault
 abbrev pub is_faulty_at : Setting → Cuts → ℕ → Bool
 is_faulty_at s cuts e = is_some (fault s.job.bound (parts_in s) (cuts_of cuts) e)
 
--- How many partitions keep state: of a query that keeps nothing none. Of the shapes that keep state nothing is said yet.
+-- How many partitions keep state: of a query that keeps nothing none, of groups each. Of the other shapes nothing is said yet.
 abbrev pub keeping_of : Shape → ℕ → ℕ
 keeping_of Plain partitions = 0
-keeping_of _ partitions = 0
+keeping_of (Group grouping) partitions = partitions
+keeping_of (Dedup columns) partitions = 0
+keeping_of (Join joining) partitions = 0
+
+-- the state of a partition after the first e epochs
+abbrev pub state_at : Setting → Cuts → (p e : ℕ) → State
+state_at s cuts p e = state s.job.bound (parts_in s) (cuts_of cuts) s.job.partitions p e
+
+-- the file of that state, whose version is the last of these epochs
+abbrev pub snapshot_at : Setting → Cuts → (p e : ℕ) → List ℕ
+snapshot_at s cuts p e = snapshot_text p (e - 1) (state_at s cuts p e)
+
+-- the file of what epoch v changes in the state of a partition
+abbrev pub delta_at : Setting → Cuts → (p v : ℕ) → List ℕ
+delta_at s cuts p v = delta_text p v (between (state_at s cuts p v) (state_at s cuts p (v + 1)))
 
 -- whether the i-th part has lines between two cuts
 abbrev pub has_lines : Cut → Cut → ℕ → Bool
@@ -90,6 +105,12 @@ is_task_by s cuts e number kind.Reduce = nat_lt number s.job.partitions
 is_task_by s cuts e number kind.Out = number == 0
 is_task_by s cuts e number kind.Upkeep = nat_lt number (keeping_of s.job.bound.shape s.job.partitions)
 
+-- the rows that a partition shows of an epoch
+abbrev pub partition_out : Setting → Cuts → (e p : ℕ) → List Values
+partition_out s cuts e p =
+    (operator_of s.job.bound).added (bucket s.job.partitions p (accepted s.job.bound (parts_in s) (cuts_of cuts) e)) (bucket s.job.partitions p (on_time s.job.bound (parts_in s) (cuts_of cuts) e))
+    (watermark_before s.job.bound (parts_in s) (cuts_of cuts) e) (watermark_at s cuts e)
+
 -- whether a key of a partition overflows in an epoch
 abbrev pub partition_fault : Setting → Cuts → (e p : ℕ) → Bool
 partition_fault s cuts e p =
@@ -104,7 +125,8 @@ is_fault_by s cuts e number kind.Reduce = partition_fault s cuts e number
 is_fault_by s cuts e number kind.Out = false
 is_fault_by s cuts e number kind.Upkeep = false
 
--- What the files of the job's checkpoint hold, for these cuts of its logs. A query that keeps nothing has no file of the state.
+-- What the files of the job's checkpoint hold, for these cuts of its logs. Of a query that keeps nothing each state is empty, and there is
+-- no file of it.
 abbrev pub course_of : Setting → Cuts → Course
 course_of s cuts = record {
   meta = meta_of s;
@@ -114,8 +136,8 @@ course_of s cuts = record {
   is_faulty = is_faulty_at s cuts;
   rows = rows_at s cuts;
   keeping = keeping_of s.job.bound.shape s.job.partitions;
-  state = λ p v. [];
-  delta = λ p v. [];
+  state = snapshot_at s cuts;
+  delta = delta_at s cuts;
   is_task = λ t. is_task_by s cuts t.epoch t.number t.kind;
   is_fault = λ t. is_fault_by s cuts t.epoch t.number t.kind;
 }
@@ -147,17 +169,12 @@ has_line [] tos = false
 has_line (from ∷ froms) [] = false
 has_line (from ∷ froms) (to ∷ tos) = nat_lt from.end to.end || has_line froms tos
 
--- Whether a query of this shape may have rows to show without new lines. Of the shapes that keep state nothing is said yet.
-abbrev pub closes : Shape → Bool
-closes Plain = false
-closes _ = false
-
 -- Epoch e may follow those before it: the cuts begin with no line, no end falls or passes its part's lines, and some part has a new
 -- line, or the query closes and the watermark is above that of the epoch before.
 abbrev pub is_next_of : Setting → Cuts → ℕ → Bool
 is_next_of s cuts e =
     is_start (parts_in s) (cuts 0) && (is_within (parts_in s) (cuts e) (cuts (e + 1))
-    && (has_line (cuts e) (cuts (e + 1)) || (closes s.job.bound.shape && is_above (watermark_at s cuts e) (watermark_before s.job.bound (parts_in s) (cuts_of cuts) e))))
+    && (has_line (cuts e) (cuts (e + 1)) || (closes s.job.bound && is_above (watermark_at s cuts e) (watermark_before s.job.bound (parts_in s) (cuts_of cuts) e))))
 
 -- the job of a query over its logs
 abbrev pub job_of : Setting → Job

@@ -1,9 +1,12 @@
 //! What holds of the job of each query.
 
-ghost use Rattle.ssq_course.specs.Laws.{AreCausal, FilesSayTheirCourse, PlansCanBeWritten};
+ghost use Rattle.ssq_core.specs.Course.{Cuts};
+ghost use Rattle.ssq_course.specs.Setting.{Setting};
+ghost use Rattle.ssq_course.specs.States.{AreOfStates, StatesCanBeHeld};
+ghost use Rattle.ssq_course.specs.Laws.{AreCausal, FilesSayTheirCourse, PartitionsShowRows, PlansCanBeWritten};
 
 /// The law of jobs: what the files of a query's checkpoint hold of its first epochs hangs on where these end, and on nothing that comes
-/// later; and an epoch has a fault only where one of its tasks has.
+/// later; and an epoch has a fault only where one of its tasks has. Each key is in a partition, so there has to be one.
 pub fn jobs_are_causal()
     ensures { AreCausal }
 {}
@@ -18,4 +21,16 @@ pub fn files_say_their_course()
 /// years 0001 to 9999.
 pub fn plans_can_be_written()
     ensures { PlansCanBeWritten }
+{}
+
+/// The law of partitions: the rows that they show of an epoch, put together, are the epoch's, and have the text of its sink file.
+pub fn partitions_show_rows()
+    ensures { PartitionsShowRows }
+{}
+
+/// The law of the state's files: they are those of the states after each epoch and of what each epoch changes. These have a spelling where
+/// the query's groups are short, whatever the lines are.
+pub fn files_hold_states()
+    ensures files { (s : Setting) (cuts : Cuts) → AreOfStates s cuts }
+    ensures held { StatesCanBeHeld }
 {}
