@@ -1,7 +1,6 @@
 -- The laws of groups over the epochs of a job.
-use Rattle.std.proofs.Common.{◌≡◌, ◌+◌, ◌++◌, [], ◌∷◌, ℕ, zero, suc, ℤ, List, Option, None, Bool, true, false, refl, ap, sym, ◌∙◌, subst, arith}
+use Rattle.std.proofs.Common.{◌≡◌, ◌+◌, ◌++◌, [], ℕ, zero, suc, ℤ, List, Option, None, Bool, true, false, refl, ap, sym, ◌∙◌, subst, arith}
 use Rattle.std.specs.Prelude.{◌&&◌, not, if◌then◌else◌, All}
-use Rattle.std.specs.List.{AllByRecursion}
 use Rattle.std.specs.List.Sorted.{IsPermutation}
 use Rattle.std.proofs.lemmas.List.Elements.{All-from_recursion}
 use Rattle.std.proofs.lemmas.List.Sorted.{IsPermutation-refl, IsPermutation-trans, IsPermutation-append_left}
@@ -23,6 +22,7 @@ use Rattle.ssq_meaning.specs.Times.{AtMost}
 use Rattle.ssq_meaning.proofs.Counted.{considered}
 use Rattle.ssq_meaning.proofs.FedTimes.{on_time_open}
 use Rattle.ssq_meaning.proofs.Grouped.{past_stays, appended}
+use Rattle.ssq_meaning.proofs.Handing.{weaker}
 use Rattle.ssq_meaning.proofs.Water.{water_stays}
 
 module _ (query : Bound) (grouping : Grouping) (is : query.shape ≡ Group grouping) (parts : List Part) (cuts : Cuts) where
@@ -106,10 +106,6 @@ module _ (query : Bound) (grouping : Grouping) (is : query.shape ≡ Group group
       by : (h : Bool) → held_if (h && true) (totals_in grouping (accepted query parts cuts e) key) ≡ held_if h (totals_in grouping (accepted query parts cuts e) key)
       by true = refl
       by false = refl
-
-  weaker : {A : Type 0} (P Q : A → Type 0) → ((x : A) → P x → Q x) → (xs : List A) → AllByRecursion P xs → AllByRecursion Q xs
-  weaker P Q give [] all = tt
-  weaker P Q give (x ∷ xs) all = (give x all.0, weaker P Q give xs all.1)
 
   pub rows_are_open : (e : ℕ) → All (λ (row : FedRow). IsOpenTo query grouping parts cuts e row.key) (on_time query parts cuts e)
   rows_are_open e = All-from_recursion _ (on_time query parts cuts e)

@@ -19,3 +19,6 @@ pub mod Parted
 pub mod Coding
 pub mod Overflowing
 pub mod Following
+pub mod Handing
+pub mod FitRows
+pub mod FewRows

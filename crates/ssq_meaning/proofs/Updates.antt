@@ -23,7 +23,8 @@ use Rattle.ssq_meaning.specs.Totals.{totals_of, values_of_totals}
 use Rattle.ssq_meaning.proofs.Bags.{same_bag, times-append}
 use Rattle.ssq_meaning.proofs.Cells.{one_key, cells_same}
 use Rattle.ssq_meaning.proofs.Counted.{times_in, has_key-append, no_rows}
-use Rattle.ssq_meaning.proofs.FedTimes.{IsKeyOf, all_append, on_time_keyed}
+use Rattle.ssq_meaning.proofs.FedTimes.{IsKeyOf, on_time_keyed}
+use Rattle.ssq_meaning.proofs.Handing.{all_append, weaker}
 use Rattle.ssq_meaning.proofs.GroupEpochs.{group_is, out_is}
 use Rattle.ssq_meaning.proofs.Grouped.{members-append, keys_of_rows}
 use Rattle.ssq_meaning.proofs.Keys.{same_is, same_itself, All-by, All-distinct, times_passing}
@@ -261,10 +262,6 @@ module _ (query : Bound) (grouping : Grouping) (shows : ShowsKeys query grouping
         by : (b : Bool) → has_key new key ≡ b → key_overflows query grouping all key ≡ false
         by true is = due_fine key is
         by false is = same_fine key is ∙ table.fine key (sym (has_only_older key is) ∙ there)
-
-    weaker : (P Q : Values → Type 0) → ((key : Values) → P key → Q key) → (keys : List Values) → AllByRecursion P keys → AllByRecursion Q keys
-    weaker P Q give [] own = tt
-    weaker P Q give (key ∷ keys) own = (give key own.0, weaker P Q give keys own.1)
 
     next_is : replaced query.outputs rows (filter_map shown (due_keys query grouping old new before now)) ≡ filter_map shown (filter (λ key. not (has_key new key)) table.keys ++ newer)
     next_is =

@@ -10,11 +10,18 @@ use Rattle.ssq_meaning.specs.declared.fed_row.FedRow.{FedRow}
 use Rattle.ssq_meaning.specs.declared.total.Total.{Total}
 use Rattle.ssq_meaning.specs.Cut.{Cuts}
 use Rattle.ssq_meaning.specs.Epochs.{accepted, on_time, watermark, watermark_before}
-use Rattle.ssq_meaning.specs.Group.{is_same, has_key, totals_in, is_closed, due_keys, meant}
+use Rattle.ssq_meaning.specs.Group.{closing_time, is_same, has_key, totals_in, is_closed, due_keys, meant}
 use Rattle.ssq_meaning.specs.Meaning.{Values}
 use Rattle.ssq_meaning.specs.Parts.{Part}
 use Rattle.ssq_meaning.specs.Times.{AtMost}
 use Rattle.ssq_meaning.specs.Totals.{totals_of, with_row}
+
+-- A row that is fed to groups: its time is the closing time of its key, which has a value for each part of GROUP BY, and it has a value for
+-- each aggregate.
+pub record IsGroupRow (query : Bound) (grouping : Grouping) (row : FedRow) : Type 0 where
+  pub time : row.time ≡ closing_time query grouping row.key
+  pub key : length row.key ≡ length grouping.keys
+  pub values : length row.values ≡ length grouping.aggregates
 
 -- An epoch's rows come after others: the watermark has not fallen, and none of the rows is late.
 pub record Follows (query : Bound) (grouping : Grouping) (new : List FedRow) (before now : Option ℤ) : Type 0 where

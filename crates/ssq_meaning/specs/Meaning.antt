@@ -1,5 +1,5 @@
 -- What the definitions of a query's meaning are about: lines, rows, and which rows a query takes and shows.
-use Rattle.std.specs.Prelude.{ℕ, ◌-◌, Bool, false, List, take, drop, filter, Result, Ok, Err}
+use Rattle.std.specs.Prelude.{ℕ, ◌-◌, Bool, false, List, take, drop, Result, Ok, Err}
 use Rattle.std.specs.List.{filter_map}
 use Rattle.std.specs.Result.{result_ok}
 use Rattle.ssq_value.specs.declared.value.Value.{Value}

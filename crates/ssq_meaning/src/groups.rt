@@ -14,7 +14,8 @@ ghost use Rattle.ssq_shape.specs.declared.bound.Mode.TheVariants as mode;
 ghost use Rattle.ssq_shape.specs.declared.bound.Shape.TheVariants as shape;
 ghost use Rattle.ssq_meaning.specs.declared.fed_row.FedRow.{FedRow as Fed};
 ghost use Rattle.ssq_meaning.specs.Cut.{Cuts};
-ghost use Rattle.ssq_meaning.specs.Epochs.{accepted, bucket, key_fault, on_time, watermark, watermark_before};
+ghost use Rattle.ssq_meaning.specs.Epochs.{accepted, bucket, fed, key_fault, on_time, watermark, watermark_before};
+ghost use Rattle.ssq_meaning.specs.Feeding.{fed_in};
 ghost use Rattle.ssq_meaning.specs.Laws.{outs};
 ghost use Rattle.ssq_meaning.specs.Meaning.{Values};
 ghost use Rattle.ssq_meaning.specs.Parts.{Part};
@@ -22,7 +23,7 @@ ghost use Rattle.ssq_meaning.specs.Totals.{totals_bytes, with_row};
 ghost use Rattle.ssq_meaning.specs.Table.{ShowsKeys, table};
 ghost use Rattle.ssq_meaning.specs.Group.{has_key, is_closed, kept, least_key, meant, members, totals_in};
 ghost use Rattle.ssq_meaning.specs.Operator.{group};
-ghost use Rattle.ssq_meaning.specs.GroupLaws.{Follows, IsKeySpelled, IsOpenTo, IsWholeAt, held, is_due_now, meaning_at, next_held, times, times_closed, times_considered, times_due};
+ghost use Rattle.ssq_meaning.specs.GroupLaws.{Follows, IsGroupRow, IsKeySpelled, IsOpenTo, IsWholeAt, held, is_due_now, meaning_at, next_held, times, times_closed, times_considered, times_due};
 
 use ssq_value::keys_are_apart;
 
@@ -131,4 +132,17 @@ pub fn epochs_of_groups_follow()
         All (λ row. length row.key ≡ length grouping.keys) (accepted query parts cuts e) }
     ensures joins { (query : Query) (parts : List Part) (cuts : Cuts) (partitions p e : ℕ) →
         bucket partitions p (accepted query parts cuts (e + 1)) ≡ bucket partitions p (accepted query parts cuts e) ++ bucket partitions p (on_time query parts cuts e) }
+{}
+
+/// The law of rows that are fed to groups: the time of each is the closing time of its key, its key has a value for each part of GROUP BY,
+/// and it has a value for each aggregate.
+pub fn groups_are_fed_by_their_keys()
+    ensures part { (query : Query) (grouping : Groups) → query.shape ≡ shape.Group grouping → (part : Part) (from to : ℕ) →
+        All (IsGroupRow query grouping) (fed_in query part from to) }
+    ensures fed { (query : Query) (grouping : Groups) → query.shape ≡ shape.Group grouping → (parts : List Part) (cuts : Cuts) (e : ℕ) →
+        All (IsGroupRow query grouping) (fed query parts cuts e) }
+    ensures on_time { (query : Query) (grouping : Groups) → query.shape ≡ shape.Group grouping → (parts : List Part) (cuts : Cuts) (e : ℕ) →
+        All (IsGroupRow query grouping) (on_time query parts cuts e) }
+    ensures accepted { (query : Query) (grouping : Groups) → query.shape ≡ shape.Group grouping → (parts : List Part) (cuts : Cuts) (e : ℕ) →
+        All (IsGroupRow query grouping) (accepted query parts cuts e) }
 {}

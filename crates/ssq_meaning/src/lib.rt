@@ -5,6 +5,7 @@
 #![tactic(auto)]
 
 mod closing;
+mod fed;
 mod fed_row;
 mod groups;
 mod laws;
@@ -12,12 +13,14 @@ mod line;
 mod total;
 
 pub use closing::closing_time;
+pub use fed::{fed_rows_are_few, fed_rows_are_fit, fit_values_are_spelled};
 pub use fed_row::{FedRow, View};
 pub use groups::{
     epochs_of_groups_follow, forgotten_groups_lose_no_row, groups_add_up,
-    groups_are_considered_once, groups_are_due_by_what_is_kept, groups_are_kept_whole,
-    groups_come_in_any_order, groups_fall_into_partitions, groups_in_append_add_up,
-    groups_in_complete_are_shown_whole, groups_in_update_replace_their_rows, kept_groups_are_found,
+    groups_are_considered_once, groups_are_due_by_what_is_kept, groups_are_fed_by_their_keys,
+    groups_are_kept_whole, groups_come_in_any_order, groups_fall_into_partitions,
+    groups_in_append_add_up, groups_in_complete_are_shown_whole,
+    groups_in_update_replace_their_rows, kept_groups_are_found,
 };
 pub use laws::{
     epochs_hang_on_their_cuts, epochs_without_lines_are_quiet, keys_overflow_in_their_partitions,

@@ -1,12 +1,13 @@
 -- The windows that begin at the given places are those that contain the time.
-use Rattle.std.proofs.Common.{◌≡◌, ℕ, zero, suc, ◌+◌, ◌-◌, ◌*◌, ◌/◌, ◌<◌, ◌≤◌, inl, inr, sym, ap, subst, arith, ℤ, pos, negsuc, ◌+ℤ◌, ◌-ℤ◌, ◌*ℤ◌, ◌≤ℤ◌, unsigned_abs}
-use Rattle.std.proofs.Math.Nat.{mul-le-mul_left}
+use Rattle.std.proofs.Common.{◌≡◌, ℕ, zero, suc, ◌+◌, ◌-◌, ◌*◌, ◌/◌, ◌%◌, ◌<◌, ◌≤◌, inl, inr, refl, sym, ap, subst, arith, ℤ, pos, negsuc, ◌+ℤ◌, ◌-ℤ◌, ◌*ℤ◌, ◌≤ℤ◌, unsigned_abs}
+use Rattle.std.proofs.Math.Nat.{div-add-mod, mul-le-mul_left}
 use Rattle.std.proofs.lemmas.Bool.{cases_order}
 use Rattle.std.proofs.lemmas.Int.{by_lt_z}
+use Rattle.ssq_time.specs.Time.{IsSpan}
 use Rattle.ssq_time.proofs.Signed.{signed_arith, one_part}
 use Rattle.std.specs.Int.{int_div_euclid, int_rem_euclid}
 use borrow.Author.Differences.{up, down}
-use Rattle.ssq_window.specs.Window.{IsWindow, AreWindows, Covers, rest_of, first_start}
+use Rattle.ssq_window.specs.Window.{IsWindow, AreWindows, Covers, rest_of, window_count, first_start}
 
 -- a quotient that is rounded up covers
 pub covers : (rest size slide count more : ℕ) → rest < slide → slide ≤ size → slide * count + more ≡ size - rest + (slide - 1) → more < slide → Covers rest size slide count
@@ -117,3 +118,29 @@ windows_of_parts t (pos size) (pos slide) first rest count before positive some 
 
 pub first_start_of_parts : (t size slide first : ℤ) (rest count before : ℕ) → rest ≡ rest_of t slide → count ≡ (unsigned_abs size - rest + (unsigned_abs slide - 1)) / unsigned_abs slide → before ≡ rest + (count - 1) * unsigned_abs slide → first ≡ t -ℤ pos before → first ≡ first_start t size slide
 first_start_of_parts t size slide first rest count before r n b f = rw (← r, ← n, ← b) f
+
+-- ---- the same of any time
+
+count_covers : (rest size slide : ℕ) → rest < slide → slide ≤ size → Covers rest size slide ((size - rest + (slide - 1)) / slide)
+count_covers rest size slide low least =
+    let n = size - rest + (slide - 1) in
+    covers rest size slide (n / slide) (n % slide) low least (div-add-mod n slide) (omega (arith, low))
+
+pub windows_cover : (t size slide : ℤ) → IsSpan size → IsSpan slide → slide ≤ℤ size
+    → Covers (rest_of t slide) (unsigned_abs size) (unsigned_abs slide) (window_count t size slide)
+windows_cover t size (negsuc slide) size_is slide_is least = absurd (omega (arith, signed_arith, slide_is.0))
+windows_cover t (negsuc size) (pos slide) size_is slide_is least = absurd (omega (arith, signed_arith, size_is.0))
+windows_cover t (pos size) (pos slide) size_is slide_is least =
+    let rest = one_part (int_rem_euclid t (pos slide)) in
+    count_covers (rest_of t (pos slide)) size slide (omega (arith, signed_arith, slide_is.0)) (omega (arith, signed_arith))
+
+pub all_windows : (t size slide : ℤ) → IsSpan size → IsSpan slide → slide ≤ℤ size → AreWindows t size slide (first_start t size slide) (window_count t size slide)
+all_windows t size slide size_is slide_is least =
+    windows_of_parts t size slide (first_start t size slide) (rest_of t slide) (window_count t size slide) (rest_of t slide + (window_count t size slide - 1) * unsigned_abs slide)
+    (omega (arith, signed_arith, slide_is.0)) (omega (arith, signed_arith, size_is.0)) refl refl refl (windows_cover t size slide size_is slide_is least)
+
+pub few_windows : (t size slide : ℤ) → IsSpan size → IsSpan slide → slide ≤ℤ size → size ≤ℤ (pos 64 *ℤ slide) → window_count t size slide ≤ 64
+few_windows t size (negsuc slide) size_is slide_is least most = absurd (omega (arith, signed_arith, slide_is.0))
+few_windows t (negsuc size) (pos slide) size_is slide_is least most = absurd (omega (arith, signed_arith, size_is.0))
+few_windows t (pos size) (pos slide) size_is slide_is least most =
+    (windows_cover t (pos size) (pos slide) size_is slide_is least).few (omega (arith, signed_arith, most))

@@ -1,7 +1,7 @@
 //! Windows of event time.
 #![tactic(auto)]
 
-ghost use Rattle.std.specs.Prelude.{◌≡◌, ◌+◌, ◌-◌, ◌*◌, ◌/◌, ◌^◌, ◌<◌, ◌≤◌, pos, ◌*ℤ◌, ◌≤ℤ◌, unsigned_abs};
+ghost use Rattle.std.specs.Prelude.{◌≡◌, ◌+◌, ◌-◌, ◌*◌, ◌/◌, ◌^◌, ◌<◌, ◌≤◌, ℤ, pos, ◌*ℤ◌, ◌≤ℤ◌, unsigned_abs};
 ghost use Rattle.ssq_time.specs.Time.{IsSpan, IsStampTime};
 ghost use Rattle.ssq_window.specs.Window.{rest_of, window_count, first_start, AreWindows, Covers};
 
@@ -57,3 +57,13 @@ pub fn windows_of(t: i64, size: i64, slide: i64) -> (i64, u32)
     let before = before_first(rest, size as u64, slide as u64, count);
     (t - before as i64, count as u32)
 }
+
+/// The law of windows: those that begin at the first start and at each of the next slides, as many as are counted, are the windows
+/// that contain the time, and there are 1 to 64.
+pub fn windows_hold_their_time()
+    ensures windows { (t size slide : ℤ) → IsSpan size → IsSpan slide → slide ≤ℤ size →
+        AreWindows t size slide (first_start t size slide) (window_count t size slide) }
+    ensures some { (t size slide : ℤ) → IsSpan size → IsSpan slide → slide ≤ℤ size → 1 ≤ window_count t size slide }
+    ensures few { (t size slide : ℤ) → IsSpan size → IsSpan slide → slide ≤ℤ size → size ≤ℤ (pos 64 *ℤ slide) →
+        window_count t size slide ≤ 64 }
+{}
