@@ -1,0 +1,33 @@
+//! A key of so many values.
+
+ghost use Rattle.std.specs.Prelude.{◌≡◌, Some, List, length, All, IfOk, IfSome};
+ghost use Rattle.ssq_value.specs.declared.value.Value.{Value as Cell};
+ghost use Rattle.ssq_value.specs.Key.{keys_of};
+ghost use Rattle.ssq_keys.specs.Readable.{IsReadable};
+
+use crate::value::value_and_rest;
+use ssq_value::Row;
+use std::alloc::{AllocError, Global};
+
+/// The key of so many values that the bytes spell, all of them. None where they spell none that a state can hold.
+pub fn read_key(alloc: Global, bytes: &[u8], count: usize) -> Result<Option<Row>, AllocError>
+    ensures found { IfOk result (λ found. IfSome found (λ key. keys_of key ≡ bytes.now)) }
+    ensures readable { IfOk result (λ found. IfSome found (All IsReadable)) }
+    ensures many { IfOk result (λ found. IfSome found (λ key. length key ≡ count)) }
+    ensures each { (key : List Cell) → All IsReadable key → length key ≡ count → keys_of key ≡ bytes.now → IfOk result (λ found. found ≡ Some key) }
+{
+    let mut values = Vec::with_capacity(alloc, count)?;
+    let mut rest = bytes;
+    for _ in 0..count {
+        let Some((value, behind)) = value_and_rest(alloc, rest)? else {
+            return Ok(None);
+        };
+        values.push(value)?;
+        rest = behind;
+    }
+    if rest.is_empty() {
+        Ok(Some(Row::from_vec(values)))
+    } else {
+        Ok(None)
+    }
+}
