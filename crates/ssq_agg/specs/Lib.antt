@@ -3,3 +3,4 @@ pub mod Groups
 pub mod Closed
 pub mod Shown
 pub mod Steps
+pub mod Keyed

@@ -6,6 +6,7 @@ use Rattle.std.proofs.lemmas.List.{length-map, get_or-map}
 use Rattle.std.proofs.lemmas.Bool.{ltb-true}
 use mathlib.Core.Option.{some, some-ne-none}
 use lib.ListN.{get_elem?}
+use Rattle.ssq_shape.specs.Windows.{HasWindowsBy}
 use Rattle.ssq_meaning.specs.Meaning.{Line}
 use Rattle.ssq_meaning.specs.Parts.{Part}
 use Rattle.ssq_plans.specs.declared.plan.Plan.{Plan}
@@ -120,7 +121,7 @@ module _ {D L S F : Type 0} (stores logs : Type 0) (lines : L → List Line) (av
 
   -- what a desk holds beside its ledger then
   abbrev pub load_of : Vec Plan → Vec (Source L) → Option (OutWork S F) → Load L S F
-  load_of plans sources out = record { view = round.view; plans = plans; sources = sources; shares = made.room.shares; out = out; seen = made.seen; pending = None; told = made.told; kept = record { meta = round.opened.meta; names = round.opened.names; lines = made.lines; logs = made.logs } }
+  load_of plans sources out = record { view = round.view; plans = plans; sources = sources; shares = made.room.shares; out = out; seen = made.seen; pending = None; told = made.told; kept = record { meta = round.opened.meta; stores = round.opened.stores; names = round.opened.names; lines = made.lines; logs = made.logs } }
 
   module _ (plans : Vec Plan) (sources : Vec (Source L)) (plans_is : plans.items ≡ round.opened.plans) (sources_is : sources.items ≡ sources_of made.parts.items made.ends.items round.logs.items) where
     placed : IsFirstMade reads lines available went round.logs.items s r start.from sources.items made.room.shares.items
@@ -138,9 +139,10 @@ module _ {D L S F : Type 0} (stores logs : Type 0) (lines : L → List Line) (av
     room_to_tell : (b : Bool) → b ≡ true → length made.told.items < vec_capacity made.told
     room_to_tell b opened = (let none = ap length m.no_told in let room = m.told_room in omega (arith, none, room))
 
-    own_kept : IsKept s round.opened (record { meta = round.opened.meta; names = round.opened.names; lines = made.lines; logs = made.logs })
+    own_kept : IsKept s round.opened (record { meta = round.opened.meta; stores = round.opened.stores; names = round.opened.names; lines = made.lines; logs = made.logs })
     own_kept = record {
       meta_is = refl;
+      stores_are = refl;
       names_are = refl;
       no_lines = m.no_lines;
       lines_room = m.lines_room;
@@ -152,7 +154,7 @@ module _ {D L S F : Type 0} (stores logs : Type 0) (lines : L → List Line) (av
         → IsWhole stores logs lines available answers faults written sealed (did (first_shown lines round disk r) now []) (load_of plans sources out)
     begun_whole now out work = record {
       round = is;
-      view = record { bound = refl; partitions = refl };
+      view = record { bound = refl; partitions = refl; windows = subst HasWindowsBy (sym is.plain.shape) tt };
       holds = opened_holds reads owned lines available went round.logs.items written sealed s cuts r start sources.items made.room.shares.items placed out made.seen None seen_are
           (λ planned. (from_count s round.opened r is, refl, next_is planned, work planned));
       plans = own_plans;
@@ -166,7 +168,7 @@ module _ {D L S F : Type 0} (stores logs : Type 0) (lines : L → List Line) (av
         → IsWhole stores logs lines available answers faults written sealed (did (first_shown lines round disk r) now (entry.Stop f ∷ [])) (load_of plans sources out)
     stopped_whole now f before later out risen = record {
       round = is;
-      view = record { bound = refl; partitions = refl };
+      view = record { bound = refl; partitions = refl; windows = subst HasWindowsBy (sym is.plain.shape) tt };
       holds = record {
         parts = placed.parts;
         partitions = placed.partitions;

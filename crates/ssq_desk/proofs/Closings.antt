@@ -171,6 +171,8 @@ step_ahead r first c (entry.Plan e) may is = record {
 }
 step_ahead r first c (entry.Claim t) may is = record { low = is.low; before = is.before; few = is.few; ahead = is.ahead }
 step_ahead r first c (entry.Report t f) may is = record { low = is.low; before = is.before; few = is.few; ahead = is.ahead }
+step_ahead r first c (entry.Version t) may is = record { low = is.low; before = is.before; few = is.few; ahead = λ closed unsettled. absurd (true≢false (sym may.0 ∙ closed)) }
+step_ahead r first c (entry.Missed t) may is = record { low = is.low; before = is.before; few = is.few; ahead = is.ahead }
 step_ahead r first c (entry.OutFile e) may is = record { low = is.low; before = is.before; few = is.few; ahead = λ closed unsettled. absurd (true≢false (sym may.2 ∙ closed)) }
 step_ahead r first c (entry.Sync clock) may is = record { low = is.low; before = is.before; few = is.few; ahead = λ closed unsettled. absurd (true≢false unsettled) }
 step_ahead r first c (entry.Commit e due) may is = record {
@@ -279,7 +281,7 @@ module _ {D L S F : Type 0} (stores logs : Type 0) (lines : L → List Line) (av
   plan_cuts (suc e) le = whole.plans.ends e (no_plan (first_ends s)) (omega (arith, le)) ∙ ap cuts (add-one e)
 
   -- what the next round opens
-  pub next_right : (next : Opened) → ready_of shown.scope shown.core ≡ ready.Over → next ≡ record { meta = load.kept.meta; plans = load.plans.items; committed = shown.core.front.committed; seen = lines_of load.view.bound.now load.seen; names = load.kept.names }
+  pub next_right : (next : Opened) → ready_of shown.scope shown.core ≡ ready.Over → next ≡ record { meta = load.kept.meta; plans = load.plans.items; committed = shown.core.front.committed; seen = lines_of load.view.bound.now load.seen; stores = load.kept.stores; names = load.kept.names }
       → All HasLineTime next.seen → IsNext owned s cuts shown.scope.available shown.core shown.opening.opened next
   next_right next over is years =
       let runs = (over_is shown.scope shown.core over).0 in
@@ -292,6 +294,7 @@ module _ {D L S F : Type 0} (stores logs : Type 0) (lines : L → List Line) (av
       let cut_is : (e : ℕ) → e ≤ shown.core.front.planned → plan_ends (first_ends s) next.plans e ≡ cuts e = λ e le. ap (λ l. plan_ends (first_ends s) l e) plans ∙ plan_cuts e le in
       record {
         meta_is = ap (λ (o : Opened). o.meta) is ∙ whole.kept.meta_is;
+        stores_are = ap (λ (o : Opened). o.stores) is ∙ whole.kept.stores_are;
         names_are = ap (λ (o : Opened). o.names) is ∙ whole.kept.names_are;
         committed_is = committed;
         planned = count;
@@ -315,7 +318,7 @@ module _ {D L S F : Type 0} (stores logs : Type 0) (lines : L → List Line) (av
       }
 
   pub next_back : (next : Option Opened) (b : Bool)
-      → MatchOption next (b ≡ false) (λ next. (b ≡ true) × (next ≡ record { meta = load.kept.meta; plans = load.plans.items; committed = shown.core.front.committed; seen = lines_of load.view.bound.now load.seen; names = load.kept.names }) × All HasLineTime next.seen)
+      → MatchOption next (b ≡ false) (λ next. (b ≡ true) × (next ≡ record { meta = load.kept.meta; plans = load.plans.items; committed = shown.core.front.committed; seen = lines_of load.view.bound.now load.seen; stores = load.kept.stores; names = load.kept.names }) × All HasLineTime next.seen)
       → (b ≡ true → ready_of shown.scope shown.core ≡ ready.Over) → (b ≡ false → ready_of shown.scope shown.core ≢ ready.Over)
       → MatchOption next (ready_of shown.scope shown.core ≢ ready.Over) (λ next. (ready_of shown.scope shown.core ≡ ready.Over) × IsNext owned s cuts shown.scope.available shown.core shown.opening.opened next)
   next_back None b is over other = other is

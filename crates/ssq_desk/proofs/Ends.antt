@@ -25,6 +25,8 @@ step_ends r cuts c (entry.Plan e) is =
     ap (λ (b : Bool). if b then next_ends r.cap c.ends r.available else cuts (c.front.planned + 1)) (nat_lt-is c.front.planned (c.front.planned + 1) (omega arith))
 step_ends r cuts c (entry.Claim t) is = is
 step_ends r cuts c (entry.Report t f) is = is
+step_ends r cuts c (entry.Version t) is = is
+step_ends r cuts c (entry.Missed t) is = is
 step_ends r cuts c (entry.OutFile e) is = is
 step_ends r cuts c (entry.Sync clock) is = is
 step_ends r cuts c (entry.Commit e due) is = is
@@ -65,6 +67,8 @@ step_within : (r : Scope) (c : Core) (e : Entry) → AreWithin r.available c.end
 step_within r c (entry.Plan e) are = next_within r.cap c.ends r.available are
 step_within r c (entry.Claim t) are = are
 step_within r c (entry.Report t f) are = are
+step_within r c (entry.Version t) are = are
+step_within r c (entry.Missed t) are = are
 step_within r c (entry.OutFile e) are = are
 step_within r c (entry.Sync clock) are = are
 step_within r c (entry.Commit e due) are = are

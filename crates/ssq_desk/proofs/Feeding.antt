@@ -11,7 +11,7 @@ use Rattle.ssq_meaning.specs.Cut.{Cut, of_parts}
 use Rattle.ssq_meaning.specs.Feeding.{time_in}
 use Rattle.ssq_meaning.specs.Epochs.{joined, bucket}
 use Rattle.ssq_feed.specs.declared.task.FedRows.{FedRows}
-use Rattle.ssq_feed.specs.Rows.{IsPrintable}
+use Rattle.ssq_meaning.specs.Fit.{IsFitRow}
 use Rattle.ssq_board.specs.declared.front.Place.{Place}
 use Rattle.ssq_board.specs.declared.front.Place.TheVariants as place
 use Rattle.ssq_board.specs.Core.{is_fine}
@@ -43,23 +43,23 @@ time_is tells query part from to partitions reduces place.Away source t fine m =
 pub record IsSafe {L : Type 0} (partitions : ℕ) (source : Source L) : Type 0 where
   pub buckets : (p : ℕ) → p < partitions → HasBucket p source
   pub years : HasLineTime source
-  pub printable : (p : ℕ) → p < partitions → All IsPrintable (bucket_in_fed p source.fed)
+  pub fit : (p : ℕ) → p < partitions → All IsFitRow (bucket_in_fed p source.fed)
 
-none_printable : All IsPrintable []
-none_printable = λ k d less. absurd (omega (arith, less))
+none_fit : All IsFitRow []
+none_fit = λ k d less. absurd (omega (arith, less))
 
 safe_none : {L : Type 0} (partitions : ℕ) (source : Source L) → source.fed ≡ None → IsSafe partitions source
 safe_none partitions source is = record {
   buckets = λ p less. subst (λ (o : Option FedRows). IfSome o (λ fed. p < length fed.buckets)) (sym is) tt;
   years = subst (λ (o : Option FedRows). IfSome (time_of o) IsLineTime) (sym is) tt;
-  printable = λ p less. subst (λ (o : Option FedRows). All IsPrintable (bucket_in_fed p o)) (sym is) none_printable;
+  fit = λ p less. subst (λ (o : Option FedRows). All IsFitRow (bucket_in_fed p o)) (sym is) none_fit;
 }
 
 safe_some : {L : Type 0} (tells : Type 0) (query : Bound) (part : Part) (from to partitions : ℕ) (reduces : List Place) (source : Source L) (fed : FedRows) → source.fed ≡ Some fed → IsBrought tells query part from to partitions reduces fed → IsSafe partitions source
 safe_some tells query part from to partitions reduces source fed is b = record {
   buckets = λ p less. subst (λ (o : Option FedRows). IfSome o (λ fed. p < length fed.buckets)) (sym is) (omega (arith, less, b.count));
   years = subst (λ (o : Option FedRows). IfSome (time_of o) IsLineTime) (sym is) b.years;
-  printable = λ p less. subst (λ (o : Option FedRows). All IsPrintable (bucket_in_fed p o)) (sym is) (b.printable p [] (omega (arith, less, b.count)));
+  fit = λ p less. subst (λ (o : Option FedRows). All IsFitRow (bucket_in_fed p o)) (sym is) (b.fit p [] (omega (arith, less, b.count)));
 }
 
 pub source_safe : {L : Type 0} (tells : Type 0) (query : Bound) (part : Part) (from to partitions : ℕ) (reduces : List Place) (at : Place) (source : Source L) → is_fine at ≡ true → IsMapped tells query part from to partitions reduces at source → IsSafe partitions source

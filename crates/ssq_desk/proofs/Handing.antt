@@ -33,7 +33,7 @@ use Rattle.ssq_desk.specs.Handing.{IsTaken, AreTaken, bucket_in_fed, buckets_in}
 use Rattle.ssq_meaning.specs.Times.{delays, watermark_by}
 use Rattle.ssq_water.specs.Water.{seen_at}
 use Rattle.ssq_course.specs.Setting.{watermark_at}
-use Rattle.ssq_feed.specs.Rows.{IsPrintable}
+use Rattle.ssq_meaning.specs.Fit.{IsFitRow}
 use Rattle.ssq_desk.proofs.Feeding.{IsSafe, source_safe, bucket_is, all_parts, all_joined}
 use Rattle.ssq_board.specs.declared.front.Cause.{Cause}
 use Rattle.ssq_board.specs.declared.front.Cause.TheVariants as cause
@@ -359,9 +359,9 @@ module _ {D L S F : Type 0} (stores logs : Type 0) (lines : L → List Line) (av
         let seen = whole.holds.seen_so_far runs in
         is ∙ (λ i. watermark_by (delays (whole.view.bound i)) (λ stream. seen.are y stream i))
 
-    -- rows that were put together can be printed
-    pub rows_printable : (p : ℕ) → IsReduceHere p → All IsPrintable (buckets_in p load.sources.items)
-    rows_printable p h = all_joined IsPrintable (λ source. bucket_in_fed p source.fed) load.sources.items (λ i source here. (h.safe i source here).printable p h.less)
+    -- a state can hold each row that was put together
+    pub rows_fit : (p : ℕ) → IsReduceHere p → All IsFitRow (buckets_in p load.sources.items)
+    rows_fit p h = all_joined IsFitRow (λ source. bucket_in_fed p source.fed) load.sources.items (λ i source here. (h.safe i source here).fit p h.less)
 
     -- each part is of one of the query's streams
     pub streams_below : (i : ℕ) (part : Part) → slice_get (parts_in (setting_of lines shown.opening)) i ≡ Some part → part.stream < length (setting_of lines shown.opening).job.bound.streams

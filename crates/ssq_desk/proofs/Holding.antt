@@ -11,7 +11,7 @@ use Rattle.ssq_shape.specs.declared.bound.Bound.{Bound}
 use Rattle.ssq_meaning.specs.Meaning.{Line}
 use Rattle.ssq_meaning.specs.Parts.{Part}
 use Rattle.ssq_feed.specs.declared.task.FedRows.{FedRows}
-use Rattle.ssq_feed.specs.Rows.{IsPrintable}
+use Rattle.ssq_meaning.specs.Fit.{IsFitRow}
 use Rattle.ssq_core.specs.Course.{Cuts}
 use Rattle.ssq_course.specs.Setting.{Setting, parts_in, cut_of}
 use Rattle.ssq_board.specs.declared.front.Cause.{Cause}
@@ -78,7 +78,7 @@ bucket_else (x ∷ l) (suc p) (suc q) n = bucket_else l p q (λ e. n (ap suc e))
 away_not_waits : place.Away ≡ place.Waits → ⊥
 away_not_waits e = cc
 
-no_rows : All IsPrintable []
+no_rows : All IsFitRow []
 no_rows = λ k d less. absurd (omega (arith, less))
 
 -- what was brought, less the bucket of a partition that was handed out
@@ -87,7 +87,7 @@ brought_less : (tells : Type 0) (query : Bound) (part : Part) (from to partition
 brought_less tells query part from to partitions reduces p fed left time buckets b = record {
   count = ap length buckets ∙ set_length fed.buckets p [] ∙ b.count;
   years = subst (λ (t : Option ℤ). IfSome t IsLineTime) (sym time) b.years;
-  printable = subst (λ l. All (All IsPrintable) l) (sym buckets) (All-set (All IsPrintable) fed.buckets p [] no_rows b.printable);
+  fit = subst (λ l. All (All IsFitRow) l) (sym buckets) (All-set (All IsFitRow) fed.buckets p [] no_rows b.fit);
   time = λ t. time ∙ b.time t;
   good = b.good;
   rows = λ t q waits. by t q waits (same_or_not p q);
@@ -230,7 +230,7 @@ module _ {L S F : Type 0} (reads owned : Type 0) (lines : L → List Line) (avai
           record {
             count = b.2.count;
             years = b.2.years;
-            printable = b.2.printable;
+            fit = b.2.fit;
             time = b.2.time;
             good = b.2.good;
             rows = λ t q waits. b.2.rows t q (waits_again c.reduces i q f waits);

@@ -34,6 +34,7 @@ use Rattle.ssq_desk.specs.Room.{IsFresh}
 use Rattle.ssq_desk.specs.Making.{IsMadeFor, IsWorkFor}
 use Rattle.ssq_desk.specs.declared.told.Told.{Told}
 use Rattle.ssq_desk.specs.Closing.{AreTold}
+use Rattle.ssq_desk.specs.Tasks.{IsViewOf}
 use Rattle.ssq_desk.specs.Whole.{IsWhole, IsKept, HoldsIn, ArePlans, opening_in}
 use Rattle.ssq_desk.proofs.Ends.{next_follows}
 use Rattle.ssq_desk.proofs.Telling.{told_stay}
@@ -176,7 +177,7 @@ module _ {D L S F : Type 0} (stores logs : Type 0) (lines : L → List Line) (av
       (let sources = sym has.sources_are in let shares = sym has.shares_are in let outs = sym (has.out_is ∙ is_made.work.1) in let seen = sym (has.seen_is ∙ is_made.seen_is) in let pending = sym (has.pending_is ∙ is_made.pending_is) in
       transported (stores × logs) (Owns stores logs lines shown) lines available (LogWent logs lines available answers faults) shown.opening.logs.items written sealed s r.available core _ _ _ _ _ _ _ _ _ _ _ _ (sym same) sources shares outs seen pending h) in record {
         round = whole.round;
-        view = record { bound = ap (λ (v : _). v.bound.now) (has.view_is ∙ is_made.view_is) ∙ whole.view.bound; partitions = ap (λ (v : _). v.partitions) (has.view_is ∙ is_made.view_is) ∙ whole.view.partitions };
+        view = subst (IsViewOf s) (sym (has.view_is ∙ is_made.view_is)) whole.view;
         holds = moved;
         plans = subst (λ (plans : List Plan). ArePlans (Owns stores logs lines shown) shown.opening.opened.plans s (cuts_of (opening_in lines) (did shown disk (entry.Plan c.front.planned ∷ []))) (c.front.planned + 1) plans) (sym (has.plans_are ∙ ap (λ (l : List Plan). l ++ plan ∷ []) is_made.plans_are))
             (subst (λ (x : Cuts). ArePlans (Owns stores logs lines shown) shown.opening.opened.plans s x (c.front.planned + 1) (load.plans.items ++ plan ∷ [])) (sym same) (one_plan (Owns stores logs lines shown) shown.opening.opened.plans s cuts c.front.planned (next_ends r.cap c.ends r.available) load.plans.items plan whole.plans epoch mark ends printed goes));

@@ -6,7 +6,6 @@ use lib.ListN.{get_elem?}
 use Rattle.ssq_outside.specs.Faults.{Rises}
 use Rattle.ssq_shape.specs.declared.bound.Bound.{Bound}
 use Rattle.ssq_shape.specs.declared.bound.Shape.TheVariants.{Plain}
-use Rattle.ssq_shape.specs.Plain.{output_names}
 use Rattle.ssq_meaning.specs.Meaning.{Line}
 use Rattle.ssq_meaning.specs.Times.{Delay, delays}
 use Rattle.ssq_water.specs.Water.{seen_at}
@@ -60,8 +59,8 @@ module _ {S F : Type 0} (owned stages : Type 0) (so : owned → stages) (written
   -- the rows are those of the epoch
   pub rows_are : s.job.bound.shape ≡ Plain → 1 ≤ s.job.partitions → owned → sealed files.rows ≡ rows_at s cuts e
   rows_are plain many t =
-      (has_epoch t).rows ∙ ap (λ (l : List ℕ). l ++ sink_text (output_names task.view.bound.now) (joined_vecs task.rows.items)) (of.rows_empty t)
-      ∙ ap (λ (query : Bound). sink_text (output_names query) (joined_vecs task.rows.items)) of.view.bound
+      (has_epoch t).rows ∙ ap (λ (l : List ℕ). l ++ sink_text task.view.bound.now (joined_vecs task.rows.items)) (of.rows_empty t)
+      ∙ ap (λ (query : Bound). sink_text query (joined_vecs task.rows.items)) of.view.bound
       ∙ show_rows s cuts e (map (λ rows. rows.items) task.rows.items) plain many (of.rows t)
 
   -- and the commit is the epoch's

@@ -1,11 +1,10 @@
 -- A reduce task is taken back.
-use Rattle.std.proofs.Common.{◌≡◌, ◌<◌, [], ◌∷◌, ℕ, ℤ, zero, suc, Bool, true, false, true≢false, List, length, set, Option, Some, None, Result, Ok, Err, inl, inr, refl, sym, ap, ◌∙◌, subst, arith}
+use Rattle.std.proofs.Common.{◌≡◌, ◌<◌, [], ◌∷◌, ℕ, ℤ, zero, suc, Bool, true, false, true≢false, List, length, set, Option, Some, None, Result, Ok, Err, inl, inr, refl, sym, ap, ◌∙◌, subst, arith, nat_lt}
 use Rattle.std.specs.Prelude.{All, is_some, not, IfOk, if◌then◌else◌}
 use Rattle.std.specs.List.{list_all}
 use Rattle.std.specs.Global.{Vec}
 use Rattle.std.specs.List.Sorted.{IsPermutation}
-use Rattle.std.proofs.lemmas.Bool.{cases_eq}
-use Rattle.std.proofs.lemmas.List.Elements.{All-map, All-filter}
+use Rattle.std.proofs.lemmas.Bool.{cases_eq, le-ltb}
 use Rattle.std.proofs.lemmas.List.Sorted.{IsPermutation-refl}
 use mathlib.Core.Option.{some, some-injective, some-ne-none}
 use lib.ListN.{get_elem?}
@@ -18,25 +17,27 @@ use Rattle.ssq_shape.specs.declared.bound.Shape.{Shape}
 use Rattle.ssq_shape.specs.declared.bound.Shape.TheVariants.{Plain}
 use Rattle.ssq_meaning.specs.declared.fed_row.FedRow.{FedRow}
 use Rattle.ssq_meaning.specs.Meaning.{Line, Values}
-use Rattle.ssq_meaning.specs.Operator.{Operator, plain, operator_for, operator_of}
+use Rattle.ssq_meaning.specs.Operator.{operator_of}
 use Rattle.ssq_meaning.specs.Epochs.{timely}
-use Rattle.ssq_feed.specs.Rows.{IsPrintable}
 use Rattle.ssq_task.specs.declared.partition.ReduceTask.{ReduceTask}
 use Rattle.ssq_task.specs.declared.partition.Reduced.{Reduced}
 use Rattle.ssq_task.specs.declared.partition.ReduceFault.{ReduceFault}
 use Rattle.ssq_task.specs.declared.partition.ReduceFault.TheVariants as reduce
 use Rattle.ssq_task.specs.Lists.{joined_vecs}
-use Rattle.ssq_task.specs.Reducing.{IsReduced}
+use Rattle.ssq_store.specs.declared.store.Store.{Store}
+use Rattle.ssq_task.specs.declared.partition.ReducedRows.{ReducedRows}
+use Rattle.ssq_task.specs.declared.partition.State.{State}
+use Rattle.ssq_task.specs.Reducing.{IsReduced, IsGiven, IsGivenBy, HasBrought, timely_in}
 use Rattle.ssq_feed.specs.Causes.{LogWent}
 use Rattle.ssq_core.specs.Course.{Cuts}
-use Rattle.ssq_course.specs.Setting.{Setting, course_of}
+use Rattle.ssq_course.specs.Setting.{Setting, watermark_at, course_of, keeping_of}
 use Rattle.ssq_board.specs.declared.front.Cause.{Cause}
 use Rattle.ssq_board.specs.declared.front.Cause.TheVariants as cause
 use Rattle.ssq_board.specs.declared.front.Entry.TheVariants as entry
 use Rattle.ssq_board.specs.declared.front.Place.{Place}
 use Rattle.ssq_board.specs.declared.front.Place.TheVariants as place
 use Rattle.ssq_board.specs.Core.{May, after, is_here, is_of_line, is_stopped, worse, worse_by, fault_at, fault_in, due_of, due_stop, or_stop}
-use Rattle.ssq_board.specs.Follows.{IsOwn}
+use Rattle.ssq_board.specs.Follows.{IsOwn, BringsNone}
 use Rattle.ssq_board.proofs.Leasts.{cause_counts}
 use Rattle.ssq_board.proofs.Lists.{put_else}
 use Rattle.ssq_ledger.specs.Shown.{Shown, IsLegal, IsInOrder, cuts_of}
@@ -47,23 +48,21 @@ use Rattle.ssq_desk.specs.declared.round.Round.{Round}
 use Rattle.ssq_desk.specs.Round.{setting_of, Owns}
 use Rattle.ssq_desk.specs.Tasks.{IsReduceTask, reduce_id}
 use Rattle.ssq_desk.specs.Handed.{IsReduceOf}
-use Rattle.ssq_desk.specs.Results.{cause_of_reduce, fault_of}
+use Rattle.ssq_desk.specs.Results.{cause_of_failed, fault_of}
 use Rattle.ssq_desk.specs.Contents.{IsShare, IsStopOf}
 use Rattle.ssq_desk.specs.Closing.{HasFaulty}
 use Rattle.ssq_desk.specs.Whole.{IsWhole, HoldsIn, opening_in}
 use Rattle.ssq_desk.proofs.Holding.{put_is, holds_reduced}
 
+-- what came of a task
+abbrev Outcome : (S F : Type 0) → Type 0
+Outcome S F = Result (ReducedRows F) (ReduceFault × Option S)
+
 -- ---- what a task shows
 
-plain_is : (query : Bound) → query.shape ≡ Plain → operator_of query ≡ plain
-unfolding operator_of
-plain_is query is = ap (λ (shape : Shape). operator_for shape query) is
-
--- what a query that keeps nothing shows can be printed, where its rows can
-shows_printable : (query : Bound) (old rows : List FedRow) (before now : Option ℤ) → query.shape ≡ Plain → All IsPrintable rows → All (All (IfTime IsStampTime)) ((operator_of query).added old (timely query now rows) before now)
-shows_printable query old rows before now is all =
-    subst (λ (op : Operator). All (All (IfTime IsStampTime)) (op.added old (timely query now rows) before now)) (sym (plain_is query is))
-    (All-map (All (IfTime IsStampTime)) (λ (row : FedRow). row.values) (timely query now rows) (All-filter (λ (row : FedRow). not ((operator_of query).is_late now row)) IsPrintable rows all))
+-- a query that keeps nothing needs no state
+no_state : {S : Type 0} (query : Bound) (partition : ℕ) (old new : List FedRow) (before now : Option ℤ) (state : Option (State S)) → query.shape ≡ Plain → state ≡ None → IsGiven query partition old new before now state
+no_state query partition old new before now state is none = subst (λ (shape : Shape). IsGivenBy shape query partition old new before now state) (sym is) none
 
 cause_or : Cause → Option Cause → Cause
 cause_or d None = d
@@ -80,23 +79,25 @@ back_waits : (f : Option Cause) → place.Back f ≡ place.Waits → ⊥
 back_waits f e = cc
 
 -- what a desk keeps of a reduce task that is back
-back_share : (owned : Type 0) (s : Setting) (cuts : Cuts) (e : ℕ) (task : ReduceTask) (o : Result (Vec Values) ReduceFault) (f : Option Cause) (x : Share) → s.job.bound.shape ≡ Plain → IsReduceTask owned s cuts e task
-    → ((old : List FedRow) (before : Option ℤ)
-    → IfOk o (λ rows. rows.items ≡ (operator_of task.view.bound.now).added old (timely task.view.bound.now task.watermark (joined_vecs task.rows.items)) before task.watermark))
-    → f ≡ fault_of cause_of_reduce o → IfOk o (λ rows. x.rows ≡ rows) → IsShare owned s cuts e task.partition (place.Back f) x
-back_share owned s cuts e task (Ok rows) f x keeps_none of shows is brought = record {
+back_share : {S F : Type 0} (tells : Type 0) (written : S → List ℕ) (sealed : F → List ℕ) (owned : Type 0) (s : Setting) (cuts : Cuts) (e : ℕ) (task : ReduceTask S F) (store : Option Store) (o : Outcome S F) (f : Option Cause) (x : Share)
+    → s.job.bound.shape ≡ Plain → IsReduceTask owned s cuts e task → IfOk o (HasBrought tells written sealed task.view.bound.now task.epoch task.partition task.watermark (timely_in task) task.state store)
+    → f ≡ fault_of cause_of_failed o → IfOk o (λ own. x.rows ≡ own.rows) → IsShare owned s cuts e task.partition (place.Back f) x
+back_share tells written sealed owned s cuts e task store (Ok own) f x keeps_none of has is brought = record {
   there = λ r. absurd (back_rests f r);
   empty = λ w. absurd (back_waits f w);
   shown = λ b t. record {
     taken = joined_vecs task.rows.items;
     are = subst (λ (l : List FedRow). IsPermutation (joined_vecs task.rows.items) l) (of.rows t) (IsPermutation-refl (joined_vecs task.rows.items));
-    shows = λ old before. ap (λ (v : Vec Values). v.items) brought ∙ shows old before
-        ∙ (let query = of.view.bound in let mark = of.watermark t in λ i. (operator_of (query i)).added old (timely (query i) (mark i) (joined_vecs task.rows.items)) before (mark i));
+    shows = λ old before. (
+        let given = no_state task.view.bound.now task.partition old (timely_in task) before task.watermark task.state (ap (λ (b : Bound). b.shape) of.view.bound ∙ keeps_none) of.stateless in
+        let query = of.view.bound in
+        let mark = of.watermark t in
+        subst (λ (v : Vec Values). IsPermutation v.items ((operator_of s.job.bound).added old (timely s.job.bound (watermark_at s cuts e) (joined_vecs task.rows.items)) before (watermark_at s cuts e))) (sym brought)
+        (subst (IsPermutation own.rows.items) (λ i. (operator_of (query i)).added old (timely (query i) (mark i) (joined_vecs task.rows.items)) before (mark i)) (has.meaning old before given).shown));
   };
-  printable = λ b. subst (λ (l : List Values). All (All (IfTime IsStampTime)) l) (sym (ap (λ (v : Vec Values). v.items) brought ∙ shows [] None))
-      (shows_printable task.view.bound.now [] (joined_vecs task.rows.items) None task.watermark (ap (λ (b : Bound). b.shape) of.view.bound ∙ keeps_none) of.printable);
+  printable = λ b. subst (λ (v : Vec Values). All (All (IfTime IsStampTime)) v.items) (sym brought) has.printable;
 }
-back_share owned s cuts e task (Err w) f x keeps_none of shows is brought = record {
+back_share tells written sealed owned s cuts e task store (Err w) f x keeps_none of has is brought = record {
   there = λ r. absurd (back_rests f r);
   empty = λ w. absurd (back_waits f w);
   shown = λ b. absurd (failed b);
@@ -108,40 +109,45 @@ back_share owned s cuts e task (Err w) f x keeps_none of shows is brought = reco
 
 -- ---- whether a task has a fault
 
-own_reduced : (s : Setting) (cuts : Cuts) (e p : ℕ) (o : Result (Vec Values) ReduceFault) → s.job.bound.shape ≡ Plain → IsOwn (course_of s cuts) (reduce_id e p) (fault_of cause_of_reduce o)
+own_reduced : {S F : Type 0} (s : Setting) (cuts : Cuts) (e p : ℕ) (o : Outcome S F) → s.job.bound.shape ≡ Plain → IsOwn (course_of s cuts) (reduce_id e p) (fault_of cause_of_failed o)
 own_reduced s cuts e p (Ok rows) keeps_none = (line_faults s cuts e keeps_none).reduces p
-own_reduced s cuts e p (Err (reduce.Overflow key)) keeps_none = tt
-own_reduced s cuts e p (Err reduce.DiskFault) keeps_none = tt
-own_reduced s cuts e p (Err reduce.NoMemory) keeps_none = tt
+own_reduced s cuts e p (Err (reduce.Overflow key, left)) keeps_none = tt
+own_reduced s cuts e p (Err (reduce.DiskFault, left)) keeps_none = tt
+own_reduced s cuts e p (Err (reduce.NoMemory, left)) keeps_none = tt
+
+-- it brings no version, where the query keeps no state
+bare_reduced : (s : Setting) (cuts : Cuts) (e p : ℕ) (f : Option Cause) → s.job.bound.shape ≡ Plain → BringsNone (course_of s cuts) (reduce_id e p) f
+bare_reduced s cuts e p None keeps_none = ap (λ (shape : Shape). nat_lt p (keeping_of shape s.job.partitions)) keeps_none ∙ le-ltb p 0 (omega arith)
+bare_reduced s cuts e p (Some g) keeps_none = tt
 
 -- why it brought nothing is no line's
-own_stops : (reads : Type 0) (s : Setting) (cuts : Cuts) (e : ℕ) (o : Result (Vec Values) ReduceFault) (g : Cause) → fault_of cause_of_reduce o ≡ Some g → IsStopOf reads s cuts e g
+own_stops : {S F : Type 0} (reads : Type 0) (s : Setting) (cuts : Cuts) (e : ℕ) (o : Outcome S F) (g : Cause) → fault_of cause_of_failed o ≡ Some g → IsStopOf reads s cuts e g
 own_stops reads s cuts e (Ok rows) g is = absurd (true≢false (sym (ap is_some is)))
-own_stops reads s cuts e (Err (reduce.Overflow key)) g is = subst (IsStopOf reads s cuts e) (same_cause cause.NoMemory g is) tt
-own_stops reads s cuts e (Err reduce.DiskFault) g is = subst (IsStopOf reads s cuts e) (same_cause cause.DiskFault g is) tt
-own_stops reads s cuts e (Err reduce.NoMemory) g is = subst (IsStopOf reads s cuts e) (same_cause cause.NoMemory g is) tt
+own_stops reads s cuts e (Err (reduce.Overflow key, left)) g is = subst (IsStopOf reads s cuts e) (same_cause cause.NoMemory g is) tt
+own_stops reads s cuts e (Err (reduce.DiskFault, left)) g is = subst (IsStopOf reads s cuts e) (same_cause cause.DiskFault g is) tt
+own_stops reads s cuts e (Err (reduce.NoMemory, left)) g is = subst (IsStopOf reads s cuts e) (same_cause cause.NoMemory g is) tt
 
 -- nor a fault of a log
-own_no_log : (o : Result (Vec Values) ReduceFault) → fault_of cause_of_reduce o ≡ Some cause.LogFault → ⊥
+own_no_log : {S F : Type 0} (o : Outcome S F) → fault_of cause_of_failed o ≡ Some cause.LogFault → ⊥
 own_no_log (Ok rows) is = true≢false (sym (ap is_some is))
-own_no_log (Err (reduce.Overflow key)) is = memory_no_log (same_cause cause.NoMemory cause.LogFault is)
+own_no_log (Err (reduce.Overflow key, left)) is = memory_no_log (same_cause cause.NoMemory cause.LogFault is)
   where
     memory_no_log : cause.NoMemory ≡ cause.LogFault → ⊥
     memory_no_log e = cc
-own_no_log (Err reduce.DiskFault) is = disk_no_log (same_cause cause.DiskFault cause.LogFault is)
+own_no_log (Err (reduce.DiskFault, left)) is = disk_no_log (same_cause cause.DiskFault cause.LogFault is)
   where
     disk_no_log : cause.DiskFault ≡ cause.LogFault → ⊥
     disk_no_log e = cc
-own_no_log (Err reduce.NoMemory) is = memory_no_log (same_cause cause.NoMemory cause.LogFault is)
+own_no_log (Err (reduce.NoMemory, left)) is = memory_no_log (same_cause cause.NoMemory cause.LogFault is)
   where
     memory_no_log : cause.NoMemory ≡ cause.LogFault → ⊥
     memory_no_log e = cc
 
-own_line : (o : Result (Vec Values) ReduceFault) (g : Cause) → fault_of cause_of_reduce o ≡ Some g → is_of_line g ≡ false
+own_line : {S F : Type 0} (o : Outcome S F) (g : Cause) → fault_of cause_of_failed o ≡ Some g → is_of_line g ≡ false
 own_line (Ok rows) g is = absurd (true≢false (sym (ap is_some is)))
-own_line (Err (reduce.Overflow key)) g is = ap is_of_line (sym (same_cause cause.NoMemory g is))
-own_line (Err reduce.DiskFault) g is = ap is_of_line (sym (same_cause cause.DiskFault g is))
-own_line (Err reduce.NoMemory) g is = ap is_of_line (sym (same_cause cause.NoMemory g is))
+own_line (Err (reduce.Overflow key, left)) g is = ap is_of_line (sym (same_cause cause.NoMemory g is))
+own_line (Err (reduce.DiskFault, left)) g is = ap is_of_line (sym (same_cause cause.DiskFault g is))
+own_line (Err (reduce.NoMemory, left)) g is = ap is_of_line (sym (same_cause cause.NoMemory g is))
 
 -- ---- for what its phase stops
 
@@ -218,19 +224,22 @@ pub runs_by : (old more : Option Cause) → or_stop old more ≡ None → old �
 runs_by None more is = refl
 runs_by (Some f) more is = is
 
-module _ {D L S F : Type 0} (stores logs : Type 0) (lines : L → List Line) (available : L → ℕ) (answers : L → List ℕ) (faults : L → ℕ) (history : D → History) (written : S → List ℕ) (sealed : F → List ℕ) (shown : Shown D (Round L)) (load : Load L S F)
+module _ {D L S F : Type 0} (stores logs : Type 0) (lines : L → List Line) (available : L → ℕ) (answers : L → List ℕ) (faults : L → ℕ) (history : D → History) (tells : Type 0) (written : S → List ℕ) (sealed : F → List ℕ) (counts : S → ℕ) (shown : Shown D (Round L)) (load : Load L S F)
     (whole : IsWhole stores logs lines available answers faults written sealed shown load) (legal : IsLegal (Owns stores logs lines shown) history (opening_in lines) shown) (order : IsInOrder shown.scope shown.core) where
   -- its slot is there
-  pub share_below : (task : ReduceTask) (done : Reduced) → IsReduceOf stores logs lines shown task → IsReduced task done → done.partition < length load.shares.items
+  pub share_below : (task : ReduceTask S F) (done : Reduced S F) → IsReduceOf stores logs lines shown task → IsReduced tells written sealed counts task done → done.partition < length load.shares.items
   share_below task done of is = (let count = whole.holds.partitions in let below = of.below in let same = is.partition in omega (arith, count, below, same))
 
   -- the result is the task's own
-  pub reduced_right : (done : Reduced) (f : Option Cause) → f ≡ fault_of cause_of_reduce done.outcome → IsOwn (course_of (setting_of lines shown.opening) (cuts_of (opening_in lines) shown)) (reduce_id done.epoch done.partition) f
+  pub reduced_right : (done : Reduced S F) (f : Option Cause) → f ≡ fault_of cause_of_failed done.outcome → IsOwn (course_of (setting_of lines shown.opening) (cuts_of (opening_in lines) shown)) (reduce_id done.epoch done.partition) f
   reduced_right done f is = subst (IsOwn (course_of (setting_of lines shown.opening) (cuts_of (opening_in lines) shown)) (reduce_id done.epoch done.partition)) (sym is)
       (own_reduced (setting_of lines shown.opening) (cuts_of (opening_in lines) shown) done.epoch done.partition done.outcome whole.round.plain.shape)
 
+  pub reduced_bare : (done : Reduced S F) (f : Option Cause) → BringsNone (course_of (setting_of lines shown.opening) (cuts_of (opening_in lines) shown)) (reduce_id done.epoch done.partition) f
+  reduced_bare done f = bare_reduced (setting_of lines shown.opening) (cuts_of (opening_in lines) shown) done.epoch done.partition f whole.round.plain.shape
+
   -- what is held once it is back
-  pub reduced_back : (task : ReduceTask) (done : Reduced) (f : Option Cause) (x : Share) → IsReduceOf stores logs lines shown task → IsReduced task done → f ≡ fault_of cause_of_reduce done.outcome → IfOk done.outcome (λ rows. x.rows ≡ rows)
+  pub reduced_back : (task : ReduceTask S F) (done : Reduced S F) (f : Option Cause) (x : Share) → IsReduceOf stores logs lines shown task → IsReduced tells written sealed counts task done → f ≡ fault_of cause_of_failed done.outcome → IfOk done.outcome (λ own. x.rows ≡ own.rows)
       → May shown.scope shown.core (entry.Report (reduce_id done.epoch done.partition) f)
       → HoldsIn stores logs lines available answers faults written sealed shown (cuts_of (opening_in lines) shown) (after shown.scope shown.core (entry.Report (reduce_id done.epoch done.partition) f)) load.sources.items (set load.shares.items done.partition x) load.out load.seen load.pending
   reduced_back task done f x of is fault brought may =
@@ -241,13 +250,13 @@ module _ {D L S F : Type 0} (stores logs : Type 0) (lines : L → List Line) (av
       let more : Option Cause = due_stop (set shown.core.reduces done.partition (place.Back f)) in
       holds_reduced (stores × logs) (Owns stores logs lines shown) lines available (LogWent logs lines available answers faults) shown.opening.logs.items written sealed s cuts shown.scope.available shown.core (or_stop old (if is_stopped old then None else more)) f done.partition x load.sources.items load.shares.items load.out load.seen load.pending
       (runs_by old (if is_stopped old then None else more)) whole.holds may.2
-      (λ run opened. subst (λ (p : ℕ). IsShare (Owns stores logs lines shown) s cuts e p (place.Back f) x) (sym is.partition) (back_share (Owns stores logs lines shown) s cuts e task done.outcome f x whole.round.plain.shape of is.rows fault brought))
+      (λ run opened. subst (λ (p : ℕ). IsShare (Owns stores logs lines shown) s cuts e p (place.Back f) x) (sym is.partition) (back_share tells written sealed (Owns stores logs lines shown) s cuts e task done.store done.outcome f x whole.round.plain.shape of is.brought fault brought))
       (λ g met. own_line done.outcome g (sym fault ∙ met))
       (λ g stopped. stops_by (stores × logs) s cuts e old more g stopped whole.holds.stop
       (λ run is_due. reduce_stops (stores × logs) s cuts e shown.core.reduces done.partition f g (order.sound.calm run kind.Reduce) is_due (λ h met. own_stops (stores × logs) s cuts e done.outcome h (sym fault ∙ met)) whole.holds.reduced))
 
   -- and where a log stopped the desk, that was before
-  pub reduced_faulty : (done : Reduced) (f : Option Cause) → f ≡ fault_of cause_of_reduce done.outcome → (after shown.scope shown.core (entry.Report (reduce_id done.epoch done.partition) f)).front.stop ≡ Some cause.LogFault
+  pub reduced_faulty : (done : Reduced S F) (f : Option Cause) → f ≡ fault_of cause_of_failed done.outcome → (after shown.scope shown.core (entry.Report (reduce_id done.epoch done.partition) f)).front.stop ≡ Some cause.LogFault
       → HasFaulty faults shown.core.maps load.sources.items
   reduced_faulty done f fault stopped =
       faulty_by shown.core.front.stop (due_stop (set shown.core.reduces done.partition (place.Back f))) whole.faulty

@@ -15,7 +15,8 @@ use Rattle.ssq_route.specs.Buckets.{bucket_at}
 use Rattle.ssq_feed.specs.declared.task.FedRows.{FedRows}
 use Rattle.ssq_feed.specs.declared.fault.FeedFault.{FeedFault}
 use Rattle.ssq_feed.specs.declared.fault.FeedFault.TheVariants as feed
-use Rattle.ssq_feed.specs.Rows.{IsFedFrom, IsPrintable}
+use Rattle.ssq_meaning.specs.Fit.{IsFitRow}
+use Rattle.ssq_feed.specs.Rows.{IsFedFrom}
 use Rattle.ssq_core.specs.Course.{Cuts}
 use Rattle.ssq_course.specs.Setting.{Setting, parts_in, cut_of, cuts_of}
 use Rattle.ssq_board.specs.declared.front.Cause.{Cause}
@@ -49,9 +50,9 @@ pub brought_of : (tells : Type 0) (query : Bound) (part : Part) (from to partiti
 brought_of tells query part from to partitions reduces brought below f = record {
   count = ap length f.apart ∙ buckets_count partitions f.rows;
   years = f.years;
-  printable = λ p d less. (let in_range : p < partitions = (let n = ap length f.apart ∙ buckets_count partitions f.rows in omega (arith, less, n)) in
-      subst (All IsPrintable) (sym (get_or_default brought.buckets p d [] less ∙ ap (λ l. bucket_at l p) f.apart ∙ buckets_are partitions p f.rows in_range))
-      (All-filter (λ row. place_of (keys_of row.key) partitions == p) IsPrintable f.rows f.printable));
+  fit = λ p d less. (let in_range : p < partitions = (let n = ap length f.apart ∙ buckets_count partitions f.rows in omega (arith, less, n)) in
+      subst (All IsFitRow) (sym (get_or_default brought.buckets p d [] less ∙ ap (λ l. bucket_at l p) f.apart ∙ buckets_are partitions p f.rows in_range))
+      (All-filter (λ row. place_of (keys_of row.key) partitions == p) IsFitRow f.rows f.fit));
   time = f.greatest;
   good = f.good;
   rows = λ t p waits. ap (λ l. bucket_at l p) f.apart ∙ buckets_are partitions p f.rows (below p waits) ∙ ap (bucket partitions p) (f.are t);

@@ -58,7 +58,7 @@ fed_own : (tells logs : Type 0) (query : Bound) (part : Part) (st pt : ℕ) (ls 
 fed_own tells logs query part st pt ls from to partitions fed so stream number own f = record {
   rows = f.rows;
   apart = f.apart;
-  printable = f.printable;
+  fit = f.fit;
   years = f.years;
   are = λ t. f.are (so t) ∙ ap (λ q. fed_in query q from to) (same t);
   greatest = λ t. f.greatest (so t) ∙ ap (λ q. time_in query q from to) (same t);

@@ -54,10 +54,11 @@ pub record HasFaulty {L : Type 0} (faults : L → ℕ) (maps : List Place) (sour
 abbrev pub acknowledged_in : Core → ℕ
 acknowledged_in c = if is_open c || c.front.settled then c.front.committed else c.front.committed - 1
 
--- What the next round opens: the same job and names, with all epochs that are planned and committed, the opened ones first. It is in order,
+-- What the next round opens: the same job, stores and names, with all epochs that are planned and committed, the opened ones first. It is in order,
 -- no part is planned beyond what was found; and where what was opened is the job's own, its plans and greatest times are.
 pub record IsNext (owned : Type 0) (s : Setting) (cuts : Cuts) (available : List ℕ) (c : Core) (opened next : Opened) : Type 0 where
   pub meta_is : next.meta ≡ opened.meta
+  pub stores_are : next.stores ≡ opened.stores
   pub names_are : next.names ≡ opened.names
   pub committed_is : next.committed ≡ c.front.committed
   pub planned : length next.plans ≡ c.front.planned

@@ -9,13 +9,13 @@ use Rattle.ssq_json.specs.declared.bad_row.BadRow.TheVariants as bad
 use Rattle.ssq_route.specs.Buckets.{bucket_at}
 use Rattle.ssq_shape.specs.declared.bound.Bound.{Bound}
 use Rattle.ssq_meaning.specs.declared.line.LineFault.TheVariants as line
+use Rattle.ssq_meaning.specs.Fit.{IsFitRow}
 use Rattle.ssq_meaning.specs.Meaning.{Line}
 use Rattle.ssq_meaning.specs.Parts.{Part}
 use Rattle.ssq_meaning.specs.Feeding.{LineAt, time_in, fault_in}
 use Rattle.ssq_meaning.specs.Epochs.{seen, out, fault, of_line}
 use Rattle.ssq_water.specs.Water.{seen_at}
 use Rattle.ssq_feed.specs.declared.task.FedRows.{FedRows}
-use Rattle.ssq_feed.specs.Rows.{IsPrintable}
 use Rattle.ssq_core.specs.Course.{Cuts, truth}
 use Rattle.ssq_course.specs.Setting.{Setting, parts_in, cut_of, cuts_of, course_of}
 use Rattle.ssq_board.specs.declared.front.Cause.{Cause}
@@ -88,11 +88,11 @@ module _ {L : Type 0} (reads : Type 0) (lines : L → List Line) (available : L 
     pub log : (is_away at → ⊥) → (own : L) × (source.log ≡ Some own) × IsLogOf i part found own
 
 -- What a map task brought of the lines from one offset up to another: for each partition whose reduce task still waits the rows of its
--- bucket, and the greatest time; and none of the lines has a fault.
+-- bucket, each of which a state can hold, and the greatest time; and none of the lines has a fault.
 pub record IsBrought (reads : Type 0) (query : Bound) (part : Part) (from to partitions : ℕ) (reduces : List Place) (fed : FedRows) : Type 0 where
   pub count : length fed.buckets ≡ partitions
   pub years : IfSome fed.time IsLineTime
-  pub printable : All (All IsPrintable) fed.buckets
+  pub fit : All (All IsFitRow) fed.buckets
   pub time : reads → fed.time ≡ time_in query part from to
   pub good : reads → fault_in query part from to ≡ None
   pub rows : reads → (p : ℕ) → get_elem? reduces p ≡ some place.Waits → bucket_at fed.buckets p ≡ bucket_in query partitions p part from to

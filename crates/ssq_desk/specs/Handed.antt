@@ -20,7 +20,7 @@ module _ {D L : Type 0} (stores logs : Type 0) (lines : L → List Line) where
       IsMapTask (stores × logs) lines available (LogWent logs lines available answers faults) shown.opening.logs.items (setting_of lines shown.opening) (cuts_of (opening_in lines) shown) shown.core.front.committed shown.scope.available task
 
   -- a reduce task that of its partition
-  abbrev pub IsReduceOf : Shown D (Round L) → ReduceTask → Type 0
+  abbrev pub IsReduceOf : {S F : Type 0} → Shown D (Round L) → ReduceTask S F → Type 0
   IsReduceOf shown task = IsReduceTask (Owns stores logs lines shown) (setting_of lines shown.opening) (cuts_of (opening_in lines) shown) shown.core.front.committed task
 
   -- and the out task

@@ -35,6 +35,10 @@ cause_of_reduce (reduce.Overflow key) = cause.NoMemory
 cause_of_reduce reduce.DiskFault = cause.DiskFault
 cause_of_reduce reduce.NoMemory = cause.NoMemory
 
+-- the cause of a reduce task that left its file aside, if it had one
+abbrev pub cause_of_failed : {S : Type 0} → ReduceFault × Option S → Cause
+cause_of_failed failed = cause_of_reduce failed.0
+
 -- why an out task did
 abbrev pub cause_of_gather : GatherFault → Cause
 cause_of_gather gather.DiskFault = cause.DiskFault

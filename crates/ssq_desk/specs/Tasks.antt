@@ -1,15 +1,16 @@
 -- The tasks that a desk hands out.
-use Rattle.std.specs.Prelude.{◌≡◌, ◌<◌, ◌+◌, ℕ, List, [], map, get_or, slice_get, All, Some}
+use Rattle.std.specs.Prelude.{◌≡◌, ◌<◌, ◌+◌, ℕ, List, [], map, get_or, slice_get, All, Some, None}
 use Rattle.ssq_time.specs.Time.{IsStampTime}
 use Rattle.ssq_value.specs.Kind.{IfTime}
 use Rattle.ssq_outside.specs.declared.gate.TaskId.{TaskId}
 use Rattle.ssq_outside.specs.declared.gate.Kind.TheVariants as kind
+use Rattle.ssq_shape.specs.Windows.{HasWindows}
 use Rattle.ssq_meaning.specs.declared.fed_row.View.{View}
+use Rattle.ssq_meaning.specs.Fit.{IsFitRow}
 use Rattle.ssq_meaning.specs.Meaning.{Line}
 use Rattle.ssq_meaning.specs.Parts.{Part}
 use Rattle.ssq_meaning.specs.Epochs.{bucket, fed}
 use Rattle.ssq_feed.specs.declared.task.MapTask.{MapTask}
-use Rattle.ssq_feed.specs.Rows.{IsPrintable}
 use Rattle.ssq_task.specs.declared.partition.ReduceTask.{ReduceTask}
 use Rattle.ssq_task.specs.declared.out.OutTask.{OutTask}
 use Rattle.ssq_task.specs.Lists.{joined_vecs}
@@ -29,10 +30,11 @@ reduce_id e p = record { epoch = e; kind = kind.Reduce; number = p }
 abbrev pub out_id : ℕ → TaskId
 out_id e = record { epoch = e; kind = kind.Out; number = 0 }
 
--- the view is of this setting
+-- the view is of this setting, and each of its windows is one that a query can have
 pub record IsViewOf (s : Setting) (view : View) : Type 0 where
   pub bound : view.bound.now ≡ s.job.bound
   pub partitions : view.partitions ≡ s.job.partitions
+  pub windows : HasWindows view.bound.now
 
 -- a map task is that of its part in epoch e: with the part's log, from where the epoch before
 -- ended
@@ -47,14 +49,16 @@ pub record IsMapTask {L : Type 0} (reads : Type 0) (lines : L → List Line) (av
   pub to : task.to ≡ get_or (cut_of (cuts (e + 1))) task.number 0
   pub log : IsLogOf reads lines available went opened task.number part (get_or found task.number 0) task.log
 
--- a reduce task is that of its partition in epoch e: with the rows that the parts feed to it
-pub record IsReduceTask (owned : Type 0) (s : Setting) (cuts : Cuts) (e : ℕ) (task : ReduceTask) : Type 0 where
+-- A reduce task is that of its partition in epoch e: with the rows that the parts feed to it, each of which a state can hold. The query
+-- keeps nothing, so there is no state.
+pub record IsReduceTask {S F : Type 0} (owned : Type 0) (s : Setting) (cuts : Cuts) (e : ℕ) (task : ReduceTask S F) : Type 0 where
   pub below : task.partition < s.job.partitions
   pub view : IsViewOf s task.view
   pub epoch : task.epoch ≡ e
   pub watermark : owned → task.watermark ≡ watermark_at s cuts e
-  pub printable : All IsPrintable (joined_vecs task.rows.items)
+  pub fit : All IsFitRow (joined_vecs task.rows.items)
   pub rows : owned → joined_vecs task.rows.items ≡ bucket s.job.partitions task.partition (fed s.job.bound (parts_in s) (cuts_of cuts) e)
+  pub stateless : task.state ≡ None
 
 -- the out task is that of epoch e: with the rows that the partitions show, the greatest times up to it, and two files that are empty
 pub record IsOutTask {S F : Type 0} (owned : Type 0) (written : S → List ℕ) (s : Setting) (cuts : Cuts) (e : ℕ) (task : OutTask S F) : Type 0 where

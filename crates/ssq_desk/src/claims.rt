@@ -56,7 +56,7 @@ impl<'a, D: Disk, L: Log> Desk<'a, D, L> {
         }
     }
 
-    fn claim_reduce(&mut self, id: TaskId) -> ReduceTask<'a>
+    fn claim_reduce(&mut self, id: TaskId) -> ReduceTask<'a, D::Stage>
         requires reduce { id.kind ≡ kind.Reduce }
         requires may { May self.old.scope self.old.core (entry.Claim id) }
         ensures did { self.new ≡ did self.old self.old.disk (entry.Claim id ∷ []) }
@@ -76,6 +76,7 @@ impl<'a, D: Disk, L: Log> Desk<'a, D, L> {
             partition: id.number,
             watermark,
             rows,
+            state: None,
         }
     }
 

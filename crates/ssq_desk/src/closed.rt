@@ -124,12 +124,13 @@ fn next_of<L: Log>(
     requires fits { length bound.now.streams ≤ vec_capacity kept.lines }
     requires each { length seen.now ≡ length bound.now.streams }
     requires few { length bound.now.streams ≤ 2 ^ 32 }
-    ensures next { result.0 ≡ record { meta = kept.meta; plans = plans.items; committed = committed; seen = lines_of bound.now seen.now; names = kept.names } }
+    ensures next { result.0 ≡ record { meta = kept.meta; plans = plans.items; committed = committed; seen = lines_of bound.now seen.now; stores = kept.stores; names = kept.names } }
     ensures years { All HasLineTime result.0.seen }
     ensures room { result.1 ≡ kept.logs }
 {
     let Kept {
         meta,
+        stores,
         names,
         lines,
         logs,
@@ -141,6 +142,7 @@ fn next_of<L: Log>(
             plans: Sequence::from_vec(plans),
             committed,
             seen,
+            stores,
             names,
         },
         logs,
@@ -160,7 +162,7 @@ fn next_if<L: Log>(
     requires fits { length bound.now.streams ≤ vec_capacity kept.lines }
     requires each { is_over ≡ true → length seen.now ≡ length bound.now.streams }
     requires few { length bound.now.streams ≤ 2 ^ 32 }
-    ensures next { MatchOption result.0 (is_over ≡ false) (λ next. (is_over ≡ true) × (next ≡ record { meta = kept.meta; plans = plans.items; committed = committed; seen = lines_of bound.now seen.now; names = kept.names }) × All HasLineTime next.seen) }
+    ensures next { MatchOption result.0 (is_over ≡ false) (λ next. (is_over ≡ true) × (next ≡ record { meta = kept.meta; plans = plans.items; committed = committed; seen = lines_of bound.now seen.now; stores = kept.stores; names = kept.names }) × All HasLineTime next.seen) }
     ensures room { result.1 ≡ kept.logs }
 {
     if !is_over {

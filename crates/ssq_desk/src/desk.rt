@@ -7,6 +7,7 @@ use ssq_ledger::Ledger;
 use ssq_meaning::{FedRow, View};
 use ssq_outside::{Disk, Log, Name, Stage};
 use ssq_plans::{Meta, Plan, SeenBy};
+use ssq_store::Store;
 use ssq_task::Stages;
 use ssq_value::{Row, Sequence};
 use ssq_water::Seen;
@@ -60,6 +61,8 @@ pub(crate) struct Pending<F: Drop> {
 pub(crate) struct Kept<L: Log> {
     /// The record of the job, as it was opened.
     pub(crate) meta: Meta,
+    /// The stores that were opened: none, since the query keeps nothing.
+    pub(crate) stores: Sequence<Store>,
     /// The names that were found.
     pub(crate) names: Sequence<Name>,
     /// Room for the greatest times of the watermarked streams.

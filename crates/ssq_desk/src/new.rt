@@ -86,6 +86,7 @@ impl<'a, D: Disk, L: Log> Desk<'a, D, L> {
         let Opened {
             meta,
             plans,
+            stores,
             names,
             ..
         } = opened;
@@ -103,6 +104,7 @@ impl<'a, D: Disk, L: Log> Desk<'a, D, L> {
                 told,
                 kept: Kept {
                     meta,
+                    stores,
                     names,
                     lines,
                     logs: room_for_logs,

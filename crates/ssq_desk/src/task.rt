@@ -8,6 +8,6 @@ use ssq_task::{OutTask, ReduceTask};
 #[derive(Drop)]
 pub enum Task<'a, L: Log, S: Stage> {
     Map(MapTask<'a, L>),
-    Reduce(ReduceTask<'a>),
+    Reduce(ReduceTask<'a, S>),
     Out(OutTask<'a, S>),
 }

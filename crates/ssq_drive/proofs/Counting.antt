@@ -61,6 +61,10 @@ of_report kind.Out t (Some h) (Some g) p rest = refl
 of_report kind.Upkeep t f None p rest = refl
 of_report kind.Upkeep t f (Some g) p rest = refl
 
+of_version : (t : TaskId) (o : Option Cause) (p : Option ℕ) (rest : List Event) → acknowledged p ((event.Seal t ∷ event.Report t ∷ stops o) ++ rest) ≡ acknowledged (after_stop o p) rest
+of_version t None p rest = refl
+of_version t (Some g) p rest = refl
+
 module _ (r : Scope) where
   abbrev Counts : List Event → ℕ → Option ℕ → Core → Type 0
   Counts es a p n = (q : Option ℕ) × IsAt n q (a + length (acknowledged p es))
@@ -81,6 +85,13 @@ module _ (r : Scope) where
       let more = counts es (after r c (entry.Report t f)) n (after_stop o p) a (step_sound r c (entry.Report t f) l.0 sound) (inl (none_waits o p at.0, at.1, at.2)) l.1 in
       subst (λ (x : List ℕ). (q : Option ℕ) × IsAt n q (a + length x)) (sym (of_report t.kind t f o p (events_all r (after r c (entry.Report t f)) es))) more
   counts (entry.Report t f ∷ es) c n p a sound (inr at) l = absurd (true≢false (sym l.0.0 ∙ at.3))
+  counts (entry.Version t ∷ es) c n p a sound (inl at) l =
+      let o = due c t None in
+      let more = counts es (after r c (entry.Version t)) n (after_stop o p) a (step_sound r c (entry.Version t) l.0 sound) (inl (none_waits o p at.0, at.1, or_left (is_open c) (after r c (entry.Version t)).front.settled l.0.0)) l.1 in
+      subst (λ (x : List ℕ). (q : Option ℕ) × IsAt n q (a + length x)) (sym (of_version t o p (events_all r (after r c (entry.Version t)) es))) more
+  counts (entry.Version t ∷ es) c n p a sound (inr at) l = absurd (true≢false (sym l.0.0 ∙ at.3))
+  counts (entry.Missed t ∷ es) c n p a sound (inl at) l = counts es (after r c (entry.Missed t)) n None a (step_sound r c (entry.Missed t) l.0 sound) (inl (refl, at.1, at.2)) l.1
+  counts (entry.Missed t ∷ es) c n p a sound (inr at) l = absurd (true≢false (sym l.0.0 ∙ at.3))
   counts (entry.OutFile e ∷ es) c n p a sound (inl at) l = counts es (after r c (entry.OutFile e)) n p a (step_sound r c (entry.OutFile e) l.0 sound) (inl (at.0, at.1, or_left (is_open c) false l.0.2)) l.1
   counts (entry.OutFile e ∷ es) c n p a sound (inr at) l = absurd (true≢false (sym l.0.2 ∙ at.3))
   counts (entry.Stop f ∷ es) c n p a sound (inl at) l = counts es (after r c (entry.Stop f)) n None a (step_sound r c (entry.Stop f) l.0 sound) (inl (refl, at.1, at.2)) l.1

@@ -57,6 +57,8 @@ one_step r cuts c (entry.Plan k) may last quiet undue =
     }
 one_step r cuts c (entry.Claim t) may last quiet undue = record { more = le_refl c.front.planned; cuts = same_cuts r c.front.planned cuts; last = last; quiet = quiet }
 one_step r cuts c (entry.Report t f) may last quiet undue = record { more = le_refl c.front.planned; cuts = same_cuts r c.front.planned cuts; last = last; quiet = quiet }
+one_step r cuts c (entry.Version t) may last quiet undue = record { more = le_refl c.front.planned; cuts = same_cuts r c.front.planned cuts; last = last; quiet = quiet }
+one_step r cuts c (entry.Missed t) may last quiet undue = record { more = le_refl c.front.planned; cuts = same_cuts r c.front.planned cuts; last = last; quiet = quiet }
 one_step r cuts c (entry.OutFile e) may last quiet undue = record { more = le_refl c.front.planned; cuts = same_cuts r c.front.planned cuts; last = last; quiet = quiet }
 one_step r cuts c (entry.Sync clock) may last quiet undue = record { more = le_refl c.front.planned; cuts = same_cuts r c.front.planned cuts; last = last; quiet = quiet }
 one_step r cuts c (entry.Commit e due) may last quiet undue = record { more = le_refl c.front.planned; cuts = same_cuts r c.front.planned cuts; last = last; quiet = ap (λ (b : Bool). b && c.front.has_lines) undue }
@@ -125,6 +127,8 @@ open_step : (r : Scope) (c : Core) (e : Entry) → May r c e → StopsOpen c →
 open_step r c (entry.Plan k) may so f stops line = absurd (none_some f stops)
 open_step r c (entry.Claim t) may so f stops line = so f stops line
 open_step r c (entry.Report t g) may so f stops line = may.0
+open_step r c (entry.Version t) may so f stops line = may.0
+open_step r c (entry.Missed t) may so f stops line = may.0
 open_step r c (entry.OutFile e) may so f stops line = absurd (none_some f stops)
 open_step r c (entry.Sync clock) may so f stops line = absurd (none_some f stops)
 open_step r c (entry.Commit e due) may so f stops line = absurd (none_some f stops)

@@ -1,16 +1,18 @@
 -- A turn with each kind of task.
-use Rattle.std.proofs.Common.{◌≡◌, ◌≤◌, ℕ, List, [], ◌∷◌, Option, Result, IfErr, sym, refl, ap, ◌∙◌, subst}
+use Rattle.std.proofs.Common.{◌≡◌, ◌≤◌, ℕ, List, [], ◌∷◌, Option, None, Result, IfSome, IfErr, sym, refl, ap, ◌∙◌, subst}
 use Rattle.ssq_outside.specs.declared.gate.TaskId.{TaskId}
 use Rattle.ssq_outside.specs.Faults.{Rises}
 use Rattle.ssq_meaning.specs.Meaning.{Line}
 use Rattle.ssq_feed.specs.declared.task.MapTask.{MapTask}
 use Rattle.ssq_feed.specs.declared.task.Fed.{Fed}
 use Rattle.ssq_feed.specs.Outcome.{IsFed}
+use Rattle.ssq_store.specs.Loaded.{count_to}
+use Rattle.ssq_task.specs.declared.partition.State.{State}
 use Rattle.ssq_task.specs.declared.partition.ReduceTask.{ReduceTask}
 use Rattle.ssq_task.specs.declared.partition.Reduced.{Reduced}
 use Rattle.ssq_task.specs.declared.out.OutTask.{OutTask}
 use Rattle.ssq_task.specs.declared.out.Gathered.{Gathered}
-use Rattle.ssq_task.specs.Reducing.{IsReduced}
+use Rattle.ssq_task.specs.Reducing.{IsReduced, timely_in}
 use Rattle.ssq_task.specs.Gathering.{IsGathered}
 use Rattle.ssq_board.specs.declared.front.Cause.{Cause}
 use Rattle.ssq_board.specs.declared.front.Entry.TheVariants as entry
@@ -19,11 +21,11 @@ use Rattle.ssq_board.specs.Shown.{IsSound}
 use Rattle.ssq_board.specs.Rounds.{IsAtRest}
 use Rattle.ssq_ledger.specs.Shown.{Shown, HasRisen, did}
 use Rattle.ssq_desk.specs.Tasks.{map_id, reduce_id, out_id}
-use Rattle.ssq_desk.specs.Results.{cause_of_feed, cause_of_reduce, fault_of}
+use Rattle.ssq_desk.specs.Results.{cause_of_feed, cause_of_failed, fault_of}
 use Rattle.ssq_desk.specs.Published.{IsOut, brings, cause_of_left}
 use Rattle.ssq_drive.specs.Driven.{IsTurn}
 use Rattle.ssq_drive.proofs.Working.{reported, published}
-use Rattle.ssq_drive.proofs.Inputs.{fed_stops, reduced_stops}
+use Rattle.ssq_drive.proofs.Inputs.{fed_stops, reduced_stops, only_memory}
 
 module _ {L : Type 0} (tells : Type 0) (lines : L → List Line) (available : L → ℕ) (answers : L → List ℕ) (counts : L → ℕ) (task : MapTask L) (done : Fed L) (is : IsFed tells lines available answers counts task done) where
   fed_id : map_id done.epoch done.number ≡ map_id task.epoch task.number
@@ -40,19 +42,23 @@ module _ {L : Type 0} (tells : Type 0) (lines : L → List Line) (available : L 
       let f = fault_of (cause_of_feed done.stream done.part) done.outcome in
       reported faults old mid new (map_id task.epoch task.number) sound rest may claimed f (came ∙ ap (λ (t : TaskId). did mid mid.disk (entry.Report t f ∷ [])) fed_id) refl (fed_stops done.stream done.part done.outcome)
 
-module _ (task : ReduceTask) (done : Reduced) (is : IsReduced task done) where
+-- a task without state has no version of one
+pub no_version : {S F : Type 0} (task : ReduceTask S F) → task.state ≡ None → IfSome task.state (λ state. count_to state.store.version ≡ task.epoch)
+no_version {S} {F} task none = subst (λ (o : Option (State S)). IfSome o (λ state. count_to state.store.version ≡ task.epoch)) (sym none) tt
+
+module _ {S F : Type 0} (tells : Type 0) (written : S → List ℕ) (sealed : F → List ℕ) (counts : S → ℕ) (task : ReduceTask S F) (done : Reduced S F) (is : IsReduced tells written sealed counts task done) where
   reduced_id : reduce_id done.epoch done.partition ≡ reduce_id task.epoch task.partition
   reduced_id = (let e = is.epoch in let p = is.partition in λ i. reduce_id (e i) (p i))
 
   pub reduced_may : (r : Scope) (c : Core) → ((fault : Option Cause) → May r c (entry.Report (reduce_id task.epoch task.partition) fault)) → (fault : Option Cause) → May r c (entry.Report (reduce_id done.epoch done.partition) fault)
   reduced_may r c back fault = subst (λ (t : TaskId). May r c (entry.Report t fault)) (sym reduced_id) (back fault)
 
-  pub reduced_turn : {D O : Type 0} (faults : D → ℕ) (old mid new : Shown D O) → IsSound old.scope old.core → IsAtRest old.core → May old.scope old.core (entry.Claim (reduce_id task.epoch task.partition))
+  pub reduced_turn : {D O : Type 0} (faults : D → ℕ) (old mid new : Shown D O) → task.state ≡ None → IsSound old.scope old.core → IsAtRest old.core → May old.scope old.core (entry.Claim (reduce_id task.epoch task.partition))
       → mid ≡ did old old.disk (entry.Claim (reduce_id task.epoch task.partition) ∷ [])
-      → new ≡ did mid mid.disk (entry.Report (reduce_id done.epoch done.partition) (fault_of cause_of_reduce done.outcome) ∷ []) → IsTurn faults old new
-  reduced_turn faults old mid new sound rest may claimed came =
-      let f = fault_of cause_of_reduce done.outcome in
-      reported faults old mid new (reduce_id task.epoch task.partition) sound rest may claimed f (came ∙ ap (λ (t : TaskId). did mid mid.disk (entry.Report t f ∷ [])) reduced_id) refl (λ g own. reduced_stops done.outcome g is.cause own)
+      → new ≡ did mid mid.disk (entry.Report (reduce_id done.epoch done.partition) (fault_of cause_of_failed done.outcome) ∷ []) → IsTurn faults old new
+  reduced_turn faults old mid new stateless sound rest may claimed came =
+      let f = fault_of cause_of_failed done.outcome in
+      reported faults old mid new (reduce_id task.epoch task.partition) sound rest may claimed f (came ∙ ap (λ (t : TaskId). did mid mid.disk (entry.Report t f ∷ [])) reduced_id) refl (λ g own. reduced_stops done.outcome g (only_memory counts task.view.bound.now task.partition task.watermark (timely_in task) task.state done.store done.outcome stateless is.failed) own)
 
 module _ {S F : Type 0} (tells : Type 0) (written : S → List ℕ) (sealed : F → List ℕ) (counts : S → ℕ) (task : OutTask S F) (done : Gathered S F) (is : IsGathered tells written sealed counts task done) where
   gathered_id : out_id done.epoch ≡ out_id task.epoch

@@ -101,11 +101,16 @@ IsRightOf s cuts c (entry.Plan k) = is_open c ≡ false
 IsRightOf s cuts c (entry.Report t f) = t.kind ≡ kind.Map → f ≡ None → (part : Part) → slice_get (parts_in s) t.number ≡ Some part
     → fault_in s.job.bound part (get_or (offsets_of (cuts c.front.committed)) t.number 0) (get_or (offsets_of (cuts (c.front.committed + 1))) t.number 0) ≡ None
 IsRightOf s cuts c (entry.Commit k due) = (is_open c ≡ true) × (list_all is_fine c.maps ≡ true)
+IsRightOf s cuts c (entry.Version t) = t.kind ≡ kind.Reduce
+IsRightOf s cuts c (entry.Missed t) = t.kind ≡ kind.Reduce
 IsRightOf s cuts c _ = Unit {0}
 
 abbrev pub AreRightOf : Setting → Scope → Cuts → Core → List Entry → Type 0
 AreRightOf s r cuts c [] = Unit {0}
 AreRightOf s r cuts c (e ∷ es) = IsRightOf s cuts c e × AreRightOf s r (cuts_by r cuts c e) (after r c e) es
+
+reduce_map : kind.Reduce ≡ kind.Map → ⊥
+reduce_map e = cc
 
 good_entry : (s : Setting) (r : Scope) (cuts : Cuts) (begin : ℕ) (c : Core) (e : Entry) → IsRightOf s cuts c e → IsGoodAt s cuts begin c → IsGoodAt s (cuts_by r cuts c e) begin (after r c e)
 good_entry s r cuts begin c (entry.Plan k) right g =
@@ -153,6 +158,22 @@ good_entry s r cuts begin c (entry.Report t f) right g = record {
         subst (λ (j : ℕ). fault_in s.job.bound part (get_or (offsets_of (cuts c.front.committed)) j 0) (get_or (offsets_of (cuts (c.front.committed + 1))) j 0) ≡ None) (sym new.1)
         (right new.0 (fine_none f (subst (λ (x : Place). is_fine x ≡ true) new.2 fine)) part (subst (λ (j : ℕ). slice_get (parts_in s) j ≡ Some part) new.1 there))
   ];
+  told = g.told;
+}
+good_entry s r cuts begin c (entry.Version t) right g = record {
+  before = g.before;
+  near = g.near;
+  last = g.last;
+  count = λ opened. maps_count t.kind c t.number (place.Back None) ∙ g.count opened;
+  mapped = λ opened i part p there at fine. elim (maps_at t.kind c t.number (place.Back None) i p at) [ inl old ↦ g.mapped opened i part p there old fine | inr new ↦ absurd (reduce_map (sym right ∙ new.0)) ];
+  told = g.told;
+}
+good_entry s r cuts begin c (entry.Missed t) right g = record {
+  before = g.before;
+  near = g.near;
+  last = g.last;
+  count = λ opened. maps_count t.kind c t.number (place.Back (Some cause.DiskFault)) ∙ g.count opened;
+  mapped = λ opened i part p there at fine. elim (maps_at t.kind c t.number (place.Back (Some cause.DiskFault)) i p at) [ inl old ↦ g.mapped opened i part p there old fine | inr new ↦ absurd (reduce_map (sym right ∙ new.0)) ];
   told = g.told;
 }
 good_entry s r cuts begin c (entry.OutFile e) right g = record { before = g.before; near = g.near; last = g.last; count = g.count; mapped = g.mapped; told = g.told }

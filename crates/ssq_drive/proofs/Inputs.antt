@@ -1,17 +1,21 @@
 -- The causes that tasks bring are none of the desk's.
-use Rattle.std.proofs.Common.{◌≡◌, ℕ, Option, Some, None, IfSome, IfErr, Result, Ok, Err, subst}
-use Rattle.std.specs.Global.{Vec}
-use Rattle.ssq_value.specs.declared.row.Row.{Row}
+use Rattle.std.proofs.Common.{◌≡◌, ℕ, ℤ, List, Option, Some, None, IfSome, IfErr, Result, Ok, Err, subst}
 use Rattle.ssq_json.specs.declared.bad_row.BadRow.{BadRow}
 use Rattle.ssq_json.specs.declared.bad_row.BadRow.TheVariants as bad
 use Rattle.ssq_feed.specs.declared.task.FedRows.{FedRows}
 use Rattle.ssq_feed.specs.declared.fault.FeedFault.{FeedFault}
 use Rattle.ssq_feed.specs.declared.fault.FeedFault.TheVariants as feed
+use Rattle.ssq_shape.specs.declared.bound.Bound.{Bound}
+use Rattle.ssq_meaning.specs.declared.fed_row.FedRow.{FedRow}
+use Rattle.ssq_store.specs.declared.store.Store.{Store}
+use Rattle.ssq_task.specs.Reducing.{HasFailed, IsAsideAfter}
+use Rattle.ssq_task.specs.declared.partition.State.{State}
+use Rattle.ssq_task.specs.declared.partition.ReducedRows.{ReducedRows}
 use Rattle.ssq_task.specs.declared.partition.ReduceFault.{ReduceFault}
 use Rattle.ssq_task.specs.declared.partition.ReduceFault.TheVariants as reduce
 use Rattle.ssq_board.specs.declared.front.Cause.{Cause}
 use Rattle.ssq_board.specs.Core.{Scope, Core}
-use Rattle.ssq_desk.specs.Results.{cause_of_bad, cause_of_feed, cause_of_reduce, fault_of}
+use Rattle.ssq_desk.specs.Results.{cause_of_bad, cause_of_feed, cause_of_reduce, cause_of_failed, fault_of}
 use Rattle.ssq_drive.specs.Driven.{StopsFor}
 
 -- the desk accounts for it on any terms
@@ -51,6 +55,12 @@ reduce_stops reduce.DiskFault is r n before now = absurd (other is)
     other is = cc
 reduce_stops reduce.NoMemory is r n before now = tt
 
-pub reduced_stops : (outcome : Result (Vec Row) ReduceFault) (g : Cause) → IfErr outcome (λ fault. fault ≡ reduce.NoMemory) → fault_of cause_of_reduce outcome ≡ Some g → IsOfInput g
+-- without state only want of memory is a fault
+pub only_memory : {S F : Type 0} (counts : S → ℕ) (query : Bound) (partition : ℕ) (now : Option ℤ) (new : List FedRow) (state : Option (State S)) (store : Option Store) (outcome : Result (ReducedRows F) (ReduceFault × Option S)) → state ≡ None
+    → IfErr outcome (HasFailed counts query partition now new state store) → IfErr outcome (λ failed. failed.0 ≡ reduce.NoMemory)
+only_memory counts query partition now new state store (Ok brought) stateless has = tt
+only_memory {S} counts query partition now new state store (Err failed) stateless has = (subst (λ (s : Option (State S)). IsAsideAfter counts failed.0 s failed.1) stateless has.aside).0
+
+pub reduced_stops : {S F : Type 0} (outcome : Result (ReducedRows F) (ReduceFault × Option S)) (g : Cause) → IfErr outcome (λ failed. failed.0 ≡ reduce.NoMemory) → fault_of cause_of_failed outcome ≡ Some g → IsOfInput g
 reduced_stops (Ok rows) g memory is = absurd (none_some g is)
-reduced_stops (Err fault) g memory is = given (Some (cause_of_reduce fault)) (cause_of_reduce fault) g (reduce_stops fault memory) (λ i. Some (cause_of_reduce fault)) is
+reduced_stops (Err (fault, left)) g memory is = given (Some (cause_of_reduce fault)) (cause_of_reduce fault) g (reduce_stops fault memory) (λ i. Some (cause_of_reduce fault)) is

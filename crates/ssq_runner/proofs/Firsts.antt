@@ -35,7 +35,7 @@ use Rattle.ssq_open.specs.Fault.{DiskRises}
 use Rattle.ssq_open.specs.Lens.{asked}
 use Rattle.ssq_open.specs.Sought.{Sought}
 use Rattle.ssq_open.specs.Opening.{IsRefused, IsOutside, IsOpening}
-use Rattle.ssq_open.specs.Jobs.{IsWantedJob, IsJobs}
+use Rattle.ssq_open.specs.Jobs.{IsWantedJob, IsJobs, States, AreStates}
 use Rattle.ssq_open.specs.declared.fault.OpenFault.{OpenFault}
 use Rattle.ssq_core.specs.Course.{Cuts, Job}
 use Rattle.ssq_runner.specs.declared.ask.Ask.{Ask}
@@ -191,7 +191,7 @@ sought_same g bound ask counts found of = λ i. asked (of.bound_is i) (of.asks_a
 -- nothing was opened, and so the run ends
 pub unopened_end : {D L : Type 0} (T U : Type 0) (history : D → History) (disks : D → ℕ) (lines : L → List Line) (available : L → ℕ) (answers : L → List ℕ) (faults : L → ℕ) → (U → T) → (g : Given L) (bound : Bound) (ask : Ask) (counts found : List ℕ) (before now : D) (logs : List L)
     (OutTells : Type 0) (written text : List ℕ) (why : RunFault) → AreAsked U lines available answers faults g.logs logs found
-    → ((cause : OpenFault) → (T → (job : Job) → IsWantedJob (asked bound ask.partitions (lens_of counts found)) job → IsJobs (asked bound ask.partitions (lens_of counts found)) job (files_now (history before)) → IsOutside cause) → U → (s : Setting) → IsRunOf lines g s → IsJobs (sought_in g found) (job_of s) (files_now g.start) → IsOutside cause)
+    → ((cause : OpenFault) → (T → (job : Job) (states : States) → IsWantedJob (asked bound ask.partitions (lens_of counts found)) job → AreStates job states → IsJobs (asked bound ask.partitions (lens_of counts found)) job (files_now (history before)) → IsOutside cause) → U → (s : Setting) → IsRunOf lines g s → IsJobs (sought_in g found) (job_of s) (files_now g.start) → IsOutside cause)
     → IsOf bound ask counts g → g.start ≡ history before → g.disk_faults ≡ disks before → g.written ≡ written → text ≡ [] → IsUnopened T history disks bound ask.partitions (lens_of counts found) before now why
     → RunEnd U lines available answers faults g (history now) (disks now) logs OutTells written text (Err why)
 unopened_end T U history disks lines available answers faults less g bound ask counts found before now logs OutTells written text why asks ours of start faulty wrote empty (denied cause is checks moments outside risen) =

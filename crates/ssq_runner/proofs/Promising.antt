@@ -10,15 +10,15 @@ use Rattle.ssq_shape.specs.declared.bound.Bound.{Bound}
 use Rattle.ssq_core.specs.Course.{Job}
 use Rattle.ssq_core.specs.Standing.{IsThere, Stands}
 use Rattle.ssq_core.specs.Sound.{StandsOrEmpty}
-use Rattle.ssq_course.specs.Setting.{Setting, job_of}
+use Rattle.ssq_course.specs.Setting.{Setting, state_at, job_of}
 use Rattle.ssq_open.specs.declared.wanted.Opened.{Opened}
 use Rattle.ssq_open.specs.declared.fault.OpenFault.{OpenFault}
 use Rattle.ssq_open.specs.Lens.{CanBeAsked, asked}
 use Rattle.ssq_open.specs.Sought.{Sought}
 use Rattle.ssq_open.specs.Opening.{IsOutside}
-use Rattle.ssq_open.specs.Jobs.{IsWantedJob, IsJobs}
+use Rattle.ssq_open.specs.Jobs.{IsWantedJob, IsJobs, States, AreStates}
 use Rattle.ssq_terms.specs.Setting.{IsPlain, AreFound}
-use Rattle.ssq_terms.specs.Laws.{JobIsWanted, FirstRecordIsJobs, PartsAreFound}
+use Rattle.ssq_terms.specs.Laws.{JobIsWanted, StatesAreJobs, FirstRecordIsJobs, PartsAreFound}
 use Rattle.ssq_terms.specs.Opening.{FoundIsJobs}
 use Rattle.ssq_promise.specs.Run.{IsKept, RunIsKept, WasRun}
 use Rattle.ssq_logs.specs.Asked.{AreAsked}
@@ -72,12 +72,13 @@ module _ {L : Type 0} (tells reads : Type 0) (lines : L → List Line) (availabl
       (subst (λ (h : History). LeavesNow h (StandsOrEmpty (job_of s))) start each_now))
 
   -- nothing but the outside refuses what is the job's
-  pub opening_outside : (T : Type 0) → T → (why : OpenFault) → (T → (job : Job) → IsWantedJob (asked bound ask.partitions (lens_of counts found)) job → IsJobs (asked bound ask.partitions (lens_of counts found)) job (files_now (history before)) → IsOutside why)
+  pub opening_outside : StatesAreJobs → (T : Type 0) → T → (why : OpenFault) → (T → (job : Job) (states : States) → IsWantedJob (asked bound ask.partitions (lens_of counts found)) job → AreStates job states → IsJobs (asked bound ask.partitions (lens_of counts found)) job (files_now (history before)) → IsOutside why)
       → IsJobs (sought_in g found) (job_of s) (files_now g.start) → IsOutside why
-  opening_outside T t why outside ours =
-      outside t (job_of s)
+  opening_outside states_law T t why outside ours =
+      outside t (job_of s) (state_at s)
       (is_wanted tells lines available answers faults wanted first_record found_law parts_law bound ask.partitions counts found can_ask plain each g.logs s (run.query ∙ of.bound_is) (run.parts ∙ of.counts_are) run.lines_are run.few_lines run.some_partitions run.few_partitions as_asked
       long are history before after first)
+      (states_law s (ap (λ (b : Bound). b.shape) (run.query ∙ of.bound_is) ∙ plain.shape))
       (subst (λ (w : Sought). IsJobs w (job_of s) (files_now (history before))) (sought_same g bound ask counts found of) (subst (λ (h : History). IsJobs (sought_in g found) (job_of s) (files_now h)) start ours))
 
   module _ (T : Type 0) (t : T) (opened : Opened) (is : IsOpenedOn T history bound ask.partitions (lens_of counts found) before after opened) where

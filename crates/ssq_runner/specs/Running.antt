@@ -9,7 +9,7 @@ use Rattle.ssq_plans.specs.declared.plan.Plan.{Plan}
 use Rattle.ssq_core.specs.Course.{Cuts, Job}
 use Rattle.ssq_core.specs.Standing.{Stands}
 use Rattle.ssq_core.specs.Sound.{StandsOrEmpty}
-use Rattle.ssq_open.specs.Jobs.{IsWantedJob, IsJobs, IsDeskOf}
+use Rattle.ssq_open.specs.Jobs.{IsWantedJob, IsJobs, IsDeskOf, States, AreStates}
 use Rattle.ssq_course.specs.Setting.{Setting, job_of}
 use Rattle.ssq_open.specs.declared.fault.OpenFault.{OpenFault}
 use Rattle.ssq_open.specs.Fault.{DiskRises}
@@ -70,7 +70,7 @@ pub record IsOpenedOn {D : Type 0} (tells : Type 0) (history : D → History) (b
 pub data IsUnopened {D : Type 0} (tells : Type 0) (history : D → History) (faults : D → ℕ) (bound : Bound) (asks : Option ℕ) (lens : Lens) (before now : D) (why : RunFault) : Type 0 where
   denied : (cause : OpenFault) → why ≡ fault.Open cause → (tells → IsRefused (asked bound asks lens) (files_now (history before)) (files_now (history now)) cause)
       → (tells → IsOpening (asked bound asks lens) (history before) (history now))
-      → (tells → (job : Job) → IsWantedJob (asked bound asks lens) job → IsJobs (asked bound asks lens) job (files_now (history before)) → IsOutside cause) → DiskRises cause (faults before) (faults now)
+      → (tells → (job : Job) (states : States) → IsWantedJob (asked bound asks lens) job → AreStates job states → IsJobs (asked bound asks lens) job (files_now (history before)) → IsOutside cause) → DiskRises cause (faults before) (faults now)
       → IsUnopened tells history faults bound asks lens before now why
   untried : why ≡ fault.NoMemory → now ≡ before → IsUnopened tells history faults bound asks lens before now why
 

@@ -3,7 +3,6 @@ use Rattle.std.specs.Prelude.{◌≡◌, ◌⊎◌, ◌++◌, ℕ, List, length,
 use Rattle.ssq_outside.specs.declared.disk.StageError.{StageError}
 use Rattle.ssq_outside.specs.declared.disk.StageError.TheVariants as error
 use Rattle.ssq_outside.specs.Faults.{Rises}
-use Rattle.ssq_shape.specs.Plain.{output_names}
 use Rattle.ssq_plans.specs.Records.{commit_text}
 use Rattle.ssq_sink.specs.Sink.{sink_text}
 use Rattle.ssq_task.specs.Lists.{joined_vecs}
@@ -57,7 +56,7 @@ module _ {S F : Type 0} (written : S → List ℕ) (sealed : F → List ℕ) whe
 module _ {S F : Type 0} (tells : Type 0) (written : S → List ℕ) (sealed : F → List ℕ) (faults : S → ℕ) where
   -- the sealed files: the text of the rows, and that of the commit, behind what the files had
   pub record HasEpoch (task : OutTask S F) (files : SealedEpoch F) : Type 0 where
-    pub rows : sealed files.rows ≡ written task.stages.rows ++ sink_text (output_names task.view.bound.now) (joined_vecs task.rows.items)
+    pub rows : sealed files.rows ≡ written task.stages.rows ++ sink_text task.view.bound.now (joined_vecs task.rows.items)
     pub commit : sealed files.commit ≡ written task.stages.commit ++ commit_text (commit_at task.view.bound.now task.epoch task.seen)
 
   -- It names its task and gives back its greatest times, and brings both files of the epoch with the number of its rows; or what is left

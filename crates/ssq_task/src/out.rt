@@ -3,7 +3,6 @@
 ghost use Rattle.std.specs.Prelude.{◌≡◌, ◌≤◌, ◌^◌, ◌++◌, length, OnOk, IfOk, IfErr, All};
 ghost use Rattle.ssq_time.specs.Time.{IsStampTime};
 ghost use Rattle.ssq_value.specs.Kind.{IfTime};
-ghost use Rattle.ssq_shape.specs.Plain.{output_names};
 ghost use Rattle.ssq_plans.specs.Records.{commit_text};
 ghost use Rattle.ssq_sink.specs.Sink.{sink_text};
 ghost use Rattle.ssq_task.specs.declared.out.GatherFault.TheVariants.{DiskFault};
@@ -110,7 +109,7 @@ fn rows_record(
     partitions: Vec<Vec<Row>>,
 ) -> Result<(Text, u64), AllocError>
     requires { All (All (IfTime IsStampTime)) (joined_vecs partitions.items) }
-    ensures text { IfOk result (λ told. told.0 ≡ sink_text (output_names bound.now) (joined_vecs partitions.items)) }
+    ensures text { IfOk result (λ told. told.0 ≡ sink_text bound.now (joined_vecs partitions.items)) }
     ensures count { IfOk result (λ told. told.1 ≡ length (joined_vecs partitions.items)) }
 {
     let rows = all_rows(alloc, partitions)?;
@@ -132,7 +131,7 @@ fn write_both<S: Stage>(
     requires each { length seen.now ≡ length bound.now.streams }
     requires few { length bound.now.streams ≤ 2 ^ 32 }
     ensures written { S.tells → OnOk result
-        (HasWritten S.written (sink_text (output_names bound.now) (joined_vecs rows.items)) (commit_text (commit_at bound.now epoch seen.now)) stages.old stages.new) }
+        (HasWritten S.written (sink_text bound.now (joined_vecs rows.items)) (commit_text (commit_at bound.now epoch seen.now)) stages.old stages.new) }
     ensures count { IfOk result (λ count. count ≡ length (joined_vecs rows.items)) }
     ensures counted { (S.faults stages.old.rows ≤ S.faults stages.new.rows) × (S.faults stages.old.commit ≤ S.faults stages.new.commit) }
     ensures cause { IfErr result (λ fault. WriteCause S.faults fault stages.old stages.new) }

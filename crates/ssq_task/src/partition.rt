@@ -1,11 +1,18 @@
-//! The reduce task of a query without state: the rows of a partition as they are shown.
+//! The reduce task: the rows of a partition as the epoch shows them, and what the epoch changes in what the partition keeps.
 
-ghost use Rattle.std.specs.Prelude.{◌≡◌, ◌++◌, map, IfOk, IfErr, OnOk};
+ghost use Rattle.std.specs.Prelude.{◌≡◌, ◌++◌, None, All, IfSome, IfOk, IfErr, OnOk};
+ghost use Rattle.ssq_meaning.specs.Fit.{IsFitRow};
+ghost use Rattle.ssq_meaning.specs.Windows.{HasWindows};
+ghost use Rattle.ssq_store.specs.Loaded.{count_to};
 ghost use Rattle.ssq_task.specs.declared.partition.ReduceFault.TheVariants.{NoMemory};
 ghost use Rattle.ssq_task.specs.Reducing.{IsReduced, values_of};
 ghost use Rattle.ssq_task.specs.Lists.{joined_vecs};
 
+use crate::version::next_version;
+use ssq_agg::StepFault;
 use ssq_meaning::{FedRow, View};
+use ssq_outside::Stage;
+use ssq_store::{SealFault, Store};
 use ssq_value::Row;
 use std::alloc::{AllocError, Global};
 use thiserror::Error;
@@ -35,9 +42,46 @@ impl From<AllocError> for ReduceFault {
     }
 }
 
-/// Takes the rows of a partition to those that the epoch shows.
+impl From<StepFault> for ReduceFault {
+    ghost use Rattle.std.specs.Prelude.{◌≡◌};
+    ghost use Rattle.ssq_task.specs.Reducing.{fault_of_step};
+
+    ghost from_gives = { λ cause fault. fault ≡ fault_of_step cause };
+
+    fn from(fault: StepFault) -> ReduceFault {
+        match fault {
+            StepFault::Overflow { key } => ReduceFault::Overflow { key },
+            StepFault::NoMemory => ReduceFault::NoMemory,
+        }
+    }
+}
+
+impl From<SealFault> for ReduceFault {
+    ghost use Rattle.std.specs.Prelude.{◌≡◌};
+    ghost use Rattle.ssq_task.specs.Reducing.{fault_of_seal};
+
+    ghost from_gives = { λ cause fault. fault ≡ fault_of_seal cause };
+
+    fn from(fault: SealFault) -> ReduceFault {
+        match fault {
+            SealFault::DiskFault => ReduceFault::DiskFault,
+            SealFault::NoMemory => ReduceFault::NoMemory,
+        }
+    }
+}
+
+/// What a partition of a query that keeps state brings to an epoch.
 #[derive(Drop)]
-pub struct ReduceTask<'a> {
+pub struct State<S> {
+    /// What the partition keeps, at the version before the epoch's.
+    pub store: Store,
+    /// The file aside for what the epoch changes of it, in which nothing is written yet.
+    pub stage: S,
+}
+
+/// Takes the rows of a partition to those that the epoch shows, and what it keeps to the epoch's version.
+#[derive(Drop)]
+pub struct ReduceTask<'a, S: Stage> {
     pub view: View<'a>,
     pub epoch: u32,
     /// The partition, from 0.
@@ -46,17 +90,30 @@ pub struct ReduceTask<'a> {
     pub watermark: Option<i64>,
     /// The rows of the partition: those of each part, in the order of streams and parts, each in the order of lines.
     pub rows: Vec<Vec<FedRow>>,
+    /// What the partition keeps: none of a query that keeps nothing.
+    pub state: Option<State<S>>,
+}
+
+/// What an epoch brings of a partition.
+#[derive(Drop)]
+pub struct ReducedRows<F> {
+    /// The rows that the epoch shows of the partition, in no order.
+    pub rows: Vec<Row>,
+    /// What the epoch changes in what the partition keeps, as a sealed file: none of a query that keeps nothing.
+    pub delta: Option<F>,
 }
 
 /// The result of a reduce task: the task's own fields, and what came of it.
 #[derive(Drop)]
-pub struct Reduced<'a> {
+pub struct Reduced<'a, S: Stage> {
     pub view: View<'a>,
     pub epoch: u32,
     pub partition: u32,
     pub watermark: Option<i64>,
-    /// The rows that the epoch shows of the partition.
-    pub outcome: Result<Vec<Row>, ReduceFault>,
+    /// What the partition keeps: at the epoch's version, or after a fault as it was.
+    pub store: Option<Store>,
+    /// What the epoch brings of the partition; or why nothing, with the file aside where it is not sealed.
+    pub outcome: Result<ReducedRows<S::Sealed>, (ReduceFault, Option<S>)>,
 }
 
 /// Puts the values of each row of a part behind those that are there.
@@ -81,19 +138,31 @@ fn values_of_all(alloc: Global, parts: Vec<Vec<FedRow>>) -> Result<Vec<Row>, All
     Ok(values)
 }
 
-/// The same, where want of memory is the fault of a task.
-fn shown_rows(alloc: Global, parts: Vec<Vec<FedRow>>) -> Result<Vec<Row>, ReduceFault>
-    ensures rows { IfOk result (λ values. values.items ≡ values_of (joined_vecs parts.items)) }
-    ensures cause { IfErr result (λ fault. fault ≡ NoMemory) }
+/// Shows each row as it is, of a query that keeps nothing.
+fn show_all<S: Stage>(
+    alloc: Global,
+    parts: Vec<Vec<FedRow>>,
+) -> Result<ReducedRows<S::Sealed>, (ReduceFault, Option<S>)>
+    ensures rows { IfOk result (λ brought. brought.rows.items ≡ values_of (joined_vecs parts.items)) }
+    ensures delta { IfOk result (λ brought. brought.delta ≡ None) }
+    ensures cause { IfErr result (λ failed. (failed.0 ≡ NoMemory) × (failed.1 ≡ None)) }
 {
-    Ok(values_of_all(alloc, parts)?)
+    match values_of_all(alloc, parts) {
+        Ok(rows) => Ok(ReducedRows { rows, delta: None }),
+        Err(_) => Err((ReduceFault::NoMemory, None)),
+    }
 }
 
-/// Shows the rows of the task's partition. A query without state shows each as it is.
+/// Shows the rows of the task's partition, and takes what it keeps to the epoch's version. A query that keeps nothing shows each row as it is.
+/// One that groups leaves late rows out, steps its groups, and seals what changes as the delta of the epoch's version.
 ///
-/// Only want of memory is against it.
-pub fn reduce<'a>(alloc: Global, task: ReduceTask<'a>) -> Reduced<'a>
-    ensures { IsReduced task.entry result }
+/// The store is at the version before the epoch's, a state can hold what the rows hold, and the query can have its windows. Against it are a
+/// key whose result is outside of its type's range, a file aside that failed, and want of memory: what the partition keeps is then as it was.
+pub fn reduce<'a, S: Stage>(alloc: Global, task: ReduceTask<'a, S>) -> Reduced<'a, S>
+    requires windows { HasWindows task.view.bound.now }
+    requires fit { All IsFitRow (joined_vecs task.rows.items) }
+    requires version { IfSome task.state (λ state. count_to state.store.version ≡ task.epoch) }
+    ensures { IsReduced S.tells S.written S.sealed S.faults task.entry result }
 {
     let ReduceTask {
         view,
@@ -101,13 +170,21 @@ pub fn reduce<'a>(alloc: Global, task: ReduceTask<'a>) -> Reduced<'a>
         partition,
         watermark,
         rows,
+        state,
     } = task;
-    let outcome = shown_rows(alloc, rows);
+    let (store, outcome) = match state {
+        None => (None, show_all(alloc, rows)),
+        Some(state) => {
+            let (store, outcome) = next_version(alloc, view.bound, epoch, watermark, rows, state);
+            (Some(store), outcome)
+        }
+    };
     Reduced {
         view,
         epoch,
         partition,
         watermark,
+        store,
         outcome,
     }
 }

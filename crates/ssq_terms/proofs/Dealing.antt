@@ -3,15 +3,13 @@ use Rattle.std.proofs.Common.{◌≡◌, ◌⊎◌, ◌<◌, ◌≤◌, ◌+◌,
 use Rattle.std.specs.Prelude.{nat_le, slice_get, if◌then◌else◌}
 use Rattle.std.proofs.lemmas.Bool.{eqb-true, leb-true, ltb-true, le-leb, lt-ltb, le-ltb}
 use Rattle.ssq_plans.specs.declared.part.PartEnd.{PartEnd}
-use Rattle.ssq_shape.specs.declared.bound.Bound.{Bound}
-use Rattle.ssq_shape.specs.declared.bound.Shape.{Shape}
 use Rattle.ssq_meaning.specs.Parts.{Part}
 use Rattle.ssq_meaning.specs.Times.{is_above}
 use Rattle.ssq_meaning.specs.Epochs.{watermark_before}
 use Rattle.ssq_core.specs.Course.{Ends, Cuts}
 use Rattle.ssq_core.specs.Sound.{AreProper}
 use Rattle.ssq_core.proofs.Holding.{both_are, both_true}
-use Rattle.ssq_course.specs.Setting.{Setting, parts_in, cut_of, cuts_of, watermark_at, keeping_of, has_lines, is_end_of, is_start, is_within, closes, is_next_of, job_of}
+use Rattle.ssq_course.specs.Setting.{Setting, parts_in, cut_of, cuts_of, watermark_at, has_lines, is_end_of, is_start, is_within, closes, is_next_of, job_of}
 use Rattle.ssq_course.specs.Setting.{has_line as is_longer}
 use Rattle.ssq_course.proofs.Causal.{are_causal}
 use Rattle.ssq_open.specs.Lens.{found_from}

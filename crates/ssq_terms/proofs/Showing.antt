@@ -156,8 +156,8 @@ plain_shows query old rows before now is =
 shown_is : (s : Setting) (cuts : Cuts) (e p : ℕ) (rows : List Values) → s.job.bound.shape ≡ Plain → IsShownOf s cuts e p rows
     → IsPermutation rows (values_of (bucket s.job.partitions p (fed s.job.bound (parts_in s) (cuts_of cuts) e)))
 shown_is s cuts e p rows plain is =
-    subst (λ (values : List Values). IsPermutation values (values_of (bucket s.job.partitions p (fed s.job.bound (parts_in s) (cuts_of cuts) e))))
-    (sym (is.shows [] None ∙ plain_shows s.job.bound [] is.taken None (watermark_at s cuts e) plain)) (IsPermutation-map (λ (row : FedRow). row.values) _ _ is.are)
+    let shows = subst (IsPermutation rows) (plain_shows s.job.bound [] is.taken None (watermark_at s cuts e) plain) (is.shows [] None) in
+    IsPermutation-trans _ _ _ shows (IsPermutation-map (λ (row : FedRow). row.values) _ _ is.are)
 
 -- the rows of all partitions are those of the epoch, in another order
 rows_together : (s : Setting) (cuts : Cuts) (e : ℕ) (shown : List (List Values)) → s.job.bound.shape ≡ Plain → 1 ≤ s.job.partitions → AreShown s cuts e shown

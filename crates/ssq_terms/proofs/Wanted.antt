@@ -10,6 +10,7 @@ use Rattle.ssq_plans.specs.declared.part.PartEnd.{PartEnd}
 use Rattle.ssq_plans.specs.Records.{IsCount, IsMetaRecord}
 use Rattle.ssq_shape.specs.declared.bound.Bound.{Bound}
 use Rattle.ssq_shape.specs.declared.bound.Shape.{Shape}
+use Rattle.ssq_shape.specs.declared.bound.Shape.TheVariants.{Plain, Group, Dedup, Join}
 use Rattle.ssq_meaning.specs.Parts.{parts_of}
 use Rattle.ssq_meaning.specs.Times.{is_above}
 use Rattle.ssq_meaning.specs.Epochs.{watermark_before}
@@ -17,14 +18,16 @@ use Rattle.ssq_core.specs.Course.{Cuts}
 use Rattle.ssq_core.proofs.Holding.{both_are}
 use Rattle.ssq_course.specs.Setting.{Setting, parts_in, meta_of, cuts_of, watermark_at, keeping_of, is_start, is_within, has_line, closes, is_next_of, job_of}
 use Rattle.ssq_course.specs.Laws.{IsFit}
+use Rattle.ssq_course.specs.States.{AreOfStates}
 use Rattle.ssq_course.proofs.Causal.{are_causal}
 use Rattle.ssq_open.specs.declared.wanted.Lens.{Lens}
 use Rattle.ssq_open.specs.Lens.{asked, counts_of, found_from, IsFew}
 use Rattle.ssq_open.specs.Looking.{begins}
 use Rattle.ssq_open.specs.Sought.{IsJob}
 use Rattle.ssq_open.specs.Jobs.{IsWantedJob}
+use Rattle.ssq_open.specs.Stateful.{keeping_in, keeps_state}
 use Rattle.ssq_terms.specs.Setting.{IsSettingOf, AreFound, found_lines}
-use Rattle.ssq_terms.specs.Laws.{JobIsWanted, FirstRecordIsJobs, PartsAreFound}
+use Rattle.ssq_terms.specs.Laws.{JobIsWanted, StatesAreJobs, FirstRecordIsJobs, PartsAreFound}
 use Rattle.ssq_terms.proofs.Printing.{commits_written, plans_written}
 use Rattle.ssq_terms.proofs.Marks.{lines_there, mark_by_lines, unmarked}
 use Rattle.ssq_terms.proofs.Starts.{AreParts, AreNamed, are_parts, are_named, named_count, parts_fit, found_numbers, firsts_are, all_begin, start_is, within_follows}
@@ -44,6 +47,13 @@ is_next_if s cuts e next =
     let first = both_are (is_start (parts_in s) (cuts 0)) (is_within (parts_in s) (cuts e) (cuts (e + 1)) && more) next in
     let second = both_are (is_within (parts_in s) (cuts e) (cuts (e + 1))) more first.1 in
     record { start = first.0; within = second.0 }
+
+-- as many partitions keep state as the query that is wanted says
+keeping_same : (shape : Shape) (partitions : ℕ) → keeping_of shape partitions ≡ keeping_in (keeps_state shape) partitions
+keeping_same Plain partitions = refl
+keeping_same (Group grouping) partitions = refl
+keeping_same (Dedup columns) partitions = refl
+keeping_same (Join joining) partitions = refl
 
 module _ (s : Setting) (bound : Bound) (partitions : Option ℕ) (lens : Lens) (is : IsSettingOf s bound partitions lens) where
   named : AreNamed (parts_in s) (found_from 0 lens.streams)
@@ -86,7 +96,7 @@ module _ (s : Setting) (bound : Bound) (partitions : Option ℕ) (lens : Lens) (
     record_is = λ cuts. record_is;
     wanted = λ cuts. wanted;
     one_record = λ cuts other. refl;
-    stateless = λ cuts. ap (λ (shape : Shape). keeping_of shape s.job.partitions) (ap (λ (b : Bound). b.shape) is.query ∙ is.plain.shape);
+    keeping = λ cuts. keeping_same s.job.bound.shape s.job.partitions;
     ends = λ cuts e. refl;
     start = λ cuts e next. start_is (parts_in s) (found_from 0 lens.streams) (cuts 0) parts (is_next_if s cuts e next).start;
     follow = λ cuts e next. within_follows (parts_in s) (cuts e) (cuts (e + 1)) (is_next_if s cuts e next).within;
@@ -99,6 +109,12 @@ module _ (s : Setting) (bound : Bound) (partitions : Option ℕ) (lens : Lens) (
 
 pub job_wanted : JobIsWanted
 job_wanted s bound partitions lens is found = subst (λ (b : Bound). IsWantedJob (asked b partitions lens) (job_of s)) is.query (own_job s bound partitions lens is found)
+
+pub states_are : ((t : Setting) (cuts : Cuts) → AreOfStates t cuts) → StatesAreJobs
+states_are of s plain = record {
+  first = λ cuts p. (of s cuts).start p;
+  versions = λ cuts n p v proper few less below. absurd (let none = ap (λ (shape : Shape). keeping_of shape s.job.partitions) plain in omega (arith, below, none));
+}
 
 pub first_record : FirstRecordIsJobs
 first_record s bound partitions lens is count cuts =

@@ -16,7 +16,7 @@ use Rattle.ssq_core.specs.Course.{Cuts, Job, plan_of, commit_of, AreSameUpTo}
 use Rattle.ssq_core.specs.Machine.{reduce, out_task}
 use Rattle.ssq_core.specs.Standing.{StandsAt}
 use Rattle.ssq_core.specs.Sound.{AreProper}
-use Rattle.ssq_course.specs.Setting.{Setting, parts_in, cut_of, first_ends, watermark_at, course_of, job_of}
+use Rattle.ssq_course.specs.Setting.{Setting, parts_in, cut_of, first_ends, watermark_at, state_at, course_of, job_of}
 use Rattle.ssq_course.specs.Laws.{IsFit}
 use Rattle.ssq_open.specs.declared.wanted.Lens.{Lens}
 use Rattle.ssq_open.specs.Lens.{asked, found_from}
@@ -24,7 +24,7 @@ use Rattle.ssq_open.specs.Sought.{Sought}
 use Rattle.ssq_open.specs.Looking.{begins}
 use Rattle.ssq_open.specs.Epochs.{starts}
 use Rattle.ssq_open.specs.Opening.{first_meta}
-use Rattle.ssq_open.specs.Jobs.{IsWantedJob}
+use Rattle.ssq_open.specs.Jobs.{IsWantedJob, AreStates}
 use Rattle.ssq_board.specs.Core.{Scope}
 use Rattle.ssq_board.specs.Rounds.{HasCap}
 use Rattle.ssq_board.specs.Follows.{Terms, map_task}
@@ -55,6 +55,11 @@ PlansCanBeWritten = (s : Setting) (cuts : Cuts) (e : ℕ) → HasDelays s.job.bo
 -- where the logs come to hold what was found, the job of the setting is the one that is wanted
 abbrev pub JobIsWanted : Type 0
 JobIsWanted = (s : Setting) (bound : Bound) (partitions : Option ℕ) (lens : Lens) → IsSettingOf s bound partitions lens → AreFound (found_lines lens) s.lines → IsWantedJob (asked bound partitions lens) (job_of s)
+
+-- The files of the state that a job has are those of its states, which are empty before the first epoch. A query that keeps nothing has no
+-- such file.
+abbrev pub StatesAreJobs : Type 0
+StatesAreJobs = (s : Setting) → s.job.bound.shape ≡ Plain → AreStates (job_of s) (state_at s)
 
 -- with the partitions that were asked for, or else one, its record is that of a new checkpoint
 abbrev pub FirstRecordIsJobs : Type 0

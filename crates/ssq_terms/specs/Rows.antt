@@ -33,12 +33,12 @@ pub record IsQuiet (query : Bound) (part : Part) (from to : ℕ) : Type 0 where
 abbrev pub PartsWithoutLinesAreQuiet : Type 0
 PartsWithoutLinesAreQuiet = (query : Bound) (part : Part) (from to : ℕ) → to ≤ from → IsQuiet query part from to
 
--- A reduce task of a partition took its rows of the epoch, in any order, and showed these rows of them: those that the operator shows,
--- whatever was accepted before, and whatever the watermark before was.
+-- A reduce task of a partition took its rows of the epoch, in any order, and showed these rows of them: those that the operator shows, in
+-- any order, whatever was accepted before, and whatever the watermark before was.
 pub record IsShownOf (s : Setting) (cuts : Cuts) (e p : ℕ) (rows : List Values) : Type 0 where
   pub taken : List FedRow
   pub are : IsPermutation taken (bucket s.job.partitions p (fed s.job.bound (parts_in s) (cuts_of cuts) e))
-  pub shows : (old : List FedRow) (before : Option ℤ) → rows ≡ (operator_of s.job.bound).added old (timely s.job.bound (watermark_at s cuts e) taken) before (watermark_at s cuts e)
+  pub shows : (old : List FedRow) (before : Option ℤ) → IsPermutation rows ((operator_of s.job.bound).added old (timely s.job.bound (watermark_at s cuts e) taken) before (watermark_at s cuts e))
 
 -- of each partition, in order, the rows that its task showed
 pub record AreShown (s : Setting) (cuts : Cuts) (e : ℕ) (shown : List (List Values)) : Type 0 where

@@ -6,11 +6,14 @@ use Rattle.ssq_ledger.specs.Shown.{did}
 use Rattle.ssq_desk.specs.declared.task.Task.{Task}
 use Rattle.ssq_desk.specs.Tasks.{id_of}
 use Rattle.ssq_desk.specs.Handed.{IsTaskOf}
-use Rattle.ssq_desk.specs.Results.{cause_of_feed, cause_of_reduce, fault_of}
+use Rattle.ssq_desk.specs.Results.{cause_of_feed, cause_of_failed, fault_of}
 use Rattle.ssq_desk.specs.Published.{cause_of_left}
-use Rattle.ssq_drive.proofs.Doing.{fed_may, fed_turn, reduced_may, reduced_turn, gathered_may, gathered_turn}
+use Rattle.ssq_drive.proofs.Doing.{fed_may, fed_turn, no_version, reduced_may, reduced_turn, gathered_may, gathered_turn}
 use Rattle.ssq_drive.proofs.Goods.{claimed_good, fed_good, published_good, reduced_good}
 use Rattle.ssq_drive.proofs.turn.work.Goals as goal
+
+pub feed-requires-clause-windows : goal.feed-requires-clause-windows
+feed-requires-clause-windows g c = (let of = subst (λ (x : Task g.row.L.Denot g.row.D-Stage.Denot g.row.D-Stage-Sealed.Denot). IsTaskOf g.D.Disk.tells g.L.Log.tells g.L.Log.lines g.L.Log.available g.L.Log.answers g.L.Log.faults g.D.Stage.Stage.written c.claim.new.self x) c.in-Map.is c.in-Some.ensures.task in of.view.windows)
 
 pub report_fed-requires-clause-may : goal.report_fed-requires-clause-may
 report_fed-requires-clause-may g c =
@@ -34,12 +37,21 @@ returns-in-Map-clause-turn g c =
     let claimed = c.in-Some.ensures.claimed.1 ∙ ap (λ (t : TaskId). did old old.disk (entry.Claim t ∷ [])) id in
     fed_turn g.L.Log.tells g.L.Log.lines g.L.Log.available g.L.Log.answers g.L.Log.faults c.in-Map.task c.feed.result c.feed.ensures g.D.Disk.faults old c.claim.new.self c.report_fed.new.self c.is_in_order.ensures.sound c.requires.rest may claimed c.report_fed.ensures.did
 
+pub reduce-requires-clause-windows : goal.reduce-requires-clause-windows
+reduce-requires-clause-windows g c = (let of = subst (λ (x : Task g.row.L.Denot g.row.D-Stage.Denot g.row.D-Stage-Sealed.Denot). IsTaskOf g.D.Disk.tells g.L.Log.tells g.L.Log.lines g.L.Log.available g.L.Log.answers g.L.Log.faults g.D.Stage.Stage.written c.claim.new.self x) c.in-Reduce.is c.in-Some.ensures.task in of.view.windows)
+
+pub reduce-requires-clause-fit : goal.reduce-requires-clause-fit
+reduce-requires-clause-fit g c = (let of = subst (λ (x : Task g.row.L.Denot g.row.D-Stage.Denot g.row.D-Stage-Sealed.Denot). IsTaskOf g.D.Disk.tells g.L.Log.tells g.L.Log.lines g.L.Log.available g.L.Log.answers g.L.Log.faults g.D.Stage.Stage.written c.claim.new.self x) c.in-Reduce.is c.in-Some.ensures.task in of.fit)
+
+pub reduce-requires-clause-version : goal.reduce-requires-clause-version
+reduce-requires-clause-version g c = (let of = subst (λ (x : Task g.row.L.Denot g.row.D-Stage.Denot g.row.D-Stage-Sealed.Denot). IsTaskOf g.D.Disk.tells g.L.Log.tells g.L.Log.lines g.L.Log.available g.L.Log.answers g.L.Log.faults g.D.Stage.Stage.written c.claim.new.self x) c.in-Reduce.is c.in-Some.ensures.task in no_version c.in-Reduce.task of.stateless)
+
 pub report_reduced-requires-clause-may : goal.report_reduced-requires-clause-may
 report_reduced-requires-clause-may g c =
     let mid = c.claim.new.self in
     let done = c.reduce.result in
     let id = ap (λ (x : Task g.row.L.Denot g.row.D-Stage.Denot g.row.D-Stage-Sealed.Denot). id_of x) c.in-Reduce.is in
-    reduced_may c.in-Reduce.task done c.reduce.ensures mid.scope mid.core (λ fault. subst (λ (t : TaskId). May mid.scope mid.core (entry.Report t fault)) id (c.in-Some.ensures.back fault)) (fault_of cause_of_reduce done.outcome)
+    reduced_may g.D.Stage.Stage.tells g.D.Stage.Stage.written g.D.Stage.Stage.sealed g.D.Stage.Stage.faults c.in-Reduce.task done c.reduce.ensures mid.scope mid.core (λ fault. subst (λ (t : TaskId). May mid.scope mid.core (entry.Report t fault)) id (c.in-Some.ensures.back fault)) (fault_of cause_of_failed done.outcome)
 
 pub report_reduced-requires-clause-of : goal.report_reduced-requires-clause-of
 report_reduced-requires-clause-of g c = (
@@ -54,7 +66,8 @@ returns-in-Reduce-clause-turn g c =
     let id = ap (λ (x : Task g.row.L.Denot g.row.D-Stage.Denot g.row.D-Stage-Sealed.Denot). id_of x) c.in-Reduce.is in
     let may = subst (λ (t : TaskId). May old.scope old.core (entry.Claim t)) id c.in-Some.ensures.claimed.0 in
     let claimed = c.in-Some.ensures.claimed.1 ∙ ap (λ (t : TaskId). did old old.disk (entry.Claim t ∷ [])) id in
-    reduced_turn c.in-Reduce.task c.reduce.result c.reduce.ensures g.D.Disk.faults old c.claim.new.self c.report_reduced.new.self c.is_in_order.ensures.sound c.requires.rest may claimed c.report_reduced.ensures.did
+    let of = subst (λ (x : Task g.row.L.Denot g.row.D-Stage.Denot g.row.D-Stage-Sealed.Denot). IsTaskOf g.D.Disk.tells g.L.Log.tells g.L.Log.lines g.L.Log.available g.L.Log.answers g.L.Log.faults g.D.Stage.Stage.written c.claim.new.self x) c.in-Reduce.is c.in-Some.ensures.task in
+    reduced_turn g.D.Stage.Stage.tells g.D.Stage.Stage.written g.D.Stage.Stage.sealed g.D.Stage.Stage.faults c.in-Reduce.task c.reduce.result c.reduce.ensures g.D.Disk.faults old c.claim.new.self c.report_reduced.new.self of.stateless c.is_in_order.ensures.sound c.requires.rest may claimed c.report_reduced.ensures.did
 
 pub publish_out-requires-clause-may : goal.publish_out-requires-clause-may
 publish_out-requires-clause-may g c =

@@ -11,7 +11,7 @@ use Rattle.ssq_runner.proofs.run.open_found.Goals as goal
 pub returns-in_err-opened-clause-unopened : goal.returns-in_err-opened-clause-unopened
 returns-in_err-opened-clause-unopened g c =
     let p = err_from_is_err_and c.from_residual-in_err-opened.result c.from_residual-in_err-opened.ensures.1 in
-    rw (p.1, p.2, sym c.in_ok-lens.ensures) (denied _ refl (λ t. c.in_err-opened.ensures.refused t) (λ t. c.in_err-opened.ensures.unfinished t) (λ t job w ours. c.in_err-opened.ensures.outside t job w ours) c.in_err-opened.ensures.cause)
+    rw (p.1, p.2, sym c.in_ok-lens.ensures) (denied _ refl (λ t. c.in_err-opened.ensures.refused t) (λ t. c.in_err-opened.ensures.unfinished t) (λ t job states w are ours. c.in_err-opened.ensures.outside t job states w are ours) c.in_err-opened.ensures.cause)
 
 pub returns-clause-opened : goal.returns-clause-opened
 returns-clause-opened g c =

@@ -83,7 +83,7 @@ returns-in-Err-clause-end g c = λ given of start faulty wrote ask.
     c.args.logs.items g.O.Output.tells (g.O.Output.content c.args.out.now) c.args.text.now.items c.in-Err.fault
     (asked_under g.L.Log.tells (g.D.Disk.tells × g.L.Log.tells) g.L.Log.lines g.L.Log.available g.L.Log.answers g.L.Log.faults (λ t. t.1) given.logs c.args.logs.items c.args.found.items ask) (λ cause outside t s run.
     opening_outside (g.D.Disk.tells × g.L.Log.tells) g.L.Log.tells g.L.Log.lines g.L.Log.available g.L.Log.answers g.L.Log.faults c.job_is_wanted.ensures.wanted c.job_is_wanted.ensures.first c.round_begins_as_found.ensures.found c.job_is_wanted.ensures.parts
-    c.args.bound.now c.args.ask c.args.counts.now c.args.found.items c.requires.asked c.requires.plain c.requires.each given of s run c.args.logs.items ask t.1 g.D.Disk.history c.args.disk c.open_found.new.disk start g.D.Disk.tells t.0 cause outside) of start faulty wrote c.requires.empty
+    c.args.bound.now c.args.ask c.args.counts.now c.args.found.items c.requires.asked c.requires.plain c.requires.each given of s run c.args.logs.items ask t.1 g.D.Disk.history c.args.disk c.open_found.new.disk start c.job_is_wanted.ensures.states g.D.Disk.tells t.0 cause outside) of start faulty wrote c.requires.empty
     (subst (λ (l : List ℕ). IsUnopened g.D.Disk.tells g.D.Disk.history g.D.Disk.faults c.args.bound.now c.args.ask.partitions (lens_of c.args.counts.now l) c.args.disk c.open_found.new.disk c.in-Err.fault) c.as_slice.ensures.value c.in-Err.ensures.unopened)
 
 pub returns-in-Err-clause-stands : goal.returns-in-Err-clause-stands

@@ -1,4 +1,4 @@
-use Rattle.std.proofs.Common.{List, ◌≡◌, ◌++◌, [], length, set, refl, sym, ap, ◌∙◌, subst, arith}
+use Rattle.std.proofs.Common.{List, None, ◌≡◌, ◌++◌, [], length, set, refl, sym, ap, ◌∙◌, subst, arith}
 use Rattle.std.specs.Prelude.{All, vec_capacity}
 use Rattle.std.specs.Vec.{with_item, with_items}
 use Rattle.std.proofs.lemmas.List.{with_items_is}
@@ -9,7 +9,7 @@ use Rattle.ssq_core.specs.Course.{Cuts}
 use Rattle.ssq_board.specs.Core.{May}
 use Rattle.ssq_task.specs.declared.partition.ReduceTask.{ReduceTask}
 use Rattle.ssq_ledger.specs.Shown.{Shown}
-use Rattle.ssq_feed.specs.Rows.{IsPrintable}
+use Rattle.ssq_meaning.specs.Fit.{IsFitRow}
 use Rattle.ssq_task.specs.Lists.{joined_vecs}
 use Rattle.ssq_desk.specs.declared.desk.Load.{Load}
 use Rattle.ssq_desk.specs.declared.desk.Source.{Source}
@@ -25,7 +25,7 @@ use Rattle.ssq_desk.specs.Handed.{IsReduceOf}
 use Rattle.ssq_desk.specs.Whole.{IsWhole}
 use Rattle.ssq_desk.proofs.Planned.{at_get}
 use Rattle.ssq_desk.proofs.Feeding.{all_at}
-use Rattle.ssq_desk.proofs.Handing.{reduce_here, reduce_claimed, watermark_here, rows_printable, moved_whole, runs_without, after_claim, may_report, taken_at}
+use Rattle.ssq_desk.proofs.Handing.{reduce_here, reduce_claimed, watermark_here, rows_fit, moved_whole, runs_without, after_claim, may_report, taken_at}
 use Rattle.ssq_desk.proofs.desk.Desk.claim_reduce.Goals as goal
 
 pub index_mut-requires : goal.index_mut-requires
@@ -74,7 +74,7 @@ returns-clause-task g c =
     let same = c.index_mut.ensures.value ∙ at_get s.load.shares.items c.args.id.number h.share _ h.here in
     let none : c.take_room-rows.result.items ≡ [] = ap (λ v. v.items) (c.take_room-rows.ensures ∙ ap (λ x. x.buckets) same) ∙ h.none in
     let rows = c.take_buckets.ensures.rows ∙ (λ i. joined_vecs (none i) ++ buckets_in c.args.id.number (c.deref_mut.ensures.value i)) in
-    let handed : ReduceTask = (record { view = s.load.view; epoch = c.args.id.epoch; partition = c.args.id.number; watermark = c.watermark-watermark.result; rows = c.take_buckets.new.into }) in
+    let handed : ReduceTask g.row.D-Stage.Denot g.row.D-Stage-Sealed.Denot = (record { view = s.load.view; epoch = c.args.id.epoch; partition = c.args.id.number; watermark = c.watermark-watermark.result; rows = c.take_buckets.new.into; state = None }) in
     subst (λ (x : Shown g.row.D.Denot (Round g.row.L.Denot)). IsReduceOf g.D.Disk.tells g.L.Log.tells g.L.Log.lines x handed) (sym c.claim.ensures)
     (after_claim g.L.Log.lines s.ledger s.ledger.disk c.args.id (λ (cuts : Cuts). IsReduceTask (Owns g.D.Disk.tells g.L.Log.tells g.L.Log.lines s.ledger) (setting_of g.L.Log.lines s.ledger.opening) cuts s.ledger.core.front.committed handed)
     (record {
@@ -82,8 +82,9 @@ returns-clause-task g c =
       view = c.self.invariant.view;
       epoch = m.2;
       watermark = watermark_here _ _ _ _ _ _ _ _ _ _ c.self.invariant g.D.Disk.history c.is_legal.ensures.legal c.is_in_order.ensures m.0 c.watermark-watermark.result c.watermark-watermark.ensures.watermark;
-      printable = subst (λ (l : List FedRow). All IsPrintable l) (sym rows) (rows_printable _ _ _ _ _ _ _ _ _ _ c.self.invariant g.D.Disk.history c.is_legal.ensures.legal c.is_in_order.ensures c.args.id.number h);
+      fit = subst (λ (l : List FedRow). All IsFitRow l) (sym rows) (rows_fit _ _ _ _ _ _ _ _ _ _ c.self.invariant g.D.Disk.history c.is_legal.ensures.legal c.is_in_order.ensures c.args.id.number h);
       rows = λ y. rows ∙ h.rows y;
+      stateless = refl;
     }))
 
 pub returns-clause-back : goal.returns-clause-back

@@ -60,7 +60,7 @@ pub returns-clause-next : goal.returns-clause-next
 returns-clause-next g c =
     let s = c.self.inside in
     let is = subst (λ (f : Front). MatchOption c.next_if-next.result.0 (c.is_over-is_over.result ≡ false) (λ next. (c.is_over-is_over.result ≡ true)
-    × (next ≡ record { meta = s.load.kept.meta; plans = s.load.plans.items; committed = f.committed; seen = lines_of s.load.view.bound.now s.load.seen; names = s.load.kept.names }) × All HasLineTime next.seen)) c.front-front.ensures c.next_if-next.ensures.next in
+    × (next ≡ record { meta = s.load.kept.meta; plans = s.load.plans.items; committed = f.committed; seen = lines_of s.load.view.bound.now s.load.seen; stores = s.load.kept.stores; names = s.load.kept.names }) × All HasLineTime next.seen)) c.front-front.ensures c.next_if-next.ensures.next in
     subst (λ (x : Shown g.row.D.Denot (Round g.row.L.Denot)). MatchOption c.next_if-next.result.0 (ready_of x.scope x.core ≢ ready.Over) (λ next. (ready_of x.scope x.core ≡ ready.Over)
     × IsNext (Owns g.D.Disk.tells g.L.Log.tells g.L.Log.lines x) (setting_of g.L.Log.lines x.opening) (cuts_of (opening_in g.L.Log.lines) x) x.scope.available x.core x.opening.opened next)) c.self.view_is
     (next_back g.D.Disk.tells g.L.Log.tells g.L.Log.lines g.L.Log.available g.L.Log.answers g.L.Log.faults g.D.Disk.history g.D.Stage.Stage.written g.D.Stage.Stage.sealed s.ledger s.load c.self.invariant c.is_legal.ensures.legal c.is_in_order.ensures c.next_if-next.result.0 c.is_over-is_over.result is
