@@ -25,7 +25,7 @@ use Rattle.ssq_agg.specs.declared.shown.Shown.{Shown}
 use Rattle.ssq_agg.specs.Closed.{is_ended, AreClosed, AreAll}
 use Rattle.ssq_agg.specs.Groups.{Held}
 use Rattle.ssq_agg.specs.Shown.{Pair, Shows, shown_rows, least_fault, row_if, shown_of, fault_if, pairs_of, others_of}
-use Rattle.ssq_agg.specs.Steps.{AreDue, ShowsDue, or_kept}
+use Rattle.ssq_agg.specs.Steps.{AreDue, ShowsDue, keys_of_groups, or_kept}
 use Rattle.ssq_agg.proofs.Taking.{same_is}
 
 pub if_ok : {T E : Type 0} {P Q : T → Type 0} (r : Result T E) → IfOk r P → ((x : T) → P x → Q x) → IfOk r Q
@@ -34,9 +34,6 @@ if_ok (Err e) holds give = tt
 
 abbrev pub keys_of_pairs : List Pair → List Values
 keys_of_pairs pairs = map (λ (pair : Pair). pair.0) pairs
-
-abbrev pub keys_of_groups : List Group → List Values
-keys_of_groups groups = map (λ (group : Group). group.key) groups
 
 pairs_keys : (groups : List Group) → keys_of_pairs (pairs_of groups) ≡ keys_of_groups groups
 pairs_keys [] = refl

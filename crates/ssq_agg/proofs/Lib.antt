@@ -1,4 +1,14 @@
+pub mod Spellings
+pub mod Totalling
+pub mod Reading
+pub mod Walking
 pub mod Taking
+pub mod Fitting
+pub mod Saying
+pub mod Found
+pub mod Finishing
 pub mod Dueing
 pub mod Stepping
+pub mod Given
+pub mod Changing
 pub mod Steady

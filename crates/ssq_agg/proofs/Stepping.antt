@@ -12,7 +12,7 @@ use Rattle.ssq_shape.specs.declared.bound.Mode.TheVariants as mode
 use Rattle.ssq_shape.specs.Evaluation.{Overflow}
 use Rattle.ssq_meaning.specs.declared.fed_row.FedRow.{FedRow}
 use Rattle.ssq_meaning.specs.declared.total.Total.{Total}
-use Rattle.ssq_meaning.specs.Group.{is_same, has_key, members, totals_in, group_row, row_of_key, key_overflows, is_closed, due_keys, least_key}
+use Rattle.ssq_meaning.specs.Group.{is_same, has_key, members, totals_in, group_row, row_of_key, key_overflows, closing_time, is_closed, due_keys, least_key}
 use Rattle.ssq_meaning.specs.GroupLaws.{times, times_due, held_if, held, next_held, is_due_now}
 use Rattle.ssq_meaning.specs.Meaning.{Values}
 use Rattle.ssq_meaning.specs.Operator.{group}
@@ -22,8 +22,8 @@ use Rattle.ssq_agg.specs.declared.kept.Group.{Group}
 use Rattle.ssq_agg.specs.Closed.{is_ended, AreClosed}
 use Rattle.ssq_agg.specs.Groups.{Held, touched}
 use Rattle.ssq_agg.specs.Shown.{Pair, row_if, fault_if, shown_of, shown_rows, least_fault}
-use Rattle.ssq_agg.specs.Steps.{Given, after_if, is_among, or_kept, IsShownOf, AreDue}
-use Rattle.ssq_agg.proofs.Dueing.{keys_of_pairs, keys_of_groups, times-append, times_left}
+use Rattle.ssq_agg.specs.Steps.{after_if, keys_of_groups, is_among, or_kept, IsShownOf, AreDue}
+use Rattle.ssq_agg.proofs.Dueing.{keys_of_pairs, times-append, times_left}
 
 -- ---- among keys
 
@@ -77,13 +77,12 @@ module _ (query : Bound) (grouping : Grouping) where
       by true rest = rest (pair.0 ∷ keys)
       by false rest = rest keys
 
-module _ (query : Bound) (grouping : Grouping) (own : Held) (time : Values → Option ℤ) (old new : List FedRow) (before now : Option ℤ) (found : Held)
-    (given : Given query grouping own time old new before now)
-    (found_is : (key : Values) → found key ≡ touched grouping.aggregates (own key) (members new key))
+module _ (query : Bound) (grouping : Grouping) (old new : List FedRow) (before now : Option ℤ) (found : Held)
+    (found_is : (key : Values) → found key ≡ touched grouping.aggregates (held query grouping old before key) (members new key))
     (whole : (key : Values) → held query grouping (old ++ new) now key ≡ next_held grouping.aggregates (is_closed query grouping now key) (held query grouping old before key) (members new key))
     (ended : (key : Values) → is_closed query grouping now key ≡ true → members new key ≡ []) where
-  next_is : (key : Values) → held query grouping (old ++ new) now key ≡ next_held grouping.aggregates (is_closed query grouping now key) (own key) (members new key)
-  next_is key = whole key ∙ ap (λ o. next_held grouping.aggregates (is_closed query grouping now key) o (members new key)) (sym (given.kept key))
+  next_is : (key : Values) → held query grouping (old ++ new) now key ≡ next_held grouping.aggregates (is_closed query grouping now key) (held query grouping old before key) (members new key)
+  next_is key = whole key
 
   -- ---- the state
 
@@ -106,13 +105,13 @@ module _ (query : Bound) (grouping : Grouping) (own : Held) (time : Values → O
   state_by None (row ∷ rows) false none = refl
   state_by (Some totals) (row ∷ rows) false none = refl
 
-  pub state_is : (closed : List Group) → AreClosed own time now closed → (key : Values) → after_if (found key) (is_among closed key) (own key) ≡ held query grouping (old ++ new) now key
+  pub state_is : (closed : List Group) → AreClosed (held query grouping old before) (closing_time query grouping) now closed → (key : Values) → after_if (found key) (is_among closed key) (held query grouping old before key) ≡ held query grouping (old ++ new) now key
   state_is closed are key =
-      let among : is_among closed key ≡ flag (is_closed query grouping now key) (own key) =
-      among_by key (keys_of_groups closed) (is_ended now (time key) (own key)) (are.once key)
-      ∙ flag_is (time key) (own key) ∙ ap (λ t. flag (is_past now t) (own key)) (given.timed key) in
-      (λ i. after_if (found_is key i) (among i) (own key))
-      ∙ state_by (own key) (members new key) (is_closed query grouping now key) (ended key)
+      let among : is_among closed key ≡ flag (is_closed query grouping now key) (held query grouping old before key) =
+      among_by key (keys_of_groups closed) (is_ended now (closing_time query grouping key) (held query grouping old before key)) (are.once key)
+      ∙ flag_is (closing_time query grouping key) (held query grouping old before key) in
+      (λ i. after_if (found_is key i) (among i) (held query grouping old before key))
+      ∙ state_by (held query grouping old before key) (members new key) (is_closed query grouping now key) (ended key)
       ∙ sym (next_is key)
 
   -- ---- what is new of a key
@@ -120,17 +119,17 @@ module _ (query : Bound) (grouping : Grouping) (own : Held) (time : Values → O
   has_new : (key : Values) → has_key new key ≡ is_some (found key)
   has_new key = by (members new key) refl ∙ ap is_some (sym (found_is key))
     where
-      by : (rows : List (List Value)) → members new key ≡ rows → has_key new key ≡ is_some (touched grouping.aggregates (own key) rows)
+      by : (rows : List (List Value)) → members new key ≡ rows → has_key new key ≡ is_some (touched grouping.aggregates (held query grouping old before key) rows)
       by [] is = lacks_members key new is
       by (row ∷ rows) is = has_members key new row rows is
 
   module _ (totals : (key : Values) → totals_in grouping (old ++ new) key ≡ fold with_row (totals_in grouping old key) (members new key)) where
-    old_is : (key : Values) (t : List Total) → own key ≡ Some t → members new key ≡ [] → totals_in grouping (old ++ new) key ≡ t
+    old_is : (key : Values) (t : List Total) → held query grouping old before key ≡ Some t → members new key ≡ [] → totals_in grouping (old ++ new) key ≡ t
     old_is key t is none =
         totals key ∙ ap (λ rows. fold with_row (totals_in grouping old key) rows) none
-        ∙ held_is (has_key old key && not (is_closed query grouping before key)) (totals_in grouping old key) t (sym (given.kept key) ∙ is)
+        ∙ held_is (has_key old key && not (is_closed query grouping before key)) (totals_in grouping old key) t is
 
-    none_new : (key : Values) (rows : List (List Value)) → touched grouping.aggregates (own key) rows ≡ None → rows ≡ []
+    none_new : (key : Values) (rows : List (List Value)) → touched grouping.aggregates (held query grouping old before key) rows ≡ None → rows ≡ []
     none_new key [] is = refl
     none_new key (row ∷ rows) is = absurd cc
 
@@ -141,30 +140,30 @@ module _ (query : Bound) (grouping : Grouping) (own : Held) (time : Values → O
     new_is : (key : Values) (t : List Total) → found key ≡ Some t → totals_in grouping (old ++ new) key ≡ t
     new_is key t is = by (members new key) refl (is_closed query grouping now key) refl (sym (found_is key) ∙ is)
       where
-        by : (rows : List (List Value)) → members new key ≡ rows → (b : Bool) → is_closed query grouping now key ≡ b → touched grouping.aggregates (own key) (members new key) ≡ Some t → totals_in grouping (old ++ new) key ≡ t
-        by [] none b closed there = absurd (let no : None ≡ Some t = ap (touched grouping.aggregates (own key)) (sym none) ∙ there in cc)
+        by : (rows : List (List Value)) → members new key ≡ rows → (b : Bool) → is_closed query grouping now key ≡ b → touched grouping.aggregates (held query grouping old before key) (members new key) ≡ Some t → totals_in grouping (old ++ new) key ≡ t
+        by [] none b closed there = absurd (let no : None ≡ Some t = ap (touched grouping.aggregates (held query grouping old before key)) (sym none) ∙ there in cc)
         by (row ∷ rows) some true closed there = absurd (let no : row ∷ rows ≡ [] = sym some ∙ ended key closed in cc)
         by (row ∷ rows) some false closed there =
             held_is (has_key (old ++ new) key && not (is_closed query grouping now key)) (totals_in grouping (old ++ new) key) t
             (next_is key
-            ∙ (λ i. next_held grouping.aggregates (closed i) (own key) (some i))
-            ∙ touched_next (own key) row rows ∙ ap (touched grouping.aggregates (own key)) (sym some) ∙ there)
+            ∙ (λ i. next_held grouping.aggregates (closed i) (held query grouping old before key) (some i))
+            ∙ touched_next (held query grouping old before key) row rows ∙ ap (touched grouping.aggregates (held query grouping old before key)) (sym some) ∙ there)
 
-    shown_is : (m : Mode) (key : Values) (t : List Total) → IsShownOf m (is_past now (time key)) (found key) (own key) t → totals_in grouping (old ++ new) key ≡ t
-    shown_is mode.Append key t is = old_is key t is.0 (ended key (ap (is_past now) (sym (given.timed key)) ∙ is.1))
+    shown_is : (m : Mode) (key : Values) (t : List Total) → IsShownOf m (is_past now (closing_time query grouping key)) (found key) (held query grouping old before key) t → totals_in grouping (old ++ new) key ≡ t
+    shown_is mode.Append key t is = old_is key t is.0 (ended key is.1)
     shown_is mode.Update key t is = new_is key t is
     shown_is mode.Complete key t is = by (found key) refl is
       where
-        by : (o : Option (List Total)) → found key ≡ o → or_kept o (own key) ≡ Some t → totals_in grouping (old ++ new) key ≡ t
+        by : (o : Option (List Total)) → found key ≡ o → or_kept o (held query grouping old before key) ≡ Some t → totals_in grouping (old ++ new) key ≡ t
         by None none kept = old_is key t kept (none_new key (members new key) (sym (found_is key) ∙ none))
         by (Some u) there same = new_is key t (there ∙ same)
 
-    module _ (pairs : List Pair) (are : AreDue own time now found query.mode pairs)
+    module _ (pairs : List Pair) (are : AreDue (held query grouping old before) (closing_time query grouping) now found query.mode pairs)
         (due : (key : Values) → times_due query grouping old new before now key ≡ (if is_due_now query.mode (is_some (held query grouping old before key)) (is_closed query grouping now key) (has_key new key) then 1 else 0)) where
       same_times : (key : Values) → times key (keys_of_pairs pairs) ≡ times key (due_keys query grouping old new before now)
       same_times key =
           are.due key
-          ∙ (λ i. if is_due_now query.mode (is_some (given.kept key i)) (is_past now (given.timed key i)) (sym (has_new key) i) then 1 else 0)
+          ∙ (λ i. if is_due_now query.mode (is_some (held query grouping old before key)) (is_closed query grouping now key) (sym (has_new key) i) then 1 else 0)
           ∙ sym (due key)
 
       cons_row : (r : Result (Option Values) Overflow) (rows : List Values) → row_if r ++ rows ≡ cons_option (option_and_then (λ row. row) (result_ok r)) rows
@@ -172,7 +171,7 @@ module _ (query : Bound) (grouping : Grouping) (own : Held) (time : Values → O
       cons_row (Ok (Some row)) rows = refl
       cons_row (Err e) rows = refl
 
-      rows_of : (some : List Pair) → AllByRecursion (λ (pair : Pair). IsShownOf query.mode (is_past now (time pair.0)) (found pair.0) (own pair.0) pair.1) some
+      rows_of : (some : List Pair) → AllByRecursion (λ (pair : Pair). IsShownOf query.mode (is_past now (closing_time query grouping pair.0)) (found pair.0) (held query grouping old before pair.0) pair.1) some
           → shown_rows query grouping some ≡ filter_map (row_of_key query grouping (old ++ new)) (keys_of_pairs some)
       rows_of [] all = refl
       rows_of (pair ∷ some) all =
@@ -189,7 +188,7 @@ module _ (query : Bound) (grouping : Grouping) (own : Held) (time : Values → O
       overflows : Values → Bool
       overflows = key_overflows query grouping (old ++ new)
 
-      onto_times : (key : Values) (keys : List Values) (some : List Pair) → AllByRecursion (λ (pair : Pair). IsShownOf query.mode (is_past now (time pair.0)) (found pair.0) (own pair.0) pair.1) some
+      onto_times : (key : Values) (keys : List Values) (some : List Pair) → AllByRecursion (λ (pair : Pair). IsShownOf query.mode (is_past now (closing_time query grouping pair.0)) (found pair.0) (held query grouping old before pair.0) pair.1) some
           → times key (onto query grouping keys some) ≡ times key keys + times key (filter overflows (keys_of_pairs some))
       unfolding onto overflows
       onto_times key keys [] all = omega arith

@@ -68,7 +68,7 @@ members_more rows row key =
     by true = refl
     by false = refl
 
-same_back : (a b : List Value) → is_same a b ≡ is_same b a
+pub same_back : (a b : List Value) → is_same a b ≡ is_same b a
 same_back a b = (eq_by_cmp_equiv values_cmp_total).symm a b
 
 pub same_is : (a b : List Value) → is_same a b ≡ true → a ≡ b

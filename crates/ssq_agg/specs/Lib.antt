@@ -1,6 +1,7 @@
+pub mod Readable
 pub mod Fits
 pub mod Groups
+pub mod Holding
 pub mod Closed
 pub mod Shown
 pub mod Steps
-pub mod Keyed

@@ -1,35 +1,64 @@
 -- The step of an epoch.
-use Rattle.std.specs.Prelude.{◌≡◌, ◌++◌, ⊤, ℤ, Bool, true, false, if◌then◌else◌, List, map, Option, Some, None, is_some}
-use Rattle.std.specs.BTreeMap.{get}
+use Rattle.std.specs.Prelude.{◌≡◌, ◌++◌, ⊤, ℕ, ℤ, Bool, true, false, if◌then◌else◌, List, All, length, map, Option, Some, None, is_some}
+use Rattle.std.specs.BTreeMap.{BTreeMap, get}
 use Rattle.std.specs.List.{AllByRecursion, list_any}
 use Rattle.std.specs.List.Sorted.{IsPermutation}
+use Rattle.ssq_value.specs.Key.{keys_of}
 use Rattle.ssq_value.specs.Order.{values_cmp}
+use Rattle.ssq_keys.specs.Readable.{IsReadable}
+use Rattle.ssq_version.specs.State.{State, Change, IsAfter, value_at}
 use Rattle.ssq_shape.specs.declared.bound.Bound.{Bound}
 use Rattle.ssq_shape.specs.declared.bound.Grouping.{Grouping}
 use Rattle.ssq_shape.specs.declared.bound.Mode.{Mode}
 use Rattle.ssq_shape.specs.declared.bound.Mode.TheVariants as mode
+use Rattle.ssq_shape.specs.declared.bound.Shape.{Shape}
+use Rattle.ssq_shape.specs.declared.bound.Shape.TheVariants as shape
 use Rattle.ssq_meaning.specs.declared.fed_row.FedRow.{FedRow}
 use Rattle.ssq_meaning.specs.declared.total.Total.{Total}
-use Rattle.ssq_meaning.specs.Group.{is_same, closing_time}
-use Rattle.ssq_meaning.specs.GroupLaws.{Follows, held, times, is_due_now}
+use Rattle.ssq_meaning.specs.Group.{is_same}
+use Rattle.ssq_meaning.specs.GroupLaws.{Follows, IsKeySpelled, held, times, is_due_now}
 use Rattle.ssq_meaning.specs.Meaning.{Values}
 use Rattle.ssq_meaning.specs.Operator.{group}
 use Rattle.ssq_meaning.specs.Times.{is_past}
+use Rattle.ssq_meaning.specs.Totals.{totals_bytes}
 use Rattle.ssq_agg.specs.declared.fault.StepFault.{StepFault}
 use Rattle.ssq_agg.specs.declared.fault.StepFault.TheVariants.{Overflow, NoMemory}
 use Rattle.ssq_agg.specs.declared.kept.Group.{Group}
 use Rattle.ssq_agg.specs.declared.shown.Shown.{Shown}
+use Rattle.ssq_agg.specs.declared.epoch.Moved.{Moved}
 use Rattle.ssq_agg.specs.declared.epoch.Stepped.{Stepped}
 use Rattle.ssq_agg.specs.Groups.{AreSteady, Held}
+use Rattle.ssq_agg.specs.Holding.{Holds}
+use Rattle.ssq_agg.specs.Readable.{IsKey, IsReadableKey}
 use Rattle.ssq_agg.specs.Shown.{Pair, shown_rows, least_fault}
 
--- What a step is given: what is kept is what accepted rows leave, and is found by the time of keys; the epoch's rows are not late at a
--- watermark that has not fallen; and the types of totals hold what comes out.
-pub record Given (query : Bound) (grouping : Grouping) (own : Held) (time : Values → Option ℤ) (old new : List FedRow) (before now : Option ℤ) : Type 0 where
-  pub kept : (key : Values) → own key ≡ held query grouping old before key
-  pub timed : (key : Values) → time key ≡ closing_time query grouping key
+-- what is given of a row: its key has a value for each part of GROUP BY, and its values can be read back from their bytes
+pub record IsKept (grouping : Grouping) (row : FedRow) : Type 0 where
+  pub key_is : IsReadableKey grouping row.key
+  pub values_are : All IsReadable row.values
+
+-- What a step is given: the query groups so; the state is what it keeps over the rows that were accepted before; the epoch's rows are not
+-- late at a watermark that has not fallen; the types of totals hold what comes out; and rows, old and new, can be kept.
+pub record Given (query : Bound) (grouping : Grouping) (state : State) (old new : List FedRow) (before now : Option ℤ) : Type 0 where
+  pub groups : query.shape ≡ shape.Group grouping
+  pub kept : state ≡ (group query grouping).state old before
   pub follows : Follows query grouping new before now
-  pub steady : AreSteady grouping.aggregates own new
+  pub steady : AreSteady grouping.aggregates (held query grouping old before) new
+  pub rows : All (IsKept grouping) (old ++ new)
+
+-- the same, by what the state holds
+pub record GivenGroups (query : Bound) (grouping : Grouping) (state : State) (old new : List FedRow) (before now : Option ℤ) : Type 0 where
+  pub holds : Holds grouping state (held query grouping old before)
+  pub keys : AllByRecursion (λ (row : FedRow). IsKey grouping row.key) new
+  pub follows : Follows query grouping new before now
+  pub steady : AreSteady grouping.aggregates (held query grouping old before) new
+
+-- the query does not group
+abbrev pub IsUngrouped : Shape → Type 0
+IsUngrouped shape.Plain = Unit {0}
+IsUngrouped (shape.Group grouping) = ⊥
+IsUngrouped (shape.Dedup columns) = Unit {0}
+IsUngrouped (shape.Join joining) = Unit {0}
 
 -- what a key has after a step: the totals of a key that was touched are new, a key that is closed goes, and each other key has what it had
 abbrev pub after_if : Option (List Total) → Bool → Option (List Total) → Option (List Total)
@@ -37,16 +66,35 @@ after_if (Some totals) is_closed own = Some totals
 after_if None true own = None
 after_if None false own = own
 
+abbrev pub keys_of_groups : List Group → List Values
+keys_of_groups groups = map (λ (group : Group). group.key) groups
+
 abbrev pub is_among : List Group → Values → Bool
-is_among groups key = list_any (is_same key) (map (λ (group : Group). group.key) groups)
+is_among groups key = list_any (is_same key) (keys_of_groups groups)
 
-abbrev pub after : Stepped → Held → Held
-after stepped own key = after_if (get values_cmp stepped.touched key) (is_among stepped.closed.items key) (own key)
+abbrev pub after : Moved → Held → Held
+after moved own key = after_if (get values_cmp moved.touched key) (is_among moved.closed.items key) (own key)
 
--- A step leaves what all accepted rows leave at the new watermark, it shows the epoch's rows, as a bag, and no key overflows.
-pub record IsStep (query : Bound) (grouping : Grouping) (own : Held) (old new : List FedRow) (before now : Option ℤ) (stepped : Stepped) : Type 0 where
-  pub state : (key : Values) → after stepped own key ≡ held query grouping (old ++ new) now key
-  pub rows : IsPermutation stepped.rows.items ((group query grouping).added old new before now)
+-- keys of so many values, each of which has a spelling
+abbrev pub AreKeys : ℕ → List Values → Type 0
+AreKeys many keys = AllByRecursion (IsKeySpelled many) keys
+
+abbrev pub AreTouchedKeys : ℕ → BTreeMap Values (List Total) → Type 0
+AreTouchedKeys many groups = (key : Values) (totals : List Total) → get values_cmp groups key ≡ Some totals → IsKeySpelled many key
+
+-- A step leaves of groups what all accepted rows leave at the new watermark, it shows the epoch's rows, as a bag, and no key overflows.
+pub record IsMove (query : Bound) (grouping : Grouping) (old new : List FedRow) (before now : Option ℤ) (moved : Moved) : Type 0 where
+  pub held_after : (key : Values) → after moved (held query grouping old before) key ≡ held query grouping (old ++ new) now key
+  pub touched_keys : AreTouchedKeys (length grouping.keys) moved.touched
+  pub closed_keys : AreKeys (length grouping.keys) (keys_of_groups moved.closed.items)
+  pub shown : IsPermutation moved.rows.items ((group query grouping).added old new before now)
+  pub faultless : (group query grouping).fault old new before now ≡ None
+
+-- Its change leads from the state over the rows before to the state over these rows too, at the new watermark; it shows the epoch's rows, as
+-- a bag; and no key overflows.
+pub record IsStep (query : Bound) (grouping : Grouping) (state : State) (old new : List FedRow) (before now : Option ℤ) (stepped : Stepped) : Type 0 where
+  pub leads : IsAfter stepped.change state ((group query grouping).state (old ++ new) now)
+  pub shown : IsPermutation stepped.rows.items ((group query grouping).added old new before now)
   pub faultless : (group query grouping).fault old new before now ≡ None
 
 -- it shows nothing because the epoch overflows on this key, the least, or because memory ran out
@@ -76,3 +124,14 @@ pub record ShowsDue (query : Bound) (grouping : Grouping) (own : Held) (time : V
   pub are : AreDue own time now found query.mode pairs
   pub rows : shown.rows.items ≡ shown_rows query grouping pairs
   pub fault : shown.fault ≡ least_fault query grouping None pairs
+
+-- what a change says of a key: its totals where it was touched, else that it goes where it is closed
+abbrev pub said_if : Option (List Total) → Bool → Option (Option (List ℕ))
+said_if (Some totals) is_closed = Some (Some (totals_bytes totals))
+said_if None true = Some None
+said_if None false = None
+
+-- the change says this of keys of so many values, and nothing else
+pub record Says (many : ℕ) (found : Held) (closed : List Group) (change : Change) : Type 0 where
+  pub told : (key : Values) → IsKeySpelled many key → value_at change (keys_of key) ≡ said_if (found key) (is_among closed key)
+  pub only : (bytes : List ℕ) (said : Option (List ℕ)) → value_at change bytes ≡ Some said → (key : Values) × (bytes ≡ keys_of key) × IsKeySpelled many key

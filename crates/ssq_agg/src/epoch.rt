@@ -1,29 +1,50 @@
 //! The step of an epoch.
 
-ghost use Rattle.std.specs.Prelude.{◌≡◌, ℤ, List, Option, IfOk, IfErr};
+ghost use Rattle.std.specs.Prelude.{◌≡◌, [], ℤ, List, Option, All, IfOk, IfErr};
 ghost use Rattle.std.specs.BTreeMap.{get};
+ghost use Rattle.std.specs.List.{AllByRecursion};
 ghost use Rattle.ssq_value.specs.Order.{values_cmp};
+ghost use Rattle.ssq_shape.specs.declared.bound.Grouping.{Grouping as Groups};
 ghost use Rattle.ssq_meaning.specs.declared.fed_row.FedRow.{FedRow as Fed};
+ghost use Rattle.ssq_meaning.specs.Fit.{IsFitRow};
+ghost use Rattle.ssq_meaning.specs.Group.{closing_time};
+ghost use Rattle.ssq_meaning.specs.Windows.{HasWindow, HasWindows};
 ghost use Rattle.ssq_agg.specs.Closed.{AreClosed};
-ghost use Rattle.ssq_agg.specs.Shown.{others_of};
-ghost use Rattle.ssq_agg.specs.Steps.{Given, IsCause, IsStep, ShowsDue};
+ghost use Rattle.ssq_agg.specs.Groups.{Held as Own};
+ghost use Rattle.ssq_agg.specs.Holding.{Holds};
+ghost use Rattle.ssq_agg.specs.Readable.{AreFit, AreFitGroups};
+ghost use Rattle.ssq_agg.specs.Shown.{ArePrintable, others_of};
+ghost use Rattle.ssq_agg.specs.Steps.{Given, GivenGroups, IsCause, IsMove, IsStep, IsUngrouped, ShowsDue};
 
+use crate::changed::changed;
+use crate::due::due_keys;
 use crate::fault::StepFault;
 use crate::groups::touched;
-use crate::kept::{Group, Kept};
+use crate::kept::{Group, all_groups, groups_at};
 use crate::shown::{Shown, nothing_shown, show_each, show_touched};
 use crate::totals::Totals;
 use ssq_meaning::{
     FedRow, groups_are_due_by_what_is_kept, groups_are_kept_whole, groups_come_in_any_order,
+    kept_groups_are_found,
 };
-use ssq_shape::{Bound, Grouping, Mode};
+use ssq_shape::{Bound, Grouping, Mode, Shape};
 use ssq_value::Row;
+use ssq_version::{Change, StateMap, states_are_kept};
 use std::alloc::{AllocError, Global};
 use std::collections::BTreeMap;
 
 /// What a step changes and shows.
 #[derive(Debug, Drop)]
 pub struct Stepped {
+    /// What changes in the state: a group with new rows has its totals after them, and a group that is closed goes.
+    pub change: Change,
+    /// The rows that the epoch shows, in no order.
+    pub rows: Vec<Row>,
+}
+
+/// What becomes of groups in an epoch.
+#[derive(Debug, Drop)]
+pub(crate) struct Moved {
     /// The groups that have new rows, each with its totals after them.
     pub touched: BTreeMap<Row, Totals>,
     /// The groups that were kept and are closed, and so are kept no more.
@@ -32,13 +53,21 @@ pub struct Stepped {
     pub rows: Vec<Row>,
 }
 
-fn closed_at<K: Kept>(alloc: Global, kept: &K, now: Option<i64>) -> Result<Vec<Group>, AllocError>
-    ensures { IfOk result (λ groups. AreClosed (K.held kept.now) (K.time kept.now) now groups.items) }
+/// The groups that are closed at the watermark.
+fn closed_groups(
+    alloc: Global,
+    bound: &Bound,
+    grouping: &Grouping,
+    state: &StateMap,
+    now: Option<i64>,
+) -> Result<Vec<Group>, AllocError>
+    requires { AllByRecursion HasWindow grouping.now.keys }
+    ensures closed { (own : Own) → Holds grouping.now state.now own →
+        IfOk result (λ groups. AreClosed own (closing_time bound.now grouping.now) now groups.items) }
+    ensures fit { IfOk result (λ groups. AreFit groups.items) }
 {
-    match now {
-        Some(now) => kept.closed(alloc, now),
-        None => Ok(Vec::new(alloc)),
-    }
+    let keys = due_keys(alloc, bound, grouping, state, now)?;
+    groups_at(alloc, grouping, state, keys.as_slice())
 }
 
 /// Those of the groups that were not touched.
@@ -59,57 +88,63 @@ fn others(
 }
 
 /// Shows the groups that are due: in Append those that are closed, in Update those that were touched, in Complete all.
-fn show_due<K: Kept>(
+fn show_due(
     alloc: Global,
     bound: &Bound,
     grouping: &Grouping,
-    kept: &K,
+    state: &StateMap,
     now: Option<i64>,
     touched: &BTreeMap<Row, Totals>,
     closed: &[Group],
 ) -> Result<Shown, AllocError>
-    requires { AreClosed (K.held kept.now) (K.time kept.now) now closed.now }
-    ensures { IfOk result (ShowsDue bound.now grouping.now (K.held kept.now) (K.time kept.now) now (get values_cmp touched.now)) }
+    requires touched { AreFitGroups touched.now }
+    requires closed { AreFit closed.now }
+    ensures due { (own : Own) → Holds grouping.now state.now own → AreClosed own (closing_time bound.now grouping.now) now closed.now →
+        IfOk result (ShowsDue bound.now grouping.now own (closing_time bound.now grouping.now) now (get values_cmp touched.now)) }
+    ensures printable { IfOk result (λ shown. ArePrintable shown.rows.items) }
 {
+    states_are_kept(state);
     let shown = nothing_shown(alloc);
     match bound.mode {
         Mode::Append => show_each(alloc, bound, grouping, shown, closed),
         Mode::Update => show_touched(alloc, bound, grouping, shown, touched),
         Mode::Complete => {
             let shown = show_touched(alloc, bound, grouping, shown, touched)?;
-            let others = others(alloc, kept.all(alloc)?, touched)?;
+            let others = others(alloc, all_groups(alloc, grouping, state)?, touched)?;
             show_each(alloc, bound, grouping, shown, others.as_slice())
         }
     }
 }
 
-/// The step of an epoch over the groups of a partition: by what is kept of them, the epoch's rows that are not late, and its watermark, in
-/// microseconds since 1970.
-///
-/// Each group with new rows is looked up once, and no other group but those that are closed, or in Complete all, since all are shown.
-pub fn step<K: Kept>(
+/// What becomes of groups in an epoch, and what it shows.
+fn move_groups(
     alloc: Global,
     bound: &Bound,
     grouping: &Grouping,
-    kept: &K,
+    state: &StateMap,
     rows: &[FedRow],
     now: Option<i64>,
-) -> Result<Stepped, StepFault>
-    ensures stepped { (old : List Fed) (before : Option ℤ) → Given bound.now grouping.now (K.held kept.now) (K.time kept.now) old rows.now before now →
-        IfOk result (IsStep bound.now grouping.now (K.held kept.now) old rows.now before now) }
-    ensures cause { (old : List Fed) (before : Option ℤ) → Given bound.now grouping.now (K.held kept.now) (K.time kept.now) old rows.now before now →
+) -> Result<Moved, StepFault>
+    requires windows { AllByRecursion HasWindow grouping.now.keys }
+    requires fit { All IsFitRow rows.now }
+    ensures moved { (old : List Fed) (before : Option ℤ) → GivenGroups bound.now grouping.now state.now old rows.now before now →
+        IfOk result (IsMove bound.now grouping.now old rows.now before now) }
+    ensures cause { (old : List Fed) (before : Option ℤ) → GivenGroups bound.now grouping.now state.now old rows.now before now →
         IfErr result (IsCause bound.now grouping.now old rows.now before now) }
+    ensures touched { IfOk result (λ moved. AreFitGroups moved.touched) }
+    ensures closed { IfOk result (λ moved. AreFit moved.closed.items) }
+    ensures printable { IfOk result (λ moved. ArePrintable moved.rows.items) }
 {
     groups_are_kept_whole();
     groups_come_in_any_order();
     groups_are_due_by_what_is_kept();
-    let touched = touched(alloc, grouping.aggregates.as_slice(), kept, rows)?;
-    let closed = closed_at(alloc, kept, now)?;
+    let touched = touched(alloc, grouping, state, rows)?;
+    let closed = closed_groups(alloc, bound, grouping, state, now)?;
     let shown = show_due(
         alloc,
         bound,
         grouping,
-        kept,
+        state,
         now,
         &touched,
         closed.as_slice(),
@@ -117,10 +152,68 @@ pub fn step<K: Kept>(
     let Shown { rows, fault } = shown;
     match fault {
         Some(key) => Err(StepFault::Overflow { key }),
-        None => Ok(Stepped {
+        None => Ok(Moved {
             touched,
             closed,
             rows,
+        }),
+    }
+}
+
+/// The step of a query that groups.
+fn step_groups(
+    alloc: Global,
+    bound: &Bound,
+    grouping: &Grouping,
+    state: &StateMap,
+    rows: &[FedRow],
+    now: Option<i64>,
+) -> Result<Stepped, StepFault>
+    requires windows { AllByRecursion HasWindow grouping.now.keys }
+    requires fit { All IsFitRow rows.now }
+    ensures stepped { (old : List Fed) (before : Option ℤ) → Given bound.now grouping.now state.now old rows.now before now →
+        IfOk result (IsStep bound.now grouping.now state.now old rows.now before now) }
+    ensures cause { (old : List Fed) (before : Option ℤ) → Given bound.now grouping.now state.now old rows.now before now →
+        IfErr result (IsCause bound.now grouping.now old rows.now before now) }
+    ensures printable { IfOk result (λ stepped. ArePrintable stepped.rows.items) }
+{
+    kept_groups_are_found();
+    let moved = move_groups(alloc, bound, grouping, state, rows, now)?;
+    let change = changed(alloc, &moved.touched, moved.closed.as_slice())?;
+    let Moved { rows, .. } = moved;
+    Ok(Stepped { change, rows })
+}
+
+/// The step of an epoch over the state of a partition: by the epoch's rows that are not late, and its watermark, in microseconds since 1970,
+/// what changes in the state, and which rows are shown. Of a query that does not group nothing changes, and nothing is shown.
+///
+/// A group with new rows is looked up once. No other group is read but those that are closed, or in Complete all, since all are shown. An
+/// entry of the state that is no group's counts as not there.
+pub fn step(
+    alloc: Global,
+    bound: &Bound,
+    state: &StateMap,
+    rows: &[FedRow],
+    _epoch: u32,
+    watermark: Option<i64>,
+) -> Result<Stepped, StepFault>
+    requires windows { HasWindows bound.now }
+    requires fit { All IsFitRow rows.now }
+    // The change leads from the state over the rows before to that over these rows too, and the rows that are shown are the epoch's, as a bag.
+    ensures stepped { (grouping : Groups) (old : List Fed) (before : Option ℤ) → Given bound.now grouping state.now old rows.now before watermark →
+        IfOk result (IsStep bound.now grouping state.now old rows.now before watermark) }
+    // Nothing is shown where a group overflows: the key is the least of those.
+    ensures cause { (grouping : Groups) (old : List Fed) (before : Option ℤ) → Given bound.now grouping state.now old rows.now before watermark →
+        IfErr result (IsCause bound.now grouping old rows.now before watermark) }
+    // Whatever the state holds, each time that is shown can be printed.
+    ensures printable { IfOk result (λ stepped. ArePrintable stepped.rows.items) }
+    ensures ungrouped { IsUngrouped bound.now.shape → IfOk result (λ stepped. (stepped.change ≡ []) × (stepped.rows.items ≡ [])) }
+{
+    match &bound.shape {
+        Shape::Group(grouping) => step_groups(alloc, bound, grouping, state, rows, watermark),
+        _ => Ok(Stepped {
+            change: Change::new(alloc),
+            rows: Vec::new(alloc),
         }),
     }
 }

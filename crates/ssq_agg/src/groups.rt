@@ -1,71 +1,85 @@
 //! The groups that an epoch's rows touch.
 
-ghost use Rattle.std.specs.Prelude.{◌≡◌, ◌∷◌, ◌++◌, [], Some, List, if◌then◌else◌, IfOk, OnOk};
+ghost use Rattle.std.specs.Prelude.{◌≡◌, Some, List, if◌then◌else◌, All, IfOk, OnOk};
 ghost use Rattle.std.specs.BTreeMap.{get};
+ghost use Rattle.std.specs.List.{AllByRecursion};
 ghost use Rattle.ssq_value.specs.declared.value.Value.{Value as Cell};
 ghost use Rattle.ssq_value.specs.Order.{values_cmp};
+ghost use Rattle.ssq_meaning.specs.Fit.{IsFit, IsFitRow};
 ghost use Rattle.ssq_meaning.specs.Group.{is_same, members};
 ghost use Rattle.ssq_meaning.specs.Totals.{with_row};
 ghost use Rattle.ssq_agg.specs.Fits.{AllFit};
-ghost use Rattle.ssq_agg.specs.Groups.{AreSteady, goes_on, started, touched};
+ghost use Rattle.ssq_agg.specs.Groups.{AreSteady, Held as Own, goes_on, started, touched};
+ghost use Rattle.ssq_agg.specs.Holding.{Holds};
+ghost use Rattle.ssq_agg.specs.Readable.{AreFitGroups, IsFitTotal, IsKey};
 
-use crate::kept::Kept;
+use crate::kept::totals_of;
 use crate::totals::Totals;
 use ssq_meaning::FedRow;
-use ssq_shape::Aggregate;
+use ssq_shape::Grouping;
 use ssq_value::{Row, Value};
+use ssq_version::StateMap;
 use std::alloc::{AllocError, Global};
 use std::collections::BTreeMap;
 
 /// The totals from which a key goes on.
-fn started<K: Kept>(
+fn started(
     alloc: Global,
-    aggregates: &[Aggregate],
-    kept: &K,
+    grouping: &Grouping,
+    state: &StateMap,
     key: &[Value],
 ) -> Result<Totals, AllocError>
-    ensures { IfOk result (λ totals. totals ≡ started aggregates.now (K.held kept.now key.now)) }
+    requires { All IsFit key.now }
+    ensures totals { (own : Own) → Holds grouping.now state.now own → IsKey grouping.now key.now →
+        IfOk result (λ totals. totals ≡ started grouping.now.aggregates (own key.now)) }
+    ensures fit { IfOk result (All IsFitTotal) }
 {
-    match kept.totals(alloc, key)? {
+    match totals_of(alloc, grouping, state, key)? {
         Some(totals) => Ok(totals),
-        None => Totals::of_nothing(alloc, aggregates),
+        None => Totals::of_nothing(alloc, grouping.aggregates.as_slice()),
     }
 }
 
 /// Takes one more row into its group, which is looked up where no row before had its key.
-fn take_row<K: Kept>(
+fn take_row(
     alloc: Global,
-    aggregates: &[Aggregate],
-    kept: &K,
+    grouping: &Grouping,
+    state: &StateMap,
     groups: &mut BTreeMap<Row, Totals>,
     row: &FedRow,
 ) -> Result<(), AllocError>
-    ensures { AllFit (with_row (goes_on aggregates.now (K.held kept.now row.now.key) (get values_cmp groups.old row.now.key)) row.now.values) →
+    requires { IsFitRow row.now }
+    ensures taken { (own : Own) → Holds grouping.now state.now own → IsKey grouping.now row.now.key →
+        AllFit (with_row (goes_on grouping.now.aggregates (own row.now.key) (get values_cmp groups.old row.now.key)) row.now.values) →
         OnOk result ((key : List Cell) → get values_cmp groups.new key ≡
-        (if is_same row.now.key key then Some (with_row (goes_on aggregates.now (K.held kept.now row.now.key) (get values_cmp groups.old row.now.key)) row.now.values) else get values_cmp groups.old key)) }
+        (if is_same row.now.key key then Some (with_row (goes_on grouping.now.aggregates (own row.now.key) (get values_cmp groups.old row.now.key)) row.now.values) else get values_cmp groups.old key)) }
+    ensures fit { AreFitGroups groups.old → OnOk result (AreFitGroups groups.new) }
 {
     if let Some(totals) = groups.get_mut(&row.key) {
         return totals.add_row(row.values.as_slice());
     }
-    let mut totals = started(alloc, aggregates, kept, row.key.as_slice())?;
+    let mut totals = started(alloc, grouping, state, row.key.as_slice())?;
     totals.add_row(row.values.as_slice())?;
     groups.insert(row.key.clone()?, totals)?;
     Ok(())
 }
 
 /// The groups that the rows touch, each with its totals after them, by the order of keys. A group that was touched is looked up once.
-pub(crate) fn touched<K: Kept>(
+pub(crate) fn touched(
     alloc: Global,
-    aggregates: &[Aggregate],
-    kept: &K,
+    grouping: &Grouping,
+    state: &StateMap,
     rows: &[FedRow],
 ) -> Result<BTreeMap<Row, Totals>, AllocError>
-    ensures { AreSteady aggregates.now (K.held kept.now) rows.now →
-        IfOk result (λ groups. (key : List Cell) → get values_cmp groups key ≡ touched aggregates.now (K.held kept.now key) (members rows.now key)) }
+    requires { All IsFitRow rows.now }
+    ensures groups { (own : Own) → Holds grouping.now state.now own → AllByRecursion (λ row. IsKey grouping.now row.key) rows.now →
+        AreSteady grouping.now.aggregates own rows.now →
+        IfOk result (λ groups. (key : List Cell) → get values_cmp groups key ≡ touched grouping.now.aggregates (own key) (members rows.now key)) }
+    ensures fit { IfOk result AreFitGroups }
 {
     let mut groups = BTreeMap::new(alloc);
     for row in rows {
-        take_row(alloc, aggregates, kept, &mut groups, row)?;
+        take_row(alloc, grouping, state, &mut groups, row)?;
     }
     Ok(groups)
 }

@@ -1,36 +1,129 @@
-//! What a partition keeps of groups.
+//! What a partition keeps of groups, out of the bytes of its state.
 
-ghost use Rattle.std.specs.Prelude.{◌≡◌, ℤ, List, Option, Some, IfOk};
-ghost use Rattle.ssq_value.specs.declared.value.Value.{Value as Cell};
-ghost use Rattle.ssq_meaning.specs.declared.total.Total.{Total as Sum};
-ghost use Rattle.ssq_agg.specs.Closed.{AreAll, AreClosed};
+ghost use Rattle.std.specs.Prelude.{◌≡◌, All, IfOk, OnOk};
+ghost use Rattle.ssq_value.specs.Key.{keys_of};
+ghost use Rattle.ssq_version.specs.State.{IsShort};
+ghost use Rattle.ssq_meaning.specs.Fit.{IsFit};
+ghost use Rattle.ssq_agg.specs.Holding.{Adds, AreRead, IsRead, IsReadAt, entries_at, seen};
 
+use crate::total_bytes::read_totals;
 use crate::totals::Totals;
-use ssq_value::{Row, Value};
+use ssq_field::Bytes;
+use ssq_keys::read_key;
+use ssq_shape::Grouping;
+use ssq_value::{Row, Value, key_bytes};
+use ssq_version::StateMap;
 use std::alloc::{AllocError, Global};
 
 /// A key with its totals.
 #[derive(Debug, Drop)]
-pub struct Group {
+pub(crate) struct Group {
     pub key: Row,
     pub totals: Totals,
 }
 
-/// What a partition keeps of groups before an epoch: the totals of each open key.
-pub trait Kept {
-    ghost held: { Self → List Cell → Option (List Sum) };
-    // the time by which keys are found that are closed
-    ghost time: { Self → List Cell → Option ℤ };
+/// The bytes, where they are fewer than 2^32, as a state holds. Else they count as too many for the memory.
+pub(crate) fn short(bytes: Vec<u8>) -> Result<Bytes, AllocError>
+    ensures bytes { IfOk result (λ short. short ≡ bytes.items) }
+    ensures short { IfOk result IsShort }
+{
+    if bytes.as_slice().len() <= u32::MAX as usize {
+        Ok(Bytes::from_vec(bytes))
+    } else {
+        Err(AllocError)
+    }
+}
 
-    /// The totals of a key, where it is kept.
-    fn totals(&self, alloc: Global, key: &[Value]) -> Result<Option<Totals>, AllocError>
-        ensures { IfOk result (λ found. found ≡ held self.now key.now) };
+/// The bytes under which a key is kept.
+pub(crate) fn bytes_of_key(alloc: Global, key: &[Value]) -> Result<Bytes, AllocError>
+    requires { All IsFit key.now }
+    ensures bytes { IfOk result (λ bytes. bytes ≡ keys_of key.now) }
+    ensures short { IfOk result IsShort }
+{
+    short(key_bytes(alloc, key)?)
+}
 
-    /// The groups whose time is at or below the watermark, in microseconds since 1970, each once.
-    fn closed(&self, alloc: Global, now: i64) -> Result<Vec<Group>, AllocError>
-        ensures { IfOk result (λ groups. AreClosed (held self.now) (time self.now) (Some now) groups.items) };
+/// The totals that the state keeps of a key.
+pub(crate) fn totals_of(
+    alloc: Global,
+    grouping: &Grouping,
+    state: &StateMap,
+    key: &[Value],
+) -> Result<Option<Totals>, AllocError>
+    requires { All IsFit key.now }
+    ensures { IfOk result (IsReadAt grouping.now.aggregates state.now (keys_of key.now)) }
+{
+    let key = bytes_of_key(alloc, key)?;
+    match state.get(&key) {
+        Some(value) => read_totals(alloc, grouping.aggregates.as_slice(), value.as_slice()),
+        None => Ok(None),
+    }
+}
 
-    /// All groups, each once.
-    fn all(&self, alloc: Global) -> Result<Vec<Group>, AllocError>
-        ensures { IfOk result (λ groups. AreAll (held self.now) groups.items) };
+/// The group of an entry of the state, where it is one.
+fn read_group(
+    alloc: Global,
+    grouping: &Grouping,
+    key: &Bytes,
+    value: &Bytes,
+) -> Result<Option<Group>, AllocError>
+    ensures { IfOk result (IsRead grouping.now (key.now, value.now)) }
+{
+    let Some(key) = read_key(alloc, key.as_slice(), grouping.keys.len())? else {
+        return Ok(None);
+    };
+    match read_totals(alloc, grouping.aggregates.as_slice(), value.as_slice())? {
+        Some(totals) => Ok(Some(Group { key, totals })),
+        None => Ok(None),
+    }
+}
+
+/// Adds the group of an entry of the state, where it is one.
+fn add_group(
+    alloc: Global,
+    grouping: &Grouping,
+    groups: &mut Vec<Group>,
+    key: &Bytes,
+    value: &Bytes,
+) -> Result<(), AllocError>
+    ensures { OnOk result (Adds grouping.now (key.now, value.now) groups.old.items groups.new.items) }
+{
+    if let Some(group) = read_group(alloc, grouping, key, value)? {
+        groups.push(group)?;
+    }
+    Ok(())
+}
+
+/// The groups of all entries of the state that are one.
+pub(crate) fn all_groups(
+    alloc: Global,
+    grouping: &Grouping,
+    state: &StateMap,
+) -> Result<Vec<Group>, AllocError>
+    ensures { IfOk result (λ groups. AreRead grouping.now state.now groups.items) }
+{
+    let mut groups = Vec::new(alloc);
+    for (key, value) in state.iter() {
+        add_group(alloc, grouping, &mut groups, key, value)?;
+    }
+    Ok(groups)
+}
+
+/// The groups of the state under these keys.
+pub(crate) fn groups_at(
+    alloc: Global,
+    grouping: &Grouping,
+    state: &StateMap,
+    keys: &[&Bytes],
+) -> Result<Vec<Group>, AllocError>
+    ensures { IfOk result (λ groups. AreRead grouping.now (entries_at state.now (seen keys.now)) groups.items) }
+{
+    let mut groups = Vec::new(alloc);
+    for key in keys {
+        let Some(value) = state.get(key) else {
+            continue;
+        };
+        add_group(alloc, grouping, &mut groups, key, value)?;
+    }
+    Ok(groups)
 }

@@ -1,6 +1,6 @@
 //! Laws of steps.
 
-ghost use Rattle.std.specs.Prelude.{◌≡◌, ◌+◌, ◌++◌, ◌<◌, ◌^◌, ℤ, List, Option, length};
+ghost use Rattle.std.specs.Prelude.{◌≡◌, ◌+◌, ◌<◌, ◌^◌, ℤ, List, Option, length};
 ghost use Rattle.std.specs.List.{AllByRecursion};
 ghost use Rattle.ssq_value.specs.declared.value.Value.{Value as Cell};
 ghost use Rattle.ssq_shape.specs.declared.bound.Bound.{Bound as Query};

@@ -1,9 +1,13 @@
 //! What a group shows.
 
-ghost use Rattle.std.specs.Prelude.{◌≡◌, pos, IfOk};
+ghost use Rattle.std.specs.Prelude.{◌≡◌, pos, All, IfOk, IfSome};
+ghost use Rattle.ssq_time.specs.Time.{IsStampTime};
+ghost use Rattle.ssq_value.specs.Kind.{IfTime};
 ghost use Rattle.ssq_expr.specs.Answers.{Answers, itself};
 ghost use Rattle.ssq_meaning.specs.Totals.{fitting, value_of, values_of_totals};
+ghost use Rattle.ssq_meaning.specs.Fit.{IsFit};
 ghost use Rattle.ssq_meaning.specs.Group.{group_items, passes_having, group_row};
+ghost use Rattle.ssq_agg.specs.Readable.{IsFitTotal};
 
 use ssq_expr::{EvalFault, eval_group};
 use ssq_meaning::Total;
@@ -31,7 +35,9 @@ fn fitting_sum(sum: i128) -> Option<Value>
 
 /// The value that an aggregate has; there is none of a number outside 64 bits.
 fn value_of(total: &Total) -> Result<Option<Value>, AllocError>
-    ensures { IfOk result (λ value. value ≡ value_of total.now) }
+    requires { IsFitTotal total.now }
+    ensures value { IfOk result (λ value. value ≡ value_of total.now) }
+    ensures years { IfOk result (λ value. IfSome value (IfTime IsStampTime)) }
 {
     match total {
         Total::Count(count) => Ok(fitting_count(*count)),
@@ -42,7 +48,9 @@ fn value_of(total: &Total) -> Result<Option<Value>, AllocError>
 }
 
 fn values_of(alloc: Global, totals: &[Total]) -> Result<Vec<Option<Value>>, AllocError>
-    ensures { IfOk result (λ values. values.items ≡ values_of_totals totals.now) }
+    requires { All IsFitTotal totals.now }
+    ensures values { IfOk result (λ values. values.items ≡ values_of_totals totals.now) }
+    ensures years { IfOk result (λ values. All (λ value. IfSome value (IfTime IsStampTime)) values.items) }
 {
     let mut values = Vec::with_capacity(alloc, totals.len())?;
     for total in totals {
@@ -74,7 +82,10 @@ fn items_of(
     key: &[Value],
     aggregates: &[Option<Value>],
 ) -> Result<Vec<Value>, EvalFault>
-    ensures { Answers (λ values. values.items) result (group_items outputs.now key.now aggregates.now) }
+    requires key { All (IfTime IsStampTime) key.now }
+    requires aggregates { All (λ value. IfSome value (IfTime IsStampTime)) aggregates.now }
+    ensures items { Answers (λ values. values.items) result (group_items outputs.now key.now aggregates.now) }
+    ensures years { IfOk result (λ values. All (IfTime IsStampTime) values.items) }
 {
     let mut values = Vec::with_capacity(alloc, outputs.len())?;
     for output in outputs {
@@ -84,7 +95,7 @@ fn items_of(
     Ok(values)
 }
 
-/// The row that a group shows: none where HAVING is not TRUE on it.
+/// The row that a group shows: none where HAVING is not TRUE on it. Its times can be printed.
 #[tactic(auto, unfolding(ssq_meaning::specs::Group::group_row))]
 pub(crate) fn show(
     alloc: Global,
@@ -93,7 +104,10 @@ pub(crate) fn show(
     key: &[Value],
     totals: &[Total],
 ) -> Result<Option<Row>, EvalFault>
-    ensures { Answers itself result (group_row bound.now grouping.now key.now totals.now) }
+    requires key { All IsFit key.now }
+    requires totals { All IsFitTotal totals.now }
+    ensures row { Answers itself result (group_row bound.now grouping.now key.now totals.now) }
+    ensures years { IfOk result (λ row. IfSome row (All (IfTime IsStampTime))) }
 {
     let aggregates = values_of(alloc, totals)?;
     if !passes(alloc, &grouping.having, key, aggregates.as_slice())? {

@@ -4,7 +4,8 @@ ghost use Rattle.std.specs.Prelude.{◌≡◌, [], ◌∷◌, ◌++◌, None, So
 ghost use Rattle.std.specs.BTreeMap.{IsOrdered, get};
 ghost use Rattle.ssq_value.specs.Order.{values_cmp};
 ghost use Rattle.ssq_meaning.specs.Group.{lesser_key};
-ghost use Rattle.ssq_agg.specs.Shown.{Shows, pairs_of};
+ghost use Rattle.ssq_agg.specs.Readable.{AreFit, AreFitGroups, IsFitGroup};
+ghost use Rattle.ssq_agg.specs.Shown.{ArePrintable, Shows, pairs_of};
 
 use crate::kept::Group;
 use crate::show::show;
@@ -78,7 +79,10 @@ fn show_group(
     key: &Row,
     totals: &Totals,
 ) -> Result<Shown, AllocError>
-    ensures { IfOk result (λ now. Shows bound.now grouping.now ((key.now, totals.now) ∷ []) shown now) }
+    requires fit { IsFitGroup key.now totals.now }
+    requires printable { ArePrintable shown.rows.items }
+    ensures shown { IfOk result (λ now. Shows bound.now grouping.now ((key.now, totals.now) ∷ []) shown now) }
+    ensures printable { IfOk result (λ now. ArePrintable now.rows.items) }
 {
     match show(alloc, bound, grouping, key.as_slice(), totals.as_slice()) {
         Ok(Some(row)) => with_row(shown, row),
@@ -96,7 +100,10 @@ pub(crate) fn show_touched(
     shown: Shown,
     groups: &BTreeMap<Row, Totals>,
 ) -> Result<Shown, AllocError>
+    requires fit { AreFitGroups groups.now }
+    requires printable { ArePrintable shown.rows.items }
     ensures shown { IfOk result (λ now. Shows bound.now grouping.now groups.now.entries shown now) }
+    ensures printable { IfOk result (λ now. ArePrintable now.rows.items) }
     // The keys of a map ascend, and each is found in it.
     ensures ordered { IsOrdered values_cmp groups.now }
     ensures found { All (λ entry. get values_cmp groups.now entry.0 ≡ Some entry.1) groups.now.entries }
@@ -116,7 +123,10 @@ pub(crate) fn show_each(
     shown: Shown,
     groups: &[Group],
 ) -> Result<Shown, AllocError>
-    ensures { IfOk result (λ now. Shows bound.now grouping.now (pairs_of groups.now) shown now) }
+    requires fit { AreFit groups.now }
+    requires printable { ArePrintable shown.rows.items }
+    ensures shown { IfOk result (λ now. Shows bound.now grouping.now (pairs_of groups.now) shown now) }
+    ensures printable { IfOk result (λ now. ArePrintable now.rows.items) }
 {
     let mut shown = shown;
     for group in groups {

@@ -1,10 +1,13 @@
 //! Totals of aggregates, value by value.
 
-ghost use Rattle.std.specs.Prelude.{◌≡◌, ◌<◌, ◌+◌, ◌^◌, ◌+ℤ◌, if◌then◌else◌, [], length, IfOk, OnOk, FitsSigned};
+ghost use Rattle.std.specs.Prelude.{◌≡◌, ◌<◌, ◌+◌, ◌^◌, ◌+ℤ◌, if◌then◌else◌, [], length, All, IfOk, OnOk, FitsSigned};
 ghost use Rattle.std.specs.Int.{w128};
+ghost use Rattle.std.specs.List.{AllByRecursion};
 ghost use Rattle.ssq_shape.specs.Evaluation.{cell_at, is_null};
 ghost use Rattle.ssq_meaning.specs.Totals.{counted, greater, lesser, summand, total_of, totals_of, with_row, with_row_from, with_value};
+ghost use Rattle.ssq_meaning.specs.Fit.{IsFit};
 ghost use Rattle.ssq_agg.specs.Fits.{AllFit, Fits};
+ghost use Rattle.ssq_agg.specs.Readable.{IsFitTotal};
 
 use ssq_meaning::Total;
 use ssq_shape::{Aggregate, Function};
@@ -70,7 +73,8 @@ fn is_greater(greatest: &Value, value: &Value) -> bool
 }
 
 fn lesser_of(least: Value, value: &Value) -> Result<Value, AllocError>
-    ensures { IfOk result (λ own. own ≡ lesser least value.now) }
+    ensures value { IfOk result (λ own. own ≡ lesser least value.now) }
+    ensures fit { IsFit least → IsFit value.now → IfOk result IsFit }
 {
     if is_lesser(&least, value) {
         value.clone()
@@ -80,7 +84,8 @@ fn lesser_of(least: Value, value: &Value) -> Result<Value, AllocError>
 }
 
 fn greater_of(greatest: Value, value: &Value) -> Result<Value, AllocError>
-    ensures { IfOk result (λ own. own ≡ greater greatest value.now) }
+    ensures value { IfOk result (λ own. own ≡ greater greatest value.now) }
+    ensures fit { IsFit greatest → IsFit value.now → IfOk result IsFit }
 {
     if is_greater(&greatest, value) {
         value.clone()
@@ -91,7 +96,8 @@ fn greater_of(greatest: Value, value: &Value) -> Result<Value, AllocError>
 
 /// The total with one more value, where the total's type holds it.
 fn with_value(total: Total, value: &Value) -> Result<Total, AllocError>
-    ensures { Fits (with_value total value.now) → IfOk result (λ own. own ≡ with_value total value.now) }
+    ensures total { Fits (with_value total value.now) → IfOk result (λ own. own ≡ with_value total value.now) }
+    ensures fit { IsFitTotal total → IsFit value.now → IfOk result IsFitTotal }
 {
     match total {
         Total::Count(count) => Ok(Total::Count(counted(count, value))),
@@ -106,7 +112,8 @@ fn with_value(total: Total, value: &Value) -> Result<Total, AllocError>
 
 /// Takes one more value into a total, where the total's type holds it. After an `Err` the total is of no use.
 pub(crate) fn add(total: &mut Total, value: &Value) -> Result<(), AllocError>
-    ensures { Fits (with_value total.old value.now) → OnOk result (total.new ≡ with_value total.old value.now) }
+    ensures added { Fits (with_value total.old value.now) → OnOk result (total.new ≡ with_value total.old value.now) }
+    ensures fit { IsFitTotal total.old → IsFit value.now → OnOk result (IsFitTotal total.new) }
 {
     let own = mem::replace(total, Total::Count(0));
     *total = with_value(own, value)?;
@@ -114,7 +121,8 @@ pub(crate) fn add(total: &mut Total, value: &Value) -> Result<(), AllocError>
 }
 
 fn add_at(total: &mut Total, row: &[Value], at: usize) -> Result<(), AllocError>
-    ensures { Fits (with_value total.old (cell_at row.now at)) → OnOk result (total.new ≡ with_value total.old (cell_at row.now at)) }
+    ensures added { Fits (with_value total.old (cell_at row.now at)) → OnOk result (total.new ≡ with_value total.old (cell_at row.now at)) }
+    ensures fit { IsFitTotal total.old → All IsFit row.now → OnOk result (IsFitTotal total.new) }
 {
     match row.get(at) {
         Some(value) => add(total, value),
@@ -125,7 +133,8 @@ fn add_at(total: &mut Total, row: &[Value], at: usize) -> Result<(), AllocError>
 #[tactic(auto, unfolding(ssq_meaning::specs::Totals::with_row_from))]
 fn add_from(totals: &mut [Total], row: &[Value], at: usize) -> Result<(), AllocError>
     requires { at + length totals.old < 2 ^ 64 }
-    ensures { AllFit (with_row_from at totals.old row.now) → OnOk result (totals.new ≡ with_row_from at totals.old row.now) }
+    ensures added { AllFit (with_row_from at totals.old row.now) → OnOk result (totals.new ≡ with_row_from at totals.old row.now) }
+    ensures fit { AllByRecursion IsFitTotal totals.old → All IsFit row.now → OnOk result (AllByRecursion IsFitTotal totals.new) }
 {
     let Some((first, rest)) = totals.split_first_mut() else {
         return Ok(());
@@ -137,14 +146,16 @@ fn add_from(totals: &mut [Total], row: &[Value], at: usize) -> Result<(), AllocE
 /// Takes one more row into the totals of its group, where their types hold them: for each aggregate the value of its argument. After an
 /// `Err` the totals are of no use.
 pub(crate) fn add_row(totals: &mut [Total], row: &[Value]) -> Result<(), AllocError>
-    ensures { AllFit (with_row totals.old row.now) → OnOk result (totals.new ≡ with_row totals.old row.now) }
+    ensures added { AllFit (with_row totals.old row.now) → OnOk result (totals.new ≡ with_row totals.old row.now) }
+    ensures fit { AllByRecursion IsFitTotal totals.old → All IsFit row.now → OnOk result (AllByRecursion IsFitTotal totals.new) }
 {
     add_from(totals, row, 0)
 }
 
 /// The total of no value.
 fn none_of(function: Function) -> Total
-    ensures { result ≡ total_of function [] }
+    ensures total { result ≡ total_of function [] }
+    ensures fit { IsFitTotal result }
 {
     match function {
         Function::Count => Total::Count(0),
@@ -157,7 +168,8 @@ fn none_of(function: Function) -> Total
 /// The totals of no row.
 #[tactic(auto, unfolding(ssq_meaning::specs::Totals::totals_from))]
 pub(crate) fn nothing(alloc: Global, aggregates: &[Aggregate]) -> Result<Vec<Total>, AllocError>
-    ensures { IfOk result (λ totals. totals.items ≡ totals_of aggregates.now []) }
+    ensures totals { IfOk result (λ totals. totals.items ≡ totals_of aggregates.now []) }
+    ensures fit { IfOk result (λ totals. All IsFitTotal totals.items) }
 {
     let mut totals = Vec::with_capacity(alloc, aggregates.len())?;
     for aggregate in aggregates {

@@ -1,8 +1,10 @@
 //! The totals of a group.
 
-ghost use Rattle.std.specs.Prelude.{◌≡◌, [], IfOk, OnOk};
+ghost use Rattle.std.specs.Prelude.{◌≡◌, [], All, IfOk, OnOk};
+ghost use Rattle.ssq_meaning.specs.Fit.{IsFit};
 ghost use Rattle.ssq_meaning.specs.Totals.{totals_of, with_row};
 ghost use Rattle.ssq_agg.specs.Fits.{AllFit};
+ghost use Rattle.ssq_agg.specs.Readable.{IsFitTotal};
 
 use crate::total::{add_row, nothing};
 use ssq_meaning::Total;
@@ -13,7 +15,7 @@ use std::marker::Model;
 
 /// The totals of a group, in the order of the query's aggregates. Contracts see the list of these.
 #[derive(Debug, Drop)]
-pub struct Totals(Vec<Total>);
+pub(crate) struct Totals(Vec<Total>);
 
 impl Model for Totals {
     ghost use Rattle.std.specs.Prelude.{List};
@@ -34,7 +36,8 @@ impl Totals {
 
     /// The totals of no row.
     pub fn of_nothing(alloc: Global, aggregates: &[Aggregate]) -> Result<Totals, AllocError>
-        ensures { IfOk result (λ totals. totals ≡ totals_of aggregates.now []) }
+        ensures totals { IfOk result (λ totals. totals ≡ totals_of aggregates.now []) }
+        ensures fit { IfOk result (All IsFitTotal) }
     {
         Ok(Totals(nothing(alloc, aggregates)?))
     }
@@ -47,14 +50,16 @@ impl Totals {
 
     /// Takes one more row of the group, where the types of the totals hold what comes out. After an `Err` they are of no use.
     pub fn add_row(&mut self, row: &[Value]) -> Result<(), AllocError>
-        ensures { AllFit (with_row self.old row.now) → OnOk result (self.new ≡ with_row self.old row.now) }
+        ensures added { AllFit (with_row self.old row.now) → OnOk result (self.new ≡ with_row self.old row.now) }
+        ensures fit { All IsFitTotal self.old → All IsFit row.now → OnOk result (All IsFitTotal self.new) }
     {
         add_all(&mut self.0, row)
     }
 }
 
 fn add_all(totals: &mut Vec<Total>, row: &[Value]) -> Result<(), AllocError>
-    ensures { AllFit (with_row totals.old.items row.now) → OnOk result (totals.new.items ≡ with_row totals.old.items row.now) }
+    ensures added { AllFit (with_row totals.old.items row.now) → OnOk result (totals.new.items ≡ with_row totals.old.items row.now) }
+    ensures fit { All IsFitTotal totals.old.items → All IsFit row.now → OnOk result (All IsFitTotal totals.new.items) }
 {
     add_row(totals.as_mut_slice(), row)
 }

@@ -14,7 +14,8 @@ IfText P (Text text) = P text
 IfText P (Time time) = Unit {0}
 IfText P (Truth truth) = Unit {0}
 
--- The value has a spelling, a state can hold it (a time is of the years 0001 to 9999), and a text is UTF-8.
+-- The value has a spelling, a state can hold it (a time is of the years 0001 to 9999, a text has at most 1,048,576 bytes), and a text is
+-- UTF-8.
 pub record IsReadable (value : Value) : Type 0 where
   pub spelled : IsSpelled value
   pub fit : IsFit value

@@ -1,11 +1,12 @@
 //! A value in front of bytes.
 
-ghost use Rattle.std.specs.Prelude.{◌≡◌, ◌<◌, ◌^◌, ◌∷◌, ◌++◌, [], ℕ, ℤ, List, Bool, length, if◌then◌else◌, FitsSigned, IfOk, IfSome, IsSomeAnd};
+ghost use Rattle.std.specs.Prelude.{◌≡◌, ◌<◌, ◌≤◌, ◌^◌, ◌∷◌, ◌++◌, ℕ, ℤ, List, Bool, length, if◌then◌else◌, FitsSigned, IfOk, IfSome, IsSomeAnd};
 ghost use Rattle.std.specs.Int.{w32, w64, to_be_bytes};
 ghost use Rattle.std.specs.Str.{IsUtf8};
 ghost use Rattle.ssq_time.specs.Time.{IsStampTime};
 ghost use Rattle.ssq_value.specs.declared.value.Value.{Value as Cell};
 ghost use Rattle.ssq_value.specs.Key.{raised, key_of};
+ghost use Rattle.ssq_shape.specs.Evaluation.{longest};
 ghost use Rattle.ssq_keys.specs.Readable.{IsReadable};
 
 use ssq_field::{take_be32, take_be64};
@@ -80,22 +81,28 @@ fn len_and_rest(bytes: &[u8]) -> Option<(u32, &[u8])>
     Some((number, &bytes[taken..]))
 }
 
-/// The text behind its length in four bytes, where it is UTF-8, and what follows it.
+/// The most bytes of a text.
+const LONGEST: u32 = 1_048_576;
+
+/// The text behind its length in four bytes, where it is UTF-8 and no longer than a text may be, and what follows it.
 fn text_and_rest(bytes: &[u8]) -> Option<(&str, &[u8])>
     ensures found { IfSome result (λ parts. bytes.now ≡ (to_be_bytes w32 (length parts.0.now) ++ parts.0.now) ++ parts.1.now) }
-    ensures short { IfSome result (λ parts. length parts.0.now < 2 ^ 32) }
+    ensures short { IfSome result (λ parts. length parts.0.now ≤ longest) }
     ensures utf8 { IfSome result (λ parts. IsUtf8 parts.0.now) }
-    ensures each { (text rest : List ℕ) → length text < 2 ^ 32 → IsUtf8 text → bytes.now ≡ (to_be_bytes w32 (length text) ++ text) ++ rest →
+    ensures each { (text rest : List ℕ) → length text ≤ longest → IsUtf8 text → bytes.now ≡ (to_be_bytes w32 (length text) ++ text) ++ rest →
         IsSomeAnd result (λ parts. (parts.0.now ≡ text) × (parts.1.now ≡ rest)) }
 {
     let (len, behind) = len_and_rest(bytes)?;
+    if len > LONGEST {
+        return None;
+    }
     let (text, rest) = split(behind, len as usize)?;
     let text = str::from_utf8(text).ok()?;
     Some((text, rest))
 }
 
 /// The value that the bytes in front spell, and what follows them. None where they spell none that a state can hold: a time is of the
-/// years 0001 to 9999, and a text is UTF-8.
+/// years 0001 to 9999, and a text is UTF-8 of at most 1,048,576 bytes.
 pub fn value_and_rest(alloc: Global, bytes: &[u8]) -> Result<Option<(Value, &[u8])>, AllocError>
     ensures found { IfOk result (λ found. IfSome found (λ parts. bytes.now ≡ key_of parts.0 ++ parts.1.now)) }
     ensures readable { IfOk result (λ found. IfSome found (λ parts. IsReadable parts.0)) }

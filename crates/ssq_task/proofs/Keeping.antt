@@ -14,9 +14,9 @@ use Rattle.ssq_meaning.specs.Group.{kept}
 use Rattle.ssq_meaning.specs.Operator.{Operator, operator_for, operator_of, group}
 use Rattle.ssq_agg.specs.declared.fault.StepFault.{StepFault}
 use Rattle.ssq_agg.specs.declared.fault.StepFault.TheVariants as step
-use Rattle.ssq_agg.specs.declared.keyed.Keyed.{Keyed}
-use Rattle.ssq_agg.specs.Keyed.{GivenState, IsKeyed}
+use Rattle.ssq_agg.specs.declared.epoch.Stepped.{Stepped}
 use Rattle.ssq_agg.specs.Steps as steps
+use Rattle.ssq_agg.specs.Steps.{Given, IsStep}
 use Rattle.ssq_version.specs.State.{Ascends, IsAfter, between}
 use Rattle.ssq_version.specs.State as version
 use Rattle.ssq_version.specs.Text.{delta_text}
@@ -45,30 +45,30 @@ given_by (Dedup columns) query partition old new before now state same given so 
 given_by (Join joining) query partition old new before now state same given so = absurd (true≢false (ap is_some given))
 
 module _ {S F : Type 0} (tells : Type 0) (written : S → List ℕ) (sealed : F → List ℕ) (query : Bound) (epoch partition : ℕ) (now : Option ℤ) (new : List FedRow) (state : State S)
-    (ascend : (grouping : Grouping) (rows : List FedRow) (at : Option ℤ) → Ascends (kept query grouping rows at)) (stepped : Keyed) (store : Store) (file : F)
+    (ascend : (grouping : Grouping) (rows : List FedRow) (at : Option ℤ) → Ascends (kept query grouping rows at)) (stepped : Stepped) (store : Store) (file : F)
     (at_epoch : count_to state.store.version ≡ epoch)
     (moved : tells → (after : version.State) → Ascends after → IsAfter stepped.change state.store.state after
     → sealed file ≡ written state.stage ++ delta_text state.store.partition (count_to state.store.version) (between state.store.state after))
     (advanced : (after : version.State) → Ascends after → IsAfter stepped.change state.store.state after → store.state ≡ after) where
   -- what is shown and kept is the operator's
   groups_shown : (grouping : Grouping) (old : List FedRow) (before : Option ℤ) → query.shape ≡ Group grouping → IsGivenGroups query grouping partition old new before now state
-      → IsKeyed query grouping state.store.state old new before now stepped
+      → IsStep query grouping state.store.state old new before now stepped
       → IsEpoch tells written sealed query epoch partition now new old before (Some state) (Some store) (record { rows = stepped.rows; delta = Some file })
   groups_shown grouping old before same given keyed =
       let operator : group query grouping ≡ operator_of query = sym (groups_of query grouping same) in
       let own = given.own in
       let held = given.given.kept in
       record {
-        shown = subst (λ (o : Operator). IsPermutation stepped.rows.items (o.added old new before now)) operator keyed.rows;
+        shown = subst (λ (o : Operator). IsPermutation stepped.rows.items (o.added old new before now)) operator keyed.shown;
         faultless = subst (λ (o : Operator). o.fault old new before now ≡ None) operator keyed.faultless;
-        kept = subst (λ (o : Operator). store.state ≡ o.state (old ++ new) now) operator (advanced (kept query grouping (old ++ new) now) (ascend grouping (old ++ new) now) keyed.after);
+        kept = subst (λ (o : Operator). store.state ≡ o.state (old ++ new) now) operator (advanced (kept query grouping (old ++ new) now) (ascend grouping (old ++ new) now) keyed.leads);
         changed = λ told. subst (λ (o : Operator). sealed file ≡ written state.stage ++ delta_text partition epoch (between (o.state old before) (o.state (old ++ new) now))) operator
-            (moved told (kept query grouping (old ++ new) now) (ascend grouping (old ++ new) now) keyed.after
+            (moved told (kept query grouping (old ++ new) now) (ascend grouping (old ++ new) now) keyed.leads
             ∙ (λ i. written state.stage ++ delta_text (own i) (at_epoch i) (between (held i) (kept query grouping (old ++ new) now))));
       }
 
-  pub groups_brought : ((grouping : Grouping) (old : List FedRow) (before : Option ℤ) → query.shape ≡ Group grouping → GivenState query grouping old new before now state.store.state
-      → IsKeyed query grouping state.store.state old new before now stepped)
+  pub groups_brought : ((grouping : Grouping) (old : List FedRow) (before : Option ℤ) → Given query grouping state.store.state old new before now
+      → IsStep query grouping state.store.state old new before now stepped)
       → All (All (IfTime IsStampTime)) stepped.rows.items → store.version ≡ Some (count_to state.store.version)
       → HasBrought tells written sealed query epoch partition now new (Some state) (Some store) (record { rows = stepped.rows; delta = Some file })
   groups_brought steps printable version = record {
@@ -76,7 +76,7 @@ module _ {S F : Type 0} (tells : Type 0) (written : S → List ℕ) (sealed : F 
     version = version ∙ ap Some at_epoch;
     printable = printable;
     meaning = λ old before given. given_by query.shape query partition old new before now state refl given
-        (λ grouping same own. groups_shown grouping old before same own (steps grouping old before same own.given));
+        (λ grouping same own. groups_shown grouping old before same own (steps grouping old before own.given));
   }
 
 module _ {S : Type 0} (faults : S → ℕ) (query : Bound) (partition : ℕ) (now : Option ℤ) (new : List FedRow) (state : State S) (store : Store) (same : IsAsBefore (Some state) (Some store)) where
@@ -91,12 +91,12 @@ module _ {S : Type 0} (faults : S → ℕ) (query : Bound) (partition : ℕ) (no
 
   -- no epoch is brought, since the step failed
   pub step_failed : (fault : StepFault)
-      → ((grouping : Grouping) (old : List FedRow) (before : Option ℤ) → query.shape ≡ Group grouping → GivenState query grouping old new before now state.store.state → steps.IsCause query grouping old new before now fault)
+      → ((grouping : Grouping) (old : List FedRow) (before : Option ℤ) → Given query grouping state.store.state old new before now → steps.IsCause query grouping old new before now fault)
       → HasFailed faults query partition now new (Some state) (Some store) (fault_of_step fault, Some state.stage)
   step_failed fault causes = record {
     same = same;
     aside = step_aside fault;
-    cause = λ old before given. given_by query.shape query partition old new before now state refl given (λ grouping is own. step_cause grouping old before fault is (causes grouping old before is own.given));
+    cause = λ old before given. given_by query.shape query partition old new before now state refl given (λ grouping is own. step_cause grouping old before fault is (causes grouping old before own.given));
   }
 
   seal_cause : (old : List FedRow) (before : Option ℤ) (fault : SealFault) → IsCause faults query partition now new old before (fault_of_seal fault)

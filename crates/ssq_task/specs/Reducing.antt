@@ -15,7 +15,7 @@ use Rattle.ssq_meaning.specs.Epochs.{timely}
 use Rattle.ssq_meaning.specs.Times.{is_past}
 use Rattle.ssq_agg.specs.declared.fault.StepFault.{StepFault}
 use Rattle.ssq_agg.specs.declared.fault.StepFault.TheVariants as step
-use Rattle.ssq_agg.specs.Keyed.{GivenState}
+use Rattle.ssq_agg.specs.Steps.{Given}
 use Rattle.ssq_version.specs.State.{between}
 use Rattle.ssq_version.specs.Text.{delta_text}
 use Rattle.ssq_store.specs.declared.fault.SealFault.{SealFault}
@@ -83,7 +83,7 @@ written_in written (Some state) = written state.stage
 -- The state is the partition's own, and what the rows leave that it accepted before: from that the operator of groups can step.
 pub record IsGivenGroups {S : Type 0} (query : Bound) (grouping : Grouping) (partition : ℕ) (old new : List FedRow) (before now : Option ℤ) (state : State S) : Type 0 where
   pub own : state.store.partition ≡ partition
-  pub given : GivenState query grouping old new before now state.store.state
+  pub given : Given query grouping state.store.state old new before now
 
 -- What the operator of a shape needs: a query that keeps nothing has no state, one that groups has such a one. The operators of Dedup and
 -- Join are to come, and keep nothing yet.

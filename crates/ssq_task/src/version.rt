@@ -4,13 +4,11 @@ ghost use Rattle.std.specs.Prelude.{◌≡◌, ◌<◌, ◌++◌, ◌^◌, ℕ, 
 ghost use Rattle.ssq_time.specs.Time.{IsStampTime};
 ghost use Rattle.ssq_value.specs.Kind.{IfTime};
 ghost use Rattle.ssq_shape.specs.declared.bound.Grouping.{Grouping as Groups};
-ghost use Rattle.ssq_shape.specs.declared.bound.Shape.TheVariants as shape;
 ghost use Rattle.ssq_meaning.specs.declared.fed_row.FedRow.{FedRow as Fed};
 ghost use Rattle.ssq_meaning.specs.Epochs.{timely};
 ghost use Rattle.ssq_meaning.specs.Fit.{IsFitRow};
 ghost use Rattle.ssq_meaning.specs.Windows.{HasWindows};
-ghost use Rattle.ssq_agg.specs.Keyed.{GivenState, IsKeyed};
-ghost use Rattle.ssq_agg.specs.Steps.{IsCause};
+ghost use Rattle.ssq_agg.specs.Steps.{Given, IsCause, IsStep};
 ghost use Rattle.ssq_version.specs.State.{State as Kept, Ascends, IsAfter, between};
 ghost use Rattle.ssq_version.specs.Text.{delta_text};
 ghost use Rattle.ssq_store.specs.Loaded.{count_to};
@@ -19,7 +17,7 @@ ghost use Rattle.ssq_task.specs.Lists.{joined_vecs};
 
 use crate::late::timely_rows;
 use crate::partition::{ReduceFault, ReducedRows, State};
-use ssq_agg::{Keyed, StepFault, step_state};
+use ssq_agg::{StepFault, Stepped, step};
 use ssq_meaning::{FedRow, kept_groups_are_found};
 use ssq_outside::Stage;
 use ssq_shape::Bound;
@@ -37,19 +35,19 @@ fn step_rows(
     parts: Vec<Vec<FedRow>>,
     epoch: u32,
     watermark: Option<i64>,
-) -> Result<Keyed, StepFault>
+) -> Result<Stepped, StepFault>
     requires windows { HasWindows bound.now }
     requires fit { All IsFitRow (joined_vecs parts.items) }
-    ensures stepped { (grouping : Groups) (old : List Fed) (before : Option ℤ) → bound.now.shape ≡ shape.Group grouping →
-        GivenState bound.now grouping old (timely bound.now watermark (joined_vecs parts.items)) before watermark state.now →
-        IfOk result (IsKeyed bound.now grouping state.now old (timely bound.now watermark (joined_vecs parts.items)) before watermark) }
-    ensures cause { (grouping : Groups) (old : List Fed) (before : Option ℤ) → bound.now.shape ≡ shape.Group grouping →
-        GivenState bound.now grouping old (timely bound.now watermark (joined_vecs parts.items)) before watermark state.now →
+    ensures stepped { (grouping : Groups) (old : List Fed) (before : Option ℤ) →
+        Given bound.now grouping state.now old (timely bound.now watermark (joined_vecs parts.items)) before watermark →
+        IfOk result (IsStep bound.now grouping state.now old (timely bound.now watermark (joined_vecs parts.items)) before watermark) }
+    ensures cause { (grouping : Groups) (old : List Fed) (before : Option ℤ) →
+        Given bound.now grouping state.now old (timely bound.now watermark (joined_vecs parts.items)) before watermark →
         IfErr result (IsCause bound.now grouping old (timely bound.now watermark (joined_vecs parts.items)) before watermark) }
     ensures printable { IfOk result (λ stepped. All (All (IfTime IsStampTime)) stepped.rows.items) }
 {
     let rows = timely_rows(alloc, watermark, parts)?;
-    step_state(alloc, bound, state, rows.as_slice(), epoch, watermark)
+    step(alloc, bound, state, rows.as_slice(), epoch, watermark)
 }
 
 /// Seals the change as the delta of the version after the store's, and then takes the store to that version. After a fault it is as it was.
@@ -108,7 +106,7 @@ pub(crate) fn next_version<S: Stage>(
     kept_groups_are_found();
     let State { mut store, stage } = state;
     let outcome = match step_rows(alloc, bound, &store.state, parts, epoch, watermark) {
-        Ok(Keyed { change, rows }) => match seal_and_advance(&mut store, stage, change) {
+        Ok(Stepped { change, rows }) => match seal_and_advance(&mut store, stage, change) {
             Ok(delta) => Ok(ReducedRows {
                 rows,
                 delta: Some(delta),

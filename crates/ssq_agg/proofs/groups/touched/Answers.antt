@@ -1,17 +1,29 @@
-use Rattle.std.proofs.Common.{◌<◌, length, arith}
+use Rattle.std.proofs.Common.{◌<◌, length, arith, sym, subst}
 use Rattle.std.specs.BTreeMap.{get}
+use Rattle.std.proofs.lemmas.List.Elements.{All-from_recursion, All-get_or}
 use Rattle.ssq_value.specs.Order.{values_cmp}
+use Rattle.ssq_meaning.specs.Fit.{IsFitRow}
+use Rattle.ssq_agg.specs.Readable.{IsKey}
 use Rattle.ssq_agg.proofs.Taking.{steady, one_more}
 use Rattle.ssq_agg.proofs.groups.touched.Goals as goal
 
 pub loop-row-preserved : goal.loop-row-preserved
-loop-row-preserved g c = λ are.
-    let aggregates = c.args.aggregates.now in
-    let held = g.K.Kept.held c.args.kept.now in
-    let rows = c.args.rows.now in
-    let at = c.loop-row.row-index in
-    let row = c.row-item.result in
-    let inside : at < length rows = omega (arith, c.loop-row-test.true) in
-    let was = c.loop-row.invariant are in
-    one_more aggregates held rows at row inside c.row-item.is (λ key. get values_cmp c.loop-row.groups key) (λ key. get values_cmp c.take_row.new.groups key) was
-    (c.in_ok-take_row.ensures (steady aggregates held rows at row inside c.row-item.is (λ key. get values_cmp c.loop-row.groups key) (λ key. get values_cmp c.take_row.new.groups key) are was))
+loop-row-preserved c = (
+  (λ own holds keys are.
+      let aggregates = c.args.grouping.now.aggregates in
+      let rows = c.args.rows.now in
+      let at = c.loop-row.row-index in
+      let row = c.row-item.result in
+      let inside : at < length rows = omega (arith, c.loop-row-test.true) in
+      let is_key = subst (λ row. IsKey c.args.grouping.now row.key) (sym c.row-item.is)
+      (All-get_or (λ row. IsKey c.args.grouping.now row.key) rows at row inside (All-from_recursion (λ row. IsKey c.args.grouping.now row.key) rows keys)) in
+      let was = c.loop-row.invariant.0 own holds keys are in
+      one_more aggregates own rows at row inside c.row-item.is (λ key. get values_cmp c.loop-row.groups key) (λ key. get values_cmp c.take_row.new.groups key) was
+      (c.in_ok-take_row.ensures.taken own holds is_key (steady aggregates own rows at row inside c.row-item.is (λ key. get values_cmp c.loop-row.groups key) (λ key. get values_cmp c.take_row.new.groups key) are was))),
+  c.in_ok-take_row.ensures.fit c.loop-row.invariant.1,
+)
+
+pub take_row-requires : goal.take_row-requires
+take_row-requires c =
+    let inside : c.loop-row.row-index < length c.args.rows.now = omega (arith, c.loop-row-test.true) in
+    subst IsFitRow (sym c.row-item.is) (All-get_or IsFitRow c.args.rows.now c.loop-row.row-index c.row-item.result inside c.requires)

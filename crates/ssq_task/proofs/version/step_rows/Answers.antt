@@ -5,27 +5,26 @@ use Rattle.ssq_meaning.specs.declared.fed_row.FedRow.{FedRow}
 use Rattle.ssq_meaning.specs.Epochs.{timely}
 use Rattle.ssq_meaning.specs.Fit.{IsFitRow}
 use Rattle.ssq_meaning.specs.Times.{is_past}
-use Rattle.ssq_agg.specs.Keyed.{GivenState, IsKeyed}
-use Rattle.ssq_agg.specs.Steps.{IsCause}
+use Rattle.ssq_agg.specs.Steps.{Given, IsCause, IsStep}
 use Rattle.ssq_task.specs.Lists.{joined_vecs}
 use Rattle.ssq_task.proofs.Keeping.{timely_is}
 use Rattle.ssq_task.proofs.version.step_rows.Goals as goal
 
-pub step_state-requires-clause-fit : goal.step_state-requires-clause-fit
-step_state-requires-clause-fit c =
+pub step-requires-clause-fit : goal.step-requires-clause-fit
+step-requires-clause-fit c =
     subst (λ (rows : List FedRow). All IsFitRow rows) (sym (c.as_slice.ensures.value ∙ c.in_ok-rows.ensures))
     (All-filter (λ row. not (is_past c.args.watermark row.time)) IsFitRow (joined_vecs c.args.parts.items) c.requires.fit)
 
 pub returns-clause-stepped : goal.returns-clause-stepped
-returns-clause-stepped c grouping old before same =
+returns-clause-stepped c grouping old before given =
     let rows = joined_vecs c.args.parts.items in
-    let new : c.as_slice.result.now ≡ timely c.args.bound.now c.args.watermark rows = c.as_slice.ensures.value ∙ c.in_ok-rows.ensures ∙ timely_is c.args.bound.now grouping same c.args.watermark rows in
-    subst (λ (new : List FedRow). GivenState c.args.bound.now grouping old new before c.args.watermark c.args.state.now → IfOk c.step_state.result (IsKeyed c.args.bound.now grouping c.args.state.now old new before c.args.watermark)) new
-    (c.step_state.ensures.stepped grouping old before same)
+    let new : c.as_slice.result.now ≡ timely c.args.bound.now c.args.watermark rows = c.as_slice.ensures.value ∙ c.in_ok-rows.ensures ∙ timely_is c.args.bound.now grouping given.groups c.args.watermark rows in
+    subst (λ (new : List FedRow). Given c.args.bound.now grouping c.args.state.now old new before c.args.watermark → IfOk c.step.result (IsStep c.args.bound.now grouping c.args.state.now old new before c.args.watermark)) new
+    (c.step.ensures.stepped grouping old before) given
 
 pub returns-clause-cause : goal.returns-clause-cause
-returns-clause-cause c grouping old before same =
+returns-clause-cause c grouping old before given =
     let rows = joined_vecs c.args.parts.items in
-    let new : c.as_slice.result.now ≡ timely c.args.bound.now c.args.watermark rows = c.as_slice.ensures.value ∙ c.in_ok-rows.ensures ∙ timely_is c.args.bound.now grouping same c.args.watermark rows in
-    subst (λ (new : List FedRow). GivenState c.args.bound.now grouping old new before c.args.watermark c.args.state.now → IfErr c.step_state.result (IsCause c.args.bound.now grouping old new before c.args.watermark)) new
-    (c.step_state.ensures.cause grouping old before same)
+    let new : c.as_slice.result.now ≡ timely c.args.bound.now c.args.watermark rows = c.as_slice.ensures.value ∙ c.in_ok-rows.ensures ∙ timely_is c.args.bound.now grouping given.groups c.args.watermark rows in
+    subst (λ (new : List FedRow). Given c.args.bound.now grouping c.args.state.now old new before c.args.watermark → IfErr c.step.result (IsCause c.args.bound.now grouping old new before c.args.watermark)) new
+    (c.step.ensures.cause grouping old before) given

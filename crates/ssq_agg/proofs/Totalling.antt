@@ -1,0 +1,104 @@
+-- Totals that are read one after the other.
+use Rattle.std.proofs.Common.{◌≡◌, ◌+◌, ◌<◌, ◌++◌, ℕ, suc, [], ◌∷◌, List, ap, sym, subst, ◌∙◌, drop, drop-cons, add-one, length, get_or, append_assoc, append-nil}
+use Rattle.std.proofs.lemmas.Grind.{flat_map-append}
+use Rattle.ssq_shape.specs.declared.bound.Aggregate.{Aggregate}
+use Rattle.ssq_meaning.specs.declared.total.Total.{Total}
+use Rattle.ssq_meaning.specs.Totals.{total_bytes, totals_bytes}
+use Rattle.ssq_agg.specs.Readable.{IsTotalOf, AreTotalsOf}
+
+-- ---- those that were read
+
+-- the totals so far are those of the aggregates in front, and those of the others may follow
+abbrev pub AreFront : List Aggregate → List Total → List Aggregate → Type 0
+AreFront all so_far left = (totals : List Total) → AreTotalsOf left totals → AreTotalsOf all (so_far ++ totals)
+
+pub front_begins : (all : List Aggregate) (so_far : List Total) → so_far ≡ [] → AreFront all so_far all
+front_begins all so_far none totals are = subst (λ l. AreTotalsOf all (l ++ totals)) (sym none) are
+
+pub front_on : (all left : List Aggregate) (aggregate : Aggregate) (so_far pushed : List Total) (own : Total) → pushed ≡ so_far ++ own ∷ [] → IsTotalOf aggregate.function own
+    → AreFront all so_far (aggregate ∷ left) → AreFront all pushed left
+front_on all left aggregate so_far pushed own push is was totals are =
+    subst (λ l. AreTotalsOf all l) (sym (append_assoc so_far (own ∷ []) totals) ∙ ap (λ l. l ++ totals) (sym push)) (was (own ∷ totals) (is, are))
+
+pub front_all : (all : List Aggregate) (so_far : List Total) → AreFront all so_far [] → AreTotalsOf all so_far
+front_all all so_far was = subst (AreTotalsOf all) (append-nil so_far) (was [] tt)
+
+pub bytes_on : (so_far pushed : List Total) (own : Total) (bytes rest behind : List ℕ) → pushed ≡ so_far ++ own ∷ [] → rest ≡ total_bytes own ++ behind → totals_bytes so_far ++ rest ≡ bytes → totals_bytes pushed ++ behind ≡ bytes
+bytes_on so_far pushed own bytes rest behind push front was =
+    ap (λ l. totals_bytes l ++ behind) push
+    ∙ ap (λ l. l ++ behind) (flat_map-append total_bytes so_far (own ∷ []))
+    ∙ append_assoc (totals_bytes so_far) (total_bytes own ++ []) behind
+    ∙ ap (λ l. totals_bytes so_far ++ (l ++ behind)) (append-nil (total_bytes own))
+    ∙ ap (λ l. totals_bytes so_far ++ l) (sym front)
+    ∙ was
+
+-- ---- those that are left
+
+-- what is left of totals, of these aggregates, where these were read and these bytes follow
+pub record IsLeft (aggregates : List Aggregate) (totals so_far : List Total) (rest : List ℕ) : Type 0 where
+  pub left : List Total
+  pub parts : totals ≡ so_far ++ left
+  pub are : AreTotalsOf aggregates left
+  pub bytes : rest ≡ totals_bytes left
+
+-- all totals of the aggregates that the bytes are go on so
+abbrev pub EachIsLeft : (all : List Aggregate) (bytes : List ℕ) (aggregates : List Aggregate) (so_far : List Total) (rest : List ℕ) → Type 0
+EachIsLeft all bytes aggregates so_far rest = (totals : List Total) → AreTotalsOf all totals → totals_bytes totals ≡ bytes → IsLeft aggregates totals so_far rest
+
+pub left_begins : (all : List Aggregate) (bytes : List ℕ) (so_far : List Total) → so_far ≡ [] → EachIsLeft all bytes all so_far bytes
+left_begins all bytes so_far none totals are is = record {
+  left = totals;
+  parts = ap (λ (l : List Total). l ++ totals) (sym none);
+  are = are;
+  bytes = sym is;
+}
+
+-- what is found in front is this total
+abbrev pub FindsTotal : Aggregate → (rest : List ℕ) → Total → (behind : List ℕ) → Type 0
+FindsTotal aggregate rest own behind = (other : Total) (r : List ℕ) → IsTotalOf aggregate.function other → rest ≡ total_bytes other ++ r → (own ≡ other) × (behind ≡ r)
+
+one_read : (aggregates : List Aggregate) (aggregate : Aggregate) (totals so_far left : List Total) (own : Total) (rest behind : List ℕ) → totals ≡ so_far ++ left → AreTotalsOf (aggregate ∷ aggregates) left
+    → rest ≡ totals_bytes left → FindsTotal aggregate rest own behind → IsLeft aggregates totals (so_far ++ own ∷ []) behind
+one_read aggregates aggregate totals so_far [] own rest behind parts are bytes finds = absurd are
+one_read aggregates aggregate totals so_far (other ∷ left) own rest behind parts are bytes finds =
+    let same = finds other (totals_bytes left) are.0 bytes in
+    record {
+      left = left;
+      parts = parts ∙ ap (λ x. so_far ++ x ∷ left) (sym same.0) ∙ sym (append_assoc so_far (own ∷ []) left);
+      are = are.1;
+      bytes = same.1;
+    }
+
+pub left_on : (all : List Aggregate) (bytes : List ℕ) (aggregates : List Aggregate) (aggregate : Aggregate) (so_far pushed : List Total) (own : Total) (rest behind : List ℕ) → pushed ≡ so_far ++ own ∷ []
+    → FindsTotal aggregate rest own behind → EachIsLeft all bytes (aggregate ∷ aggregates) so_far rest → EachIsLeft all bytes aggregates pushed behind
+left_on all bytes aggregates aggregate so_far pushed own rest behind push finds was totals are is =
+    let left = was totals are is in
+    subst (λ l. IsLeft aggregates totals l behind) (sym push) (one_read aggregates aggregate totals so_far left.left own rest behind left.parts left.are left.bytes finds)
+
+none_read : (aggregates : List Aggregate) (aggregate : Aggregate) (left : List Total) (rest : List ℕ) → AreTotalsOf (aggregate ∷ aggregates) left → rest ≡ totals_bytes left
+    → ((other : Total) (r : List ℕ) → IsTotalOf aggregate.function other → rest ≡ total_bytes other ++ r → ⊥) → ⊥
+none_read aggregates aggregate [] rest are bytes none = are
+none_read aggregates aggregate (other ∷ left) rest are bytes none = none other (totals_bytes left) are.0 bytes
+
+-- where no total of the aggregate is in front the bytes are no such totals
+pub nothing_in_front : (all : List Aggregate) (bytes : List ℕ) (aggregates : List Aggregate) (aggregate : Aggregate) (so_far : List Total) (rest : List ℕ)
+    → ((other : Total) (r : List ℕ) → IsTotalOf aggregate.function other → rest ≡ total_bytes other ++ r → ⊥)
+    → EachIsLeft all bytes (aggregate ∷ aggregates) so_far rest → (totals : List Total) → AreTotalsOf all totals → totals_bytes totals ≡ bytes → ⊥
+nothing_in_front all bytes aggregates aggregate so_far rest none was totals are is =
+    let left = was totals are is in
+    none_read aggregates aggregate left.left rest left.are left.bytes none
+
+nothing_left : (totals so_far left : List Total) (rest : List ℕ) → totals ≡ so_far ++ left → AreTotalsOf [] left → rest ≡ totals_bytes left → (totals ≡ so_far) × (rest ≡ [])
+nothing_left totals so_far [] rest parts are bytes = (parts ∙ append-nil so_far, bytes)
+nothing_left totals so_far (own ∷ left) rest parts are bytes = absurd are
+
+-- where all were read they are the totals, and nothing follows
+pub all_read : (all : List Aggregate) (bytes : List ℕ) (so_far : List Total) (rest : List ℕ) → EachIsLeft all bytes [] so_far rest
+    → (totals : List Total) → AreTotalsOf all totals → totals_bytes totals ≡ bytes → (totals ≡ so_far) × (rest ≡ [])
+all_read all bytes so_far rest was totals are is =
+    let left = was totals are is in
+    nothing_left totals so_far left.left rest left.parts left.are left.bytes
+
+-- the aggregate that comes next
+pub step_is : (all : List Aggregate) (at : ℕ) (aggregate : Aggregate) → at < length all → aggregate ≡ get_or all at aggregate → drop at all ≡ aggregate ∷ drop (at + 1) all
+step_is all at aggregate inside is = rw (add-one, drop-cons all at aggregate inside) (ap (λ a. a ∷ drop (suc at) all) (sym is))
