@@ -16,6 +16,7 @@ use Rattle.ssq_meaning.specs.GroupLaws.{held}
 use Rattle.ssq_meaning.specs.Meaning.{Values}
 use Rattle.ssq_meaning.specs.Totals.{totals_bytes}
 use Rattle.ssq_agg.specs.declared.epoch.Moved.{Moved}
+use Rattle.ssq_agg.specs.Indexing.{Timed}
 use Rattle.ssq_agg.specs.Readable.{IsKey}
 use Rattle.ssq_agg.specs.Steps.{Given, IsKept, IsMove, Says, after_if, is_among, said_if}
 use Rattle.ssq_agg.proofs.Given.{AreFound, kept_at, kept_key, old_rows, spelled_rows}
@@ -25,8 +26,8 @@ after_is (Some totals) b own = refl
 after_is None true own = refl
 after_is None false own = refl
 
-module _ (query : Bound) (grouping : Grouping) (state : State) (old new : List FedRow) (before now : Option ℤ) (moved : Moved) (change : Change)
-    (found : AreFound) (given : Given query grouping state old new before now) (is : IsMove query grouping old new before now moved) (says : Says (length grouping.keys) (get values_cmp moved.touched) moved.closed.items change) where
+module _ (query : Bound) (grouping : Grouping) (state : State) (closing : List Timed) (old new : List FedRow) (before now : Option ℤ) (moved : Moved) (change : Change)
+    (found : AreFound) (given : Given query grouping state closing old new before now) (is : IsMove query grouping old new before now moved) (says : Says (length grouping.keys) (get values_cmp moved.touched) moved.closed.items change) where
   all_rows : AllByRecursion (IsKept grouping) (old ++ new)
   all_rows = recursion_from_All (IsKept grouping) (old ++ new) given.rows
 

@@ -6,7 +6,6 @@ use Rattle.std.specs.List.{AllByRecursion}
 use Rattle.std.proofs.lemmas.List.Elements.{All-weaker, All-from_recursion, All-append, All-nil, All-cons}
 use Rattle.ssq_value.specs.Key.{keys_of}
 use Rattle.ssq_value.specs.Order.{values_cmp}
-use Rattle.ssq_keys.specs.Readable.{IsReadable}
 use Rattle.ssq_version.specs.State.{State, value_at}
 use Rattle.ssq_shape.specs.declared.bound.Aggregate.{Aggregate}
 use Rattle.ssq_shape.specs.declared.bound.Function.{Function}
@@ -21,7 +20,7 @@ use Rattle.ssq_meaning.specs.Totals.{totals_bytes}
 use Rattle.ssq_agg.specs.declared.kept.Group.{Group}
 use Rattle.ssq_agg.specs.Groups.{Held}
 use Rattle.ssq_agg.specs.Holding.{Entry, AreRead, Holds, IsGroupOf, IsReadAt}
-use Rattle.ssq_agg.specs.Readable.{AreFit, AreFitGroups, AreTotalsOf, IsFitGroup, IsFitTotal, IsKey, IsReadableGroup, IsReadableKey, IsTotalOf}
+use Rattle.ssq_agg.specs.Readable.{AreFit, AreFitGroups, AreTotalsOf, IsFitGroup, IsFitTotal, IsKey, IsReadableGroup, IsTotalOf}
 use Rattle.ssq_agg.proofs.Taking.{same_is}
 
 -- ---- what can be read back fits
@@ -29,8 +28,8 @@ use Rattle.ssq_agg.proofs.Taking.{same_is}
 total_fits : (f : Function) (own : Total) → IsTotalOf f own → IsFitTotal own
 total_fits f (total.Count count) is = tt
 total_fits f (total.Sum count sum) is = tt
-total_fits function.Min (total.Least least) is = is.fit
-total_fits function.Max (total.Greatest greatest) is = is.fit
+total_fits function.Min (total.Least least) is = is
+total_fits function.Max (total.Greatest greatest) is = is
 total_fits function.Count (total.Least least) is = absurd is
 total_fits function.Sum (total.Least least) is = absurd is
 total_fits function.Max (total.Least least) is = absurd is
@@ -47,11 +46,8 @@ each_fits (aggregate ∷ aggregates) (own ∷ totals) are = (total_fits aggregat
 pub totals_fit : (aggregates : List Aggregate) (totals : List Total) → AreTotalsOf aggregates totals → All IsFitTotal totals
 totals_fit aggregates totals are = All-from_recursion IsFitTotal totals (each_fits aggregates totals are)
 
-pub key_fits : (grouping : Grouping) (key : Values) → IsReadableKey grouping key → All IsFit key
-key_fits grouping key is = All-weaker IsReadable IsFit (λ value readable. readable.fit) key is.values
-
 pub group_fits : (grouping : Grouping) (key : Values) (totals : List Total) → IsReadableGroup grouping key totals → IsFitGroup key totals
-group_fits grouping key totals is = record { key_fits = key_fits grouping key is.key_is; totals_fit = totals_fit grouping.aggregates totals is.totals_are }
+group_fits grouping key totals is = record { key_fits = is.key_is.values; totals_fit = totals_fit grouping.aggregates totals is.totals_are }
 
 -- ---- the totals of a key
 

@@ -7,18 +7,19 @@ use Rattle.std.specs.List.Sorted.{IsStrictlySortedBy}
 use Rattle.std.proofs.lemmas.List.{map-append}
 use Rattle.std.proofs.lemmas.List.Elements.{All-weaker}
 use Rattle.ssq_value.specs.Key.{IsSpelled, keys_of}
-use Rattle.ssq_keys.specs.Readable.{IsReadable}
 use Rattle.ssq_version.specs.State.{State, Ascends, by_bytes, value_at}
 use Rattle.ssq_version.proofs.Values.{by_case, one_key, first_at, others_at, is_itself, none_behind}
 use Rattle.ssq_shape.specs.declared.bound.Bound.{Bound}
 use Rattle.ssq_shape.specs.declared.bound.Grouping.{Grouping}
 use Rattle.ssq_meaning.specs.declared.fed_row.FedRow.{FedRow}
 use Rattle.ssq_meaning.specs.declared.total.Total.{Total}
+use Rattle.ssq_meaning.specs.Fit.{IsFit}
 use Rattle.ssq_meaning.specs.Group.{closing_time, is_same, members}
 use Rattle.ssq_meaning.specs.GroupLaws.{times}
 use Rattle.ssq_meaning.specs.Meaning.{Values}
 use Rattle.ssq_meaning.specs.Times.{is_past}
 use Rattle.ssq_meaning.specs.Totals.{totals_bytes}
+use Rattle.ssq_meaning.proofs.FitRows.{spelled}
 use Rattle.ssq_agg.specs.declared.kept.Group.{Group}
 use Rattle.ssq_agg.specs.Closed.{AreAll, AreClosed, is_ended}
 use Rattle.ssq_agg.specs.Groups.{Held, touched}
@@ -38,7 +39,7 @@ abbrev pub AreIn : State → List Entry → Type 0
 AreIn state entries = AllByRecursion (λ (entry : Entry). value_at state entry.0 ≡ Some entry.1) entries
 
 pub key_of_readable : (grouping : Grouping) (key : Values) → IsReadableKey grouping key → IsKey grouping key
-key_of_readable grouping key is = (All-weaker IsReadable IsSpelled (λ value readable. readable.spelled) key is.values, is.many)
+key_of_readable grouping key is = (All-weaker IsFit IsSpelled spelled key is.values, is.many)
 
 abbrev as_group : Values → List Total → Group
 as_group key totals = record { key = key; totals = totals }

@@ -12,7 +12,6 @@ use Rattle.ssq_value.specs.declared.value.Value.{Value}
 use Rattle.ssq_value.specs.declared.value.Value.TheVariants as value
 use Rattle.ssq_value.specs.Key.{IsSpelled, keys_of}
 use Rattle.ssq_value.specs.Order.{value_cmp}
-use Rattle.ssq_keys.specs.Readable.{IsReadable}
 use Rattle.ssq_version.specs.State.{State, by_bytes, value_at}
 use Rattle.ssq_version.proofs.Values.{one_key}
 use Rattle.ssq_shape.specs.declared.bound.Aggregate.{Aggregate}
@@ -23,6 +22,7 @@ use Rattle.ssq_shape.specs.declared.bound.Grouping.{Grouping}
 use Rattle.ssq_shape.specs.Evaluation.{cell_at, is_null}
 use Rattle.ssq_meaning.specs.declared.fed_row.FedRow.{FedRow}
 use Rattle.ssq_meaning.specs.declared.total.Total.{Total}
+use Rattle.ssq_meaning.specs.Fit.{IsFit}
 use Rattle.ssq_meaning.specs.Group.{entry_of, has_key, is_closed, is_same, kept, keys_in, members, open_keys, totals_in}
 use Rattle.ssq_meaning.specs.GroupLaws.{IsKeySpelled, held, held_if}
 use Rattle.ssq_meaning.specs.Meaning.{Values}
@@ -30,6 +30,7 @@ use Rattle.ssq_meaning.specs.Totals.{column_of, greater, lesser, total_of, total
 use Rattle.ssq_meaning.proofs.Keys.{All-by, All-distinct}
 use Rattle.ssq_agg.specs.Fits.{AllFit, Fits}
 use Rattle.ssq_agg.specs.Groups.{AreSteady, started}
+use Rattle.ssq_agg.specs.Indexing.{Timed}
 use Rattle.ssq_agg.specs.Readable.{AreTotalsOf, IsKey, IsReadableGroup, IsReadableKey, IsTotalOf}
 use Rattle.ssq_agg.specs.Steps.{Given, GivenGroups, IsKept}
 use Rattle.ssq_agg.proofs.Found.{key_of_readable}
@@ -38,61 +39,61 @@ use Rattle.ssq_agg.proofs.Taking.{same_is}
 
 -- ---- totals that can be read back
 
-null_readable : IsReadable value.Null
-null_readable = record { spelled = tt; fit = tt; utf8 = tt }
-
-lesser_readable : (left right : Value) → IsReadable left → IsReadable right → IsReadable (lesser left right)
+lesser_fits : (left right : Value) → IsFit left → IsFit right → IsFit (lesser left right)
 unfolding lesser
-lesser_readable left right one other = by (is_null right) (is_null left) (is_gt (value_cmp left right))
+lesser_fits left right one other = by (is_null right) (is_null left) (is_gt (value_cmp left right))
   where
-    by : (a b c : Bool) → IsReadable (if a then left else if b then right else if c then right else left)
+    by : (a b c : Bool) → IsFit (if a then left else if b then right else if c then right else left)
     by true b c = one
     by false true c = other
     by false false true = other
     by false false false = one
 
-greater_readable : (left right : Value) → IsReadable left → IsReadable right → IsReadable (greater left right)
+greater_fits : (left right : Value) → IsFit left → IsFit right → IsFit (greater left right)
 unfolding greater
-greater_readable left right one other = by (is_null right) (is_null left) (is_gt (value_cmp right left))
+greater_fits left right one other = by (is_null right) (is_null left) (is_gt (value_cmp right left))
   where
-    by : (a b c : Bool) → IsReadable (if a then left else if b then right else if c then right else left)
+    by : (a b c : Bool) → IsFit (if a then left else if b then right else if c then right else left)
     by true b c = one
     by false true c = other
     by false false true = other
     by false false false = one
 
-least_readable : (start : Value) (values : List Value) → IsReadable start → AllByRecursion IsReadable values → IsReadable (fold lesser start values)
-least_readable start [] one all = one
-least_readable start (v ∷ values) one all = least_readable (lesser start v) values (lesser_readable start v one all.0) all.1
+least_fits : (start : Value) (values : List Value) → IsFit start → AllByRecursion IsFit values → IsFit (fold lesser start values)
+least_fits start [] one all = one
+least_fits start (v ∷ values) one all = least_fits (lesser start v) values (lesser_fits start v one all.0) all.1
 
-greatest_readable : (start : Value) (values : List Value) → IsReadable start → AllByRecursion IsReadable values → IsReadable (fold greater start values)
-greatest_readable start [] one all = one
-greatest_readable start (v ∷ values) one all = greatest_readable (greater start v) values (greater_readable start v one all.0) all.1
+greatest_fits : (start : Value) (values : List Value) → IsFit start → AllByRecursion IsFit values → IsFit (fold greater start values)
+greatest_fits start [] one all = one
+greatest_fits start (v ∷ values) one all = greatest_fits (greater start v) values (greater_fits start v one all.0) all.1
 
-total_readable : (own : Function) (values : List Value) → AllByRecursion IsReadable values → Fits (total_of own values) → IsTotalOf own (total_of own values)
-total_readable function.Count values all fits = fits
-total_readable function.Sum values all fits = fits
-total_readable function.Min values all fits = least_readable value.Null values null_readable all
-total_readable function.Max values all fits = greatest_readable value.Null values null_readable all
+total_reads_back : (own : Function) (values : List Value) → AllByRecursion IsFit values → Fits (total_of own values) → IsTotalOf own (total_of own values)
+total_reads_back function.Count values all fits = fits
+total_reads_back function.Sum values all fits = fits
+total_reads_back function.Min values all fits = least_fits value.Null values tt all
+total_reads_back function.Max values all fits = greatest_fits value.Null values tt all
 
-cell_readable : (row : List Value) (at : ℕ) → AllByRecursion IsReadable row → IsReadable (cell_at row at)
-cell_readable [] at all = null_readable
-cell_readable (v ∷ row) zero all = all.0
-cell_readable (v ∷ row) (suc at) all = cell_readable row at all.1
+cell_fits : (row : List Value) (at : ℕ) → AllByRecursion IsFit row → IsFit (cell_at row at)
+cell_fits [] at all = tt
+cell_fits (v ∷ row) zero all = all.0
+cell_fits (v ∷ row) (suc at) all = cell_fits row at all.1
 
-column_readable : (at : ℕ) (rows : List Values) → AllByRecursion (AllByRecursion IsReadable) rows → AllByRecursion IsReadable (column_of at rows)
-column_readable at [] all = tt
-column_readable at (row ∷ rows) all = (cell_readable row at all.0, column_readable at rows all.1)
+column_fits : (at : ℕ) (rows : List Values) → AllByRecursion (AllByRecursion IsFit) rows → AllByRecursion IsFit (column_of at rows)
+column_fits at [] all = tt
+column_fits at (row ∷ rows) all = (cell_fits row at all.0, column_fits at rows all.1)
 
-totals_readable : (at : ℕ) (aggregates : List Aggregate) (rows : List Values) → AllByRecursion (AllByRecursion IsReadable) rows → AllFit (totals_from at aggregates rows) → AreTotalsOf aggregates (totals_from at aggregates rows)
+totals_read_back : (at : ℕ) (aggregates : List Aggregate) (rows : List Values) → AllByRecursion (AllByRecursion IsFit) rows → AllFit (totals_from at aggregates rows) → AreTotalsOf aggregates (totals_from at aggregates rows)
 unfolding totals_from
-totals_readable at [] rows all fits = tt
-totals_readable at (aggregate ∷ aggregates) rows all fits =
-    (total_readable aggregate.function (column_of at rows) (column_readable at rows all) fits.0, totals_readable (at + 1) aggregates rows all fits.1)
+totals_read_back at [] rows all fits = tt
+totals_read_back at (aggregate ∷ aggregates) rows all fits =
+    (total_reads_back aggregate.function (column_of at rows) (column_fits at rows all) fits.0, totals_read_back (at + 1) aggregates rows all fits.1)
 
 -- ---- rows
 
 module _ (grouping : Grouping) where
+  key_is : (row : FedRow) → IsKept grouping row → IsReadableKey grouping row.key
+  key_is row is = record { values = is.fit.key; many = is.many }
+
   pub old_rows : (old new : List FedRow) → AllByRecursion (IsKept grouping) (old ++ new) → AllByRecursion (IsKept grouping) old
   old_rows [] new all = tt
   old_rows (row ∷ old) new all = (all.0, old_rows old new all.1)
@@ -103,15 +104,15 @@ module _ (grouping : Grouping) where
 
   pub spelled_rows : (rows : List FedRow) → AllByRecursion (IsKept grouping) rows → AllByRecursion (λ (row : FedRow). IsKey grouping row.key) rows
   spelled_rows [] all = tt
-  spelled_rows (row ∷ rows) all = (key_of_readable grouping row.key all.0.key_is, spelled_rows rows all.1)
+  spelled_rows (row ∷ rows) all = (key_of_readable grouping row.key (key_is row all.0), spelled_rows rows all.1)
 
-  member_values : (rows : List FedRow) (key : Values) → AllByRecursion (IsKept grouping) rows → AllByRecursion (AllByRecursion IsReadable) (members rows key)
+  member_values : (rows : List FedRow) (key : Values) → AllByRecursion (IsKept grouping) rows → AllByRecursion (AllByRecursion IsFit) (members rows key)
   member_values [] key all = tt
   member_values (row ∷ rows) key all = by (is_same key row.key) (member_values rows key all.1)
     where
-      by : (b : Bool) → AllByRecursion (AllByRecursion IsReadable) (members rows key)
-          → AllByRecursion (AllByRecursion IsReadable) (map (λ (row : FedRow). row.values) (if b then row ∷ filter (λ row. is_same key row.key) rows else filter (λ row. is_same key row.key) rows))
-      by true rest = (recursion_from_All IsReadable row.values all.0.values_are, rest)
+      by : (b : Bool) → AllByRecursion (AllByRecursion IsFit) (members rows key)
+          → AllByRecursion (AllByRecursion IsFit) (map (λ (row : FedRow). row.values) (if b then row ∷ filter (λ row. is_same key row.key) rows else filter (λ row. is_same key row.key) rows))
+      by true rest = (recursion_from_All IsFit row.values all.0.fit.values, rest)
       by false rest = rest
 
   key_readable : (rows : List FedRow) (key : Values) → AllByRecursion (IsKept grouping) rows → has_key rows key ≡ true → IsReadableKey grouping key
@@ -119,7 +120,7 @@ module _ (grouping : Grouping) where
   key_readable (row ∷ rows) key all has = by (is_same key row.key) refl has (key_readable rows key all.1)
     where
       by : (b : Bool) → is_same key row.key ≡ b → (b || has_key rows key) ≡ true → (has_key rows key ≡ true → IsReadableKey grouping key) → IsReadableKey grouping key
-      by true same has rest = subst (IsReadableKey grouping) (sym (same_is key row.key same)) all.0.key_is
+      by true same has rest = subst (IsReadableKey grouping) (sym (same_is key row.key same)) (key_is row all.0)
       by false other has rest = rest has
 
 -- ---- what is held
@@ -140,7 +141,7 @@ group_readable query grouping old new before rows steady key totals is =
     let fits : AllFit totals = subst (λ o. AllFit (started grouping.aggregates o)) is (steady 0 key) in
     record {
       key_is = key_readable grouping old key rows (first_of (has_key old key) (not (is_closed query grouping before key)) has);
-      totals_are = subst (AreTotalsOf grouping.aggregates) same (totals_readable 0 grouping.aggregates (members old key) (member_values grouping old key rows) (subst AllFit (sym same) fits));
+      totals_are = subst (AreTotalsOf grouping.aggregates) same (totals_read_back 0 grouping.aggregates (members old key) (member_values grouping old key rows) (subst AllFit (sym same) fits));
     }
 
 -- the law of what is kept
@@ -152,8 +153,9 @@ pub kept_at : AreFound → (query : Bound) (grouping : Grouping) (rows : List Fe
     → (key : Values) → IsKey grouping key → value_at (kept query grouping rows now) (keys_of key) ≡ option_map totals_bytes (held query grouping rows now key)
 kept_at found query grouping rows now all key is = found query grouping rows now key is.0 (subst (λ n. AllByRecursion (λ (row : FedRow). IsKeySpelled n row.key) rows) (sym is.1) all)
 
-pub given_groups : AreFound → (query : Bound) (grouping : Grouping) (state : State) (old new : List FedRow) (before now : Option ℤ) → Given query grouping state old new before now → GivenGroups query grouping state old new before now
-given_groups found query grouping state old new before now given =
+pub given_groups : AreFound → (query : Bound) (grouping : Grouping) (state : State) (closing : List Timed) (old new : List FedRow) (before now : Option ℤ) → Given query grouping state closing old new before now
+    → GivenGroups query grouping state closing old new before now
+given_groups found query grouping state closing old new before now given =
     let all = recursion_from_All (IsKept grouping) (old ++ new) given.rows in
     let olds = old_rows grouping old new all in
     record {
@@ -161,6 +163,7 @@ given_groups found query grouping state old new before now given =
         found = λ key is. ap (λ (s : State). value_at s (keys_of key)) given.kept ∙ kept_at found query grouping old before (spelled_rows grouping old olds) key is;
         readable = group_readable query grouping old new before olds given.steady;
       };
+      indexes = given.indexed grouping given.groups;
       keys = spelled_rows grouping new (new_rows grouping old new all);
       follows = given.follows;
       steady = given.steady;

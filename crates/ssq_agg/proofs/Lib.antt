@@ -1,7 +1,7 @@
 pub mod Spellings
 pub mod Totalling
 pub mod Reading
-pub mod Walking
+pub mod Timing
 pub mod Taking
 pub mod Fitting
 pub mod Saying

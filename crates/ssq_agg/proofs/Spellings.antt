@@ -50,6 +50,6 @@ no_sum bytes behind count counts sums (total.Least least) rest fits is = fits
 no_sum bytes behind count counts sums (total.Greatest greatest) rest fits is = fits
 
 -- the key of one value is the value's
-pub one_key : (value : Value) → keys_of (value ∷ []) ≡ key_of value
+pub key_of_one : (value : Value) → keys_of (value ∷ []) ≡ key_of value
 unfolding keys_of
-one_key value = append-nil (key_of value)
+key_of_one value = append-nil (key_of value)

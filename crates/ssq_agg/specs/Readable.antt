@@ -2,7 +2,6 @@
 use Rattle.std.specs.Prelude.{◌≡◌, ◌<◌, ◌^◌, List, [], ◌∷◌, All, length, Some, FitsSigned}
 use Rattle.std.specs.BTreeMap.{BTreeMap, get}
 use Rattle.std.specs.Int.{w128}
-use Rattle.ssq_keys.specs.Readable.{IsReadable}
 use Rattle.ssq_value.specs.Order.{values_cmp}
 use Rattle.ssq_shape.specs.declared.bound.Aggregate.{Aggregate}
 use Rattle.ssq_shape.specs.declared.bound.Function.{Function}
@@ -37,8 +36,8 @@ AreFitGroups groups = (key : Values) (totals : List Total) → get values_cmp gr
 abbrev pub IsTotalOf : Function → Total → Type 0
 IsTotalOf function.Count (total.Count count) = count < 2 ^ 64
 IsTotalOf function.Sum (total.Sum count sum) = (count < 2 ^ 64) × FitsSigned w128 sum
-IsTotalOf function.Min (total.Least least) = IsReadable least
-IsTotalOf function.Max (total.Greatest greatest) = IsReadable greatest
+IsTotalOf function.Min (total.Least least) = IsFit least
+IsTotalOf function.Max (total.Greatest greatest) = IsFit greatest
 IsTotalOf _ _ = ⊥
 
 -- a total for each of the aggregates, in their order
@@ -54,7 +53,7 @@ IsKey grouping key = IsKeySpelled (length grouping.keys) key
 
 -- a key that is read back from its bytes
 pub record IsReadableKey (grouping : Grouping) (key : Values) : Type 0 where
-  pub values : All IsReadable key
+  pub values : All IsFit key
   pub many : length key ≡ length grouping.keys
 
 -- a group that is

@@ -5,7 +5,6 @@ use Rattle.std.specs.List.{AllByRecursion, list_any}
 use Rattle.std.specs.List.Sorted.{IsPermutation}
 use Rattle.ssq_value.specs.Key.{keys_of}
 use Rattle.ssq_value.specs.Order.{values_cmp}
-use Rattle.ssq_keys.specs.Readable.{IsReadable}
 use Rattle.ssq_version.specs.State.{State, Change, IsAfter, value_at}
 use Rattle.ssq_shape.specs.declared.bound.Bound.{Bound}
 use Rattle.ssq_shape.specs.declared.bound.Grouping.{Grouping}
@@ -15,6 +14,7 @@ use Rattle.ssq_shape.specs.declared.bound.Shape.{Shape}
 use Rattle.ssq_shape.specs.declared.bound.Shape.TheVariants as shape
 use Rattle.ssq_meaning.specs.declared.fed_row.FedRow.{FedRow}
 use Rattle.ssq_meaning.specs.declared.total.Total.{Total}
+use Rattle.ssq_meaning.specs.Fit.{IsFitRow}
 use Rattle.ssq_meaning.specs.Group.{is_same}
 use Rattle.ssq_meaning.specs.GroupLaws.{Follows, IsKeySpelled, held, times, is_due_now}
 use Rattle.ssq_meaning.specs.Meaning.{Values}
@@ -29,26 +29,30 @@ use Rattle.ssq_agg.specs.declared.epoch.Moved.{Moved}
 use Rattle.ssq_agg.specs.declared.epoch.Stepped.{Stepped}
 use Rattle.ssq_agg.specs.Groups.{AreSteady, Held}
 use Rattle.ssq_agg.specs.Holding.{Holds}
-use Rattle.ssq_agg.specs.Readable.{IsKey, IsReadableKey}
+use Rattle.ssq_agg.specs.Indexing.{Indexes, IsIndex, Timed}
+use Rattle.ssq_agg.specs.Readable.{IsKey}
 use Rattle.ssq_agg.specs.Shown.{Pair, shown_rows, least_fault}
 
--- what is given of a row: its key has a value for each part of GROUP BY, and its values can be read back from their bytes
+-- what is given of a row: a state can hold it, and its key has a value for each part of GROUP BY
 pub record IsKept (grouping : Grouping) (row : FedRow) : Type 0 where
-  pub key_is : IsReadableKey grouping row.key
-  pub values_are : All IsReadable row.values
+  pub fit : IsFitRow row
+  pub many : length row.key ≡ length grouping.keys
 
--- What a step is given: the query groups so; the state is what it keeps over the rows that were accepted before; the epoch's rows are not
--- late at a watermark that has not fallen; the types of totals hold what comes out; and rows, old and new, can be kept.
-pub record Given (query : Bound) (grouping : Grouping) (state : State) (old new : List FedRow) (before now : Option ℤ) : Type 0 where
+-- What a step is given: the query groups so; the state is what it keeps over the rows that were accepted before, with the index of its keys
+-- by time; the epoch's rows are not late at a watermark that has not fallen; the types of totals hold what comes out; and rows, old and
+-- new, can be kept.
+pub record Given (query : Bound) (grouping : Grouping) (state : State) (closing : List Timed) (old new : List FedRow) (before now : Option ℤ) : Type 0 where
   pub groups : query.shape ≡ shape.Group grouping
   pub kept : state ≡ (group query grouping).state old before
+  pub indexed : IsIndex query state closing
   pub follows : Follows query grouping new before now
   pub steady : AreSteady grouping.aggregates (held query grouping old before) new
   pub rows : All (IsKept grouping) (old ++ new)
 
 -- the same, by what the state holds
-pub record GivenGroups (query : Bound) (grouping : Grouping) (state : State) (old new : List FedRow) (before now : Option ℤ) : Type 0 where
+pub record GivenGroups (query : Bound) (grouping : Grouping) (state : State) (closing : List Timed) (old new : List FedRow) (before now : Option ℤ) : Type 0 where
   pub holds : Holds grouping state (held query grouping old before)
+  pub indexes : Indexes query grouping state closing
   pub keys : AllByRecursion (λ (row : FedRow). IsKey grouping row.key) new
   pub follows : Follows query grouping new before now
   pub steady : AreSteady grouping.aggregates (held query grouping old before) new

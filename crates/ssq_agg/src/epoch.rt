@@ -2,22 +2,22 @@
 
 ghost use Rattle.std.specs.Prelude.{◌≡◌, [], ℤ, List, Option, All, IfOk, IfErr};
 ghost use Rattle.std.specs.BTreeMap.{get};
-ghost use Rattle.std.specs.List.{AllByRecursion};
 ghost use Rattle.ssq_value.specs.Order.{values_cmp};
+ghost use Rattle.ssq_shape.specs.declared.bound.Bound.{Bound as Query};
 ghost use Rattle.ssq_shape.specs.declared.bound.Grouping.{Grouping as Groups};
 ghost use Rattle.ssq_meaning.specs.declared.fed_row.FedRow.{FedRow as Fed};
 ghost use Rattle.ssq_meaning.specs.Fit.{IsFitRow};
 ghost use Rattle.ssq_meaning.specs.Group.{closing_time};
-ghost use Rattle.ssq_meaning.specs.Windows.{HasWindow, HasWindows};
 ghost use Rattle.ssq_agg.specs.Closed.{AreClosed};
 ghost use Rattle.ssq_agg.specs.Groups.{Held as Own};
 ghost use Rattle.ssq_agg.specs.Holding.{Holds};
+ghost use Rattle.ssq_agg.specs.Indexing.{Indexes};
 ghost use Rattle.ssq_agg.specs.Readable.{AreFit, AreFitGroups};
 ghost use Rattle.ssq_agg.specs.Shown.{ArePrintable, others_of};
 ghost use Rattle.ssq_agg.specs.Steps.{Given, GivenGroups, IsCause, IsMove, IsStep, IsUngrouped, ShowsDue};
 
 use crate::changed::changed;
-use crate::due::due_keys;
+use crate::closing::Closing;
 use crate::fault::StepFault;
 use crate::groups::touched;
 use crate::kept::{Group, all_groups, groups_at};
@@ -56,17 +56,16 @@ pub(crate) struct Moved {
 /// The groups that are closed at the watermark.
 fn closed_groups(
     alloc: Global,
-    bound: &Bound,
     grouping: &Grouping,
     state: &StateMap,
+    closing: &Closing,
     now: Option<i64>,
 ) -> Result<Vec<Group>, AllocError>
-    requires { AllByRecursion HasWindow grouping.now.keys }
-    ensures closed { (own : Own) → Holds grouping.now state.now own →
-        IfOk result (λ groups. AreClosed own (closing_time bound.now grouping.now) now groups.items) }
+    ensures closed { (query : Query) (own : Own) → Holds grouping.now state.now own → Indexes query grouping.now state.now closing.now →
+        IfOk result (λ groups. AreClosed own (closing_time query grouping.now) now groups.items) }
     ensures fit { IfOk result (λ groups. AreFit groups.items) }
 {
-    let keys = due_keys(alloc, bound, grouping, state, now)?;
+    let keys = closing.past(alloc, now)?;
     groups_at(alloc, grouping, state, keys.as_slice())
 }
 
@@ -122,14 +121,14 @@ fn move_groups(
     bound: &Bound,
     grouping: &Grouping,
     state: &StateMap,
+    closing: &Closing,
     rows: &[FedRow],
     now: Option<i64>,
 ) -> Result<Moved, StepFault>
-    requires windows { AllByRecursion HasWindow grouping.now.keys }
-    requires fit { All IsFitRow rows.now }
-    ensures moved { (old : List Fed) (before : Option ℤ) → GivenGroups bound.now grouping.now state.now old rows.now before now →
+    requires { All IsFitRow rows.now }
+    ensures moved { (old : List Fed) (before : Option ℤ) → GivenGroups bound.now grouping.now state.now closing.now old rows.now before now →
         IfOk result (IsMove bound.now grouping.now old rows.now before now) }
-    ensures cause { (old : List Fed) (before : Option ℤ) → GivenGroups bound.now grouping.now state.now old rows.now before now →
+    ensures cause { (old : List Fed) (before : Option ℤ) → GivenGroups bound.now grouping.now state.now closing.now old rows.now before now →
         IfErr result (IsCause bound.now grouping.now old rows.now before now) }
     ensures touched { IfOk result (λ moved. AreFitGroups moved.touched) }
     ensures closed { IfOk result (λ moved. AreFit moved.closed.items) }
@@ -139,7 +138,7 @@ fn move_groups(
     groups_come_in_any_order();
     groups_are_due_by_what_is_kept();
     let touched = touched(alloc, grouping, state, rows)?;
-    let closed = closed_groups(alloc, bound, grouping, state, now)?;
+    let closed = closed_groups(alloc, grouping, state, closing, now)?;
     let shown = show_due(
         alloc,
         bound,
@@ -166,26 +165,27 @@ fn step_groups(
     bound: &Bound,
     grouping: &Grouping,
     state: &StateMap,
+    closing: &Closing,
     rows: &[FedRow],
     now: Option<i64>,
 ) -> Result<Stepped, StepFault>
-    requires windows { AllByRecursion HasWindow grouping.now.keys }
-    requires fit { All IsFitRow rows.now }
-    ensures stepped { (old : List Fed) (before : Option ℤ) → Given bound.now grouping.now state.now old rows.now before now →
+    requires { All IsFitRow rows.now }
+    ensures stepped { (old : List Fed) (before : Option ℤ) → Given bound.now grouping.now state.now closing.now old rows.now before now →
         IfOk result (IsStep bound.now grouping.now state.now old rows.now before now) }
-    ensures cause { (old : List Fed) (before : Option ℤ) → Given bound.now grouping.now state.now old rows.now before now →
+    ensures cause { (old : List Fed) (before : Option ℤ) → Given bound.now grouping.now state.now closing.now old rows.now before now →
         IfErr result (IsCause bound.now grouping.now old rows.now before now) }
     ensures printable { IfOk result (λ stepped. ArePrintable stepped.rows.items) }
 {
     kept_groups_are_found();
-    let moved = move_groups(alloc, bound, grouping, state, rows, now)?;
+    let moved = move_groups(alloc, bound, grouping, state, closing, rows, now)?;
     let change = changed(alloc, &moved.touched, moved.closed.as_slice())?;
     let Moved { rows, .. } = moved;
     Ok(Stepped { change, rows })
 }
 
-/// The step of an epoch over the state of a partition: by the epoch's rows that are not late, and its watermark, in microseconds since 1970,
-/// what changes in the state, and which rows are shown. Of a query that does not group nothing changes, and nothing is shown.
+/// The step of an epoch over the state of a partition and the index of its keys by time: by the epoch's rows that are not late, and its
+/// watermark, in microseconds since 1970, what changes in the state, and which rows are shown. Of a query that does not group nothing
+/// changes, and nothing is shown.
 ///
 /// A group with new rows is looked up once. No other group is read but those that are closed, or in Complete all, since all are shown. An
 /// entry of the state that is no group's counts as not there.
@@ -193,24 +193,26 @@ pub fn step(
     alloc: Global,
     bound: &Bound,
     state: &StateMap,
+    closing: &Closing,
     rows: &[FedRow],
     _epoch: u32,
     watermark: Option<i64>,
 ) -> Result<Stepped, StepFault>
-    requires windows { HasWindows bound.now }
-    requires fit { All IsFitRow rows.now }
+    requires { All IsFitRow rows.now }
     // The change leads from the state over the rows before to that over these rows too, and the rows that are shown are the epoch's, as a bag.
-    ensures stepped { (grouping : Groups) (old : List Fed) (before : Option ℤ) → Given bound.now grouping state.now old rows.now before watermark →
+    ensures stepped { (grouping : Groups) (old : List Fed) (before : Option ℤ) → Given bound.now grouping state.now closing.now old rows.now before watermark →
         IfOk result (IsStep bound.now grouping state.now old rows.now before watermark) }
     // Nothing is shown where a group overflows: the key is the least of those.
-    ensures cause { (grouping : Groups) (old : List Fed) (before : Option ℤ) → Given bound.now grouping state.now old rows.now before watermark →
+    ensures cause { (grouping : Groups) (old : List Fed) (before : Option ℤ) → Given bound.now grouping state.now closing.now old rows.now before watermark →
         IfErr result (IsCause bound.now grouping old rows.now before watermark) }
     // Whatever the state holds, each time that is shown can be printed.
     ensures printable { IfOk result (λ stepped. ArePrintable stepped.rows.items) }
     ensures ungrouped { IsUngrouped bound.now.shape → IfOk result (λ stepped. (stepped.change ≡ []) × (stepped.rows.items ≡ [])) }
 {
     match &bound.shape {
-        Shape::Group(grouping) => step_groups(alloc, bound, grouping, state, rows, watermark),
+        Shape::Group(grouping) => {
+            step_groups(alloc, bound, grouping, state, closing, rows, watermark)
+        }
         _ => Ok(Stepped {
             change: Change::new(alloc),
             rows: Vec::new(alloc),

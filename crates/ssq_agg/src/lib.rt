@@ -2,7 +2,7 @@
 #![tactic(auto)]
 
 mod changed;
-mod due;
+mod closing;
 mod epoch;
 mod fault;
 mod groups;
@@ -14,6 +14,7 @@ mod total;
 mod total_bytes;
 mod totals;
 
+pub use closing::Closing;
 pub use epoch::{Stepped, step};
 pub use fault::StepFault;
 pub use laws::few_rows_are_steady;

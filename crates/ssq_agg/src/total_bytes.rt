@@ -31,7 +31,7 @@ fn put_counted(out: &mut Vec<u8>, count: u64, sum: i128) -> Result<(), AllocErro
     put_sum(out, sum)
 }
 
-#[tactic(auto, using(crate::proofs::Spellings::one_key))]
+#[tactic(auto, using(crate::proofs::Spellings::key_of_one))]
 fn put_value(out: &mut Vec<u8>, value: &Value) -> Result<(), AllocError>
     requires { IsFit value.now }
     ensures { OnOk result (out.new.items ≡ out.old.items ++ key_of value.now) }
@@ -52,12 +52,28 @@ fn put_total(out: &mut Vec<u8>, total: &Total) -> Result<(), AllocError>
     }
 }
 
+/// How many bytes the totals take, so that these grow but once.
+fn room(totals: &[Total]) -> usize {
+    let mut room: usize = 0;
+    for total in totals {
+        room = room.saturating_add(match total {
+            Total::Count(_) => 8,
+            Total::Sum { .. } => 24,
+            Total::Least(Value::Text(text)) | Total::Greatest(Value::Text(text)) => {
+                text.len().saturating_add(5)
+            }
+            Total::Least(_) | Total::Greatest(_) => 9,
+        });
+    }
+    room
+}
+
 /// The bytes in which the totals are kept.
 pub(crate) fn bytes_of(alloc: Global, totals: &[Total]) -> Result<Vec<u8>, AllocError>
     requires { All IsFitTotal totals.now }
     ensures { IfOk result (λ bytes. bytes.items ≡ totals_bytes totals.now) }
 {
-    let mut bytes = Vec::new(alloc);
+    let mut bytes = Vec::with_capacity(alloc, room(totals))?;
     for total in totals {
         put_total(&mut bytes, total)?;
     }

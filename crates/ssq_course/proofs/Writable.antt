@@ -10,17 +10,18 @@ use Rattle.ssq_meaning.specs.Times.{is_above}
 use Rattle.ssq_meaning.specs.Epochs.{watermark_before}
 use Rattle.ssq_core.specs.Course.{Ends}
 use Rattle.ssq_core.proofs.Holding.{both_are}
+use Rattle.ssq_logs.specs.Asked.{most_lines}
 use Rattle.ssq_course.specs.Setting.{parts_in, cuts_of, watermark_at, is_end_of, is_start, is_within, has_line, closes}
 use Rattle.ssq_course.specs.Laws.{IsFit, PlansCanBeWritten}
 
--- an end of a part that is not above its lines
-end_is_part : (part : Part) (end : PartEnd) → IsFit part → is_end_of part end ≡ true → nat_le end.end (length part.lines) ≡ true → IsPart end
+-- an end of a part that is not above the most that are taken of a log
+end_is_part : (part : Part) (end : PartEnd) → IsFit part → is_end_of part end ≡ true → nat_le end.end most_lines ≡ true → IsPart end
 end_is_part part end fit of within =
     let same = both_are (part.stream == end.stream) (part.part == end.part) of in
     let stream = eqb-true part.stream end.stream same.0 in
     let number = eqb-true part.part end.part same.1 in
-    let below = leb-true end.end (length part.lines) within in
-    (subst (λ (n : ℕ). n < 2 ^ 32) stream fit.0, subst (λ (n : ℕ). n < 2 ^ 32) number fit.1, omega (arith, below, fit.2))
+    let below = leb-true end.end most_lines within in
+    (subst (λ (n : ℕ). n < 2 ^ 32) stream fit.0, subst (λ (n : ℕ). n < 2 ^ 32) number fit.1, omega (arith, below))
 
 within_parts : (parts : List Part) (froms tos : Ends) → All IsFit parts → is_within parts froms tos ≡ true → All IsPart tos
 within_parts [] [] [] fit is = All-nil IsPart
@@ -30,11 +31,14 @@ within_parts (part ∷ parts) [] tos fit is = cc
 within_parts (part ∷ parts) (from ∷ froms) [] fit is = cc
 within_parts (part ∷ parts) (from ∷ froms) (to ∷ tos) fit is =
     let rest = is_within parts froms tos in
-    let first = both_are (is_end_of part from) (is_end_of part to && (nat_le from.end to.end && (nat_le to.end (length part.lines) && rest))) is in
-    let second = both_are (is_end_of part to) (nat_le from.end to.end && (nat_le to.end (length part.lines) && rest)) first.1 in
-    let third = both_are (nat_le from.end to.end) (nat_le to.end (length part.lines) && rest) second.1 in
-    let fourth = both_are (nat_le to.end (length part.lines)) rest third.1 in
-    All-cons IsPart to tos (end_is_part part to (All-head IsFit part parts fit) second.0 fourth.0) (within_parts parts froms tos (All-tail IsFit part parts fit) fourth.1)
+    let few = nat_le to.end most_lines in
+    let there = nat_le to.end (length part.lines) in
+    let first = both_are (is_end_of part from) (is_end_of part to && (nat_le from.end to.end && (there && (few && rest)))) is in
+    let second = both_are (is_end_of part to) (nat_le from.end to.end && (there && (few && rest))) first.1 in
+    let third = both_are (nat_le from.end to.end) (there && (few && rest)) second.1 in
+    let fourth = both_are there (few && rest) third.1 in
+    let fifth = both_are few rest fourth.1 in
+    All-cons IsPart to tos (end_is_part part to (All-head IsFit part parts fit) second.0 fifth.0) (within_parts parts froms tos (All-tail IsFit part parts fit) fifth.1)
 
 pub can_be_written : PlansCanBeWritten
 can_be_written s cuts e fit next few stamp =

@@ -31,9 +31,9 @@ pub record AreSame (one other : Course) (n k m l : ℕ) : Type 0 where
 abbrev pub FilesSayTheirCourse : Type 0
 FilesSayTheirCourse = (one other : Course) (n k m l : ℕ) (files : Files) → StandsAt one n k files → StandsAt other m l files → AreSame one other n k m l
 
--- the numbers of a part can be written: its place has 32 bits, and so many lines have 64
+-- the numbers of a part can be written: its place has 32 bits
 abbrev pub IsFit : Part → Type 0
-IsFit part = (part.stream < 2 ^ 32) × (part.part < 2 ^ 32) × (length part.lines < 2 ^ 64)
+IsFit part = (part.stream < 2 ^ 32) × (part.part < 2 ^ 32)
 
 -- The plan of an epoch that may follow those before it can be written, where its number has 32 bits, its watermark is none or of the
 -- years 0001 to 9999, and the numbers of the parts can be written.

@@ -22,6 +22,7 @@ use Rattle.ssq_version.specs.State.{State, between}
 use Rattle.ssq_version.specs.Text.{delta_text, snapshot_text}
 use Rattle.ssq_sink.specs.Sink.{sink_text}
 use Rattle.ssq_core.specs.Course.{Ends, Course, Cuts, Job}
+use Rattle.ssq_logs.specs.Asked.{most_lines}
 
 -- A query, with how its work is divided, over its logs: of each part in order all the lines that it will come to hold.
 pub record Setting : Type 0 where
@@ -153,7 +154,7 @@ is_start [] (end ∷ ends) = false
 is_start (part ∷ parts) [] = false
 is_start (part ∷ parts) (end ∷ ends) = is_end_of part end && (end.end == 0 && is_start parts ends)
 
--- both ends are of the parts in order, none falls, and none is above the part's lines
+-- both ends are of the parts in order, none falls, and none is above the part's lines, nor above the most that are taken of a log
 abbrev pub is_within : List Part → Ends → Ends → Bool
 is_within [] [] [] = true
 is_within [] [] (to ∷ tos) = false
@@ -161,7 +162,7 @@ is_within [] (from ∷ froms) tos = false
 is_within (part ∷ parts) [] tos = false
 is_within (part ∷ parts) (from ∷ froms) [] = false
 is_within (part ∷ parts) (from ∷ froms) (to ∷ tos) =
-    is_end_of part from && (is_end_of part to && (nat_le from.end to.end && (nat_le to.end (length part.lines) && is_within parts froms tos)))
+    is_end_of part from && (is_end_of part to && (nat_le from.end to.end && (nat_le to.end (length part.lines) && (nat_le to.end most_lines && is_within parts froms tos))))
 
 -- some part has a new line
 abbrev pub has_line : Ends → Ends → Bool

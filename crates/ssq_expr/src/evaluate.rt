@@ -43,7 +43,7 @@ fn fitting_text<'a>(value: &'a Value, text: &Text) -> Result<Cow<'a, Value>, Eva
     requires { value.now ≡ TextOf text.now }
     ensures { Answers cow_value result (constant value.now) }
 {
-    if text.len() <= LONGEST {
+    if text.as_bytes().len() <= LONGEST {
         Ok(Cow::Borrowed(value))
     } else {
         Err(EvalFault::Overflow)

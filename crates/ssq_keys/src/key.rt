@@ -3,7 +3,7 @@
 ghost use Rattle.std.specs.Prelude.{◌≡◌, Some, List, length, All, IfOk, IfSome};
 ghost use Rattle.ssq_value.specs.declared.value.Value.{Value as Cell};
 ghost use Rattle.ssq_value.specs.Key.{keys_of};
-ghost use Rattle.ssq_keys.specs.Readable.{IsReadable};
+ghost use Rattle.ssq_shape.specs.Fit.{IsFit};
 
 use crate::value::value_and_rest;
 use ssq_value::Row;
@@ -12,9 +12,9 @@ use std::alloc::{AllocError, Global};
 /// The key of so many values that the bytes spell, all of them. None where they spell none that a state can hold.
 pub fn read_key(alloc: Global, bytes: &[u8], count: usize) -> Result<Option<Row>, AllocError>
     ensures found { IfOk result (λ found. IfSome found (λ key. keys_of key ≡ bytes.now)) }
-    ensures readable { IfOk result (λ found. IfSome found (All IsReadable)) }
+    ensures fit { IfOk result (λ found. IfSome found (All IsFit)) }
     ensures many { IfOk result (λ found. IfSome found (λ key. length key ≡ count)) }
-    ensures each { (key : List Cell) → All IsReadable key → length key ≡ count → keys_of key ≡ bytes.now → IfOk result (λ found. found ≡ Some key) }
+    ensures each { (key : List Cell) → All IsFit key → length key ≡ count → keys_of key ≡ bytes.now → IfOk result (λ found. found ≡ Some key) }
 {
     let mut values = Vec::with_capacity(alloc, count)?;
     let mut rest = bytes;

@@ -7,7 +7,7 @@ ghost use Rattle.ssq_time.specs.Time.{IsStampTime};
 ghost use Rattle.ssq_value.specs.declared.value.Value.{Value as Cell};
 ghost use Rattle.ssq_value.specs.Key.{raised, key_of};
 ghost use Rattle.ssq_shape.specs.Evaluation.{longest};
-ghost use Rattle.ssq_keys.specs.Readable.{IsReadable};
+ghost use Rattle.ssq_shape.specs.Fit.{IsFit};
 
 use ssq_field::{take_be32, take_be64};
 use ssq_time::is_stamp_time;
@@ -105,8 +105,8 @@ fn text_and_rest(bytes: &[u8]) -> Option<(&str, &[u8])>
 /// years 0001 to 9999, and a text is UTF-8 of at most 1,048,576 bytes.
 pub fn value_and_rest(alloc: Global, bytes: &[u8]) -> Result<Option<(Value, &[u8])>, AllocError>
     ensures found { IfOk result (λ found. IfSome found (λ parts. bytes.now ≡ key_of parts.0 ++ parts.1.now)) }
-    ensures readable { IfOk result (λ found. IfSome found (λ parts. IsReadable parts.0)) }
-    ensures each { (value : Cell) (rest : List ℕ) → IsReadable value → bytes.now ≡ key_of value ++ rest →
+    ensures fit { IfOk result (λ found. IfSome found (λ parts. IsFit parts.0)) }
+    ensures each { (value : Cell) (rest : List ℕ) → IsFit value → bytes.now ≡ key_of value ++ rest →
         IfOk result (λ found. IsSomeAnd found (λ parts. (parts.0 ≡ value) × (parts.1.now ≡ rest))) }
 {
     let Some((kind, behind)) = bytes.split_first() else {

@@ -3,6 +3,7 @@
 -- An operand of another type than the operator's is read as NULL. No expression that was bound has one.
 use Rattle.std.specs.Prelude.{ℕ, ◌+◌, ◌-◌, ◌^◌, ℤ, pos, negsuc, neg_ℤ, ◌+ℤ◌, ◌-ℤ◌, ◌*ℤ◌, int_le, int_div, int_rem, nat_le, Bool, true, false, not, ◌&&◌, ◌||◌, if◌then◌else◌, List, [], ◌++◌, length, slice_get, Option, Some, None, Result, Ok, Err}
 use Rattle.std.specs.Ordering.{int_eq}
+use Rattle.std.specs.Str.{is_utf8}
 use Rattle.std.specs.declared.cmp.Ordering.{Ordering}
 use Rattle.std.specs.Ordering.{is_eq, is_ne, is_lt, is_le, is_gt, is_ge}
 use Rattle.ssq_value.specs.declared.value.Value.{Value}
@@ -83,12 +84,12 @@ cell_at row at = cell_or_null (slice_get row at) where
   cell_or_null None = Null
   cell_or_null (Some value) = value
 
--- A constant is itself. No number is outside 64 bits, no time outside the years 0001 to 9999, and no text longer than `||` makes one, a
--- constant one included.
+-- A constant is itself. No number is outside 64 bits, no time outside the years 0001 to 9999, and each text is UTF-8 and no longer than `||`
+-- makes one, a constant one included.
 abbrev pub constant : Value → Evaluated
 constant Null = Ok Null
 constant (Int number) = bigint number
-constant (Text text) = if nat_le (length text) longest then Ok (Text text) else Err overflow
+constant (Text text) = if nat_le (length text) longest && is_utf8 text then Ok (Text text) else Err overflow
 constant (Time time) = timestamp time
 constant (Truth truth) = Ok (Truth truth)
 
@@ -123,7 +124,7 @@ shifted None by = Ok Null
 shifted (Some time) by = timestamp (time +ℤ by)
 
 abbrev pub joined : Option (List ℕ) → Option (List ℕ) → Evaluated
-joined (Some a) (Some b) = if nat_le (length a + length b) longest then Ok (Text (a ++ b)) else Err overflow
+joined (Some a) (Some b) = if nat_le (length a + length b) longest && is_utf8 (a ++ b) then Ok (Text (a ++ b)) else Err overflow
 joined _ _ = Ok Null
 
 abbrev pub holds : Comparison → Ordering → Bool

@@ -1,9 +1,10 @@
 -- The value of an expression has the expression's type, and its times are of the years 0001 to 9999.
 use Rattle.std.proofs.Common.{◌≡◌, ℕ, zero, suc, ℤ, pos, neg_ℤ, ◌+ℤ◌, ◌-ℤ◌, ◌*ℤ◌, Bool, true, false, List, [], ◌∷◌, ◌++◌, Option, Some, None, Result, Ok, Err, refl, subst, ap, ◌∙◌}
-use Rattle.std.specs.Prelude.{All, IfOk, IfSome, if◌then◌else◌, slice_get, int_div, int_rem, nat_le, length, map}
+use Rattle.std.specs.Prelude.{All, IfOk, IfSome, if◌then◌else◌, slice_get, int_div, int_rem, nat_le, length, map, ◌&&◌}
 use Rattle.std.specs.List.{AllByRecursion}
 use Rattle.std.specs.Ordering.{int_eq}
 use Rattle.std.proofs.lemmas.List.Elements.{recursion_from_All}
+use Rattle.std.specs.Str.{is_utf8}
 use lib.ListN.{length-append}
 use Rattle.ssq_value.specs.declared.column.ColType.{ColType}
 use Rattle.ssq_value.specs.declared.column.ColType.TheVariants as kind
@@ -57,10 +58,10 @@ shifted_ok : (P : Value → Type 0) → P Null → ((t : ℤ) → is_stamp_time 
 shifted_ok P null time None by = null
 shifted_ok P null time (Some t) by = if_fits P _ (Time (t +ℤ by)) (λ fits. time (t +ℤ by) fits)
 
-joined_ok : (P : Value → Type 0) → P Null → ((t : List ℕ) → nat_le (length t) longest ≡ true → P (Text t)) → (a b : Option (List ℕ)) → IfOk (joined a b) P
+joined_ok : (P : Value → Type 0) → P Null → ((t : List ℕ) → (nat_le (length t) longest && is_utf8 t) ≡ true → P (Text t)) → (a b : Option (List ℕ)) → IfOk (joined a b) P
 joined_ok P null text None b = null
 joined_ok P null text (Some a) None = null
-joined_ok P null text (Some a) (Some b) = if_fits P _ (Text (a ++ b)) (λ fits. text (a ++ b) (ap (λ n. nat_le n longest) (length-append a b) ∙ fits))
+joined_ok P null text (Some a) (Some b) = if_fits P _ (Text (a ++ b)) (λ fits. text (a ++ b) (ap (λ n. nat_le n longest && is_utf8 (a ++ b)) (length-append a b) ∙ fits))
 
 truth_ok : (P : Value → Type 0) → P Null → ((t : Bool) → P (Truth t)) → (o : Option Bool) → P (truth_value o)
 truth_ok P null truth None = null
@@ -130,7 +131,7 @@ value_held aggregate_kinds kinds aggregates row (Or' p (only a) q (only b)) own 
 pub record HoldsOfResults (P : Value → Type 0) : Type 0 where
   pub null : P Null
   pub int : (n : ℤ) → is_bigint n ≡ true → P (Int n)
-  pub text : (t : List ℕ) → nat_le (length t) longest ≡ true → P (Text t)
+  pub text : (t : List ℕ) → (nat_le (length t) longest && is_utf8 t) ≡ true → P (Text t)
   pub time : (t : ℤ) → is_stamp_time t ≡ true → P (Time t)
   pub truth : (t : Bool) → P (Truth t)
 

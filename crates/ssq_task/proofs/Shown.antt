@@ -16,7 +16,7 @@ use Rattle.ssq_meaning.specs.Epochs.{timely}
 use Rattle.ssq_meaning.specs.Fit.{IsFit, IsFitRow}
 use Rattle.ssq_meaning.specs.Meaning.{Values}
 use Rattle.ssq_meaning.specs.Operator.{Operator, operator_for, operator_of, plain}
-use Rattle.ssq_store.specs.declared.store.Store.{Store}
+use Rattle.ssq_task.specs.declared.partition.Held.{Held}
 use Rattle.ssq_task.specs.declared.partition.State.{State}
 use Rattle.ssq_task.specs.declared.partition.ReduceTask.{ReduceTask}
 use Rattle.ssq_task.specs.declared.partition.ReducedRows.{ReducedRows}
@@ -74,6 +74,7 @@ module _ {S F : Type 0} (tells : Type 0) (written : S → List ℕ) (sealed : F 
   all_brought fit (Ok brought) shows nothing = record {
     delta = ap is_some nothing;
     version = tt;
+    indexed = λ none. tt;
     printable = subst (λ (values : List Values). All (All (IfTime IsStampTime)) values) (sym shows) (printable_of rows fit);
     meaning = all_shown brought shows nothing;
   }
@@ -89,18 +90,18 @@ module _ {S F : Type 0} (tells : Type 0) (written : S → List ℕ) (sealed : F 
     cause = λ old before given. subst (λ (own : ReduceFault). IsCause faults query partition now (timely query now rows) old before own) (sym is.0) tt;
   }
 
-module _ {S F : Type 0} (tells : Type 0) (written : S → List ℕ) (sealed : F → List ℕ) (faults : S → ℕ) (task : ReduceTask S F) (store : Option Store) (outcome : Result (ReducedRows F) (ReduceFault × Option S)) where
+module _ {S F : Type 0} (tells : Type 0) (written : S → List ℕ) (sealed : F → List ℕ) (faults : S → ℕ) (task : ReduceTask S F) (held : Option Held) (outcome : Result (ReducedRows F) (ReduceFault × Option S)) where
   -- by the state that it has
-  pub reduced_with : (state : Option (State S)) → task.state ≡ state → IsBack state store
-      → IfOk outcome (HasBrought tells written sealed task.view.bound.now task.epoch task.partition task.watermark (timely_in task) state store)
-      → IfErr outcome (HasFailed faults task.view.bound.now task.partition task.watermark (timely_in task) state store)
-      → IsReduced tells written sealed faults task (record { view = task.view; epoch = task.epoch; partition = task.partition; watermark = task.watermark; store = store; outcome = outcome })
+  pub reduced_with : (state : Option (State S)) → task.state ≡ state → IsBack state held
+      → IfOk outcome (HasBrought tells written sealed task.view.bound.now task.epoch task.partition task.watermark (timely_in task) state held)
+      → IfErr outcome (HasFailed faults task.view.bound.now task.partition task.watermark (timely_in task) state held)
+      → IsReduced tells written sealed faults task (record { view = task.view; epoch = task.epoch; partition = task.partition; watermark = task.watermark; held = held; outcome = outcome })
   reduced_with state same back brought failed = record {
     view = refl;
     epoch = refl;
     partition = refl;
     watermark = refl;
-    store = subst (λ (s : Option (State S)). IsBack s store) (sym same) back;
-    brought = subst (λ (s : Option (State S)). IfOk outcome (HasBrought tells written sealed task.view.bound.now task.epoch task.partition task.watermark (timely_in task) s store)) (sym same) brought;
-    failed = subst (λ (s : Option (State S)). IfErr outcome (HasFailed faults task.view.bound.now task.partition task.watermark (timely_in task) s store)) (sym same) failed;
+    held = subst (λ (s : Option (State S)). IsBack s held) (sym same) back;
+    brought = subst (λ (s : Option (State S)). IfOk outcome (HasBrought tells written sealed task.view.bound.now task.epoch task.partition task.watermark (timely_in task) s held)) (sym same) brought;
+    failed = subst (λ (s : Option (State S)). IfErr outcome (HasFailed faults task.view.bound.now task.partition task.watermark (timely_in task) s held)) (sym same) failed;
   }

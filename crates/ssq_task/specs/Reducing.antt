@@ -15,12 +15,13 @@ use Rattle.ssq_meaning.specs.Epochs.{timely}
 use Rattle.ssq_meaning.specs.Times.{is_past}
 use Rattle.ssq_agg.specs.declared.fault.StepFault.{StepFault}
 use Rattle.ssq_agg.specs.declared.fault.StepFault.TheVariants as step
+use Rattle.ssq_agg.specs.Indexing.{IsIndex}
 use Rattle.ssq_agg.specs.Steps.{Given}
 use Rattle.ssq_version.specs.State.{between}
 use Rattle.ssq_version.specs.Text.{delta_text}
 use Rattle.ssq_store.specs.declared.fault.SealFault.{SealFault}
 use Rattle.ssq_store.specs.declared.fault.SealFault.TheVariants as seal
-use Rattle.ssq_store.specs.declared.store.Store.{Store}
+use Rattle.ssq_task.specs.declared.partition.Held.{Held}
 use Rattle.ssq_task.specs.declared.partition.State.{State}
 use Rattle.ssq_task.specs.declared.partition.ReduceTask.{ReduceTask}
 use Rattle.ssq_task.specs.declared.partition.Reduced.{Reduced}
@@ -61,17 +62,23 @@ abbrev pub IsAsideAfter : {S : Type 0} → (S → ℕ) → ReduceFault → Optio
 IsAsideAfter faults own None after = (own ≡ fault.NoMemory) × (after ≡ None)
 IsAsideAfter faults own (Some state) after = IsStageAfter faults own state.stage after
 
+-- ---- what a partition holds
+
+-- the index of its groups by the times at which they close is of what the store keeps
+abbrev pub IsIndexed : Bound → Held → Type 0
+IsIndexed query held = IsIndex query held.store.state held.closing
+
 -- ---- what comes back of the state
 
 -- a store comes back exactly where there was one, and is of its partition
-abbrev pub IsBack : {S : Type 0} → Option (State S) → Option Store → Type 0
-IsBack None store = store ≡ None
-IsBack (Some state) store = IsSomeAnd store (λ store. store.partition ≡ state.store.partition)
+abbrev pub IsBack : {S : Type 0} → Option (State S) → Option Held → Type 0
+IsBack None held = held ≡ None
+IsBack (Some state) held = IsSomeAnd held (λ held. held.store.partition ≡ state.held.store.partition)
 
--- what a store keeps is as before
-abbrev pub IsAsBefore : {S : Type 0} → Option (State S) → Option Store → Type 0
-IsAsBefore None store = store ≡ None
-IsAsBefore (Some state) store = IsSomeAnd store (λ store. (store.version ≡ state.store.version) × (store.state ≡ state.store.state))
+-- what a store keeps is as before; of the index beside it nothing is said
+abbrev pub IsAsBefore : {S : Type 0} → Option (State S) → Option Held → Type 0
+IsAsBefore None held = held ≡ None
+IsAsBefore (Some state) held = IsSomeAnd held (λ held. (held.store.version ≡ state.held.store.version) × (held.store.state ≡ state.held.store.state))
 
 -- what the file aside has, where there is one
 abbrev pub written_in : {S : Type 0} → (S → List ℕ) → Option (State S) → List ℕ
@@ -80,10 +87,11 @@ written_in written (Some state) = written state.stage
 
 -- ---- what a task is given
 
--- The state is the partition's own, and what the rows leave that it accepted before: from that the operator of groups can step.
+-- The state is the partition's own, and what the rows leave that it accepted before, with the index of its groups by the times at which they
+-- close: from that the operator of groups can step.
 pub record IsGivenGroups {S : Type 0} (query : Bound) (grouping : Grouping) (partition : ℕ) (old new : List FedRow) (before now : Option ℤ) (state : State S) : Type 0 where
-  pub own : state.store.partition ≡ partition
-  pub given : Given query grouping state.store.state old new before now
+  pub own : state.held.store.partition ≡ partition
+  pub given : Given query grouping state.held.store.state state.held.closing old new before now
 
 -- What the operator of a shape needs: a query that keeps nothing has no state, one that groups has such a one. The operators of Dedup and
 -- Join are to come, and keep nothing yet.
@@ -103,20 +111,21 @@ module _ {S F : Type 0} (tells : Type 0) (written : S → List ℕ) (sealed : F 
   -- It is the epoch's, by the rows that the partition accepted before (old) and the watermark before: the rows are those that the operator
   -- shows, as a bag, and no key overflows; the store holds what all accepted rows leave; and the delta has the bytes of the change from what
   -- the rows before left to that, behind what the file aside had.
-  pub record IsEpoch (old : List FedRow) (before : Option ℤ) (state : Option (State S)) (store : Option Store) (brought : ReducedRows F) : Type 0 where
+  pub record IsEpoch (old : List FedRow) (before : Option ℤ) (state : Option (State S)) (held : Option Held) (brought : ReducedRows F) : Type 0 where
     pub shown : IsPermutation brought.rows.items ((operator_of query).added old new before now)
     pub faultless : (operator_of query).fault old new before now ≡ None
-    pub kept : IfSome store (λ store. store.state ≡ (operator_of query).state (old ++ new) now)
+    pub kept : IfSome held (λ held. held.store.state ≡ (operator_of query).state (old ++ new) now)
     pub changed : tells → IfSome brought.delta (λ file. sealed file
         ≡ written_in written state ++ delta_text partition epoch (between ((operator_of query).state old before) ((operator_of query).state (old ++ new) now)))
 
-  -- A delta comes exactly where there was a state, and the store is at the epoch's version; each time that is shown can be printed; and all of
-  -- it is the epoch's.
-  pub record HasBrought (state : Option (State S)) (store : Option Store) (brought : ReducedRows F) : Type 0 where
+  -- A delta comes exactly where there was a state, and the store is at the epoch's version; where the index was of what the store kept it is of
+  -- what it keeps now, whatever that is; each time that is shown can be printed; and all of it is the epoch's.
+  pub record HasBrought (state : Option (State S)) (held : Option Held) (brought : ReducedRows F) : Type 0 where
     pub delta : is_some brought.delta ≡ is_some state
-    pub version : IfSome store (λ store. store.version ≡ Some epoch)
+    pub version : IfSome held (λ held. held.store.version ≡ Some epoch)
+    pub indexed : IfSome state (λ state. IsIndexed query state.held) → IfSome held (IsIndexed query)
     pub printable : All (All (IfTime IsStampTime)) brought.rows.items
-    pub meaning : (old : List FedRow) (before : Option ℤ) → IsGiven query partition old new before now state → IsEpoch old before state store brought
+    pub meaning : (old : List FedRow) (before : Option ℤ) → IsGiven query partition old new before now state → IsEpoch old before state held brought
 
 module _ {S : Type 0} (faults : S → ℕ) (query : Bound) (partition : ℕ) (now : Option ℤ) (new : List FedRow) where
   -- a key that overflows is the operator's fault
@@ -126,8 +135,8 @@ module _ {S : Type 0} (faults : S → ℕ) (query : Bound) (partition : ℕ) (no
   IsCause old before fault.NoMemory = ⊤
 
   -- what the store keeps is as before, the file aside comes back, and the fault has its cause
-  pub record HasFailed (state : Option (State S)) (store : Option Store) (failed : ReduceFault × Option S) : Type 0 where
-    pub same : IsAsBefore state store
+  pub record HasFailed (state : Option (State S)) (held : Option Held) (failed : ReduceFault × Option S) : Type 0 where
+    pub same : IsAsBefore state held
     pub aside : IsAsideAfter faults failed.0 state failed.1
     pub cause : (old : List FedRow) (before : Option ℤ) → IsGiven query partition old new before now state → IsCause old before failed.0
 
@@ -135,13 +144,13 @@ module _ {S : Type 0} (faults : S → ℕ) (query : Bound) (partition : ℕ) (no
 abbrev pub timely_in : {S F : Type 0} → ReduceTask S F → List FedRow
 timely_in task = timely task.view.bound.now task.watermark (joined_vecs task.rows.items)
 
--- It names its task, and gives the partition's store back. Whatever rows the partition accepted before, and whatever the watermark before was:
+-- It names its task, and gives back what the partition keeps. Whatever rows the partition accepted before, and whatever the watermark before was:
 -- it brings what is the epoch's, or tells why not.
 pub record IsReduced {S F : Type 0} (tells : Type 0) (written : S → List ℕ) (sealed : F → List ℕ) (faults : S → ℕ) (task : ReduceTask S F) (done : Reduced S F) : Type 0 where
   pub view : done.view ≡ task.view
   pub epoch : done.epoch ≡ task.epoch
   pub partition : done.partition ≡ task.partition
   pub watermark : done.watermark ≡ task.watermark
-  pub store : IsBack task.state done.store
-  pub brought : IfOk done.outcome (HasBrought tells written sealed task.view.bound.now task.epoch task.partition task.watermark (timely_in task) task.state done.store)
-  pub failed : IfErr done.outcome (HasFailed faults task.view.bound.now task.partition task.watermark (timely_in task) task.state done.store)
+  pub held : IsBack task.state done.held
+  pub brought : IfOk done.outcome (HasBrought tells written sealed task.view.bound.now task.epoch task.partition task.watermark (timely_in task) task.state done.held)
+  pub failed : IfErr done.outcome (HasFailed faults task.view.bound.now task.partition task.watermark (timely_in task) task.state done.held)

@@ -15,5 +15,5 @@ mod version;
 
 pub use commit::seen_from;
 pub use out::{GatherFault, Gathered, OutTask, gather};
-pub use partition::{ReduceFault, ReduceTask, Reduced, ReducedRows, State, reduce};
+pub use partition::{Held, ReduceFault, ReduceTask, Reduced, ReducedRows, State, reduce};
 pub use stages::{Aside, Remnant, SealedEpoch, Stages};

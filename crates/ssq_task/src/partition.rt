@@ -5,13 +5,14 @@ ghost use Rattle.ssq_meaning.specs.Fit.{IsFitRow};
 ghost use Rattle.ssq_meaning.specs.Windows.{HasWindows};
 ghost use Rattle.ssq_store.specs.Loaded.{count_to};
 ghost use Rattle.ssq_task.specs.declared.partition.ReduceFault.TheVariants.{NoMemory};
-ghost use Rattle.ssq_task.specs.Reducing.{IsReduced, values_of};
+ghost use Rattle.ssq_task.specs.Reducing.{IsIndexed, IsReduced, values_of};
 ghost use Rattle.ssq_task.specs.Lists.{joined_vecs};
 
 use crate::version::next_version;
-use ssq_agg::StepFault;
+use ssq_agg::{Closing, StepFault};
 use ssq_meaning::{FedRow, View};
 use ssq_outside::Stage;
+use ssq_shape::Bound;
 use ssq_store::{SealFault, Store};
 use ssq_value::Row;
 use std::alloc::{AllocError, Global};
@@ -70,11 +71,33 @@ impl From<SealFault> for ReduceFault {
     }
 }
 
+/// What a partition of a query that keeps state goes on from.
+#[derive(Drop)]
+pub struct Held {
+    /// What the partition keeps, and its version.
+    pub store: Store,
+    /// The keys of its groups by the times at which they close: those of what the store keeps.
+    pub closing: Closing,
+}
+
+impl Held {
+    /// What a partition goes on from, by its store: the index beside it is made by a walk over what the store keeps. The query can have its
+    /// windows.
+    pub fn of(alloc: Global, bound: &Bound, store: Store) -> Result<Held, AllocError>
+        requires { HasWindows bound.now }
+        ensures store { IfOk result (λ held. held.store ≡ store) }
+        ensures indexed { IfOk result (IsIndexed bound.now) }
+    {
+        let closing = Closing::of(alloc, bound, &store.state)?;
+        Ok(Held { store, closing })
+    }
+}
+
 /// What a partition of a query that keeps state brings to an epoch.
 #[derive(Drop)]
 pub struct State<S> {
     /// What the partition keeps, at the version before the epoch's.
-    pub store: Store,
+    pub held: Held,
     /// The file aside for what the epoch changes of it, in which nothing is written yet.
     pub stage: S,
 }
@@ -110,8 +133,8 @@ pub struct Reduced<'a, S: Stage> {
     pub epoch: u32,
     pub partition: u32,
     pub watermark: Option<i64>,
-    /// What the partition keeps: at the epoch's version, or after a fault as it was.
-    pub store: Option<Store>,
+    /// What the partition keeps: at the epoch's version, or after a fault as it was. After a fault its index is of no use.
+    pub held: Option<Held>,
     /// What the epoch brings of the partition; or why nothing, with the file aside where it is not sealed.
     pub outcome: Result<ReducedRows<S::Sealed>, (ReduceFault, Option<S>)>,
 }
@@ -154,14 +177,16 @@ fn show_all<S: Stage>(
 }
 
 /// Shows the rows of the task's partition, and takes what it keeps to the epoch's version. A query that keeps nothing shows each row as it is.
-/// One that groups leaves late rows out, steps its groups, and seals what changes as the delta of the epoch's version.
+/// One that groups leaves late rows out, steps its groups, and seals what changes as the delta of the epoch's version. No group is read but
+/// those that have rows and those that close, or in Complete all, since all are shown.
 ///
 /// The store is at the version before the epoch's, a state can hold what the rows hold, and the query can have its windows. Against it are a
-/// key whose result is outside of its type's range, a file aside that failed, and want of memory: what the partition keeps is then as it was.
+/// key whose result is outside of its type's range, a file aside that failed, and want of memory: what the store keeps is then as it was, and
+/// the index beside it is of no use.
 pub fn reduce<'a, S: Stage>(alloc: Global, task: ReduceTask<'a, S>) -> Reduced<'a, S>
     requires windows { HasWindows task.view.bound.now }
     requires fit { All IsFitRow (joined_vecs task.rows.items) }
-    requires version { IfSome task.state (λ state. count_to state.store.version ≡ task.epoch) }
+    requires version { IfSome task.state (λ state. count_to state.held.store.version ≡ task.epoch) }
     ensures { IsReduced S.tells S.written S.sealed S.faults task.entry result }
 {
     let ReduceTask {
@@ -172,11 +197,11 @@ pub fn reduce<'a, S: Stage>(alloc: Global, task: ReduceTask<'a, S>) -> Reduced<'
         rows,
         state,
     } = task;
-    let (store, outcome) = match state {
+    let (held, outcome) = match state {
         None => (None, show_all(alloc, rows)),
         Some(state) => {
-            let (store, outcome) = next_version(alloc, view.bound, epoch, watermark, rows, state);
-            (Some(store), outcome)
+            let (held, outcome) = next_version(alloc, view.bound, epoch, watermark, rows, state);
+            (Some(held), outcome)
         }
     };
     Reduced {
@@ -184,7 +209,7 @@ pub fn reduce<'a, S: Stage>(alloc: Global, task: ReduceTask<'a, S>) -> Reduced<'
         epoch,
         partition,
         watermark,
-        store,
+        held,
         outcome,
     }
 }

@@ -8,6 +8,7 @@ ghost use Rattle.ssq_meaning.specs.declared.fed_row.FedRow.{FedRow as Fed};
 ghost use Rattle.ssq_meaning.specs.Epochs.{timely};
 ghost use Rattle.ssq_meaning.specs.Fit.{IsFitRow};
 ghost use Rattle.ssq_meaning.specs.Windows.{HasWindows};
+ghost use Rattle.ssq_agg.specs.Indexing.{IsIndex};
 ghost use Rattle.ssq_agg.specs.Steps.{Given, IsCause, IsStep};
 ghost use Rattle.ssq_version.specs.State.{State as Kept, Ascends, IsAfter, between};
 ghost use Rattle.ssq_version.specs.Text.{delta_text};
@@ -16,67 +17,96 @@ ghost use Rattle.ssq_task.specs.Reducing.{HasBrought, HasFailed, IsStageAfter, f
 ghost use Rattle.ssq_task.specs.Lists.{joined_vecs};
 
 use crate::late::timely_rows;
-use crate::partition::{ReduceFault, ReducedRows, State};
+use crate::partition::{Held, ReduceFault, ReducedRows, State};
 use ssq_agg::{StepFault, Stepped, step};
 use ssq_meaning::{FedRow, kept_groups_are_found};
 use ssq_outside::Stage;
 use ssq_shape::Bound;
-use ssq_store::{SealFault, Store};
+use ssq_store::SealFault;
 use ssq_version::{
-    Change, StateMap, changes_are_kept, states_are_kept, states_have_a_change, versions_are_one,
+    Change, changes_are_kept, states_are_kept, states_have_a_change, versions_are_one,
 };
-use std::alloc::Global;
+use std::alloc::{AllocError, Global};
 
 /// Steps the operator over the rows that are not late.
 fn step_rows(
     alloc: Global,
     bound: &Bound,
-    state: &StateMap,
+    held: &Held,
     parts: Vec<Vec<FedRow>>,
     epoch: u32,
     watermark: Option<i64>,
 ) -> Result<Stepped, StepFault>
-    requires windows { HasWindows bound.now }
-    requires fit { All IsFitRow (joined_vecs parts.items) }
+    requires { All IsFitRow (joined_vecs parts.items) }
     ensures stepped { (grouping : Groups) (old : List Fed) (before : Option ℤ) →
-        Given bound.now grouping state.now old (timely bound.now watermark (joined_vecs parts.items)) before watermark →
-        IfOk result (IsStep bound.now grouping state.now old (timely bound.now watermark (joined_vecs parts.items)) before watermark) }
+        Given bound.now grouping held.now.store.state held.now.closing old (timely bound.now watermark (joined_vecs parts.items)) before watermark →
+        IfOk result (IsStep bound.now grouping held.now.store.state old (timely bound.now watermark (joined_vecs parts.items)) before watermark) }
     ensures cause { (grouping : Groups) (old : List Fed) (before : Option ℤ) →
-        Given bound.now grouping state.now old (timely bound.now watermark (joined_vecs parts.items)) before watermark →
+        Given bound.now grouping held.now.store.state held.now.closing old (timely bound.now watermark (joined_vecs parts.items)) before watermark →
         IfErr result (IsCause bound.now grouping old (timely bound.now watermark (joined_vecs parts.items)) before watermark) }
     ensures printable { IfOk result (λ stepped. All (All (IfTime IsStampTime)) stepped.rows.items) }
 {
     let rows = timely_rows(alloc, watermark, parts)?;
-    step(alloc, bound, state, rows.as_slice(), epoch, watermark)
+    step(
+        alloc,
+        bound,
+        &held.store.state,
+        &held.closing,
+        rows.as_slice(),
+        epoch,
+        watermark,
+    )
 }
 
-/// Seals the change as the delta of the version after the store's, and then takes the store to that version. After a fault it is as it was.
+/// Takes what a partition keeps to the next version by a change, and first the index beside it. After an `Err` the store is as it was, and the
+/// index is of no use.
+fn advance(alloc: Global, bound: &Bound, held: &mut Held, change: Change) -> Result<(), AllocError>
+    requires windows { HasWindows bound.now }
+    requires version { count_to held.old.store.version < 2 ^ 32 }
+    ensures state { (after : Kept) → Ascends after → IsAfter change held.old.store.state after → OnOk result (held.new.store.state ≡ after) }
+    ensures version { OnOk result (held.new.store.version ≡ Some (count_to held.old.store.version)) }
+    ensures index { IsIndex bound.now held.old.store.state held.old.closing → OnOk result (IsIndex bound.now held.new.store.state held.new.closing) }
+    ensures partition { held.new.store.partition ≡ held.old.store.partition }
+    ensures same { OnErr result ((held.new.store.version ≡ held.old.store.version) × (held.new.store.state ≡ held.old.store.state)) }
+{
+    versions_are_one();
+    changes_are_kept(&change);
+    held.closing
+        .follow(alloc, bound, &held.store.state, &change)?;
+    held.store.advance(change)?;
+    states_are_kept(&held.store.state);
+    Ok(())
+}
+
+/// Seals the change as the delta of the version after the store's, and then takes what the partition keeps to that version. After a fault the
+/// store is as it was, and the index beside it is of no use.
 fn seal_and_advance<S: Stage>(
-    store: &mut Store,
+    alloc: Global,
+    bound: &Bound,
+    held: &mut Held,
     stage: S,
     change: Change,
 ) -> Result<S::Sealed, (SealFault, Option<S>)>
-    requires { count_to store.old.version < 2 ^ 32 }
-    ensures sealed { S.tells → (after : Kept) → Ascends after → IsAfter change store.old.state after → IfOk result (λ file. S.sealed file
-        ≡ S.written stage ++ delta_text store.old.partition (count_to store.old.version) (between store.old.state after)) }
-    ensures state { (after : Kept) → Ascends after → IsAfter change store.old.state after → OnOk result (store.new.state ≡ after) }
-    ensures version { OnOk result (store.new.version ≡ Some (count_to store.old.version)) }
-    ensures partition { store.new.partition ≡ store.old.partition }
-    ensures same { OnErr result ((store.new.version ≡ store.old.version) × (store.new.state ≡ store.old.state)) }
+    requires windows { HasWindows bound.now }
+    requires version { count_to held.old.store.version < 2 ^ 32 }
+    ensures sealed { S.tells → (after : Kept) → Ascends after → IsAfter change held.old.store.state after → IfOk result (λ file. S.sealed file
+        ≡ S.written stage ++ delta_text held.old.store.partition (count_to held.old.store.version) (between held.old.store.state after)) }
+    ensures state { (after : Kept) → Ascends after → IsAfter change held.old.store.state after → OnOk result (held.new.store.state ≡ after) }
+    ensures version { OnOk result (held.new.store.version ≡ Some (count_to held.old.store.version)) }
+    ensures index { IsIndex bound.now held.old.store.state held.old.closing → OnOk result (IsIndex bound.now held.new.store.state held.new.closing) }
+    ensures partition { held.new.store.partition ≡ held.old.store.partition }
+    ensures same { OnErr result ((held.new.store.version ≡ held.old.store.version) × (held.new.store.state ≡ held.old.store.state)) }
     ensures aside { IfErr result (λ failed. IsStageAfter S.faults (fault_of_seal failed.0) stage failed.1) }
 {
     versions_are_one();
     states_have_a_change();
     changes_are_kept(&change);
-    let file = match store.seal(&change, stage) {
+    let file = match held.store.seal(&change, stage) {
         Ok(file) => file,
         Err((stage, fault)) => return Err((fault, Some(stage))),
     };
-    match store.advance(change) {
-        Ok(()) => {
-            states_are_kept(&store.state);
-            Ok(file)
-        }
+    match advance(alloc, bound, held, change) {
+        Ok(()) => Ok(file),
         Err(_) => Err((SealFault::NoMemory, None)),
     }
 }
@@ -91,29 +121,31 @@ pub(crate) fn next_version<S: Stage>(
     parts: Vec<Vec<FedRow>>,
     state: State<S>,
 ) -> (
-    Store,
+    Held,
     Result<ReducedRows<S::Sealed>, (ReduceFault, Option<S>)>,
 )
     requires windows { HasWindows bound.now }
     requires fit { All IsFitRow (joined_vecs parts.items) }
-    requires version { count_to state.store.version ≡ epoch }
-    ensures partition { result.0.partition ≡ state.store.partition }
+    requires version { count_to state.held.store.version ≡ epoch }
+    ensures partition { result.0.store.partition ≡ state.held.store.partition }
     ensures brought { (partition : ℕ) → IfOk result.1
         (HasBrought S.tells S.written S.sealed bound.now epoch partition watermark (timely bound.now watermark (joined_vecs parts.items)) (Some state) (Some result.0)) }
     ensures failed { (partition : ℕ) → IfErr result.1
         (HasFailed S.faults bound.now partition watermark (timely bound.now watermark (joined_vecs parts.items)) (Some state) (Some result.0)) }
 {
     kept_groups_are_found();
-    let State { mut store, stage } = state;
-    let outcome = match step_rows(alloc, bound, &store.state, parts, epoch, watermark) {
-        Ok(Stepped { change, rows }) => match seal_and_advance(&mut store, stage, change) {
-            Ok(delta) => Ok(ReducedRows {
-                rows,
-                delta: Some(delta),
-            }),
-            Err((fault, stage)) => Err((ReduceFault::from(fault), stage)),
-        },
+    let State { mut held, stage } = state;
+    let outcome = match step_rows(alloc, bound, &held, parts, epoch, watermark) {
+        Ok(Stepped { change, rows }) => {
+            match seal_and_advance(alloc, bound, &mut held, stage, change) {
+                Ok(delta) => Ok(ReducedRows {
+                    rows,
+                    delta: Some(delta),
+                }),
+                Err((fault, stage)) => Err((ReduceFault::from(fault), stage)),
+            }
+        }
         Err(fault) => Err((ReduceFault::from(fault), Some(stage))),
     };
-    (store, outcome)
+    (held, outcome)
 }

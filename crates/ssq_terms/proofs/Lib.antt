@@ -1,7 +1,11 @@
+pub mod Bringing
+pub mod Continuing
+pub mod Covering
 pub mod Cutting
 pub mod Dealing
 pub mod Faults
 pub mod Marks
+pub mod Overflowing
 pub mod Printing
 pub mod Raising
 pub mod Rounds

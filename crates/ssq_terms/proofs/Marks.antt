@@ -1,17 +1,16 @@
 -- The watermarked streams that an opening knows are those with a delay, and their greatest times give the watermark.
-use Rattle.std.proofs.Common.{◌≡◌, ◌+◌, ◌==◌, [], ◌∷◌, ℕ, ℤ, List, Option, Some, None, true, refl, ap, sym, ◌∙◌, map, length}
+use Rattle.std.proofs.Common.{◌≡◌, ◌+◌, ◌==◌, [], ◌∷◌, ℕ, ℤ, List, Option, Some, None, true, refl, ap, sym, ◌∙◌, arith, map, length}
+use Rattle.std.proofs.lemmas.Int.{ints}
 use Rattle.std.specs.Prelude.{◌-ℤ◌}
 use Rattle.std.specs.Int.{int_min}
 use Rattle.std.specs.List.{cons_option, list_all, zip}
-use Rattle.std.proofs.lemmas.Bool.{eq-eqb}
+use Rattle.std.proofs.lemmas.Bool.{eq-eqb, and_from}
 use Rattle.std.proofs.lemmas.List.{length-map}
 use Rattle.ssq_shape.specs.declared.bound.Stream.{Stream}
-use Rattle.ssq_meaning.specs.Times.{Delay, delay_of, delays, delays_from, least, less_delay, watermark_by}
+use Rattle.ssq_meaning.specs.Times.{Delay, delay_of, delays, delays_from, earlier, least, less_delay, watermark_by}
 use Rattle.ssq_meaning.specs.Epochs.{seen}
-use Rattle.ssq_water.proofs.Marks.{with_mark, with_none}
 use Rattle.ssq_plans.specs.declared.seen.SeenBy.{SeenBy}
 use Rattle.ssq_core.specs.Course.{Cuts}
-use Rattle.ssq_core.proofs.Holding.{both_true}
 use Rattle.ssq_course.specs.Setting.{Setting, parts_in, cuts_of, seen_at, watermark_at}
 use Rattle.ssq_open.specs.declared.streams.Watermarked.{Watermarked}
 use Rattle.ssq_open.specs.Watermarks.{watermarked, watermarked_by, watermarked_from, is_line_of, has_lines, least_after, mark_by}
@@ -42,12 +41,30 @@ marks_of of streams = map (λ (stream : Delay). less_delay (of stream.0) stream.
 
 each_own : (of : ℕ → Option ℤ) (streams : List Watermarked) → list_all is_line_of (zip streams (lines_of of streams)) ≡ true
 each_own of [] = refl
-each_own of (w ∷ ws) = both_true (w.stream == w.stream) _ (eq-eqb w.stream w.stream refl) (each_own of ws)
+each_own of (w ∷ ws) = and_from (w.stream == w.stream) _ (eq-eqb w.stream w.stream refl) (each_own of ws)
 
 lines_own : (of : ℕ → Option ℤ) (streams : List Watermarked) → has_lines streams (lines_of of streams) ≡ true
 lines_own of streams =
     let same : length streams ≡ length (lines_of of streams) = sym (length-map (map delay_in streams) (line_of of) ∙ length-map streams delay_in) in
-    both_true (length streams == length (lines_of of streams)) _ (eq-eqb (length streams) (length (lines_of of streams)) same) (each_own of streams)
+    and_from (length streams == length (lines_of of streams)) _ (eq-eqb (length streams) (length (lines_of of streams)) same) (each_own of streams)
+
+-- there is no least where one says none
+none_first : (marks : List (Option ℤ)) → least (None ∷ marks) ≡ None
+none_first [] = refl
+none_first (m ∷ ms) = refl
+
+none_second : (a : ℤ) (marks : List (Option ℤ)) → least (Some a ∷ None ∷ marks) ≡ None
+none_second a [] = refl
+none_second a (m ∷ ms) = refl
+
+-- two that come first are as the lesser of them
+two_first : (a b : ℤ) (marks : List (Option ℤ)) → least (Some a ∷ Some b ∷ marks) ≡ least (Some (int_min a b) ∷ marks)
+two_first a b [] = refl
+two_first a b (m ∷ ms) = by_rest (least (m ∷ ms))
+  where
+    by_rest : (rest : Option ℤ) → earlier (Some a) (earlier (Some b) rest) ≡ earlier (Some (int_min a b)) rest
+    by_rest None = refl
+    by_rest (Some t) = ap Some (let same : int_min a (int_min b t) ≡ int_min (int_min a b) t = grind (arith, ints) in same)
 
 -- the marks that are left, after some
 after_some : (of : ℕ → Option ℤ) (streams : List Watermarked) (a : ℤ) → least_after (Some a) (zip streams (lines_of of streams)) ≡ least (Some a ∷ marks_of of streams)
@@ -56,15 +73,15 @@ after_some of (w ∷ ws) a = by_time (of w.stream) (after_some of ws)
   where
     by_time : (time : Option ℤ) → ((a : ℤ) → least_after (Some a) (zip ws (lines_of of ws)) ≡ least (Some a ∷ marks_of of ws))
         → least_after (Some a) ((w, (let line : SeenBy = record { stream = w.stream; time = time } in line)) ∷ zip ws (lines_of of ws)) ≡ least (Some a ∷ less_delay time w.delay ∷ marks_of of ws)
-    by_time None rest = sym (with_none (Some a) (marks_of of ws))
-    by_time (Some t) rest = rest (int_min a (t -ℤ w.delay)) ∙ sym (with_mark (Some a) (t -ℤ w.delay) (marks_of of ws))
+    by_time None rest = sym (none_second a (marks_of of ws))
+    by_time (Some t) rest = rest (int_min a (t -ℤ w.delay)) ∙ sym (two_first a (t -ℤ w.delay) (marks_of of ws))
 
 mark_is : (of : ℕ → Option ℤ) (streams : List Watermarked) → mark_by streams (lines_of of streams) ≡ least (marks_of of streams)
 mark_is of [] = refl
 mark_is of (w ∷ ws) = by_time (of w.stream)
   where
     by_time : (time : Option ℤ) → least_after None ((w, (let line : SeenBy = record { stream = w.stream; time = time } in line)) ∷ zip ws (lines_of of ws)) ≡ least (less_delay time w.delay ∷ marks_of of ws)
-    by_time None = sym (with_none None (marks_of of ws))
+    by_time None = sym (none_first (marks_of of ws))
     by_time (Some t) = after_some of ws (t -ℤ w.delay)
 
 -- there is one line for each watermarked stream, whatever its time

@@ -1,8 +1,9 @@
 -- What an opening found is the job's, and a round begins on it.
 use Rattle.std.proofs.Common.{◌≡◌, ◌⊎◌, ◌<◌, ◌≤◌, ◌+◌, [], ◌∷◌, ℕ, suc, List, Option, Some, None, Bool, true, false, refl, ap, sym, ◌∙◌, inl, inr, subst, arith, length, nat_lt, get_or}
-use Rattle.std.specs.Prelude.{IsSome}
-use Rattle.std.proofs.lemmas.Bool.{ltb-true, ltb-false}
+use Rattle.std.specs.Prelude.{IfSome, IsSome, slice_get}
+use Rattle.std.proofs.lemmas.Bool.{ltb-true, ltb-false, lt-ltb}
 use Rattle.std.proofs.lemmas.List.{length-map}
+use Rattle.std.proofs.lemmas.Option.{slice_get_cases}
 use Rattle.ssq_outside.specs.declared.name.Name.TheVariants as name
 use Rattle.ssq_outside.specs.Files.{Content, Files, files_of}
 use Rattle.ssq_outside.specs.History.{History, files_now}
@@ -12,11 +13,12 @@ use Rattle.ssq_plans.specs.declared.plan.Plan.{Plan}
 use Rattle.ssq_plans.specs.declared.commit.Commit.{Commit}
 use Rattle.ssq_plans.specs.declared.seen.SeenBy.{SeenBy}
 use Rattle.ssq_meaning.specs.Parts.{Part}
+use Rattle.ssq_store.specs.declared.store.Store.{Store}
 use Rattle.ssq_core.specs.Course.{Ends, Cuts, Job, truth, plan_of, commit_of}
 use Rattle.ssq_core.specs.Machine.{Desk, opened}
 use Rattle.ssq_core.specs.Settled.{IsSettledAs}
-use Rattle.ssq_core.proofs.Holding.{lt_true}
-use Rattle.ssq_course.specs.Setting.{Setting, parts_in, job_of}
+use Rattle.ssq_course.specs.Setting.{Setting, parts_in, keeping_of, state_at, job_of}
+use Rattle.ssq_task.specs.Reducing.{IsIndexed}
 use Rattle.ssq_open.specs.declared.wanted.Lens.{Lens}
 use Rattle.ssq_open.specs.declared.wanted.Opened.{Opened}
 use Rattle.ssq_open.specs.Lens.{asked, found_from}
@@ -24,14 +26,16 @@ use Rattle.ssq_open.specs.Sought.{Sought}
 use Rattle.ssq_open.specs.Spelled.{IsThePlan, IsTheCommit}
 use Rattle.ssq_open.specs.Epochs.{starts, cut_of, last_ends, IsSeenAt, none_yet, by_commit}
 use Rattle.ssq_open.specs.Opening.{kept, begun, Passes}
+use Rattle.ssq_open.specs.Stateful.{keeps_state, keeping_in}
 use Rattle.ssq_open.specs.Jobs.{IsWantedJob, IsDeskOf}
 use Rattle.ssq_board.specs.Core.{Scope}
 use Rattle.ssq_board.specs.Shown.{planned_by}
 use Rattle.ssq_terms.specs.Setting.{IsSettingOf, AreFound, found_lines}
 use Rattle.ssq_terms.specs.Laws.{IsScopeOf}
-use Rattle.ssq_terms.specs.Opening.{IsJobsFound, FoundIsJobs, DeskOpensAsFound}
+use Rattle.ssq_terms.specs.Opening.{IsJobsFound, FoundIsJobs, DeskOpensAsFound, StoresHoldStates, PartitionsBegin}
+use Rattle.ssq_terms.specs.Partitions.{HoldsStateOf}
 use Rattle.ssq_terms.proofs.Starts.{AreParts, found_numbers}
-use Rattle.ssq_terms.proofs.Wanted.{parts}
+use Rattle.ssq_terms.proofs.Wanted.{parts_are, same_keeping}
 use Rattle.ssq_terms.proofs.Dealing.{AreEnds, cut_ends}
 
 -- ---- what was found
@@ -44,13 +48,13 @@ module _ (s : Sought) (job : Job) (files : Files) (d : Desk) (w : IsWantedJob s 
   -- a plan that a file spells is the job's
   plan_is : (e : ℕ) (p : Plan) → e < d.planned → IsThePlan files e p → p ≡ plan_of (job.course d.cuts) e
   plan_is e p less is =
-      let text = true_there (files (name.Plan e)) (truth (job.course d.cuts) (name.Plan e)) (op.0.are_true (name.Plan e)) (op.0.needed (name.Plan e) (lt_true e d.planned less)) in
+      let text = true_there (files (name.Plan e)) (truth (job.course d.cuts) (name.Plan e)) (op.0.are_true (name.Plan e)) (op.0.needed (name.Plan e) (lt-ltb e d.planned less)) in
       sym (is.only (plan_of (job.course d.cuts) e) (record { canonical = w.plans d.cuts d.planned e op.1 op.0.reached.few less; text = text }))
 
   -- and so is a commit
   commit_is : (e : ℕ) (c : Commit) → e < d.committed → IsTheCommit files e c → c ≡ commit_of (job.course d.cuts) e
   commit_is e c less is =
-      let text = true_there (files (name.Commit e)) (truth (job.course d.cuts) (name.Commit e)) (op.0.are_true (name.Commit e)) (op.0.needed (name.Commit e) (lt_true e d.committed less)) in
+      let text = true_there (files (name.Commit e)) (truth (job.course d.cuts) (name.Commit e)) (op.0.are_true (name.Commit e)) (op.0.needed (name.Commit e) (lt-ltb e d.committed less)) in
       let planned : e < d.planned = omega (arith, less, op.0.reached.planned_first) in
       sym (is.only (commit_of (job.course d.cuts) e) (record { canonical = w.commits d.cuts d.planned e op.1 op.0.reached.few planned; text = text }))
 
@@ -109,7 +113,7 @@ module _ (s : Setting) (bound : Bound) (partitions : Option ℕ) (lens : Lens) (
   counted : (e : ℕ) → e ≤ of.desk.planned → length (of.desk.cuts e) ≡ length (parts_in s)
   counted e le =
       ends_count (parts_in s) (of.desk.cuts e)
-      (cut_ends s of.desk.cuts (found_from 0 lens.streams) e (parts s bound partitions lens is lines) begins (λ f less. of.is.1 f (omega (arith, less, le))))
+      (cut_ends s of.desk.cuts (found_from 0 lens.streams) e (parts_are s bound partitions lens is lines) begins (λ f less. of.is.1 f (omega (arith, less, le))))
 
   from_is : of.desk.cuts found.committed ≡ cut_of (starts (found_from 0 lens.streams)) found.plans found.committed
   from_is = ap (λ (cuts : Cuts). cuts found.committed) of.cuts
@@ -120,7 +124,7 @@ module _ (s : Setting) (bound : Bound) (partitions : Option ℕ) (lens : Lens) (
   available_count : length r.available ≡ length (parts_in s)
   available_count =
       ap length (scope.available ∙ sym (found_numbers 0 lens.streams)) ∙ length-map (found_from 0 lens.streams) (λ (end : PartEnd). end.end)
-      ∙ parts_count (parts_in s) (found_from 0 lens.streams) (parts s bound partitions lens is lines)
+      ∙ parts_count (parts_in s) (found_from 0 lens.streams) (parts_are s bound partitions lens is lines)
 
   to_count : length (last_ends (starts (found_from 0 lens.streams)) found.plans) ≡ length (parts_in s)
   to_count = ap length (sym to_is) ∙ counted of.desk.planned (omega arith)
@@ -134,7 +138,7 @@ module _ (s : Setting) (bound : Bound) (partitions : Option ℕ) (lens : Lens) (
       (omega (arith, of.is.0.reached.one_ahead, of.committed, of.planned))
 
 pub opens_as_found : DeskOpensAsFound
-opens_as_found s bound partitions lens r files found is lines scope terms start of = record {
+opens_as_found s bound partitions lens r files found due is lines scope terms start of due_is = record {
   start = record {
     from = from_count s bound partitions lens r files found is lines scope of ∙ sym (to_count s bound partitions lens r files found is lines scope of);
     available = available_count s bound partitions lens r files found is lines scope of ∙ sym (to_count s bound partitions lens r files found is lines scope of);
@@ -144,5 +148,30 @@ opens_as_found s bound partitions lens r files found is lines scope terms start 
   begins = begins s bound partitions lens r files found is lines scope of ∙ sym start;
   from = from_is s bound partitions lens r files found is lines scope of;
   to = ap of.desk.cuts (sym (planned s bound partitions lens r files found is lines scope of)) ∙ to_is s bound partitions lens r files found is lines scope of;
-  due = λ unplanned. refl;
+  due = due_is;
+}
+
+-- ---- from which stores
+
+pub stores_hold : StoresHoldStates
+stores_hold s bound partitions lens files found is same are holds of p = by (slice_get found.stores p) (slice_get_cases found.stores p).1
+  where
+    keeping : keeping_of s.job.bound.shape s.job.partitions ≡ keeping_in (keeps_state bound.shape) found.meta.partitions
+    keeping = same_keeping s.job.bound.shape s.job.partitions ∙ (λ i. keeping_in (keeps_state (is.query i).shape) (same i))
+
+    by : (own : Option Store) → ((store : Store) × (p < length found.stores) × (own ≡ Some store) × (get_or found.stores p store ≡ store)) ⊎ ((length found.stores ≤ p) × (own ≡ None))
+        → HoldsStateOf s of.desk.cuts found.committed p own
+    by own (inr beyond) = subst (HoldsStateOf s of.desk.cuts found.committed p) (sym beyond.1) (omega (arith, beyond.0, are.many, keeping))
+    by own (inl (store, less, there, at)) =
+        let kept : p < keeping_in (keeps_state bound.shape) found.meta.partitions = omega (arith, less, are.many) in
+        subst (HoldsStateOf s of.desk.cuts found.committed p) (sym there) (
+          omega (arith, kept, keeping),
+          ap (λ (store : Store). store.partition) (sym at) ∙ (are.each p store kept).partition,
+          ap (λ (store : Store). store.state) (sym at) ∙ holds.each p store kept ∙ ap (λ (cuts : Cuts). state_at s cuts p found.committed) (sym of.cuts),
+        )
+
+pub partitions_begin : PartitionsBegin
+partitions_begin s bound partitions lens files found is same are holds of p held there indexed = record {
+  store = subst (HoldsStateOf s of.desk.cuts found.committed p) (sym there) (stores_hold s bound partitions lens files found is same are holds of p);
+  indexed = subst (λ (query : Bound). IfSome held (IsIndexed query)) (sym is.query) indexed;
 }

@@ -2,7 +2,7 @@
 use Rattle.std.proofs.Common.{◌≡◌, ◌<◌, ◌≤◌, ◌+◌, ◌^◌, ◌==◌, ◌&&◌, ◌++◌, [], ◌∷◌, ℕ, zero, suc, List, true, refl, ap, sym, ◌∙◌, arith, add-one, length, map}
 use Rattle.std.specs.Prelude.{All, nat_le}
 use Rattle.std.specs.List.{list_all, zip}
-use Rattle.std.proofs.lemmas.Bool.{eqb-true, eq-eqb}
+use Rattle.std.proofs.lemmas.Bool.{eqb-true, eq-eqb, leb-true, le-leb, and_from, and_parts}
 use Rattle.std.proofs.lemmas.List.{append_assoc, append-nil, map-append}
 use Rattle.std.proofs.lemmas.List.Elements.{All-cons, All-nil, All-head, All-tail}
 use Rattle.ssq_plans.specs.declared.part.PartEnd.{PartEnd}
@@ -10,20 +10,21 @@ use Rattle.ssq_meaning.specs.Meaning.{Line}
 use Rattle.ssq_meaning.specs.Parts.{Part, parts_from, parts_of}
 use Rattle.ssq_meaning.specs.Epochs.{joined}
 use Rattle.ssq_core.specs.Course.{Ends}
-use Rattle.ssq_core.proofs.Holding.{both_are, both_true}
 use Rattle.ssq_course.specs.Setting.{cut_of, end_at, is_end_of, is_start, is_within}
 use Rattle.ssq_course.specs.Laws.{IsFit}
+use Rattle.ssq_logs.specs.Asked.{most_lines}
 use Rattle.ssq_open.specs.Lens.{counts_of, found_in, found_from, IsFew}
 use Rattle.ssq_open.specs.Looking.{begins_from}
 use Rattle.ssq_open.specs.Looking.{parts_of as first_of}
 use Rattle.ssq_open.specs.Epochs.{start_of, starts, keeps_up, follows}
 use Rattle.ssq_terms.specs.Setting.{AreFound}
 
--- the part is this one, and has at least the lines that were found
+-- the part is this one, and has at least the lines that were found, which are no more than are taken of a log
 pub record IsPartOf (part : Part) (found : PartEnd) : Type 0 where
   pub stream : part.stream ≡ found.stream
   pub number : part.part ≡ found.part
   pub most : found.end ≤ length part.lines
+  pub few : found.end ≤ most_lines
 
 -- part by part in order
 abbrev pub AreParts : List Part → Ends → Type 0
@@ -73,7 +74,7 @@ dealt stream part [] [] (line ∷ lines) are = absurd are
 dealt stream part [] (next ∷ rest) [] are = dealt (stream + 1) 0 next rest [] are
 dealt stream part [] (next ∷ rest) (line ∷ lines) are = dealt (stream + 1) 0 next rest (line ∷ lines) are
 dealt stream part (n ∷ own) rest [] are = absurd are
-dealt stream part (n ∷ own) rest (line ∷ lines) are = (record { stream = refl; number = refl; most = are.0 }, dealt stream (part + 1) own rest lines are.2)
+dealt stream part (n ∷ own) rest (line ∷ lines) are = (record { stream = refl; number = refl; most = are.0; few = are.1 }, dealt stream (part + 1) own rest lines are.2)
 
 pub are_parts : (streams : List (List ℕ)) (lines : List (List Line)) → AreFound (joined streams) lines → AreParts (parts_of (counts_of streams) lines) (found_from 0 streams)
 are_parts [] [] are = tt
@@ -82,15 +83,6 @@ are_parts (own ∷ rest) lines are = dealt 0 0 own rest lines are
 
 -- ---- their numbers
 
-abbrev IsLong : List Line → Type 0
-IsLong lines = length lines < 2 ^ 64
-
-long : (found : List ℕ) (lines : List (List Line)) → AreFound found lines → All IsLong lines
-long [] [] are = All-nil IsLong
-long [] (own ∷ lines) are = absurd are
-long (n ∷ found) [] are = absurd are
-long (n ∷ found) (own ∷ lines) are = All-cons IsLong own lines are.1 (long found lines are.2)
-
 abbrev IsLow : ℕ → Type 0
 IsLow count = count ≤ 64
 
@@ -98,21 +90,21 @@ low : (streams : List (List ℕ)) → All IsFew streams → All IsLow (counts_of
 low [] few = All-nil IsLow
 low (own ∷ rest) few = All-cons IsLow (length own) (counts_of rest) (All-head IsFew own rest few) (low rest (All-tail IsFew own rest few))
 
-fit_from : (stream part left : ℕ) (counts : List ℕ) (lines : List (List Line)) → stream + 1 + length counts ≤ 2 ^ 32 → part + left ≤ 64 → All IsLow counts → All IsLong lines
+fit_from : (stream part left : ℕ) (counts : List ℕ) (lines : List (List Line)) → stream + 1 + length counts ≤ 2 ^ 32 → part + left ≤ 64 → All IsLow counts
     → All IsFit (parts_from stream part left counts lines)
 unfolding parts_from
-fit_from stream part left counts [] streams parts few longs = All-nil IsFit
-fit_from stream part (suc left) counts (own ∷ lines) streams parts few longs =
-    All-cons IsFit (record { stream = stream; part = part; lines = own }) _ (omega (arith, streams), omega (arith, parts), All-head IsLong own lines longs)
-    (fit_from stream (part + 1) left counts lines streams (omega (arith, parts)) few (All-tail IsLong own lines longs))
-fit_from stream part zero [] (own ∷ lines) streams parts few longs = All-nil IsFit
-fit_from stream part zero (count ∷ counts) (own ∷ lines) streams parts few longs =
-    fit_from (stream + 1) 0 count counts (own ∷ lines) (omega (arith, streams)) (omega (arith, All-head IsLow count counts few)) (All-tail IsLow count counts few) longs
+fit_from stream part left counts [] streams parts few = All-nil IsFit
+fit_from stream part (suc left) counts (own ∷ lines) streams parts few =
+    All-cons IsFit (record { stream = stream; part = part; lines = own }) _ (omega (arith, streams), omega (arith, parts))
+    (fit_from stream (part + 1) left counts lines streams (omega (arith, parts)) few)
+fit_from stream part zero [] (own ∷ lines) streams parts few = All-nil IsFit
+fit_from stream part zero (count ∷ counts) (own ∷ lines) streams parts few =
+    fit_from (stream + 1) 0 count counts (own ∷ lines) (omega (arith, streams)) (omega (arith, All-head IsLow count counts few)) (All-tail IsLow count counts few)
 
-pub parts_fit : (streams : List (List ℕ)) (lines : List (List Line)) → AreFound (joined streams) lines → All IsFew streams → length streams ≤ 2 ^ 32 → All IsFit (parts_of (counts_of streams) lines)
-parts_fit [] lines are few streams = All-nil IsFit
-parts_fit (own ∷ rest) lines are few streams =
-    fit_from 0 0 (length own) (counts_of rest) lines (omega (arith, streams, counted rest)) (omega (arith, All-head IsFew own rest few)) (low rest (All-tail IsFew own rest few)) (long _ lines are)
+pub parts_fit : (streams : List (List ℕ)) (lines : List (List Line)) → All IsFew streams → length streams ≤ 2 ^ 32 → All IsFit (parts_of (counts_of streams) lines)
+parts_fit [] lines few streams = All-nil IsFit
+parts_fit (own ∷ rest) lines few streams =
+    fit_from 0 0 (length own) (counts_of rest) lines (omega (arith, streams, counted rest)) (omega (arith, All-head IsFew own rest few)) (low rest (All-tail IsFew own rest few))
   where
     counted : (rest : List (List ℕ)) → length (counts_of rest) ≡ length rest
     counted [] = refl
@@ -131,7 +123,7 @@ found_numbers stream (own ∷ rest) = found_before stream 0 own (found_from (str
 
 end_is : (part : Part) (found end : PartEnd) → IsPartOf part found → is_end_of part end ≡ true → end.end == 0 ≡ true → end ≡ start_of found
 end_is part found end of is nothing =
-    let same = both_are (part.stream == end.stream) (part.part == end.part) is in
+    let same = and_parts (part.stream == end.stream) (part.part == end.part) is in
     let stream : end.stream ≡ found.stream = sym (eqb-true part.stream end.stream same.0) ∙ of.stream in
     let number : end.part ≡ found.part = sym (eqb-true part.part end.part same.1) ∙ of.number in
     let none : end.end ≡ 0 = eqb-true end.end 0 nothing in
@@ -145,20 +137,20 @@ start_is [] (f ∷ found) ends are is = absurd are
 start_is (part ∷ parts) [] ends are is = absurd are
 start_is (part ∷ parts) (f ∷ found) [] are is = cc
 start_is (part ∷ parts) (f ∷ found) (end ∷ ends) are is =
-    let first = both_are (is_end_of part end) (end.end == 0 && is_start parts ends) is in
-    let second = both_are (end.end == 0) (is_start parts ends) first.1 in
+    let first = and_parts (is_end_of part end) (end.end == 0 && is_start parts ends) is in
+    let second = and_parts (end.end == 0) (is_start parts ends) first.1 in
     let here = end_is part f end are.0 first.0 second.0 in
     let rest = start_is parts found ends are.1 second.1 in
     λ i. here i ∷ rest i
 
 pub start_of_is : (part : Part) (found : PartEnd) → IsPartOf part found → is_end_of part (start_of found) ≡ true
-start_of_is part found of = both_true (part.stream == found.stream) (part.part == found.part) (eq-eqb part.stream found.stream of.stream) (eq-eqb part.part found.part of.number)
+start_of_is part found of = and_from (part.stream == found.stream) (part.part == found.part) (eq-eqb part.stream found.stream of.stream) (eq-eqb part.part found.part of.number)
 
 pub starts_start : (parts : List Part) (found : Ends) → AreParts parts found → is_start parts (starts found) ≡ true
 starts_start [] [] are = refl
 starts_start [] (f ∷ found) are = absurd are
 starts_start (part ∷ parts) [] are = absurd are
-starts_start (part ∷ parts) (f ∷ found) are = both_true (is_end_of part (start_of f)) _ (start_of_is part f are.0) (starts_start parts found are.1)
+starts_start (part ∷ parts) (f ∷ found) are = and_from (is_end_of part (start_of f)) _ (start_of_is part f are.0) (starts_start parts found are.1)
 
 pub firsts_are : (parts : List Part) (found : Ends) → AreNamed parts found → map (λ part. end_at part 0) parts ≡ starts found
 firsts_are [] [] are = refl
@@ -186,13 +178,42 @@ all_begin stream (own ∷ rest) =
 
 -- ---- how they go on
 
-same_part : (part : Part) (from to : PartEnd) → is_end_of part from ≡ true → is_end_of part to ≡ true → nat_le from.end to.end ≡ true → keeps_up (from, to) ≡ true
+-- Of one part between two cuts: both ends are its own, the end does not fall, and is not above the part's lines, nor above the most that are
+-- taken of a log; and so it is of the rest.
+pub record IsGoing (part : Part) (parts : List Part) (from to : PartEnd) (froms tos : Ends) : Type 0 where
+  pub from_own : is_end_of part from ≡ true
+  pub to_own : is_end_of part to ≡ true
+  pub up : from.end ≤ to.end
+  pub most : to.end ≤ length part.lines
+  pub few : to.end ≤ most_lines
+  pub rest : is_within parts froms tos ≡ true
+
+pub going : (part : Part) (parts : List Part) (from to : PartEnd) (froms tos : Ends) → is_within (part ∷ parts) (from ∷ froms) (to ∷ tos) ≡ true → IsGoing part parts from to froms tos
+going part parts from to froms tos is =
+    let rest = is_within parts froms tos in
+    let there = nat_le to.end (length part.lines) in
+    let few = nat_le to.end most_lines in
+    let first = and_parts (is_end_of part from) (is_end_of part to && (nat_le from.end to.end && (there && (few && rest)))) is in
+    let second = and_parts (is_end_of part to) (nat_le from.end to.end && (there && (few && rest))) first.1 in
+    let third = and_parts (nat_le from.end to.end) (there && (few && rest)) second.1 in
+    let fourth = and_parts there (few && rest) third.1 in
+    let fifth = and_parts few rest fourth.1 in
+    record {
+      from_own = first.0;
+      to_own = second.0;
+      up = leb-true from.end to.end third.0;
+      most = leb-true to.end (length part.lines) fourth.0;
+      few = leb-true to.end most_lines fifth.0;
+      rest = fifth.1;
+    }
+
+same_part : (part : Part) (from to : PartEnd) → is_end_of part from ≡ true → is_end_of part to ≡ true → from.end ≤ to.end → keeps_up (from, to) ≡ true
 same_part part from to is also up =
-    let one = both_are (part.stream == from.stream) (part.part == from.part) is in
-    let other = both_are (part.stream == to.stream) (part.part == to.part) also in
+    let one = and_parts (part.stream == from.stream) (part.part == from.part) is in
+    let other = and_parts (part.stream == to.stream) (part.part == to.part) also in
     let stream : from.stream == to.stream ≡ true = eq-eqb from.stream to.stream (sym (eqb-true part.stream from.stream one.0) ∙ eqb-true part.stream to.stream other.0) in
     let number : from.part == to.part ≡ true = eq-eqb from.part to.part (sym (eqb-true part.part from.part one.1) ∙ eqb-true part.part to.part other.1) in
-    rw (stream, number, up) refl
+    rw (stream, number, le-leb from.end to.end up) refl
 
 record AreFollowing (froms tos : Ends) : Type 0 where
   count : length froms ≡ length tos
@@ -205,15 +226,11 @@ following [] (from ∷ froms) tos is = cc
 following (part ∷ parts) [] tos is = cc
 following (part ∷ parts) (from ∷ froms) [] is = cc
 following (part ∷ parts) (from ∷ froms) (to ∷ tos) is =
-    let rest = is_within parts froms tos in
-    let first = both_are (is_end_of part from) (is_end_of part to && (nat_le from.end to.end && (nat_le to.end (length part.lines) && rest))) is in
-    let second = both_are (is_end_of part to) (nat_le from.end to.end && (nat_le to.end (length part.lines) && rest)) first.1 in
-    let third = both_are (nat_le from.end to.end) (nat_le to.end (length part.lines) && rest) second.1 in
-    let fourth = both_are (nat_le to.end (length part.lines)) rest third.1 in
-    let more = following parts froms tos fourth.1 in
-    record { count = ap suc more.count; each = both_true (keeps_up (from, to)) _ (same_part part from to first.0 second.0 third.0) more.each }
+    let goes = going part parts from to froms tos is in
+    let more = following parts froms tos goes.rest in
+    record { count = ap suc more.count; each = and_from (keeps_up (from, to)) _ (same_part part from to goes.from_own goes.to_own goes.up) more.each }
 
 pub within_follows : (parts : List Part) (froms tos : Ends) → is_within parts froms tos ≡ true → follows froms tos ≡ true
 within_follows parts froms tos is =
     let are = following parts froms tos is in
-    both_true (length froms == length tos) _ (eq-eqb (length froms) (length tos) are.count) are.each
+    and_from (length froms == length tos) _ (eq-eqb (length froms) (length tos) are.count) are.each

@@ -1,14 +1,14 @@
--- What holds of the job of each query, and of each that keeps nothing.
-use Rattle.std.specs.Prelude.{◌≡◌, ◌<◌, ◌≤◌, ◌+◌, ◌^◌, ℕ, List, All, Bool, true, false, length, get_or, slice_get, Option, Some, None, IfSome, is_some, unwrap_or}
+-- What holds of the job of each query.
+use Rattle.std.specs.Prelude.{◌≡◌, ◌<◌, ◌≤◌, ◌+◌, ◌^◌, ℕ, List, All, Bool, true, false, length, ◌&&◌, get_or, slice_get, Option, Some, None, IfSome, is_some, unwrap_or}
 use Rattle.std.specs.Option.{ForSome}
 use Rattle.ssq_outside.specs.Files.{Files}
 use Rattle.ssq_time.specs.Time.{IsLineTime, IsStampTime}
 use Rattle.ssq_shape.specs.declared.bound.Bound.{Bound}
-use Rattle.ssq_shape.specs.declared.bound.Shape.TheVariants.{Plain}
 use Rattle.ssq_meaning.specs.Parts.{Part}
 use Rattle.ssq_meaning.specs.Cut.{Cuts as Offsets}
 use Rattle.ssq_meaning.specs.Feeding.{fault_in}
-use Rattle.ssq_meaning.specs.Epochs.{seen}
+use Rattle.ssq_meaning.specs.Times.{is_above}
+use Rattle.ssq_meaning.specs.Epochs.{seen, watermark_before}
 use Rattle.ssq_water.specs.Water.{HasDelays}
 use Rattle.ssq_plans.specs.declared.part.PartEnd.{PartEnd}
 use Rattle.ssq_plans.specs.Records.{plan_text, IsPlan, IsCommit}
@@ -16,7 +16,7 @@ use Rattle.ssq_core.specs.Course.{Cuts, Job, plan_of, commit_of, AreSameUpTo}
 use Rattle.ssq_core.specs.Machine.{reduce, out_task}
 use Rattle.ssq_core.specs.Standing.{StandsAt}
 use Rattle.ssq_core.specs.Sound.{AreProper}
-use Rattle.ssq_course.specs.Setting.{Setting, parts_in, cut_of, first_ends, watermark_at, state_at, course_of, job_of}
+use Rattle.ssq_course.specs.Setting.{Setting, parts_in, cut_of, cuts_of, first_ends, watermark_at, state_at, closes, partition_fault, course_of, job_of}
 use Rattle.ssq_course.specs.Laws.{IsFit}
 use Rattle.ssq_open.specs.declared.wanted.Lens.{Lens}
 use Rattle.ssq_open.specs.Lens.{asked, found_from}
@@ -56,10 +56,9 @@ PlansCanBeWritten = (s : Setting) (cuts : Cuts) (e : ℕ) → HasDelays s.job.bo
 abbrev pub JobIsWanted : Type 0
 JobIsWanted = (s : Setting) (bound : Bound) (partitions : Option ℕ) (lens : Lens) → IsSettingOf s bound partitions lens → AreFound (found_lines lens) s.lines → IsWantedJob (asked bound partitions lens) (job_of s)
 
--- The files of the state that a job has are those of its states, which are empty before the first epoch. A query that keeps nothing has no
--- such file.
+-- and what the query keeps of each partition, epoch by epoch, are the states that the job's files hold
 abbrev pub StatesAreJobs : Type 0
-StatesAreJobs = (s : Setting) → s.job.bound.shape ≡ Plain → AreStates (job_of s) (state_at s)
+StatesAreJobs = (s : Setting) (bound : Bound) (partitions : Option ℕ) (lens : Lens) → IsSettingOf s bound partitions lens → AreFound (found_lines lens) s.lines → AreStates (job_of s) (state_at s)
 
 -- with the partitions that were asked for, or else one, its record is that of a new checkpoint
 abbrev pub FirstRecordIsJobs : Type 0
@@ -76,9 +75,17 @@ PartsAreFound = (s : Setting) (bound : Bound) (partitions : Option ℕ) (lens : 
 abbrev pub PartsCanBeWritten : Type 0
 PartsCanBeWritten = (s : Setting) (bound : Bound) (partitions : Option ℕ) (lens : Lens) → IsSettingOf s bound partitions lens → AreFound (found_lines lens) s.lines → All IsFit (parts_in s)
 
--- a query that keeps nothing shows nothing without new lines
-abbrev pub never : Cuts → ℕ → Bool
-never cuts e = false
+-- Whether after the first so many epochs one without lines is due: the query closes, and the watermark is above that of the last of them.
+abbrev pub due_at : Setting → Cuts → ℕ → Bool
+due_at s cuts n = closes s.job.bound && is_above (watermark_at s cuts n) (watermark_before s.job.bound (parts_in s) (cuts_of cuts) n)
+
+-- So none is due before the first epoch; and after an epoch one is where the query closes and the watermark has risen by that epoch's end.
+pub record AreDue (s : Setting) (cuts : Cuts) : Type 0 where
+  pub first : due_at s cuts 0 ≡ false
+  pub next : (e : ℕ) → due_at s cuts (e + 1) ≡ (closes s.job.bound && is_above (watermark_at s cuts (e + 1)) (watermark_at s cuts e))
+
+abbrev pub DuesAreOfMarks : Type 0
+DuesAreOfMarks = (s : Setting) (cuts : Cuts) → AreDue s cuts
 
 -- The round of a desk is of this setting: it has its partitions, and before it the lines that were found; and an epoch may take lines.
 pub record IsScopeOf (r : Scope) (s : Setting) (lens : Lens) : Type 0 where
@@ -88,7 +95,7 @@ pub record IsScopeOf (r : Scope) (s : Setting) (lens : Lens) : Type 0 where
 
 -- what the numbers of a desk rest on, with its parts beginning where those that were found do
 abbrev pub HasTerms : Setting → Scope → Lens → Type 0
-HasTerms s r lens = (terms : Terms (job_of s) r never) × (terms.start ≡ starts (found_from 0 lens.streams))
+HasTerms s r lens = (terms : Terms (job_of s) r (due_at s)) × (terms.start ≡ starts (found_from 0 lens.streams))
 
 abbrev pub TasksHaveTerms : Type 0
 TasksHaveTerms = (s : Setting) (bound : Bound) (partitions : Option ℕ) (lens : Lens) (r : Scope) → IsSettingOf s bound partitions lens → AreFound (found_lines lens) s.lines → IsScopeOf r s lens → HasTerms s r lens
@@ -106,15 +113,16 @@ abbrev pub EndsAreOfParts : Type 0
 EndsAreOfParts = (s : Setting) (bound : Bound) (partitions : Option ℕ) (lens : Lens) (cuts : Cuts) (e i : ℕ) (end : PartEnd) → IsSettingOf s bound partitions lens → AreFound (found_lines lens) s.lines
     → cuts 0 ≡ starts (found_from 0 lens.streams) → AreProper (job_of s) cuts e → slice_get (cuts e) i ≡ Some end → IsEndAt (parts_in s) i end
 
--- Which tasks have a fault: a map task where its part has one between the cuts, and no other.
-pub record HasLineFaults (s : Setting) (cuts : Cuts) (e : ℕ) : Type 0 where
+-- Which tasks have a fault: a map task where its part has one between the cuts, a reduce task where a key of its partition overflows, and no
+-- other.
+pub record HasTaskFaults (s : Setting) (cuts : Cuts) (e : ℕ) : Type 0 where
   pub maps : (i : ℕ) (part : Part) → slice_get (parts_in s) i ≡ Some part
       → (course_of s cuts).is_fault (map_task e i) ≡ is_some (fault_in s.job.bound part (get_or (cut_of (cuts e)) i 0) (get_or (cut_of (cuts (e + 1))) i 0))
-  pub reduces : (p : ℕ) → (course_of s cuts).is_fault (reduce e p) ≡ false
+  pub reduces : (p : ℕ) → (course_of s cuts).is_fault (reduce e p) ≡ partition_fault s cuts e p
   pub outs : (course_of s cuts).is_fault (out_task e) ≡ false
 
-abbrev pub FaultsAreLines : Type 0
-FaultsAreLines = (s : Setting) (cuts : Cuts) (e : ℕ) → s.job.bound.shape ≡ Plain → HasLineFaults s cuts e
+abbrev pub FaultsAreOfTasks : Type 0
+FaultsAreOfTasks = (s : Setting) (cuts : Cuts) (e : ℕ) → HasTaskFaults s cuts e
 
 -- Two proper cuts of a job, whose first n plans spell the same, are the same up to there. Where there is no plan, nothing says where they
 -- begin.

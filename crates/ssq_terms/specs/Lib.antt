@@ -2,3 +2,4 @@ pub mod Setting
 pub mod Laws
 pub mod Opening
 pub mod Rows
+pub mod Partitions

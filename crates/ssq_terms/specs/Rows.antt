@@ -1,8 +1,7 @@
 -- What the tasks of an epoch bring, put together.
-use Rattle.std.specs.Prelude.{◌≡◌, ◌<◌, ◌≤◌, ◌+◌, ◌==◌, ℕ, ℤ, List, [], ◌∷◌, length, get_or, Option, None, if◌then◌else◌}
+use Rattle.std.specs.Prelude.{◌≡◌, ◌≤◌, ◌+◌, ◌==◌, ℕ, ℤ, List, [], ◌∷◌, length, Option, None, if◌then◌else◌}
 use Rattle.std.specs.List.Sorted.{IsPermutation}
 use Rattle.ssq_shape.specs.declared.bound.Bound.{Bound}
-use Rattle.ssq_shape.specs.declared.bound.Shape.TheVariants.{Plain}
 use Rattle.ssq_meaning.specs.declared.fed_row.FedRow.{FedRow}
 use Rattle.ssq_meaning.specs.Meaning.{Values}
 use Rattle.ssq_meaning.specs.Parts.{Part}
@@ -10,11 +9,11 @@ use Rattle.ssq_meaning.specs.Cut.{Cut, of_parts}
 use Rattle.ssq_meaning.specs.Cut.{Cuts as Offsets}
 use Rattle.ssq_meaning.specs.Times.{later}
 use Rattle.ssq_meaning.specs.Feeding.{fed_in, time_in, fault_in}
-use Rattle.ssq_meaning.specs.Operator.{operator_of}
-use Rattle.ssq_meaning.specs.Epochs.{joined, fed_between, fed, seen, timely, bucket, out}
+use Rattle.ssq_meaning.specs.Epochs.{joined, fed_between, seen, bucket, out}
 use Rattle.ssq_sink.specs.Sink.{sink_text}
 use Rattle.ssq_core.specs.Course.{Cuts}
-use Rattle.ssq_course.specs.Setting.{Setting, parts_in, cuts_of, watermark_at, rows_at}
+use Rattle.ssq_course.specs.Setting.{Setting, parts_in, cuts_of, rows_at, partition_out}
+use Rattle.ssq_course.specs.Laws.{AreShownApart}
 
 -- what the lines of a part feed to a partition
 abbrev pub bucket_in : Bound → (partitions p : ℕ) → Part → (from to : ℕ) → List FedRow
@@ -33,26 +32,22 @@ pub record IsQuiet (query : Bound) (part : Part) (from to : ℕ) : Type 0 where
 abbrev pub PartsWithoutLinesAreQuiet : Type 0
 PartsWithoutLinesAreQuiet = (query : Bound) (part : Part) (from to : ℕ) → to ≤ from → IsQuiet query part from to
 
--- A reduce task of a partition took its rows of the epoch, in any order, and showed these rows of them: those that the operator shows, in
--- any order, whatever was accepted before, and whatever the watermark before was.
-pub record IsShownOf (s : Setting) (cuts : Cuts) (e p : ℕ) (rows : List Values) : Type 0 where
-  pub taken : List FedRow
-  pub are : IsPermutation taken (bucket s.job.partitions p (fed s.job.bound (parts_in s) (cuts_of cuts) e))
-  pub shows : (old : List FedRow) (before : Option ℤ) → IsPermutation rows ((operator_of s.job.bound).added old (timely s.job.bound (watermark_at s cuts e) taken) before (watermark_at s cuts e))
+-- a reduce task of a partition showed these rows: those of the partition, in any order
+abbrev pub IsShownOf : Setting → Cuts → (e p : ℕ) → List Values → Type 0
+IsShownOf s cuts e p rows = IsPermutation rows (partition_out s cuts e p)
 
 -- of each partition, in order, the rows that its task showed
-pub record AreShown (s : Setting) (cuts : Cuts) (e : ℕ) (shown : List (List Values)) : Type 0 where
-  pub count : length shown ≡ s.job.partitions
-  pub each : (p : ℕ) → p < s.job.partitions → IsShownOf s cuts e p (get_or shown p [])
+abbrev pub AreShown : Setting → Cuts → (e : ℕ) → List (List Values) → Type 0
+AreShown s cuts e shown = AreShownApart s cuts e shown
 
 -- their text is that of the epoch's sink file
 abbrev pub PartitionsShowRows : Type 0
-PartitionsShowRows = (s : Setting) (cuts : Cuts) (e : ℕ) (shown : List (List Values)) → s.job.bound.shape ≡ Plain → 1 ≤ s.job.partitions → AreShown s cuts e shown
+PartitionsShowRows = (s : Setting) (cuts : Cuts) (e : ℕ) (shown : List (List Values)) → 1 ≤ s.job.partitions → AreShown s cuts e shown
     → sink_text s.job.bound (joined shown) ≡ rows_at s cuts e
 
 -- and there are as many as the epoch shows
 abbrev pub PartitionsCountRows : Type 0
-PartitionsCountRows = (s : Setting) (cuts : Cuts) (e : ℕ) (shown : List (List Values)) → s.job.bound.shape ≡ Plain → 1 ≤ s.job.partitions → AreShown s cuts e shown
+PartitionsCountRows = (s : Setting) (cuts : Cuts) (e : ℕ) (shown : List (List Values)) → 1 ≤ s.job.partitions → AreShown s cuts e shown
     → length (joined shown) ≡ length (out s.job.bound (parts_in s) (cuts_of cuts) e)
 
 -- the greatest times of the streams, once the greatest time of a part of this stream is taken in

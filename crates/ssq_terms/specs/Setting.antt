@@ -3,11 +3,15 @@ use Rattle.std.specs.Prelude.{◌≡◌, ◌<◌, ◌≤◌, ◌^◌, ℕ, List,
 use Rattle.std.specs.Option.{ForSome}
 use Rattle.std.specs.Str.{IsUtf8}
 use Rattle.ssq_shape.specs.declared.bound.Bound.{Bound}
+use Rattle.ssq_shape.specs.declared.bound.Grouping.{Grouping}
 use Rattle.ssq_shape.specs.declared.bound.Stream.{Stream}
-use Rattle.ssq_shape.specs.declared.bound.Shape.TheVariants.{Plain}
+use Rattle.ssq_shape.specs.declared.bound.Shape.{Shape}
+use Rattle.ssq_shape.specs.declared.bound.Shape.TheVariants.{Plain, Group, Dedup, Join}
+use Rattle.ssq_shape.specs.Windows.{HasWindows}
 use Rattle.ssq_meaning.specs.Meaning.{Line}
 use Rattle.ssq_meaning.specs.Epochs.{joined}
 use Rattle.ssq_water.specs.Water.{HasDelays}
+use Rattle.ssq_logs.specs.Asked.{most_lines}
 use Rattle.ssq_open.specs.declared.wanted.Lens.{Lens}
 use Rattle.ssq_open.specs.Lens.{CanBeAsked, counts_of}
 use Rattle.ssq_course.specs.Setting.{Setting}
@@ -16,31 +20,45 @@ use Rattle.ssq_course.specs.Setting.{Setting}
 abbrev pub found_lines : Lens → List ℕ
 found_lines lens = joined lens.streams
 
--- of each part, in order, as many lines are found as it will come to hold, or fewer; and they can be counted in 64 bits
+-- Of each part, in order, as many lines are found as it will come to hold, or fewer, and no more than are taken of a log.
 abbrev pub AreFound : List ℕ → List (List Line) → Type 0
 AreFound [] [] = Unit {0}
 AreFound [] (lines ∷ rest) = ⊥
 AreFound (found ∷ more) [] = ⊥
-AreFound (found ∷ more) (lines ∷ rest) = (found ≤ length lines) × (length lines < 2 ^ 64) × AreFound more rest
+AreFound (found ∷ more) (lines ∷ rest) = (found ≤ length lines) × (found ≤ most_lines) × AreFound more rest
 
 -- a stream without a delay has no event column: the language declares both together
 abbrev pub HasEventIfDelayed : Stream → Type 0
 HasEventIfDelayed stream = stream.delay ≡ None → stream.schema.event ≡ None
 
--- A query that keeps nothing: its text is UTF-8 of a length of 64 bits, its delays are ones that the language has, and a stream has an
--- event column only with one.
-pub record IsPlain (bound : Bound) : Type 0 where
-  pub shape : bound.shape ≡ Plain
+-- groups within the limits of the language: GROUP BY has at most 64 parts, and there are at most 64 aggregates
+pub record IsLimited (grouping : Grouping) : Type 0 where
+  pub keys : length grouping.keys ≤ 64
+  pub aggregates : length grouping.aggregates ≤ 64
+
+-- The shapes of query that run: those that keep nothing, and groups within the limits.
+abbrev pub Runs : Shape → Type 0
+Runs Plain = Unit {0}
+Runs (Group grouping) = IsLimited grouping
+Runs (Dedup columns) = ⊥
+Runs (Join joining) = ⊥
+
+-- A query that can be run: it reads one stream or two, its text is UTF-8 of a length of 64 bits, its delays and windows are ones that the
+-- language has, and a stream has an event column only with a delay.
+pub record CanRun (bound : Bound) : Type 0 where
+  pub shape : Runs bound.shape
+  pub few_streams : length bound.streams ≤ 2
   pub utf8 : IsUtf8 bound.text
   pub few : length bound.text < 2 ^ 64
   pub delays : HasDelays bound
+  pub windows : HasWindows bound
   pub events : All HasEventIfDelayed bound.streams
 
 -- The setting is of this query, with 1 to 64 partitions, which are those that are asked for, where that is asked; and of the parts of
 -- its streams, with one log for each.
 pub record IsSettingOf (s : Setting) (bound : Bound) (partitions : Option ℕ) (lens : Lens) : Type 0 where
   pub query : s.job.bound ≡ bound
-  pub plain : IsPlain bound
+  pub runs : CanRun bound
   pub asked : CanBeAsked bound partitions lens
   pub some_partitions : 1 ≤ s.job.partitions
   pub few_partitions : s.job.partitions ≤ 64

@@ -2,12 +2,16 @@
 
 ghost use Rattle.ssq_terms.specs.Rows.{PartsFeedPartitions, PartsWithoutLinesAreQuiet, PartitionsShowRows, PartitionsCountRows, PartsRaiseTimes};
 
+use ssq_course::partitions_show_rows;
+
 /// The law of the epoch's tasks: what the map tasks bring is what each partition is fed and what the commit tells, and what the reduce
-/// tasks of a query that keeps nothing show is what the epoch shows.
+/// tasks show is what the epoch shows.
 pub fn tasks_bring_the_epoch()
     ensures fed { PartsFeedPartitions }
     ensures quiet { PartsWithoutLinesAreQuiet }
     ensures shown { PartitionsShowRows }
     ensures counted { PartitionsCountRows }
     ensures seen { PartsRaiseTimes }
-{}
+{
+    partitions_show_rows();
+}

@@ -2,10 +2,11 @@
 
 ghost use Rattle.ssq_terms.specs.Laws.{JobIsWanted, StatesAreJobs, FirstRecordIsJobs, PartsAreFound, PartsCanBeWritten};
 
-use ssq_course::files_hold_states;
+use ssq_course::{files_hold_states, jobs_are_causal, plans_can_be_written};
+use ssq_json::rows_fit_their_schema;
 
-/// The law of the opening: the job of a query that keeps nothing is the one that is wanted, where its setting is that of the query,
-/// the partitions and the lines that were found.
+/// The law of the opening: the job of a query is the one that is wanted, where its setting is that of the query, the partitions and the
+/// lines that were found; and what the query keeps are the states that the job's files hold.
 pub fn job_is_wanted()
     ensures wanted { JobIsWanted }
     ensures states { StatesAreJobs }
@@ -15,5 +16,8 @@ pub fn job_is_wanted()
     ensures parts { PartsAreFound }
     ensures fit { PartsCanBeWritten }
 {
+    rows_fit_their_schema();
+    jobs_are_causal();
+    plans_can_be_written();
     files_hold_states();
 }

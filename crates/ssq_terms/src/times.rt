@@ -2,6 +2,9 @@
 
 ghost use Rattle.ssq_terms.specs.Laws.{TimesAreOfLines, UnmarkedHaveNoTimes, CommitsCanBeWritten, WatermarksCanBePrinted, PlansCanBeWritten};
 
+use ssq_course::plans_can_be_written;
+use ssq_json::rows_fit_their_schema;
+
 /// The law of times: those that were seen are times of lines. So commits can be written; and where no delay is above 366 days,
 /// watermarks can be printed, and plans can be written.
 pub fn times_are_of_lines()
@@ -11,4 +14,7 @@ pub fn times_are_of_lines()
     ensures commits { CommitsCanBeWritten }
     ensures watermarks { WatermarksCanBePrinted }
     ensures plans { PlansCanBeWritten }
-{}
+{
+    rows_fit_their_schema();
+    plans_can_be_written();
+}

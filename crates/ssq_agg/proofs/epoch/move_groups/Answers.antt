@@ -21,7 +21,7 @@ returns-in-Some-clause-cause c = λ old before given.
     let now = c.args.now in
     let found = get values_cmp c.in_ok-touched.touched in
     let found_is : (key : Values) → found key ≡ touched grouping.aggregates (own key) (members new key) = c.in_ok-touched.ensures.groups own given.holds given.keys given.steady in
-    let shown = c.in_ok-shown.ensures.due own given.holds (subst (AreClosed own (closing_time query grouping) now) (sym c.as_slice.ensures.value) (c.in_ok-closed.ensures.closed own given.holds)) in
+    let shown = c.in_ok-shown.ensures.due own given.holds (subst (AreClosed own (closing_time query grouping) now) (sym c.as_slice.ensures.value) (c.in_ok-closed.ensures.closed query own given.holds given.indexes)) in
     sym (fault_are query grouping old new before now found found_is
     (c.groups_are_kept_whole.ensures query grouping old new before now given.follows)
     (c.groups_are_due_by_what_is_kept.ensures.ended query grouping old new before now given.follows)
@@ -40,7 +40,7 @@ returns-in-None-clause-moved c = λ old before given.
     let now = c.args.now in
     let found = get values_cmp c.in_ok-touched.touched in
     let found_is : (key : Values) → found key ≡ touched grouping.aggregates (own key) (members new key) = c.in_ok-touched.ensures.groups own given.holds given.keys given.steady in
-    let closed = c.in_ok-closed.ensures.closed own given.holds in
+    let closed = c.in_ok-closed.ensures.closed query own given.holds given.indexes in
     let whole = c.groups_are_kept_whole.ensures query grouping old new before now given.follows in
     let ended = c.groups_are_due_by_what_is_kept.ensures.ended query grouping old new before now given.follows in
     let totals = c.groups_are_due_by_what_is_kept.ensures.totals grouping old new in

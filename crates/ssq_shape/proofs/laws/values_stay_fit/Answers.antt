@@ -3,6 +3,7 @@ use Rattle.std.specs.Prelude.{FitsSigned, length, nat_le, ◌≤◌}
 use Rattle.std.specs.Int.{w64}
 use Rattle.std.proofs.lemmas.Int.{ints}
 use Rattle.std.proofs.lemmas.Bool.{and_parts}
+use Rattle.std.proofs.lemmas.Str.{IsUtf8-from_is_utf8}
 use Rattle.std.proofs.lemmas.List.Elements.{recursion_from_All}
 use Rattle.ssq_time.specs.Time.{IsStampTime, is_stamp_time}
 use Rattle.ssq_shape.specs.Evaluation.{is_bigint, longest}
@@ -31,7 +32,7 @@ short : (n most : ℕ) → nat_le n most ≡ true → n ≤ most
 short n most is = grind (arith, is)
 
 fits : HoldsOfResults IsFit
-fits = record { null = tt; int = counted; text = λ t is. short (length t) longest is; time = stamped; truth = λ t. tt }
+fits = record { null = tt; int = counted; text = λ t is. (short (length t) longest (and_parts _ _ is).0, IsUtf8-from_is_utf8 t (and_parts _ _ is).1); time = stamped; truth = λ t. tt }
 
 pub returns : goal.returns
 returns c = λ row x all. value_has IsFit fits [] tt row (recursion_from_All IsFit row all) x

@@ -10,11 +10,11 @@ returns g c =
     let task = c.args.task in
     let rows = joined_vecs task.rows.items in
     elim c.match-state.branch [
-      | in-None w ↦ rw w.store-is
+      | in-None w ↦ rw w.held-is
           (reduced_with s.tells s.written s.sealed s.faults task None w.show_all.result None w.in-None.is refl
           (all_brought s.tells s.written s.sealed s.faults task.view.bound.now task.epoch task.partition task.watermark rows c.requires.fit w.show_all.result w.show_all.ensures.rows w.show_all.ensures.delta)
           (none_failed s.tells s.written s.sealed s.faults task.view.bound.now task.epoch task.partition task.watermark rows w.show_all.result w.show_all.ensures.cause))
-      | in-Some w ↦ rw w.store-is
-          (reduced_with s.tells s.written s.sealed s.faults task (Some w.next_version-store.result.0) w.next_version-store.result.1 (Some w.in-Some.state) w.in-Some.is w.next_version-store.ensures.partition
-          (w.next_version-store.ensures.brought task.partition) (w.next_version-store.ensures.failed task.partition))
+      | in-Some w ↦ rw w.held-is
+          (reduced_with s.tells s.written s.sealed s.faults task (Some w.next_version-held.result.0) w.next_version-held.result.1 (Some w.in-Some.state) w.in-Some.is w.next_version-held.ensures.partition
+          (w.next_version-held.ensures.brought task.partition) (w.next_version-held.ensures.failed task.partition))
     ]

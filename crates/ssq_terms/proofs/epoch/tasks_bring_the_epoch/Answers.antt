@@ -9,10 +9,10 @@ pub returns-clause-quiet : goal.returns-clause-quiet
 returns-clause-quiet c = are_quiet
 
 pub returns-clause-shown : goal.returns-clause-shown
-returns-clause-shown c = show_rows
+returns-clause-shown c = show_rows c.partitions_show_rows.ensures
 
 pub returns-clause-counted : goal.returns-clause-counted
-returns-clause-counted c = count_rows
+returns-clause-counted c = count_rows c.partitions_show_rows.ensures
 
 pub returns-clause-seen : goal.returns-clause-seen
 returns-clause-seen c = raise_times

@@ -1,0 +1,192 @@
+-- A reduce task is given what the operator of its query needs, and what it brings is its partition's own.
+use Rattle.std.proofs.Common.{◌≡◌, ◌<◌, ◌≤◌, ◌+◌, ◌*◌, ◌-◌, ◌^◌, ◌==◌, ◌++◌, [], ◌∷◌, ℕ, ℤ, List, Option, Some, None, Bool, true, false, cond, refl, ap, sym, ◌∙◌, subst, arith, filter, length}
+use Rattle.std.specs.Prelude.{All, IsSomeAnd, not, sum}
+use Rattle.std.specs.List.{AllByRecursion}
+use Rattle.std.proofs.lemmas.List.Elements.{All-append, All-filter, recursion_from_All}
+use Rattle.std.proofs.lemmas.List.Sums.{sum_by-cons}
+use Rattle.ssq_value.specs.declared.value.Value.{Value}
+use Rattle.ssq_value.specs.declared.value.Value.TheVariants as value
+use Rattle.ssq_value.specs.Key.{keys_of}
+use Rattle.ssq_route.specs.Place.{place_of}
+use Rattle.ssq_shape.specs.declared.bound.Bound.{Bound}
+use Rattle.ssq_shape.specs.declared.bound.Grouping.{Grouping}
+use Rattle.ssq_shape.specs.declared.bound.Shape.{Shape}
+use Rattle.ssq_shape.specs.declared.bound.Shape.TheVariants.{Plain, Group, Dedup, Join}
+use Rattle.ssq_shape.specs.Fit.{IsFit}
+use Rattle.ssq_shape.specs.Windows.{HasWindows}
+use Rattle.ssq_meaning.specs.declared.fed_row.FedRow.{FedRow}
+use Rattle.ssq_meaning.specs.Parts.{Part}
+use Rattle.ssq_meaning.specs.Cut.{Cut, AreCuts, AreWithin}
+use Rattle.ssq_meaning.specs.Cut.{Cuts as Offsets}
+use Rattle.ssq_meaning.specs.Epochs.{accepted, fed, on_time, timely, bucket, watermark, watermark_before}
+use Rattle.ssq_meaning.specs.Fit.{IsFitRow}
+use Rattle.ssq_meaning.specs.Group.{kept}
+use Rattle.ssq_meaning.specs.GroupLaws.{Follows, IsGroupRow, held}
+use Rattle.ssq_meaning.specs.Operator.{operator_for, operator_of}
+use Rattle.ssq_agg.specs.Groups.{AreSteady, HasBigints, Held, IsBigint}
+use Rattle.ssq_agg.specs.Steps.{IsKept}
+use Rattle.ssq_core.specs.Course.{Cuts}
+use Rattle.ssq_course.specs.Setting.{Setting, parts_in, cuts_of, watermark_at, keeping_of}
+use Rattle.ssq_course.specs.States.{CoverFewLines}
+use Rattle.ssq_task.specs.declared.partition.State.{State}
+use Rattle.ssq_task.specs.declared.partition.ReduceTask.{ReduceTask}
+use Rattle.ssq_task.specs.Reducing.{IsGiven, IsGivenBy, IsGivenGroups, timely_in}
+use Rattle.ssq_terms.specs.Setting.{Runs}
+use Rattle.ssq_terms.specs.Partitions.{accepted_by, fed_to, on_time_to, mark_before, HoldsPartition, held_in, IsReduceOf, IsGivenPartition, PartitionsContinue}
+use Rattle.ssq_terms.proofs.Covering.{found_covers}
+
+-- what the laws of rows and of groups say
+pub record PartitionLaws : Type 0 where
+  pub fit_accepted : (query : Bound) → HasWindows query → (parts : List Part) (cuts : Offsets) (e : ℕ) → All IsFitRow (accepted query parts cuts e)
+  pub fit_on_time : (query : Bound) → HasWindows query → (parts : List Part) (cuts : Offsets) (e : ℕ) → All IsFitRow (on_time query parts cuts e)
+  pub fit_bucket : (rows : List FedRow) (partitions p : ℕ) → All IsFitRow rows → All IsFitRow (bucket partitions p rows)
+  pub few_accepted : (query : Bound) → HasWindows query → (parts : List Part) (cuts : Offsets) (e : ℕ) → AreCuts parts cuts e → length (accepted query parts cuts e) ≤ 64 * sum (cuts e)
+  pub few_on_time : (query : Bound) → HasWindows query → (parts : List Part) (cuts : Offsets) (e : ℕ) → AreWithin parts (cuts e) (cuts (e + 1))
+      → length (on_time query parts cuts e) ≤ 64 * (sum (cuts (e + 1)) - sum (cuts e))
+  pub few_bucket : (rows : List FedRow) (partitions p : ℕ) → length (bucket partitions p rows) ≤ length rows
+  pub follows : (query : Bound) (grouping : Grouping) → query.shape ≡ Group grouping → (parts : List Part) (cuts : Offsets) (partitions p e : ℕ)
+      → Follows query grouping (bucket partitions p (on_time query parts cuts e)) (watermark_before query parts cuts e) (watermark query parts cuts e)
+  pub joins : (query : Bound) (parts : List Part) (cuts : Offsets) (partitions p e : ℕ)
+      → bucket partitions p (accepted query parts cuts (e + 1)) ≡ bucket partitions p (accepted query parts cuts e) ++ bucket partitions p (on_time query parts cuts e)
+  pub grouped_accepted : (query : Bound) (grouping : Grouping) → query.shape ≡ Group grouping → (parts : List Part) (cuts : Offsets) (e : ℕ) → All (IsGroupRow query grouping) (accepted query parts cuts e)
+  pub grouped_on_time : (query : Bound) (grouping : Grouping) → query.shape ≡ Group grouping → (parts : List Part) (cuts : Offsets) (e : ℕ) → All (IsGroupRow query grouping) (on_time query parts cuts e)
+  pub steady : (query : Bound) (grouping : Grouping) (own : Held) (old new : List FedRow) (before : Option ℤ) → ((key : List Value) → own key ≡ held query grouping old before key)
+      → length old + length new < 2 ^ 64 → AllByRecursion HasBigints old → AllByRecursion HasBigints new → AreSteady grouping.aggregates own new
+
+-- ---- rows
+
+-- two tests pass in any order
+filter_swap : {X : Type 0} (p q : X → Bool) (xs : List X) → filter p (filter q xs) ≡ filter q (filter p xs)
+filter_swap p q [] = refl
+filter_swap {X} p q (x ∷ xs) = by (p x) (q x) refl refl (filter_swap p q xs)
+  where
+    passes : (t : X → Bool) (b : Bool) (rest : List X) → t x ≡ b → filter t (x ∷ rest) ≡ cond b (x ∷ filter t rest) (filter t rest)
+    passes t b rest is = ap (λ (c : Bool). cond c (x ∷ filter t rest) (filter t rest)) is
+
+    by : (a b : Bool) → p x ≡ a → q x ≡ b → filter p (filter q xs) ≡ filter q (filter p xs) → filter p (cond b (x ∷ filter q xs) (filter q xs)) ≡ filter q (cond a (x ∷ filter p xs) (filter p xs))
+    by true true one other rest = passes p true (filter q xs) one ∙ ap (λ (r : List X). x ∷ r) rest ∙ sym (passes q true (filter p xs) other)
+    by true false one other rest = rest ∙ sym (passes q false (filter p xs) other)
+    by false true one other rest = passes p false (filter q xs) one ∙ rest
+    by false false one other rest = rest
+
+-- the rows of a partition that are not late are its rows of those that are not
+pub timely_is : (s : Setting) (cuts : Cuts) (e p : ℕ) → timely s.job.bound (watermark_at s cuts e) (fed_to s cuts e p) ≡ on_time_to s cuts e p
+timely_is s cuts e p =
+    filter_swap (λ (row : FedRow). not ((operator_of s.job.bound).is_late (watermark_at s cuts e) row)) (λ (row : FedRow). place_of (keys_of row.key) s.job.partitions == p)
+    (fed s.job.bound (parts_in s) (cuts_of cuts) e)
+
+bigint_of : (v : Value) → IsFit v → IsBigint v
+bigint_of value.Null fit = tt
+bigint_of (value.Int number) fit = fit
+bigint_of (value.Text text) fit = tt
+bigint_of (value.Time time) fit = tt
+bigint_of (value.Truth truth) fit = tt
+
+bigints_of : (values : List Value) → AllByRecursion IsFit values → AllByRecursion IsBigint values
+bigints_of [] fit = tt
+bigints_of (v ∷ values) fit = (bigint_of v fit.0, bigints_of values fit.1)
+
+have_bigints : (rows : List FedRow) → AllByRecursion IsFitRow rows → AllByRecursion HasBigints rows
+have_bigints [] fit = tt
+have_bigints (row ∷ rows) fit = (bigints_of row.values (recursion_from_All IsFit row.values fit.0.values), have_bigints rows fit.1)
+
+-- each key of a partition has a value for each part of GROUP BY
+lengths_of : (query : Bound) (grouping : Grouping) (partitions p : ℕ) (rows : List FedRow) → All (IsGroupRow query grouping) rows → All (λ (row : FedRow). length row.key ≡ length grouping.keys) (bucket partitions p rows)
+lengths_of query grouping partitions p rows all k d less = (All-filter (λ (row : FedRow). place_of (keys_of row.key) partitions == p) (IsGroupRow query grouping) rows all k d less).key
+
+kept_rows : (grouping : Grouping) (rows : List FedRow) → All IsFitRow rows → All (λ (row : FedRow). length row.key ≡ length grouping.keys) rows → All (IsKept grouping) rows
+kept_rows grouping rows fit lengths k d less = record { fit = fit k d less; many = lengths k d less }
+
+sums_rise : (parts : List Part) (froms tos : Cut) → AreWithin parts froms tos → sum froms ≤ sum tos
+sums_rise [] [] [] are = omega arith
+sums_rise [] [] (to ∷ tos) are = absurd are
+sums_rise [] (from ∷ froms) tos are = absurd are
+sums_rise (part ∷ parts) [] tos are = absurd are
+sums_rise (part ∷ parts) (from ∷ froms) [] are = absurd are
+sums_rise (part ∷ parts) (from ∷ froms) (to ∷ tos) are = omega (arith, sum_by-cons (λ n. n) from froms, sum_by-cons (λ n. n) to tos, are.0, sums_rise parts froms tos are.1)
+
+-- ---- the operator of groups
+
+kept_is : (query : Bound) (grouping : Grouping) → query.shape ≡ Group grouping → (rows : List FedRow) (now : Option ℤ) → (operator_of query).state rows now ≡ kept query grouping rows now
+unfolding operator_of
+kept_is query grouping is rows now = ap (λ (shape : Shape). (operator_for shape query).state rows now) is
+
+module _ (laws : PartitionLaws) (s : Setting) (cuts : Cuts) (e p : ℕ) (windows : HasWindows s.job.bound) (covers : CoverFewLines s cuts (e + 1)) where
+  few_rows : length (accepted_by s cuts e p) + length (on_time_to s cuts e p) < 2 ^ 64
+  few_rows =
+      let query = s.job.bound in
+      let parts = parts_in s in
+      let offsets = cuts_of cuts in
+      let within = covers.are_cuts.follow e (omega arith) in
+      let before : AreCuts parts offsets e = record { starts = covers.are_cuts.starts; follow = λ f less. covers.are_cuts.follow f (omega (arith, less)) } in
+      omega (
+        arith,
+        laws.few_bucket (accepted query parts offsets e) s.job.partitions p,
+        laws.few_bucket (on_time query parts offsets e) s.job.partitions p,
+        laws.few_accepted query windows parts offsets e before,
+        laws.few_on_time query windows parts offsets e within,
+        sums_rise parts (offsets e) (offsets (e + 1)) within,
+        covers.few,
+      )
+
+module _ {S : Type 0} (laws : PartitionLaws) (s : Setting) (cuts : Cuts) (e p : ℕ) (below : p < s.job.partitions) (windows : HasWindows s.job.bound) (covers : CoverFewLines s cuts (e + 1)) where
+  given_groups : (grouping : Grouping) → s.job.bound.shape ≡ Group grouping → (state : Option (State S)) → HoldsPartition s cuts e p (held_in state)
+      → IsSomeAnd state (IsGivenGroups s.job.bound grouping p (accepted_by s cuts e p) (on_time_to s cuts e p) (mark_before s cuts e) (watermark_at s cuts e))
+  given_groups grouping is None there =
+      let keeping : keeping_of s.job.bound.shape s.job.partitions ≡ s.job.partitions = ap (λ (shape : Shape). keeping_of shape s.job.partitions) is in
+      absurd (omega (arith, there.store, keeping, below))
+  given_groups grouping is (Some state) there =
+      let query = s.job.bound in
+      let parts = parts_in s in
+      let offsets = cuts_of cuts in
+      let old = accepted_by s cuts e p in
+      let new = on_time_to s cuts e p in
+      let fit_old : All IsFitRow old = laws.fit_bucket (accepted query parts offsets e) s.job.partitions p (laws.fit_accepted query windows parts offsets e) in
+      let fit_new : All IsFitRow new = laws.fit_bucket (on_time query parts offsets e) s.job.partitions p (laws.fit_on_time query windows parts offsets e) in
+      record {
+        own = there.store.1;
+        given = record {
+          groups = is;
+          kept = there.store.2 ∙ kept_is query grouping is old (mark_before s cuts e);
+          indexed = there.indexed;
+          follows = laws.follows query grouping is parts offsets s.job.partitions p e;
+          steady = laws.steady query grouping (held query grouping old (mark_before s cuts e)) old new (mark_before s cuts e) (λ key. refl) (few_rows laws s cuts e p windows covers)
+              (have_bigints old (recursion_from_All IsFitRow old fit_old)) (have_bigints new (recursion_from_All IsFitRow new fit_new));
+          rows = All-append (IsKept grouping) old new
+              (kept_rows grouping old fit_old (lengths_of query grouping s.job.partitions p (accepted query parts offsets e) (laws.grouped_accepted query grouping is parts offsets e)))
+              (kept_rows grouping new fit_new (lengths_of query grouping s.job.partitions p (on_time query parts offsets e) (laws.grouped_on_time query grouping is parts offsets e)));
+        };
+      }
+
+  given_nothing : (state : Option (State S)) → HoldsPartition s cuts e p (held_in state) → keeping_of s.job.bound.shape s.job.partitions ≡ 0 → state ≡ None
+  given_nothing None there none = refl
+  given_nothing (Some state) there none = absurd (omega (arith, there.store.0, none))
+
+  given_by : (shape : Shape) → s.job.bound.shape ≡ shape → Runs shape → (state : Option (State S)) → HoldsPartition s cuts e p (held_in state)
+      → IsGivenBy shape s.job.bound p (accepted_by s cuts e p) (on_time_to s cuts e p) (mark_before s cuts e) (watermark_at s cuts e) state
+  given_by Plain is runs state there = given_nothing state there (ap (λ (shape : Shape). keeping_of shape s.job.partitions) is)
+  given_by (Group grouping) is runs state there = given_groups grouping is state there
+  given_by (Dedup columns) is runs state there = absurd runs
+  given_by (Join joining) is runs state there = absurd runs
+
+-- ---- the task
+
+module _ {S F : Type 0} (s : Setting) (cuts : Cuts) (e : ℕ) (task : ReduceTask S F) (of : IsReduceOf s cuts e task) where
+  -- its rows that are not late are those of the epoch
+  pub rows_are : timely_in task ≡ on_time_to s cuts e task.partition
+  rows_are = (λ i. timely (of.query i) (of.watermark i) (of.rows i)) ∙ timely_is s cuts e task.partition
+
+  given_as : IsGiven s.job.bound task.partition (accepted_by s cuts e task.partition) (on_time_to s cuts e task.partition) (mark_before s cuts e) (watermark_at s cuts e) task.state → IsGivenPartition s cuts e task
+  given_as given =
+      let old = accepted_by s cuts e task.partition in
+      let before = mark_before s cuts e in
+      subst (λ (query : Bound). IsGiven query task.partition old (timely_in task) before task.watermark task.state) (sym of.query)
+      (subst (λ (now : Option ℤ). IsGiven s.job.bound task.partition old (timely_in task) before now task.state) (sym of.watermark)
+      (subst (λ (new : List FedRow). IsGiven s.job.bound task.partition old new before (watermark_at s cuts e) task.state) (sym rows_are) given))
+
+pub continue : {S F : Type 0} → PartitionLaws → PartitionsContinue S F
+continue laws s bound partitions lens cuts e task is found covered of =
+    let runs : Runs s.job.bound.shape = subst (λ (b : Bound). Runs b.shape) (sym is.query) is.runs.shape in
+    let windows : HasWindows s.job.bound = subst HasWindows (sym is.query) is.runs.windows in
+    let covers = found_covers s bound partitions lens is found cuts (e + 1) covered in
+    given_as s cuts e task of (given_by laws s cuts e task.partition of.below windows covers s.job.bound.shape refl runs task.state of.held)

@@ -1,0 +1,30 @@
+//! How partitions go on from epoch to epoch.
+
+ghost use Rattle.ssq_terms.specs.Partitions.{KeysAreLeast, PartitionsAreBrought, PartitionsContinue};
+
+use ssq_agg::few_rows_are_steady;
+use ssq_meaning::{
+    epochs_of_groups_follow, fed_rows_are_few, fed_rows_are_fit, groups_are_fed_by_their_keys,
+    groups_fall_into_partitions,
+};
+use ssq_outside::Stage;
+
+/// The law of partitions: the reduce task of a partition in an epoch, with the rows that the epoch feeds to it and the state after the
+/// epochs before, is given all that the operator of the query needs; and what it brings is the partition's own.
+pub fn partitions_continue<S: Stage>()
+    ensures given { PartitionsContinue S S.Sealed }
+    ensures brought { PartitionsAreBrought S.tells S.written S.sealed S.faults }
+{
+    fed_rows_are_fit();
+    fed_rows_are_few();
+    epochs_of_groups_follow();
+    groups_are_fed_by_their_keys();
+    few_rows_are_steady();
+}
+
+/// The law of keys that overflow: the least on which an epoch does is the least of those on which its partitions do.
+pub fn partitions_overflow()
+    ensures { KeysAreLeast }
+{
+    groups_fall_into_partitions();
+}
