@@ -15,7 +15,7 @@ use Rattle.ssq_board.specs.declared.front.Cause.{Cause}
 use Rattle.ssq_board.specs.declared.front.Place.TheVariants as place
 use Rattle.ssq_board.specs.declared.front.Entry.{Entry}
 use Rattle.ssq_board.specs.declared.front.Entry.TheVariants as entry
-use Rattle.ssq_board.specs.Core.{Scope, Core, comes_back, fault_at, is_fine, is_open, is_stopped, is_of_line, may_start, at, moved, with_front, tasks_of, due, or_stop, stops, stopped_front, May, after, events_of, events_all, cuts_by}
+use Rattle.ssq_board.specs.Core.{Scope, Core, comes_back, fault_at, is_fine, is_open, is_stopped, is_of_epoch, may_start, at, moved, with_front, tasks_of, due, or_stop, stops, stopped_front, May, after, events_of, events_all, cuts_by}
 use Rattle.ssq_board.specs.Core as board
 use Rattle.ssq_board.specs.Shown.{IsSound}
 use Rattle.ssq_board.specs.Follows.{Terms, State, Leads, change_of, Moves, IsOwnBy, IsOwn, BringsNone, IsRight, ShowsAt, Shows, life_of, shown}
@@ -101,7 +101,7 @@ module _ (told : Type 0) (job : Job) (r : Scope) (next : Cuts → ℕ → Bool) 
 
   -- where a task failed, its cause is one of the outside
   abbrev FailedBy : machine.Place → Option Cause → Type 0
-  FailedBy there f = there ≡ machine.failed → (g : Cause) × (f ≡ Some g) × (is_of_line g ≡ false)
+  FailedBy there f = there ≡ machine.failed → (g : Cause) × (f ≡ Some g) × (is_of_epoch g ≡ false)
 
   out_reduce : {A : Type 0} → kind.Out ≡ kind.Reduce → A
   out_reduce e = absurd (cc)
@@ -127,7 +127,7 @@ module _ (told : Type 0) (job : Job) (r : Scope) (next : Cuts → ℕ → Bool) 
   not_sealed kind.Upkeep t g = refl
 
   fault_leads : (disk : History) (c : Core) (d : Desk) (t : TaskId) (g : Cause) → d.tasks t ≡ machine.out → IsOwn (job.course d.cuts) t (Some g) → ReportLeads disk c d t (Some g)
-  fault_leads disk c d t g out own = by (is_of_line g) refl own
+  fault_leads disk c d t g out own = by (is_of_epoch g) refl own
     where
       leads : (there : machine.Place) → FailedBy there (Some g) → MayOn job d (life_of c.front.stop) (event.Report t) nothing (placed t there d) → ReportLeads disk c d t (Some g)
       leads there why may = (
@@ -138,7 +138,7 @@ module _ (told : Type 0) (job : Job) (r : Scope) (next : Cuts → ℕ → Bool) 
             (sym (not_sealed t.kind t g)) (one_report disk c d t there may),
       )
 
-      by : (b : Bool) → is_of_line g ≡ b → IsOwnBy ((job.course d.cuts).is_fault t) b → ReportLeads disk c d t (Some g)
+      by : (b : Bool) → is_of_epoch g ≡ b → IsOwnBy ((job.course d.cuts).is_fault t) b → ReportLeads disk c d t (Some g)
       by false is h = leads machine.failed (λ e. (g, refl, is)) (inl (out, refl, refl, owes_none c.front.stop))
       by true is fault = leads (machine.back ((job.course d.cuts).is_fault t) None) (λ e. back_failed e) (inr (None, inl (out, refl, inl fault), inl (refl, refl, owes_none c.front.stop, inr (λ k h. refl))))
 

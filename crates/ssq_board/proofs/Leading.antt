@@ -11,7 +11,7 @@ use Rattle.ssq_core.specs.Machine as machine
 use Rattle.ssq_board.specs.declared.front.Cause.{Cause}
 use Rattle.ssq_board.specs.declared.front.Place.TheVariants as place
 use Rattle.ssq_board.specs.declared.front.Entry.{Entry}
-use Rattle.ssq_board.specs.Core.{Scope, Core, is_fine, is_open, is_stopped, is_of_line, may_start, at, moved, with_front, tasks_of, due, or_stop, stops, stopped_front, May, after, events_of, events_all, cuts_by}
+use Rattle.ssq_board.specs.Core.{Scope, Core, is_fine, is_open, is_stopped, is_of_epoch, may_start, at, moved, with_front, tasks_of, due, or_stop, stops, stopped_front, May, after, events_of, events_all, cuts_by}
 use Rattle.ssq_board.specs.Core as board
 use Rattle.ssq_board.specs.Follows.{Terms, Goes, Tries, IsDone, Shows, life_of, shown}
 

@@ -6,7 +6,7 @@ use lib.ListN.{get_elem?}
 use Rattle.ssq_board.specs.declared.front.Cause.{Cause}
 use Rattle.ssq_board.specs.declared.front.Place.{Place}
 use Rattle.ssq_board.specs.declared.front.Place.TheVariants as place
-use Rattle.ssq_board.specs.Core.{is_here, is_of_line, worse_by, worse, fault_at, fault_in, due_of, due_stop}
+use Rattle.ssq_board.specs.Core.{is_here, is_of_epoch, worse_by, worse, fault_at, fault_in, due_of, due_stop}
 use Rattle.ssq_board.specs.Laws.{IsCauseOf}
 
 none_some : {A : Type 0} {f : Cause} → None ≡ Some f → A
@@ -43,51 +43,51 @@ none_in (p ∷ ps) (suc i) g e here = none_in ps i g (rest (fault_at p) (fault_i
     rest (Some h) (Some l) e = some_none e
 
 abbrev Counts : List Place → Cause → Type 0
-Counts ps f = (at : ℕ) × (get_elem? ps at ≡ some (place.Back (Some f))) × (is_of_line f ≡ true → (i : ℕ) (g : Cause) → get_elem? ps i ≡ some (place.Back (Some g)) → (is_of_line g ≡ true) × (at ≤ i))
+Counts ps f = (at : ℕ) × (get_elem? ps at ≡ some (place.Back (Some f))) × (is_of_epoch f ≡ true → (i : ℕ) (g : Cause) → get_elem? ps i ≡ some (place.Back (Some g)) → (is_of_epoch g ≡ true) × (at ≤ i))
 
 counts : (ps : List Place) (f : Cause) → fault_in ps ≡ Some f → Counts ps f
 counts [] f e = none_some e
 counts (p ∷ ps) f e = by (λ l h. counts ps l h) (fault_at p) (fault_in ps) refl refl e
   where
-    of_line : (h g : Cause) → fault_at p ≡ Some h → get_elem? (p ∷ ps) 0 ≡ some (place.Back (Some g)) → is_of_line h ≡ true → is_of_line g ≡ true
-    of_line h g at here line = ap is_of_line (some_is g h (ap fault_at (sym (some-injective p (place.Back (Some g)) here)) ∙ at)) ∙ line
+    of_line : (h g : Cause) → fault_at p ≡ Some h → get_elem? (p ∷ ps) 0 ≡ some (place.Back (Some g)) → is_of_epoch h ≡ true → is_of_epoch g ≡ true
+    of_line h g at here line = ap is_of_epoch (some_is g h (ap fault_at (sym (some-injective p (place.Back (Some g)) here)) ∙ at)) ∙ line
 
     later : (h : Cause) → fault_at p ≡ None → Counts ps h → Counts (p ∷ ps) h
     later h none c = (suc c.0, c.1, λ line i g here. at_later line i g here)
       where
-        at_later : is_of_line h ≡ true → (i : ℕ) (g : Cause) → get_elem? (p ∷ ps) i ≡ some (place.Back (Some g)) → (is_of_line g ≡ true) × (suc c.0 ≤ i)
+        at_later : is_of_epoch h ≡ true → (i : ℕ) (g : Cause) → get_elem? (p ∷ ps) i ≡ some (place.Back (Some g)) → (is_of_epoch g ≡ true) × (suc c.0 ≤ i)
         at_later line zero g here = none_some (sym none ∙ ap fault_at (some-injective p (place.Back (Some g)) here))
         at_later line (suc i) g here = let r = c.2 line i g here in (r.0, omega (arith, r.1))
 
-    here_first : (h : Cause) → fault_at p ≡ Some h → (is_of_line h ≡ true → (i : ℕ) (g : Cause) → get_elem? ps i ≡ some (place.Back (Some g)) → is_of_line g ≡ true) → Counts (p ∷ ps) h
+    here_first : (h : Cause) → fault_at p ≡ Some h → (is_of_epoch h ≡ true → (i : ℕ) (g : Cause) → get_elem? ps i ≡ some (place.Back (Some g)) → is_of_epoch g ≡ true) → Counts (p ∷ ps) h
     here_first h at others = (0, ap some (back_of p h at), λ line i g here. at_here line i g here)
       where
-        at_here : is_of_line h ≡ true → (i : ℕ) (g : Cause) → get_elem? (p ∷ ps) i ≡ some (place.Back (Some g)) → (is_of_line g ≡ true) × (0 ≤ i)
+        at_here : is_of_epoch h ≡ true → (i : ℕ) (g : Cause) → get_elem? (p ∷ ps) i ≡ some (place.Back (Some g)) → (is_of_epoch g ≡ true) × (0 ≤ i)
         at_here line zero g here = (of_line h g at here line, omega arith)
         at_here line (suc i) g here = (others line i g here, omega arith)
 
-    outside_later : (l : Cause) → is_of_line l ≡ false → Counts ps l → Counts (p ∷ ps) l
+    outside_later : (l : Cause) → is_of_epoch l ≡ false → Counts ps l → Counts (p ∷ ps) l
     outside_later l out c = (suc c.0, c.1, λ line. absurd (true≢false (sym line ∙ out)))
 
     by : ((l : Cause) → fault_in ps ≡ Some l → Counts ps l) → (a o : Option Cause) → fault_at p ≡ a → fault_in ps ≡ o → worse a o ≡ Some f → Counts (p ∷ ps) f
     by within None o at is e = later f at (within f (is ∙ e))
     by within (Some h) None at is e = subst (Counts (p ∷ ps)) (some_is h f e) (here_first h at (λ line i g here. absurd (none_in ps i g is here)))
-    by within (Some h) (Some l) at is e = by_line (is_of_line h) (is_of_line l) refl refl
+    by within (Some h) (Some l) at is e = by_line (is_of_epoch h) (is_of_epoch l) refl refl
       where
-        by_line : (a b : Bool) → is_of_line h ≡ a → is_of_line l ≡ b → Counts (p ∷ ps) f
+        by_line : (a b : Bool) → is_of_epoch h ≡ a → is_of_epoch l ≡ b → Counts (p ∷ ps) f
         by_line false b hl ll = subst (Counts (p ∷ ps)) (some_is h f (sym (ap (λ (x : Bool). Some (worse_by x h l)) hl) ∙ e)) (here_first h at (λ line. absurd (true≢false (sym line ∙ hl))))
         by_line true true hl ll = subst (Counts (p ∷ ps)) (some_is h f (sym (ap (λ (x : Bool). Some (worse_by x h l)) hl ∙ ap (λ (x : Bool). Some (if x then h else l)) ll) ∙ e))
             (here_first h at (λ line i g here. ((within l is).2 ll i g here).0))
         by_line true false hl ll = subst (Counts (p ∷ ps)) (some_is l f (sym (ap (λ (x : Bool). Some (worse_by x h l)) hl ∙ ap (λ (x : Bool). Some (if x then h else l)) ll) ∙ e)) (outside_later l ll (within l is))
 
-due_in : (all : Bool) (o : Option Cause) (f : Cause) → due_of all o ≡ Some f → (o ≡ Some f) × (is_of_line f ≡ true → all ≡ true)
+due_in : (all : Bool) (o : Option Cause) (f : Cause) → due_of all o ≡ Some f → (o ≡ Some f) × (is_of_epoch f ≡ true → all ≡ true)
 due_in all None f e = none_some e
 due_in true (Some h) f e = (e, λ line. refl)
-due_in false (Some h) f e = by (is_of_line h) refl e
+due_in false (Some h) f e = by (is_of_epoch h) refl e
   where
-    by : (b : Bool) → is_of_line h ≡ b → (if not (is_of_line h) then Some h else None) ≡ Some f → (Some h ≡ Some f) × (is_of_line f ≡ true → false ≡ true)
+    by : (b : Bool) → is_of_epoch h ≡ b → (if not (is_of_epoch h) then Some h else None) ≡ Some f → (Some h ≡ Some f) × (is_of_epoch f ≡ true → false ≡ true)
     by true is e = none_some (sym (ap (λ (b : Bool). if not b then Some h else None) is) ∙ e)
-    by false is e = let same = sym (ap (λ (b : Bool). if not b then Some h else None) is) ∙ e in (same, λ line. absurd (true≢false (sym line ∙ sym (ap is_of_line (some_is h f same)) ∙ is)))
+    by false is e = let same = sym (ap (λ (b : Bool). if not b then Some h else None) is) ∙ e in (same, λ line. absurd (true≢false (sym line ∙ sym (ap is_of_epoch (some_is h f same)) ∙ is)))
 
 pub cause_counts : (ps : List Place) (f : Cause) → due_stop ps ≡ Some f → IsCauseOf ps f
 cause_counts ps f e =

@@ -15,7 +15,7 @@ use Rattle.ssq_board.specs.declared.front.Place.{Place}
 use Rattle.ssq_board.specs.declared.front.Place.TheVariants as place
 use Rattle.ssq_board.specs.declared.front.Entry.{Entry}
 use Rattle.ssq_board.specs.declared.front.Entry.TheVariants as entry
-use Rattle.ssq_board.specs.Core.{Scope, Core, next_ends, dealt, is_here, is_open, is_stopped, tasks_of, if_map, if_reduce, if_out, with_tasks, moved, with_front, is_of_line, worse_by, fault_at, fault_in, worse, due_of, due_stop, or_stop, due, May, stopped_front, version_front, after}
+use Rattle.ssq_board.specs.Core.{Scope, Core, next_ends, dealt, is_here, is_open, is_stopped, tasks_of, if_map, if_reduce, if_out, with_tasks, moved, with_front, is_of_epoch, worse_by, fault_at, fault_in, worse, due_of, due_stop, or_stop, due, May, stopped_front, version_front, after}
 use Rattle.ssq_board.specs.Shown.{Start, first_by, first, first_place, IsStart, IsSound}
 use Rattle.ssq_board.specs.Follows.{State, Leads}
 use Rattle.ssq_board.proofs.Lists.{set_length, replicate_length, map_length, dealt_length, next_length, nat_lt-not, nat_lt-less, nat_lt-is}
@@ -113,19 +113,19 @@ first_sound r s is = by s.is_planned
     }
 
 -- a cause of the outside is the one that counts
-first_in : (g : Cause) (o : Option Cause) → is_of_line g ≡ false → worse (Some g) o ≡ Some g
+first_in : (g : Cause) (o : Option Cause) → is_of_epoch g ≡ false → worse (Some g) o ≡ Some g
 first_in g None e = refl
 first_in g (Some later) e = ap (λ (b : Bool). Some (worse_by b g later)) e
 
-later_in : (h : Cause) (o : Option Cause) → is_of_line h ≡ false → (k : Cause) × (worse o (Some h) ≡ Some k) × (is_of_line k ≡ false)
+later_in : (h : Cause) (o : Option Cause) → is_of_epoch h ≡ false → (k : Cause) × (worse o (Some h) ≡ Some k) × (is_of_epoch k ≡ false)
 later_in h None e = (h, refl, e)
-later_in h (Some first) e = by (is_of_line first) refl
+later_in h (Some first) e = by (is_of_epoch first) refl
   where
-    by : (b : Bool) → is_of_line first ≡ b → (k : Cause) × (Some (worse_by (is_of_line first) first h) ≡ Some k) × (is_of_line k ≡ false)
+    by : (b : Bool) → is_of_epoch first ≡ b → (k : Cause) × (Some (worse_by (is_of_epoch first) first h) ≡ Some k) × (is_of_epoch k ≡ false)
     by true is = (h, ap (λ (b : Bool). Some (worse_by b first h)) is ∙ ap (λ (b : Bool). Some (if b then first else h)) e, e)
     by false is = (first, ap (λ (b : Bool). Some (worse_by b first h)) is, is)
 
-outside_in : (ps : List Place) (i : ℕ) (g : Cause) (q : Place) → get_elem? ps i ≡ some q → is_of_line g ≡ false → (h : Cause) × (fault_in (set ps i (place.Back (Some g))) ≡ Some h) × (is_of_line h ≡ false)
+outside_in : (ps : List Place) (i : ℕ) (g : Cause) (q : Place) → get_elem? ps i ≡ some q → is_of_epoch g ≡ false → (h : Cause) × (fault_in (set ps i (place.Back (Some g))) ≡ Some h) × (is_of_epoch h ≡ false)
 outside_in [] i g q here e = absurd (some-ne-none q (sym here))
 outside_in (p ∷ ps) zero g q here e = (g, first_in g (fault_in ps) e, e)
 outside_in (p ∷ ps) (suc i) g q here e =
@@ -133,12 +133,12 @@ outside_in (p ∷ ps) (suc i) g q here e =
     let k = later_in l.0 (fault_at p) l.2 in
     (k.0, ap (worse (fault_at p)) l.1 ∙ k.1, k.2)
 
-due_some : (all : Bool) (h : Cause) → is_of_line h ≡ false → due_of all (Some h) ≡ Some h
+due_some : (all : Bool) (h : Cause) → is_of_epoch h ≡ false → due_of all (Some h) ≡ Some h
 due_some true h e = refl
 due_some false h e = ap (λ (b : Bool). if not b then Some h else None) e
 
 -- a phase with one stops
-pub outside_due : (ps : List Place) (i : ℕ) (g : Cause) (q : Place) → get_elem? ps i ≡ some q → is_of_line g ≡ false → due_stop (set ps i (place.Back (Some g))) ≡ None → ⊥
+pub outside_due : (ps : List Place) (i : ℕ) (g : Cause) (q : Place) → get_elem? ps i ≡ some q → is_of_epoch g ≡ false → due_stop (set ps i (place.Back (Some g))) ≡ None → ⊥
 outside_due ps i g q here e none =
     let l = outside_in ps i g q here e in
     let now = list_all is_here (set ps i (place.Back (Some g))) in

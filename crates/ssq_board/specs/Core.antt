@@ -144,21 +144,22 @@ may_start c kind.Reduce = c.front.fresh && list_all is_fine c.maps
 may_start c kind.Out = c.front.fresh && (list_all is_fine c.maps && list_all is_fine c.reduces)
 may_start c kind.Upkeep = false
 
--- a cause that is a line's own: any other comes from outside
-abbrev pub is_of_line : Cause → Bool
-is_of_line (cause.BadLine s p o f) = true
-is_of_line (cause.Overflow s p o) = true
-is_of_line _ = false
+-- a cause that is the epoch's own, of a line or of a key: any other comes from outside
+abbrev pub is_of_epoch : Cause → Bool
+is_of_epoch (cause.BadLine s p o f) = true
+is_of_epoch (cause.Overflow s p o) = true
+is_of_epoch cause.KeyOverflow = true
+is_of_epoch _ = false
 
--- Of two causes the one that counts: one from outside before a line's, and else the first.
+-- Of two causes the one that counts: one from outside before the epoch's own, and else the first.
 abbrev pub worse_by : Bool → Cause → Cause → Cause
-worse_by true first later = if is_of_line later then first else later
+worse_by true first later = if is_of_epoch later then first else later
 worse_by false first later = first
 
 abbrev pub worse : Option Cause → Option Cause → Option Cause
 worse None later = later
 worse (Some first) None = Some first
-worse (Some first) (Some later) = Some (worse_by (is_of_line first) first later)
+worse (Some first) (Some later) = Some (worse_by (is_of_epoch first) first later)
 
 abbrev pub fault_at : Place → Option Cause
 fault_at (place.Back fault) = fault
@@ -169,10 +170,10 @@ abbrev pub fault_in : List Place → Option Cause
 fault_in [] = None
 fault_in (p ∷ ps) = worse (fault_at p) (fault_in ps)
 
--- A phase stops for a cause from outside at once, and for a line's only where none of its tasks is to come.
+-- A phase stops for a cause from outside at once, and for the epoch's own only where none of its tasks is to come.
 abbrev pub due_of : Bool → Option Cause → Option Cause
 due_of all None = None
-due_of all (Some f) = if all || not (is_of_line f) then Some f else None
+due_of all (Some f) = if all || not (is_of_epoch f) then Some f else None
 
 abbrev pub due_stop : List Place → Option Cause
 due_stop ps = due_of (list_all is_here ps) (fault_in ps)

@@ -17,7 +17,7 @@ use Rattle.ssq_board.specs.declared.front.Place.{Place}
 use Rattle.ssq_board.specs.declared.front.Place.TheVariants as place
 use Rattle.ssq_board.specs.declared.front.Entry.{Entry}
 use Rattle.ssq_board.specs.declared.front.Entry.TheVariants as entry
-use Rattle.ssq_board.specs.Core.{Scope, Core, next_ends, is_behind, has_line, has_line_at, at, is_open, is_of_line, comes_back, May, after, cuts_by}
+use Rattle.ssq_board.specs.Core.{Scope, Core, next_ends, is_behind, has_line, has_line_at, at, is_open, is_of_epoch, comes_back, May, after, cuts_by}
 
 abbrev pub map_task : ℕ → ℕ → TaskId
 map_task e i = record { epoch = e; kind = kind.Map; number = i }
@@ -96,7 +96,7 @@ IsOwnBy is_fault false = Unit {0}
 
 abbrev pub IsOwn : Course → TaskId → Option Cause → Type 0
 IsOwn course t None = course.is_fault t ≡ false
-IsOwn course t (Some f) = IsOwnBy (course.is_fault t) (is_of_line f)
+IsOwn course t (Some f) = IsOwnBy (course.is_fault t) (is_of_epoch f)
 
 -- A task brings no version: it met a fault, or is no reduce task of a partition that keeps state.
 abbrev pub BringsNoneBy : Course → TaskId → Kind → Option Cause → Type 0

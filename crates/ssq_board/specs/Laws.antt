@@ -11,7 +11,7 @@ use Rattle.ssq_board.specs.declared.front.Cause.{Cause}
 use Rattle.ssq_board.specs.declared.front.Place.{Place}
 use Rattle.ssq_board.specs.declared.front.Place.TheVariants as place
 use Rattle.ssq_board.specs.declared.front.Entry.{Entry}
-use Rattle.ssq_board.specs.Core.{Scope, Core, May, IsFull, after, is_open, is_stopped, is_behind, is_here, is_of_line, due_stop, need, ready_of, events_all}
+use Rattle.ssq_board.specs.Core.{Scope, Core, May, IsFull, after, is_open, is_stopped, is_behind, is_here, is_of_epoch, due_stop, need, ready_of, events_all}
 use Rattle.ssq_board.specs.Shown.{Start, IsStart, IsSound, first}
 use Rattle.ssq_board.specs.declared.front.Entry.TheVariants as entry
 use Rattle.ssq_board.specs.declared.front.Ready.TheVariants as ready
@@ -96,12 +96,12 @@ pub record Rests (r : Scope) (c n : Core) : Type 0 where
 abbrev pub TurnsRest : Type 0
 TurnsRest = ((r : Scope) (s : Start) → IsAtRest (first r s)) × ((r : Scope) (c n : Core) → IsSound r c → IsAtRest c → Rests r c n)
 
--- The cause for which a phase stops is one that a task of it met. Where it is a line's, all tasks of the phase are here, none of them met a
--- cause of the outside, and none before it met any: tasks are in the order of lines, so it is the first of the epoch.
+-- The cause for which a phase stops is one that a task of it met. Where it is the epoch's own, all tasks of the phase are here, none of them
+-- met a cause of the outside, and none before it met any: map tasks are in the order of lines, so a line's is the first of the epoch.
 pub record IsCauseOf (ps : List Place) (f : Cause) : Type 0 where
   pub place_of : ℕ
   pub here : get_elem? ps place_of ≡ some (place.Back (Some f))
-  pub first : is_of_line f ≡ true → (list_all is_here ps ≡ true) × ((i : ℕ) (g : Cause) → get_elem? ps i ≡ some (place.Back (Some g)) → (is_of_line g ≡ true) × (place_of ≤ i))
+  pub first : is_of_epoch f ≡ true → (list_all is_here ps ≡ true) × ((i : ℕ) (g : Cause) → get_elem? ps i ≡ some (place.Back (Some g)) → (is_of_epoch g ≡ true) × (place_of ≤ i))
 
 abbrev pub StopsByTheFirst : Type 0
 StopsByTheFirst = (ps : List Place) (f : Cause) → due_stop ps ≡ Some f → IsCauseOf ps f

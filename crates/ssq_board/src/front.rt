@@ -30,6 +30,8 @@ pub enum Cause {
         part: u32,
         offset: u64,
     },
+    /// What the epoch shows of a key is outside of its type's range. Which key that is, the task says that met it.
+    KeyOverflow,
     /// A log failed.
     LogFault,
     /// A part has fewer lines than a plan says.

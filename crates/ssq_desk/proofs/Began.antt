@@ -1,12 +1,12 @@
 -- A desk is whole where its round begins.
 use Rattle.std.proofs.Common.{◌≡◌, ◌<◌, ◌≤◌, ◌+◌, [], ◌∷◌, ℕ, Bool, true, false, true≢false, List, length, get_or, Option, Some, None, inl, inr, refl, sym, ap, ◌∙◌, subst, arith}
-use Rattle.std.specs.Prelude.{All, is_some, vec_capacity}
+use Rattle.std.specs.Prelude.{All, IsSomeAnd, is_some, slice_get, nat_lt, vec_capacity}
 use Rattle.std.specs.Global.{Vec}
-use Rattle.std.proofs.lemmas.List.{length-map, get_or-map}
+use Rattle.std.specs.Vec.{with_items}
+use Rattle.std.proofs.lemmas.List.{length-map, get_or-map, with_items_is}
 use Rattle.std.proofs.lemmas.Bool.{ltb-true}
 use mathlib.Core.Option.{some, some-ne-none}
 use lib.ListN.{get_elem?}
-use Rattle.ssq_shape.specs.Windows.{HasWindowsBy}
 use Rattle.ssq_meaning.specs.Meaning.{Line}
 use Rattle.ssq_meaning.specs.Parts.{Part}
 use Rattle.ssq_plans.specs.declared.plan.Plan.{Plan}
@@ -18,29 +18,41 @@ use Rattle.ssq_course.specs.Setting.{cut_of as numbers}
 use Rattle.ssq_open.specs.Epochs.{cut_of}
 use Rattle.ssq_board.specs.declared.front.Cause.{Cause}
 use Rattle.ssq_board.specs.declared.front.Cause.TheVariants as cause
+use Rattle.ssq_board.specs.declared.front.Place.{Place}
 use Rattle.ssq_board.specs.declared.front.Place.TheVariants as place
 use Rattle.ssq_board.specs.declared.front.Entry.TheVariants as entry
 use Rattle.ssq_board.specs.Core.{Scope}
 use Rattle.ssq_board.specs.Shown.{Start, first_place, planned_by}
-use Rattle.ssq_board.proofs.Lists.{replicate_at}
+use Rattle.ssq_board.proofs.Lists.{at_length, replicate_at, nat_lt-not}
 use Rattle.ssq_ledger.specs.Shown.{Shown, HasRisen, did}
 use Rattle.ssq_desk.specs.declared.desk.Load.{Load}
+use Rattle.ssq_desk.specs.declared.desk.Share.{Share}
 use Rattle.ssq_desk.specs.declared.desk.Source.{Source}
 use Rattle.ssq_desk.specs.declared.desk.OutWork.{OutWork}
 use Rattle.ssq_desk.specs.declared.first.Made.{Made}
 use Rattle.ssq_desk.specs.declared.round.Round.{Round}
 use Rattle.ssq_desk.specs.Round.{IsRound, OwnsRound, setting_of, start_at}
-use Rattle.ssq_desk.specs.Room.{IsFresh}
+use Rattle.ssq_agg.specs.Indexing.{Timed}
+use Rattle.ssq_store.specs.declared.store.Store.{Store}
+use Rattle.ssq_store.specs.Loaded.{count_to}
+use Rattle.ssq_task.specs.declared.partition.Held.{Held}
+use Rattle.ssq_terms.specs.Partitions.{HoldsStateOf}
+use Rattle.ssq_desk.specs.Room.{AreStaged}
+use Rattle.ssq_desk.specs.First.{AreIndexes, held_of}
+use Rattle.ssq_desk.specs.Making.{AreReady}
+use Rattle.ssq_desk.proofs.Staging.{staged_count, staged_keys, staged_ready, held_length, held_at}
+use Rattle.ssq_desk.proofs.Wholes.{never_key}
 use Rattle.ssq_desk.specs.First.{sources_of, IsMadeOf, first_shown, BeginsAs, BeginsWork}
-use Rattle.ssq_desk.specs.Contents.{IsOutWork, AreSeen, IsStopOf}
+use Rattle.ssq_desk.specs.Contents.{IsOutWork, IsHeldOf, IsKeyOf, AreSeen, IsStopOf, key_in, keeping_in}
 use Rattle.ssq_desk.specs.declared.told.Told.{Told}
 use Rattle.ssq_desk.specs.Closing.{AreTold}
 use Rattle.ssq_desk.specs.Whole.{IsWhole, IsKept, ArePlans}
 use Rattle.ssq_desk.proofs.Firsts.{IsFirstMade, opened_holds}
 use Rattle.ssq_desk.proofs.Settling.{risen_stops, risen_no_log, some_cause}
-use Rattle.ssq_desk.proofs.Beginnings.{from_count, plans_are, times_are, sources_count, source_at, own_lines, map_at, slice_or, slice_below}
+use Rattle.ssq_desk.proofs.Beginnings.{from_count, plans_are, times_are, same_cuts, sources_count, source_at, own_lines, map_at, slice_or, slice_below}
+use Rattle.ssq_desk.proofs.Planned.{at_get}
 
-module _ {D L S F : Type 0} (stores logs : Type 0) (lines : L → List Line) (available : L → ℕ) (answers : L → List ℕ) (faults : L → ℕ) (written : S → List ℕ) (sealed : F → List ℕ) (round : Round L) (disk : D) (r : Scope) (made : Made L)
+module _ {D L S F : Type 0} (stores logs : Type 0) (lines : L → List Line) (available : L → ℕ) (answers : L → List ℕ) (faults : L → ℕ) (written : S → List ℕ) (sealed : F → List ℕ) (round : Round L) (disk : D) (r : Scope) (made : Made L S)
     (is : IsRound (setting_of lines round) round.opened r)
     (m : IsMadeOf round.view.bound.now round.view.partitions round.opened (length round.logs.items) made)
     (long : logs → (i : ℕ) (own : L) → get_elem? round.logs.items i ≡ some own → get_or r.available i 0 ≤ available own) where
@@ -60,16 +72,16 @@ module _ {D L S F : Type 0} (stores logs : Type 0) (lines : L → List Line) (av
   cuts = cut_of (first_ends s) round.opened.plans
 
   abbrev start : Start
-  start = start_at (first_ends s) round.opened
+  start = start_at (first_ends s) s.job.bound round.opened
 
   parts_are : made.parts.items ≡ first_ends s
   parts_are = m.parts ∙ sym is.first
 
   pub ends_are : made.ends.items ≡ start.from
-  ends_are = m.ends ∙ ap (λ (ends : Ends). (start_at ends round.opened).from) (sym is.first)
+  ends_are = m.ends ∙ ap (λ (ends : Ends). (start_at ends s.job.bound round.opened).from) (sym is.first)
 
   pub start_is : made.start ≡ start
-  start_is = m.start ∙ ap (λ (ends : Ends). start_at ends round.opened) (sym is.first)
+  start_is = m.start ∙ ap (λ (ends : Ends). start_at ends s.job.bound round.opened) (sym is.first)
 
   logs_are : length round.logs.items ≡ length (parts_in s)
   logs_are = sym (length-map round.logs.items lines) ∙ is.logs
@@ -80,10 +92,9 @@ module _ {D L S F : Type 0} (stores logs : Type 0) (lines : L → List Line) (av
   pub each_end : length made.ends.items ≡ length round.logs.items
   each_end = ap length ends_are ∙ from_count s round.opened r is ∙ sym logs_are
 
-  first_made : IsFirstMade reads lines available went round.logs.items s r start.from (sources_of made.parts.items made.ends.items round.logs.items) made.room.shares.items
+  first_made : IsFirstMade reads lines available went round.logs.items s r start.from (sources_of made.parts.items made.ends.items round.logs.items)
   first_made = record {
     parts = sources_count made.parts.items made.ends.items round.logs.items each_part each_end ∙ logs_are;
-    partitions = m.room.count;
     logs = λ i part source there here. (let p = source_at made.parts.items made.ends.items round.logs.items i source here in
         let at : get_or made.parts.items i (end_at part 0) ≡ end_at part 0 =
         ap (λ (ends : Ends). get_or ends i (end_at part 0)) parts_are
@@ -107,7 +118,6 @@ module _ {D L S F : Type 0} (stores logs : Type 0) (lines : L → List Line) (av
         let none : PartEnd = record { stream = 0; part = 0; end = 0 } in
         sym (p.from_is none) ∙ sym (get_or-map (λ (e : PartEnd). e.end) made.ends.items i none 0 p.end_below) ∙ ap (λ (ends : Ends). get_or (numbers ends) i 0) ends_are);
     nothing = λ i source here. (source_at made.parts.items made.ends.items round.logs.items i source here).nothing;
-    fresh = subst (λ (n : ℕ). All (IsFresh n) made.room.shares.items) logs_are m.room.fresh;
   }
 
   next_is : start.is_planned ≡ true → cuts (start.committed + 1) ≡ start.to
@@ -119,13 +129,25 @@ module _ {D L S F : Type 0} (stores logs : Type 0) (lines : L → List Line) (av
   seen_are : AreSeen owned s cuts start.committed made.seen
   seen_are = times_are owned s round.opened r is (λ t. t.1.1) made.seen m.streams m.times
 
-  -- what a desk holds beside its ledger then
-  abbrev pub load_of : Vec Plan → Vec (Source L) → Option (OutWork S F) → Load L S F
-  load_of plans sources out = record { view = round.view; plans = plans; sources = sources; shares = made.room.shares; out = out; seen = made.seen; pending = None; told = made.told; kept = record { meta = round.opened.meta; stores = round.opened.stores; names = round.opened.names; lines = made.lines; logs = made.logs } }
+  -- the partitions are those that were made, and no key is told of any
+  same_shares : (shares : List (Share S)) → shares ≡ made.room.shares.items → (length shares ≡ length made.room.shares.items) × All (λ (share : Share S). share.key ≡ None) shares
+  same_shares shares same = (ap length same, subst (λ (l : List (Share S)). All (λ (share : Share S). share.key ≡ None) l) (sym same) (λ i d less. (m.room.fresh i d less).no_key))
 
-  module _ (plans : Vec Plan) (sources : Vec (Source L)) (plans_is : plans.items ≡ round.opened.plans) (sources_is : sources.items ≡ sources_of made.parts.items made.ends.items round.logs.items) where
-    placed : IsFirstMade reads lines available went round.logs.items s r start.from sources.items made.room.shares.items
-    placed = subst (λ (l : List (Source L)). IsFirstMade reads lines available went round.logs.items s r start.from l made.room.shares.items) (sym sources_is) first_made
+  pub shares_are : (fewer : Type 0) (b : Bool) (held : List (Option Held)) (shares : List (Share S)) (old new : Shown D (Round L)) (out : Option (OutWork S F)) (before later : ℕ) → BeginsWork fewer written b made.room.rows made.room.seen held made.room.shares.items shares before later old new out
+      → (length shares ≡ length made.room.shares.items) × All (λ (share : Share S). share.key ≡ None) shares
+  shares_are fewer false held shares old new out before later begun = same_shares shares begun.2
+  shares_are fewer true held shares old new None before later begun = same_shares shares begun.3
+  shares_are fewer true held shares old new (Some work) before later begun =
+      (staged_count fewer fewer written (λ t. t) held made.room.shares.items shares begun.4, staged_keys fewer fewer written (λ t. t) (length round.logs.items) held made.room.shares.items shares m.room.fresh begun.4)
+
+  -- what a desk holds beside its ledger then
+  abbrev pub load_of : Vec Plan → Vec (Source L) → Vec (Share S) → Vec (Option Held) → Option (OutWork S F) → Load L S F
+  load_of plans sources shares held out = record { view = round.view; plans = plans; sources = sources; shares = shares; held = held; out = out; seen = made.seen; pending = None; told = made.told; kept = record { meta = round.opened.meta; names = round.opened.names; lines = made.lines; logs = made.logs; stores = made.stores; closings = made.closings } }
+
+  module _ (plans : Vec Plan) (sources : Vec (Source L)) (shares : Vec (Share S)) (held : Vec (Option Held)) (closings : List (List Timed)) (indexes : AreIndexes (Unit {0}) s.job.bound round.opened.stores closings) (count : length shares.items ≡ length made.room.shares.items)
+      (no_keys : All (λ (x : Share S). x.key ≡ None) shares.items) (held_is : held.items ≡ held_of round.opened.stores closings) (plans_is : plans.items ≡ round.opened.plans) (sources_is : sources.items ≡ sources_of made.parts.items made.ends.items round.logs.items) where
+    placed : IsFirstMade reads lines available went round.logs.items s r start.from sources.items
+    placed = subst (λ (l : List (Source L)). IsFirstMade reads lines available went round.logs.items s r start.from l) (sym sources_is) first_made
 
     own_plans : ArePlans owned round.opened.plans s cuts (planned_by start.is_planned start.committed) plans.items
     own_plans = subst (λ (l : List Plan). ArePlans owned round.opened.plans s cuts (planned_by start.is_planned start.committed) l) (sym plans_is) (plans_are owned s round.opened r is (λ t. t.1.1))
@@ -139,23 +161,42 @@ module _ {D L S F : Type 0} (stores logs : Type 0) (lines : L → List Line) (av
     room_to_tell : (b : Bool) → b ≡ true → length made.told.items < vec_capacity made.told
     room_to_tell b opened = (let none = ap length m.no_told in let room = m.told_room in omega (arith, none, room))
 
-    own_kept : IsKept s round.opened (record { meta = round.opened.meta; stores = round.opened.stores; names = round.opened.names; lines = made.lines; logs = made.logs })
+    own_kept : IsKept s round.opened (record { meta = round.opened.meta; names = round.opened.names; lines = made.lines; logs = made.logs; stores = made.stores; closings = made.closings })
     own_kept = record {
       meta_is = refl;
-      stores_are = refl;
       names_are = refl;
       no_lines = m.no_lines;
       lines_room = m.lines_room;
       no_logs = m.no_logs;
       logs_room = subst (λ (n : ℕ). n ≤ vec_capacity made.logs) logs_are m.logs_room;
+      no_stores = m.no_stores;
+      stores_room = subst (λ (n : ℕ). n ≤ vec_capacity made.stores) is.stores.many m.stores_room;
+      no_closings = m.no_closings;
+      closings_room = subst (λ (n : ℕ). n ≤ vec_capacity made.closings) is.stores.many m.closings_room;
     }
 
-    begun_whole : (now : D) (out : Option (OutWork S F)) → (start.is_planned ≡ true → (work : OutWork S F) × (out ≡ Some work) × IsOutWork owned written s cuts start.committed work)
-        → IsWhole stores logs lines available answers faults written sealed (did (first_shown lines round disk r) now []) (load_of plans sources out)
+    held_count : length held.items ≡ keeping_in s
+    held_count = ap length held_is ∙ held_length round.opened.stores closings indexes.count ∙ is.stores.many
+
+    held_here : (p : ℕ) (own : Option Held) → get_elem? held.items p ≡ some own → IsSomeAnd own (IsHeldOf owned s cuts start.committed p)
+    held_here p own here =
+        let at = held_at round.opened.stores closings p own (subst (λ l. get_elem? l p ≡ some own) held_is here) in
+        let less = slice_below round.opened.stores p at.store at.store_is in
+        let numbers = is.stores.each p at.store (omega (arith, less, is.stores.many)) in
+        let same : get_or round.opened.stores p at.store ≡ at.store = slice_or round.opened.stores p at.store at.store at.store_is in
+        subst (λ (o : Option Held). IsSomeAnd o (IsHeldOf owned s cuts start.committed p)) (sym at.own_is) (record {
+          partition_is = ap (λ (x : Store). x.partition) (sym same) ∙ numbers.partition;
+          version = ap (λ (x : Store). count_to x.version) (sym same) ∙ numbers.version;
+          state = λ t. subst (HoldsStateOf s cuts start.committed p) at.store_is (subst (λ (c : Cuts). HoldsStateOf s c start.committed p (slice_get round.opened.stores p)) (same_cuts owned s round.opened r is (λ t. t.1.1) t) (t.1.1.states p));
+          index = indexes.each tt p at.store at.closing at.store_is at.closing_is;
+        })
+
+    begun_whole : (now : D) (out : Option (OutWork S F)) → (start.is_planned ≡ true → (work : OutWork S F) × (out ≡ Some work) × IsOutWork owned written s cuts start.committed work × AreReady owned written s.job.partitions (length (parts_in s)) (keeping_in s) shares.items)
+        → IsWhole stores logs lines available answers faults written sealed (did (first_shown lines round disk r) now []) (load_of plans sources shares held out)
     begun_whole now out work = record {
       round = is;
-      view = record { bound = refl; partitions = refl; windows = subst HasWindowsBy (sym is.plain.shape) tt };
-      holds = opened_holds reads owned lines available went round.logs.items written sealed s cuts r start sources.items made.room.shares.items placed out made.seen None seen_are
+      view = record { bound = refl; partitions = refl; windows = is.runs.windows };
+      holds = opened_holds reads owned lines available went round.logs.items written sealed s cuts r start sources.items shares.items held.items placed (count ∙ m.room.count) no_keys held_count held_here out made.seen None seen_are
           (λ planned. (from_count s round.opened r is, refl, next_is planned, work planned));
       plans = own_plans;
       told = nothing_told;
@@ -165,19 +206,24 @@ module _ {D L S F : Type 0} (stores logs : Type 0) (lines : L → List Line) (av
     }
 
     stopped_whole : (now : D) (f : Cause) (before later : ℕ) (out : Option (OutWork S F)) → HasRisen f before later
-        → IsWhole stores logs lines available answers faults written sealed (did (first_shown lines round disk r) now (entry.Stop f ∷ [])) (load_of plans sources out)
+        → IsWhole stores logs lines available answers faults written sealed (did (first_shown lines round disk r) now (entry.Stop f ∷ [])) (load_of plans sources shares held out)
     stopped_whole now f before later out risen = record {
       round = is;
-      view = record { bound = refl; partitions = refl; windows = subst HasWindowsBy (sym is.plain.shape) tt };
+      view = record { bound = refl; partitions = refl; windows = is.runs.windows };
       holds = record {
         parts = placed.parts;
-        partitions = placed.partitions;
+        partitions = count ∙ m.room.count;
+        keeping = held_count;
         logs = λ i part at source there here mine. (let p = placed.logs i part source there mine in record { stream = p.stream; number = p.number; log = λ back. p.log (λ away. away) });
         reduced = λ q g here. absurd (no_fault start.is_planned g (replicate_at r.partitions q (first_place start.is_planned) (place.Back (Some g)) here));
+        dealt = λ opened q here. absurd (no_rest start.is_planned opened (replicate_at r.partitions q (first_place start.is_planned) place.Rests here));
+        keys = λ opened q at share here mine. subst (λ (at : Place). IsKeyOf owned s cuts start.committed q at share.key) (sym (replicate_at r.partitions q (first_place start.is_planned) at here)) (first_key start.is_planned q share (subst (λ (x : Share S). x.key ≡ None) (at_get shares.items q share share mine) (no_keys q share (at_length shares.items q share mine))));
+        still = λ e. absurd (never_key reads owned s cuts start.committed f (risen_stops reads owned s cuts start.committed f before later risen) (some_cause f cause.KeyOverflow e));
+        kept = λ run. absurd (true≢false (ap is_some run));
         seen_so_far = λ run. absurd (true≢false (ap is_some run));
         epoch = λ run opened. absurd (true≢false (ap is_some run));
         commit = λ run opened written_is. absurd (true≢false (ap is_some run));
-        stop = λ g stopped. subst (IsStopOf reads s cuts start.committed) (some_cause f g stopped) (risen_stops reads s cuts start.committed f before later risen);
+        stop = λ g stopped. subst (IsStopOf reads owned s cuts start.committed (key_in shares.items)) (some_cause f g stopped) (risen_stops reads owned s cuts start.committed f before later risen (key_in shares.items));
       };
       plans = own_plans;
       told = nothing_told;
@@ -190,21 +236,36 @@ module _ {D L S F : Type 0} (stores logs : Type 0) (lines : L → List Line) (av
         no_fault true g e = cc
         no_fault false g e = cc
 
-    -- whatever came of the files of its out task
+        no_rest : (b : Bool) → nat_lt start.committed (planned_by b start.committed) ≡ true → place.Rests ≡ first_place b → ⊥
+        no_rest true opened e = cc
+        no_rest false opened e = true≢false (sym opened ∙ nat_lt-not start.committed start.committed (omega arith))
+
+        first_key : (b : Bool) (p : ℕ) (share : Share S) → share.key ≡ None → IsKeyOf owned s cuts start.committed p (first_place b) share.key
+        first_key true p share none = none
+        first_key false p share none = none
+
+    -- the partitions with their files
+    first_ready : (fewer : Type 0) → (owned → fewer) → AreStaged fewer written held.items made.room.shares.items shares.items → AreReady owned written s.job.partitions (length (parts_in s)) (keeping_in s) shares.items
+    first_ready fewer so staged =
+        subst (λ n. AreReady owned written s.job.partitions (length (parts_in s)) n shares.items) held_count
+        (subst (λ n. AreReady owned written s.job.partitions n (length held.items) shares.items) logs_are
+        (staged_ready fewer owned written so s.job.partitions (length round.logs.items) held.items made.room.shares.items shares.items m.room.count m.room.fresh staged))
+
+    -- whatever came of the files of its tasks
     pub began : (fewer : Type 0) (b : Bool) (old new : Shown D (Round L)) (out : Option (OutWork S F)) (before later : ℕ) → (owned → fewer) → start.is_planned ≡ b → old ≡ first_shown lines round disk r
-        → BeginsWork fewer written b made.room.rows made.room.seen before later old new out
-        → BeginsAs before later (first_shown lines round disk r) new × IsWhole stores logs lines available answers faults written sealed new (load_of plans sources out)
+        → BeginsWork fewer written b made.room.rows made.room.seen held.items made.room.shares.items shares.items before later old new out
+        → BeginsAs before later (first_shown lines round disk r) new × IsWhole stores logs lines available answers faults written sealed new (load_of plans sources shares held out)
     began fewer false old new out before later so planned old_is begun =
         let same : new ≡ did (first_shown lines round disk r) new.disk [] =
         begun.0 ∙ old_is ∙ ap (λ (d : D). did (first_shown lines round disk r) d []) (sym (ap (λ (x : Shown D (Round L)). x.disk) (begun.0 ∙ old_is))) in (
           inl same,
-          subst (λ (x : Shown D (Round L)). IsWhole stores logs lines available answers faults written sealed x (load_of plans sources out)) (sym same)
+          subst (λ (x : Shown D (Round L)). IsWhole stores logs lines available answers faults written sealed x (load_of plans sources shares held out)) (sym same)
               (begun_whole new.disk out (λ yes. absurd (true≢false (sym yes ∙ planned)))),
         )
     began fewer true old new None before later so planned old_is begun =
         let same = begun.1 ∙ ap (λ (x : Shown D (Round L)). did x new.disk (entry.Stop begun.0 ∷ [])) old_is in (
           inr (begun.0, same, begun.2),
-          subst (λ (x : Shown D (Round L)). IsWhole stores logs lines available answers faults written sealed x (load_of plans sources None)) (sym same) (stopped_whole new.disk begun.0 before later None begun.2),
+          subst (λ (x : Shown D (Round L)). IsWhole stores logs lines available answers faults written sealed x (load_of plans sources shares held None)) (sym same) (stopped_whole new.disk begun.0 before later None begun.2),
         )
     began fewer true old new (Some work) before later so planned old_is begun =
         let same = begun.0 ∙ ap (λ (x : Shown D (Round L)). did x new.disk []) old_is in
@@ -216,6 +277,17 @@ module _ {D L S F : Type 0} (stores logs : Type 0) (lines : L → List Line) (av
           commit_empty = λ t. (begun.3 (so t)).1;
         } in (
           inl same,
-          subst (λ (x : Shown D (Round L)). IsWhole stores logs lines available answers faults written sealed x (load_of plans sources (Some work))) (sym same)
-              (begun_whole new.disk (Some work) (λ yes. (work, refl, own))),
+          subst (λ (x : Shown D (Round L)). IsWhole stores logs lines available answers faults written sealed x (load_of plans sources shares held (Some work))) (sym same)
+              (begun_whole new.disk (Some work) (λ yes. (work, refl, own, first_ready fewer so begun.4))),
         )
+
+  -- So a desk is whole that holds what was made, with whatever came of the files of its tasks.
+  pub opens : (plans : Vec Plan) (sources : Vec (Source L)) (held : Vec (Option Held)) (closings : List (List Timed)) → AreIndexes (Unit {0}) s.job.bound round.opened.stores closings → held.items ≡ held_of round.opened.stores closings → plans.items ≡ round.opened.plans
+      → sources.items ≡ sources_of made.parts.items made.ends.items round.logs.items → (news : List (Share S)) (fewer : Type 0) (b : Bool) (old new : Shown D (Round L)) (out : Option (OutWork S F)) (before later : ℕ) → (owned → fewer) → start.is_planned ≡ b → old ≡ first_shown lines round disk r
+      → BeginsWork fewer written b made.room.rows made.room.seen held.items made.room.shares.items news before later old new out
+      → BeginsAs before later (first_shown lines round disk r) new × IsWhole stores logs lines available answers faults written sealed new (load_of plans sources (with_items made.room.shares news) held out)
+  opens plans sources held closings indexes held_is plans_is sources_is news fewer b old new out before later so planned old_is begun =
+      let are = shares_are fewer b held.items news old new out before later begun in
+      let all : (with_items made.room.shares news).items ≡ news = with_items_is made.room.shares news (are.0 ∙ sym made.room.shares.ok.0) in
+      began plans sources (with_items made.room.shares news) held closings indexes (ap length all ∙ are.0) (subst (λ (l : List (Share S)). All (λ (share : Share S). share.key ≡ None) l) (sym all) are.1) held_is plans_is sources_is fewer b old new out before later so planned old_is
+      (subst (λ (l : List (Share S)). BeginsWork fewer written b made.room.rows made.room.seen held.items made.room.shares.items l before later old new out) (sym all) begun)

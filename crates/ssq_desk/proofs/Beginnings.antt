@@ -28,9 +28,8 @@ use Rattle.ssq_open.specs.Epochs.{cut_of, no_plan, follows, keeps_up}
 use Rattle.ssq_open.specs.Watermarks.{watermarked, watermarked_from, watermarked_by, is_line_of}
 use Rattle.ssq_task.specs.Committing.{told}
 use Rattle.ssq_task.proofs.Commits.{told_more, none_before, later_none, streams_of, places_of}
-use Rattle.ssq_terms.specs.Laws.{never}
+use Rattle.ssq_terms.specs.Laws.{due_at, TasksHaveTerms}
 use Rattle.ssq_terms.proofs.Wanted.{parts_found}
-use Rattle.ssq_terms.proofs.Dealing.{have_terms}
 use Rattle.ssq_terms.proofs.Unmarked.{unmarked_none}
 use Rattle.ssq_board.specs.Core.{Scope}
 use Rattle.ssq_board.specs.Shown.{IsStart, first, planned_by}
@@ -221,10 +220,10 @@ module _ (s : Setting) (found : Opened) (r : Scope) (is : IsRound s found r) whe
   ends_count : (k : ℕ) → k ≤ length found.plans → length (cut_of (first_ends s) found.plans k) ≡ length (parts_in s)
   ends_count k le = long_ends (first_ends s) found.plans (length (parts_in s)) k firsts_count is.numbers.follow le
 
-  pub from_count : length (start_at (first_ends s) found).from ≡ length (parts_in s)
+  pub from_count : length (start_at (first_ends s) s.job.bound found).from ≡ length (parts_in s)
   from_count = ends_count found.committed is.numbers.before
 
-  pub start_is : IsStart r (start_at (first_ends s) found)
+  pub start_is : IsStart r (start_at (first_ends s) s.job.bound found)
   start_is = (let to = ends_count (length found.plans) (omega arith) in record { from = from_count ∙ sym to; available = is.parts ∙ sym to })
 
   pub few_planned : nat_lt found.committed (length found.plans) ≡ true → found.committed < 4294967295
@@ -248,11 +247,11 @@ module _ (s : Setting) (found : Opened) (r : Scope) (is : IsRound s found r) whe
       (ap (λ (p : Plan). p.ends) (get_or_default found.plans e default (no_plan (first_ends s)) less))
 
 module _ (owned : Type 0) (s : Setting) (found : Opened) (r : Scope) (is : IsRound s found r) (own : owned → IsOwned s found r) where
-  pub terms : owned → Terms (job_of s) r never
-  terms t = (let o = own t in (have_terms s s.job.bound o.asks o.lens r o.setting o.lines o.scope).0)
+  pub terms : TasksHaveTerms → owned → Terms (job_of s) r (due_at s)
+  terms have t = (let o = own t in (have s s.job.bound o.asks o.lens r o.setting o.lines o.scope).0)
 
   -- the cuts that a desk of the machine opens with are those that were opened
-  same_cuts : (t : owned) → (own t).desk.desk.cuts ≡ cut_of (first_ends s) found.plans
+  pub same_cuts : (t : owned) → (own t).desk.desk.cuts ≡ cut_of (first_ends s) found.plans
   same_cuts t = (let o = own t in o.desk.cuts ∙ ap (λ (ends : Ends). cut_of ends found.plans) (sym (parts_found s s.job.bound o.asks o.lens o.setting).1))
 
   pub plans_are : ArePlans owned found.plans s (cut_of (first_ends s) found.plans) (planned_by (nat_lt found.committed (length found.plans)) found.committed) found.plans
@@ -278,7 +277,7 @@ module _ (owned : Type 0) (s : Setting) (found : Opened) (r : Scope) (is : IsRou
             let of : ℕ → Option ℤ = λ stream. seen s.job.bound (parts_in s) (offsets (cut_of (first_ends s) found.plans)) stream found.committed in
             ap (λ (lines : List SeenBy). told lines stream) (mine ∙ ap (λ (cuts : Cuts). lines_at s cuts found.committed) (same_cuts t))
             ∙ told_from of 0 s.job.bound.streams stream (omega arith)
-            (λ j e unmarked. unmarked_none s.job.bound (parts_in s) (offsets (cut_of (first_ends s) found.plans)) stream found.committed is.plain.events
+            (λ j e unmarked. unmarked_none s.job.bound (parts_in s) (offsets (cut_of (first_ends s) found.plans)) stream found.committed is.runs.events
             (subst (λ (n : ℕ). IfSome (slice_get s.job.bound.streams n) (λ s. s.delay ≡ None)) (let same : j ≡ stream = omega (arith, e) in same) unmarked))
             )
       ]

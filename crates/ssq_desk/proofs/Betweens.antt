@@ -105,6 +105,7 @@ module _ {D L S F : Type 0} (stores logs : Type 0) (lines : L → List Line) (av
         running = runs.0;
         closed = closed_is shown.core runs.1 order.sound.before;
         back = (order.between runs.1).maps;
+        reduced = (order.between runs.1).reduces;
         ends = ends_are;
         each_end = each_end;
         each_map = order.sound.maps ∙ whole.round.parts;

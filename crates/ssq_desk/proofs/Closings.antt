@@ -1,6 +1,7 @@
 -- What a desk tells of the epoch that runs, and what it gives back when it ends.
 use Rattle.std.proofs.Common.{take, add-one, ltb-false, ◌≡◌, ◌<◌, ◌≤◌, ◌+◌, ◌-◌, ◌^◌, ◌||◌, [], ◌∷◌, ℕ, ℤ, zero, suc, Bool, true, false, true≢false, List, length, map, get_or, nat_lt, Option, Some, None, refl, sym, ap, ◌∙◌, subst, inr, arith, ext_get_or}
-use Rattle.std.specs.Prelude.{◌≢◌, All, IsSome, MatchOption, if◌then◌else◌, is_some}
+use Rattle.std.specs.Prelude.{◌≢◌, All, IsSome, MatchOption, if◌then◌else◌, is_some, slice_get}
+use Rattle.std.specs.Global.{Vec}
 use Rattle.std.specs.Option.{ForSome}
 use Rattle.std.specs.List.{sum_by, list_any, AllZip}
 use Rattle.std.proofs.lemmas.List.Sums.{sum_by-cons}
@@ -19,6 +20,8 @@ use Rattle.ssq_plans.specs.Records.{HasLineTime}
 use Rattle.ssq_meaning.specs.Times.{Delay, delays}
 use Rattle.ssq_water.specs.Water.{seen_at}
 use Rattle.ssq_feed.specs.Causes.{LogWent}
+use Rattle.ssq_agg.specs.Indexing.{Timed}
+use Rattle.ssq_store.specs.declared.store.Store.{Store}
 use Rattle.ssq_task.specs.Committing.{lines_of}
 use Rattle.ssq_core.specs.Course.{Ends, Cuts, Job}
 use Rattle.ssq_course.specs.Setting.{Setting, parts_in, cut_of, first_ends, course_of}
@@ -26,6 +29,8 @@ use Rattle.ssq_open.specs.declared.wanted.Opened.{Opened}
 use Rattle.ssq_open.specs.Epochs.{no_plan, follows}
 use Rattle.ssq_open.specs.Epochs.{cut_of as plan_ends}
 use Rattle.ssq_open.specs.Watermarks.{watermarked, has_lines}
+use Rattle.ssq_open.specs.Stores.{AreStores}
+use Rattle.ssq_terms.specs.Partitions.{HoldsStateOf}
 use Rattle.ssq_terms.proofs.Marks.{lines_of_each}
 use Rattle.ssq_course.specs.Setting.{cuts_of as offsets}
 use Rattle.ssq_board.specs.declared.front.Cause.TheVariants as cause
@@ -34,11 +39,11 @@ use Rattle.ssq_board.specs.declared.front.Place.{Place}
 use Rattle.ssq_board.specs.declared.front.Place.TheVariants as place
 use Rattle.ssq_board.specs.declared.front.Entry.{Entry}
 use Rattle.ssq_board.specs.declared.front.Entry.TheVariants as entry
-use Rattle.ssq_board.specs.Core.{Scope, Core, May, after, is_open, ready_of}
+use Rattle.ssq_board.specs.Core.{Scope, Core, May, after, is_fine, is_open, ready_of}
 use Rattle.ssq_board.specs.Rounds.{is_away}
 use Rattle.ssq_board.specs.Shown.{Start, first, planned_by}
 use Rattle.ssq_board.specs.Follows.{State, Leads}
-use Rattle.ssq_board.proofs.Lists.{at_length, there_at}
+use Rattle.ssq_board.proofs.Lists.{at_length, there_at, all_fine, nat_lt-not}
 use Rattle.ssq_board.proofs.Readies.{commit_may, over_is}
 use Rattle.ssq_board.proofs.Sounds.{open_less}
 use Rattle.ssq_ledger.specs.Shown.{Shown, IsLegal, IsInOrder, state, first_state, cuts_of}
@@ -48,12 +53,15 @@ use Rattle.ssq_desk.specs.declared.round.Round.{Round}
 use Rattle.ssq_desk.specs.declared.told.Told.{Told}
 use Rattle.ssq_desk.specs.Round.{setting_of, Owns}
 use Rattle.ssq_desk.specs.Whole.{IsWhole, opening_in}
-use Rattle.ssq_desk.specs.Contents.{is_away as is_with_worker}
-use Rattle.ssq_desk.specs.Closing.{IsToldOf, AreTold, IsNext, acknowledged_in, lines_between}
+use Rattle.ssq_desk.specs.Contents.{is_away as is_with_worker, IsHeldAt, keeping_in}
+use Rattle.ssq_desk.specs.First.{AreIndexes}
+use Rattle.ssq_desk.specs.Closing.{IsToldOf, AreTold, IsNext, acknowledged_in, closings_in, lines_between, stores_in}
 use Rattle.ssq_desk.proofs.Betweens.{ends_are, ends_within}
 use Rattle.ssq_desk.proofs.Feeding.{all_at}
 use Rattle.ssq_desk.proofs.Handing.{part_there}
-use Rattle.ssq_desk.proofs.Planned.{at_get}
+use Rattle.ssq_desk.proofs.Keeping.{between_held}
+use Rattle.ssq_desk.proofs.Leaving.{IsLeft, held_left, keeping_most}
+use Rattle.ssq_desk.proofs.Planned.{at_get, fine_not_gone}
 use Rattle.ssq_desk.proofs.Ends.{AreWithin, planned_first}
 use Rattle.ssq_desk.proofs.Telling.{between_most, sum_most, told_less}
 
@@ -280,21 +288,38 @@ module _ {D L S F : Type 0} (stores logs : Type 0) (lines : L → List Line) (av
   plan_cuts zero le = sym whole.plans.begins
   plan_cuts (suc e) le = whole.plans.ends e (no_plan (first_ends s)) (omega (arith, le)) ∙ ap cuts (add-one e)
 
+  -- what partitions keep, where the round is over
+  over_left : ready_of shown.scope shown.core ≡ ready.Over → IsLeft owned s cuts shown.core.front.committed load.held.items
+  over_left over =
+      let o = over_is shown.scope shown.core over in
+      let closed : is_open shown.core ≡ false = nat_lt-not shown.core.front.committed shown.core.front.planned o.1 in
+      let many = whole.holds.keeping in
+      let most = keeping_most s.job.bound.shape s.job.partitions in
+      let reduces = order.sound.reduces in
+      let scoped = whole.round.partitions in
+      held_left owned s cuts shown.core.front.committed load.held.items many (λ p own here. (
+      let less = at_length load.held.items p own here in
+      let at = there_at shown.core.reduces p (omega (arith, less, many, most, reduces, scoped)) in
+      between_held owned s cuts shown.core.front.committed p at.0 own (fine_not_gone at.0 (all_fine is_fine shown.core.reduces p at.0 (order.between closed).reduces at.1))
+      (subst (λ (b : Bool). IsHeldAt owned s cuts b shown.core.front.committed p at.0 own) closed (whole.holds.kept o.0 p at.0 own at.1 here))))
+
   -- what the next round opens
-  pub next_right : (next : Opened) → ready_of shown.scope shown.core ≡ ready.Over → next ≡ record { meta = load.kept.meta; plans = load.plans.items; committed = shown.core.front.committed; seen = lines_of load.view.bound.now load.seen; stores = load.kept.stores; names = load.kept.names }
+  pub next_right : (next : Opened) → ready_of shown.scope shown.core ≡ ready.Over → next ≡ record { meta = load.kept.meta; plans = load.plans.items; committed = shown.core.front.committed; seen = lines_of load.view.bound.now load.seen; stores = stores_in load.held.items; names = load.kept.names }
       → All HasLineTime next.seen → IsNext owned s cuts shown.scope.available shown.core shown.opening.opened next
   next_right next over is years =
       let runs = (over_is shown.scope shown.core over).0 in
       let bound = whole.view.bound in
       let seen = whole.holds.seen_so_far runs in
+      let left = over_left over in
       let plans : next.plans ≡ load.plans.items = ap (λ (o : Opened). o.plans) is in
       let seen_is : next.seen ≡ lines_of s.job.bound load.seen = ap (λ (o : Opened). o.seen) is ∙ ap (λ (b : Bound). lines_of b load.seen) bound in
       let committed : next.committed ≡ shown.core.front.committed = ap (λ (o : Opened). o.committed) is in
+      let stores_are : next.stores ≡ stores_in load.held.items = ap (λ (o : Opened). o.stores) is in
       let count : length next.plans ≡ shown.core.front.planned = ap length plans ∙ whole.plans.count in
       let cut_is : (e : ℕ) → e ≤ shown.core.front.planned → plan_ends (first_ends s) next.plans e ≡ cuts e = λ e le. ap (λ l. plan_ends (first_ends s) l e) plans ∙ plan_cuts e le in
       record {
         meta_is = ap (λ (o : Opened). o.meta) is ∙ whole.kept.meta_is;
-        stores_are = ap (λ (o : Opened). o.stores) is ∙ whole.kept.stores_are;
+        stores = subst (λ (n : ℕ). AreStores (keeping_in s) n next.stores) (sym committed) (subst (λ (l : List Store). AreStores (keeping_in s) shown.core.front.committed l) (sym stores_are) left.stores);
         names_are = ap (λ (o : Opened). o.names) is ∙ whole.kept.names_are;
         committed_is = committed;
         planned = count;
@@ -315,14 +340,20 @@ module _ {D L S F : Type 0} (stores logs : Type 0) (lines : L → List Line) (av
         plans_are = λ t e default less. ap (λ l. get_or l e default) plans ∙ whole.plans.each t e default (omega (arith, less, count));
         seen_is = λ t. seen_is ∙ (let are = seen.are t in λ i. map (λ (d : Delay). (let line : SeenBy = record { stream = d.0; time = are d.0 i } in line)) (delays s.job.bound))
             ∙ ap (λ (n : ℕ). (course_of s cuts).seen n) (sym committed);
+        states = λ t p. subst (λ (n : ℕ). HoldsStateOf s cuts n p (slice_get next.stores p)) (sym committed) (subst (λ (l : List Store). HoldsStateOf s cuts shown.core.front.committed p (slice_get l p)) (sym stores_are) (left.states t p));
       }
 
-  pub next_back : (next : Option Opened) (b : Bool)
-      → MatchOption next (b ≡ false) (λ next. (b ≡ true) × (next ≡ record { meta = load.kept.meta; plans = load.plans.items; committed = shown.core.front.committed; seen = lines_of load.view.bound.now load.seen; stores = load.kept.stores; names = load.kept.names }) × All HasLineTime next.seen)
+  -- with an index for each store
+  indexes_right : (next : Opened) (closings : List (List Timed)) → ready_of shown.scope shown.core ≡ ready.Over → next.stores ≡ stores_in load.held.items → closings ≡ closings_in load.held.items → AreIndexes (Unit {0}) shown.opening.view.bound.now next.stores closings
+  indexes_right next closings over stores_are closings_are =
+      subst (λ (l : List Store). AreIndexes (Unit {0}) s.job.bound l closings) (sym stores_are) (subst (λ (l : List (List Timed)). AreIndexes (Unit {0}) s.job.bound (stores_in load.held.items) l) (sym closings_are) (over_left over).indexes)
+
+  pub next_back : (next : Option (Opened × Vec (List Timed))) (b : Bool)
+      → MatchOption next (b ≡ false) (λ next. (b ≡ true) × (next.0 ≡ record { meta = load.kept.meta; plans = load.plans.items; committed = shown.core.front.committed; seen = lines_of load.view.bound.now load.seen; stores = stores_in load.held.items; names = load.kept.names }) × All HasLineTime next.0.seen × (next.1.items ≡ closings_in load.held.items))
       → (b ≡ true → ready_of shown.scope shown.core ≡ ready.Over) → (b ≡ false → ready_of shown.scope shown.core ≢ ready.Over)
-      → MatchOption next (ready_of shown.scope shown.core ≢ ready.Over) (λ next. (ready_of shown.scope shown.core ≡ ready.Over) × IsNext owned s cuts shown.scope.available shown.core shown.opening.opened next)
+      → MatchOption next (ready_of shown.scope shown.core ≢ ready.Over) (λ next. (ready_of shown.scope shown.core ≡ ready.Over) × IsNext owned s cuts shown.scope.available shown.core shown.opening.opened next.0 × AreIndexes (Unit {0}) shown.opening.view.bound.now next.0.stores next.1.items)
   next_back None b is over other = other is
-  next_back (Some next) b is over other = (over is.0, next_right next (over is.0) is.1 is.2)
+  next_back (Some next) b is over other = (over is.0, next_right next.0 (over is.0) is.1 is.2, indexes_right next.0 next.1.items (over is.0) (ap (λ (o : Opened). o.stores) is.1) is.3)
 
   -- where the round is over there is a greatest time, or none, for each stream
   pub seen_each : ready_of shown.scope shown.core ≡ ready.Over → length load.seen ≡ length load.view.bound.now.streams

@@ -1,6 +1,6 @@
 -- What a desk holds where a task is claimed.
 use Rattle.std.proofs.Common.{◌≡◌, ◌<◌, ◌≤◌, ◌+◌, ◌&&◌, [], ◌∷◌, ℕ, ℤ, zero, suc, Bool, true, false, true≢false, List, map, length, get_or, set, Option, Some, None, inl, inr, refl, sym, ap, ◌∙◌, subst, arith}
-use Rattle.std.specs.Prelude.{All, slice_get, vec_capacity, is_some}
+use Rattle.std.specs.Prelude.{All, slice_get, vec_capacity, is_some, IsSomeAnd}
 use Rattle.ssq_time.specs.Time.{IsStampTime}
 use Rattle.ssq_value.specs.Kind.{IfTime}
 use Rattle.ssq_meaning.specs.Parts.{parts_from, parts_of}
@@ -8,8 +8,11 @@ use Rattle.ssq_meaning.specs.Epochs.{joined, seen}
 use Rattle.ssq_terms.specs.Rows.{IsShownOf, AreShown}
 use Rattle.ssq_terms.proofs.Raising.{raise_times}
 use Rattle.ssq_desk.specs.declared.desk.OutWork.{OutWork}
-use Rattle.ssq_desk.specs.Contents.{IsShare, IsOutWork}
-use Rattle.ssq_desk.specs.Handing.{CanRaise, raised_in}
+use Rattle.ssq_task.specs.declared.partition.Held.{Held}
+use Rattle.ssq_desk.specs.Contents.{IsShare, IsOutWork, IsHeldOf}
+use Rattle.ssq_desk.specs.Tasks.{IsStateFor}
+use Rattle.ssq_desk.proofs.Keeping.{state_for}
+use Rattle.ssq_desk.specs.Handing.{CanRaise, raised_in, state_with}
 use Rattle.ssq_desk.proofs.Feeding.{can_raise, all_times, time_is}
 use Rattle.ssq_desk.proofs.Planned.{at_get}
 use Rattle.std.specs.List.{list_all}
@@ -57,7 +60,7 @@ use Rattle.ssq_desk.specs.Tasks.{IsViewOf}
 use Rattle.ssq_desk.specs.Handed.{IsMapOf}
 use Rattle.ssq_desk.specs.Closing.{AreTold, HasFaulty}
 use Rattle.ssq_desk.specs.Whole.{IsWhole, IsKept, HoldsIn, ArePlans, opening_in}
-use Rattle.ssq_desk.proofs.Holding.{with_map, with_reduce, with_out, holds_map, holds_claimed, holds_out}
+use Rattle.ssq_desk.proofs.Holding.{key_of, with_map, with_reduce, with_out, holds_map, holds_claimed, holds_out}
 use Rattle.ssq_desk.proofs.Ends.{AreWithin}
 use Rattle.ssq_desk.proofs.Wholes.{cuts_then}
 use Rattle.ssq_desk.proofs.Betweens.{ends_are, ends_within, each_end}
@@ -119,12 +122,12 @@ and_left true b e = refl
 and_left false b e = absurd (true≢false (sym e))
 
 -- a reduce task without a fault, in an epoch that runs, is back
-back_of : (owned : Type 0) (s : Setting) (cuts : Cuts) (e p : ℕ) (at : Place) (share : Share) → is_fine at ≡ true → IsShare owned s cuts e p at share → IsShare owned s cuts e p (place.Back None) share
-back_of owned s cuts e p place.Rests share fine is = absurd (is.there refl)
-back_of owned s cuts e p (place.Back None) share fine is = is
-back_of owned s cuts e p (place.Back (Some f)) share fine is = absurd (true≢false (sym fine))
-back_of owned s cuts e p place.Waits share fine is = absurd (true≢false (sym fine))
-back_of owned s cuts e p place.Away share fine is = absurd (true≢false (sym fine))
+back_of : {S : Type 0} (owned : Type 0) (written : S → List ℕ) (s : Setting) (cuts : Cuts) (e p : ℕ) (at : Place) (share : Share S) → is_fine at ≡ true → IsShare owned written s cuts e p at share → IsShare owned written s cuts e p (place.Back None) share
+back_of owned written s cuts e p place.Rests share fine is = absurd (is.there refl)
+back_of owned written s cuts e p (place.Back None) share fine is = is
+back_of owned written s cuts e p (place.Back (Some f)) share fine is = absurd (true≢false (sym fine))
+back_of owned written s cuts e p place.Waits share fine is = absurd (true≢false (sym fine))
+back_of owned written s cuts e p place.Away share fine is = absurd (true≢false (sym fine))
 
 none_there : {A : Type 0} (i : ℕ) (a : A) → slice_get [] i ≡ Some a → ⊥
 none_there i a e = true≢false (sym (ap is_some e))
@@ -161,14 +164,14 @@ module _ {D L S F : Type 0} (stores logs : Type 0) (lines : L → List Line) (av
       → AreTold (Owns stores logs lines shown) (setting_of lines shown.opening) (cuts_of (opening_in lines) shown) shown.opening.opened.committed (after shown.scope shown.core e).front.committed n.told.items
       → (is_open (after shown.scope shown.core e) ≡ true → length n.told.items < vec_capacity n.told)
       → ((after shown.scope shown.core e).front.stop ≡ Some cause.LogFault → HasFaulty faults (after shown.scope shown.core e).maps n.sources.items)
-      → HoldsIn stores logs lines available answers faults written sealed shown (cuts_of (opening_in lines) shown) (after shown.scope shown.core e) n.sources.items n.shares.items n.out n.seen n.pending
+      → HoldsIn stores logs lines available answers faults written sealed shown (cuts_of (opening_in lines) shown) (after shown.scope shown.core e) n.sources.items n.shares.items n.held.items n.out n.seen n.pending
       → IsWhole stores logs lines available answers faults written sealed (did shown disk (e ∷ [])) n
   moved_whole disk e n keeps planned view plans kept told room faulty h =
       let s : Setting = setting_of lines shown.opening in
       let same : cuts_of (opening_in lines) (did shown disk (e ∷ [])) ≡ cuts_of (opening_in lines) shown = cuts_then (opening_in lines shown.opening) shown.scope shown.history e ∙ keeps (cuts_of (opening_in lines) shown) (after_all shown.scope (first shown.scope (opening_in lines shown.opening).start) shown.history) in record {
         round = whole.round;
         view = subst (λ v. IsViewOf s v) (sym view) whole.view;
-        holds = subst (λ (cuts : Cuts). HoldsIn stores logs lines available answers faults written sealed shown cuts (after shown.scope shown.core e) n.sources.items n.shares.items n.out n.seen n.pending) (sym same) h;
+        holds = subst (λ (cuts : Cuts). HoldsIn stores logs lines available answers faults written sealed shown cuts (after shown.scope shown.core e) n.sources.items n.shares.items n.held.items n.out n.seen n.pending) (sym same) h;
         plans = subst (λ (cuts : Cuts). ArePlans (Owns stores logs lines shown) shown.opening.opened.plans s cuts (after shown.scope shown.core e).front.planned n.plans.items) (sym same)
             (subst (λ (k : ℕ). ArePlans (Owns stores logs lines shown) shown.opening.opened.plans s (cuts_of (opening_in lines) shown) k n.plans.items) (sym planned) (subst (λ l. ArePlans (Owns stores logs lines shown) shown.opening.opened.plans s (cuts_of (opening_in lines) shown) shown.core.front.planned l) (sym plans) whole.plans));
         told = subst (λ (cuts : Cuts). AreTold (Owns stores logs lines shown) s cuts shown.opening.opened.committed (after shown.scope shown.core e).front.committed n.told.items) (sym same) told;
@@ -216,10 +219,10 @@ module _ {D L S F : Type 0} (stores logs : Type 0) (lines : L → List Line) (av
     -- once it is handed out, without its log
     pub map_claimed : (t : TaskId) (x : Source L) → t.kind ≡ kind.Map → May shown.scope shown.core (entry.Claim t) → (h : IsMapHere t.number)
         → x ≡ record { stream = h.source.stream; part = h.source.part; from = h.source.from; log = None; fed = h.source.fed }
-        → HoldsIn stores logs lines available answers faults written sealed shown (cuts_of (opening_in lines) shown) (after shown.scope shown.core (entry.Claim t)) (set load.sources.items t.number x) load.shares.items load.out load.seen load.pending
+        → HoldsIn stores logs lines available answers faults written sealed shown (cuts_of (opening_in lines) shown) (after shown.scope shown.core (entry.Claim t)) (set load.sources.items t.number x) load.shares.items load.held.items load.out load.seen load.pending
     map_claimed t x is may h x_is =
-        subst (λ (c : Core). HoldsIn stores logs lines available answers faults written sealed shown (cuts_of (opening_in lines) shown) c (set load.sources.items t.number x) load.shares.items load.out load.seen load.pending) (sym (map_moved shown.core t place.Away is))
-        (holds_map (stores × logs) (Owns stores logs lines shown) lines available (LogWent logs lines available answers faults) shown.opening.logs.items written sealed (setting_of lines shown.opening) (cuts_of (opening_in lines) shown) shown.scope.available shown.core shown.core.front.stop t.number place.Away x load.sources.items load.shares.items load.out load.seen load.pending
+        subst (λ (c : Core). HoldsIn stores logs lines available answers faults written sealed shown (cuts_of (opening_in lines) shown) c (set load.sources.items t.number x) load.shares.items load.held.items load.out load.seen load.pending) (sym (map_moved shown.core t place.Away is))
+        (holds_map (stores × logs) (Owns stores logs lines shown) lines available (LogWent logs lines available answers faults) shown.opening.logs.items written sealed (setting_of lines shown.opening) (cuts_of (opening_in lines) shown) shown.scope.available shown.core shown.core.front.stop t.number place.Away x load.sources.items load.shares.items load.held.items load.out load.seen load.pending
         (λ e. e) whole.holds
         (λ part there. (let same : h.part ≡ part = some_same h.part part (sym h.there ∙ there) in record {
           stream = ap (λ (q : Part). q.stream) (sym same) ∙ h.is.stream ∙ sym (ap (λ (q : Source L). q.stream) x_is);
@@ -233,7 +236,7 @@ module _ {D L S F : Type 0} (stores logs : Type 0) (lines : L → List Line) (av
           brought = λ e. absurd (away_back None e);
           fault = λ f e. absurd (away_back (Some f) e);
         })
-        (λ f stopped. whole.holds.stop f stopped))
+        whole.holds.still (λ f stopped. whole.holds.stop f stopped))
       where
         some_same : (a b : Part) → Some a ≡ Some b → a ≡ b
         some_same a b e = ap (λ o. part_or a o) e
@@ -281,9 +284,11 @@ module _ {D L S F : Type 0} (stores logs : Type 0) (lines : L → List Line) (av
     pub record IsReduceHere (p : ℕ) : Type 0 where
       pub below : p < length load.shares.items
       pub less : p < (setting_of lines shown.opening).job.partitions
-      pub share : Share
+      pub share : Share S
       pub here : get_elem? load.shares.items p ≡ some share
       pub none : share.buckets.items ≡ []
+      pub no_key : share.key ≡ None
+      pub state : IsStateFor (Owns stores logs lines shown) written (setting_of lines shown.opening) (cuts_of (opening_in lines) shown) shown.core.front.committed p (state_with (get_or load.held.items p None) share.stage)
       pub room : length load.sources.items ≤ vec_capacity share.buckets
       pub safe : (i : ℕ) (source : Source L) → get_elem? load.sources.items i ≡ some source → IsSafe (setting_of lines shown.opening).job.partitions source
       pub rows : Owns stores logs lines shown → buckets_in p load.sources.items ≡ bucket (setting_of lines shown.opening).job.partitions p (fed (setting_of lines shown.opening).job.bound (parts_in (setting_of lines shown.opening)) (offsets (cuts_of (opening_in lines) shown)) shown.core.front.committed)
@@ -326,12 +331,18 @@ module _ {D L S F : Type 0} (stores logs : Type 0) (lines : L → List Line) (av
         let share = there_at load.shares.items t.number (omega (arith, less, reduces, scoped, count)) in
         let e = whole.holds.epoch may.0 may.1 in
         let out : get_elem? shown.core.outs 0 ≡ some place.Waits = elim e.last [ inl w ↦ w | inr all ↦ absurd (true≢false (sym (all_fine is_fine shown.core.reduces t.number place.Waits all waits))) ] in
-        let fresh = (e.shared out t.number place.Waits share.0 waits share.1).empty refl in record {
+        let own = e.shared out t.number place.Waits share.0 waits share.1 in
+        let fresh = own.empty refl in record {
           below = omega (arith, less, reduces, scoped, count);
           less = omega (arith, less, reduces, scoped);
           share = share.0;
           here = share.1;
           none = fresh.0;
+          no_key = whole.holds.keys may.1 t.number place.Waits share.0 waits share.1;
+          state = state_for (Owns stores logs lines shown) written s (cuts_of (opening_in lines) shown) shown.core.front.committed t.number (get_or load.held.items t.number None) share.0.stage (own.stage refl) (λ keeps. (
+              let held = there_at load.held.items t.number (let many = whole.holds.keeping in omega (arith, keeps, many)) in
+              subst (λ (o : Option Held). IsSomeAnd o (IsHeldOf (Owns stores logs lines shown) s (cuts_of (opening_in lines) shown) shown.core.front.committed t.number)) (sym (at_get load.held.items t.number held.0 None held.1))
+              (whole.holds.kept may.0 t.number place.Waits held.0 waits held.1 (λ away. away))));
           room = (let parts = whole.holds.parts in let room = fresh.1 in omega (arith, parts, room));
           safe = λ i source here. (let part = part_there (parts_in s) i (let l = at_length load.sources.items i source here in let parts = whole.holds.parts in omega (arith, l, parts)) in
               let m = source_here may.0 may.1 fine i part.0 source part.1 here in
@@ -345,12 +356,12 @@ module _ {D L S F : Type 0} (stores logs : Type 0) (lines : L → List Line) (av
         }
 
     -- once it is handed out
-    pub reduce_claimed : (t : TaskId) (x : Share) (left : List (Source L)) → t.kind ≡ kind.Reduce → May shown.scope shown.core (entry.Claim t) → AreTaken t.number load.sources.items left
-        → HoldsIn stores logs lines available answers faults written sealed shown (cuts_of (opening_in lines) shown) (after shown.scope shown.core (entry.Claim t)) left (set load.shares.items t.number x) load.out load.seen load.pending
-    reduce_claimed t x left is may taken =
+    pub reduce_claimed : (t : TaskId) (x : Share S) (left : List (Source L)) → x.key ≡ None → t.kind ≡ kind.Reduce → May shown.scope shown.core (entry.Claim t) → AreTaken t.number load.sources.items left
+        → HoldsIn stores logs lines available answers faults written sealed shown (cuts_of (opening_in lines) shown) (after shown.scope shown.core (entry.Claim t)) left (set load.shares.items t.number x) (set load.held.items t.number None) load.out load.seen load.pending
+    reduce_claimed t x left no_key is may taken =
         let all = taken_at t.number load.sources.items left taken in
-        subst (λ (c : Core). HoldsIn stores logs lines available answers faults written sealed shown (cuts_of (opening_in lines) shown) c left (set load.shares.items t.number x) load.out load.seen load.pending) (sym (reduce_moved shown.core t place.Away is))
-        (holds_claimed (stores × logs) (Owns stores logs lines shown) lines available (LogWent logs lines available answers faults) shown.opening.logs.items written sealed (setting_of lines shown.opening) (cuts_of (opening_in lines) shown) shown.scope.available shown.core t.number x load.sources.items left load.shares.items load.out load.seen load.pending whole.holds all.0 (subst (λ k. get_elem? (tasks_of k shown.core) t.number ≡ some place.Waits) is may.4) all.1)
+        subst (λ (c : Core). HoldsIn stores logs lines available answers faults written sealed shown (cuts_of (opening_in lines) shown) c left (set load.shares.items t.number x) (set load.held.items t.number None) load.out load.seen load.pending) (sym (reduce_moved shown.core t place.Away is))
+        (holds_claimed (stores × logs) (Owns stores logs lines shown) lines available (LogWent logs lines available answers faults) shown.opening.logs.items written sealed (setting_of lines shown.opening) (cuts_of (opening_in lines) shown) shown.scope.available shown.core t.number x load.sources.items left load.shares.items load.held.items load.out load.seen load.pending whole.holds all.0 (subst (λ k. get_elem? (tasks_of k shown.core) t.number ≡ some place.Waits) is may.4) all.1 may.0 no_key)
 
     -- The watermark of the epoch that runs, by what was seen before it.
     pub watermark_here : shown.core.front.stop ≡ None → (watermark : Option ℤ) → watermark ≡ watermark_by (delays load.view.bound.now) (seen_at load.seen)
@@ -393,11 +404,11 @@ module _ {D L S F : Type 0} (stores logs : Type 0) (lines : L → List Line) (av
         let w = e.outs waits in
         let count = whole.holds.partitions in
         let streams = w.2.times.streams in
-        let share_at : (p : ℕ) (share : Share) → get_elem? load.shares.items p ≡ some share → IsShare (Owns stores logs lines shown) s (cuts_of (opening_in lines) shown) shown.core.front.committed p (place.Back None) share =
+        let share_at : (p : ℕ) (share : Share S) → get_elem? load.shares.items p ≡ some share → IsShare (Owns stores logs lines shown) written s (cuts_of (opening_in lines) shown) shown.core.front.committed p (place.Back None) share =
         λ p share here. (let reduces = order.sound.reduces in
         let scoped = whole.round.partitions in
         let at = there_at shown.core.reduces p (let l = at_length load.shares.items p share here in omega (arith, l, count, reduces, scoped)) in
-        back_of (Owns stores logs lines shown) s (cuts_of (opening_in lines) shown) shown.core.front.committed p at.0 share (all_fine is_fine shown.core.reduces p at.0 reduces_fine at.1) (e.shared waits p at.0 share at.1 here)) in record {
+        back_of (Owns stores logs lines shown) written s (cuts_of (opening_in lines) shown) shown.core.front.committed p at.0 share (all_fine is_fine shown.core.reduces p at.0 reduces_fine at.1) (e.shared waits p at.0 share at.1 here)) in record {
           work = w.0;
           here = w.1;
           is = w.2;
@@ -414,22 +425,22 @@ module _ {D L S F : Type 0} (stores logs : Type 0) (lines : L → List Line) (av
               ((whole.holds.logs i part m.0 source there m.1 here).stream, time_is (stores × logs) s.job.bound part _ _ s.job.partitions shown.core.reduces m.0 source (y.0, y.1.0) m.2 m.3))) stream
               ∙ raise_times s.job.bound (parts_in s) (offsets (cuts_of (opening_in lines) shown)) shown.core.front.committed (seen_at w.0.seen) (λ other. w.2.times.are y other) stream;
           rows = λ y. record {
-            count = length-map load.shares.items (λ (share : Share). share.rows.items) ∙ count;
+            count = length-map load.shares.items (λ (share : Share S). share.rows.items) ∙ count;
             each = λ p less. (let share = there_at load.shares.items p (omega (arith, less, count)) in
                 subst (IsShownOf s (cuts_of (opening_in lines) shown) shown.core.front.committed p)
-                (ap (λ (x : Share). x.rows.items) (sym (at_get load.shares.items p share.0 share.0 share.1)) ∙ sym (get_or-map (λ (x : Share). x.rows.items) load.shares.items p share.0 [] (omega (arith, less, count))))
+                (ap (λ (x : Share S). x.rows.items) (sym (at_get load.shares.items p share.0 share.0 share.1)) ∙ sym (get_or-map (λ (x : Share S). x.rows.items) load.shares.items p share.0 [] (omega (arith, less, count))))
                 ((share_at p share.0 share.1).shown refl y));
           };
           printable = all_joined (All (IfTime IsStampTime)) (λ share. share.rows.items) load.shares.items (λ p share here. (share_at p share here).printable refl);
         }
 
     -- once it is handed out
-    pub out_claimed : (t : TaskId) (more : List Share) (left : Option (OutWork S F)) → t.kind ≡ kind.Out → t.number ≡ 0 → May shown.scope shown.core (entry.Claim t) → length more ≡ length load.shares.items
-        → HoldsIn stores logs lines available answers faults written sealed shown (cuts_of (opening_in lines) shown) (after shown.scope shown.core (entry.Claim t)) load.sources.items more left load.seen load.pending
+    pub out_claimed : (t : TaskId) (more : List (Share S)) (left : Option (OutWork S F)) → t.kind ≡ kind.Out → t.number ≡ 0 → May shown.scope shown.core (entry.Claim t) → map key_of more ≡ map key_of load.shares.items
+        → HoldsIn stores logs lines available answers faults written sealed shown (cuts_of (opening_in lines) shown) (after shown.scope shown.core (entry.Claim t)) load.sources.items more load.held.items left load.seen load.pending
     out_claimed t more left is zero_is may count =
-        subst (λ (c : Core). HoldsIn stores logs lines available answers faults written sealed shown (cuts_of (opening_in lines) shown) c load.sources.items more left load.seen load.pending) (sym (out_moved shown.core t place.Away is zero_is))
-        (holds_out (stores × logs) (Owns stores logs lines shown) lines available (LogWent logs lines available answers faults) shown.opening.logs.items written sealed (setting_of lines shown.opening) (cuts_of (opening_in lines) shown) shown.scope.available shown.core shown.core.front.stop place.Away load.sources.items load.shares.items more load.out left load.seen load.pending
-        (λ e. e) whole.holds (λ e. absurd (away_waits e)) count (λ run opened. and_right (list_all is_fine shown.core.maps) (list_all is_fine shown.core.reduces) (and_right shown.core.front.fresh (list_all is_fine shown.core.maps && list_all is_fine shown.core.reduces) (subst (λ k. may_start shown.core k ≡ true) is may.3))) (λ f stopped. whole.holds.stop f stopped))
+        subst (λ (c : Core). HoldsIn stores logs lines available answers faults written sealed shown (cuts_of (opening_in lines) shown) c load.sources.items more load.held.items left load.seen load.pending) (sym (out_moved shown.core t place.Away is zero_is))
+        (holds_out (stores × logs) (Owns stores logs lines shown) lines available (LogWent logs lines available answers faults) shown.opening.logs.items written sealed (setting_of lines shown.opening) (cuts_of (opening_in lines) shown) shown.scope.available shown.core shown.core.front.stop place.Away load.sources.items load.shares.items more load.held.items load.out left load.seen load.pending
+        (λ e. e) whole.holds (λ e. absurd (away_waits e)) count (λ run opened. and_right (list_all is_fine shown.core.maps) (list_all is_fine shown.core.reduces) (and_right shown.core.front.fresh (list_all is_fine shown.core.maps && list_all is_fine shown.core.reduces) (subst (λ k. may_start shown.core k ≡ true) is may.3))) whole.holds.still (λ f stopped. whole.holds.stop f stopped))
       where
         away_waits : place.Away ≡ place.Waits → ⊥
         away_waits e = cc

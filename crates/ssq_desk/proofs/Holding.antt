@@ -1,6 +1,7 @@
 -- What a desk holds, after one of its slots was changed.
-use Rattle.std.proofs.Common.{◌≡◌, ◌⊎◌, ◌+◌, ℕ, ℤ, zero, suc, true≢false, List, [], ◌∷◌, length, get_or, set, Option, Some, None, inl, inr, refl, sym, ap, ◌∙◌, subst, arith}
-use Rattle.std.specs.Prelude.{All, slice_get, IfSome, true, false}
+use Rattle.std.proofs.Common.{◌≡◌, ◌<◌, ◌⊎◌, ◌+◌, ℕ, ℤ, zero, suc, true≢false, List, [], ◌∷◌, length, get_or, set, Option, Some, None, inl, inr, refl, sym, ap, ◌∙◌, subst, arith}
+use Rattle.std.specs.Prelude.{All, slice_get, map, is_some, IfSome, true}
+use Rattle.std.proofs.lemmas.List.{length-map}
 use Rattle.ssq_time.specs.Time.{IsLineTime}
 use Rattle.ssq_terms.specs.Rows.{bucket_in}
 use Rattle.std.proofs.lemmas.List.Elements.{All-set}
@@ -8,7 +9,8 @@ use mathlib.Core.Option.{some, some-injective, some-ne-none}
 use lib.ListN.{get_elem?}
 use Rattle.ssq_route.specs.Buckets.{bucket_at}
 use Rattle.ssq_shape.specs.declared.bound.Bound.{Bound}
-use Rattle.ssq_meaning.specs.Meaning.{Line}
+use Rattle.ssq_meaning.specs.Meaning.{Line, Values}
+use Rattle.ssq_meaning.specs.Group.{least_key}
 use Rattle.ssq_meaning.specs.Parts.{Part}
 use Rattle.ssq_feed.specs.declared.task.FedRows.{FedRows}
 use Rattle.ssq_meaning.specs.Fit.{IsFitRow}
@@ -17,15 +19,17 @@ use Rattle.ssq_course.specs.Setting.{Setting, parts_in, cut_of}
 use Rattle.ssq_board.specs.declared.front.Cause.{Cause}
 use Rattle.ssq_board.specs.declared.front.Place.{Place}
 use Rattle.ssq_board.specs.declared.front.Place.TheVariants as place
-use Rattle.std.specs.List.{list_all}
-use Rattle.ssq_board.specs.Core.{Core, is_open, is_fine, is_of_line, fault_at, stopped_front}
-use Rattle.ssq_board.proofs.Lists.{put_else, set_length, all_fine}
+use Rattle.std.specs.List.{filter_map, list_all}
+use Rattle.ssq_board.specs.declared.front.Cause.TheVariants as cause
+use Rattle.ssq_board.specs.Core.{Core, is_open, is_fine, is_here, fault_at, stopped_front}
+use Rattle.ssq_board.proofs.Lists.{at_length, put_else, set_length, all_fine}
 use Rattle.ssq_desk.specs.declared.desk.Source.{Source}
 use Rattle.ssq_desk.specs.declared.desk.Share.{Share}
 use Rattle.ssq_desk.specs.declared.desk.OutWork.{OutWork}
 use Rattle.ssq_desk.specs.declared.desk.Pending.{Pending}
 use Rattle.ssq_desk.specs.Handing.{IsTaken}
-use Rattle.ssq_desk.specs.Contents.{IsSourceOf, IsMapped, IsBrought, IsShare, IsStopOf, Holds}
+use Rattle.ssq_task.specs.declared.partition.Held.{Held}
+use Rattle.ssq_desk.specs.Contents.{IsSourceOf, IsMapped, IsBrought, IsShare, IsKeyOf, IsHeldAt, IsStopOf, Holds, IsReducedCause, key_in}
 
 -- what is put into a list is there
 pub put_is : {A : Type 0} (l : List A) (i : ℕ) (a x : A) → get_elem? (set l i a) i ≡ some x → a ≡ x
@@ -123,9 +127,34 @@ there_in (x ∷ l) [] i b e here = absurd (omega (arith, e))
 there_in (x ∷ l) (y ∷ m) zero b e here = (x, refl)
 there_in (x ∷ l) (y ∷ m) (suc i) b e here = there_in l m i b (omega (arith, e)) here
 
--- a task that is elsewhere met nothing of a line, nor did the others
-put_reduced : (reduces : List Place) (i : ℕ) (p : Place) → ((q : ℕ) (f : Cause) → get_elem? reduces q ≡ some (place.Back (Some f)) → is_of_line f ≡ false) → ((f : Cause) → p ≡ place.Back (Some f) → is_of_line f ≡ false)
-    → (q : ℕ) (f : Cause) → get_elem? (set reduces i p) q ≡ some (place.Back (Some f)) → is_of_line f ≡ false
+get_map : {A B : Type 0} (f : A → B) (l : List A) (i : ℕ) (a : A) → get_elem? l i ≡ some a → get_elem? (map f l) i ≡ some (f a)
+get_map f [] i a here = absurd (some-ne-none a (sym here))
+get_map f (x ∷ l) zero a here = ap (λ x. some (f x)) (some-injective x a here)
+get_map f (x ∷ l) (suc i) a here = get_map f l i a here
+
+-- the key that a partition has
+abbrev pub key_of : {S : Type 0} → Share S → Option Values
+key_of share = share.key
+
+-- two lists of which something is the same at each place
+pub same_count : {A B : Type 0} (f : A → B) (l m : List A) → map f l ≡ map f m → length l ≡ length m
+same_count f l m same = sym (length-map l f) ∙ ap length same ∙ length-map m f
+
+pub same_there : {A B : Type 0} (f : A → B) (l m : List A) → map f l ≡ map f m → (i : ℕ) (y : A) → get_elem? m i ≡ some y → (x : A) × (get_elem? l i ≡ some x) × (f x ≡ f y)
+same_there f l m same i y here =
+    let x = there_in l m i y (same_count f l m same) here in
+    (x.0, x.1, some-injective (f x.0) (f y) (sym (get_map f l i x.0 x.1) ∙ ap (λ n. get_elem? n i) same ∙ get_map f m i y here))
+
+-- a task that is elsewhere does not rest, nor do the others
+pub put_dealt : (reduces : List Place) (i : ℕ) (p : Place) → ((q : ℕ) → get_elem? reduces q ≡ some place.Rests → ⊥) → (p ≡ place.Rests → ⊥) → (q : ℕ) → get_elem? (set reduces i p) q ≡ some place.Rests → ⊥
+put_dealt reduces i p none own q here = elim (same_or_not i q) [
+  | inl same ↦ own (put_is reduces i p place.Rests (subst (λ (k : ℕ). get_elem? (set reduces i p) k ≡ some place.Rests) (sym same) here))
+  | inr other ↦ none q (sym (put_else reduces i q p other) ∙ here)
+]
+
+-- what a task met that is elsewhere is a cause of a reduce task, as with the others
+pub put_reduced : (reduces : List Place) (i : ℕ) (p : Place) → ((q : ℕ) (f : Cause) → get_elem? reduces q ≡ some (place.Back (Some f)) → IsReducedCause f) → ((f : Cause) → p ≡ place.Back (Some f) → IsReducedCause f)
+    → (q : ℕ) (f : Cause) → get_elem? (set reduces i p) q ≡ some (place.Back (Some f)) → IsReducedCause f
 put_reduced reduces i p none own q f here = elim (same_or_not i q) [
   | inl same ↦ own f (put_is reduces i p (place.Back (Some f)) (subst (λ (k : ℕ). get_elem? (set reduces i p) k ≡ some (place.Back (Some f))) (sym same) here))
   | inr other ↦ none q f (sym (put_else reduces i q p other) ∙ here)
@@ -133,20 +162,26 @@ put_reduced reduces i p none own q f here = elim (same_or_not i q) [
 
 module _ {L S F : Type 0} (reads owned : Type 0) (lines : L → List Line) (available : L → ℕ) (went : L → L → Type 0) (opened : List L) (written : S → List ℕ) (sealed : F → List ℕ) (s : Setting) (cuts : Cuts) (found : List ℕ) where
   -- a map task is elsewhere
-  pub holds_map : (c : Core) (stop : Option Cause) (i : ℕ) (p : Place) (x : Source L) (sources : List (Source L)) (shares : List Share) (out : Option (OutWork S F)) (times : List (Option ℤ)) (pending : Option (Pending F))
-      → (stop ≡ None → c.front.stop ≡ None) → Holds reads owned lines available went opened written sealed s cuts found c sources shares out times pending
+  pub holds_map : (c : Core) (stop : Option Cause) (i : ℕ) (p : Place) (x : Source L) (sources : List (Source L)) (shares : List (Share S)) (held : List (Option Held)) (out : Option (OutWork S F)) (times : List (Option ℤ)) (pending : Option (Pending F))
+      → (stop ≡ None → c.front.stop ≡ None) → Holds reads owned lines available went opened written sealed s cuts found c sources shares held out times pending
       → ((part : Part) → slice_get (parts_in s) i ≡ Some part → IsSourceOf reads lines available went opened i part (get_or found i 0) p x)
       → (c.front.stop ≡ None → is_open c ≡ true → (part : Part) → slice_get (parts_in s) i ≡ Some part
       → IsMapped reads s.job.bound part (get_or (cut_of (cuts c.front.committed)) i 0) (get_or (cut_of (cuts (c.front.committed + 1))) i 0) s.job.partitions c.reduces p x)
-      → ((f : Cause) → stop ≡ Some f → IsStopOf reads s cuts c.front.committed f)
-      → Holds reads owned lines available went opened written sealed s cuts found (with_map c stop i p) (set sources i x) shares out times pending
-  holds_map c stop i p x sources shares out times pending runs h source mapped stops = record {
+      → (stop ≡ Some cause.KeyOverflow → list_all is_here c.reduces ≡ true)
+      → ((f : Cause) → stop ≡ Some f → IsStopOf reads owned s cuts c.front.committed (key_in shares) f)
+      → Holds reads owned lines available went opened written sealed s cuts found (with_map c stop i p) (set sources i x) shares held out times pending
+  holds_map c stop i p x sources shares held out times pending runs h source mapped still stops = record {
     parts = set_length sources i x ∙ h.parts;
     partitions = h.partitions;
+    keeping = h.keeping;
     logs = λ j part at own there place_is own_is.
         put_both (λ j at own. (part : Part) → slice_get (parts_in s) j ≡ Some part → IsSourceOf reads lines available went opened j part (get_or found j 0) at own) c.maps sources i p x
         (λ j at own place_is own_is part there. h.logs j part at own there place_is own_is) source j at own place_is own_is part there;
     reduced = h.reduced;
+    dealt = h.dealt;
+    keys = h.keys;
+    still = still;
+    kept = λ run. h.kept (runs run);
     seen_so_far = λ run. h.seen_so_far (runs run);
     epoch = λ run is_opened. (let e = h.epoch (runs run) is_opened in record {
       froms = e.froms;
@@ -163,28 +198,33 @@ module _ {L S F : Type 0} (reads owned : Type 0) (lines : L → List Line) (avai
   }
 
   -- a reduce task is handed out, with its buckets
-  pub holds_claimed : (c : Core) (i : ℕ) (x : Share) (sources left : List (Source L)) (shares : List Share) (out : Option (OutWork S F)) (times : List (Option ℤ)) (pending : Option (Pending F))
-      → Holds reads owned lines available went opened written sealed s cuts found c sources shares out times pending → length left ≡ length sources → get_elem? c.reduces i ≡ some place.Waits
-      → ((j : ℕ) (old new : Source L) → get_elem? sources j ≡ some old → get_elem? left j ≡ some new → IsTaken i old new)
-      → Holds reads owned lines available went opened written sealed s cuts found (with_reduce c c.front.stop i place.Away) left (set shares i x) out times pending
-  holds_claimed c i x sources left shares out times pending h count waits_there taken = record {
+  pub holds_claimed : (c : Core) (i : ℕ) (x : Share S) (sources left : List (Source L)) (shares : List (Share S)) (held : List (Option Held)) (out : Option (OutWork S F)) (times : List (Option ℤ)) (pending : Option (Pending F))
+      → Holds reads owned lines available went opened written sealed s cuts found c sources shares held out times pending → length left ≡ length sources → get_elem? c.reduces i ≡ some place.Waits
+      → ((j : ℕ) (old new : Source L) → get_elem? sources j ≡ some old → get_elem? left j ≡ some new → IsTaken i old new) → c.front.stop ≡ None → x.key ≡ None
+      → Holds reads owned lines available went opened written sealed s cuts found (with_reduce c c.front.stop i place.Away) left (set shares i x) (set held i None) out times pending
+  holds_claimed c i x sources left shares held out times pending h count waits_there taken runs no_key = record {
     parts = count ∙ h.parts;
     partitions = set_length shares i x ∙ h.partitions;
+    keeping = set_length held i None ∙ h.keeping;
     logs = λ j part at own there place_is own_is. (let old = there_in sources left j own (sym count) own_is in
         source_less reads lines available went opened j part (get_or found j 0) i at old.0 own (taken j old.0 own old.1 own_is) (h.logs j part at old.0 there place_is old.1));
     reduced = put_reduced c.reduces i place.Away h.reduced (λ f b. absurd (away_not_fault f b));
+    dealt = λ is_opened. put_dealt c.reduces i place.Away (h.dealt is_opened) (λ e. cc);
+    keys = λ is_opened. put_both (λ p at share. IsKeyOf owned s cuts c.front.committed p at share.key) c.reduces shares i place.Away x (h.keys is_opened) no_key;
+    still = λ stopped. absurd (true≢false (sym (sym (ap is_some runs) ∙ ap is_some stopped)));
+    kept = λ run. put_both (λ p at own. IsHeldAt owned s cuts (is_open c) c.front.committed p at own) c.reduces held i place.Away None (h.kept run) (λ here. absurd (here tt));
     seen_so_far = h.seen_so_far;
     epoch = λ run is_opened. (let e = h.epoch run is_opened in record {
       froms = e.froms;
       mapped = λ j part at own there place_is own_is. (let old = there_in sources left j own (sym count) own_is in
           mapped_less reads s.job.bound part _ _ s.job.partitions c.reduces i at old.0 own (taken j old.0 own old.1 own_is) (e.mapped j part at old.0 there place_is old.1));
-      shared = λ waits. put_both (λ p at share. IsShare owned s cuts c.front.committed p at share) c.reduces shares i place.Away x (λ j at share. e.shared waits j at share)
-          (record { there = λ r. absurd (away_not_rests r); empty = λ w. absurd (away_not_waits w); shown = λ b. absurd (away_not_back b); printable = λ b. absurd (away_not_back b) });
+      shared = λ waits. put_both (λ p at share. IsShare owned written s cuts c.front.committed p at share) c.reduces shares i place.Away x (λ j at share. e.shared waits j at share)
+          (record { there = λ r. absurd (away_not_rests r); empty = λ w. absurd (away_not_waits w); stage = λ w. absurd (away_not_waits w); shown = λ b. absurd (away_not_back b); printable = λ b. absurd (away_not_back b) });
       last = elim e.last [ inl w ↦ inl w | inr fine ↦ absurd (true≢false (sym (all_fine is_fine c.reduces i place.Waits fine waits_there))) ];
       outs = e.outs;
     });
     commit = h.commit;
-    stop = h.stop;
+    stop = λ f stopped. absurd (true≢false (sym (sym (ap is_some runs) ∙ ap is_some stopped)));
   }
     where
       away_not_back : place.Away ≡ place.Back None → ⊥
@@ -206,17 +246,26 @@ module _ {L S F : Type 0} (reads owned : Type 0) (lines : L → List Line) (avai
       back_not_waits e = cc
 
   -- a reduce task is back
-  pub holds_reduced : (c : Core) (stop f : Option Cause) (i : ℕ) (x : Share) (sources : List (Source L)) (shares : List Share) (out : Option (OutWork S F)) (times : List (Option ℤ)) (pending : Option (Pending F))
-      → (stop ≡ None → c.front.stop ≡ None) → Holds reads owned lines available went opened written sealed s cuts found c sources shares out times pending
-      → get_elem? c.reduces i ≡ some place.Away → (c.front.stop ≡ None → is_open c ≡ true → IsShare owned s cuts c.front.committed i (place.Back f) x)
-      → ((g : Cause) → f ≡ Some g → is_of_line g ≡ false)
-      → ((g : Cause) → stop ≡ Some g → IsStopOf reads s cuts c.front.committed g)
-      → Holds reads owned lines available went opened written sealed s cuts found (with_reduce c stop i (place.Back f)) sources (set shares i x) out times pending
-  holds_reduced c stop f i x sources shares out times pending runs h away share no_line stops = record {
+  pub holds_reduced : (c : Core) (stop f : Option Cause) (i : ℕ) (x : Share S) (own : Option Held) (sources : List (Source L)) (shares : List (Share S)) (held : List (Option Held)) (out : Option (OutWork S F)) (times : List (Option ℤ)) (pending : Option (Pending F))
+      → (stop ≡ None → c.front.stop ≡ None) → Holds reads owned lines available went opened written sealed s cuts found c sources shares held out times pending
+      → get_elem? c.reduces i ≡ some place.Away → (c.front.stop ≡ None → is_open c ≡ true → IsShare owned written s cuts c.front.committed i (place.Back f) x)
+      → (c.front.stop ≡ None → i < length held → IsHeldAt owned s cuts (is_open c) c.front.committed i (place.Back f) own)
+      → (is_open c ≡ true → IsKeyOf owned s cuts c.front.committed i (place.Back f) x.key)
+      → ((g : Cause) → f ≡ Some g → IsReducedCause g)
+      → (stop ≡ Some cause.KeyOverflow → list_all is_here (set c.reduces i (place.Back f)) ≡ true)
+      → ((g : Cause) → stop ≡ Some g → IsStopOf reads owned s cuts c.front.committed (key_in (set shares i x)) g)
+      → Holds reads owned lines available went opened written sealed s cuts found (with_reduce c stop i (place.Back f)) sources (set shares i x) (set held i own) out times pending
+  holds_reduced c stop f i x own sources shares held out times pending runs h away share mine key no_line still stops = record {
     parts = h.parts;
     partitions = set_length shares i x ∙ h.partitions;
+    keeping = set_length held i own ∙ h.keeping;
     logs = h.logs;
     reduced = put_reduced c.reduces i (place.Back f) h.reduced (λ g b. no_line g (ap fault_at b));
+    dealt = λ is_opened. put_dealt c.reduces i (place.Back f) (h.dealt is_opened) (λ e. cc);
+    keys = λ is_opened. put_both (λ p at share. IsKeyOf owned s cuts c.front.committed p at share.key) c.reduces shares i (place.Back f) x (h.keys is_opened) (key is_opened);
+    still = still;
+    kept = λ run q at kept here there. put_both (λ q at kept. q < length held → IsHeldAt owned s cuts (is_open c) c.front.committed q at kept) c.reduces held i (place.Back f) own (λ q at kept here there less. h.kept (runs run) q at kept here there) (mine (runs run)) q at kept here there
+        (let less = at_length (set held i own) q kept there in let count = set_length held i own in omega (arith, less, count));
     seen_so_far = λ run. h.seen_so_far (runs run);
     epoch = λ run is_opened. (let e = h.epoch (runs run) is_opened in record {
       froms = e.froms;
@@ -238,7 +287,7 @@ module _ {L S F : Type 0} (reads owned : Type 0) (lines : L → List Line) (avai
         ));
         fault = m.fault;
       });
-      shared = λ waits. put_both (λ p at share. IsShare owned s cuts c.front.committed p at share) c.reduces shares i (place.Back f) x (λ j at share. e.shared waits j at share) (share (runs run) is_opened);
+      shared = λ waits. put_both (λ p at share. IsShare owned written s cuts c.front.committed p at share) c.reduces shares i (place.Back f) x (λ j at share. e.shared waits j at share) (share (runs run) is_opened);
       last = elim e.last [ inl w ↦ inl w | inr fine ↦ absurd (true≢false (sym (all_fine is_fine c.reduces i place.Away fine away))) ];
       outs = e.outs;
     });
@@ -247,16 +296,23 @@ module _ {L S F : Type 0} (reads owned : Type 0) (lines : L → List Line) (avai
   }
 
   -- the out task is elsewhere, and not at the desk
-  pub holds_out : (c : Core) (stop : Option Cause) (p : Place) (sources : List (Source L)) (shares more : List Share) (out left : Option (OutWork S F)) (times : List (Option ℤ)) (pending : Option (Pending F))
-      → (stop ≡ None → c.front.stop ≡ None) → Holds reads owned lines available went opened written sealed s cuts found c sources shares out times pending → (p ≡ place.Waits → ⊥)
-      → length more ≡ length shares → (c.front.stop ≡ None → is_open c ≡ true → list_all is_fine c.reduces ≡ true)
-      → ((g : Cause) → stop ≡ Some g → IsStopOf reads s cuts c.front.committed g)
-      → Holds reads owned lines available went opened written sealed s cuts found (with_out c stop p) sources more left times pending
-  holds_out c stop p sources shares more out left times pending runs h gone count fine stops = record {
+  pub holds_out : (c : Core) (stop : Option Cause) (p : Place) (sources : List (Source L)) (shares more : List (Share S)) (held : List (Option Held)) (out left : Option (OutWork S F)) (times : List (Option ℤ)) (pending : Option (Pending F))
+      → (stop ≡ None → c.front.stop ≡ None) → Holds reads owned lines available went opened written sealed s cuts found c sources shares held out times pending → (p ≡ place.Waits → ⊥)
+      → map key_of more ≡ map key_of shares → (c.front.stop ≡ None → is_open c ≡ true → list_all is_fine c.reduces ≡ true)
+      → (stop ≡ Some cause.KeyOverflow → list_all is_here c.reduces ≡ true)
+      → ((g : Cause) → stop ≡ Some g → IsStopOf reads owned s cuts c.front.committed (key_in shares) g)
+      → Holds reads owned lines available went opened written sealed s cuts found (with_out c stop p) sources more held left times pending
+  holds_out c stop p sources shares more held out left times pending runs h gone same fine still stops = record {
     parts = h.parts;
-    partitions = count ∙ h.partitions;
+    partitions = same_count key_of more shares same ∙ h.partitions;
+    keeping = h.keeping;
     logs = h.logs;
     reduced = h.reduced;
+    dealt = h.dealt;
+    keys = λ is_opened q at share place_is share_is. (let old = same_there key_of shares more (sym same) q share share_is in
+        subst (IsKeyOf owned s cuts c.front.committed q at) old.2 (h.keys is_opened q at old.0 place_is old.1));
+    still = still;
+    kept = λ run. h.kept (runs run);
     seen_so_far = λ run. h.seen_so_far (runs run);
     epoch = λ run is_opened. (let e = h.epoch (runs run) is_opened in record {
       froms = e.froms;
@@ -266,5 +322,5 @@ module _ {L S F : Type 0} (reads owned : Type 0) (lines : L → List Line) (avai
       outs = λ waits. absurd (gone (put_is c.outs 0 p place.Waits waits));
     });
     commit = λ run is_opened written_is. h.commit (runs run) is_opened written_is;
-    stop = stops;
+    stop = λ g stopped. subst (λ (keys : List (Option Values)). IsStopOf reads owned s cuts c.front.committed (least_key (filter_map (λ key. key) keys)) g) (sym same) (stops g stopped);
   }

@@ -1,3 +1,5 @@
+pub mod Keeping
+pub mod Staging
 pub mod Loops
 pub mod Makings
 pub mod Planned
@@ -14,8 +16,13 @@ pub mod Firsts
 pub mod Beginnings
 pub mod Began
 pub mod Reporting
+pub mod Phases
+pub mod Covers
+pub mod Overflows
 pub mod Reducing
+pub mod Bringing
 pub mod Publishing
 pub mod Returning
 pub mod Telling
+pub mod Leaving
 pub mod Closings

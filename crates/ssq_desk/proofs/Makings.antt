@@ -1,13 +1,75 @@
 -- What is made for an epoch is made for the load as it was before.
-use Rattle.std.proofs.Common.{◌≤◌, ℕ, List, length, ap, ◌∙◌, subst}
-use Rattle.std.specs.Prelude.{All, vec_capacity}
+use Rattle.std.proofs.Common.{◌≡◌, ◌<◌, ◌≤◌, [], ℕ, ℤ, List, Option, Some, None, length, refl, sym, ap, ◌∙◌, subst}
+use Rattle.std.specs.Prelude.{vec_capacity}
 use Rattle.std.specs.Global.{Vec}
+use Rattle.ssq_outside.specs.declared.disk.DiskError.{DiskError}
+use Rattle.ssq_outside.specs.declared.disk.DiskError.TheVariants as disk
+use Rattle.ssq_outside.specs.Faults.{Rises}
+use Rattle.ssq_ledger.specs.Shown.{IsUnplanned, cause_of}
 use Rattle.ssq_meaning.specs.declared.fed_row.View.{View}
 use Rattle.ssq_plans.specs.declared.part.PartEnd.{PartEnd}
+use Rattle.ssq_plans.specs.declared.plan.Plan.{Plan}
 use Rattle.ssq_desk.specs.declared.desk.Load.{Load}
+use Rattle.ssq_desk.specs.declared.desk.OutWork.{OutWork}
+use Rattle.ssq_desk.specs.declared.desk.Share.{Share}
 use Rattle.ssq_desk.specs.declared.desk.Source.{Source}
-use Rattle.ssq_desk.specs.Room.{IsFresh, AreBegun}
-use Rattle.ssq_desk.specs.Making.{IsSameLoad, IsMadeFor}
+use Rattle.ssq_desk.specs.declared.room.Room.{Room}
+use Rattle.ssq_desk.specs.declared.told.Told.{Told}
+use Rattle.ssq_task.specs.declared.partition.Held.{Held}
+use Rattle.ssq_desk.specs.Contents.{IsStageOf}
+use Rattle.ssq_desk.specs.Room.{AreBegun, AreStaged, HasRoom}
+use Rattle.ssq_desk.specs.Making.{IsSameLoad, IsMadeFor, IsUnmade, AreReady}
+use Rattle.ssq_desk.proofs.Staging.{staged_ready}
+
+-- why files could not be begun, where one epoch more may be planned
+pub unmade_by : (planned before now : ℕ) (error : DiskError) → (planned ≡ 4294967295 → ⊥) → (error ≡ disk.Fault → Rises before now)
+    → IsUnmade planned (cause_of error) × IsUnplanned planned before now (cause_of error)
+unmade_by planned before now disk.Fault few risen = (few, risen refl)
+unmade_by planned before now disk.NoMemory few risen = (few, tt)
+
+-- with more room for plans and for what is told, the room for the tasks is as much
+pub room_over : {L S F : Type 0} (old mid : Load L S F) (room : Room S) → IsSameLoad old mid → HasRoom old.view.partitions (length old.sources.items) old.seen room → HasRoom mid.view.partitions (length mid.sources.items) mid.seen room
+room_over {L} old mid room same has =
+    subst (λ (v : View). HasRoom v.partitions (length mid.sources.items) mid.seen room) (sym same.view_is)
+    (subst (λ (x : Vec (Source L)). HasRoom old.view.partitions (length x.items) mid.seen room) (sym same.sources_are)
+    (subst (λ (t : List (Option ℤ)). HasRoom old.view.partitions (length old.sources.items) t room) (sym same.seen_is) has))
+
+-- what was put in place
+abbrev pub with_work : {L S F : Type 0} → Load L S F → Vec (Source L) → Vec (Share S) → OutWork S F → Load L S F
+with_work old sources shares work = record { view = old.view; plans = old.plans; sources = sources; shares = shares; held = old.held; out = Some work; seen = old.seen; pending = old.pending; told = old.told; kept = old.kept }
+
+-- With room for the plan and to tell, with sources that begin at these ends, and with the partitions' files and the out task's work in their room, all is made.
+pub put_made : {L S F : Type 0} (tells : Type 0) (written : S → List ℕ) (ends : List PartEnd) (old new : Load L S F) (room : Room S) (shares : Vec (Share S)) (work : OutWork S F)
+    → length old.plans.items < vec_capacity old.plans → length old.told.items < vec_capacity old.told → length old.sources.items ≡ length ends → HasRoom old.view.partitions (length old.sources.items) old.seen room
+    → AreStaged tells written old.held.items room.shares.items shares.items → work.rows ≡ room.rows → work.seen ≡ room.seen → (tells → written work.stages.rows ≡ []) → (tells → written work.stages.commit ≡ [])
+    → AreBegun ends old.sources.items new.sources.items → new ≡ with_work old new.sources shares work → IsMadeFor tells written ends old new room.ends
+put_made {L} {S} {F} tells written ends old new room shares work plans told each has staged rows times rows_empty commit_empty begun is = record {
+  view_is = ap (λ (l : Load L S F). l.view) is;
+  plans_are = ap (λ (l : Load L S F). l.plans.items) is;
+  plan_room = subst (λ (v : Vec Plan). length v.items < vec_capacity v) (sym (ap (λ (l : Load L S F). l.plans) is)) plans;
+  told_are = ap (λ (l : Load L S F). l.told.items) is;
+  told_room = subst (λ (v : Vec Told). length v.items < vec_capacity v) (sym (ap (λ (l : Load L S F). l.told) is)) told;
+  kept_is = ap (λ (l : Load L S F). l.kept) is;
+  begun = begun;
+  ready = subst (λ (v : Vec (Share S)). AreReady tells written old.view.partitions (length old.sources.items) (length old.held.items) v.items) (sym (ap (λ (l : Load L S F). l.shares) is))
+      (staged_ready tells tells written (λ t. t) old.view.partitions (length old.sources.items) old.held.items room.shares.items shares.items has.count has.fresh staged);
+  held_is = ap (λ (l : Load L S F). l.held) is;
+  work = (
+    work,
+    ap (λ (l : Load L S F). l.out) is,
+    record {
+      no_rows = ap (λ v. v.items) rows ∙ has.no_rows;
+      room = subst (λ v. old.view.partitions ≤ vec_capacity v) (sym rows) has.rows_room;
+      times = times ∙ has.times_are;
+      rows_empty = rows_empty;
+      commit_empty = commit_empty;
+    },
+  );
+  seen_is = ap (λ (l : Load L S F). l.seen) is;
+  pending_is = ap (λ (l : Load L S F). l.pending) is;
+  no_ends = has.no_ends;
+  ends_room = subst (λ (n : ℕ). n ≤ vec_capacity room.ends) each has.ends_room;
+}
 
 pub made_over : {L S F : Type 0} (tells : Type 0) (written : S → List ℕ) (ends : List PartEnd) (old mid new : Load L S F) (here : Vec PartEnd)
     → IsSameLoad old mid → IsMadeFor tells written ends mid new here → IsMadeFor tells written ends old new here
@@ -19,8 +81,16 @@ made_over {L} {S} {F} tells written ends old mid new here same made = record {
   told_room = made.told_room;
   kept_is = made.kept_is ∙ same.kept_is;
   begun = subst (λ (olds : Vec (Source L)). AreBegun ends olds.items new.sources.items) same.sources_are made.begun;
-  count = made.count ∙ ap (λ (v : View). v.partitions) same.view_is;
-  fresh = subst (λ (olds : Vec (Source L)). All (IsFresh (length olds.items)) new.shares.items) same.sources_are made.fresh;
+  ready = record {
+    count = made.ready.count ∙ ap (λ (v : View). v.partitions) same.view_is;
+    each = λ p share here. (let own = made.ready.each p share here in record {
+      none = own.none;
+      room = subst (λ (olds : Vec (Source L)). length olds.items ≤ vec_capacity share.buckets) same.sources_are own.room;
+      stage = subst (λ (held : Vec (Option Held)). IsStageOf tells written (length held.items) p share.stage) same.held_is own.stage;
+      no_key = own.no_key;
+    });
+  };
+  held_is = made.held_is ∙ same.held_is;
   work = (
     made.work.0,
     made.work.1,
@@ -38,6 +108,10 @@ made_over {L} {S} {F} tells written ends old mid new here same made = record {
   ends_room = made.ends_room;
 }
 
+stage_by : {S : Type 0} (tells fewer : Type 0) (written : S → List ℕ) (keeping p : ℕ) (stage : Option S) → (fewer → tells) → IsStageOf tells written keeping p stage → IsStageOf fewer written keeping p stage
+stage_by tells fewer written keeping p None so is = is
+stage_by tells fewer written keeping p (Some stage) so is = (is.0, λ t. is.1 (so t))
+
 -- where less is known to be told
 pub made_by : {L S F : Type 0} (tells fewer : Type 0) (written : S → List ℕ) (ends : List PartEnd) (old new : Load L S F) (here : Vec PartEnd)
     → (fewer → tells) → IsMadeFor tells written ends old new here → IsMadeFor fewer written ends old new here
@@ -49,8 +123,11 @@ made_by tells fewer written ends old new here so made = record {
   told_room = made.told_room;
   kept_is = made.kept_is;
   begun = made.begun;
-  count = made.count;
-  fresh = made.fresh;
+  ready = record {
+    count = made.ready.count;
+    each = λ p share here. (let own = made.ready.each p share here in record { none = own.none; room = own.room; stage = stage_by tells fewer written (length old.held.items) p share.stage so own.stage; no_key = own.no_key });
+  };
+  held_is = made.held_is;
   work = (
     made.work.0,
     made.work.1,

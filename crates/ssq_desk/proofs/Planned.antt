@@ -1,8 +1,8 @@
 -- What a desk holds once the next epoch is planned.
-use Rattle.std.proofs.Common.{rules, ◌≡◌, ◌<◌, ◌≤◌, ◌+◌, ℕ, ℤ, zero, suc, Bool, true, false, true≢false, List, [], ◌∷◌, map, length, get_or, Option, Some, None, inl, inr, refl, sym, ap, ◌∙◌, subst, arith}
-use Rattle.std.specs.Prelude.{All, slice_get, if◌then◌else◌, is_some}
+use Rattle.std.proofs.Common.{rules, ◌≡◌, ◌<◌, ◌≤◌, ◌+◌, ℕ, ℤ, zero, suc, nat_lt, Bool, true, false, true≢false, List, [], ◌∷◌, map, length, get_or, Option, Some, None, inl, inr, refl, sym, ap, ◌∙◌, subst, arith}
+use Rattle.std.specs.Prelude.{slice_get, if◌then◌else◌, is_some, IsSomeAnd}
 use Rattle.std.specs.List.{list_all}
-use Rattle.std.proofs.lemmas.List.{get_or-map}
+use Rattle.std.proofs.lemmas.List.{get_or-map, length-map}
 use mathlib.Core.Option.{some, some-injective, some-ne-none}
 use lib.ListN.{get_elem?}
 use Rattle.ssq_meaning.specs.Meaning.{Line}
@@ -10,7 +10,10 @@ use Rattle.ssq_meaning.specs.Parts.{Part}
 use Rattle.ssq_meaning.proofs.Causal.{says_same}
 use Rattle.ssq_plans.specs.declared.part.PartEnd.{PartEnd}
 use Rattle.ssq_core.specs.Course.{Cuts, Ends, AreSameUpTo}
+use Rattle.ssq_store.specs.declared.store.Store.{Store}
+use Rattle.ssq_task.specs.declared.partition.Held.{Held}
 use Rattle.ssq_course.specs.Setting.{Setting, parts_in, cut_of, cuts_of}
+use Rattle.ssq_terms.specs.Partitions.{HoldsStateOf}
 use Rattle.ssq_board.specs.declared.front.Cause.{Cause}
 use Rattle.ssq_board.specs.declared.front.Place.{Place}
 use Rattle.ssq_board.specs.declared.front.Place.TheVariants as place
@@ -21,8 +24,10 @@ use Rattle.ssq_desk.specs.declared.desk.Source.{Source}
 use Rattle.ssq_desk.specs.declared.desk.Share.{Share}
 use Rattle.ssq_desk.specs.declared.desk.OutWork.{OutWork}
 use Rattle.ssq_desk.specs.declared.desk.Pending.{Pending}
-use Rattle.ssq_desk.specs.Contents.{is_away, IsSourceOf, IsMapped, IsShare, AreSeen, IsOutWork, Holds}
-use Rattle.ssq_desk.specs.Room.{IsFresh, AreBegun}
+use Rattle.ssq_desk.specs.Contents.{is_away, is_gone, epochs_at, keeping_in, IsSourceOf, IsMapped, IsShare, IsKeyOf, IsHeldOf, IsHeldAt, AreSeen, IsOutWork, Holds}
+use Rattle.ssq_desk.specs.Room.{AreBegun}
+use Rattle.ssq_desk.specs.Making.{AreReady}
+use Rattle.ssq_desk.proofs.Keeping.{between_held}
 
 module _ {A : Type 0} where
   pub at_get : (l : List A) (i : ℕ) (a d : A) → get_elem? l i ≡ some a → get_or l i d ≡ a
@@ -69,6 +74,14 @@ fine_not_away place.Waits fine away = away
 fine_not_away place.Away fine away = true≢false (sym fine)
 fine_not_away (place.Back f) fine away = away
 
+-- and what its partition keeps is there
+pub fine_not_gone : (at : Place) → is_fine at ≡ true → is_gone at → ⊥
+fine_not_gone place.Rests fine gone = gone
+fine_not_gone place.Waits fine gone = gone
+fine_not_gone place.Away fine gone = true≢false (sym fine)
+fine_not_gone (place.Back None) fine gone = gone
+fine_not_gone (place.Back (Some f)) fine gone = true≢false (sym fine)
+
 -- the source of a part that begins an epoch is its part's as before
 pub begun_source : {L : Type 0} (reads : Type 0) (lines : L → List Line) (available : L → ℕ) (went : L → L → Type 0) (opened : List L) (ends : List PartEnd) (olds news : List (Source L)) → AreBegun ends olds news
     → (i : ℕ) (part : Part) (found : ℕ) (at : Place) (source : Source L) → get_elem? news i ≡ some source → ((old : Source L) → get_elem? olds i ≡ some old → IsSourceOf reads lines available went opened i part found at old)
@@ -97,11 +110,19 @@ module _ (owned : Type 0) (s : Setting) (cuts other : Cuts) (e : ℕ) (same : Ar
   out_stays : {S F : Type 0} (written : S → List ℕ) (work : OutWork S F) → IsOutWork owned written s cuts e work → IsOutWork owned written s other e work
   out_stays written work is = record { none = is.none; room = is.room; times = seen_stay work.seen is.times; rows_empty = is.rows_empty; commit_empty = is.commit_empty }
 
+  -- and so do the states
+  state_stays : (p : ℕ) (store : Option Store) → HoldsStateOf s cuts e p store → HoldsStateOf s other e p store
+  state_stays p None are = are
+  state_stays p (Some store) are = (are.0, are.1, are.2 ∙ (says_same s.job.bound (parts_in s) (cuts_of cuts) (cuts_of other) e (λ n le. ap cut_of (same n le))).same_state s.job.partitions p e (omega arith))
+
+  pub held_stays : (p : ℕ) (own : Option Held) → IsSomeAnd own (IsHeldOf owned s cuts e p) → IsSomeAnd own (IsHeldOf owned s other e p)
+  held_stays p None are = are
+  held_stays p (Some own) are = record { partition_is = are.partition_is; version = are.version; state = λ t. state_stays p (Some own.store) (are.state t); index = are.index }
+
 -- What is made for the next epoch before it is planned.
-pub record IsMade {L S F : Type 0} (owned : Type 0) (written : S → List ℕ) (s : Setting) (cuts : Cuts) (c : Core) (olds news : List (Source L)) (shares : List Share) (work : OutWork S F) : Type 0 where
+pub record IsMade {L S F : Type 0} (owned : Type 0) (written : S → List ℕ) (s : Setting) (cuts : Cuts) (c : Core) (olds news : List (Source L)) (shares : List (Share S)) (work : OutWork S F) : Type 0 where
   pub begun : AreBegun c.ends olds news
-  pub count : length shares ≡ s.job.partitions
-  pub fresh : All (IsFresh (length (parts_in s))) shares
+  pub ready : AreReady owned written s.job.partitions (length (parts_in s)) (keeping_in s) shares
   pub out : IsOutWork owned written s cuts c.front.committed work
 
 -- between epochs of a desk that runs
@@ -109,12 +130,13 @@ pub record IsBetween (s : Setting) (cuts : Cuts) (r : Scope) (c : Core) : Type 0
   pub running : c.front.stop ≡ None
   pub closed : c.front.committed ≡ c.front.planned
   pub back : list_all is_fine c.maps ≡ true
+  pub reduced : list_all is_fine c.reduces ≡ true
   pub ends : cuts c.front.planned ≡ c.ends
   pub each_end : length c.ends ≡ length (parts_in s)
   pub each_map : length c.maps ≡ length (parts_in s)
 
 module _ {L S F : Type 0} (reads owned : Type 0) (lines : L → List Line) (available : L → ℕ) (went : L → L → Type 0) (opened : List L) (written : S → List ℕ) (sealed : F → List ℕ) (s : Setting) (cuts : Cuts) (r : Scope) (c : Core)
-    (olds news : List (Source L)) (shares : List Share) (work : OutWork S F) (times : List (Option ℤ)) (made : IsMade owned written s cuts c olds news shares work) (between : IsBetween s cuts r c) where
+    (olds news : List (Source L)) (shares : List (Share S)) (work : OutWork S F) (times : List (Option ℤ)) (made : IsMade owned written s cuts c olds news shares work) (between : IsBetween s cuts r c) where
   next : Ends
   next = next_ends r.cap c.ends r.available
 
@@ -155,21 +177,22 @@ module _ {L S F : Type 0} (reads owned : Type 0) (lines : L → List Line) (avai
         fault = λ f back. elim (dealt_at c.ends next i at here) [ inl w ↦ absurd (waits_not_back at (Some f) w.0 back) | inr q ↦ absurd (rests_not_back at (Some f) q.0 back) ];
       }
 
-  shared : (p : ℕ) (at : Place) (share : Share) → get_elem? (map (λ _. place.Waits) c.reduces) p ≡ some at → get_elem? shares p ≡ some share → IsShare owned s then_cuts c.front.committed p at share
+  shared : (p : ℕ) (at : Place) (share : Share S) → get_elem? (map (λ _. place.Waits) c.reduces) p ≡ some at → get_elem? shares p ≡ some share → IsShare owned written s then_cuts c.front.committed p at share
   shared p at share here mine =
       let waits : at ≡ place.Waits = const_at place.Waits at c.reduces p here in
-      let fresh : IsFresh (length (parts_in s)) share = subst (IsFresh (length (parts_in s))) (at_get shares p share share mine) (made.fresh p share (at_length shares p share mine)) in record {
+      let own = made.ready.each p share mine in record {
         there = λ rests. absurd (waits_not_rests at waits rests);
-        empty = λ w. (fresh.none, fresh.room);
+        empty = λ w. (own.none, own.room);
+        stage = λ w. own.stage;
         shown = λ back. absurd (waits_not_back at None waits back);
         printable = λ back. absurd (waits_not_back at None waits back);
       }
 
   -- the log of a part is where it was
-  logged : (pending : Option (Pending F)) (out : Option (OutWork S F)) (old_shares : List Share) → Holds reads owned lines available went opened written sealed s cuts r.available c olds old_shares out times pending
+  logged : (pending : Option (Pending F)) (out : Option (OutWork S F)) (old_shares : List (Share S)) (held : List (Option Held)) → Holds reads owned lines available went opened written sealed s cuts r.available c olds old_shares held out times pending
       → (i : ℕ) (part : Part) (at : Place) (source : Source L) → slice_get (parts_in s) i ≡ Some part → get_elem? (dealt c.ends next) i ≡ some at → get_elem? news i ≡ some source
       → IsSourceOf reads lines available went opened i part (get_or r.available i 0) at source
-  logged pending out old_shares holds i part at source there here mine =
+  logged pending out old_shares held holds i part at source there here mine =
       let placed = there_at c.maps i (omega (arith, slice_below (parts_in s) i part there, between.each_map)) in
       let back = fine_not_away placed.0 (all_fine is_fine c.maps i placed.0 between.back placed.1) in
       begun_source reads lines available went opened c.ends olds news made.begun i part (get_or r.available i 0) at source mine (λ old was. by_place placed.0 back (holds.logs i part placed.0 old there placed.1 was))
@@ -178,14 +201,19 @@ module _ {L S F : Type 0} (reads owned : Type 0) (lines : L → List Line) (avai
       by_place before back was = record { stream = was.stream; number = was.number; log = λ here. was.log back }
 
   -- once the epoch is planned, what was made for it is what its tasks are to take
-  pub planned : (pending : Option (Pending F)) (out : Option (OutWork S F)) (old_shares : List Share) → Holds reads owned lines available went opened written sealed s cuts r.available c olds old_shares out times pending
-      → Holds reads owned lines available went opened written sealed s (extended cuts c.front.planned (next_ends r.cap c.ends r.available)) r.available (after r c (entry.Plan c.front.planned)) news shares (Some work) times pending
+  pub planned : (pending : Option (Pending F)) (out : Option (OutWork S F)) (old_shares : List (Share S)) (held : List (Option Held)) → Holds reads owned lines available went opened written sealed s cuts r.available c olds old_shares held out times pending
+      → Holds reads owned lines available went opened written sealed s (extended cuts c.front.planned (next_ends r.cap c.ends r.available)) r.available (after r c (entry.Plan c.front.planned)) news shares held (Some work) times pending
   unfolding then_cuts next
-  planned pending out old_shares holds = record {
+  planned pending out old_shares held holds = record {
     parts = made.begun.0 ∙ holds.parts;
-    partitions = made.count;
-    logs = logged pending out old_shares holds;
+    partitions = made.ready.count;
+    keeping = holds.keeping;
+    logs = logged pending out old_shares held holds;
     reduced = λ p f here. absurd (waits_not_fault f (const_at place.Waits (place.Back (Some f)) c.reduces p here));
+    dealt = λ is_opened p here. rests_not_waits (const_at place.Waits place.Rests c.reduces p here);
+    keys = λ is_opened p at share here mine. subst (λ (at : Place). IsKeyOf owned s then_cuts c.front.committed p at share.key) (sym (const_at place.Waits at c.reduces p here)) (made.ready.each p share mine).no_key;
+    still = λ stopped. absurd (true≢false (sym (ap is_some stopped)));
+    kept = λ running p at own here mine. by_place p own at (const_at place.Waits at c.reduces p here) (kept_of p at own here mine);
     seen_so_far = λ running. seen_stay owned s cuts then_cuts c.front.committed same_cuts times (holds.seen_so_far between.running);
     epoch = λ running is_opened. record {
       froms = ap length ends_are ∙ between.each_end;
@@ -200,3 +228,18 @@ module _ {L S F : Type 0} (reads owned : Type 0) (lines : L → List Line) (avai
     where
       waits_not_fault : (f : Cause) → place.Back (Some f) ≡ place.Waits → ⊥
       waits_not_fault f e = cc
+
+      rests_not_waits : place.Rests ≡ place.Waits → ⊥
+      rests_not_waits e = cc
+
+      kept_of : (p : ℕ) (at : Place) (own : Option Held) → get_elem? (map (λ _. place.Waits) c.reduces) p ≡ some at → get_elem? held p ≡ some own → IsSomeAnd own (IsHeldOf owned s then_cuts c.front.committed p)
+      kept_of p at own here mine =
+          let placed = there_at c.reduces p (let less = at_length (map (λ _. place.Waits) c.reduces) p at here in let count = length-map c.reduces (λ _. place.Waits) in omega (arith, less, count)) in
+          let back = fine_not_gone placed.0 (all_fine is_fine c.reduces p placed.0 between.reduced placed.1) in
+          let was = holds.kept between.running p placed.0 own placed.1 mine in
+          held_stays owned s cuts then_cuts c.front.committed same_cuts p own
+          (between_held owned s cuts c.front.committed p placed.0 own back (subst (λ (b : Bool). IsHeldAt owned s cuts b c.front.committed p placed.0 own) (nat_lt-not c.front.committed c.front.planned (omega (arith, between.closed))) was))
+
+      by_place : (p : ℕ) (own : Option Held) (at : Place) → at ≡ place.Waits → IsSomeAnd own (IsHeldOf owned s then_cuts c.front.committed p)
+          → IsHeldAt owned s then_cuts (nat_lt c.front.committed (c.front.planned + 1)) c.front.committed p at own
+      by_place p own at waits is = λ back. subst (λ (at : Place). IsSomeAnd own (IsHeldOf owned s then_cuts (epochs_at (nat_lt c.front.committed (c.front.planned + 1)) c.front.committed at) p)) (sym waits) is

@@ -1,6 +1,6 @@
 -- A desk is whole once the next epoch is planned.
 use Rattle.std.proofs.Common.{◌≡◌, ◌<◌, ◌≤◌, ◌+◌, ◌++◌, [], ◌∷◌, ℕ, ℤ, zero, suc, Bool, true≢false, List, length, length-append, get_or, Option, Some, None, inl, inr, refl, sym, ap, ◌∙◌, subst, arith}
-use Rattle.std.specs.Prelude.{All, IfSome, IsTrue, if◌then◌else◌, is_some, vec_capacity}
+use Rattle.std.specs.Prelude.{IfSome, IsTrue, if◌then◌else◌, is_some, vec_capacity}
 use Rattle.std.specs.Option.{ForSome}
 use Rattle.std.proofs.lemmas.List.{append_assoc}
 use Rattle.std.proofs.lemmas.List.Elements.{All-push}
@@ -13,6 +13,7 @@ use Rattle.ssq_plans.specs.declared.plan.Plan.{Plan}
 use Rattle.ssq_plans.specs.declared.part.PartEnd.{PartEnd}
 use Rattle.std.specs.Global.{Vec}
 use Rattle.ssq_feed.specs.Causes.{LogWent}
+use Rattle.ssq_task.specs.declared.partition.Held.{Held}
 use Rattle.ssq_core.specs.Course.{Cuts, Ends, AreSameUpTo, plan_of}
 use Rattle.ssq_open.specs.Epochs.{follows}
 use Rattle.ssq_course.specs.Setting.{Setting, parts_in, cut_of, cuts_of as offsets, watermark_at, course_of}
@@ -29,9 +30,8 @@ use Rattle.ssq_desk.specs.declared.desk.OutWork.{OutWork}
 use Rattle.ssq_desk.specs.declared.desk.Pending.{Pending}
 use Rattle.ssq_desk.specs.declared.round.Round.{Round}
 use Rattle.ssq_desk.specs.Round.{setting_of, Owns}
-use Rattle.ssq_desk.specs.Contents.{Holds, AreSeen, IsOutWork}
-use Rattle.ssq_desk.specs.Room.{IsFresh}
-use Rattle.ssq_desk.specs.Making.{IsMadeFor, IsWorkFor}
+use Rattle.ssq_desk.specs.Contents.{Holds, AreSeen, IsOutWork, keeping_in}
+use Rattle.ssq_desk.specs.Making.{AreReady, IsMadeFor, IsWorkFor}
 use Rattle.ssq_desk.specs.declared.told.Told.{Told}
 use Rattle.ssq_desk.specs.Closing.{AreTold}
 use Rattle.ssq_desk.specs.Tasks.{IsViewOf}
@@ -124,6 +124,12 @@ one_plan owned opened s cuts n ends plans plan are epoch mark ends_is printed go
           )
     ]
 
+-- what partitions have, said of the setting
+ready_in : {S : Type 0} (owned : Type 0) (written : S → List ℕ) (partitions own parts known keeping kept : ℕ) (shares : List (Share S)) → partitions ≡ own → parts ≡ known → keeping ≡ kept
+    → AreReady owned written partitions parts keeping shares → AreReady owned written own known kept shares
+ready_in owned written partitions own parts known keeping kept shares a b d is =
+    subst (λ n. AreReady owned written n known kept shares) a (subst (λ n. AreReady owned written partitions n kept shares) b (subst (λ n. AreReady owned written partitions parts n shares) d is))
+
 -- a load with one plan more than another
 pub record HasPlan {L S F : Type 0} (old new : Load L S F) (plan : Plan) : Type 0 where
   pub view_is : new.view ≡ old.view
@@ -132,6 +138,7 @@ pub record HasPlan {L S F : Type 0} (old new : Load L S F) (plan : Plan) : Type 
   pub kept_is : new.kept ≡ old.kept
   pub sources_are : new.sources.items ≡ old.sources.items
   pub shares_are : new.shares.items ≡ old.shares.items
+  pub held_is : new.held.items ≡ old.held.items
   pub out_is : new.out ≡ old.out
   pub seen_is : new.seen ≡ old.seen
   pub pending_is : new.pending ≡ old.pending
@@ -166,16 +173,15 @@ module _ {D L S F : Type 0} (stores logs : Type 0) (lines : L → List Line) (av
       } in
       let all : IsMade (Owns stores logs lines shown) written s cuts c load.sources.items made.sources.items made.shares.items work = record {
         begun = is_made.begun;
-        count = is_made.count ∙ whole.view.partitions;
-        fresh = subst (λ (n : ℕ). All (IsFresh n) made.shares.items) whole.holds.parts is_made.fresh;
+        ready = ready_in (Owns stores logs lines shown) written load.view.partitions s.job.partitions (length load.sources.items) (length (parts_in s)) (length load.held.items) (keeping_in s) made.shares.items whole.view.partitions whole.holds.parts whole.holds.keeping is_made.ready;
         out = out;
       } in
       let goes : IsTrue (follows (cuts c.front.planned) (next_ends r.cap c.ends r.available)) = subst (λ (from : Ends). IsTrue (follows from (next_ends r.cap c.ends r.available))) (sym b.ends) (next_follows r.cap c.ends r.available) in
       let stays : AreSameUpTo cuts later c.front.planned = λ e le. sym (ap (λ (x : Bool). if x then next_ends r.cap c.ends r.available else cuts e) (nat_lt-not c.front.planned e le)) in
-      let h = planned (stores × logs) (Owns stores logs lines shown) lines available (LogWent logs lines available answers faults) shown.opening.logs.items written sealed s cuts r c load.sources.items made.sources.items made.shares.items work load.seen all b load.pending load.out load.shares.items whole.holds in
-      let moved : HoldsIn stores logs lines available answers faults written sealed shown (cuts_of (opening_in lines) (did shown disk (entry.Plan c.front.planned ∷ []))) core now.sources.items now.shares.items now.out now.seen now.pending =
-      (let sources = sym has.sources_are in let shares = sym has.shares_are in let outs = sym (has.out_is ∙ is_made.work.1) in let seen = sym (has.seen_is ∙ is_made.seen_is) in let pending = sym (has.pending_is ∙ is_made.pending_is) in
-      transported (stores × logs) (Owns stores logs lines shown) lines available (LogWent logs lines available answers faults) shown.opening.logs.items written sealed s r.available core _ _ _ _ _ _ _ _ _ _ _ _ (sym same) sources shares outs seen pending h) in record {
+      let h = planned (stores × logs) (Owns stores logs lines shown) lines available (LogWent logs lines available answers faults) shown.opening.logs.items written sealed s cuts r c load.sources.items made.sources.items made.shares.items work load.seen all b load.pending load.out load.shares.items load.held.items whole.holds in
+      let moved : HoldsIn stores logs lines available answers faults written sealed shown (cuts_of (opening_in lines) (did shown disk (entry.Plan c.front.planned ∷ []))) core now.sources.items now.shares.items now.held.items now.out now.seen now.pending =
+      (let sources = sym has.sources_are in let shares = sym has.shares_are in let held = sym (has.held_is ∙ ap (λ (v : Vec (Option Held)). v.items) is_made.held_is) in let outs = sym (has.out_is ∙ is_made.work.1) in let seen = sym (has.seen_is ∙ is_made.seen_is) in let pending = sym (has.pending_is ∙ is_made.pending_is) in
+      transported (stores × logs) (Owns stores logs lines shown) lines available (LogWent logs lines available answers faults) shown.opening.logs.items written sealed s r.available core _ _ _ _ _ _ _ _ _ _ _ _ _ _ (sym same) sources shares held outs seen pending h) in record {
         round = whole.round;
         view = subst (IsViewOf s) (sym (has.view_is ∙ is_made.view_is)) whole.view;
         holds = moved;
@@ -190,13 +196,14 @@ module _ {D L S F : Type 0} (stores logs : Type 0) (lines : L → List Line) (av
       }
     where
       transported : {L S F : Type 0} (reads owned : Type 0) (lines : L → List Line) (available : L → ℕ) (went : L → L → Type 0) (opened : List L) (written : S → List ℕ) (sealed : F → List ℕ) (s : Setting) (found : List ℕ) (core : Core)
-          (cuts cuts' : Cuts) (sources sources' : List (Source L)) (shares shares' : List Share) (out out' : Option (OutWork S F)) (seen seen' : List (Option ℤ)) (pending pending' : Option (Pending F))
-          → cuts ≡ cuts' → sources ≡ sources' → shares ≡ shares' → out ≡ out' → seen ≡ seen' → pending ≡ pending'
-          → Holds reads owned lines available went opened written sealed s cuts found core sources shares out seen pending → Holds reads owned lines available went opened written sealed s cuts' found core sources' shares' out' seen' pending'
-      transported reads owned lines available went opened written sealed s found core cuts cuts' sources sources' shares shares' out out' seen seen' pending pending' a b c d e f h =
-          subst (λ (x : Cuts). Holds reads owned lines available went opened written sealed s x found core sources' shares' out' seen' pending') a
-          (subst (λ (x : List (Source _)). Holds reads owned lines available went opened written sealed s cuts found core x shares' out' seen' pending') b
-          (subst (λ (x : List Share). Holds reads owned lines available went opened written sealed s cuts found core sources x out' seen' pending') c
-          (subst (λ (x : Option (OutWork _ _)). Holds reads owned lines available went opened written sealed s cuts found core sources shares x seen' pending') d
-          (subst (λ (x : List (Option ℤ)). Holds reads owned lines available went opened written sealed s cuts found core sources shares out x pending') e
-          (subst (λ (x : Option (Pending _)). Holds reads owned lines available went opened written sealed s cuts found core sources shares out seen x) f h)))))
+          (cuts cuts' : Cuts) (sources sources' : List (Source L)) (shares shares' : List (Share S)) (held held' : List (Option Held)) (out out' : Option (OutWork S F)) (seen seen' : List (Option ℤ)) (pending pending' : Option (Pending F))
+          → cuts ≡ cuts' → sources ≡ sources' → shares ≡ shares' → held ≡ held' → out ≡ out' → seen ≡ seen' → pending ≡ pending'
+          → Holds reads owned lines available went opened written sealed s cuts found core sources shares held out seen pending → Holds reads owned lines available went opened written sealed s cuts' found core sources' shares' held' out' seen' pending'
+      transported {L} {S} {F} reads owned lines available went opened written sealed s found core cuts cuts' sources sources' shares shares' held held' out out' seen seen' pending pending' a b c k d e f h =
+          subst (λ (x : Cuts). Holds reads owned lines available went opened written sealed s x found core sources' shares' held' out' seen' pending') a
+          (subst (λ (x : List (Source _)). Holds reads owned lines available went opened written sealed s cuts found core x shares' held' out' seen' pending') b
+          (subst (λ (x : List (Share S)). Holds reads owned lines available went opened written sealed s cuts found core sources x held' out' seen' pending') c
+          (subst (λ (x : List (Option Held)). Holds reads owned lines available went opened written sealed s cuts found core sources shares x out' seen' pending') k
+          (subst (λ (x : Option (OutWork _ _)). Holds reads owned lines available went opened written sealed s cuts found core sources shares held x seen' pending') d
+          (subst (λ (x : List (Option ℤ)). Holds reads owned lines available went opened written sealed s cuts found core sources shares held out x pending') e
+          (subst (λ (x : Option (Pending _)). Holds reads owned lines available went opened written sealed s cuts found core sources shares held out seen x) f h))))))

@@ -5,8 +5,7 @@ use mathlib.Core.Option.{some}
 use lib.ListN.{get_elem?}
 use Rattle.ssq_outside.specs.Faults.{Rises}
 use Rattle.ssq_shape.specs.declared.bound.Bound.{Bound}
-use Rattle.ssq_shape.specs.declared.bound.Shape.TheVariants.{Plain}
-use Rattle.ssq_meaning.specs.Meaning.{Line}
+use Rattle.ssq_meaning.specs.Meaning.{Line, Values}
 use Rattle.ssq_meaning.specs.Times.{Delay, delays}
 use Rattle.ssq_water.specs.Water.{seen_at}
 use Rattle.ssq_plans.specs.Records.{commit_text}
@@ -32,7 +31,7 @@ use Rattle.ssq_board.specs.Core.{Scope, Core, May, HasCause, is_stopped, fault_a
 use Rattle.ssq_board.proofs.Leasts.{cause_counts}
 use Rattle.ssq_board.proofs.Lists.{at_length, set_length}
 use Rattle.ssq_ledger.specs.Shown.{Shown, IsInOrder, HasRisen, cuts_of, did, answer}
-use Rattle.ssq_terms.proofs.Showing.{show_rows, count_rows}
+use Rattle.ssq_terms.specs.Rows.{PartitionsShowRows, PartitionsCountRows}
 use Rattle.ssq_desk.specs.declared.desk.Load.{Load}
 use Rattle.ssq_desk.specs.declared.desk.Pending.{Pending}
 use Rattle.ssq_desk.specs.declared.round.Round.{Round}
@@ -40,14 +39,14 @@ use Rattle.ssq_desk.specs.Round.{setting_of, Owns}
 use Rattle.ssq_desk.specs.Tasks.{IsOutTask, out_id}
 use Rattle.ssq_desk.specs.Handed.{IsOutOf}
 use Rattle.ssq_desk.specs.Results.{cause_of_gather}
-use Rattle.ssq_desk.specs.Contents.{AreSeen, IsPending, IsStopOf}
+use Rattle.ssq_desk.specs.Contents.{AreSeen, IsPending, IsStopOf, key_in}
 use Rattle.ssq_desk.specs.Whole.{IsWhole, opening_in}
 use Rattle.ssq_desk.specs.Published.{AreRowsOf, IsCommitOf}
 use Rattle.ssq_desk.proofs.Holding.{put_is, holds_out}
 use Rattle.ssq_desk.proofs.Handing.{moved_whole}
 use Rattle.ssq_desk.proofs.Reducing.{same_cause, runs_by, stops_by, faulty_by}
 use Rattle.ssq_desk.proofs.Settling.{with_pending, halted_whole, disk_no_log}
-use Rattle.ssq_desk.proofs.Wholes.{cause_stops, cuts_then}
+use Rattle.ssq_desk.proofs.Wholes.{cause_stops, never_key, cuts_then}
 
 -- ---- the files of the epoch
 
@@ -57,23 +56,28 @@ module _ {S F : Type 0} (owned stages : Type 0) (so : owned → stages) (written
   has_epoch t = subst (λ (o : Result (SealedEpoch F) (GatherFault × Remnant S F)). IfOk o (HasEpoch stages written sealed faults task)) brought (is.files (so t))
 
   -- the rows are those of the epoch
-  pub rows_are : s.job.bound.shape ≡ Plain → 1 ≤ s.job.partitions → owned → sealed files.rows ≡ rows_at s cuts e
-  rows_are plain many t =
+  pub rows_are : PartitionsShowRows → 1 ≤ s.job.partitions → owned → sealed files.rows ≡ rows_at s cuts e
+  rows_are show many t =
       (has_epoch t).rows ∙ ap (λ (l : List ℕ). l ++ sink_text task.view.bound.now (joined_vecs task.rows.items)) (of.rows_empty t)
       ∙ ap (λ (query : Bound). sink_text query (joined_vecs task.rows.items)) of.view.bound
-      ∙ show_rows s cuts e (map (λ rows. rows.items) task.rows.items) plain many (of.rows t)
+      ∙ show s cuts e (map (λ rows. rows.items) task.rows.items) many (of.rows t)
 
   -- and the commit is the epoch's
-  pub commit_is : s.job.bound.shape ≡ Plain → 1 ≤ s.job.partitions → IsPending owned sealed s cuts e (record { commit = files.commit; seen = done.seen; count = files.count })
-  commit_is plain many = record {
+  pub commit_is : PartitionsCountRows → 1 ≤ s.job.partitions → IsPending owned sealed s cuts e (record { commit = files.commit; seen = done.seen; count = files.count })
+  commit_is counts many = record {
     commit = λ t. (has_epoch t).commit ∙ ap (λ (l : List ℕ). l ++ commit_text (record { epoch = task.epoch; seen = map (λ (d : Delay). record { stream = d.0; time = seen_at task.seen d.0 }) (delays task.view.bound.now) })) (of.commit_empty t)
         ∙ (let query = of.view.bound in let epoch = of.epoch in let times = of.times.are t in λ i. commit_text (record { epoch = epoch i; seen = map (λ (d : Delay). record { stream = d.0; time = times d.0 i }) (delays (query i)) }));
     times = subst (AreSeen owned s cuts (e + 1)) (sym is.seen) of.times;
     rows = λ t. subst (λ (o : Result (SealedEpoch F) (GatherFault × Remnant S F)). IfOk o (λ files. files.count ≡ length (joined_vecs task.rows.items))) brought is.count
-        ∙ count_rows s cuts e (map (λ rows. rows.items) task.rows.items) plain many (of.rows t);
+        ∙ counts s cuts e (map (λ rows. rows.items) task.rows.items) many (of.rows t);
   }
 
 -- ---- what is held
+
+-- a key's Stop was there before
+still_by : {P : Type 0} (old more : Option Cause) → (old ≡ Some cause.KeyOverflow → P) → (more ≡ Some cause.KeyOverflow → ⊥) → or_stop old (if is_stopped old then None else more) ≡ Some cause.KeyOverflow → P
+still_by None more before own is = absurd (own is)
+still_by (Some f) more before own is = before is
 
 -- the Stop that the out task's report brings about is for its own cause
 out_stops : (outs : List Place) (f : Option Cause) (g : Cause) → length outs ≤ 1 → due_stop (set outs 0 (place.Back f)) ≡ Some g → f ≡ Some g
@@ -83,8 +87,8 @@ out_stops outs f g few is =
     let first : c.place_of ≡ 0 = (let count = set_length outs 0 (place.Back f) in omega (arith, less, few, count)) in
     ap fault_at (put_is outs 0 (place.Back f) (place.Back (Some g)) (subst (λ (k : ℕ). get_elem? (set outs 0 (place.Back f)) k ≡ some (place.Back (Some g))) first c.here))
 
-may_stop : (reads : Type 0) (s : Setting) (cuts : Cuts) (e : ℕ) (r : Scope) (c : Core) (f : Option Cause) (g : Cause) → IfSome f (HasCause r c) → f ≡ Some g → IsStopOf reads s cuts e g
-may_stop reads s cuts e r c f g has is = cause_stops reads s cuts e r c g (subst (λ (o : Option Cause). IfSome o (HasCause r c)) is has)
+may_stop : (reads owned : Type 0) (s : Setting) (cuts : Cuts) (e : ℕ) (r : Scope) (c : Core) (f : Option Cause) (g : Cause) → IfSome f (HasCause r c) → f ≡ Some g → (key : Option Values) → IsStopOf reads owned s cuts e key g
+may_stop reads owned s cuts e r c f g has is = cause_stops reads owned s cuts e r c g (subst (λ (o : Option Cause). IfSome o (HasCause r c)) is has)
 
 module _ {D L F : Type 0} (stores logs : Type 0) (lines : L → List Line) (sealed : F → List ℕ) (shown now : Shown D (Round L)) (disk : D) (epoch : ℕ) (f : Option Cause) (reported : now ≡ did shown disk (entry.Report (out_id epoch) f ∷ [])) where
   -- the cuts stay as they were by a report
@@ -102,15 +106,15 @@ module _ {D L F : Type 0} (stores logs : Type 0) (lines : L → List Line) (seal
 module _ {D L S F : Type 0} (stores logs : Type 0) (lines : L → List Line) (available : L → ℕ) (answers : L → List ℕ) (faults : L → ℕ) (written : S → List ℕ) (sealed : F → List ℕ) (shown : Shown D (Round L)) (load : Load L S F)
     (whole : IsWhole stores logs lines available answers faults written sealed shown load) where
   -- the files are those of the epoch that runs
-  pub rows_right : (stages : Type 0) (so : Owns stores logs lines shown → stages) (faults : S → ℕ) (task : OutTask S F) (done : Gathered S F) → IsOutOf stores logs lines written shown task → IsGathered stages written sealed faults task done → (files : SealedEpoch F) → done.outcome ≡ Ok files
+  pub rows_right : PartitionsShowRows → (stages : Type 0) (so : Owns stores logs lines shown → stages) (faults : S → ℕ) (task : OutTask S F) (done : Gathered S F) → IsOutOf stores logs lines written shown task → IsGathered stages written sealed faults task done → (files : SealedEpoch F) → done.outcome ≡ Ok files
       → AreRowsOf stores logs lines sealed shown files.rows
-  rows_right stages so faults task done of is files brought t = rows_are (Owns stores logs lines shown) stages so written sealed faults (setting_of lines shown.opening) (cuts_of (opening_in lines) shown) shown.core.front.committed task done of is files brought
-      whole.round.plain.shape whole.round.some_partitions t
+  rows_right show stages so faults task done of is files brought t = rows_are (Owns stores logs lines shown) stages so written sealed faults (setting_of lines shown.opening) (cuts_of (opening_in lines) shown) shown.core.front.committed task done of is files brought
+      show whole.round.some_partitions t
 
-  pub commit_right : (stages : Type 0) (so : Owns stores logs lines shown → stages) (faults : S → ℕ) (task : OutTask S F) (done : Gathered S F) → IsOutOf stores logs lines written shown task → IsGathered stages written sealed faults task done → (files : SealedEpoch F) → done.outcome ≡ Ok files
+  pub commit_right : PartitionsCountRows → (stages : Type 0) (so : Owns stores logs lines shown → stages) (faults : S → ℕ) (task : OutTask S F) (done : Gathered S F) → IsOutOf stores logs lines written shown task → IsGathered stages written sealed faults task done → (files : SealedEpoch F) → done.outcome ≡ Ok files
       → IsCommitOf stores logs lines sealed shown (record { commit = files.commit; seen = done.seen; count = files.count })
-  commit_right stages so faults task done of is files brought = commit_is (Owns stores logs lines shown) stages so written sealed faults (setting_of lines shown.opening) (cuts_of (opening_in lines) shown) shown.core.front.committed task done of is files brought
-      whole.round.plain.shape whole.round.some_partitions
+  commit_right counts stages so faults task done of is files brought = commit_is (Owns stores logs lines shown) stages so written sealed faults (setting_of lines shown.opening) (cuts_of (opening_in lines) shown) shown.core.front.committed task done of is files brought
+      counts whole.round.some_partitions
 
   -- what is held once the out task is back
   pub out_back : (order : IsInOrder shown.scope shown.core) (disk : D) (epoch : ℕ) (f : Option Cause) → May shown.scope shown.core (entry.Report (out_id epoch) f) → IfSome f (HasCause shown.scope shown.core)
@@ -122,11 +126,12 @@ module _ {D L S F : Type 0} (stores logs : Type 0) (lines : L → List Line) (av
       let more : Option Cause = due_stop (set shown.core.outs 0 (place.Back f)) in
       moved_whole stores logs lines available answers faults written sealed shown load whole disk (entry.Report (out_id epoch) f) load (λ cuts c. refl) refl refl refl refl whole.told whole.told_room
       (λ stopped. faulty_by old more (λ e. whole.faulty e) (λ run is_due. absurd (no_log (out_stops shown.core.outs f cause.LogFault order.sound.outs is_due))) stopped)
-      (holds_out (stores × logs) (Owns stores logs lines shown) lines available (LogWent logs lines available answers faults) shown.opening.logs.items written sealed s cuts shown.scope.available shown.core (or_stop old (if is_stopped old then None else more)) (place.Back f) load.sources.items load.shares.items load.shares.items load.out load.out load.seen load.pending
+      (holds_out (stores × logs) (Owns stores logs lines shown) lines available (LogWent logs lines available answers faults) shown.opening.logs.items written sealed s cuts shown.scope.available shown.core (or_stop old (if is_stopped old then None else more)) (place.Back f) load.sources.items load.shares.items load.shares.items load.held.items load.out load.out load.seen load.pending
       (runs_by old (if is_stopped old then None else more)) whole.holds back_waits refl
       (λ run opened. elim (whole.holds.epoch run opened).last [ inl waits ↦ absurd (waits_away (sym waits ∙ may.2)) | inr fine ↦ fine ])
-      (λ g stopped. stops_by (stores × logs) s cuts shown.core.front.committed old more g stopped whole.holds.stop
-      (λ run is_due. may_stop (stores × logs) s cuts shown.core.front.committed shown.scope shown.core f g has (out_stops shown.core.outs f g order.sound.outs is_due))))
+      (still_by old more whole.holds.still (λ is_due. never_key (stores × logs) (Owns stores logs lines shown) s cuts shown.core.front.committed cause.KeyOverflow (may_stop (stores × logs) (Owns stores logs lines shown) s cuts shown.core.front.committed shown.scope shown.core f cause.KeyOverflow has (out_stops shown.core.outs f cause.KeyOverflow order.sound.outs is_due)) refl))
+      (λ g stopped. stops_by (stores × logs) (Owns stores logs lines shown) s cuts shown.core.front.committed (key_in load.shares.items) old more g stopped whole.holds.stop
+      (λ run is_due. may_stop (stores × logs) (Owns stores logs lines shown) s cuts shown.core.front.committed shown.scope shown.core f g has (out_stops shown.core.outs f g order.sound.outs is_due) (key_in load.shares.items))))
     where
       no_log : f ≡ Some cause.LogFault → ⊥
       no_log is = subst (λ (o : Option Cause). IfSome o (HasCause shown.scope shown.core)) is has
@@ -145,8 +150,13 @@ module _ {D L S F : Type 0} (stores logs : Type 0) (lines : L → List Line) (av
       moved_whole stores logs lines available answers faults written sealed shown load whole disk (entry.OutFile shown.core.front.committed) (with_pending load (Some p)) (λ cuts c. refl) refl refl refl refl whole.told whole.told_room (λ e. absurd (true≢false (sym (ap is_some e)))) (record {
         parts = h.parts;
         partitions = h.partitions;
+        keeping = h.keeping;
         logs = h.logs;
         reduced = h.reduced;
+        dealt = h.dealt;
+        keys = h.keys;
+        still = λ stopped. absurd (true≢false (sym (ap is_some stopped)));
+        kept = λ run. h.kept may.0;
         seen_so_far = λ run. h.seen_so_far may.0;
         epoch = λ run opened. (let e = h.epoch may.0 opened in record { froms = e.froms; mapped = e.mapped; shared = e.shared; last = e.last; outs = e.outs });
         commit = λ run opened written_is. (p, refl, is);
@@ -159,7 +169,7 @@ module _ {D L S F : Type 0} (stores logs : Type 0) (lines : L → List Line) (av
       → IsWhole stores logs lines available answers faults written sealed now (with_pending load (Some p))
   after_rows now (Ok x) risen p may is done stopped = subst (λ (x : Shown D (Round L)). IsWhole stores logs lines available answers faults written sealed x (with_pending load (Some p))) (sym done) (published_whole now.disk p may is)
   after_rows now (Err f) risen p may is done stopped = subst (λ (x : Shown D (Round L)). IsWhole stores logs lines available answers faults written sealed x (with_pending load (Some p))) (sym stopped.0)
-      (halted_whole stores logs lines available answers faults written sealed shown load whole now.disk cause.DiskFault (Some p) disk_no_log tt)
+      (halted_whole stores logs lines available answers faults written sealed shown load whole now.disk cause.DiskFault (Some p) disk_no_log (λ key. tt))
 
 -- ---- how the result is taken
 

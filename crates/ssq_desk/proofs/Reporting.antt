@@ -10,7 +10,7 @@ use Rattle.ssq_meaning.specs.Cut.{Cut, of_parts}
 use Rattle.ssq_meaning.specs.Feeding.{LineAt, fault_in, or_else}
 use Rattle.ssq_meaning.specs.Epochs.{fault, fault_between, key_fault, of_line, of_key}
 use Rattle.ssq_desk.proofs.Handing.{part_there}
-use Rattle.ssq_meaning.specs.Meaning.{Line}
+use Rattle.ssq_meaning.specs.Meaning.{Line, Values}
 use Rattle.ssq_route.specs.Buckets.{bucket_at}
 use Rattle.ssq_feed.specs.declared.task.FedRows.{FedRows}
 use Rattle.ssq_feed.specs.declared.fault.FeedFault.{FeedFault}
@@ -23,7 +23,7 @@ use Rattle.ssq_board.specs.declared.front.Cause.{Cause}
 use Rattle.ssq_board.specs.declared.front.Cause.TheVariants as cause
 use Rattle.ssq_board.specs.declared.front.Place.{Place}
 use Rattle.ssq_board.specs.declared.front.Place.TheVariants as place
-use Rattle.ssq_board.specs.Core.{is_here, is_of_line, due_stop}
+use Rattle.ssq_board.specs.Core.{is_here, is_of_epoch, due_stop}
 use Rattle.ssq_board.specs.Laws.{IsCauseOf}
 use Rattle.ssq_board.proofs.Leasts.{cause_counts}
 use Rattle.ssq_board.proofs.Lists.{all_fine, at_length, there_at}
@@ -118,7 +118,7 @@ module _ {L : Type 0} (tells : Type 0) (s : Setting) (cuts : Cuts) (e : ℕ) (re
         (part.0, part.1, (mapped p part.0 (place.Back (Some f)) source.0 part.1 here source.1).fault f refl)
 
     -- a line's cause for which the phase stops is the epoch's fault
-    line_stops : (f : Cause) (at : LineAt) → tells → line_of f ≡ Some at → is_of_line f ≡ true → (c : IsCauseOf places f) → (part : Part) → slice_get (parts_in s) c.place_of ≡ Some part
+    line_stops : (f : Cause) (at : LineAt) → tells → line_of f ≡ Some at → is_of_epoch f ≡ true → (c : IsCauseOf places f) → (part : Part) → slice_get (parts_in s) c.place_of ≡ Some part
         → fault_in s.job.bound part (get_or (cut_of (cuts e)) c.place_of 0) (get_or (cut_of (cuts (e + 1))) c.place_of 0) ≡ line_of f → fault s.job.bound (parts_in s) (cuts_of cuts) e ≡ Some (of_line at)
     line_stops f at t is line c part there found =
         let all = (c.first line).0 in
@@ -131,13 +131,14 @@ module _ {L : Type 0} (tells : Type 0) (s : Setting) (cuts : Cuts) (e : ℕ) (re
         ap (λ o. or_else (option_map of_line o) (option_map of_key (key_fault s.job.bound (parts_in s) (cuts_of cuts) e))) between
 
     -- The phase stops for a cause that a Stop of the desk may have.
-    pub map_stops : (f : Cause) → due_stop places ≡ Some f → IsStopOf tells s cuts e f
-    map_stops f due = by f (cause_counts places f due) (cause_at f (cause_counts places f due).place_of (cause_counts places f due).here)
+    pub map_stops : (owned : Type 0) (f : Cause) → due_stop places ≡ Some f → (key : Option Values) → IsStopOf tells owned s cuts e key f
+    map_stops owned f due key = by f (cause_counts places f due) (cause_at f (cause_counts places f due).place_of (cause_counts places f due).here)
       where
-        by : (f : Cause) → (c : IsCauseOf places f) → (part : Part) × (slice_get (parts_in s) c.place_of ≡ Some part) × IsCauseIn tells s.job.bound part (get_or (cut_of (cuts e)) c.place_of 0) (get_or (cut_of (cuts (e + 1))) c.place_of 0) f → IsStopOf tells s cuts e f
+        by : (f : Cause) → (c : IsCauseOf places f) → (part : Part) × (slice_get (parts_in s) c.place_of ≡ Some part) × IsCauseIn tells s.job.bound part (get_or (cut_of (cuts e)) c.place_of 0) (get_or (cut_of (cuts (e + 1))) c.place_of 0) f → IsStopOf tells owned s cuts e key f
         by (cause.BadLine st p o w) c own = λ t. (_, refl, line_stops (cause.BadLine st p o w) _ t refl refl c own.0 own.1 (own.2 t))
         by (cause.Overflow st p o) c own = λ t. (_, refl, line_stops (cause.Overflow st p o) _ t refl refl c own.0 own.1 (own.2 t))
         by (cause.LogShort st p logged found) c own = (let a = own.2.0 in let b = own.2.1 in (omega (arith, a, b), own.2.2))
+        by cause.KeyOverflow c own = absurd own.2
         by cause.LogFault c own = tt
         by cause.NoMemory c own = tt
         by cause.DiskFault c own = tt

@@ -11,10 +11,10 @@ use Rattle.ssq_outside.specs.Faults.{Rises}
 use Rattle.ssq_outside.specs.declared.gate.Kind.TheVariants as kind
 use Rattle.ssq_json.specs.declared.bad_row.BadRow.TheVariants as bad
 use Rattle.ssq_shape.specs.declared.bound.Bound.{Bound}
-use Rattle.ssq_shape.specs.declared.bound.Shape.TheVariants.{Plain}
 use Rattle.ssq_board.specs.declared.front.Cause.TheVariants as cause
 use Rattle.ssq_meaning.specs.Parts.{Part}
-use Rattle.ssq_meaning.specs.Meaning.{Line}
+use Rattle.ssq_meaning.specs.Meaning.{Line, Values}
+use Rattle.std.specs.List.{list_all}
 use Rattle.ssq_meaning.specs.Feeding.{fed_in, time_in, fault_in}
 use Rattle.ssq_plans.specs.declared.part.PartEnd.{PartEnd}
 use Rattle.ssq_feed.specs.declared.task.FedRows.{FedRows}
@@ -31,12 +31,12 @@ use Rattle.ssq_board.specs.declared.front.Cause.{Cause}
 use Rattle.ssq_board.specs.declared.front.Entry.TheVariants as entry
 use Rattle.ssq_board.specs.declared.front.Place.{Place}
 use Rattle.ssq_board.specs.declared.front.Place.TheVariants as place
-use Rattle.ssq_board.specs.Core.{Core, May, after, due_stop, due, or_stop, is_stopped, is_of_line, is_open, fault_at}
+use Rattle.ssq_board.specs.Core.{Core, May, after, due_stop, due, or_stop, is_stopped, is_of_epoch, is_here, is_open, fault_at}
 use Rattle.ssq_board.specs.Follows.{IsOwn, IsOwnBy}
 use Rattle.ssq_board.proofs.Leasts.{cause_counts}
 use Rattle.ssq_board.proofs.Lists.{at_length, there_at, set_length, put_here, put_else}
 use Rattle.ssq_ledger.specs.Shown.{Shown, IsLegal, IsInOrder, cuts_of}
-use Rattle.ssq_terms.proofs.Faults.{line_faults}
+use Rattle.ssq_terms.specs.Laws.{FaultsAreOfTasks}
 use Rattle.ssq_desk.specs.declared.desk.Load.{Load}
 use Rattle.ssq_desk.specs.declared.desk.Source.{Source}
 use Rattle.ssq_desk.specs.declared.round.Round.{Round}
@@ -44,7 +44,7 @@ use Rattle.ssq_desk.specs.Round.{setting_of, Owns}
 use Rattle.ssq_desk.specs.Tasks.{map_id}
 use Rattle.ssq_desk.specs.Handed.{IsMapOf}
 use Rattle.ssq_desk.specs.Results.{cause_of_feed, fault_of}
-use Rattle.ssq_desk.specs.Contents.{IsSourceOf, IsMapped, IsCauseIn, IsStopOf}
+use Rattle.ssq_desk.specs.Contents.{IsSourceOf, IsMapped, IsCauseIn, IsStopOf, key_in}
 use Rattle.ssq_desk.specs.Closing.{HasFaulty}
 use Rattle.ssq_desk.specs.Whole.{IsWhole, HoldsIn, opening_in}
 use Rattle.ssq_desk.proofs.Holding.{holds_map, put_both, put_is}
@@ -121,23 +121,24 @@ module _ {L : Type 0} (tells logs : Type 0) (lines : L → List Line) (available
   }
 
   -- and whether the task has a fault
-  back_own : (s : Setting) (cuts : Cuts) (e i : ℕ) (part : Part) (before after : L) (outcome : Result FedRows FeedFault) (f : Option Cause) → s.job.bound.shape ≡ Plain → slice_get (parts_in s) i ≡ Some part → (tells → lines before ≡ part.lines)
+  back_own : (s : Setting) (cuts : Cuts) (e i : ℕ) (part : Part) (before after : L) (outcome : Result FedRows FeedFault) (f : Option Cause) → FaultsAreOfTasks → slice_get (parts_in s) i ≡ Some part → (tells → lines before ≡ part.lines)
       → (tells → get_or (cut_of (cuts (e + 1))) i 0 ≤ available after)
       → f ≡ fault_of (cause_of_feed part.stream part.part) outcome
       → IfOk outcome (λ fed. IsFedFrom logs s.job.bound (record { stream = part.stream; part = part.part; lines = lines before }) (get_or (cut_of (cuts e)) i 0) (get_or (cut_of (cuts (e + 1))) i 0) s.job.partitions fed.time fed.buckets)
       → IfErr outcome (FeedCause logs lines available answers faults s.job.bound part.stream part.part (get_or (cut_of (cuts e)) i 0) (get_or (cut_of (cuts (e + 1))) i 0) before after)
       → tells → IsOwn (course_of s cuts) (map_id e i) f
-  back_own s cuts e i part before after (Ok fed) f plain there own enough is rows why t =
+  back_own s cuts e i part before after (Ok fed) f faulty there own enough is rows why t =
       subst (IsOwn (course_of s cuts) (map_id e i)) (sym is)
-      ((line_faults s cuts e plain).maps i part there ∙ ap is_some ((fed_own tells logs s.job.bound part part.stream part.part (lines before) _ _ s.job.partitions fed so refl refl own rows).good t))
-  back_own s cuts e i part before after (Err w) f plain there own enough is rows why t =
+      ((faulty s cuts e).maps i part there ∙ ap is_some ((fed_own tells logs s.job.bound part part.stream part.part (lines before) _ _ s.job.partitions fed so refl refl own rows).good t))
+  back_own s cuts e i part before after (Err w) f faulty there own enough is rows why t =
       subst (IsOwn (course_of s cuts) (map_id e i)) (sym is)
       (own_cause (cause_of_feed part.stream part.part w) (cause_of_fed tells logs lines available answers faults s.job.bound part _ _ before after w so own enough why))
     where
-      own_cause : (g : Cause) → IsCauseIn tells s.job.bound part (get_or (cut_of (cuts e)) i 0) (get_or (cut_of (cuts (e + 1))) i 0) g → IsOwnBy ((course_of s cuts).is_fault (map_id e i)) (is_of_line g)
-      own_cause (cause.BadLine a b c d) c' = (line_faults s cuts e plain).maps i part there ∙ ap is_some (c' t)
-      own_cause (cause.Overflow a b c) c' = (line_faults s cuts e plain).maps i part there ∙ ap is_some (c' t)
+      own_cause : (g : Cause) → IsCauseIn tells s.job.bound part (get_or (cut_of (cuts e)) i 0) (get_or (cut_of (cuts (e + 1))) i 0) g → IsOwnBy ((course_of s cuts).is_fault (map_id e i)) (is_of_epoch g)
+      own_cause (cause.BadLine a b c d) c' = (faulty s cuts e).maps i part there ∙ ap is_some (c' t)
+      own_cause (cause.Overflow a b c) c' = (faulty s cuts e).maps i part there ∙ ap is_some (c' t)
       own_cause (cause.LogShort a b c d) c' = tt
+      own_cause cause.KeyOverflow c' = absurd c'
       own_cause cause.LogFault c' = tt
       own_cause cause.NoMemory c' = tt
       own_cause cause.DiskFault c' = tt
@@ -239,15 +240,15 @@ module _ {D L S F : Type 0} (stores logs : Type 0) (lines : L → List Line) (av
       }
 
   -- the result is the task's own
-  pub map_right : is_open shown.core ≡ true → Owns stores logs lines shown → IsOwn (course_of (setting_of lines shown.opening) (cuts_of (opening_in lines) shown)) (map_id shown.core.front.committed done.number) (fault_of (cause_of_feed done.stream done.part) done.outcome)
-  map_right opened t = back_own (stores × logs) logs lines available answers faults (λ both. both.1) (setting_of lines shown.opening) (cuts_of (opening_in lines) shown) shown.core.front.committed done.number of.part task.log done.log done.outcome
-      (fault_of (cause_of_feed done.stream done.part) done.outcome) whole.round.plain.shape back_here.there back_here.lines_are (back_here.enough opened) back_here.fault back_here.rows back_here.why (t.0, t.1.0)
+  pub map_right : FaultsAreOfTasks → is_open shown.core ≡ true → Owns stores logs lines shown → IsOwn (course_of (setting_of lines shown.opening) (cuts_of (opening_in lines) shown)) (map_id shown.core.front.committed done.number) (fault_of (cause_of_feed done.stream done.part) done.outcome)
+  map_right faulty opened t = back_own (stores × logs) logs lines available answers faults (λ both. both.1) (setting_of lines shown.opening) (cuts_of (opening_in lines) shown) shown.core.front.committed done.number of.part task.log done.log done.outcome
+      (fault_of (cause_of_feed done.stream done.part) done.outcome) faulty back_here.there back_here.lines_are (back_here.enough opened) back_here.fault back_here.rows back_here.why (t.0, t.1.0)
 
   -- where it is taken back, in place of this source
   pub map_back : (old x : Source L) → (may : May shown.scope shown.core (entry.Report (map_id done.epoch done.number) (fault_of (cause_of_feed done.stream done.part) done.outcome))) → get_elem? load.sources.items done.number ≡ some old
       → x.stream ≡ old.stream → x.part ≡ old.part → x.from ≡ old.from → x.log ≡ Some done.log → IfOk done.outcome (λ fed. x.fed ≡ Some fed)
       → HoldsIn stores logs lines available answers faults written sealed shown (cuts_of (opening_in lines) shown)
-      (after shown.scope shown.core (entry.Report (map_id done.epoch done.number) (fault_of (cause_of_feed done.stream done.part) done.outcome))) (set load.sources.items done.number x) load.shares.items load.out load.seen load.pending
+      (after shown.scope shown.core (entry.Report (map_id done.epoch done.number) (fault_of (cause_of_feed done.stream done.part) done.outcome))) (set load.sources.items done.number x) load.shares.items load.held.items load.out load.seen load.pending
   map_back old x may here stream part from log fed =
       let s : Setting = setting_of lines shown.opening in
       let cuts : Cuts = cuts_of (opening_in lines) shown in
@@ -280,17 +281,16 @@ module _ {D L S F : Type 0} (stores logs : Type 0) (lines : L → List Line) (av
       (back_mapped (stores × logs) logs lines available answers faults (λ both. both.1) s.job.bound of.part _ _ s.job.partitions c.reduces task.log done.log done.outcome f x
       (λ p waits. (let l = at_length c.reduces p place.Waits waits in let reduces = order.sound.reduces in let scoped = whole.round.partitions in omega (arith, l, reduces, scoped)))
       h.lines_are (h.enough opened) (from ∙ was.begins) h.fault fed h.rows h.why)) in
-      holds_map (stores × logs) (Owns stores logs lines shown) lines available (LogWent logs lines available answers faults) shown.opening.logs.items written sealed s cuts shown.scope.available c (or_stop c.front.stop (due c (map_id done.epoch done.number) f)) done.number (place.Back f) x load.sources.items load.shares.items load.out load.seen load.pending
-      (first_none c.front.stop (due c (map_id done.epoch done.number) f)) whole.holds source mapped (stops mapped c.front.stop refl)
+      holds_map (stores × logs) (Owns stores logs lines shown) lines available (LogWent logs lines available answers faults) shown.opening.logs.items written sealed s cuts shown.scope.available c (or_stop c.front.stop (due c (map_id done.epoch done.number) f)) done.number (place.Back f) x load.sources.items load.shares.items load.held.items load.out load.seen load.pending
+      (first_none c.front.stop (due c (map_id done.epoch done.number) f)) whole.holds source mapped (stills mapped c.front.stop refl) (stops mapped c.front.stop refl)
     where
       f : Option Cause
       f = fault_of (cause_of_feed done.stream done.part) done.outcome
 
-      stops : (shown.core.front.stop ≡ None → is_open shown.core ≡ true → (q : Part) → slice_get (parts_in (setting_of lines shown.opening)) done.number ≡ Some q
+      due_stops : (shown.core.front.stop ≡ None → is_open shown.core ≡ true → (q : Part) → slice_get (parts_in (setting_of lines shown.opening)) done.number ≡ Some q
           → IsMapped (stores × logs) (setting_of lines shown.opening).job.bound q (get_or (cut_of (cuts_of (opening_in lines) shown shown.core.front.committed)) done.number 0) (get_or (cut_of (cuts_of (opening_in lines) shown (shown.core.front.committed + 1))) done.number 0) (setting_of lines shown.opening).job.partitions shown.core.reduces (place.Back f) x)
-          → (o : Option Cause) → shown.core.front.stop ≡ o → (g : Cause) → or_stop shown.core.front.stop (due shown.core (map_id done.epoch done.number) f) ≡ Some g → IsStopOf (stores × logs) (setting_of lines shown.opening) (cuts_of (opening_in lines) shown) shown.core.front.committed g
-      stops mapped (Some w) stopped g e = whole.holds.stop g (stopped ∙ sym (ap (λ o. or_stop o (due shown.core (map_id done.epoch done.number) f)) stopped) ∙ e)
-      stops mapped None run g e =
+          → shown.core.front.stop ≡ None → (g : Cause) → or_stop shown.core.front.stop (due shown.core (map_id done.epoch done.number) f) ≡ Some g → (key : Option Values) → IsStopOf (stores × logs) (Owns stores logs lines shown) (setting_of lines shown.opening) (cuts_of (opening_in lines) shown) shown.core.front.committed key g
+      due_stops mapped run g e =
           let c : Core = shown.core in
           let s : Setting = setting_of lines shown.opening in
           let cuts : Cuts = cuts_of (opening_in lines) shown in
@@ -304,7 +304,21 @@ module _ {D L S F : Type 0} (stores logs : Type 0) (lines : L → List Line) (av
           (set_length c.maps done.number (place.Back f) ∙ order.sound.maps ∙ sym (parts_count stores logs lines available answers faults written sealed shown load whole history legal order))
           (set_length load.sources.items done.number x ∙ whole.holds.parts)
           (length-map (cuts c.front.committed) (λ (e : PartEnd). e.end) ∙ epoch.froms)
-          (tos_count stores logs lines available answers faults written sealed shown load whole history legal order may.0) g due_is
+          (tos_count stores logs lines available answers faults written sealed shown load whole history legal order may.0) (Owns stores logs lines shown) g due_is
+
+      stops : (shown.core.front.stop ≡ None → is_open shown.core ≡ true → (q : Part) → slice_get (parts_in (setting_of lines shown.opening)) done.number ≡ Some q
+          → IsMapped (stores × logs) (setting_of lines shown.opening).job.bound q (get_or (cut_of (cuts_of (opening_in lines) shown shown.core.front.committed)) done.number 0) (get_or (cut_of (cuts_of (opening_in lines) shown (shown.core.front.committed + 1))) done.number 0) (setting_of lines shown.opening).job.partitions shown.core.reduces (place.Back f) x)
+          → (o : Option Cause) → shown.core.front.stop ≡ o → (g : Cause) → or_stop shown.core.front.stop (due shown.core (map_id done.epoch done.number) f) ≡ Some g
+          → IsStopOf (stores × logs) (Owns stores logs lines shown) (setting_of lines shown.opening) (cuts_of (opening_in lines) shown) shown.core.front.committed (key_in load.shares.items) g
+      stops mapped (Some w) stopped g e = whole.holds.stop g (stopped ∙ sym (ap (λ o. or_stop o (due shown.core (map_id done.epoch done.number) f)) stopped) ∙ e)
+      stops mapped None run g e = due_stops mapped run g e (key_in load.shares.items)
+
+      -- no map task meets a key's overflow
+      stills : (shown.core.front.stop ≡ None → is_open shown.core ≡ true → (q : Part) → slice_get (parts_in (setting_of lines shown.opening)) done.number ≡ Some q
+          → IsMapped (stores × logs) (setting_of lines shown.opening).job.bound q (get_or (cut_of (cuts_of (opening_in lines) shown shown.core.front.committed)) done.number 0) (get_or (cut_of (cuts_of (opening_in lines) shown (shown.core.front.committed + 1))) done.number 0) (setting_of lines shown.opening).job.partitions shown.core.reduces (place.Back f) x)
+          → (o : Option Cause) → shown.core.front.stop ≡ o → or_stop shown.core.front.stop (due shown.core (map_id done.epoch done.number) f) ≡ Some cause.KeyOverflow → list_all is_here shown.core.reduces ≡ true
+      stills mapped (Some w) stopped e = whole.holds.still (stopped ∙ sym (ap (λ o. or_stop o (due shown.core (map_id done.epoch done.number) f)) stopped) ∙ e)
+      stills mapped None run e = absurd (due_stops mapped run cause.KeyOverflow e None)
 
   -- and where a log stopped the desk, that log counts a fault
   pub map_faulty : (old x : Source L) → (may : May shown.scope shown.core (entry.Report (map_id done.epoch done.number) (fault_of (cause_of_feed done.stream done.part) done.outcome))) → get_elem? load.sources.items done.number ≡ some old → x.log ≡ Some done.log

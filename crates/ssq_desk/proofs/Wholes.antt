@@ -2,7 +2,7 @@
 use Rattle.std.proofs.Common.{◌≡◌, ◌++◌, [], ◌∷◌, ℕ, ℤ, Bool, false, true≢false, List, length, get_or, Option, Some, None, refl, sym, ap, ◌∙◌, subst}
 use Rattle.std.specs.Prelude.{is_some}
 use Rattle.std.proofs.lemmas.List.{append-nil, append_assoc}
-use Rattle.ssq_meaning.specs.Meaning.{Line}
+use Rattle.ssq_meaning.specs.Meaning.{Line, Values}
 use Rattle.ssq_feed.specs.Causes.{LogWent}
 use Rattle.ssq_core.specs.Course.{Cuts, Job}
 use Rattle.ssq_course.specs.Setting.{Setting}
@@ -24,7 +24,8 @@ use Rattle.ssq_desk.specs.declared.desk.Source.{Source}
 use Rattle.ssq_desk.specs.declared.desk.Share.{Share}
 use Rattle.ssq_desk.specs.declared.desk.OutWork.{OutWork}
 use Rattle.ssq_desk.specs.declared.desk.Pending.{Pending}
-use Rattle.ssq_desk.specs.Contents.{IsStopOf}
+use Rattle.ssq_task.specs.declared.partition.Held.{Held}
+use Rattle.ssq_desk.specs.Contents.{IsStopOf, key_in}
 use Rattle.ssq_desk.specs.Room.{AreBegun}
 use Rattle.ssq_desk.specs.Making.{IsUnmade, IsSameLoad, IsMadeFor}
 use Rattle.ssq_desk.specs.Tasks.{IsViewOf}
@@ -63,25 +64,31 @@ last_may tells job r next [] e a n l = (a.core, l.1.may)
 last_may tells job r next (x ∷ es) e a n l = last_may tells job r next es e l.0 n l.2
 
 -- for what a Stop may come, a desk may be stopped
-pub cause_stops : (reads : Type 0) (s : Setting) (cuts : Cuts) (e : ℕ) (r : Scope) (c : Core) (f : Cause) → HasCause r c f → IsStopOf reads s cuts e f
-cause_stops reads s cuts e r c cause.Full has = tt
-cause_stops reads s cuts e r c cause.DiskFault has = tt
-cause_stops reads s cuts e r c cause.NoMemory has = tt
-cause_stops reads s cuts e r c (cause.BadLine t p o f) has = absurd has
-cause_stops reads s cuts e r c (cause.Overflow t p o) has = absurd has
-cause_stops reads s cuts e r c cause.LogFault has = absurd has
-cause_stops reads s cuts e r c (cause.LogShort t p l f) has = absurd has
-cause_stops reads s cuts e r c (cause.Damaged q) has = absurd has
+pub cause_stops : (reads owned : Type 0) (s : Setting) (cuts : Cuts) (e : ℕ) (r : Scope) (c : Core) (f : Cause) → HasCause r c f → (key : Option Values) → IsStopOf reads owned s cuts e key f
+cause_stops reads owned s cuts e r c cause.Full has key = tt
+cause_stops reads owned s cuts e r c cause.DiskFault has key = tt
+cause_stops reads owned s cuts e r c cause.NoMemory has key = tt
+cause_stops reads owned s cuts e r c (cause.BadLine t p o f) has key = absurd has
+cause_stops reads owned s cuts e r c (cause.Overflow t p o) has key = absurd has
+cause_stops reads owned s cuts e r c cause.LogFault has key = absurd has
+cause_stops reads owned s cuts e r c cause.KeyOverflow has key = absurd has
+cause_stops reads owned s cuts e r c (cause.LogShort t p l f) has key = absurd has
+cause_stops reads owned s cuts e r c (cause.Damaged q) has key = absurd has
 
-pub unmade_stops : (reads : Type 0) (s : Setting) (cuts : Cuts) (e n : ℕ) (f : Cause) → IsUnmade n f → IsStopOf reads s cuts e f
-unmade_stops reads s cuts e n cause.Full is = tt
-unmade_stops reads s cuts e n cause.DiskFault is = tt
-unmade_stops reads s cuts e n cause.NoMemory is = tt
-unmade_stops reads s cuts e n (cause.BadLine t p o f) is = absurd is
-unmade_stops reads s cuts e n (cause.Overflow t p o) is = absurd is
-unmade_stops reads s cuts e n cause.LogFault is = absurd is
-unmade_stops reads s cuts e n (cause.LogShort t p l f) is = absurd is
-unmade_stops reads s cuts e n (cause.Damaged q) is = absurd is
+pub unmade_stops : (reads owned : Type 0) (s : Setting) (cuts : Cuts) (e n : ℕ) (f : Cause) → IsUnmade n f → (key : Option Values) → IsStopOf reads owned s cuts e key f
+unmade_stops reads owned s cuts e n cause.Full is key = tt
+unmade_stops reads owned s cuts e n cause.DiskFault is key = tt
+unmade_stops reads owned s cuts e n cause.NoMemory is key = tt
+unmade_stops reads owned s cuts e n (cause.BadLine t p o f) is key = absurd is
+unmade_stops reads owned s cuts e n (cause.Overflow t p o) is key = absurd is
+unmade_stops reads owned s cuts e n cause.LogFault is key = absurd is
+unmade_stops reads owned s cuts e n cause.KeyOverflow is key = absurd is
+unmade_stops reads owned s cuts e n (cause.LogShort t p l f) is key = absurd is
+unmade_stops reads owned s cuts e n (cause.Damaged q) is key = absurd is
+
+-- what stops a desk whatever keys there are is no key's overflow
+pub never_key : (reads owned : Type 0) (s : Setting) (cuts : Cuts) (e : ℕ) (f : Cause) → ((key : Option Values) → IsStopOf reads owned s cuts e key f) → f ≡ cause.KeyOverflow → ⊥
+never_key reads owned s cuts e f right is = subst (IsStopOf reads owned s cuts e None) is (right None)
 
 -- none of them is a fault of a log
 pub cause_no_log : (r : Scope) (c : Core) (f : Cause) → HasCause r c f → f ≡ cause.LogFault → ⊥
@@ -103,7 +110,7 @@ module _ {D L S F : Type 0} (stores logs : Type 0) (lines : L → List Line) (av
       let same : cuts_of (opening_in lines) (did shown disk []) ≡ cuts_of (opening_in lines) shown = ap (cuts_after (opening_in lines shown.opening) shown.scope) (append-nil shown.history) in record {
         round = whole.round;
         view = whole.view;
-        holds = subst (λ (cuts : Cuts). HoldsIn stores logs lines available answers faults written sealed shown cuts shown.core load.sources.items load.shares.items load.out load.seen load.pending) (sym same) whole.holds;
+        holds = subst (λ (cuts : Cuts). HoldsIn stores logs lines available answers faults written sealed shown cuts shown.core load.sources.items load.shares.items load.held.items load.out load.seen load.pending) (sym same) whole.holds;
         plans = subst (λ (cuts : Cuts). ArePlans (Owns stores logs lines shown) shown.opening.opened.plans (setting_of lines shown.opening) cuts shown.core.front.planned load.plans.items) (sym same) whole.plans;
         told = subst (λ (cuts : Cuts). AreTold (Owns stores logs lines shown) (setting_of lines shown.opening) cuts shown.opening.opened.committed shown.core.front.committed load.told.items) (sym same) whole.told;
         told_room = whole.told_room;
@@ -112,26 +119,31 @@ module _ {D L S F : Type 0} (stores logs : Type 0) (lines : L → List Line) (av
       }
 
   -- a Stop for a cause that may stop it
-  pub stopped_whole : (disk : D) (f : Cause) → (f ≡ cause.LogFault → ⊥) → IsStopOf (stores × logs) (setting_of lines shown.opening) (cuts_of (opening_in lines) shown) shown.core.front.committed f
+  pub stopped_whole : (disk : D) (f : Cause) → (f ≡ cause.LogFault → ⊥) → ((key : Option Values) → IsStopOf (stores × logs) (Owns stores logs lines shown) (setting_of lines shown.opening) (cuts_of (opening_in lines) shown) shown.core.front.committed key f)
       → IsWhole stores logs lines available answers faults written sealed (did shown disk (entry.Stop f ∷ [])) load
   stopped_whole disk f no_log right =
       let s : Setting = setting_of lines shown.opening in
       let old : Cuts = cuts_of (opening_in lines) shown in
       let new : Core = after shown.scope shown.core (entry.Stop f) in
       let same : cuts_of (opening_in lines) (did shown disk (entry.Stop f ∷ [])) ≡ old = cuts_then (opening_in lines shown.opening) shown.scope shown.history (entry.Stop f) in
-      let h : HoldsIn stores logs lines available answers faults written sealed shown old new load.sources.items load.shares.items load.out load.seen load.pending = record {
+      let h : HoldsIn stores logs lines available answers faults written sealed shown old new load.sources.items load.shares.items load.held.items load.out load.seen load.pending = record {
         parts = whole.holds.parts;
         partitions = whole.holds.partitions;
+        keeping = whole.holds.keeping;
         logs = whole.holds.logs;
         reduced = whole.holds.reduced;
+        dealt = whole.holds.dealt;
+        keys = whole.holds.keys;
+        still = λ e. absurd (never_key (stores × logs) (Owns stores logs lines shown) s old shown.core.front.committed f right (some_same f cause.KeyOverflow e));
+        kept = λ running. absurd (true≢false (ap is_some running));
         seen_so_far = λ running. absurd (true≢false (ap is_some running));
         epoch = λ running opened. absurd (true≢false (ap is_some running));
         commit = λ running opened is. absurd (true≢false (ap is_some running));
-        stop = λ g is. subst (IsStopOf (stores × logs) s old shown.core.front.committed) (some_same f g is) right;
+        stop = λ g is. subst (IsStopOf (stores × logs) (Owns stores logs lines shown) s old shown.core.front.committed (key_in load.shares.items)) (some_same f g is) (right (key_in load.shares.items));
       } in record {
         round = whole.round;
         view = whole.view;
-        holds = subst (λ (cuts : Cuts). HoldsIn stores logs lines available answers faults written sealed shown cuts new load.sources.items load.shares.items load.out load.seen load.pending) (sym same) h;
+        holds = subst (λ (cuts : Cuts). HoldsIn stores logs lines available answers faults written sealed shown cuts new load.sources.items load.shares.items load.held.items load.out load.seen load.pending) (sym same) h;
         plans = subst (λ (cuts : Cuts). ArePlans (Owns stores logs lines shown) shown.opening.opened.plans s cuts shown.core.front.planned load.plans.items) (sym same) whole.plans;
         told = subst (λ (cuts : Cuts). AreTold (Owns stores logs lines shown) s cuts shown.opening.opened.committed shown.core.front.committed load.told.items) (sym same) whole.told;
         told_room = whole.told_room;
@@ -148,11 +160,12 @@ module _ {D L S F : Type 0} (stores logs : Type 0) (lines : L → List Line) (av
       let cuts : Cuts = cuts_of (opening_in lines) shown in record {
         round = whole.round;
         view = subst (IsViewOf s) (sym same.view_is) whole.view;
-        holds = subst (λ (x : Vec (Source L)). HoldsIn stores logs lines available answers faults written sealed shown cuts shown.core x.items now.shares.items now.out now.seen now.pending) (sym same.sources_are)
-            (subst (λ (x : Vec Share). HoldsIn stores logs lines available answers faults written sealed shown cuts shown.core load.sources.items x.items now.out now.seen now.pending) (sym same.shares_are)
-            (subst (λ (x : Option (OutWork S F)). HoldsIn stores logs lines available answers faults written sealed shown cuts shown.core load.sources.items load.shares.items x now.seen now.pending) (sym same.out_is)
-            (subst (λ (x : List (Option ℤ)). HoldsIn stores logs lines available answers faults written sealed shown cuts shown.core load.sources.items load.shares.items load.out x now.pending) (sym same.seen_is)
-            (subst (λ (x : Option (Pending F)). HoldsIn stores logs lines available answers faults written sealed shown cuts shown.core load.sources.items load.shares.items load.out load.seen x) (sym same.pending_is) whole.holds))));
+        holds = subst (λ (x : Vec (Source L)). HoldsIn stores logs lines available answers faults written sealed shown cuts shown.core x.items now.shares.items now.held.items now.out now.seen now.pending) (sym same.sources_are)
+            (subst (λ (x : Vec (Share S)). HoldsIn stores logs lines available answers faults written sealed shown cuts shown.core load.sources.items x.items now.held.items now.out now.seen now.pending) (sym same.shares_are)
+            (subst (λ (x : Vec (Option Held)). HoldsIn stores logs lines available answers faults written sealed shown cuts shown.core load.sources.items load.shares.items x.items now.out now.seen now.pending) (sym same.held_is)
+            (subst (λ (x : Option (OutWork S F)). HoldsIn stores logs lines available answers faults written sealed shown cuts shown.core load.sources.items load.shares.items load.held.items x now.seen now.pending) (sym same.out_is)
+            (subst (λ (x : List (Option ℤ)). HoldsIn stores logs lines available answers faults written sealed shown cuts shown.core load.sources.items load.shares.items load.held.items load.out x now.pending) (sym same.seen_is)
+            (subst (λ (x : Option (Pending F)). HoldsIn stores logs lines available answers faults written sealed shown cuts shown.core load.sources.items load.shares.items load.held.items load.out load.seen x) (sym same.pending_is) whole.holds)))));
         plans = subst (λ (x : List Plan). ArePlans (Owns stores logs lines shown) shown.opening.opened.plans s cuts shown.core.front.planned x) (sym same.plans_are) whole.plans;
         told = subst (λ (x : List Told). AreTold (Owns stores logs lines shown) s cuts shown.opening.opened.committed shown.core.front.committed x) (sym same.told_are) whole.told;
         told_room = λ opened. absurd (true≢false (sym opened ∙ closed));
@@ -162,28 +175,33 @@ module _ {D L S F : Type 0} (stores logs : Type 0) (lines : L → List Line) (av
 
   -- what was made for an epoch that is not to come
   pub unplanned_whole : (disk : D) (f : Cause) (made now : Load L S F) (here : Vec PartEnd) → (f ≡ cause.LogFault → ⊥) → is_open shown.core ≡ false → IsMadeFor (Owns stores logs lines shown) written shown.core.ends load made here
-      → now.view ≡ made.view → now.plans.items ≡ made.plans.items → now.sources.items ≡ made.sources.items → now.shares.items ≡ made.shares.items → now.told.items ≡ made.told.items → now.kept ≡ made.kept
-      → IsStopOf (stores × logs) (setting_of lines shown.opening) (cuts_of (opening_in lines) shown) shown.core.front.committed f
+      → now.view ≡ made.view → now.plans.items ≡ made.plans.items → now.sources.items ≡ made.sources.items → length now.shares.items ≡ length made.shares.items → now.held ≡ made.held → now.told.items ≡ made.told.items → now.kept ≡ made.kept
+      → ((key : Option Values) → IsStopOf (stores × logs) (Owns stores logs lines shown) (setting_of lines shown.opening) (cuts_of (opening_in lines) shown) shown.core.front.committed key f)
       → IsWhole stores logs lines available answers faults written sealed (did shown disk (entry.Stop f ∷ [])) now
-  unplanned_whole disk f made now here no_log closed is view plans sources shares told kept right =
+  unplanned_whole disk f made now here no_log closed is view plans sources shares held told kept right =
       let s : Setting = setting_of lines shown.opening in
       let old : Cuts = cuts_of (opening_in lines) shown in
       let new : Core = after shown.scope shown.core (entry.Stop f) in
       let same : cuts_of (opening_in lines) (did shown disk (entry.Stop f ∷ [])) ≡ old = cuts_then (opening_in lines shown.opening) shown.scope shown.history (entry.Stop f) in
       let begun : AreBegun shown.core.ends load.sources.items now.sources.items = subst (λ (x : List (Source L)). AreBegun shown.core.ends load.sources.items x) (sym sources) is.begun in
-      let h : HoldsIn stores logs lines available answers faults written sealed shown old new now.sources.items now.shares.items now.out now.seen now.pending = record {
+      let h : HoldsIn stores logs lines available answers faults written sealed shown old new now.sources.items now.shares.items now.held.items now.out now.seen now.pending = record {
         parts = begun.0 ∙ whole.holds.parts;
-        partitions = ap length shares ∙ is.count ∙ whole.view.partitions;
+        partitions = shares ∙ is.ready.count ∙ whole.view.partitions;
+        keeping = ap (λ (v : Vec (Option Held)). length v.items) (held ∙ is.held_is) ∙ whole.holds.keeping;
         logs = λ i part at source there here mine. begun_source (stores × logs) lines available (LogWent logs lines available answers faults) shown.opening.logs.items shown.core.ends load.sources.items now.sources.items begun i part (get_or shown.scope.available i 0) at source mine (λ before was. whole.holds.logs i part at before there here was);
         reduced = whole.holds.reduced;
+        dealt = λ opened. absurd (true≢false (sym opened ∙ closed));
+        keys = λ opened. absurd (true≢false (sym opened ∙ closed));
+        still = λ e. absurd (never_key (stores × logs) (Owns stores logs lines shown) s old shown.core.front.committed f right (some_same f cause.KeyOverflow e));
+        kept = λ running. absurd (true≢false (ap is_some running));
         seen_so_far = λ running. absurd (true≢false (ap is_some running));
         epoch = λ running opened. absurd (true≢false (ap is_some running));
         commit = λ running opened written_is. absurd (true≢false (ap is_some running));
-        stop = λ g stopped. subst (IsStopOf (stores × logs) s old shown.core.front.committed) (some_same f g stopped) right;
+        stop = λ g stopped. subst (IsStopOf (stores × logs) (Owns stores logs lines shown) s old shown.core.front.committed (key_in now.shares.items)) (some_same f g stopped) (right (key_in now.shares.items));
       } in record {
         round = whole.round;
         view = subst (IsViewOf s) (sym (view ∙ is.view_is)) whole.view;
-        holds = subst (λ (cuts : Cuts). HoldsIn stores logs lines available answers faults written sealed shown cuts new now.sources.items now.shares.items now.out now.seen now.pending) (sym same) h;
+        holds = subst (λ (cuts : Cuts). HoldsIn stores logs lines available answers faults written sealed shown cuts new now.sources.items now.shares.items now.held.items now.out now.seen now.pending) (sym same) h;
         plans = subst (λ (cuts : Cuts). ArePlans (Owns stores logs lines shown) shown.opening.opened.plans s cuts shown.core.front.planned now.plans.items) (sym same) (subst (λ (x : List Plan). ArePlans (Owns stores logs lines shown) shown.opening.opened.plans s old shown.core.front.planned x) (sym (plans ∙ is.plans_are)) whole.plans);
         told = subst (λ (cuts : Cuts). AreTold (Owns stores logs lines shown) s cuts shown.opening.opened.committed shown.core.front.committed now.told.items) (sym same)
             (subst (λ (x : List Told). AreTold (Owns stores logs lines shown) s old shown.opening.opened.committed shown.core.front.committed x) (sym (told ∙ is.told_are)) whole.told);

@@ -1,9 +1,13 @@
 -- What is given back when a desk is closed.
-use Rattle.std.specs.Prelude.{◌≡◌, ◌<◌, ◌≤◌, ◌+◌, ◌-◌, ◌++◌, ◌||◌, ℕ, List, [], ◌∷◌, length, get_or, Some, if◌then◌else◌}
+use Rattle.std.specs.Prelude.{◌≡◌, ◌<◌, ◌≤◌, ◌+◌, ◌-◌, ◌++◌, ◌||◌, ℕ, List, [], ◌∷◌, length, get_or, slice_get, option_map, Option, Some, if◌then◌else◌}
+use Rattle.std.specs.List.{filter_map}
 use Rattle.std.specs.Option.{ForSome}
 use mathlib.Core.Option.{some}
 use lib.ListN.{get_elem?}
 use Rattle.ssq_time.specs.Time.{IsStampTime}
+use Rattle.ssq_agg.specs.Indexing.{Timed}
+use Rattle.ssq_store.specs.declared.store.Store.{Store}
+use Rattle.ssq_task.specs.declared.partition.Held.{Held}
 use Rattle.ssq_meaning.specs.Cut.{Cut}
 use Rattle.ssq_meaning.specs.Epochs.{out}
 use Rattle.ssq_plans.specs.declared.plan.Plan.{Plan}
@@ -13,12 +17,15 @@ use Rattle.ssq_open.specs.declared.wanted.Opened.{Opened}
 use Rattle.ssq_open.specs.Epochs.{last_ends}
 use Rattle.ssq_open.specs.Numbers.{HasNumbers}
 use Rattle.ssq_open.specs.Watermarks.{watermarked}
+use Rattle.ssq_open.specs.Stores.{AreStores}
+use Rattle.ssq_terms.specs.Partitions.{HoldsStateOf}
 use Rattle.ssq_board.specs.declared.front.Cause.TheVariants as cause
 use Rattle.ssq_board.specs.declared.front.Place.{Place}
 use Rattle.ssq_board.specs.declared.front.Place.TheVariants as place
 use Rattle.ssq_board.specs.Core.{Core, is_open}
 use Rattle.ssq_desk.specs.declared.desk.Source.{Source}
 use Rattle.ssq_desk.specs.declared.told.Told.{Told}
+use Rattle.ssq_desk.specs.Contents.{keeping_in}
 
 -- how many lines lie between two cuts
 abbrev pub lines_between : Cut → Cut → ℕ
@@ -54,11 +61,19 @@ pub record HasFaulty {L : Type 0} (faults : L → ℕ) (maps : List Place) (sour
 abbrev pub acknowledged_in : Core → ℕ
 acknowledged_in c = if is_open c || c.front.settled then c.front.committed else c.front.committed - 1
 
--- What the next round opens: the same job, stores and names, with all epochs that are planned and committed, the opened ones first. It is in order,
--- no part is planned beyond what was found; and where what was opened is the job's own, its plans and greatest times are.
+-- the stores of what partitions keep, and their indexes, in order
+abbrev pub stores_in : List (Option Held) → List Store
+stores_in held = filter_map (λ own. option_map (λ (held : Held). held.store) own) held
+
+abbrev pub closings_in : List (Option Held) → List (List Timed)
+closings_in held = filter_map (λ own. option_map (λ (held : Held). held.closing) own) held
+
+-- What the next round opens: the same job and names, with all epochs that are planned and committed, the opened ones first, and with the stores
+-- after these. It is in order, no part is planned beyond what was found; and where what was opened is the job's own, its plans, greatest times
+-- and states are.
 pub record IsNext (owned : Type 0) (s : Setting) (cuts : Cuts) (available : List ℕ) (c : Core) (opened next : Opened) : Type 0 where
   pub meta_is : next.meta ≡ opened.meta
-  pub stores_are : next.stores ≡ opened.stores
+  pub stores : AreStores (keeping_in s) next.committed next.stores
   pub names_are : next.names ≡ opened.names
   pub committed_is : next.committed ≡ c.front.committed
   pub planned : length next.plans ≡ c.front.planned
@@ -68,3 +83,4 @@ pub record IsNext (owned : Type 0) (s : Setting) (cuts : Cuts) (available : List
   pub within : (i : ℕ) → get_or (cut_of (last_ends (first_ends s) next.plans)) i 0 ≤ get_or available i 0
   pub plans_are : owned → (e : ℕ) (default : Plan) → e < length next.plans → get_or next.plans e default ≡ plan_of (course_of s cuts) e
   pub seen_is : owned → next.seen ≡ (course_of s cuts).seen next.committed
+  pub states : owned → (p : ℕ) → HoldsStateOf s cuts next.committed p (slice_get next.stores p)

@@ -1,6 +1,9 @@
 -- What is made for a desk where its round begins, and what it shows then.
-use Rattle.std.specs.Prelude.{◌≡◌, ◌⊎◌, ◌≤◌, ◌<◌, ℕ, ℤ, Bool, true, false, List, [], ◌∷◌, length, Option, Some, None, vec_capacity}
+use Rattle.std.specs.Prelude.{◌≡◌, ◌⊎◌, ◌≤◌, ◌<◌, ℕ, ℤ, Bool, true, false, List, [], ◌∷◌, length, slice_get, Option, Some, None, vec_capacity}
 use Rattle.std.specs.Global.{Vec}
+use Rattle.ssq_agg.specs.Indexing.{IsIndex, Timed}
+use Rattle.ssq_store.specs.declared.store.Store.{Store}
+use Rattle.ssq_task.specs.declared.partition.Held.{Held}
 use Rattle.ssq_value.specs.declared.row.Row.{Row}
 use Rattle.ssq_meaning.specs.Meaning.{Line}
 use Rattle.ssq_shape.specs.declared.bound.Bound.{Bound}
@@ -15,10 +18,11 @@ use Rattle.ssq_board.specs.Core.{Scope}
 use Rattle.ssq_board.specs.Shown.{first}
 use Rattle.ssq_ledger.specs.Shown.{Shown, HasRisen, did}
 use Rattle.ssq_desk.specs.declared.desk.Source.{Source}
+use Rattle.ssq_desk.specs.declared.desk.Share.{Share}
 use Rattle.ssq_desk.specs.declared.desk.OutWork.{OutWork}
 use Rattle.ssq_desk.specs.declared.first.Made.{Made}
 use Rattle.ssq_desk.specs.declared.round.Round.{Round}
-use Rattle.ssq_desk.specs.Room.{HasRoom}
+use Rattle.ssq_desk.specs.Room.{HasRoom, AreStaged}
 use Rattle.ssq_desk.specs.Round.{start_at}
 use Rattle.ssq_desk.specs.Whole.{opening_in}
 
@@ -29,11 +33,22 @@ sources_of (part ∷ parts) [] logs = []
 sources_of (part ∷ parts) (end ∷ ends) [] = []
 sources_of (part ∷ parts) (end ∷ ends) (log ∷ logs) = record { stream = part.stream; part = part.part; from = end.end; log = Some log; fed = None } ∷ sources_of parts ends logs
 
+-- what partitions keep: each store with its index
+abbrev pub held_of : List Store → List (List Timed) → List (Option Held)
+held_of [] closings = []
+held_of (store ∷ stores) [] = []
+held_of (store ∷ stores) (closing ∷ closings) = Some (record { store = store; closing = closing }) ∷ held_of stores closings
+
+-- There is an index for each store, and under the premise it is that of its state.
+pub record AreIndexes (owned : Type 0) (bound : Bound) (stores : List Store) (closings : List (List Timed)) : Type 0 where
+  pub count : length closings ≡ length stores
+  pub each : owned → (p : ℕ) (store : Store) (closing : List Timed) → slice_get stores p ≡ Some store → slice_get closings p ≡ Some closing → IsIndex bound store.state closing
+
 -- what is made for a round with so many logs
-pub record IsMadeOf {L : Type 0} (bound : Bound) (partitions : ℕ) (found : Opened) (logs : ℕ) (made : Made L) : Type 0 where
+pub record IsMadeOf {L S : Type 0} (bound : Bound) (partitions : ℕ) (found : Opened) (logs : ℕ) (made : Made L S) : Type 0 where
   pub parts : made.parts.items ≡ begins found.meta.parts
-  pub ends : made.ends.items ≡ (start_at (begins found.meta.parts) found).from
-  pub start : made.start ≡ start_at (begins found.meta.parts) found
+  pub ends : made.ends.items ≡ (start_at (begins found.meta.parts) bound found).from
+  pub start : made.start ≡ start_at (begins found.meta.parts) bound found
   pub no_sources : made.sources.items ≡ []
   pub sources_room : logs ≤ vec_capacity made.sources
   pub times : (stream : ℕ) → seen_at made.seen stream ≡ told found.seen stream
@@ -45,6 +60,12 @@ pub record IsMadeOf {L : Type 0} (bound : Bound) (partitions : ℕ) (found : Ope
   pub lines_room : length bound.streams ≤ vec_capacity made.lines
   pub no_logs : made.logs.items ≡ []
   pub logs_room : logs ≤ vec_capacity made.logs
+  pub no_held : made.held.items ≡ []
+  pub held_room : length found.stores ≤ vec_capacity made.held
+  pub no_stores : made.stores.items ≡ []
+  pub stores_room : length found.stores ≤ vec_capacity made.stores
+  pub no_closings : made.closings.items ≡ []
+  pub closings_room : length found.stores ≤ vec_capacity made.closings
 
 module _ {D L : Type 0} where
   -- the first of a round
@@ -57,8 +78,9 @@ module _ {D L : Type 0} where
 
 module _ {D O S F : Type 0} (tells : Type 0) (written : S → List ℕ) where
   -- The work of the out task: there is none where no epoch was opened as planned, and else it has this room, these times and two empty
-  -- files; or these could not be begun.
-  abbrev pub BeginsWork : Bool → Vec (Vec Row) → List (Option ℤ) → (before now : ℕ) → Shown D O → Shown D O → Option (OutWork S F) → Type 0
-  BeginsWork false rows seen before now old new work = (new ≡ old) × (work ≡ None)
-  BeginsWork true rows seen before now old new None = (f : Cause) × (new ≡ did old new.disk (entry.Stop f ∷ [])) × HasRisen f before now
-  BeginsWork true rows seen before now old new (Some work) = (new ≡ did old new.disk []) × (work.rows ≡ rows) × (work.seen ≡ seen) × (tells → (written work.stages.rows ≡ []) × (written work.stages.commit ≡ []))
+  -- files, and each partition that keeps state has one; or these could not be begun.
+  abbrev pub BeginsWork : Bool → Vec (Vec Row) → List (Option ℤ) → List (Option Held) → List (Share S) → List (Share S) → (before now : ℕ) → Shown D O → Shown D O → Option (OutWork S F) → Type 0
+  BeginsWork false rows seen held olds news before now old new work = (new ≡ old) × (work ≡ None) × (news ≡ olds)
+  BeginsWork true rows seen held olds news before now old new None = (f : Cause) × (new ≡ did old new.disk (entry.Stop f ∷ [])) × HasRisen f before now × (news ≡ olds)
+  BeginsWork true rows seen held olds news before now old new (Some work) = (new ≡ did old new.disk []) × (work.rows ≡ rows) × (work.seen ≡ seen)
+      × (tells → (written work.stages.rows ≡ []) × (written work.stages.commit ≡ [])) × AreStaged tells written held olds news

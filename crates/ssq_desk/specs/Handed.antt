@@ -20,8 +20,8 @@ module _ {D L : Type 0} (stores logs : Type 0) (lines : L → List Line) where
       IsMapTask (stores × logs) lines available (LogWent logs lines available answers faults) shown.opening.logs.items (setting_of lines shown.opening) (cuts_of (opening_in lines) shown) shown.core.front.committed shown.scope.available task
 
   -- a reduce task that of its partition
-  abbrev pub IsReduceOf : {S F : Type 0} → Shown D (Round L) → ReduceTask S F → Type 0
-  IsReduceOf shown task = IsReduceTask (Owns stores logs lines shown) (setting_of lines shown.opening) (cuts_of (opening_in lines) shown) shown.core.front.committed task
+  abbrev pub IsReduceOf : {S F : Type 0} → (S → List ℕ) → Shown D (Round L) → ReduceTask S F → Type 0
+  IsReduceOf written shown task = IsReduceTask (Owns stores logs lines shown) written (setting_of lines shown.opening) (cuts_of (opening_in lines) shown) shown.core.front.committed task
 
   -- and the out task
   abbrev pub IsOutOf : {S F : Type 0} → (S → List ℕ) → Shown D (Round L) → OutTask S F → Type 0
@@ -29,5 +29,5 @@ module _ {D L : Type 0} (stores logs : Type 0) (lines : L → List Line) where
 
   abbrev pub IsTaskOf : {S F : Type 0} → (L → ℕ) → (L → List ℕ) → (L → ℕ) → (S → List ℕ) → Shown D (Round L) → Task L S F → Type 0
   IsTaskOf available answers faults written shown (task.Map t) = IsMapOf available answers faults shown t
-  IsTaskOf available answers faults written shown (task.Reduce t) = IsReduceOf shown t
+  IsTaskOf available answers faults written shown (task.Reduce t) = IsReduceOf written shown t
   IsTaskOf available answers faults written shown (task.Out t) = IsOutOf written shown t

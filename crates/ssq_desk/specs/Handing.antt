@@ -6,7 +6,15 @@ use Rattle.ssq_meaning.specs.declared.fed_row.FedRow.{FedRow}
 use Rattle.ssq_meaning.specs.Epochs.{joined}
 use Rattle.ssq_feed.specs.declared.task.FedRows.{FedRows}
 use Rattle.ssq_terms.specs.Rows.{raised_by}
+use Rattle.ssq_task.specs.declared.partition.Held.{Held}
+use Rattle.ssq_task.specs.declared.partition.State.{State}
 use Rattle.ssq_desk.specs.declared.desk.Source.{Source}
+
+-- what a reduce task gets of its partition: what the partition keeps, with its file aside
+abbrev pub state_with : {S : Type 0} → Option Held → Option S → Option (State S)
+state_with (Some held) (Some stage) = Some (record { held = held; stage = stage })
+state_with (Some held) None = None
+state_with None stage = None
 
 -- a bucket was taken out of what a source has, or it had none
 pub record IsTaken {L : Type 0} (p : ℕ) (old new : Source L) : Type 0 where

@@ -1,12 +1,16 @@
 -- How all that the tasks of an epoch need is made before its plan is published.
-use Rattle.std.specs.Prelude.{◌≡◌, ◌≤◌, ◌<◌, ℕ, List, [], length, All, Some, vec_capacity}
+use Rattle.std.specs.Prelude.{◌≡◌, ◌≤◌, ◌<◌, ℕ, List, [], length, All, Some, None, vec_capacity}
 use Rattle.std.specs.Global.{Vec}
+use mathlib.Core.Option.{some}
+use lib.ListN.{get_elem?}
 use Rattle.ssq_plans.specs.declared.part.PartEnd.{PartEnd}
 use Rattle.ssq_board.specs.declared.front.Cause.{Cause}
 use Rattle.ssq_board.specs.declared.front.Cause.TheVariants as cause
 use Rattle.ssq_desk.specs.declared.desk.Load.{Load}
 use Rattle.ssq_desk.specs.declared.desk.OutWork.{OutWork}
-use Rattle.ssq_desk.specs.Room.{IsFresh, AreBegun}
+use Rattle.ssq_desk.specs.declared.desk.Share.{Share}
+use Rattle.ssq_desk.specs.Room.{AreBegun}
+use Rattle.ssq_desk.specs.Contents.{IsStageOf}
 
 -- why nothing was made, with so many epochs planned: there may be no more, the disk failed, or memory ran out
 abbrev pub IsUnmade : ℕ → Cause → Type 0
@@ -14,6 +18,18 @@ IsUnmade planned cause.Full = planned ≡ 4294967295
 IsUnmade planned cause.DiskFault = planned ≡ 4294967295 → ⊥
 IsUnmade planned cause.NoMemory = planned ≡ 4294967295 → ⊥
 IsUnmade planned _ = ⊥
+
+-- a partition has room for one bucket from each part, and its file aside where it keeps state
+pub record IsReady {S : Type 0} (owned : Type 0) (written : S → List ℕ) (parts keeping p : ℕ) (share : Share S) : Type 0 where
+  pub none : share.buckets.items ≡ []
+  pub room : parts ≤ vec_capacity share.buckets
+  pub stage : IsStageOf owned written keeping p share.stage
+  pub no_key : share.key ≡ None
+
+-- so many partitions have
+pub record AreReady {S : Type 0} (owned : Type 0) (written : S → List ℕ) (partitions parts keeping : ℕ) (shares : List (Share S)) : Type 0 where
+  pub count : length shares ≡ partitions
+  pub each : (p : ℕ) (share : Share S) → get_elem? shares p ≡ some share → IsReady owned written parts keeping p share
 
 module _ {L S F : Type 0} where
   -- nothing was changed but the room for plans and for what is told
@@ -24,6 +40,7 @@ module _ {L S F : Type 0} where
     pub kept_is : new.kept ≡ old.kept
     pub sources_are : new.sources ≡ old.sources
     pub shares_are : new.shares ≡ old.shares
+    pub held_is : new.held ≡ old.held
     pub out_is : new.out ≡ old.out
     pub seen_is : new.seen ≡ old.seen
     pub pending_is : new.pending ≡ old.pending
@@ -46,8 +63,8 @@ module _ {L S F : Type 0} where
     pub told_room : length new.told.items < vec_capacity new.told
     pub kept_is : new.kept ≡ old.kept
     pub begun : AreBegun ends old.sources.items new.sources.items
-    pub count : length new.shares.items ≡ old.view.partitions
-    pub fresh : All (IsFresh (length old.sources.items)) new.shares.items
+    pub ready : AreReady owned written old.view.partitions (length old.sources.items) (length old.held.items) new.shares.items
+    pub held_is : new.held ≡ old.held
     pub work : (w : OutWork S F) × (new.out ≡ Some w) × IsWorkFor owned written old w
     pub seen_is : new.seen ≡ old.seen
     pub pending_is : new.pending ≡ old.pending

@@ -1,17 +1,34 @@
 -- What is made for an epoch before its plan is published.
-use Rattle.std.specs.Prelude.{◌≡◌, ◌≤◌, ◌<◌, ℕ, ℤ, List, [], length, get_or, All, Option, None, vec_capacity}
+use Rattle.std.specs.Prelude.{◌≡◌, ◌≤◌, ◌<◌, ℕ, ℤ, List, [], ◌∷◌, length, get_or, All, Option, None, IsSomeAnd, vec_capacity}
 use Rattle.ssq_plans.specs.declared.part.PartEnd.{PartEnd}
 use Rattle.ssq_desk.specs.declared.desk.Source.{Source}
 use Rattle.ssq_desk.specs.declared.desk.Share.{Share}
 use Rattle.ssq_desk.specs.declared.room.Room.{Room}
 
--- a partition has room for one bucket from each part, and none yet
-pub record IsFresh (parts : ℕ) (share : Share) : Type 0 where
+-- a partition has room for one bucket from each part, and neither one yet nor a file aside
+pub record IsFresh {S : Type 0} (parts : ℕ) (share : Share S) : Type 0 where
   pub none : share.buckets.items ≡ []
   pub room : parts ≤ vec_capacity share.buckets
+  pub no_stage : share.stage ≡ None
+  pub no_key : share.key ≡ None
+
+-- a partition got a file aside that is empty, and all else of it is as it was
+pub record IsStaged {S : Type 0} (tells : Type 0) (written : S → List ℕ) (old new : Share S) : Type 0 where
+  pub buckets_are : new.buckets ≡ old.buckets
+  pub rows_are : new.rows ≡ old.rows
+  pub key_is : new.key ≡ old.key
+  pub stage : IsSomeAnd new.stage (λ stage. tells → written stage ≡ [])
+
+module _ {A S : Type 0} (tells : Type 0) (written : S → List ℕ) where
+  -- each partition that has one of the first list got a file aside, and the others are as they were
+  abbrev pub AreStaged : List A → List (Share S) → List (Share S) → Type 0
+  AreStaged [] olds news = news ≡ olds
+  AreStaged (own ∷ held) [] news = news ≡ []
+  AreStaged (own ∷ held) (old ∷ olds) [] = ⊥
+  AreStaged (own ∷ held) (old ∷ olds) (new ∷ news) = IsStaged tells written old new × AreStaged held olds news
 
 -- there is room for so many parts and partitions, with these greatest times
-pub record HasRoom (partitions parts : ℕ) (times : List (Option ℤ)) (room : Room) : Type 0 where
+pub record HasRoom {S : Type 0} (partitions parts : ℕ) (times : List (Option ℤ)) (room : Room S) : Type 0 where
   pub no_ends : room.ends.items ≡ []
   pub ends_room : parts ≤ vec_capacity room.ends
   pub count : length room.shares.items ≡ partitions

@@ -1,6 +1,7 @@
 //! What is done between the tasks: names are synced, and the epoch that runs is committed.
 
-ghost use Rattle.std.specs.Prelude.{◌≡◌, ◌≤◌, ◌<◌, ◌^◌, [], ◌∷◌, false, map, length, get_or, None, Some, IfErr, OnOk, OnErr};
+ghost use Rattle.std.specs.Prelude.{◌≡◌, ◌≤◌, ◌<◌, ◌^◌, [], ◌∷◌, map, length, get_or, true, None, Some, IfErr, OnOk, OnErr};
+ghost use Rattle.ssq_shape.specs.Late.{closes};
 ghost use Rattle.ssq_outside.specs.Faults.{Rises};
 ghost use Rattle.ssq_board.specs.declared.front.Entry.TheVariants as entry;
 ghost use Rattle.ssq_board.specs.declared.front.Cause.TheVariants as cause;
@@ -10,10 +11,12 @@ ghost use Rattle.ssq_ledger.specs.Shown.{HasRisen, did};
 ghost use Rattle.ssq_desk.specs.Closing.{lines_between};
 
 use crate::desk::{Desk, Load, Pending, Source};
+use crate::due::is_due;
 use crate::told::Told;
 use ssq_board::Cause;
 use ssq_outside::{Disk, DiskFault, Log, Stage};
 use ssq_plans::PartEnd;
+use ssq_terms::tasks_have_terms;
 use std::mem;
 
 impl<'a, D: Disk, L: Log> Desk<'a, D, L> {
@@ -29,19 +32,22 @@ impl<'a, D: Disk, L: Log> Desk<'a, D, L> {
 
     /// Publishes the commit of the epoch that runs, whose rows are settled. It takes no memory.
     ///
-    /// The query keeps nothing, so no epoch without lines is due then.
+    /// It tells whether an epoch without lines is due next: the query shows more as the watermark rises, and by the epoch's times it does. None is
+    /// due of a query that doesn't close, on any disk.
     pub fn commit(&mut self) -> Result<(), DiskFault>
         requires { ready_of self.old.scope self.old.core ≡ ready.Commit }
-        ensures done { OnOk result (self.new ≡ did self.old self.new.disk (entry.Commit self.old.core.front.committed false ∷ [])) }
+        ensures done { OnOk result ((due : _) × (self.new ≡ did self.old self.new.disk (entry.Commit self.old.core.front.committed due ∷ [])) × (due ≡ true → closes self.old.opening.view.bound.now ≡ true)) }
         ensures stopped { OnErr result ((self.new ≡ did self.old self.new.disk (entry.Stop cause.DiskFault ∷ [])) × Rises (D.faults self.old.disk) (D.faults self.new.disk)) }
         ensures counted { D.faults self.old.disk ≤ D.faults self.new.disk }
     {
         self.ledger.is_legal();
         self.ledger.is_in_order();
+        tasks_have_terms();
         let epoch = self.ledger.front().committed;
         let pending = take_pending(&mut self.load.pending);
         let told = tell(&self.load, self.ledger.ends(), epoch, pending.count);
-        self.ledger.commit(pending.commit, false)?;
+        let due = is_due(self.load.view.bound, &pending.seen, told.watermark);
+        self.ledger.commit(pending.commit, due)?;
         self.load.told.push_reserved(told);
         self.load.seen = pending.seen;
         Ok(())

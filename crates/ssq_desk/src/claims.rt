@@ -11,7 +11,9 @@ ghost use Rattle.ssq_desk.specs.Handed.{IsMapOf, IsReduceOf, IsOutOf, IsTaskOf};
 ghost use Rattle.ssq_desk.specs.Tasks.{id_of, map_id, out_id, reduce_id};
 
 use crate::desk::{Desk, OutWork};
-use crate::hand::{raise_all, take_buckets, take_log, take_room, take_rows};
+use crate::hand::{
+    raise_all, state_with, take_buckets, take_held, take_log, take_room, take_rows, take_stage,
+};
 use crate::task::Task;
 use ssq_board::Ready;
 use ssq_feed::MapTask;
@@ -61,13 +63,17 @@ impl<'a, D: Disk, L: Log> Desk<'a, D, L> {
         requires may { May self.old.scope self.old.core (entry.Claim id) }
         ensures did { self.new ≡ did self.old self.old.disk (entry.Claim id ∷ []) }
         ensures id { (result.partition ≡ id.number) × (result.epoch ≡ id.epoch) }
-        ensures task { IsReduceOf D.tells L.tells L.lines self.new result }
+        ensures task { IsReduceOf D.tells L.tells L.lines D.Stage.written self.new result }
         ensures back { (fault : Option CauseOf) → May self.new.scope self.new.core (entry.Report (reduce_id result.epoch result.partition) fault) }
     {
         self.ledger.is_legal();
         self.ledger.is_in_order();
         let watermark = watermark(&self.load.seen, self.load.view.bound);
-        let mut rows = take_room(self.alloc, &mut self.load.shares[id.number as usize]);
+        let number = id.number as usize;
+        let held = take_held(&mut self.load.held, number);
+        let share = &mut self.load.shares[number];
+        let stage = take_stage(share);
+        let mut rows = take_room(self.alloc, share);
         take_buckets(self.alloc, &mut self.load.sources, id.number, &mut rows);
         self.ledger.claim(id);
         ReduceTask {
@@ -76,7 +82,7 @@ impl<'a, D: Disk, L: Log> Desk<'a, D, L> {
             partition: id.number,
             watermark,
             rows,
-            state: None,
+            state: state_with(held, stage),
         }
     }
 

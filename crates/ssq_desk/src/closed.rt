@@ -16,16 +16,21 @@ ghost use Rattle.ssq_ledger.specs.Shown.{cuts_of};
 ghost use Rattle.ssq_desk.specs.Round.{Owns, setting_of};
 ghost use Rattle.ssq_desk.specs.Contents.{IsStopOf};
 ghost use Rattle.ssq_desk.specs.Whole.{opening_in};
-ghost use Rattle.ssq_desk.specs.Closing.{AreTold, IsNext, acknowledged_in};
+ghost use Rattle.ssq_desk.specs.First.{AreIndexes};
+ghost use Rattle.ssq_desk.specs.Closing.{AreTold, IsNext, acknowledged_in, closings_in, stores_in};
 
 use crate::desk::{Desk, Kept, Load, Source};
+use crate::keys::take_key;
 use crate::told::Told;
+use ssq_agg::Closing;
 use ssq_board::{Cause, Entry, Front, Ready};
 use ssq_open::Opened;
 use ssq_outside::{Disk, Log};
 use ssq_plans::{Plan, SeenBy};
 use ssq_shape::Bound;
-use ssq_value::Sequence;
+use ssq_store::Store;
+use ssq_task::Held;
+use ssq_value::{Row, Sequence};
 use ssq_water::Seen;
 
 /// What a desk gives back when it ends.
@@ -40,8 +45,10 @@ pub struct Closed<D: Disk, L: Log> {
     pub told: Vec<Told>,
     /// Why the desk was stopped, where it was.
     pub stop: Option<Cause>,
-    /// What the next round opens: where all that was found is covered, committed and settled.
-    pub next: Option<Opened>,
+    /// The key for which it was stopped: none where it was not stopped for one.
+    pub key: Option<Row>,
+    /// What the next round opens, with the index of each store: where all that was found is covered, committed and settled.
+    pub next: Option<(Opened, Vec<Closing>)>,
 }
 
 /// Takes the log of a source over.
@@ -69,6 +76,40 @@ fn logs_of<L: Log>(room: Vec<L>, sources: Vec<Source<L>>) -> Vec<L>
         take_over(&mut logs, source);
     }
     logs
+}
+
+/// Takes the store and the index of what a partition keeps over.
+fn take_apart(stores: &mut Vec<Store>, closings: &mut Vec<Closing>, held: Option<Held>)
+    requires stores { length stores.old.items < vec_capacity stores.old }
+    requires closings { length closings.old.items < vec_capacity closings.old }
+    ensures stores { stores.new.items ≡ stores.old.items ++ stores_in (held ∷ []) }
+    ensures closings { closings.new.items ≡ closings.old.items ++ closings_in (held ∷ []) }
+    ensures capacity { (vec_capacity stores.new ≡ vec_capacity stores.old) × (vec_capacity closings.new ≡ vec_capacity closings.old) }
+{
+    if let Some(held) = held {
+        let Held { store, closing } = held;
+        stores.push_reserved(store);
+        closings.push_reserved(closing);
+    }
+}
+
+/// The stores of what partitions keep, and their indexes, in the room that was made for them.
+fn stores_of(
+    stores: Vec<Store>,
+    closings: Vec<Closing>,
+    held: Vec<Option<Held>>,
+) -> (Vec<Store>, Vec<Closing>)
+    requires none { (stores.items ≡ []) × (closings.items ≡ []) }
+    requires fits { (length held.items ≤ vec_capacity stores) × (length held.items ≤ vec_capacity closings) }
+    ensures stores { result.0.items ≡ stores_in held.items }
+    ensures closings { result.1.items ≡ closings_in held.items }
+{
+    let mut stores = stores;
+    let mut closings = closings;
+    for own in held {
+        take_apart(&mut stores, &mut closings, own);
+    }
+    (stores, closings)
 }
 
 /// The lines of a commit with these greatest times, in the room that was made for them.
@@ -115,26 +156,32 @@ fn acknowledged(told: Vec<Told>, all: bool) -> Vec<Told>
 /// What the next round opens.
 fn next_of<L: Log>(
     kept: Kept<L>,
+    held: Vec<Option<Held>>,
     plans: Vec<Plan>,
     committed: u32,
     bound: &Bound,
     seen: &Seen,
-) -> (Opened, Vec<L>)
+) -> (Opened, Vec<Closing>, Vec<L>)
+    requires no_stores { (kept.stores.items ≡ []) × (kept.closings.items ≡ []) }
+    requires stores { (length held.items ≤ vec_capacity kept.stores) × (length held.items ≤ vec_capacity kept.closings) }
     requires none { kept.lines.items ≡ [] }
     requires fits { length bound.now.streams ≤ vec_capacity kept.lines }
     requires each { length seen.now ≡ length bound.now.streams }
     requires few { length bound.now.streams ≤ 2 ^ 32 }
-    ensures next { result.0 ≡ record { meta = kept.meta; plans = plans.items; committed = committed; seen = lines_of bound.now seen.now; stores = kept.stores; names = kept.names } }
+    ensures next { result.0 ≡ record { meta = kept.meta; plans = plans.items; committed = committed; seen = lines_of bound.now seen.now; stores = stores_in held.items; names = kept.names } }
+    ensures closings { result.1.items ≡ closings_in held.items }
     ensures years { All HasLineTime result.0.seen }
-    ensures room { result.1 ≡ kept.logs }
+    ensures room { result.2 ≡ kept.logs }
 {
     let Kept {
         meta,
-        stores,
         names,
         lines,
         logs,
+        stores,
+        closings,
     } = kept;
+    let (stores, closings) = stores_of(stores, closings, held);
     let seen = lines_in(lines, bound, seen.times());
     (
         Opened {
@@ -142,9 +189,10 @@ fn next_of<L: Log>(
             plans: Sequence::from_vec(plans),
             committed,
             seen,
-            stores,
+            stores: Sequence::from_vec(stores),
             names,
         },
+        closings,
         logs,
     )
 }
@@ -153,24 +201,27 @@ fn next_of<L: Log>(
 fn next_if<L: Log>(
     is_over: bool,
     kept: Kept<L>,
+    held: Vec<Option<Held>>,
     plans: Vec<Plan>,
     committed: u32,
     bound: &Bound,
     seen: &Seen,
-) -> (Option<Opened>, Vec<L>)
+) -> (Option<(Opened, Vec<Closing>)>, Vec<L>)
+    requires no_stores { (kept.stores.items ≡ []) × (kept.closings.items ≡ []) }
+    requires stores { (length held.items ≤ vec_capacity kept.stores) × (length held.items ≤ vec_capacity kept.closings) }
     requires none { kept.lines.items ≡ [] }
     requires fits { length bound.now.streams ≤ vec_capacity kept.lines }
     requires each { is_over ≡ true → length seen.now ≡ length bound.now.streams }
     requires few { length bound.now.streams ≤ 2 ^ 32 }
-    ensures next { MatchOption result.0 (is_over ≡ false) (λ next. (is_over ≡ true) × (next ≡ record { meta = kept.meta; plans = plans.items; committed = committed; seen = lines_of bound.now seen.now; stores = kept.stores; names = kept.names }) × All HasLineTime next.seen) }
+    ensures next { MatchOption result.0 (is_over ≡ false) (λ next. (is_over ≡ true) × (next.0 ≡ record { meta = kept.meta; plans = plans.items; committed = committed; seen = lines_of bound.now seen.now; stores = stores_in held.items; names = kept.names }) × All HasLineTime next.0.seen × (next.1.items ≡ closings_in held.items)) }
     ensures room { result.1 ≡ kept.logs }
 {
     if !is_over {
         let Kept { logs, .. } = kept;
         return (None, logs);
     }
-    let (next, logs) = next_of(kept, plans, committed, bound, seen);
-    (Some(next), logs)
+    let (next, closings, logs) = next_of(kept, held, plans, committed, bound, seen);
+    (Some((next, closings)), logs)
 }
 
 fn is_over(next: Ready) -> bool
@@ -187,13 +238,15 @@ impl<'a, D: Disk, L: Log> Desk<'a, D, L> {
         ensures disk { result.disk ≡ self.entry.disk }
         ensures history { result.history.items ≡ self.entry.history }
         ensures stop { result.stop ≡ self.entry.core.front.stop }
-        ensures stopped { (f : CauseOf) → self.entry.core.front.stop ≡ Some f → IsStopOf (D.tells × L.tells) (setting_of L.lines self.entry.opening) (cuts_of (opening_in L.lines) self.entry) self.entry.core.front.committed f }
+        ensures stopped { (f : CauseOf) → self.entry.core.front.stop ≡ Some f → IsStopOf (D.tells × L.tells) (Owns D.tells L.tells L.lines self.entry) (setting_of L.lines self.entry.opening) (cuts_of (opening_in L.lines) self.entry) self.entry.core.front.committed result.key f }
+        ensures no_key { self.entry.core.front.stop ≢ Some cause.KeyOverflow → result.key ≡ None }
         // Each log holds the same lines; and where a log stopped the desk, that log counts a fault.
         ensures logs { AllZip (LogWent L.tells L.lines L.available L.answers L.faults) self.entry.opening.logs.items result.logs.items }
         ensures faulty { self.entry.core.front.stop ≡ Some cause.LogFault → 0 < sum_by L.faults result.logs.items }
         ensures told { AreTold (Owns D.tells L.tells L.lines self.entry) (setting_of L.lines self.entry.opening) (cuts_of (opening_in L.lines) self.entry) self.entry.opening.opened.committed (acknowledged_in self.entry.core) result.told.items }
         ensures next { MatchOption result.next (ready_of self.entry.scope self.entry.core ≢ ready.Over)
-            (λ next. (ready_of self.entry.scope self.entry.core ≡ ready.Over) × IsNext (Owns D.tells L.tells L.lines self.entry) (setting_of L.lines self.entry.opening) (cuts_of (opening_in L.lines) self.entry) self.entry.scope.available self.entry.core self.entry.opening.opened next) }
+            (λ next. (ready_of self.entry.scope self.entry.core ≡ ready.Over) × IsNext (Owns D.tells L.tells L.lines self.entry) (setting_of L.lines self.entry.opening) (cuts_of (opening_in L.lines) self.entry) self.entry.scope.available self.entry.core self.entry.opening.opened next.0
+            × AreIndexes (Unit {0}) self.entry.opening.view.bound.now next.0.stores next.1.items) }
     {
         self.ledger.is_legal();
         self.ledger.is_in_order();
@@ -205,19 +258,31 @@ impl<'a, D: Disk, L: Log> Desk<'a, D, L> {
             view,
             plans,
             sources,
+            mut shares,
+            held,
             seen,
             told,
             kept,
             ..
         } = load;
         let told = acknowledged(told, is_told(front));
-        let (next, logs) = next_if(is_over, kept, plans, front.committed, view.bound, &seen);
+        let key = take_key(front.stop, &mut shares);
+        let (next, logs) = next_if(
+            is_over,
+            kept,
+            held,
+            plans,
+            front.committed,
+            view.bound,
+            &seen,
+        );
         Closed {
             disk,
             logs: logs_of(logs, sources),
             history,
             told,
             stop: front.stop,
+            key,
             next,
         }
     }

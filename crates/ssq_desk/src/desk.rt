@@ -2,13 +2,14 @@
 
 use crate::round::Round;
 use crate::told::Told;
+use ssq_agg::Closing;
 use ssq_feed::FedRows;
 use ssq_ledger::Ledger;
 use ssq_meaning::{FedRow, View};
 use ssq_outside::{Disk, Log, Name, Stage};
 use ssq_plans::{Meta, Plan, SeenBy};
 use ssq_store::Store;
-use ssq_task::Stages;
+use ssq_task::{Held, Stages};
 use ssq_value::{Row, Sequence};
 use ssq_water::Seen;
 use std::alloc::Global;
@@ -29,11 +30,15 @@ pub(crate) struct Source<L: Log> {
 
 /// A partition of the epoch that runs.
 #[derive(Drop)]
-pub(crate) struct Share {
+pub(crate) struct Share<S> {
     /// What its reduce task is to take: room for one bucket from each part.
     pub(crate) buckets: Vec<Vec<FedRow>>,
+    /// The file aside that its reduce task is to take, where the partition keeps state.
+    pub(crate) stage: Option<S>,
     /// What its reduce task brought.
     pub(crate) rows: Vec<Row>,
+    /// The least key of the partition that overflows, where its reduce task told of one.
+    pub(crate) key: Option<Row>,
 }
 
 /// What the out task of the epoch that runs is to take.
@@ -61,14 +66,16 @@ pub(crate) struct Pending<F: Drop> {
 pub(crate) struct Kept<L: Log> {
     /// The record of the job, as it was opened.
     pub(crate) meta: Meta,
-    /// The stores that were opened: none, since the query keeps nothing.
-    pub(crate) stores: Sequence<Store>,
     /// The names that were found.
     pub(crate) names: Sequence<Name>,
     /// Room for the greatest times of the watermarked streams.
     pub(crate) lines: Vec<SeenBy>,
     /// Room for the logs.
     pub(crate) logs: Vec<L>,
+    /// Room for the stores of the partitions that keep state.
+    pub(crate) stores: Vec<Store>,
+    /// Room for their indexes.
+    pub(crate) closings: Vec<Closing>,
 }
 
 /// What a desk holds beside the ledger.
@@ -78,7 +85,9 @@ pub(crate) struct Load<'a, L: Log, S: Stage> {
     /// The plans of all planned epochs.
     pub(crate) plans: Vec<Plan>,
     pub(crate) sources: Vec<Source<L>>,
-    pub(crate) shares: Vec<Share>,
+    pub(crate) shares: Vec<Share<S>>,
+    /// What each partition that keeps state keeps, where no worker has it.
+    pub(crate) held: Vec<Option<Held>>,
     pub(crate) out: Option<OutWork<S>>,
     /// The greatest times over the committed epochs.
     pub(crate) seen: Seen,

@@ -1,26 +1,31 @@
 //! What a desk holds where its round begins, made before it takes the disk.
 
-ghost use Rattle.std.specs.Prelude.{◌≡◌, ◌≤◌, ◌<◌, ◌^◌, [], length, vec_capacity, All, IfOk};
+ghost use Rattle.std.specs.Prelude.{◌≡◌, ◌≤◌, ◌<◌, ◌^◌, ◌&&◌, not, nat_lt, [], length, vec_capacity, All, IfOk};
 ghost use Rattle.ssq_plans.specs.Records.{HasLineTime};
 ghost use Rattle.ssq_open.specs.Epochs.{cut_of};
-ghost use Rattle.ssq_desk.specs.First.{sources_of, IsMadeOf};
+ghost use Rattle.ssq_water.specs.Water.{HasDelays, seen_at};
+ghost use Rattle.ssq_desk.specs.Round.{is_due, mark_of};
+ghost use Rattle.ssq_desk.specs.First.{sources_of, held_of, IsMadeOf};
 
 use crate::desk::Source;
+use crate::due::is_due;
 use crate::room::{Room, make_room};
 use crate::told::Told;
+use ssq_agg::Closing;
 use ssq_ledger::Start;
 use ssq_open::{Opened, begins};
 use ssq_outside::Log;
 use ssq_plans::{PartEnd, Plan, SeenBy};
 use ssq_shape::Bound;
-use ssq_task::seen_from;
+use ssq_store::Store;
+use ssq_task::{Held, seen_from};
 use ssq_value::Sequence;
 use ssq_water::Seen;
 use std::alloc::{AllocError, Global};
 
 /// All that a desk needs where its round begins.
 #[derive(Drop)]
-pub(crate) struct Made<L: Log> {
+pub(crate) struct Made<L: Log, S> {
     pub(crate) start: Start,
     /// The parts, where they begin.
     pub(crate) parts: Vec<PartEnd>,
@@ -31,13 +36,19 @@ pub(crate) struct Made<L: Log> {
     /// The greatest times over the committed epochs.
     pub(crate) seen: Seen,
     /// Room for the tasks of an epoch.
-    pub(crate) room: Room,
+    pub(crate) room: Room<S>,
     /// Room to tell of one epoch.
     pub(crate) told: Vec<Told>,
     /// Room for the greatest times of the watermarked streams.
     pub(crate) lines: Vec<SeenBy>,
     /// Room for the logs.
     pub(crate) logs: Vec<L>,
+    /// Room for what partitions keep.
+    pub(crate) held: Vec<Option<Held>>,
+    /// Room for the stores in it.
+    pub(crate) stores: Vec<Store>,
+    /// Room for their indexes.
+    pub(crate) closings: Vec<Closing>,
 }
 
 /// Where the lines of the first epochs end, of parts that begin there.
@@ -55,18 +66,40 @@ fn ends_at<'p>(
     }
 }
 
+/// The watermark of the last of the first plans, none where there is none.
+fn mark_at(plans: &[Plan], epochs: usize) -> Option<i64>
+    requires { epochs ≤ length plans.now }
+    ensures { result ≡ mark_of plans.now epochs }
+{
+    match epochs {
+        0 => None,
+        _ => plans[epochs - 1].watermark,
+    }
+}
+
+/// Whether an epoch without lines is due: so many are committed, which are all that are planned, and there are these greatest times.
+fn is_due_on(bound: &Bound, seen: &Seen, plans: &[Plan], committed: usize) -> bool
+    requires before { committed ≤ length plans.now }
+    requires streams { length seen.now ≡ length bound.now.streams }
+    requires delays { HasDelays bound.now }
+    ensures { result ≡ (not (nat_lt committed (length plans.now)) && is_due bound.now (seen_at seen.now) (mark_of plans.now committed)) }
+{
+    committed == plans.len() && is_due(bound, seen, mark_at(plans, committed))
+}
+
 /// Makes it, for so many logs.
-pub(crate) fn make_first<L: Log>(
+pub(crate) fn make_first<L: Log, S: Drop>(
     alloc: Global,
     bound: &Bound,
     partitions: u32,
     opened: &Opened,
     logs: usize,
-) -> Result<Made<L>, AllocError>
+) -> Result<Made<L, S>, AllocError>
     requires few { length opened.now.meta.parts ≤ 2 ^ 32 }
     requires before { opened.now.committed ≤ length opened.now.plans }
     requires streams { All (λ line. line.stream < length bound.now.streams) opened.now.seen }
     requires years { All HasLineTime opened.now.seen }
+    requires delays { HasDelays bound.now }
     ensures { IfOk result (IsMadeOf bound.now partitions opened.now logs) }
 {
     let parts = begins(alloc, opened.meta.parts.as_slice())?;
@@ -82,12 +115,17 @@ pub(crate) fn make_first<L: Log>(
     let told = Vec::with_capacity(alloc, 1)?;
     let lines = Vec::with_capacity(alloc, bound.streams.len())?;
     let logs = Vec::with_capacity(alloc, logs)?;
+    let keeping = opened.stores.len();
+    let held = Vec::with_capacity(alloc, keeping)?;
+    let stores = Vec::with_capacity(alloc, keeping)?;
+    let closings = Vec::with_capacity(alloc, keeping)?;
+    let due = is_due_on(bound, &seen, plans, committed);
     let start = Start {
         committed: opened.committed,
         is_planned: committed < plans.len(),
         from: from.into_vec(),
         to: to.into_vec(),
-        due: false,
+        due,
     };
     Ok(Made {
         start,
@@ -99,7 +137,32 @@ pub(crate) fn make_first<L: Log>(
         told,
         lines,
         logs,
+        held,
+        stores,
+        closings,
     })
+}
+
+/// What partitions keep, in the room that was made for it: each store with its index.
+pub(crate) fn with_closings(
+    room: Vec<Option<Held>>,
+    stores: Vec<Store>,
+    closings: Vec<Closing>,
+) -> Vec<Option<Held>>
+    requires none { room.items ≡ [] }
+    requires fits { length stores.items ≤ vec_capacity room }
+    requires each { length closings.items ≡ length stores.items }
+    ensures { result.items ≡ held_of stores.items closings.items }
+{
+    let mut held = room;
+    let mut closings = closings.into_iter();
+    for store in stores {
+        let Some(closing) = closings.next() else {
+            return held;
+        };
+        held.push_reserved(Some(Held { store, closing }));
+    }
+    held
 }
 
 /// The parts with their logs, in the room that was made for them.

@@ -1,15 +1,16 @@
 //! What is taken out of a desk for a task. Nothing here takes memory.
 
-ghost use Rattle.std.specs.Prelude.{◌≡◌, ◌<◌, ◌≤◌, ◌+◌, ◌++◌, ℕ, Some, None, All, IfSome, length, map, vec_capacity};
+ghost use Rattle.std.specs.Prelude.{◌≡◌, ◌<◌, ◌≤◌, ◌+◌, ◌++◌, ℕ, Some, None, All, IfSome, length, map, get_or, set, vec_capacity};
 ghost use Rattle.ssq_time.specs.Time.{IsLineTime};
 ghost use Rattle.ssq_water.specs.Water.{seen_at};
 ghost use Rattle.ssq_task.specs.Lists.{joined_vecs};
 ghost use Rattle.ssq_terms.specs.Rows.{raised_by};
-ghost use Rattle.ssq_desk.specs.Handing.{IsTaken, AreTaken, HasBucket, HasLineTime, CanRaise, bucket_in_fed, buckets_in, time_of, raised_in};
+ghost use Rattle.ssq_desk.specs.Handing.{state_with, IsTaken, AreTaken, HasBucket, HasLineTime, CanRaise, bucket_in_fed, buckets_in, time_of, raised_in};
 
 use crate::desk::{Share, Source};
 use ssq_meaning::FedRow;
 use ssq_outside::Log;
+use ssq_task::{Held, State};
 use ssq_value::Row;
 use ssq_water::{Seen, raise};
 use std::alloc::Global;
@@ -28,10 +29,41 @@ pub(crate) fn take_log<L: Log>(source: &mut Source<L>) -> L
 }
 
 /// Takes the room for buckets out of a partition.
-pub(crate) fn take_room(alloc: Global, share: &mut Share) -> Vec<Vec<FedRow>>
-    ensures { result ≡ share.old.buckets }
+pub(crate) fn take_room<S: Drop>(alloc: Global, share: &mut Share<S>) -> Vec<Vec<FedRow>>
+    ensures room { result ≡ share.old.buckets }
+    ensures rest { (share.new.stage ≡ share.old.stage) × (share.new.key ≡ share.old.key) }
 {
     mem::replace(&mut share.buckets, Vec::new(alloc))
+}
+
+/// Takes what a partition keeps out: nothing where the query keeps no state.
+pub(crate) fn take_held(held: &mut [Option<Held>], partition: usize) -> Option<Held>
+    ensures held { result ≡ get_or held.old partition None }
+    ensures rest { held.new ≡ set held.old partition None }
+{
+    if partition < held.len() {
+        mem::replace(&mut held[partition], None)
+    } else {
+        None
+    }
+}
+
+/// Takes the file aside out of a partition.
+pub(crate) fn take_stage<S: Drop>(share: &mut Share<S>) -> Option<S>
+    ensures stage { result ≡ share.old.stage }
+    ensures rest { share.new ≡ record { buckets = share.old.buckets; stage = None; rows = share.old.rows; key = share.old.key } }
+{
+    mem::replace(&mut share.stage, None)
+}
+
+/// What a reduce task gets of its partition: what the partition keeps, with its file aside.
+pub(crate) fn state_with<S: Drop>(held: Option<Held>, stage: Option<S>) -> Option<State<S>>
+    ensures { result ≡ state_with held stage }
+{
+    match (held, stage) {
+        (Some(held), Some(stage)) => Some(State { held, stage }),
+        _ => None,
+    }
 }
 
 /// Takes the bucket of a partition out of what a source has.
@@ -100,10 +132,11 @@ pub(crate) fn raise_all<L: Log>(seen: &mut Seen, sources: &[Source<L>])
 }
 
 /// Takes the rows of each partition out.
-pub(crate) fn take_rows(alloc: Global, shares: &mut [Share], into: &mut Vec<Vec<Row>>)
+pub(crate) fn take_rows<S: Drop>(alloc: Global, shares: &mut [Share<S>], into: &mut Vec<Vec<Row>>)
     requires { length into.old.items + length shares.old ≤ vec_capacity into.old }
     ensures rows { map (λ rows. rows.items) into.new.items ≡ map (λ rows. rows.items) into.old.items ++ map (λ share. share.rows.items) shares.old }
     ensures count { length shares.new ≡ length shares.old }
+    ensures keys { map (λ share. share.key) shares.new ≡ map (λ share. share.key) shares.old }
 {
     let Some((share, rest)) = shares.split_first_mut() else {
         return;

@@ -1,18 +1,17 @@
 //! All that the tasks of the next epoch need, put in place before its plan is published.
 
-ghost use Rattle.std.specs.Prelude.{◌≡◌, ◌≤◌, ◌<◌, [], length, vec_capacity, IfOk, IfErr, OnOk, OnErr, None};
+ghost use Rattle.std.specs.Prelude.{◌≡◌, ◌≤◌, ◌<◌, [], length, vec_capacity, IfOk, IfErr, OnOk, OnErr, None, Some};
 ghost use Rattle.ssq_outside.specs.declared.disk.DiskError.TheVariants as error;
 ghost use Rattle.ssq_ledger.specs.Shown.{IsUnplanned, did, cause_of};
-ghost use Rattle.ssq_desk.specs.Room.{HasRoom};
+ghost use Rattle.ssq_desk.specs.Room.{AreBegun, HasRoom};
 ghost use Rattle.ssq_desk.specs.Making.{IsUnmade, IsSameLoad, IsMadeFor};
 
-use crate::desk::{Load, OutWork};
-use crate::room::{Room, begin_at, make_room, stages};
+use crate::desk::{Load, OutWork, Share};
+use crate::room::{Room, begin_at, begin_files, discard_deltas, discard_stages, make_room};
 use ssq_board::Cause;
 use ssq_ledger::{Ledger, Opening};
 use ssq_outside::{Disk, DiskError, Log, Stage};
 use ssq_plans::{PartEnd, next_epoch};
-use ssq_task::Stages;
 use std::alloc::{AllocError, Global};
 use std::mem;
 
@@ -29,7 +28,7 @@ pub(crate) fn cause_of(error: DiskError) -> Cause
 fn room_for<'a, L: Log, S: Stage>(
     alloc: Global,
     load: &mut Load<'a, L, S>,
-) -> Result<Room, AllocError>
+) -> Result<Room<S>, AllocError>
     ensures same { IsSameLoad load.old load.new }
     ensures plan { OnOk result (length load.new.plans.items < vec_capacity load.new.plans) }
     ensures told { OnOk result (length load.new.told.items < vec_capacity load.new.told) }
@@ -45,30 +44,20 @@ fn room_for<'a, L: Log, S: Stage>(
     )
 }
 
-/// Puts it in place. Answers the room for the ends of the parts.
+/// Puts it in place.
 fn put<'a, D: Disk, L: Log>(
     load: &mut Load<'a, L, D::Stage>,
     ends: &[PartEnd],
-    room: Room,
-    stages: Stages<D::Stage>,
-) -> Vec<PartEnd>
+    shares: Vec<Share<D::Stage>>,
+    work: OutWork<D::Stage>,
+)
     requires each { length load.old.sources.items ≡ length ends.now }
-    requires plan { length load.old.plans.items < vec_capacity load.old.plans }
-    requires told { length load.old.told.items < vec_capacity load.old.told }
-    requires room { HasRoom load.old.view.partitions (length load.old.sources.items) load.old.seen room }
-    requires empty { D.tells → (D.Stage.written stages.rows ≡ []) × (D.Stage.written stages.commit ≡ []) }
-    ensures { IsMadeFor D.tells D.Stage.written ends.now load.old load.new result }
+    ensures begun { AreBegun ends.now load.old.sources.items load.new.sources.items }
+    ensures rest { load.new ≡ record { view = load.old.view; plans = load.old.plans; sources = load.new.sources; shares = shares; held = load.old.held; out = Some work; seen = load.old.seen; pending = load.old.pending; told = load.old.told; kept = load.old.kept } }
 {
-    let Room {
-        ends: here,
-        shares,
-        rows,
-        seen,
-    } = room;
     begin_at(&mut load.sources, ends);
     load.shares = shares;
-    load.out = Some(OutWork { rows, seen, stages });
-    here
+    load.out = Some(work);
 }
 
 /// Makes all that the tasks of the next epoch need, and puts it in place. Answers the room for the ends of its parts.
@@ -94,25 +83,35 @@ pub(crate) fn make<'a, D: Disk, O: Opening, L: Log>(
     let Ok(room) = room_for(alloc, load) else {
         return Err(Cause::NoMemory);
     };
-    match stages(alloc, ledger) {
-        Ok(stages) => Ok(put::<D, L>(load, ledger.ends(), room, stages)),
+    let Room {
+        ends,
+        mut shares,
+        rows,
+        seen,
+    } = room;
+    match begin_files(alloc, ledger, &mut shares, load.held.as_slice()) {
+        Ok(stages) => {
+            put::<D, L>(load, ledger.ends(), shares, OutWork { rows, seen, stages });
+            Ok(ends)
+        }
         Err(error) => Err(cause_of(error)),
     }
 }
 
-/// Takes the work of an out task away that is not to come, with its files.
-pub(crate) fn drop_out<'a, D: Disk, O: Opening, L: Log>(
+/// Takes the files of an epoch's tasks away that are not to come.
+pub(crate) fn drop_files<'a, D: Disk, O: Opening, L: Log>(
     ledger: &mut Ledger<D, O>,
     load: &mut Load<'a, L, D::Stage>,
 )
     ensures did { ledger.new ≡ did ledger.old ledger.new.disk [] }
     ensures same { D.tells → D.history ledger.new.disk ≡ D.history ledger.old.disk }
     ensures counted { D.faults ledger.old.disk ≤ D.faults ledger.new.disk }
-    ensures kept { load.new ≡ record { view = load.old.view; plans = load.old.plans; sources = load.old.sources; shares = load.old.shares; out = None; seen = load.old.seen; pending = load.old.pending; told = load.old.told; kept = load.old.kept } }
+    ensures count { length load.new.shares.items ≡ length load.old.shares.items }
+    ensures kept { load.new ≡ record { view = load.old.view; plans = load.old.plans; sources = load.old.sources; shares = load.new.shares; held = load.old.held; out = None; seen = load.old.seen; pending = load.old.pending; told = load.old.told; kept = load.old.kept } }
 {
     if let Some(work) = mem::replace(&mut load.out, None) {
         let OutWork { stages, .. } = work;
-        ledger.discard(stages.rows);
-        ledger.discard(stages.commit);
+        discard_stages(ledger, stages);
     }
+    discard_deltas(ledger, &mut load.shares);
 }

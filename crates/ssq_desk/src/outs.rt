@@ -18,6 +18,7 @@ use ssq_board::Cause;
 use ssq_ledger::{Ledger, Opening};
 use ssq_outside::{Disk, Kind, Log, Stage, TaskId};
 use ssq_task::{Aside, GatherFault, Gathered, Remnant, SealedEpoch};
+use ssq_terms::tasks_bring_the_epoch;
 use ssq_water::Seen;
 
 /// Why an out task brought nothing.
@@ -81,6 +82,7 @@ impl<'a, D: Disk, L: Log> Desk<'a, D, L> {
     {
         self.ledger.is_legal();
         self.ledger.is_in_order();
+        tasks_bring_the_epoch();
         let Gathered {
             epoch,
             seen,

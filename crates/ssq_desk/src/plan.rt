@@ -8,7 +8,7 @@ ghost use Rattle.ssq_board.specs.Core.{ready_of};
 ghost use Rattle.ssq_ledger.specs.Shown.{Shown, IsUnplanned, did};
 
 use crate::desk::Desk;
-use crate::make::{drop_out, make};
+use crate::make::{drop_files, make};
 use ssq_board::Cause;
 use ssq_outside::{Disk, Log};
 use ssq_plans::{PartEnd, Plan};
@@ -19,7 +19,7 @@ use std::alloc::Global;
 impl<'a, D: Disk, L: Log> Desk<'a, D, L> {
     /// Plans the next epoch: it has what was found and no plan covers, up to the cap of each part. Its tasks wait then.
     ///
-    /// All memory that the epoch takes up to its last report is taken first, and so are its two files aside; where that fails, no name was
+    /// All memory that the epoch takes up to its last report is taken first, and so are its files aside; where that fails, no name was
     /// changed, and the desk is stopped. `Full` comes only where as many epochs are planned as there may be.
     pub fn plan(&mut self, alloc: Global) -> Result<(), Cause>
         requires { ready_of self.old.scope self.old.core ≡ ready.Plan }
@@ -52,7 +52,7 @@ impl<'a, D: Disk, L: Log> Desk<'a, D, L> {
             }
             Err(cause) => {
                 self.ledger.is_legal();
-                drop_out(&mut self.ledger, &mut self.load);
+                drop_files(&mut self.ledger, &mut self.load);
                 Err(cause)
             }
         }

@@ -15,6 +15,7 @@ use ssq_board::{Cause, RowFault};
 use ssq_feed::{Fed, FedRows, FeedFault};
 use ssq_json::BadRow;
 use ssq_outside::{Disk, Kind, Log, TaskId};
+use ssq_terms::tasks_have_terms;
 
 /// The cause for which a line is bad.
 fn cause_of_bad(stream: u32, part: u32, offset: u64, what: BadRow) -> Cause
@@ -83,6 +84,7 @@ impl<'a, D: Disk, L: Log> Desk<'a, D, L> {
     {
         self.ledger.is_legal();
         self.ledger.is_in_order();
+        tasks_have_terms();
         let Fed {
             epoch,
             number,

@@ -5,7 +5,7 @@ ghost use Rattle.std.specs.List.{list_all, list_any};
 ghost use mathlib.Core.Option.{some};
 ghost use lib.ListN.{get_elem?};
 ghost use Rattle.ssq_board.specs.declared.front.Place.TheVariants as place;
-ghost use Rattle.ssq_board.specs.Core.{is_waiting, is_fine, is_here, is_of_line, worse, fault_at, fault_in, due_stop, or_stop};
+ghost use Rattle.ssq_board.specs.Core.{is_waiting, is_fine, is_here, is_of_epoch, worse, fault_at, fault_in, due_stop, or_stop};
 
 use ssq_board::{Cause, Place};
 
@@ -43,13 +43,16 @@ pub(crate) fn are_fine(places: &[Place]) -> bool
     }
 }
 
-fn is_of_line(cause: Cause) -> bool
-    ensures { result ≡ is_of_line cause }
+fn is_of_epoch(cause: Cause) -> bool
+    ensures { result ≡ is_of_epoch cause }
 {
-    matches!(cause, Cause::BadLine { .. } | Cause::Overflow { .. })
+    matches!(
+        cause,
+        Cause::BadLine { .. } | Cause::Overflow { .. } | Cause::KeyOverflow
+    )
 }
 
-/// Of two causes the one that counts: one from outside before a line's, and else the first.
+/// Of two causes the one that counts: one from outside before the epoch's own, and else the first.
 fn worse(first: Option<Cause>, later: Option<Cause>) -> Option<Cause>
     ensures { result ≡ worse first later }
 {
@@ -57,7 +60,7 @@ fn worse(first: Option<Cause>, later: Option<Cause>) -> Option<Cause>
         (None, _) => later,
         (Some(_), None) => first,
         (Some(one), Some(other)) => {
-            if is_of_line(one) && !is_of_line(other) {
+            if is_of_epoch(one) && !is_of_epoch(other) {
                 later
             } else {
                 first
@@ -99,12 +102,12 @@ fn are_here(places: &[Place]) -> bool
     }
 }
 
-/// The cause for which a phase stops: one from outside at once, and a line's where none of its tasks is to come.
+/// The cause for which a phase stops: one from outside at once, and the epoch's own where none of its tasks is to come.
 pub(crate) fn due_stop(places: &[Place]) -> Option<Cause>
     ensures { result ≡ due_stop places.now }
 {
     let fault = fault_in(places)?;
-    if are_here(places) || !is_of_line(fault) {
+    if are_here(places) || !is_of_epoch(fault) {
         Some(fault)
     } else {
         None

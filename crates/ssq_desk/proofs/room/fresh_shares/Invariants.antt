@@ -4,7 +4,7 @@ use Rattle.ssq_desk.specs.Room.{IsFresh}
 use Rattle.ssq_desk.proofs.room.fresh_shares.Given as goal
 
 abbrev pub invariant-loop : goal.invariant-loop
-invariant-loop l = record {
+invariant-loop g l = record {
   count : length l.shares.items ≡ l.counter;
   fresh : All (IsFresh l.parts) l.shares.items;
 }

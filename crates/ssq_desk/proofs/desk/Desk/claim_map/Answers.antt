@@ -47,7 +47,7 @@ invariant_of-self g c =
     let same = c.index_mut-source.ensures.value ∙ at_get c.self.inside.load.sources.items c.args.id.number h.source _ h.here in
     let left = c.take_log-log.ensures.rest ∙ (λ i. record { stream = (same i).stream; part = (same i).part; from = (same i).from; log = None; fed = (same i).fed }) in
     let s = c.self.inside in
-    let n : Load g.row.L.Denot g.row.D-Stage.Denot g.row.D-Stage-Sealed.Denot = record { view = s.load.view; plans = s.load.plans; sources = with_item s.load.sources c.args.id.number c.take_log-log.new.source; shares = s.load.shares; out = s.load.out; seen = s.load.seen; pending = s.load.pending; told = s.load.told; kept = s.load.kept } in
+    let n : Load g.row.L.Denot g.row.D-Stage.Denot g.row.D-Stage-Sealed.Denot = record { view = s.load.view; plans = s.load.plans; sources = with_item s.load.sources c.args.id.number c.take_log-log.new.source; shares = s.load.shares; held = s.load.held; out = s.load.out; seen = s.load.seen; pending = s.load.pending; told = s.load.told; kept = s.load.kept } in
     subst (λ (x : Shown g.row.D.Denot (Round g.row.L.Denot)). IsWhole g.D.Disk.tells g.L.Log.tells g.L.Log.lines g.L.Log.available g.L.Log.answers g.L.Log.faults g.D.Stage.Stage.written g.D.Stage.Stage.sealed x n) (sym c.claim.ensures)
     (moved_whole _ _ _ _ _ _ _ _ s.ledger s.load c.self.invariant s.ledger.disk (entry.Claim c.args.id) n (λ cuts n. refl) refl refl refl refl c.self.invariant.told c.self.invariant.told_room
     (λ e. absurd (runs_without s.ledger.core.front.stop cause.LogFault (subst (λ (x : Shown g.row.D.Denot (Round g.row.L.Denot)). May x.scope x.core (entry.Claim c.args.id)) (sym c.self.view_is) c.requires.may).0 e))

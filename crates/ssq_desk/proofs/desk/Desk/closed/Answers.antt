@@ -1,4 +1,4 @@
-use Rattle.std.proofs.Common.{◌≡◌, ◌<◌, ◌||◌, true, false, nat_lt, Some, sym, ◌∙◌, subst}
+use Rattle.std.proofs.Common.{◌≡◌, ◌<◌, ◌||◌, true, false, nat_lt, List, Some, None, sym, ap, ◌∙◌, subst}
 use Rattle.std.specs.Prelude.{◌≢◌, All, MatchOption}
 use Rattle.std.specs.List.{list_any, AllZip, sum_by}
 use Rattle.ssq_outside.specs.declared.gate.Kind.TheVariants as kind
@@ -14,10 +14,13 @@ use Rattle.ssq_board.specs.Rounds.{is_away}
 use Rattle.ssq_ledger.specs.Shown.{Shown, cuts_of}
 use Rattle.ssq_desk.specs.declared.round.Round.{Round}
 use Rattle.ssq_desk.specs.Round.{Owns, setting_of}
-use Rattle.ssq_desk.specs.Contents.{IsStopOf}
+use Rattle.ssq_desk.specs.Contents.{IsStopOf, key_in}
+use Rattle.ssq_desk.specs.declared.desk.Share.{Share}
+use Rattle.ssq_desk.specs.First.{AreIndexes}
 use Rattle.ssq_desk.specs.Whole.{opening_in}
-use Rattle.ssq_desk.specs.Closing.{AreTold, IsNext, acknowledged_in}
+use Rattle.ssq_desk.specs.Closing.{AreTold, IsNext, acknowledged_in, closings_in, stores_in}
 use Rattle.ssq_desk.proofs.Closings.{logs_there, logs_back, faulty_back, told_back, next_back, seen_each}
+use Rattle.ssq_desk.proofs.Leaving.{stopped_for}
 use Rattle.ssq_desk.proofs.desk.Desk.closed.Goals as goal
 
 pub next_if-next-requires-clause-each : goal.next_if-next-requires-clause-each
@@ -33,7 +36,15 @@ logs_of-requires-clause-there g c =
 
 pub returns-clause-stopped : goal.returns-clause-stopped
 returns-clause-stopped g c =
-    subst (λ (x : Shown g.row.D.Denot (Round g.row.L.Denot)). (f : Cause) → x.core.front.stop ≡ Some f → IsStopOf (g.D.Disk.tells × g.L.Log.tells) (setting_of g.L.Log.lines x.opening) (cuts_of (opening_in g.L.Log.lines) x) x.core.front.committed f) c.self.view_is c.self.invariant.holds.stop
+    let s = c.self.inside in
+    subst (λ (x : Shown g.row.D.Denot (Round g.row.L.Denot)). (f : Cause) → x.core.front.stop ≡ Some f → IsStopOf (g.D.Disk.tells × g.L.Log.tells) (Owns g.D.Disk.tells g.L.Log.tells g.L.Log.lines x) (setting_of g.L.Log.lines x.opening) (cuts_of (opening_in g.L.Log.lines) x) x.core.front.committed c.take_key-key.result f) c.self.view_is
+    (λ f stopped. stopped_for (g.D.Disk.tells × g.L.Log.tells) (Owns g.D.Disk.tells g.L.Log.tells g.L.Log.lines s.ledger) (setting_of g.L.Log.lines s.ledger.opening) (cuts_of (opening_in g.L.Log.lines) s.ledger) s.ledger.core.front.committed (key_in s.load.shares.items) c.take_key-key.result f
+    (λ is. c.take_key-key.ensures.key (ap (λ (front : Front). front.stop) c.front-front.ensures ∙ stopped ∙ ap (λ (f : Cause). Some f) is) ∙ ap (λ (l : List (Share g.row.D-Stage.Denot)). key_in l) c.deref_mut.ensures.value) (c.self.invariant.holds.stop f stopped))
+
+pub returns-clause-no_key : goal.returns-clause-no_key
+returns-clause-no_key g c =
+    subst (λ (x : Shown g.row.D.Denot (Round g.row.L.Denot)). x.core.front.stop ≢ Some cause.KeyOverflow → c.take_key-key.result ≡ None) c.self.view_is
+    (λ other. c.take_key-key.ensures.none (λ is. other (ap (λ (front : Front). front.stop) (sym c.front-front.ensures) ∙ is)))
 
 pub returns-clause-logs : goal.returns-clause-logs
 returns-clause-logs g c =
@@ -60,8 +71,9 @@ pub returns-clause-next : goal.returns-clause-next
 returns-clause-next g c =
     let s = c.self.inside in
     let is = subst (λ (f : Front). MatchOption c.next_if-next.result.0 (c.is_over-is_over.result ≡ false) (λ next. (c.is_over-is_over.result ≡ true)
-    × (next ≡ record { meta = s.load.kept.meta; plans = s.load.plans.items; committed = f.committed; seen = lines_of s.load.view.bound.now s.load.seen; stores = s.load.kept.stores; names = s.load.kept.names }) × All HasLineTime next.seen)) c.front-front.ensures c.next_if-next.ensures.next in
+    × (next.0 ≡ record { meta = s.load.kept.meta; plans = s.load.plans.items; committed = f.committed; seen = lines_of s.load.view.bound.now s.load.seen; stores = stores_in s.load.held.items; names = s.load.kept.names }) × All HasLineTime next.0.seen × (next.1.items ≡ closings_in s.load.held.items))) c.front-front.ensures c.next_if-next.ensures.next in
     subst (λ (x : Shown g.row.D.Denot (Round g.row.L.Denot)). MatchOption c.next_if-next.result.0 (ready_of x.scope x.core ≢ ready.Over) (λ next. (ready_of x.scope x.core ≡ ready.Over)
-    × IsNext (Owns g.D.Disk.tells g.L.Log.tells g.L.Log.lines x) (setting_of g.L.Log.lines x.opening) (cuts_of (opening_in g.L.Log.lines) x) x.scope.available x.core x.opening.opened next)) c.self.view_is
+    × IsNext (Owns g.D.Disk.tells g.L.Log.tells g.L.Log.lines x) (setting_of g.L.Log.lines x.opening) (cuts_of (opening_in g.L.Log.lines) x) x.scope.available x.core x.opening.opened next.0
+    × AreIndexes (Unit {0}) x.opening.view.bound.now next.0.stores next.1.items)) c.self.view_is
     (next_back g.D.Disk.tells g.L.Log.tells g.L.Log.lines g.L.Log.available g.L.Log.answers g.L.Log.faults g.D.Disk.history g.D.Stage.Stage.written g.D.Stage.Stage.sealed s.ledger s.load c.self.invariant c.is_legal.ensures.legal c.is_in_order.ensures c.next_if-next.result.0 c.is_over-is_over.result is
     (λ over. sym c.ready.ensures ∙ c.is_over-is_over.ensures.over over) (λ other is_over. c.is_over-is_over.ensures.other other (c.ready.ensures ∙ is_over)))

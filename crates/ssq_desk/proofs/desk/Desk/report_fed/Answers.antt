@@ -35,7 +35,7 @@ report-requires-clause-right g c =
     let of = subst (λ (x : Shown g.row.D.Denot (Round g.row.L.Denot)). IsMapOf g.D.Disk.tells g.L.Log.tells g.L.Log.lines g.L.Log.available g.L.Log.answers g.L.Log.faults x c.requires.of.0) (sym c.self.view_is) c.requires.of.1 in
     λ t. subst (λ (o : Option Cause). IsTrue (opening_in g.L.Log.lines) s.ledger (map_id c.args.done.epoch c.args.done.number) o) (sym c.split_fed-fed.ensures.cause)
     (subst (λ (e : ℕ). IsTrue (opening_in g.L.Log.lines) s.ledger (map_id e c.args.done.number) f) (sym m.1)
-    (map_right g.D.Disk.tells g.L.Log.tells g.L.Log.lines g.L.Log.available g.L.Log.answers g.L.Log.faults g.D.Disk.history g.D.Stage.Stage.written g.D.Stage.Stage.sealed s.ledger s.load c.self.invariant c.is_legal.ensures.legal c.is_in_order.ensures c.requires.of.0 c.args.done of c.requires.of.2 m.0 t))
+    (map_right g.D.Disk.tells g.L.Log.tells g.L.Log.lines g.L.Log.available g.L.Log.answers g.L.Log.faults g.D.Disk.history g.D.Stage.Stage.written g.D.Stage.Stage.sealed s.ledger s.load c.self.invariant c.is_legal.ensures.legal c.is_in_order.ensures c.requires.of.0 c.args.done of c.requires.of.2 c.tasks_have_terms.ensures.faults m.0 t))
 
 pub invariant_of-self : goal.invariant_of-self
 invariant_of-self g c =
@@ -47,7 +47,7 @@ invariant_of-self g c =
     let old = old_source s.ledger.core s.load.sources.items i (c.is_in_order.ensures.sound.maps ∙ sym (sources_count _ _ _ _ _ _ _ _ _ _ c.self.invariant g.D.Disk.history c.is_legal.ensures.legal c.is_in_order.ensures)) m.2 in
     let same = c.index_mut-source.ensures.value ∙ at_get s.load.sources.items i old.0 _ old.1 in
     let x : Source g.row.L.Denot = record { stream = c.index_mut-source.result.now.stream; part = c.index_mut-source.result.now.part; from = c.index_mut-source.result.now.from; log = Some c.args.done.log; fed = c.split_fed-fed.result.0 } in
-    let n : Load g.row.L.Denot g.row.D-Stage.Denot g.row.D-Stage-Sealed.Denot = record { view = s.load.view; plans = s.load.plans; sources = with_item s.load.sources i x; shares = s.load.shares; out = s.load.out; seen = s.load.seen; pending = s.load.pending; told = s.load.told; kept = s.load.kept } in
+    let n : Load g.row.L.Denot g.row.D-Stage.Denot g.row.D-Stage-Sealed.Denot = record { view = s.load.view; plans = s.load.plans; sources = with_item s.load.sources i x; shares = s.load.shares; held = s.load.held; out = s.load.out; seen = s.load.seen; pending = s.load.pending; told = s.load.told; kept = s.load.kept } in
     let held = map_back g.D.Disk.tells g.L.Log.tells g.L.Log.lines g.L.Log.available g.L.Log.answers g.L.Log.faults g.D.Disk.history g.D.Stage.Stage.written g.D.Stage.Stage.sealed s.ledger s.load c.self.invariant c.is_legal.ensures.legal c.is_in_order.ensures c.requires.of.0 c.args.done of c.requires.of.2
     old.0 x m old.1 (ap (λ z. z.stream) same) (ap (λ z. z.part) same) (ap (λ z. z.from) same) refl c.split_fed-fed.ensures.brought in
     let faulty = map_faulty g.D.Disk.tells g.L.Log.tells g.L.Log.lines g.L.Log.available g.L.Log.answers g.L.Log.faults g.D.Disk.history g.D.Stage.Stage.written g.D.Stage.Stage.sealed s.ledger s.load c.self.invariant c.is_legal.ensures.legal c.is_in_order.ensures c.requires.of.0 c.args.done of c.requires.of.2
