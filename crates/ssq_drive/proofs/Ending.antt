@@ -2,7 +2,6 @@
 use Rattle.std.proofs.Common.{◌≡◌, ◌≢◌, ◌⊎◌, not, true, Option, Some, None, Result, Ok, Err, IfOk, IfErr, refl, ap, ◌∙◌, subst, inl, inr}
 use Rattle.std.specs.Prelude.{IsSome, MatchOption, is_some}
 use Rattle.std.specs.List.{list_all, list_any}
-use Rattle.ssq_open.specs.declared.wanted.Opened.{Opened}
 use Rattle.ssq_board.specs.declared.front.Cause.{Cause}
 use Rattle.ssq_board.specs.declared.front.Ready.TheVariants as ready
 use Rattle.ssq_board.specs.Core.{Scope, Core, is_fine, is_more, is_open, is_stopped, is_waiting, ready_of, ready_tasks}
@@ -36,16 +35,23 @@ stopped_is r c e = elim (chosen (is_stopped c.front.stop) ready.Stopped _ ready.
 ]
 
 -- a desk that gives nothing to go on with is stopped
-pub one_of_both : (r : Scope) (c : Core) (Q : Opened → Type 0) (next : Option Opened) (stop : Option Cause) → MatchOption next (ready_of r c ≢ ready.Over) Q
+pub one_of_both : {N : Type 0} (r : Scope) (c : Core) (Q : N → Type 0) (next : Option N) (stop : Option Cause) → MatchOption next (ready_of r c ≢ ready.Over) Q
     → (ready_of r c ≡ ready.Over) ⊎ (ready_of r c ≡ ready.Stopped) → stop ≡ c.front.stop → next ≡ None → IsSome stop
-one_of_both r c Q next stop is end same none =
-    let other : ready_of r c ≢ ready.Over = subst (λ (o : Option Opened). MatchOption o (ready_of r c ≢ ready.Over) Q) none is in
+one_of_both {N} r c Q next stop is end same none =
+    let other : ready_of r c ≢ ready.Over = subst (λ (o : Option N). MatchOption o (ready_of r c ≢ ready.Over) Q) none is in
     elim end [ inl over ↦ absurd (other over) | inr stopped ↦ ap is_some same ∙ stopped_is r c stopped ]
 
 -- what the end of a round says of its desk
-pub end_over : (P : Type 0) (Q : Opened → Type 0) (next : Option Opened) (end : Result Opened Cause) → MatchOption next P Q → IfOk end (λ opened. next ≡ Some opened) → (opened : Opened) → end ≡ Ok opened → Q opened
-end_over P Q next end is ok opened same =
-    subst (λ (o : Option Opened). MatchOption o P Q) (subst (λ (e : Result Opened Cause). IfOk e (λ opened. next ≡ Some opened)) same ok) is
+pub end_over : {N E : Type 0} (P : Type 0) (Q : N → Type 0) (next : Option N) (end : Result N E) → MatchOption next P Q → IfOk end (λ own. next ≡ Some own) → (own : N) → end ≡ Ok own → Q own
+end_over {N} {E} P Q next end is ok own same =
+    subst (λ (o : Option N). MatchOption o P Q) (subst (λ (e : Result N E). IfOk e (λ own. next ≡ Some own)) same ok) is
 
-pub end_stopped : (next : Option Opened) (stop : Option Cause) (end : Result Opened Cause) → IfErr end (λ cause. (next ≡ None) × (stop ≡ Some cause)) → (f : Cause) → end ≡ Err f → stop ≡ Some f
-end_stopped next stop end err f same = (subst (λ (e : Result Opened Cause). IfErr e (λ cause. (next ≡ None) × (stop ≡ Some cause))) same err).1
+pub end_stopped : {N E : Type 0} (Q : E → Type 0) (end : Result N E) → IfErr end Q → (why : E) → end ≡ Err why → Q why
+end_stopped {N} {E} Q end err why same = subst (λ (e : Result N E). IfErr e Q) same err
+
+pub same_cause : {f g : Cause} → Some f ≡ Some g → f ≡ g
+same_cause {f} {g} is = ap or is
+  where
+    or : Option Cause → Cause
+    or None = f
+    or (Some x) = x

@@ -1,5 +1,5 @@
 -- Plans that are of the cuts of a round.
-use Rattle.std.proofs.Common.{◌≡◌, ◌<◌, ◌≤◌, ◌+◌, ◌-◌, ◌++◌, ℕ, zero, suc, List, [], ◌∷◌, length, length-append, get_or, None, sym, refl, ap, ◌∙◌, inl, inr, add-one, arith}
+use Rattle.std.proofs.Common.{◌≡◌, ◌<◌, ◌≤◌, ◌+◌, ◌-◌, ◌++◌, ℕ, Bool, zero, suc, List, [], ◌∷◌, length, length-append, get_or, None, sym, refl, ap, ◌∙◌, inl, inr, add-one, arith}
 use Rattle.std.proofs.lemmas.Bool.{cases_lt}
 use Rattle.std.proofs.lemmas.List.{get_or_append_left}
 use Rattle.ssq_plans.specs.declared.plan.Plan.{Plan}
@@ -19,15 +19,19 @@ pub record FitsPlans (first : Ends) (old plans : List Plan) (planned : ℕ) (cut
   pub count : length plans ≡ planned
   pub are : (e : ℕ) → e ≤ planned → cut_of first plans e ≡ cuts e
 
-pub plans_on : (r : Scope) (first : Ends) (old plans : List Plan) (to : ℕ) (cuts : Cuts) → AreNextCuts r (length old) to (cut_of first old) cuts → FitsPlans first old plans to cuts → PlansOn first r.cap r.available old plans
-plans_on r first old plans to cuts go fits =
+pub plans_on : (r : Scope) (closing : Bool) (first : Ends) (old plans : List Plan) (to : ℕ) (cuts : Cuts) → AreNextCuts r closing (length old) to (cut_of first old) cuts → FitsPlans first old plans to cuts
+    → PlansOn closing first r.cap r.available old plans
+plans_on r closing first old plans to cuts go fits =
     let count = fits.count in
     record {
       more = fits.more;
       behind = fits.behind;
       next = λ e from less. fits.are (e + 1) (omega (arith, less, count)) ∙ go.next e from (omega (arith, less, count))
           ∙ ap (λ (ends : Ends). next_ends r.cap ends r.available) (sym (fits.are e (omega (arith, less, count))));
-      due = λ e from less. ap (λ (ends : Ends). is_behind ends r.available) (fits.are e (omega (arith, less, count))) ∙ go.due e from (omega (arith, less, count));
+      due = λ e from less. elim (go.due e from (omega (arith, less, count))) [
+        | inl lines ↦ inl (ap (λ (ends : Ends). is_behind ends r.available) (fits.are e (omega (arith, less, count))) ∙ lines)
+        | inr last ↦ inr (last.0 ∙ sym count, last.1)
+      ];
     }
 
 -- what the next round opens
@@ -56,8 +60,8 @@ behind_at : {A : Type 0} (l more : List A) (i : ℕ) (default : A) → get_or (l
 behind_at [] more i default = ap (λ (n : ℕ). get_or more n default) (let q : 0 + i ≡ i = omega arith in q)
 behind_at (x ∷ l) more i default = ap (λ (n : ℕ). get_or (x ∷ (l ++ more)) n default) (let q : suc (length l) + i ≡ suc (length l + i) = omega arith in q) ∙ behind_at l more i default
 
-pub built_fits : (r : Scope) (first : Ends) (old : List Plan) (to : ℕ) (cuts : Cuts) → AreNextCuts r (length old) to (cut_of first old) cuts → length old ≤ to → FitsPlans first old (old ++ built cuts (length old) (to - length old)) to cuts
-built_fits r first old to cuts go below = record {
+pub built_fits : (r : Scope) (closing : Bool) (first : Ends) (old : List Plan) (to : ℕ) (cuts : Cuts) → AreNextCuts r closing (length old) to (cut_of first old) cuts → length old ≤ to → FitsPlans first old (old ++ built cuts (length old) (to - length old)) to cuts
+built_fits r closing first old to cuts go below = record {
   more = built cuts (length old) (to - length old);
   behind = refl;
   count = (let a = length-append old (built cuts (length old) (to - length old)) in let b = built_count cuts (length old) (to - length old) in omega (arith, a, b, below));

@@ -2,12 +2,14 @@
 use Rattle.std.proofs.Common.{◌≡◌, ◌≤◌, ◌++◌, ◌||◌, ℕ, Bool, true, false, true≢false, List, [], ◌∷◌, Option, Some, None, IfSome, sym, refl, ap, ◌∙◌, subst, append_assoc, append-nil, le_refl, arith}
 use Rattle.std.specs.List.{list_any}
 use Rattle.ssq_outside.specs.Faults.{Rises}
+use Rattle.ssq_shape.specs.Late.{closes}
 use Rattle.ssq_board.specs.declared.front.Cause.{Cause}
 use Rattle.ssq_board.specs.declared.front.Cause.TheVariants as cause
 use Rattle.ssq_board.specs.declared.front.Entry.{Entry}
 use Rattle.ssq_board.specs.Core.{Scope, Core, after, after_all}
 use Rattle.ssq_board.specs.Rounds.{IsAtRest}
 use Rattle.ssq_ledger.specs.Shown.{Shown, did}
+use Rattle.ssq_desk.specs.declared.round.Round.{Round}
 use Rattle.ssq_drive.specs.Driven.{StopsFor, IsDriven, brings_due}
 
 none_more : (es fs : List Entry) → list_any brings_due es ≡ false → list_any brings_due fs ≡ false → list_any brings_due (es ++ fs) ≡ false
@@ -22,6 +24,7 @@ none_more (e ∷ es) fs none later = by (brings_due e) none (λ is. none_more es
 earlier : (r : Scope) (c : Core) (before mid now : ℕ) (f : Cause) → before ≤ mid → StopsFor r c mid now f → StopsFor r c before now f
 earlier r c before mid now (cause.BadLine s p o x) le why = tt
 earlier r c before mid now (cause.Overflow s p o) le why = tt
+earlier r c before mid now cause.KeyOverflow le why = tt
 earlier r c before mid now cause.LogFault le why = tt
 earlier r c before mid now (cause.LogShort s p l x) le why = tt
 earlier r c before mid now (cause.Damaged q) le why = why
@@ -52,25 +55,25 @@ module _ {D O : Type 0} where
   did_none a = (let entries = sym (append-nil a.history) in λ i. record { opening = a.opening; opened = a.opened; scope = a.scope; disk = a.disk; core = a.core; history = entries i })
 
 -- no turn
-pub undriven : {D O : Type 0} (faults : D → ℕ) (a : Shown D O) → IsAtRest a.core → IsDriven faults a a
-undriven faults a rest = record {
+pub undriven : {D O : Type 0} (faults : D → ℕ) (closing : Bool) (a : Shown D O) → IsAtRest a.core → IsDriven faults closing a a
+undriven faults closing a rest = record {
   entries = ([], did_none a);
   stopped = λ f stops. refl;
   rest = rest;
-  quiet = refl;
+  quiet = λ none. refl;
   cause = λ running. subst (λ (o : Option Cause). IfSome o (StopsFor a.scope a.core (faults a.disk) (faults a.disk))) (sym running) tt;
   counted = le_refl (faults a.disk);
 }
 
 -- what was done, and what was done then
-pub driven_more : {D O : Type 0} (faults : D → ℕ) (a b c : Shown D O) → IsDriven faults a b → IsDriven faults b c → IsDriven faults a c
-driven_more faults a b c first later =
+pub driven_more : {D O : Type 0} (faults : D → ℕ) (closing : Bool) (a b c : Shown D O) → IsDriven faults closing a b → IsDriven faults closing b c → IsDriven faults closing a c
+driven_more faults closing a b c first later =
     let same : b.scope ≡ a.scope = ap (λ s. s.scope) first.entries.1 in
     record {
       entries = (first.entries.0 ++ later.entries.0, did_more a b c first.entries.0 later.entries.0 first.entries.1 later.entries.1);
       stopped = λ f stops. (let still = first.stopped f stops in later.stopped f (ap (λ s. s.core.front.stop) still ∙ stops) ∙ still);
       rest = later.rest;
-      quiet = none_more first.entries.0 later.entries.0 first.quiet later.quiet;
+      quiet = λ none. none_more first.entries.0 later.entries.0 (first.quiet none) (later.quiet none);
       cause = λ running. by b.core.front.stop refl (first.cause running);
       counted = (let early = first.counted in let late = later.counted in omega (arith, early, late));
     }
@@ -82,3 +85,9 @@ driven_more faults a b c first later =
         let still = later.stopped f stops in
         subst (λ (x : _). IfSome x.core.front.stop (StopsFor a.scope x.core (faults a.disk) (faults x.disk))) (sym still)
         (subst (λ (o : Option Cause). IfSome o (StopsFor a.scope b.core (faults a.disk) (faults b.disk))) (sym stops) why)
+
+-- the same of a desk of a round, whose query it is in the end, too
+pub driven_on : {D L : Type 0} (faults : D → ℕ) (a b c : Shown D (Round L)) → IsDriven faults (closes a.opening.view.bound.now) a b → IsDriven faults (closes b.opening.view.bound.now) b c → IsDriven faults (closes a.opening.view.bound.now) a c
+driven_on {D} {L} faults a b c first later =
+    driven_more faults (closes a.opening.view.bound.now) a b c first
+    (subst (λ (x : Round L). IsDriven faults (closes x.view.bound.now) b c) (ap (λ (x : Shown D (Round L)). x.opening) first.entries.1) later)

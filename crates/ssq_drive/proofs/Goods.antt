@@ -1,5 +1,5 @@
 -- The lines of the epochs that a round commits.
-use Rattle.std.proofs.Common.{◌≡◌, ◌⊎◌, ◌<◌, ◌≤◌, ◌+◌, ◌++◌, not, ℕ, zero, suc, Bool, true, false, true≢false, List, [], ◌∷◌, length, get_or, set, Option, Some, None, Result, Ok, Err, IfOk, IfErr, OnOk, OnErr, if◌then◌else◌, sym, refl, ap, ◌∙◌, subst, inl, inr, le_refl, arith}
+use Rattle.std.proofs.Common.{◌≡◌, ◌⊎◌, ◌<◌, ◌≤◌, ◌+◌, ◌++◌, not, ℕ, zero, suc, Bool, true, false, true≢false, List, [], ◌∷◌, length, get_or, set, Option, Some, None, Result, Ok, Err, IfOk, IfErr, OnOk, OnErr, if◌then◌else◌, sym, refl, ap, ◌∙◌, subst, inl, inr, le_refl, arith, rules}
 use Rattle.std.specs.Prelude.{slice_get}
 use Rattle.std.specs.List.{list_all, list_any}
 use Rattle.std.proofs.lemmas.Bool.{cases_lt, ltb-true, ltb-false}
@@ -32,7 +32,7 @@ use Rattle.ssq_board.specs.declared.front.Entry.TheVariants as entry
 use Rattle.ssq_board.specs.declared.front.Place.{Place}
 use Rattle.ssq_board.specs.declared.front.Place.TheVariants as place
 use Rattle.ssq_board.specs.declared.front.Ready.TheVariants as ready
-use Rattle.ssq_board.specs.Core.{Scope, Core, after, after_all, cuts_by, cuts_all, dealt, extended, next_ends, if_map, tasks_of, is_fine, is_open, is_stopped, is_waiting, ready_of, ready_tasks}
+use Rattle.ssq_board.specs.Core.{Scope, Core, after, after_all, cuts_by, cuts_all, dealt, extended, has_line_at, next_ends, if_map, tasks_of, is_fine, is_open, is_stopped, is_waiting, ready_of, ready_tasks}
 use Rattle.ssq_board.specs.Shown.{Start, first, first_by, planned_by}
 use Rattle.ssq_board.proofs.Lists.{all_fine, at_length, dealt_at, dealt_length, nat_lt-is, nat_lt-not, set_length, there_at}
 use Rattle.ssq_board.proofs.Readies.{past, chosen, commit_may}
@@ -41,11 +41,10 @@ use Rattle.ssq_desk.specs.declared.round.Round.{Round}
 use Rattle.ssq_desk.specs.First.{first_shown, BeginsAs}
 use Rattle.ssq_desk.specs.Handed.{IsMapOf}
 use Rattle.ssq_desk.specs.Published.{IsOut}
-use Rattle.ssq_desk.specs.Results.{cause_of_feed, fault_of}
+use Rattle.ssq_desk.specs.Results.{IsReturned, cause_of_feed, fault_of}
 use Rattle.ssq_desk.specs.Round.{setting_of}
 use Rattle.ssq_desk.specs.Tasks.{map_id, reduce_id, out_id}
 use Rattle.ssq_desk.specs.Whole.{opening_in}
-use Rattle.ssq_desk.proofs.Planned.{quiet_of}
 use Rattle.ssq_drive.specs.Good.{HasGoodLines, IsGoodAt, IsGood}
 use Rattle.ssq_drive.proofs.Going.{after_more}
 use Rattle.ssq_drive.proofs.Starting.{planned_found}
@@ -75,6 +74,13 @@ maps_count kind.Upkeep c n x = refl
 fine_none : (f : Option Cause) → is_fine (place.Back f) ≡ true → f ≡ None
 fine_none None fine = refl
 fine_none (Some f) fine = absurd (true≢false (sym fine))
+
+-- a part without lines between two cuts does not go on
+quiet_of : (froms tos : Ends) (i : ℕ) → i < length froms → has_line_at froms tos i ≡ false → get_or (offsets_of tos) i 0 ≤ get_or (offsets_of froms) i 0
+quiet_of [] tos i less none = absurd (omega (arith, less))
+quiet_of (f ∷ fs) [] i less none = omega arith
+quiet_of (f ∷ fs) (t ∷ ts) zero less none = grind (arith, none, rules)
+quiet_of (f ∷ fs) (t ∷ ts) (suc i) less none = quiet_of fs ts i (omega (arith, less)) none
 
 -- a part without a task has no new lines
 fine_dealt : (fs ts : Ends) (i : ℕ) (p : Place) → get_elem? (dealt fs ts) i ≡ some p → is_fine p ≡ true → get_or (offsets_of ts) i 0 ≤ get_or (offsets_of fs) i 0
@@ -314,8 +320,10 @@ module _ {D L : Type 0} (lines : L → List Line) where
   claimed_good old mid t is good = good_on old mid (entry.Claim t ∷ []) (still old mid (entry.Claim t ∷ []) is) (tt, tt) good
 
   -- a task that is not of the lines
-  pub reduced_good : (mid new : Shown D (Round L)) (e p : ℕ) (f : Option Cause) → new ≡ did mid mid.disk (entry.Report (reduce_id e p) f ∷ []) → IsGood lines mid → IsGood lines new
-  reduced_good mid new e p f is good = good_on mid new (entry.Report (reduce_id e p) f ∷ []) (still mid new (entry.Report (reduce_id e p) f ∷ []) is) ((λ same. absurd (no_reduce same)), tt) good
+  pub reduced_good : {F : Type 0} (mid new : Shown D (Round L)) (delta : Option F) (e p : ℕ) (f : Option Cause) (result : Result (Unit {0}) Cause) (risen : Type 0) → IsReturned delta mid new (reduce_id e p) f result risen → IsGood lines mid → IsGood lines new
+  reduced_good mid new None e p f result risen came good = good_on mid new (entry.Report (reduce_id e p) f ∷ []) came.0 ((λ same. absurd (no_reduce same)), tt) good
+  reduced_good mid new (Some file) e p f result risen (inl came) good = good_on mid new (entry.Version (reduce_id e p) ∷ []) came.0 (refl, tt) good
+  reduced_good mid new (Some file) e p f result risen (inr missed) good = good_on mid new (entry.Missed (reduce_id e p) ∷ []) missed.1 (refl, tt) good
 
   pub published_good : (mid new : Shown D (Round L)) (b : Bool) (e : ℕ) (f : Option Cause) (result : Result (Unit {0}) Cause) (risen : Type 0) → IsOut b mid new (out_id e) f result risen → IsGood lines mid → IsGood lines new
   published_good mid new true e f (Ok done) risen out good = good_on mid new (entry.Report (out_id e) f ∷ entry.OutFile mid.core.front.committed ∷ []) out.0 ((λ same. absurd (no_out same)), (tt, tt)) good
@@ -332,10 +340,11 @@ module _ {D L : Type 0} (lines : L → List Line) where
   planned_good old new (Ok x) P next done stopped good = good_on old new (entry.Plan old.core.front.planned ∷ []) done (plan_closed old.scope old.core next, tt) good
   planned_good old new (Err f) P next done stopped good = good_on old new (entry.Stop f ∷ []) stopped.0 (tt, tt) good
 
-  pub committed_good : (old new : Shown D (Round L)) (E P : Type 0) (result : Result (Unit {0}) E) → ready_of old.scope old.core ≡ ready.Commit → OnOk result (new ≡ did old new.disk (entry.Commit old.core.front.committed false ∷ []))
+  pub committed_good : (old new : Shown D (Round L)) (E P : Type 0) (Q : Bool → Type 0) (result : Result (Unit {0}) E) → ready_of old.scope old.core ≡ ready.Commit
+      → OnOk result ((due : Bool) × (new ≡ did old new.disk (entry.Commit old.core.front.committed due ∷ [])) × Q due)
       → OnErr result ((new ≡ did old new.disk (entry.Stop cause.DiskFault ∷ [])) × P) → IsGood lines old → IsGood lines new
-  committed_good old new E P (Ok x) next done stopped good = good_on old new (entry.Commit old.core.front.committed false ∷ []) done (commit_fine old.scope old.core next, tt) good
-  committed_good old new E P (Err f) next done stopped good = good_on old new (entry.Stop cause.DiskFault ∷ []) stopped.0 (tt, tt) good
+  committed_good old new E P Q (Ok x) next done stopped good = good_on old new (entry.Commit old.core.front.committed done.0 ∷ []) done.1 (commit_fine old.scope old.core next, tt) good
+  committed_good old new E P Q (Err f) next done stopped good = good_on old new (entry.Stop cause.DiskFault ∷ []) stopped.0 (tt, tt) good
 
   -- a map task
   pub fed_good : (stores logs : Type 0) (available : L → ℕ) (answers : L → List ℕ) (faults : L → ℕ) (mid new : Shown D (Round L)) (task : MapTask L) (done : Fed L) → stores × logs → IsMapOf stores logs lines available answers faults mid task

@@ -1,33 +1,39 @@
 -- A round for which there was no memory, and the logs that come back.
-use Rattle.std.proofs.Common.{◌≡◌, ◌+◌, ℕ, List, [], ◌∷◌, length, Result, Ok, Err, refl, sym, ap, subst, arith}
+use Rattle.std.proofs.Common.{◌≡◌, ◌+◌, ℕ, List, [], ◌∷◌, length, None, Ok, Err, refl, sym, ap, subst, arith}
+use Rattle.std.specs.Global.{Vec}
 use Rattle.std.specs.List.{AllZip}
 use Rattle.std.proofs.lemmas.List.{append-nil}
 use Rattle.std.proofs.lemmas.List.Elements.{All-nil}
 use Rattle.ssq_outside.specs.History.{History, LeavesNow}
 use Rattle.ssq_outside.specs.Logs.{Line}
+use Rattle.ssq_agg.specs.Indexing.{Timed}
 use Rattle.ssq_feed.specs.Causes.{LogWent}
 use Rattle.ssq_core.specs.Course.{Cuts}
 use Rattle.ssq_course.specs.Setting.{Setting, job_of}
 use Rattle.ssq_open.specs.declared.wanted.Opened.{Opened}
 use Rattle.ssq_open.specs.Epochs.{cut_of}
-use Rattle.ssq_board.specs.declared.front.Cause.{Cause}
 use Rattle.ssq_board.specs.declared.front.Cause.TheVariants as cause
 use Rattle.ssq_board.specs.Core.{Scope}
 use Rattle.ssq_promise.specs.Run.{AreTrueTo, NothingIsRun, OpenedIsTrue, as_planned}
 use Rattle.ssq_desk.specs.declared.told.Told.{Told}
 use Rattle.ssq_drive.specs.Good.{HasGoodLines}
-use Rattle.ssq_drive.specs.Rounds.{IsRound, IsRoundStop, IsMeant, CanBegin, AreReturned, first_of}
+use Rattle.ssq_drive.specs.declared.round.Stopped.{Stopped}
+use Rattle.ssq_drive.specs.Rounds.{Ended, IsOwn, IsRound, IsRoundStop, IsMeant, CanBegin, AreReturned, first_of}
 
-abbrev cause_or : Cause → Result Opened Cause → Cause
-cause_or d (Ok x) = d
-cause_or d (Err e) = e
+-- memory ran out
+abbrev pub starved : Stopped
+starved = record { cause = cause.NoMemory; key = None }
 
-pub err_ok : (f : Cause) (next : Opened) → Err f ≡ Ok next → ⊥
-err_ok f next is = cc
+abbrev why_or : Stopped → Ended → Stopped
+why_or d (Ok x) = d
+why_or d (Err e) = e
+
+pub err_ok : (why : Stopped) (next : Opened × Vec (List Timed)) → Err why ≡ Ok next → ⊥
+err_ok why next is = cc
 
 -- nothing was planned, done or told
 pub idle : (tells : Type 0) (nothing : NothingIsRun tells) (at_rest : OpenedIsTrue) (s : Setting) (n : ℕ) (r : Scope) (found : Opened) (h : History) (disk logs : ℕ) → CanBegin s.job.bound n found r
-    → IsRound tells s n r found h h disk disk logs [] (Err cause.NoMemory)
+    → IsRound tells s n r found h h disk disk logs [] (Err starved)
 idle tells nothing at_rest s n r found h disk logs can = record {
   plans = found.plans;
   went = record {
@@ -35,17 +41,21 @@ idle tells nothing at_rest s n r found h disk logs can = record {
     told_are = tt;
     good = λ t. All-nil (λ (told : Told). HasGoodLines s (cut_of (first_of found) found.plans) told.epoch);
     few = (let b = can.numbers.before in omega (arith, b));
-    over = λ next ends. absurd (err_ok cause.NoMemory next ends);
-    stopped = λ why stops. subst (IsRoundStop tells s (cut_of (first_of found) found.plans) r.available (length found.plans) (found.committed + 0) disk disk logs) (ap (cause_or cause.NoMemory) stops) tt;
+    over = λ next ends. absurd (err_ok starved next ends);
+    stopped = λ why stops.
+        subst (λ (w : Stopped). IsRoundStop tells (tells × IsOwn s r h found) s (cut_of (first_of found) found.plans) r.available (length found.plans) (found.committed + 0) disk disk logs w.key w.cause) (ap (why_or starved) stops) tt;
+    keyless = λ why stops other. ap (λ (w : Stopped). w.key) (sym (ap (why_or starved) stops));
   };
   ran = λ t own. record {
     run = nothing (job_of s) h;
     files = as_planned
         (subst (λ (planned : ℕ). LeavesNow h (AreTrueTo ((job_of s).course (cut_of (first_of found) found.plans)) planned)) own.found_is.planned
         (subst (λ (cuts : Cuts). LeavesNow h (AreTrueTo ((job_of s).course cuts) own.found_is.desk.planned)) own.found_is.cuts (at_rest (job_of s) h own.found_is.desk own.settled own.found_is.is)));
+    due = λ e from less. absurd (omega (arith, from, less));
     meant = All-nil (IsMeant s (cut_of (first_of found) found.plans));
-    settled = λ next ends. absurd (err_ok cause.NoMemory next ends);
-    found = λ next ends. absurd (err_ok cause.NoMemory next ends);
+    settled = λ next ends. absurd (err_ok starved next ends);
+    found = λ next ends. absurd (err_ok starved next ends);
+    quiet = λ next ends. absurd (err_ok starved next ends);
   };
 }
 

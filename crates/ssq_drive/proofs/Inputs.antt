@@ -1,20 +1,16 @@
 -- The causes that tasks bring are none of the desk's.
-use Rattle.std.proofs.Common.{◌≡◌, ℕ, ℤ, List, Option, Some, None, IfSome, IfErr, Result, Ok, Err, subst}
+use Rattle.std.proofs.Common.{◌≡◌, ℕ, Option, Some, None, IfSome, Result, Ok, Err, subst}
 use Rattle.ssq_json.specs.declared.bad_row.BadRow.{BadRow}
 use Rattle.ssq_json.specs.declared.bad_row.BadRow.TheVariants as bad
 use Rattle.ssq_feed.specs.declared.task.FedRows.{FedRows}
 use Rattle.ssq_feed.specs.declared.fault.FeedFault.{FeedFault}
 use Rattle.ssq_feed.specs.declared.fault.FeedFault.TheVariants as feed
-use Rattle.ssq_shape.specs.declared.bound.Bound.{Bound}
-use Rattle.ssq_meaning.specs.declared.fed_row.FedRow.{FedRow}
-use Rattle.ssq_store.specs.declared.store.Store.{Store}
-use Rattle.ssq_task.specs.Reducing.{HasFailed, IsAsideAfter}
-use Rattle.ssq_task.specs.declared.partition.State.{State}
 use Rattle.ssq_task.specs.declared.partition.ReducedRows.{ReducedRows}
 use Rattle.ssq_task.specs.declared.partition.ReduceFault.{ReduceFault}
 use Rattle.ssq_task.specs.declared.partition.ReduceFault.TheVariants as reduce
 use Rattle.ssq_board.specs.declared.front.Cause.{Cause}
 use Rattle.ssq_board.specs.Core.{Scope, Core}
+use Rattle.ssq_desk.specs.Contents.{IsReducedCause}
 use Rattle.ssq_desk.specs.Results.{cause_of_bad, cause_of_feed, cause_of_reduce, cause_of_failed, fault_of}
 use Rattle.ssq_drive.specs.Driven.{StopsFor}
 
@@ -47,20 +43,12 @@ pub fed_stops : (stream part : ℕ) (outcome : Result FedRows FeedFault) (g : Ca
 fed_stops stream part (Ok rows) g is = absurd (none_some g is)
 fed_stops stream part (Err fault) g is = given (Some (cause_of_feed stream part fault)) (cause_of_feed stream part fault) g (feed_stops stream part fault) (λ i. Some (cause_of_feed stream part fault)) is
 
-reduce_stops : (fault : ReduceFault) → fault ≡ reduce.NoMemory → IsOfInput (cause_of_reduce fault)
-reduce_stops (reduce.Overflow key) is r n before now = tt
-reduce_stops reduce.DiskFault is r n before now = absurd (other is)
-  where
-    other : reduce.DiskFault ≡ reduce.NoMemory → ⊥
-    other is = cc
-reduce_stops reduce.NoMemory is r n before now = tt
+-- what a reduce task tells is one of its causes
+reduce_is : (fault : ReduceFault) → IsReducedCause (cause_of_reduce fault)
+reduce_is (reduce.Overflow key) = tt
+reduce_is reduce.DiskFault = tt
+reduce_is reduce.NoMemory = tt
 
--- without state only want of memory is a fault
-pub only_memory : {S F : Type 0} (counts : S → ℕ) (query : Bound) (partition : ℕ) (now : Option ℤ) (new : List FedRow) (state : Option (State S)) (store : Option Store) (outcome : Result (ReducedRows F) (ReduceFault × Option S)) → state ≡ None
-    → IfErr outcome (HasFailed counts query partition now new state store) → IfErr outcome (λ failed. failed.0 ≡ reduce.NoMemory)
-only_memory counts query partition now new state store (Ok brought) stateless has = tt
-only_memory {S} counts query partition now new state store (Err failed) stateless has = (subst (λ (s : Option (State S)). IsAsideAfter counts failed.0 s failed.1) stateless has.aside).0
-
-pub reduced_stops : {S F : Type 0} (outcome : Result (ReducedRows F) (ReduceFault × Option S)) (g : Cause) → IfErr outcome (λ failed. failed.0 ≡ reduce.NoMemory) → fault_of cause_of_failed outcome ≡ Some g → IsOfInput g
-reduced_stops (Ok rows) g memory is = absurd (none_some g is)
-reduced_stops (Err (fault, left)) g memory is = given (Some (cause_of_reduce fault)) (cause_of_reduce fault) g (reduce_stops fault memory) (λ i. Some (cause_of_reduce fault)) is
+pub reduce_cause : {S F : Type 0} (outcome : Result (ReducedRows F) (ReduceFault × Option S)) → IfSome (fault_of cause_of_failed outcome) IsReducedCause
+reduce_cause (Ok rows) = tt
+reduce_cause (Err (fault, left)) = reduce_is fault

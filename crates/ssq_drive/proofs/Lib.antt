@@ -15,3 +15,4 @@ pub mod Stopping
 pub mod Idling
 pub mod Ending
 pub mod Goods
+pub mod Dues

@@ -1,16 +1,20 @@
 -- How a round went, by its desk.
-use Rattle.std.proofs.Common.{◌≡◌, ◌<◌, ◌≤◌, ◌+◌, ◌-◌, ◌||◌, ℕ, Bool, true, false, true≢false, List, [], ◌∷◌, length, map, get_or, Option, Some, None, IfSome, Result, Ok, Err, if◌then◌else◌, sym, refl, ap, ◌∙◌, subst, inr, arith}
+use Rattle.std.proofs.Common.{◌≡◌, ◌≢◌, ◌⊎◌, ◌<◌, ◌≤◌, ◌+◌, ◌-◌, ◌||◌, ℕ, Bool, true, false, true≢false, List, [], ◌∷◌, length, map, get_or, slice_get, Option, Some, None, IfSome, IsSomeAnd, Ok, Err, if◌then◌else◌, sym, refl, ap, ◌∙◌, subst, inl, inr, arith}
+use Rattle.std.specs.Global.{Vec}
 use Rattle.std.specs.List.{list_any}
 use Rattle.std.proofs.lemmas.List.{length-map}
 use Rattle.ssq_outside.specs.History.{History, files_now}
-use Rattle.ssq_meaning.specs.Meaning.{Line}
+use Rattle.ssq_meaning.specs.Meaning.{Line, Values}
+use Rattle.ssq_meaning.specs.Epochs.{fault, of_key}
 use Rattle.ssq_meaning.specs.Times.{Delay, delays}
 use Rattle.ssq_meaning.proofs.Causal.{says_same}
 use Rattle.ssq_plans.specs.declared.plan.Plan.{Plan}
 use Rattle.ssq_plans.specs.declared.meta.Meta.{Meta}
 use Rattle.ssq_plans.specs.declared.seen.SeenBy.{SeenBy}
 use Rattle.ssq_core.specs.Course.{Cuts, Ends, Job, AreSameUpTo}
-use Rattle.ssq_course.specs.Setting.{Setting, parts_in, first_ends, job_of}
+use Rattle.ssq_agg.specs.Indexing.{Timed}
+use Rattle.ssq_store.specs.declared.store.Store.{Store}
+use Rattle.ssq_course.specs.Setting.{Setting, parts_in, first_ends, job_of, keeping_of, closes, state_at}
 use Rattle.ssq_course.specs.Setting.{cut_of as offsets_of, cuts_of as offsets}
 use Rattle.ssq_open.specs.declared.wanted.Opened.{Opened}
 use Rattle.ssq_open.specs.Looking.{begins}
@@ -18,12 +22,13 @@ use Rattle.ssq_open.specs.Epochs.{cut_of, last_ends, starts}
 use Rattle.ssq_open.specs.Jobs.{IsDeskOf}
 use Rattle.ssq_open.specs.Lens.{asked, found_from}
 use Rattle.ssq_open.specs.Numbers.{HasNumbers}
+use Rattle.ssq_open.specs.Stores.{AreStores}
 use Rattle.ssq_open.specs.Watermarks.{watermarked}
 use Rattle.ssq_board.specs.declared.front.Cause.{Cause}
 use Rattle.ssq_board.specs.declared.front.Cause.TheVariants as cause
 use Rattle.ssq_board.specs.declared.front.Entry.{Entry}
 use Rattle.ssq_board.specs.declared.front.Ready.TheVariants as ready
-use Rattle.ssq_board.specs.Core.{Scope, Core, IsFull, after_all, cuts_all, is_behind, is_of_line, is_open, ready_of}
+use Rattle.ssq_board.specs.Core.{Scope, Core, IsFull, after_all, cuts_all, is_behind, is_of_epoch, is_open, ready_of}
 use Rattle.ssq_board.specs.Shown.{IsSound, first}
 use Rattle.ssq_board.specs.Told.{acknowledged_of}
 use Rattle.ssq_board.specs.Follows.{State, Leads}
@@ -33,42 +38,58 @@ use Rattle.ssq_board.proofs.Readies.{over_is}
 use Rattle.ssq_board.proofs.Sounds.{first_sound}
 use Rattle.ssq_board.proofs.Telling.{Runs, runs_of, tells_all}
 use Rattle.ssq_terms.specs.Setting.{AreFound}
-use Rattle.ssq_terms.specs.Laws.{PartsAreFound, TasksHaveTerms, HasTerms, never}
+use Rattle.ssq_terms.specs.Laws.{PartsAreFound, TasksHaveTerms, HasTerms, UnmarkedHaveNoTimes, due_at}
 use Rattle.ssq_terms.specs.Opening.{DeskOpensAsFound}
-use Rattle.ssq_promise.specs.Run.{Begins, IsLeft, AreFilesOf, RoundIsRun, RoundLeavesFound, RoundLeavesTrue, WasRun, as_planned, one_tried}
+use Rattle.ssq_terms.specs.Partitions.{HoldsStateOf}
+use Rattle.ssq_promise.specs.Run.{Begins, IsLeft, AreFilesOf, RoundGoesOn, RoundIsRun, RoundLeavesFound, RoundLeavesTrue, WasRun, WentOn, as_planned, one_tried}
 use Rattle.ssq_ledger.specs.Shown.{Shown, Opening, IsLegal, IsInOrder, cuts_of, did, first_state, state}
 use Rattle.ssq_desk.specs.declared.round.Round.{Round}
 use Rattle.ssq_desk.specs.declared.told.Told.{Told}
-use Rattle.ssq_desk.specs.Round.{Owns, setting_of, start_at}
+use Rattle.ssq_desk.specs.Round.{Owns, is_due_on, setting_of, start_at}
 use Rattle.ssq_desk.specs.Round.{IsRound as IsDeskRound}
 use Rattle.ssq_desk.specs.Contents.{IsStopOf}
 use Rattle.ssq_desk.specs.Closing.{AreTold as DeskTold, IsNext, acknowledged_in}
 use Rattle.ssq_desk.specs.First.{first_shown}
 use Rattle.ssq_desk.specs.Whole.{opening_in}
-use Rattle.ssq_desk.proofs.Beginnings.{start_is}
 use Rattle.ssq_drive.specs.Driven.{StopsFor, IsDriven, brings_due}
 use Rattle.ssq_drive.specs.Good.{IsGood}
-use Rattle.ssq_drive.specs.Rounds.{CanBegin, IsFoundOf, IsOver, IsOwn, IsRound, IsRoundStop, RoundRan, RoundWent, first_of}
+use Rattle.ssq_drive.specs.declared.round.Stopped.{Stopped}
+use Rattle.ssq_drive.specs.Rounds.{CanBegin, Ended, HaveIndexes, IsFoundOf, IsMore, IsOver, IsOwn, IsRound, IsRoundStop, RoundRan, RoundWent, first_of}
 use Rattle.ssq_drive.proofs.Counting.{counted}
 use Rattle.ssq_drive.proofs.Cutting.{AreNextCuts, GoOn, entries_go, first_of_two, stops_open}
 use Rattle.ssq_drive.proofs.Fitting.{FitsPlans, built_fits, next_fits, plans_on}
 use Rattle.ssq_drive.proofs.Idling.{err_ok}
-use Rattle.ssq_drive.proofs.Parting.{begin_as_counted}
+use Rattle.ssq_drive.proofs.Dues.{found_due, never_due}
+use Rattle.ssq_drive.proofs.Parting.{begin_as_counted, start_is}
 use Rattle.ssq_drive.proofs.Saying.{told_are, told_from, told_good, told_meant, same_from}
 use Rattle.ssq_drive.proofs.Starting.{planned_found}
 use Rattle.ssq_drive.proofs.Stopping.{stop_is}
 
 -- what a desk of a round shows in the end, and what it gives back
-pub record IsClosed {D L : Type 0} (stores logs : Type 0) (lines : L → List Line) (history : D → History) (faults : D → ℕ) (first : Shown D (Round L)) (log_faults : ℕ) (told : List Told) (end : Result Opened Cause) (desk : Shown D (Round L)) : Type 0 where
+pub record IsClosed {D L : Type 0} (stores logs : Type 0) (lines : L → List Line) (history : D → History) (faults : D → ℕ) (first : Shown D (Round L)) (log_faults : ℕ) (told : List Told) (end : Ended) (desk : Shown D (Round L)) : Type 0 where
   pub legal : IsLegal (Owns stores logs lines desk) history (opening_in lines) desk
   pub order : IsInOrder desk.scope desk.core
   pub why : IfSome desk.core.front.stop (StopsFor first.scope desk.core (faults first.disk) (faults desk.disk))
   pub telling : DeskTold (Owns stores logs lines desk) (setting_of lines desk.opening) (cuts_of (opening_in lines) desk) desk.opening.opened.committed (acknowledged_in desk.core) told
-  pub over : (next : Opened) → end ≡ Ok next → (ready_of desk.scope desk.core ≡ ready.Over)
-      × IsNext (Owns stores logs lines desk) (setting_of lines desk.opening) (cuts_of (opening_in lines) desk) desk.scope.available desk.core desk.opening.opened next
-  pub stopped : (f : Cause) → end ≡ Err f → (desk.core.front.stop ≡ Some f) × IsStopOf (stores × logs) (setting_of lines desk.opening) (cuts_of (opening_in lines) desk) desk.core.front.committed f
+  pub over : (next : Opened × Vec (List Timed)) → end ≡ Ok next → (ready_of desk.scope desk.core ≡ ready.Over)
+      × IsNext (Owns stores logs lines desk) (setting_of lines desk.opening) (cuts_of (opening_in lines) desk) desk.scope.available desk.core desk.opening.opened next.0
+      × HaveIndexes desk.opening.view.bound.now next.0.stores next.1.items
+  pub stopped : (why : Stopped) → end ≡ Err why → (desk.core.front.stop ≡ Some why.cause)
+      × IsStopOf (stores × logs) (Owns stores logs lines desk) (setting_of lines desk.opening) (cuts_of (opening_in lines) desk) desk.core.front.committed why.key why.cause
+  pub keyless : (why : Stopped) → end ≡ Err why → why.cause ≢ cause.KeyOverflow → why.key ≡ None
   pub faulty : desk.core.front.stop ≡ Some cause.LogFault → 0 < log_faults
   pub good : stores × logs → IsGood lines desk
+
+-- the laws of rounds and of jobs on which all this rests
+pub record HaveLaws (tells : Type 0) : Type 0 where
+  pub parts : PartsAreFound
+  pub terms : TasksHaveTerms
+  pub opens : DeskOpensAsFound
+  pub unmarked : UnmarkedHaveNoTimes
+  pub run : RoundIsRun tells
+  pub over : RoundLeavesFound tells
+  pub files : RoundLeavesTrue tells
+  pub on : RoundGoesOn tells
 
 -- where a round may begin, its desk may
 pub desk_begins : {L : Type 0} (lines : L → List Line) (round : Round L) (r : Scope) → round.view.partitions ≡ round.opened.meta.partitions → CanBegin round.view.bound.now (length round.logs.items) round.opened r
@@ -80,7 +101,7 @@ desk_begins lines round r same can =
     let count : length (parts_in s) ≡ length (first_of round.opened) = sym (length-map (parts_in s) _) ∙ ap length begin in (
       begin,
       record {
-        plain = can.plain;
+        runs = can.runs;
         partitions = can.partitions ∙ sym same;
         some_partitions = subst (λ (n : ℕ). 1 ≤ n) (sym same) can.some_partitions;
         few_partitions = subst (λ (n : ℕ). n ≤ 64) (sym same) can.few_partitions;
@@ -93,6 +114,7 @@ desk_begins lines round r same can =
         few_tasks = can.few_tasks;
         few_lines = can.few_lines;
         numbers = subst (λ (ends : Ends). HasNumbers (watermarked s.job.bound.streams) ends round.opened) (sym begin) can.numbers;
+        stores = subst (λ (n : ℕ). AreStores (keeping_of s.job.bound.shape n) round.opened.committed round.opened.stores) (sym same) can.stores;
         long = subst (λ (ends : Ends). (i : ℕ) → get_or (offsets_of (last_ends ends round.opened.plans)) i 0 ≤ get_or r.available i 0) (sym begin) can.long;
       },
     )
@@ -104,13 +126,39 @@ leads_by one other t job r due (e ∷ es) s n leads =
     (leads.0, record { may = step.may; moves = λ _. step.moves t; right = λ _. step.right t; core = step.core; cuts = step.cuts }, leads_by one other t job r due es leads.0 n leads.2)
 
 -- lines that were found so were found so, too
-files_found : (job : Job) (cap : Option ℕ) (One Other : List ℕ → Type 0) (Done All : Type 0) (cuts : Cuts) (planned : ℕ) (now : History) → ((found : List ℕ) → One found → Other found) → (Done → All) → AreFilesOf job cap One Done cuts planned now → AreFilesOf job cap Other All cuts planned now
-files_found job cap One Other Done All cuts planned now more all (as_planned each) = as_planned each
-files_found job cap One Other Done All cuts planned now more all (one_tried done found is behind each) = one_tried (all done) found (more found is) behind each
+files_found : (job : Job) (cap : Option ℕ) (due : Cuts → ℕ → Bool) (One Other : List ℕ → Type 0) (Done All : Type 0) (cuts : Cuts) (planned : ℕ) (now : History) → ((found : List ℕ) → One found → Other found) → (Done → All)
+    → AreFilesOf job cap due One Done cuts planned now → AreFilesOf job cap due Other All cuts planned now
+files_found job cap due One Other Done All cuts planned now more all (as_planned each) = as_planned each
+files_found job cap due One Other Done All cuts planned now more all (one_tried done found is comes each) = one_tried (all done) found (more found is) comes each
+
+-- a store that holds a state by some cuts does so by others that are the same so far
+holds_by : (s : Setting) (one other : Cuts) (e p : ℕ) → state_at s one p e ≡ state_at s other p e → (store : Option Store) → HoldsStateOf s one e p store → HoldsStateOf s other e p store
+holds_by s one other e p same None holds = holds
+holds_by s one other e p same (Some store) holds = (holds.0, holds.1, holds.2 ∙ same)
+
+either_of : (a b : Bool) → (a || b) ≡ true → (a ≡ true) ⊎ (b ≡ true)
+either_of true b is = inl refl
+either_of false b is = inr is
+
+-- a key is told on weaker grounds
+stop_on : (tells one other : Type 0) (s : Setting) (cuts : Cuts) (e : ℕ) (key : Option Values) (f : Cause) → (other → one) → IsStopOf tells one s cuts e key f → IsStopOf tells other s cuts e key f
+stop_on tells one other s cuts e key (cause.BadLine t p o x) so why = why
+stop_on tells one other s cuts e key (cause.Overflow t p o) so why = why
+stop_on tells one other s cuts e key cause.KeyOverflow so why = by key why
+  where
+    by : (key : Option Values) → IsSomeAnd key (λ own. one → fault s.job.bound (parts_in s) (offsets cuts) e ≡ Some (of_key own)) → IsSomeAnd key (λ own. other → fault s.job.bound (parts_in s) (offsets cuts) e ≡ Some (of_key own))
+    by None is = is
+    by (Some own) is = λ o. is (so o)
+stop_on tells one other s cuts e key (cause.LogShort t p m n) so why = why
+stop_on tells one other s cuts e key (cause.Damaged q) so why = why
+stop_on tells one other s cuts e key cause.LogFault so why = why
+stop_on tells one other s cuts e key cause.DiskFault so why = why
+stop_on tells one other s cuts e key cause.Full so why = why
+stop_on tells one other s cuts e key cause.NoMemory so why = why
 
 module _ {D L : Type 0} (stores logs : Type 0) (lines : L → List Line) (history : D → History) (faults : D → ℕ) (round : Round L) (r : Scope) (disk now : D) (es : List Entry)
     (can : CanBegin round.view.bound.now (length round.logs.items) round.opened r) (begin : first_ends (setting_of lines round) ≡ first_of round.opened) (is : IsDeskRound (setting_of lines round) round.opened r)
-    (quiet : list_any brings_due es ≡ false) (log_faults : ℕ) (told : List Told) (end : Result Opened Cause)
+    (quiet : closes round.view.bound.now ≡ false → list_any brings_due es ≡ false) (log_faults : ℕ) (told : List Told) (end : Ended)
     (closed : IsClosed stores logs lines history faults (first_shown lines round disk r) log_faults told end (did (first_shown lines round disk r) now es)) where
   abbrev s : Setting
   s = setting_of lines round
@@ -140,12 +188,12 @@ module _ {D L : Type 0} (stores logs : Type 0) (lines : L → List Line) (histor
   planned = planned_found found.committed (length found.plans) can.numbers.before can.numbers.near
 
   -- the cuts go on
-  go : GoOn r begun c o.cuts cuts
-  go = entries_go r es begun c o.cuts runs (ap (cut_of (first_ends s) found.plans) planned) refl quiet
+  go : GoOn r (closes s.job.bound) begun c o.cuts cuts
+  go = entries_go r (closes s.job.bound) es begun c o.cuts runs (ap (cut_of (first_ends s) found.plans) planned) (never_due s.job.bound found) quiet
 
-  next_cuts : AreNextCuts r (length found.plans) c.front.planned (cut_of (first_of found) found.plans) cuts
-  next_cuts = subst (λ (n : ℕ). AreNextCuts r n c.front.planned (cut_of (first_of found) found.plans) cuts) planned
-      (subst (λ (ends : Ends). AreNextCuts r begun.front.planned c.front.planned (cut_of ends found.plans) cuts) begin go.cuts)
+  next_cuts : AreNextCuts r (closes s.job.bound) (length found.plans) c.front.planned (cut_of (first_of found) found.plans) cuts
+  next_cuts = subst (λ (n : ℕ). AreNextCuts r (closes s.job.bound) n c.front.planned (cut_of (first_of found) found.plans) cuts) planned
+      (subst (λ (ends : Ends). AreNextCuts r (closes s.job.bound) begun.front.planned c.front.planned (cut_of ends found.plans) cuts) begin go.cuts)
 
   more : length found.plans ≤ c.front.planned
   more = subst (λ (n : ℕ). n ≤ c.front.planned) planned go.more
@@ -184,30 +232,11 @@ module _ {D L : Type 0} (stores logs : Type 0) (lines : L → List Line) (histor
   nothing : (f : Cause) → None ≡ Some f → ⊥
   nothing f is = cc
 
-  -- why it stopped, by plans of these cuts
-  stop_told : (plans : List Plan) → FitsPlans (first_of found) found.plans plans c.front.planned cuts → (why : Cause) → end ≡ Err why
-      → IsRoundStop (stores × logs) s (cut_of (first_of found) plans) r.available (length plans) (found.committed + length told) (faults disk) (faults now) log_faults why
-  stop_told plans fits why stops =
-      let was = closed.stopped why stops in
-      let count = fits.count in
-      subst (λ (n : ℕ). IsRoundStop (stores × logs) s (cut_of (first_of found) plans) r.available n (found.committed + length told) (faults disk) (faults now) log_faults why) (sym count)
-      (stop_is (stores × logs) s cuts (cut_of (first_of found) plans) r.available c.front.planned c.front.committed (found.committed + length told) (faults disk) (faults now) log_faults r c why fits.are line was.1
-      (subst (λ (o : Option Cause). IfSome o (StopsFor r c (faults disk) (faults now))) was.0 closed.why) (λ same. closed.faulty (was.0 ∙ ap Some same)) full)
-    where
-      line : is_of_line why ≡ true → (c.front.committed ≡ found.committed + length told) × (found.committed + length told < c.front.planned)
-      line of_line =
-          let opened = stops_open r es begun c runs (λ f none. absurd (nothing f none)) why (closed.stopped why stops).0 of_line in
-          let less = nat_lt-less c.front.committed c.front.planned opened in
-          let all = sym (all_open opened) ∙ sym acknowledged in
-          (all, omega (arith, less, all))
-
-      full : IsFull r c → (c.front.planned ≡ 4294967295) × (is_behind (cut_of (first_of found) plans c.front.planned) r.available ≡ true)
-      full limit = (limit.0, ap (λ (ends : Ends). is_behind ends r.available) (fits.are c.front.planned (omega arith) ∙ go.last) ∙ first_of_two (is_behind c.ends r.available) c.front.due limit.3 go.quiet)
-
   -- where it is over
-  is_over : (next : Opened) → end ≡ Ok next → IsOver s.job.bound (length round.logs.items) r found next.plans told next
-  is_over next ends =
-      let was = closed.over next ends in
+  is_over : (own : Opened × Vec (List Timed)) → end ≡ Ok own → IsOver s.job.bound (length round.logs.items) r found own.0.plans told own.0 own.1.items
+  is_over own ends =
+      let was = closed.over own ends in
+      let next = own.0 in
       let n = was.1 in
       let o = over_is r c was.0 in
       let all : acknowledged_in c ≡ c.front.committed = all_settled o.2 in
@@ -225,8 +254,9 @@ module _ {D L : Type 0} (stores logs : Type 0) (lines : L → List Line) (histor
         all = omega (arith, count, up, before, all, told_all);
         meta_is = n.meta_is;
         covered = ap (λ (ends : Ends). is_behind ends r.available) (ap (cut_of (first_of found) next.plans) count ∙ fits.are c.front.planned (omega arith) ∙ go.last) ∙ o.3;
+        indexes = was.2;
         can = record {
-          plain = can.plain;
+          runs = can.runs;
           partitions = can.partitions ∙ ap (λ (m : Meta). m.partitions) same_meta;
           some_partitions = subst (λ (m : Meta). 1 ≤ m.partitions) same_meta can.some_partitions;
           few_partitions = subst (λ (m : Meta). m.partitions ≤ 64) same_meta can.few_partitions;
@@ -238,25 +268,14 @@ module _ {D L : Type 0} (stores logs : Type 0) (lines : L → List Line) (histor
           few_tasks = can.few_tasks;
           few_lines = can.few_lines;
           numbers = subst (λ (ends : Ends). HasNumbers (watermarked s.job.bound.streams) ends next) same_first n.numbers;
+          stores = subst (λ (m : ℕ). AreStores (keeping_of s.job.bound.shape m) next.committed next.stores) (sym is.partitions ∙ can.partitions ∙ ap (λ (m : Meta). m.partitions) same_meta) n.stores;
           long = subst (λ (ends : Ends). (i : ℕ) → get_or (offsets_of (last_ends ends next.plans)) i 0 ≤ get_or r.available i 0) same_first n.within;
         };
       }
 
-  -- whatever the disk tells
-  went_by : (plans : List Plan) → FitsPlans (first_of found) found.plans plans c.front.planned cuts → ((next : Opened) → end ≡ Ok next → next.plans ≡ plans)
-      → RoundWent (stores × logs) s (length round.logs.items) r found (faults disk) (faults now) log_faults plans told end
-  went_by plans fits same = record {
-    on = plans_on r (first_of found) found.plans plans c.front.planned cuts next_cuts fits;
-    told_are = told_are owned s cuts (first_of found) plans c.front.planned fits.are told found.committed closed.telling.each within;
-    good = λ t. told_good owned s cuts (first_of found) plans c.front.planned fits.are found.committed c.front.committed sound.before (closed.good t).1.told told found.committed closed.telling.each (omega arith) (let a = acknowledged in let b = below in omega (arith, a, b));
-    few = (let count = fits.count in let less = within in omega (arith, count, less));
-    over = λ next ends. subst (λ (l : List Plan). IsOver s.job.bound (length round.logs.items) r found l told next) (same next ends) (is_over next ends);
-    stopped = λ why stops. stop_told plans fits why stops;
-  }
-
-  module _ (law_parts : PartsAreFound) (law_terms : TasksHaveTerms) (law_opens : DeskOpensAsFound) (law_run : RoundIsRun (stores × logs)) (law_over : RoundLeavesFound (stores × logs)) (law_true : RoundLeavesTrue (stores × logs)) (t : stores × logs) (own : IsOwn s r (history disk) found) where
+  module _ (laws : HaveLaws (stores × logs)) (t : stores × logs) (own : IsOwn s r (history disk) found) where
     starts_so : first_ends s ≡ starts (found_from 0 own.lens.streams)
-    starts_so = (law_parts s s.job.bound own.asks own.lens own.setting).1
+    starts_so = (laws.parts s s.job.bound own.asks own.lens own.setting).1
 
     abbrev own_desk : IsDeskOf (asked s.job.bound own.asks own.lens) (job_of s) (files_now (history disk)) found
     own_desk = record {
@@ -281,55 +300,61 @@ module _ {D L : Type 0} (stores logs : Type 0) (lines : L → List Line) (histor
           files = files_now (history disk);
           desk = own_desk;
           jobs = record { plans = own.found_is.plans; seen = own.found_is.seen };
+          states = own.found_is.states;
         },
       ),
     )
 
     abbrev has_terms : HasTerms s r own.lens
-    has_terms = law_terms s s.job.bound own.asks own.lens r own.setting own.lines own.scope
+    has_terms = laws.terms s s.job.bound own.asks own.lens r own.setting own.lines own.scope
 
-    begins_on : Begins (job_of s) r never has_terms.0 o.start (first_state o r (history disk))
+    begins_on : Begins (job_of s) r (due_at s) has_terms.0 o.start (first_state o r (history disk))
     begins_on = record {
       files = files_now (history disk);
       settled = own.settled;
       desk = own.found_is.desk;
       is = own.found_is.is;
-      at = subst (λ (ends : Ends). IsOpenedAt (job_of s) r never has_terms.0 (start_at ends found) own.found_is.desk) (sym starts_so)
-          (law_opens s s.job.bound own.asks own.lens r (files_now (history disk)) found own.setting own.lines own.scope has_terms.0 has_terms.1 own_desk);
+      at = subst (λ (ends : Ends). IsOpenedAt (job_of s) r (due_at s) has_terms.0 (start_at ends s.job.bound found) own.found_is.desk) (sym starts_so)
+          (laws.opens s s.job.bound own.asks own.lens r (files_now (history disk)) found (is_due_on s.job.bound found) own.setting own.lines own.scope has_terms.0 has_terms.1 own_desk
+          (found_due s own.found_is.desk.cuts found can.numbers.before own.found_is.plans laws.unmarked can.runs own.found_is.seen));
       core = refl;
       cuts = ap (λ (ends : Ends). cut_of ends found.plans) begin ∙ sym own.found_is.cuts;
     }
 
-    leads_on : Leads (stores × logs) (job_of s) r never (first_state o r (history disk)) es (state (history now) c cuts)
-    leads_on = subst (λ (h : History). Leads (stores × logs) (job_of s) r never (first_state o r (history disk)) es (state h c cuts)) (closed.legal.1 is_owned)
-        (leads_by owned (stores × logs) is_owned (job_of s) r never es (first_state o r (history disk)) (state closed.legal.0 c cuts) closed.legal.2)
+    leads_on : Leads (stores × logs) (job_of s) r (due_at s) (first_state o r (history disk)) es (state (history now) c cuts)
+    leads_on = subst (λ (h : History). Leads (stores × logs) (job_of s) r (due_at s) (first_state o r (history disk)) es (state h c cuts)) (closed.legal.1 is_owned)
+        (leads_by owned (stores × logs) is_owned (job_of s) r (due_at s) es (first_state o r (history disk)) (state closed.legal.0 c cuts) closed.legal.2)
+
+    went_on : WentOn (job_of s) r (due_at s) (first_state o r (history disk)) (state (history now) c cuts)
+    went_on = laws.on t (job_of s) r (due_at s) has_terms.0 o.start es (first_state o r (history disk)) (state (history now) c cuts) begins_on leads_on
 
     is_run : WasRun (stores × logs) (job_of s) (history disk) (history now) (map (λ (x : Told). x.epoch) told)
     is_run =
-        let number = counted r o.start es c (first_sound r o.start (start_is s found r is)) runs in
+        let number = counted r o.start es c (first_sound r o.start (start_is s r found is.numbers is.parts)) runs in
         let here = acknowledged in
         let length_told = length-map told (λ (x : Told). x.epoch) in
         subst (WasRun (stores × logs) (job_of s) (history disk) (history now))
         (same_from found.committed (acknowledged_of r o.start es) (map (λ (x : Told). x.epoch) told) (tells_all r o.start es c runs).in_order (told_from owned s cuts told found.committed closed.telling.each) (omega (arith, number, here, length_told)))
-        (law_run t (job_of s) r never has_terms.0 o.start es (first_state o r (history disk)) (state (history now) c cuts) begins_on leads_on)
+        (laws.run t (job_of s) r (due_at s) has_terms.0 o.start es (first_state o r (history disk)) (state (history now) c cuts) begins_on leads_on)
 
     -- what it leaves
-    left : (next : Opened) → end ≡ Ok next → IsLeft (job_of s) (state (history now) c cuts) (cut_of (first_of next) next.plans)
+    left : (next : Opened × Vec (List Timed)) → end ≡ Ok next → IsLeft (job_of s) (state (history now) c cuts) (cut_of (first_of next.0) next.0.plans)
     left next ends =
         let was = closed.over next ends in
         let n = was.1 in
         let over = over_is r c was.0 in
-        let fits = next_fits owned s (first_of found) cuts r.available c found next n begins_so in
-        let same : first_of found ≡ first_of next = ap (λ (m : Meta). begins m.parts) (sym n.meta_is) in
-        law_over t (job_of s) r never has_terms.0 o.start es (first_state o r (history disk)) (state (history now) c cuts) begins_on leads_on over.0 over.2
-        (nat_lt-not c.front.committed c.front.planned over.1) (cut_of (first_of next) next.plans)
-        (subst (λ (ends : Ends). AreSameUpTo (cut_of ends next.plans) cuts c.front.planned) same fits.are)
+        let fits = next_fits owned s (first_of found) cuts r.available c found next.0 n begins_so in
+        let same : first_of found ≡ first_of next.0 = ap (λ (m : Meta). begins m.parts) (sym n.meta_is) in
+        laws.over t (job_of s) r (due_at s) has_terms.0 o.start es (first_state o r (history disk)) (state (history now) c cuts) begins_on leads_on over.0 over.2
+        (nat_lt-not c.front.committed c.front.planned over.1) (cut_of (first_of next.0) next.0.plans)
+        (subst (λ (ends : Ends). AreSameUpTo (cut_of ends next.0.plans) cuts c.front.planned) same fits.are)
 
-    found_next : (next : Opened) → end ≡ Ok next → IsFoundOf s (files_now (history now)) next
-    found_next next ends =
-        let was = closed.over next ends in
+    found_next : (next : Opened × Vec (List Timed)) → end ≡ Ok next → IsFoundOf s (files_now (history now)) next.0
+    found_next own_next ends =
+        let was = closed.over own_next ends in
+        let next = own_next.0 in
         let n = was.1 in
-        let l = left next ends in
+        let l = left own_next ends in
         let fits = next_fits owned s (first_of found) cuts r.available c found next n begins_so in
         let same : first_of found ≡ first_of next = ap (λ (m : Meta). begins m.parts) (sym n.meta_is) in
         let cut_is : (k : ℕ) → k ≤ c.front.planned → l.desk.cuts k ≡ cuts k = λ k le. ap (λ (x : Cuts). x k) l.are ∙ ap (λ (ends : Ends). cut_of ends next.plans k) (sym same) ∙ fits.are k le in
@@ -349,56 +374,122 @@ module _ {D L : Type 0} (stores logs : Type 0) (lines : L → List Line) (histor
               n.plans_are is_owned e default less ∙ (λ i. (let plan : Plan = record { epoch = e; watermark = mark i; ends = to i } in plan));
           seen = inr (n.seen_is is_owned ∙ (let times = λ (d : Delay). law.same_seen d.0 next.committed (omega (arith, done, before)) in
               λ i. map (λ (d : Delay). (let line : SeenBy = record { stream = d.0; time = times d i } in line)) (delays s.job.bound)));
+          states = λ p. holds_by s cuts l.desk.cuts next.committed p (law.same_state s.job.partitions p next.committed (omega (arith, done, before))) (slice_get next.stores p) (n.states is_owned p);
         }
 
-    ran_by : (plans : List Plan) → FitsPlans (first_of found) found.plans plans c.front.planned cuts → RoundRan (stores × logs) s r.cap (history disk) (history now) (cut_of (first_of found) plans) found.committed (length plans) told end
+    -- said of plans of its cuts: that an epoch is to come
+    more_by : (plans : List Plan) → FitsPlans (first_of found) found.plans plans c.front.planned cuts → (e : ℕ) → e ≤ c.front.planned → (is_behind (cuts e) r.available ≡ true) ⊎ (due_at s cuts e ≡ true)
+        → IsMore s (cut_of (first_of found) plans) r.available e
+    more_by plans fits e le comes = elim comes [
+      | inl behind ↦ inl (ap (λ (ends : Ends). is_behind ends r.available) (fits.are e le) ∙ behind)
+      | inr due ↦ inr (has_terms.0.dues (cut_of (first_of found) plans) cuts e (λ k less. fits.are k (omega (arith, less, le))) ∙ due)
+    ]
+
+    -- there are too many epochs only where one more is
+    full_by : (plans : List Plan) → FitsPlans (first_of found) found.plans plans c.front.planned cuts → IsFull r c → IsMore s (cut_of (first_of found) plans) r.available c.front.planned
+    full_by plans fits limit = more_by plans fits c.front.planned (omega arith) (elim (either_of (is_behind c.ends r.available) c.front.due limit.3) [
+      | inl behind ↦ inl (ap (λ (ends : Ends). is_behind ends r.available) go.last ∙ behind)
+      | inr due ↦ inr (sym (went_on.due_is limit.1) ∙ due)
+    ])
+
+    -- where it is over none is due
+    none_due : (plans : List Plan) → FitsPlans (first_of found) found.plans plans c.front.planned cuts → (next : Opened × Vec (List Timed)) → end ≡ Ok next → due_at s (cut_of (first_of found) plans) (length plans) ≡ false
+    none_due plans fits next ends =
+        let over = over_is r c (closed.over next ends).0 in
+        subst (λ (n : ℕ). due_at s (cut_of (first_of found) plans) n ≡ false) (sym fits.count)
+        (has_terms.0.dues (cut_of (first_of found) plans) cuts c.front.planned (λ k le. fits.are k le) ∙ sym (went_on.due_is (nat_lt-not c.front.committed c.front.planned over.1)) ∙ over.4)
+
+    ran_by : (plans : List Plan) → FitsPlans (first_of found) found.plans plans c.front.planned cuts
+        → RoundRan (stores × logs) s r (history disk) (history now) (cut_of (first_of found) plans) (length found.plans) found.committed (length plans) told end
     ran_by plans fits = record {
       run = is_run;
-      files = files_found (job_of s) r.cap (λ lines. lines ≡ r.available) (λ lines. AreFound lines s.lines) ((c.front.planned ≤ c.front.committed) × (c.front.settled ≡ true)) (found.committed + length told ≡ length plans) (cut_of (first_of found) plans) (length plans) (history now)
+      files = files_found (job_of s) r.cap (due_at s) (λ lines. lines ≡ r.available) (λ lines. AreFound lines s.lines) ((c.front.planned ≤ c.front.committed) × (c.front.settled ≡ true)) (found.committed + length told ≡ length plans) (cut_of (first_of found) plans) (length plans) (history now)
           (λ lines same. subst (λ (l : List ℕ). AreFound l s.lines) (sym (same ∙ own.scope.available)) own.lines)
           (λ done. (let a = acknowledged in let all = all_settled done.1 in let b = sound.before in let d = done.0 in let count = fits.count in omega (arith, a, all, b, d, count)))
-          (subst (λ (n : ℕ). AreFilesOf (job_of s) r.cap (λ lines. lines ≡ r.available) ((c.front.planned ≤ c.front.committed) × (c.front.settled ≡ true)) (cut_of (first_of found) plans) n (history now)) (sym fits.count)
-          (law_true t (job_of s) r never has_terms.0 o.start es (first_state o r (history disk)) (state (history now) c cuts) begins_on leads_on go.quiet (cut_of (first_of found) plans) fits.are));
-      meant = told_meant owned s cuts (first_of found) plans c.front.planned fits.are is_owned told found.committed closed.telling.each within;
+          (subst (λ (n : ℕ). AreFilesOf (job_of s) r.cap (due_at s) (λ lines. lines ≡ r.available) ((c.front.planned ≤ c.front.committed) × (c.front.settled ≡ true)) (cut_of (first_of found) plans) n (history now)) (sym fits.count)
+          (laws.files t (job_of s) r (due_at s) has_terms.0 o.start es (first_state o r (history disk)) (state (history now) c cuts) begins_on leads_on (cut_of (first_of found) plans) fits.are));
+      due = λ e ge less. (let count = fits.count in let start = planned in more_by plans fits e (omega (arith, less, count)) (went_on.come e (omega (arith, ge, start)) (omega (arith, less, count))));
+      meant = told_meant owned s cuts (first_of found) plans c.front.planned fits.are c.front.committed sound.before went_on.faultless is_owned told found.committed closed.telling.each (let a = acknowledged in let b = below in omega (arith, a, b));
       settled = λ next ends. (left next ends).settled;
       found = found_next;
+      quiet = none_due plans fits;
     }
 
-  -- by plans of its cuts
-  round_by : (plans : List Plan) → FitsPlans (first_of found) found.plans plans c.front.planned cuts → ((next : Opened) → end ≡ Ok next → next.plans ≡ plans)
-      → PartsAreFound → TasksHaveTerms → DeskOpensAsFound → RoundIsRun (stores × logs) → RoundLeavesFound (stores × logs) → RoundLeavesTrue (stores × logs)
-      → IsRound (stores × logs) s (length round.logs.items) r found (history disk) (history now) (faults disk) (faults now) log_faults told end
-  round_by plans fits same parts terms opens run over files = record { plans = plans; went = went_by plans fits same; ran = λ t own. ran_by parts terms opens run over files t own plans fits }
+  -- what was opened is the job's own, and disk and logs tell what they hold
+  abbrev ours : Type 0
+  ours = (stores × logs) × IsOwn s r (history disk) found
 
-abbrev opened_or : Opened → Result Opened Cause → List Plan
-opened_or next (Ok x) = x.plans
-opened_or next (Err f) = next.plans
+  module _ (laws : HaveLaws (stores × logs)) where
+    -- why it stopped, by plans of these cuts
+    stop_told : (plans : List Plan) → FitsPlans (first_of found) found.plans plans c.front.planned cuts → (why : Stopped) → end ≡ Err why
+        → IsRoundStop (stores × logs) ours s (cut_of (first_of found) plans) r.available (length plans) (found.committed + length told) (faults disk) (faults now) log_faults why.key why.cause
+    stop_told plans fits why stops =
+        let was = closed.stopped why stops in
+        let count = fits.count in
+        subst (λ (n : ℕ). IsRoundStop (stores × logs) ours s (cut_of (first_of found) plans) r.available n (found.committed + length told) (faults disk) (faults now) log_faults why.key why.cause) (sym count)
+        (stop_is (stores × logs) ours s cuts (cut_of (first_of found) plans) r.available c.front.planned c.front.committed (found.committed + length told) why.key (faults disk) (faults now) log_faults r c why.cause fits.are open_there
+        (stop_on (stores × logs) owned ours s cuts c.front.committed why.key why.cause (λ u. is_owned laws u.0 u.1) was.1)
+        (subst (λ (x : Option Cause). IfSome x (StopsFor r c (faults disk) (faults now))) was.0 closed.why) (λ same. closed.faulty (was.0 ∙ ap Some same)) full)
+      where
+        open_there : is_of_epoch why.cause ≡ true → (c.front.committed ≡ found.committed + length told) × (found.committed + length told < c.front.planned)
+        open_there own =
+            let opened = stops_open r es begun c runs (λ f none. absurd (nothing f none)) why.cause (closed.stopped why stops).0 own in
+            let less = nat_lt-less c.front.committed c.front.planned opened in
+            let all = sym (all_open opened) ∙ sym acknowledged in
+            (all, omega (arith, less, all))
+
+        behind_or : (b : Bool) → closes s.job.bound ≡ b → IsFull r c → (is_behind (cut_of (first_of found) plans c.front.planned) r.available ≡ true) ⊎ (closes s.job.bound ≡ true)
+        behind_or true is limit = inr is
+        behind_or false is limit = inl (ap (λ (ends : Ends). is_behind ends r.available) (fits.are c.front.planned (omega arith) ∙ go.last) ∙ first_of_two (is_behind c.ends r.available) c.front.due limit.3 (go.quiet is))
+
+        full : IsFull r c → (c.front.planned ≡ 4294967295) × ((is_behind (cut_of (first_of found) plans c.front.planned) r.available ≡ true) ⊎ (closes s.job.bound ≡ true)) × (ours → IsMore s (cut_of (first_of found) plans) r.available c.front.planned)
+        full limit = (limit.0, behind_or (closes s.job.bound) refl limit, λ u. full_by laws u.0 u.1 plans fits limit)
+
+    -- whatever the disk tells
+    went_by : (plans : List Plan) → FitsPlans (first_of found) found.plans plans c.front.planned cuts → ((next : Opened × Vec (List Timed)) → end ≡ Ok next → next.0.plans ≡ plans)
+        → RoundWent (stores × logs) ours s (length round.logs.items) r found (faults disk) (faults now) log_faults plans told end
+    went_by plans fits same = record {
+      on = plans_on r (closes s.job.bound) (first_of found) found.plans plans c.front.planned cuts next_cuts fits;
+      told_are = told_are owned s cuts (first_of found) plans c.front.planned fits.are told found.committed closed.telling.each within;
+      good = λ t. told_good owned s cuts (first_of found) plans c.front.planned fits.are found.committed c.front.committed sound.before (closed.good t).1.told told found.committed closed.telling.each (omega arith) (let a = acknowledged in let b = below in omega (arith, a, b));
+      few = (let count = fits.count in let less = within in omega (arith, count, less));
+      over = λ next ends. subst (λ (l : List Plan). IsOver s.job.bound (length round.logs.items) r found l told next.0 next.1.items) (same next ends) (is_over next ends);
+      stopped = λ why stops. stop_told plans fits why stops;
+      keyless = closed.keyless;
+    }
+
+    -- by plans of its cuts
+    round_by : (plans : List Plan) → FitsPlans (first_of found) found.plans plans c.front.planned cuts → ((next : Opened × Vec (List Timed)) → end ≡ Ok next → next.0.plans ≡ plans)
+        → IsRound (stores × logs) s (length round.logs.items) r found (history disk) (history now) (faults disk) (faults now) log_faults told end
+    round_by plans fits same = record { plans = plans; went = went_by plans fits same; ran = λ t own. ran_by laws t own plans fits }
+
+abbrev plans_or : List Plan → Ended → List Plan
+plans_or plans (Ok x) = x.0.plans
+plans_or plans (Err f) = plans
 
 -- how a round went, and what it did, where these entries came
 round_is : {D L : Type 0} (stores logs : Type 0) (lines : L → List Line) (history : D → History) (faults : D → ℕ) (round : Round L) (r : Scope) (disk now : D) (es : List Entry)
     → CanBegin round.view.bound.now (length round.logs.items) round.opened r → first_ends (setting_of lines round) ≡ first_of round.opened → IsDeskRound (setting_of lines round) round.opened r
-    → list_any brings_due es ≡ false → (log_faults : ℕ) (told : List Told) (end : Result Opened Cause)
-    → IsClosed stores logs lines history faults (first_shown lines round disk r) log_faults told end (did (first_shown lines round disk r) now es)
-    → PartsAreFound → TasksHaveTerms → DeskOpensAsFound → RoundIsRun (stores × logs) → RoundLeavesFound (stores × logs) → RoundLeavesTrue (stores × logs)
+    → (closes round.view.bound.now ≡ false → list_any brings_due es ≡ false) → (log_faults : ℕ) (told : List Told) (end : Ended)
+    → IsClosed stores logs lines history faults (first_shown lines round disk r) log_faults told end (did (first_shown lines round disk r) now es) → HaveLaws (stores × logs)
     → IsRound (stores × logs) (setting_of lines round) (length round.logs.items) r round.opened (history disk) (history now) (faults disk) (faults now) log_faults told end
-round_is stores logs lines history faults round r disk now es can begin is quiet log_faults told (Ok next) closed parts terms opens run over files =
+round_is stores logs lines history faults round r disk now es can begin is quiet log_faults told (Ok next) closed laws =
     let n = (closed.over next refl).1 in
-    let fits = next_fits _ (setting_of lines round) (first_of round.opened) _ r.available _ round.opened next n (begins_so stores logs lines history faults round r disk now es can begin is quiet log_faults told (Ok next) closed) in
-    round_by stores logs lines history faults round r disk now es can begin is quiet log_faults told (Ok next) closed next.plans fits (λ other ends. sym (ap (opened_or next) ends)) parts terms opens run over files
-round_is stores logs lines history faults round r disk now es can begin is quiet log_faults told (Err why) closed parts terms opens run over files =
+    let fits = next_fits _ (setting_of lines round) (first_of round.opened) _ r.available _ round.opened next.0 n (begins_so stores logs lines history faults round r disk now es can begin is quiet log_faults told (Ok next) closed) in
+    round_by stores logs lines history faults round r disk now es can begin is quiet log_faults told (Ok next) closed laws next.0.plans fits (λ other ends. sym (ap (plans_or next.0.plans) ends))
+round_is stores logs lines history faults round r disk now es can begin is quiet log_faults told (Err why) closed laws =
     let next = next_cuts stores logs lines history faults round r disk now es can begin is quiet log_faults told (Err why) closed in
     let below = more stores logs lines history faults round r disk now es can begin is quiet log_faults told (Err why) closed in
-    let fits = built_fits r (first_of round.opened) round.opened.plans _ _ next below in
-    round_by stores logs lines history faults round r disk now es can begin is quiet log_faults told (Err why) closed _ fits (λ other ends. absurd (err_ok why other ends)) parts terms opens run over files
+    let fits = built_fits r (closes round.view.bound.now) (first_of round.opened) round.opened.plans _ _ next below in
+    round_by stores logs lines history faults round r disk now es can begin is quiet log_faults told (Err why) closed laws _ fits (λ other ends. absurd (err_ok why other ends))
 
 -- how a round went, by its desk in the end
 pub round_closed : {D L : Type 0} (stores logs : Type 0) (lines : L → List Line) (history : D → History) (faults : D → ℕ) (round : Round L) (r : Scope) (disk : D) (desk : Shown D (Round L)) (back : D)
-    → round.view.partitions ≡ round.opened.meta.partitions → CanBegin round.view.bound.now (length round.logs.items) round.opened r → IsDriven faults (first_shown lines round disk r) desk → back ≡ desk.disk
-    → (log_faults : ℕ) (told : List Told) (end : Result Opened Cause) → IsClosed stores logs lines history faults (first_shown lines round disk r) log_faults told end desk
-    → PartsAreFound → TasksHaveTerms → DeskOpensAsFound → RoundIsRun (stores × logs) → RoundLeavesFound (stores × logs) → RoundLeavesTrue (stores × logs)
+    → round.view.partitions ≡ round.opened.meta.partitions → CanBegin round.view.bound.now (length round.logs.items) round.opened r → IsDriven faults (closes round.view.bound.now) (first_shown lines round disk r) desk → back ≡ desk.disk
+    → (log_faults : ℕ) (told : List Told) (end : Ended) → IsClosed stores logs lines history faults (first_shown lines round disk r) log_faults told end desk → HaveLaws (stores × logs)
     → IsRound (stores × logs) (setting_of lines round) (length round.logs.items) r round.opened (history disk) (history back) (faults disk) (faults back) log_faults told end
-round_closed stores logs lines history faults round r disk desk back same can driven is_back log_faults told end closed parts terms opens run over files =
+round_closed stores logs lines history faults round r disk desk back same can driven is_back log_faults told end closed laws =
     let b = desk_begins lines round r same can in
     subst (λ (d : _). IsRound (stores × logs) (setting_of lines round) (length round.logs.items) r round.opened (history disk) (history d) (faults disk) (faults d) log_faults told end) (sym is_back)
     (round_is stores logs lines history faults round r disk desk.disk driven.entries.0 can b.0 b.1 driven.quiet log_faults told end
-    (subst (IsClosed stores logs lines history faults (first_shown lines round disk r) log_faults told end) driven.entries.1 closed) parts terms opens run over files)
+    (subst (IsClosed stores logs lines history faults (first_shown lines round disk r) log_faults told end) driven.entries.1 closed) laws)

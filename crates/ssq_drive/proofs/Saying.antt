@@ -1,13 +1,13 @@
 -- What is told of the epochs of a round, by its plans.
-use Rattle.std.proofs.Common.{◌≡◌, ◌≤◌, ◌+◌, ◌<◌, ℕ, suc, List, [], ◌∷◌, length, map, All, sym, refl, ap, ◌∙◌, subst, arith}
+use Rattle.std.proofs.Common.{◌≡◌, ◌≤◌, ◌+◌, ◌<◌, ℕ, suc, false, true≢false, List, [], ◌∷◌, length, map, All, Option, Some, None, is_some, sym, refl, ap, ◌∙◌, subst, arith}
 use Rattle.std.proofs.lemmas.List.Elements.{All-nil, All-cons}
 use mathlib.Core.Option.{some}
 use lib.ListN.{get_elem?}
-use Rattle.ssq_meaning.specs.Epochs.{fault_between, out}
+use Rattle.ssq_meaning.specs.Epochs.{fault, fault_between, out}
 use Rattle.ssq_meaning.proofs.Causal.{says_same}
 use Rattle.ssq_plans.specs.declared.plan.Plan.{Plan}
 use Rattle.ssq_core.specs.Course.{Cuts, Ends}
-use Rattle.ssq_course.specs.Setting.{Setting, parts_in, watermark_at}
+use Rattle.ssq_course.specs.Setting.{Setting, parts_in, watermark_at, is_faulty_at}
 use Rattle.ssq_course.specs.Setting.{cut_of as offsets_of, cuts_of as offsets}
 use Rattle.ssq_open.specs.Epochs.{cut_of}
 use Rattle.ssq_board.specs.Told.{AreFrom}
@@ -15,6 +15,10 @@ use Rattle.ssq_desk.specs.declared.told.Told.{Told}
 use Rattle.ssq_desk.specs.Closing.{IsToldOf, lines_between}
 use Rattle.ssq_drive.specs.Good.{HasGoodLines}
 use Rattle.ssq_drive.specs.Rounds.{AreTold, IsMeant}
+
+none_of : {A : Type 0} (o : Option A) → is_some o ≡ false → o ≡ None
+none_of None is = refl
+none_of (Some a) is = absurd (true≢false is)
 
 module _ (owned : Type 0) (s : Setting) (cuts : Cuts) where
   -- each of these epochs, from one on, is told so
@@ -53,19 +57,20 @@ module _ (owned : Type 0) (s : Setting) (cuts : Cuts) where
         All-cons (λ (t : Told). HasGoodLines s (cut_of first plans) t.epoch) t rest (subst (HasGoodLines s (cut_of first plans)) (sym own.number) at)
         (told_good begin committed few good rest (e + 1) (later t rest e each) (omega (arith, ge)) (omega (arith, le)))
 
-    -- where what was opened is the job's own, with the watermarks and the rows of the meaning
-    pub told_meant : owned → (told : List Told) (e : ℕ) → TellsEach e told → e + length told ≤ planned → All (IsMeant s (cut_of first plans)) told
-    told_meant o [] e each le = All-nil (IsMeant s (cut_of first plans))
-    told_meant o (t ∷ rest) e each le =
+    -- where what was opened is the job's own, with the watermarks and the rows of the meaning, and none has a fault
+    pub told_meant : (committed : ℕ) → committed ≤ planned → ((e : ℕ) → e < committed → is_faulty_at s cuts e ≡ false) → owned → (told : List Told) (e : ℕ) → TellsEach e told → e + length told ≤ committed → All (IsMeant s (cut_of first plans)) told
+    told_meant committed few good o [] e each le = All-nil (IsMeant s (cut_of first plans))
+    told_meant committed few good o (t ∷ rest) e each le =
         let own = here t rest e each in
         let law = says_same s.job.bound (parts_in s) (offsets cuts) (offsets (cut_of first plans)) planned (λ k below. ap offsets_of (sym (are k below))) in
         let number : e ≡ t.epoch = sym own.number in
         All-cons (IsMeant s (cut_of first plans)) t rest
         (record {
-          watermark = own.watermark_is o ∙ ap (watermark_at s cuts) number ∙ law.same_watermark t.epoch (omega (arith, le, number));
-          rows = own.rows_are o ∙ ap (λ (n : ℕ). length (out s.job.bound (parts_in s) (offsets cuts) n)) number ∙ ap length (law.same_out t.epoch (omega (arith, le, number)));
+          faultless = sym (law.same_fault t.epoch (omega (arith, le, few, number))) ∙ none_of (fault s.job.bound (parts_in s) (offsets cuts) t.epoch) (good t.epoch (omega (arith, le, number)));
+          watermark = own.watermark_is o ∙ ap (watermark_at s cuts) number ∙ law.same_watermark t.epoch (omega (arith, le, few, number));
+          rows = own.rows_are o ∙ ap (λ (n : ℕ). length (out s.job.bound (parts_in s) (offsets cuts) n)) number ∙ ap length (law.same_out t.epoch (omega (arith, le, few, number)));
         })
-        (told_meant o rest (e + 1) (later t rest e each) (omega (arith, le)))
+        (told_meant committed few good o rest (e + 1) (later t rest e each) (omega (arith, le)))
 
 -- as many numbers from one on are the same
 pub same_from : (e : ℕ) (one other : List ℕ) → AreFrom e one → AreFrom e other → length one ≡ length other → one ≡ other

@@ -1,5 +1,5 @@
 -- What a turn on one thread does to what a desk knows.
-use Rattle.std.proofs.Common.{◌≡◌, ◌⊎◌, ◌<◌, ◌≤◌, ◌+◌, ◌*◌, ◌&&◌, not, ℕ, Bool, true, false, true≢false, List, [], ◌∷◌, Some, None, IfSome, Result, Ok, Err, OnOk, OnErr, IfErr, IsErrOf, if◌then◌else◌, sym, refl, ap, ◌∙◌, subst, inl, inr, arith}
+use Rattle.std.proofs.Common.{◌≡◌, ◌⊎◌, ◌<◌, ◌≤◌, ◌+◌, ◌*◌, ◌&&◌, ◌||◌, not, ℕ, Bool, true, false, true≢false, List, [], ◌∷◌, Some, None, IfSome, Result, Ok, Err, OnOk, OnErr, IfErr, IsErrOf, if◌then◌else◌, sym, refl, ap, ◌∙◌, subst, inl, inr, arith}
 use Rattle.std.specs.List.{list_any}
 use Rattle.std.proofs.lemmas.Bool.{cases_lt}
 use Rattle.ssq_outside.specs.declared.gate.Kind.{Kind}
@@ -28,9 +28,9 @@ pub record Goes (r : Scope) (c n : Core) (before now : ℕ) : Type 0 where
   pub rest : IsAtRest n
   pub cause : IfSome n.front.stop (StopsFor r n before now)
 
-pub goes_turn : {D O : Type 0} (faults : D → ℕ) (old new : Shown D O) (es : List Entry) → new ≡ did old new.disk es → list_any brings_due es ≡ false → Goes old.scope old.core (after_all old.scope old.core es) (faults old.disk) (faults new.disk)
-    → faults old.disk ≤ faults new.disk → IsTurn faults old new
-goes_turn faults old new es is undue goes counted =
+pub goes_turn : {D O : Type 0} (faults : D → ℕ) (closing : Bool) (old new : Shown D O) (es : List Entry) → new ≡ did old new.disk es → (closing ≡ false → list_any brings_due es ≡ false) → Goes old.scope old.core (after_all old.scope old.core es) (faults old.disk) (faults new.disk)
+    → faults old.disk ≤ faults new.disk → IsTurn faults closing old new
+goes_turn faults closing old new es is undue goes counted =
     let g = subst (λ (n : Core). Goes old.scope old.core n (faults old.disk) (faults new.disk)) (sym (ap (λ s. s.core) is)) goes in
     record { running = g.running; less = g.less; driven = record { entries = (es, is); quiet = undue; stopped = λ f stops. absurd (both f stops g.running); rest = g.rest; cause = λ run. g.cause; counted = counted } }
   where
@@ -81,6 +81,7 @@ stop_goes r c f before now running rest why = record {
 pub risen_stops : (r : Scope) (c : Core) (f : Cause) (before now : ℕ) → HasRisen f before now → StopsFor r c before now f
 risen_stops r c (cause.BadLine s p o x) before now risen = absurd risen
 risen_stops r c (cause.Overflow s p o) before now risen = absurd risen
+risen_stops r c cause.KeyOverflow before now risen = absurd risen
 risen_stops r c cause.LogFault before now risen = absurd risen
 risen_stops r c (cause.LogShort s p l x) before now risen = absurd risen
 risen_stops r c (cause.Damaged q) before now risen = absurd risen
@@ -91,6 +92,7 @@ risen_stops r c cause.NoMemory before now risen = tt
 unplanned_stops : (r : Scope) (c : Core) (f : Cause) (before now : ℕ) → ready_of r c ≡ ready.Plan → IsUnplanned c.front.planned before now f → StopsFor r (after r c (entry.Stop f)) before now f
 unplanned_stops r c (cause.BadLine s p o x) before now is risen = absurd risen
 unplanned_stops r c (cause.Overflow s p o) before now is risen = absurd risen
+unplanned_stops r c cause.KeyOverflow before now is risen = absurd risen
 unplanned_stops r c cause.LogFault before now is risen = absurd risen
 unplanned_stops r c (cause.LogShort s p l x) before now is risen = absurd risen
 unplanned_stops r c (cause.Damaged q) before now is risen = absurd risen
@@ -98,12 +100,17 @@ unplanned_stops r c cause.DiskFault before now is risen = risen
 unplanned_stops r c cause.Full before now is full = full_is r c is full
 unplanned_stops r c cause.NoMemory before now is risen = tt
 
-module _ {D O : Type 0} (faults : D → ℕ) (old new : Shown D O) where
+-- what is due of a query that closes alone is not of another
+not_due : {closing : Bool} (due : Bool) → closing ≡ false → (due ≡ true → closing ≡ true) → due ≡ false
+not_due false none so = refl
+not_due true none so = absurd (true≢false (sym (so refl) ∙ none))
+
+module _ {D O : Type 0} (faults : D → ℕ) (closing : Bool) (old new : Shown D O) where
   -- a plan
   pub planned : (result : Result (Unit {0}) Cause) → HasCap old.scope.cap → IsSound old.scope old.core → IsAtRest old.core → ready_of old.scope old.core ≡ ready.Plan → old.core.front.planned ≤ 4294967295
       → OnOk result (new ≡ did old new.disk (entry.Plan old.core.front.planned ∷ []))
       → IfErr result (λ f. (new ≡ did old new.disk (entry.Stop f ∷ [])) × IsUnplanned old.core.front.planned (faults old.disk) (faults new.disk) f)
-      → (old.core.front.planned ≡ 4294967295 → IsErrOf result cause.Full) → faults old.disk ≤ faults new.disk → IsTurn faults old new
+      → (old.core.front.planned ≡ 4294967295 → IsErrOf result cause.Full) → faults old.disk ≤ faults new.disk → IsTurn faults closing old new
   planned (Ok x) has_cap sound rest next few done stopped full counted =
       let r = old.scope in
       let c = old.core in
@@ -116,7 +123,7 @@ module _ {D O : Type 0} (faults : D → ℕ) (old new : Shown D O) where
         rest = runs_rest n refl (plan_turn r c n c.front.planned (inl refl));
         cause = tt;
       } in
-      goes_turn faults old new (entry.Plan c.front.planned ∷ []) done refl goes counted
+      goes_turn faults closing old new (entry.Plan c.front.planned ∷ []) done (λ none. refl) goes counted
     where
       ok_err : Ok x ≡ Err cause.Full → ⊥
       ok_err e = cc
@@ -124,13 +131,13 @@ module _ {D O : Type 0} (faults : D → ℕ) (old new : Shown D O) where
       below : old.core.front.planned ≤ 4294967295 → (old.core.front.planned ≡ 4294967295 → IsErrOf (Ok x) cause.Full) → old.core.front.planned < 4294967295
       below few full = elim (cases_lt old.core.front.planned 4294967295) [ inl less ↦ less | inr most ↦ absurd (ok_err (full (omega (arith, few, most)))) ]
   planned (Err f) has_cap sound rest next few done stopped full counted =
-      goes_turn faults old new (entry.Stop f ∷ []) stopped.0 refl (stop_goes old.scope old.core f (faults old.disk) (faults new.disk) (plan_runs old.scope old.core next) rest (unplanned_stops old.scope old.core f (faults old.disk) (faults new.disk) next stopped.1)) counted
+      goes_turn faults closing old new (entry.Stop f ∷ []) stopped.0 (λ none. refl) (stop_goes old.scope old.core f (faults old.disk) (faults new.disk) (plan_runs old.scope old.core next) rest (unplanned_stops old.scope old.core f (faults old.disk) (faults new.disk) next stopped.1)) counted
 
   -- a sync
   pub synced : (result : Result (Unit {0}) Cause) → IsAtRest old.core → ready_of old.scope old.core ≡ ready.Sync
       → OnOk result ((clock : ℕ) × (new ≡ did old new.disk (entry.Sync clock ∷ [])))
       → IfErr result (λ f. (new ≡ did old new.disk (entry.Stop f ∷ [])) × HasRisen f (faults old.disk) (faults new.disk))
-      → faults old.disk ≤ faults new.disk → IsTurn faults old new
+      → faults old.disk ≤ faults new.disk → IsTurn faults closing old new
   synced (Ok x) rest next done stopped counted =
       let r = old.scope in
       let c = old.core in
@@ -142,26 +149,27 @@ module _ {D O : Type 0} (faults : D → ℕ) (old new : Shown D O) where
         rest = runs_rest n refl (sync_turn r c n done.0 d.0 rest (inl refl));
         cause = tt;
       } in
-      goes_turn faults old new (entry.Sync done.0 ∷ []) done.1 refl goes counted
+      goes_turn faults closing old new (entry.Sync done.0 ∷ []) done.1 (λ none. refl) goes counted
   synced (Err f) rest next done stopped counted =
-      goes_turn faults old new (entry.Stop f ∷ []) stopped.0 refl (stop_goes old.scope old.core f (faults old.disk) (faults new.disk) (sync_due old.scope old.core next).0 rest (risen_stops old.scope (after old.scope old.core (entry.Stop f)) f (faults old.disk) (faults new.disk) stopped.1)) counted
+      goes_turn faults closing old new (entry.Stop f ∷ []) stopped.0 (λ none. refl) (stop_goes old.scope old.core f (faults old.disk) (faults new.disk) (sync_due old.scope old.core next).0 rest (risen_stops old.scope (after old.scope old.core (entry.Stop f)) f (faults old.disk) (faults new.disk) stopped.1)) counted
 
   -- a commit
   pub committed : (result : Result (Unit {0}) DiskFault) → IsSound old.scope old.core → IsAtRest old.core → ready_of old.scope old.core ≡ ready.Commit
-      → OnOk result (new ≡ did old new.disk (entry.Commit old.core.front.committed false ∷ []))
+      → OnOk result ((due : Bool) × (new ≡ did old new.disk (entry.Commit old.core.front.committed due ∷ [])) × (due ≡ true → closing ≡ true))
       → OnErr result ((new ≡ did old new.disk (entry.Stop cause.DiskFault ∷ [])) × Rises (faults old.disk) (faults new.disk))
-      → faults old.disk ≤ faults new.disk → IsTurn faults old new
+      → faults old.disk ≤ faults new.disk → IsTurn faults closing old new
   committed (Ok x) sound rest next done stopped counted =
       let r = old.scope in
       let c = old.core in
-      let may : May r c (entry.Commit c.front.committed false) = commit_may r c false next in
-      let n = after r c (entry.Commit c.front.committed false) in
+      let due = done.0 in
+      let may : May r c (entry.Commit c.front.committed due) = commit_may r c due next in
+      let n = after r c (entry.Commit c.front.committed due) in
       let goes : Goes r c n (faults old.disk) (faults new.disk) = record {
         running = may.0;
-        less = commit_falls r c n c.front.committed false sound may (inl refl);
-        rest = runs_rest n refl (commit_turn r c n c.front.committed false sound rest (inl refl));
+        less = commit_falls r c n c.front.committed due sound may (inl refl);
+        rest = runs_rest n refl (commit_turn r c n c.front.committed due sound rest (inl refl));
         cause = tt;
       } in
-      goes_turn faults old new (entry.Commit c.front.committed false ∷ []) done refl goes counted
+      goes_turn faults closing old new (entry.Commit c.front.committed due ∷ []) done.1 (λ none. ap (λ (b : Bool). b || false) (not_due due none done.2)) goes counted
   committed (Err f) sound rest next done stopped counted =
-      goes_turn faults old new (entry.Stop cause.DiskFault ∷ []) stopped.0 refl (stop_goes old.scope old.core cause.DiskFault (faults old.disk) (faults new.disk) (commit_may old.scope old.core false next).0 rest stopped.1) counted
+      goes_turn faults closing old new (entry.Stop cause.DiskFault ∷ []) stopped.0 (λ none. refl) (stop_goes old.scope old.core cause.DiskFault (faults old.disk) (faults new.disk) (commit_may old.scope old.core false next).0 rest stopped.1) counted

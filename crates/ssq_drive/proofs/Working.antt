@@ -1,24 +1,27 @@
 -- What a task that is done on one thread does to a desk.
-use Rattle.std.proofs.Common.{◌≡◌, ◌≤◌, ◌||◌, ℕ, zero, suc, Bool, true, false, true≢false, List, [], ◌∷◌, set, Option, Some, None, IfSome, Result, Ok, Err, IfErr, if◌then◌else◌, sym, refl, ap, ◌∙◌, subst, inl, inr, append_assoc, le_refl}
+use Rattle.std.proofs.Common.{◌≡◌, ◌≤◌, ◌||◌, ℕ, zero, suc, Bool, true, false, true≢false, List, [], ◌∷◌, set, Option, Some, None, IfSome, Result, Ok, Err, IfErr, IsErrOf, if◌then◌else◌, sym, refl, ap, ◌∙◌, subst, inl, inr, append_assoc, le_refl}
 use Rattle.std.specs.List.{list_any}
 use Rattle.ssq_outside.specs.declared.gate.TaskId.{TaskId}
 use Rattle.ssq_outside.specs.declared.gate.Kind.{Kind}
 use Rattle.ssq_outside.specs.declared.gate.Kind.TheVariants as kind
 use Rattle.ssq_outside.specs.Faults.{Rises}
 use Rattle.ssq_board.specs.declared.front.Cause.{Cause}
+use Rattle.ssq_board.specs.declared.front.Cause.TheVariants as cause
 use Rattle.ssq_board.specs.declared.front.Entry.{Entry}
 use Rattle.ssq_board.specs.declared.front.Entry.TheVariants as entry
 use Rattle.ssq_board.specs.declared.front.Place.{Place}
 use Rattle.ssq_board.specs.declared.front.Place.TheVariants as place
-use Rattle.ssq_board.specs.Core.{Scope, Core, May, after, after_all, due, moved, or_stop, tasks_of, with_tasks}
+use Rattle.ssq_board.specs.Core.{Scope, Core, May, after, after_all, due, due_stop, moved, or_stop, tasks_of, with_tasks}
 use Rattle.ssq_board.specs.Shown.{IsSound}
-use Rattle.ssq_board.specs.Rounds.{IsAtRest, Worked, brings_rows, is_away}
-use Rattle.ssq_board.proofs.Falls.{work_falls}
-use Rattle.ssq_board.proofs.Resting.{work_turn}
+use Rattle.ssq_board.specs.Rounds.{IsAtRest, Worked, Versioned, brings_rows, is_away}
+use Rattle.ssq_board.proofs.Falls.{version_falls, work_falls}
+use Rattle.ssq_board.proofs.Resting.{version_turn, work_turn}
 use Rattle.ssq_board.proofs.Sounds.{step_sound}
 use Rattle.ssq_ledger.specs.Shown.{Shown, HasRisen, did, answer}
 use Rattle.ssq_drive.specs.Driven.{StopsFor, IsTurn}
+use Rattle.ssq_desk.specs.Contents.{IsReducedCause}
 use Rattle.ssq_desk.specs.Published.{IsOut, brings}
+use Rattle.ssq_desk.specs.Results.{IsReturned}
 use Rattle.ssq_drive.proofs.Causes.{report_stops}
 use Rattle.ssq_drive.proofs.Turning.{Goes, goes_turn, same_here, rests, runs_rest, none_left, risen_stops}
 
@@ -32,8 +35,8 @@ back_here [] i p f h = refl
 back_here (q ∷ qs) zero p f h = (or_false (is_away q) (list_any is_away qs) h).1
 back_here (q ∷ qs) (suc i) p f h = let b = or_false (is_away q) (list_any is_away qs) h in (λ j. b.0 j || back_here qs i p f b.1 j)
 
-work_here : (r : Scope) (c : Core) (t : TaskId) (f : Option Cause) → ((k : Kind) → list_any is_away (tasks_of k c) ≡ false) → (k : Kind) → list_any is_away (tasks_of k (after r (after r c (entry.Claim t)) (entry.Report t f))) ≡ false
-work_here r c t f h = same_here (moved (moved c t place.Away) t (place.Back f)) (after r (after r c (entry.Claim t)) (entry.Report t f)) refl refl refl (by t.kind)
+back_all : (c : Core) (t : TaskId) (f : Option Cause) → ((k : Kind) → list_any is_away (tasks_of k c) ≡ false) → (k : Kind) → list_any is_away (tasks_of k (moved (moved c t place.Away) t (place.Back f))) ≡ false
+back_all c t f h = by t.kind
   where
     by : (j k : Kind) → list_any is_away (tasks_of k (with_tasks j (with_tasks j c (set (tasks_of j c) t.number place.Away)) (set (tasks_of j (with_tasks j c (set (tasks_of j c) t.number place.Away))) t.number (place.Back f)))) ≡ false
     by kind.Map kind.Map = back_here c.maps t.number place.Away f (h kind.Map)
@@ -50,6 +53,20 @@ work_here r c t f h = same_here (moved (moved c t place.Away) t (place.Back f)) 
     by kind.Upkeep kind.Reduce = h kind.Reduce
     by kind.Upkeep kind.Out = h kind.Out
 
+work_here : (r : Scope) (c : Core) (t : TaskId) (f : Option Cause) → ((k : Kind) → list_any is_away (tasks_of k c) ≡ false) → (k : Kind) → list_any is_away (tasks_of k (after r (after r c (entry.Claim t)) (entry.Report t f))) ≡ false
+work_here r c t f h = same_here (moved (moved c t place.Away) t (place.Back f)) (after r (after r c (entry.Claim t)) (entry.Report t f)) refl refl refl (back_all c t f h)
+
+version_here : (r : Scope) (c : Core) (t : TaskId) → ((k : Kind) → list_any is_away (tasks_of k c) ≡ false) → (k : Kind) → list_any is_away (tasks_of k (after r (after r c (entry.Claim t)) (entry.Version t))) ≡ false
+version_here r c t h = same_here (moved (moved c t place.Away) t (place.Back None)) (after r (after r c (entry.Claim t)) (entry.Version t)) refl refl refl (back_all c t None h)
+
+missed_here : (r : Scope) (c : Core) (t : TaskId) → ((k : Kind) → list_any is_away (tasks_of k c) ≡ false) → (k : Kind) → list_any is_away (tasks_of k (after r (after r c (entry.Claim t)) (entry.Missed t))) ≡ false
+missed_here r c t h = same_here (moved (moved c t place.Away) t (place.Back (Some cause.DiskFault))) (after r (after r c (entry.Claim t)) (entry.Missed t)) refl refl refl (back_all c t (Some cause.DiskFault) h)
+
+-- a cause, where there is one
+given_all : (o : Option Cause) (Q : Cause → Type 0) → ((g : Cause) → o ≡ Some g → Q g) → IfSome o Q
+given_all None Q why = tt
+given_all (Some g) Q why = why g refl
+
 module _ (r : Scope) (c : Core) (t : TaskId) (before now : ℕ) (sound : IsSound r c) (rest : IsAtRest c) (may : May r c (entry.Claim t)) where
   -- a task that publishes nothing
   report_goes : (f : Option Cause) → brings_rows t.kind f ≡ false
@@ -63,12 +80,28 @@ module _ (r : Scope) (c : Core) (t : TaskId) (before now : ℕ) (sound : IsSound
         running = may.0;
         less = work_falls r c n w;
         rest = rests n (work_here r c t f rest.here) (work_turn r c n sound rest w);
-        cause = subst (λ (o : Option Cause). IfSome o (StopsFor r n before now)) (sym (ap (λ (o : Option Cause). or_stop o d) may.0)) (given n d why);
+        cause = subst (λ (o : Option Cause). IfSome o (StopsFor r n before now)) (sym (ap (λ (o : Option Cause). or_stop o d) may.0)) (given_all d (StopsFor r n before now) why);
       }
-    where
-      given : (n : Core) (o : Option Cause) → ((g : Cause) → o ≡ Some g → StopsFor r n before now g) → IfSome o (StopsFor r n before now)
-      given n None why = tt
-      given n (Some g) why = why g refl
+
+  -- a reduce task whose version is published
+  version_goes : t.kind ≡ kind.Reduce → ((g : Cause) → due (after r c (entry.Claim t)) t None ≡ Some g → StopsFor r (after_all r c (entry.Claim t ∷ entry.Version t ∷ [])) before now g)
+      → Goes r c (after_all r c (entry.Claim t ∷ entry.Version t ∷ [])) before now
+  version_goes is why =
+      let n = after_all r c (entry.Claim t ∷ entry.Version t ∷ []) in
+      let d = due (after r c (entry.Claim t)) t None in
+      let w : Versioned r c n = (t, is, may, inl refl) in
+      record {
+        running = may.0;
+        less = version_falls r c n w;
+        rest = rests n (version_here r c t rest.here) (version_turn r c n rest w);
+        cause = subst (λ (o : Option Cause). IfSome o (StopsFor r n before now)) (sym (ap (λ (o : Option Cause). or_stop o d) may.0)) (given_all d (StopsFor r n before now) why);
+      }
+
+  -- and one whose version could not be published
+  missed_goes : Rises before now → Goes r c (after_all r c (entry.Claim t ∷ entry.Missed t ∷ [])) before now
+  missed_goes risen =
+      let n = after_all r c (entry.Claim t ∷ entry.Missed t ∷ []) in
+      record { running = may.0; less = none_left r c n may.0 refl; rest = rests n (missed_here r c t rest.here) (inr refl); cause = risen }
 
   -- an out task whose rows are published
   rows_goes : (e : ℕ) → brings_rows t.kind None ≡ true → e ≡ c.front.committed → Goes r c (after_all r c (entry.Claim t ∷ entry.Report t None ∷ entry.OutFile e ∷ [])) before now
@@ -102,7 +135,26 @@ module _ {D O : Type 0} where
   here : (old new : Shown D O) (es : List Entry) → new ≡ did old old.disk es → new ≡ did old new.disk es
   here old new es is = is ∙ ap (λ (d : D). did old d es) (sym (ap (λ s. s.disk) is))
 
-module _ {D O : Type 0} (faults : D → ℕ) (old mid new : Shown D O) (t : TaskId) (sound : IsSound old.scope old.core) (rest : IsAtRest old.core) (may : May old.scope old.core (entry.Claim t))
+-- the cause of a reduce task, where it told one
+abbrev pub IsOfReduce : Option Cause → Type 0
+IsOfReduce f = IfSome f IsReducedCause
+
+no_cause : (g : Cause) → None ≡ Some g → ⊥
+no_cause g is = cc
+
+-- the desk accounts for it, where a failure of the disk was counted
+reduce_stops : (r : Scope) (n : Core) (before now : ℕ) (g : Cause) → IsReducedCause g → (g ≡ cause.DiskFault → Rises before now) → StopsFor r n before now g
+reduce_stops r n before now (cause.BadLine s p o x) is risen = absurd is
+reduce_stops r n before now (cause.Overflow s p o) is risen = absurd is
+reduce_stops r n before now cause.KeyOverflow is risen = tt
+reduce_stops r n before now cause.LogFault is risen = absurd is
+reduce_stops r n before now (cause.LogShort s p l x) is risen = absurd is
+reduce_stops r n before now (cause.Damaged q) is risen = absurd is
+reduce_stops r n before now cause.DiskFault is risen = risen refl
+reduce_stops r n before now cause.Full is risen = absurd is
+reduce_stops r n before now cause.NoMemory is risen = tt
+
+module _ {D O : Type 0} (faults : D → ℕ) (closing : Bool) (old mid new : Shown D O) (t : TaskId) (sound : IsSound old.scope old.core) (rest : IsAtRest old.core) (may : May old.scope old.core (entry.Claim t))
     (claimed : mid ≡ did old old.disk (entry.Claim t ∷ [])) where
   claimed_core : mid.core ≡ after old.scope old.core (entry.Claim t)
   claimed_core = ap (λ s. s.core) claimed
@@ -112,22 +164,68 @@ module _ {D O : Type 0} (faults : D → ℕ) (old mid new : Shown D O) (t : Task
 
   -- a map or a reduce task is back, with a cause that is none of the desk's
   pub reported : (f : Option Cause) → new ≡ did mid mid.disk (entry.Report t f ∷ []) → brings_rows t.kind f ≡ false
-      → ((g : Cause) → f ≡ Some g → (r : Scope) (n : Core) (before now : ℕ) → StopsFor r n before now g) → IsTurn faults old new
+      → ((g : Cause) → f ≡ Some g → (r : Scope) (n : Core) (before now : ℕ) → StopsFor r n before now g) → IsTurn faults closing old new
   reported f is none own =
       let r = old.scope in
       let c = old.core in
       let n = after_all r c (entry.Claim t ∷ entry.Report t f ∷ []) in
       let calm = (step_sound r c (entry.Claim t) may sound).calm may.0 t.kind in
       let same : faults new.disk ≡ faults old.disk = ap (λ s. faults s.disk) is ∙ claimed_faults in
-      goes_turn faults old new (entry.Claim t ∷ entry.Report t f ∷ []) (behind old mid new t (entry.Report t f ∷ []) claimed (here mid new (entry.Report t f ∷ []) is)) refl
+      goes_turn faults closing old new (entry.Claim t ∷ entry.Report t f ∷ []) (behind old mid new t (entry.Report t f ∷ []) claimed (here mid new (entry.Report t f ∷ []) is)) (λ none. refl)
       (report_goes r c t (faults old.disk) (faults new.disk) sound rest may f none
-      (report_stops r (after r c (entry.Claim t)) n t f (faults old.disk) (faults new.disk) may.0 calm (λ g own_is. own g own_is r n (faults old.disk) (faults new.disk))))
+      (report_stops r (after r c (entry.Claim t)) n t f (faults old.disk) (faults new.disk) may.0 calm (λ g own_is due_is. own g own_is r n (faults old.disk) (faults new.disk))))
       (subst (λ (x : ℕ). faults old.disk ≤ x) (sym same) (le_refl (faults old.disk)))
+
+  -- A reduce task is back, and told what it brings: a failure of the disk, where that stops the desk, was counted.
+  pub returned : {F : Type 0} (delta : Option F) (f : Option Cause) (result : Result (Unit {0}) Cause) → t.kind ≡ kind.Reduce → IsOfReduce f
+      → IsReturned delta mid new t f result (Rises (faults mid.disk) (faults new.disk)) → (IsErrOf result cause.DiskFault → Rises (faults mid.disk) (faults new.disk))
+      → faults mid.disk ≤ faults new.disk → IsTurn faults closing old new
+  returned {F} delta f result is own came risen counted =
+      by delta came (subst (λ (x : ℕ). IsErrOf result cause.DiskFault → Rises x (faults new.disk)) claimed_faults risen)
+      (subst (λ (x : ℕ). x ≤ faults new.disk) claimed_faults counted)
+    where
+      r : Scope
+      r = old.scope
+
+      c : Core
+      c = old.core
+
+      now : Core
+      now = after r c (entry.Claim t)
+
+      none_reduce : (k : Kind) (o : Option Cause) → k ≡ kind.Reduce → brings_rows k o ≡ false
+      none_reduce k o same = subst (λ (x : Kind). brings_rows x o ≡ false) (sym same) refl
+
+      answered : (o : Option Cause) → result ≡ answer (due mid.core t o) → (IsErrOf result cause.DiskFault → Rises (faults old.disk) (faults new.disk)) → due now t o ≡ Some cause.DiskFault → Rises (faults old.disk) (faults new.disk)
+      answered o told risen stops = risen (told ∙ ap (λ (x : Core). answer (due x t o)) claimed_core ∙ ap answer stops)
+
+      calm : due_stop (tasks_of t.kind now) ≡ None
+      calm = (step_sound r c (entry.Claim t) may sound).calm may.0 t.kind
+
+      by : (delta : Option F) → IsReturned delta mid new t f result (Rises (faults mid.disk) (faults new.disk)) → (IsErrOf result cause.DiskFault → Rises (faults old.disk) (faults new.disk)) → faults old.disk ≤ faults new.disk → IsTurn faults closing old new
+      by None came risen counted =
+          let n = after_all r c (entry.Claim t ∷ entry.Report t f ∷ []) in
+          goes_turn faults closing old new (entry.Claim t ∷ entry.Report t f ∷ []) (behind old mid new t (entry.Report t f ∷ []) claimed came.0) (λ none. refl)
+          (report_goes r c t (faults old.disk) (faults new.disk) sound rest may f (none_reduce t.kind f is)
+          (report_stops r now n t f (faults old.disk) (faults new.disk) may.0 calm
+          (λ g own_is due_is. reduce_stops r n (faults old.disk) (faults new.disk) g (subst (λ (o : Option Cause). IfSome o IsReducedCause) own_is own)
+          (λ disk. answered f came.1 risen (due_is ∙ ap Some disk)))))
+          counted
+      by (Some file) (inl came) risen counted =
+          let n = after_all r c (entry.Claim t ∷ entry.Version t ∷ []) in
+          goes_turn faults closing old new (entry.Claim t ∷ entry.Version t ∷ []) (behind old mid new t (entry.Version t ∷ []) claimed came.0) (λ none. refl)
+          (version_goes r c t (faults old.disk) (faults new.disk) sound rest may is
+          (report_stops r now n t None (faults old.disk) (faults new.disk) may.0 calm (λ g own_is. absurd (no_cause g own_is))))
+          counted
+      by (Some file) (inr missed) risen counted =
+          goes_turn faults closing old new (entry.Claim t ∷ entry.Missed t ∷ []) (behind old mid new t (entry.Missed t ∷ []) claimed missed.1) (λ none. refl)
+          (missed_goes r c t (faults old.disk) (faults new.disk) sound rest may (risen missed.2))
+          counted
 
   -- the out task is back
   pub published : (f : Option Cause) (result : Result (Unit {0}) Cause) → brings_rows t.kind None ≡ true → ((g : Cause) → brings_rows t.kind (Some g) ≡ false)
       → IsOut (brings mid.core.front.stop f) mid new t f result (Rises (faults mid.disk) (faults new.disk)) → IfErr result (λ g. HasRisen g (faults mid.disk) (faults new.disk))
-      → faults mid.disk ≤ faults new.disk → IsTurn faults old new
+      → faults mid.disk ≤ faults new.disk → IsTurn faults closing old new
   published f result rows no_rows out risen counted =
       let runs : mid.core.front.stop ≡ None = ap (λ (x : Core). x.front.stop) claimed_core ∙ may.0 in
       by f result (subst (λ (o : Option Cause). IsOut (brings o f) mid new t f result (Rises (faults mid.disk) (faults new.disk))) runs out)
@@ -135,21 +233,21 @@ module _ {D O : Type 0} (faults : D → ℕ) (old mid new : Shown D O) (t : Task
       (subst (λ (x : ℕ). x ≤ faults new.disk) claimed_faults counted)
     where
       by : (f : Option Cause) (result : Result (Unit {0}) Cause) → IsOut (brings None f) mid new t f result (Rises (faults mid.disk) (faults new.disk)) → IfErr result (λ g. HasRisen g (faults old.disk) (faults new.disk))
-          → faults old.disk ≤ faults new.disk → IsTurn faults old new
+          → faults old.disk ≤ faults new.disk → IsTurn faults closing old new
       by None (Ok x) out risen counted =
           let es = entry.Report t None ∷ entry.OutFile mid.core.front.committed ∷ [] in
-          goes_turn faults old new (entry.Claim t ∷ es) (behind old mid new t es claimed out.0) refl
+          goes_turn faults closing old new (entry.Claim t ∷ es) (behind old mid new t es claimed out.0) (λ none. refl)
           (rows_goes old.scope old.core t (faults old.disk) (faults new.disk) sound rest may mid.core.front.committed rows (ap (λ (x : Core). x.front.committed) claimed_core)) counted
       by None (Err g) out risen counted =
           let es = entry.Report t None ∷ entry.Stop g ∷ [] in
-          goes_turn faults old new (entry.Claim t ∷ es) (behind old mid new t es claimed out.1.1) refl
+          goes_turn faults closing old new (entry.Claim t ∷ es) (behind old mid new t es claimed out.1.1) (λ none. refl)
           (unpublished_goes old.scope old.core t (faults old.disk) (faults new.disk) sound rest may None g (risen_stops old.scope (after_all old.scope old.core (entry.Claim t ∷ es)) g (faults old.disk) (faults new.disk) risen)) counted
       by (Some f) result out risen counted =
           let r = old.scope in
           let c = old.core in
           let n = after_all r c (entry.Claim t ∷ entry.Report t (Some f) ∷ []) in
           let es = entry.Report t (Some f) ∷ [] in
-          goes_turn faults old new (entry.Claim t ∷ es) (behind old mid new t es claimed out.0) refl
+          goes_turn faults closing old new (entry.Claim t ∷ es) (behind old mid new t es claimed out.0) (λ none. refl)
           (report_goes r c t (faults old.disk) (faults new.disk) sound rest may (Some f) (no_rows f)
           (λ g is. risen_stops r n g (faults old.disk) (faults new.disk)
           (subst (λ (x : Result (Unit {0}) Cause). IfErr x (λ h. HasRisen h (faults old.disk) (faults new.disk))) (out.1 ∙ ap (λ (x : Core). answer (due x t (Some f))) claimed_core ∙ ap answer is) risen)))

@@ -11,7 +11,7 @@ use Rattle.ssq_board.specs.Rounds.{IsAtRest, left}
 use Rattle.ssq_ledger.specs.Shown.{Shown, did}
 
 -- Why a desk stopped, whose disk had counted so many faults before, and so many now. The disk failed only where it counted that; the
--- limit of epochs is met only where so many are planned, and one more was to be; and no file is found damaged. What lines and logs
+-- limit of epochs is met only where so many are planned, and one more was to be; and no file is found damaged. What lines, keys and logs
 -- brought is not told here.
 abbrev pub StopsFor : Scope → Core → (before now : ℕ) → Cause → Type 0
 StopsFor r c before now cause.DiskFault = Rises before now
@@ -24,13 +24,13 @@ abbrev pub brings_due : Entry → Bool
 brings_due (entry.Commit e due) = due
 brings_due _ = false
 
-module _ {D O : Type 0} (faults : D → ℕ) where
-  -- What was done to a desk on one thread.
+module _ {D O : Type 0} (faults : D → ℕ) (closing : Bool) where
+  -- What was done on one thread to a desk, whose query closes or does not.
   pub record IsDriven (old new : Shown D O) : Type 0 where
     -- entries came, and nothing else
     pub entries : (es : List Entry) × (new ≡ did old new.disk es)
-    -- after none of them an epoch without lines is due
-    pub quiet : list_any brings_due entries.0 ≡ false
+    -- after none of them an epoch without lines is due, where the query does not close
+    pub quiet : closing ≡ false → list_any brings_due entries.0 ≡ false
     -- none where the desk was stopped
     pub stopped : (f : Cause) → old.core.front.stop ≡ Some f → new ≡ old
     -- nobody has a task

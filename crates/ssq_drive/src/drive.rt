@@ -1,6 +1,7 @@
 //! All turns of a round.
 
 ghost use Rattle.std.specs.Prelude.{◌≡◌, ◌⊎◌};
+ghost use Rattle.ssq_shape.specs.Late.{closes};
 ghost use Rattle.ssq_board.specs.declared.front.Ready.TheVariants as ready;
 ghost use Rattle.ssq_board.specs.Core.{ready_of};
 ghost use Rattle.ssq_board.specs.Rounds.{HasCap, IsAtRest};
@@ -17,7 +18,7 @@ use std::alloc::Global;
 pub fn run_desk<'a, D: Disk, L: Log, G: Gate>(alloc: Global, gate: &G, desk: &mut Desk<'a, D, L>)
     requires cap { HasCap desk.old.scope.cap }
     requires rest { IsAtRest desk.old.core }
-    ensures driven { IsDriven D.faults desk.old desk.new }
+    ensures driven { IsDriven D.faults (closes desk.old.opening.view.bound.now) desk.old desk.new }
     ensures good { KeepsGood L.lines (D.tells × L.tells) desk.old desk.new }
     ensures end { (ready_of desk.new.scope desk.new.core ≡ ready.Over) ⊎ (ready_of desk.new.scope desk.new.core ≡ ready.Stopped) }
 {

@@ -9,4 +9,4 @@ mod round;
 mod turn;
 
 pub use drive::run_desk;
-pub use round::{Went, run_round};
+pub use round::{Stopped, Went, run_round};

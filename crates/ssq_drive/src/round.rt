@@ -4,9 +4,10 @@ ghost use Rattle.std.specs.Prelude.{◌≡◌, ◌≤◌, ℕ, length, get_or, S
 ghost use Rattle.std.specs.List.{sum_by};
 ghost use mathlib.Core.Option.{some};
 ghost use lib.ListN.{get_elem?};
-ghost use Rattle.ssq_drive.specs.Rounds.{CanBegin, AreReturned, IsRound, setting_for};
+ghost use Rattle.ssq_drive.specs.Rounds.{CanBegin, AreReturned, HaveIndexes, IsRound, setting_for};
 
 use crate::drive::run_desk;
+use ssq_agg::Closing;
 use ssq_board::Cause;
 use ssq_desk::{Closed, Desk, Told};
 use ssq_meaning::View;
@@ -14,8 +15,17 @@ use ssq_open::Opened;
 use ssq_outside::{Disk, Gate, Log};
 use ssq_promise::rounds;
 use ssq_shape::Bound;
-use ssq_terms::{job_is_wanted, round_begins_as_found, tasks_have_terms};
+use ssq_terms::{job_is_wanted, round_begins_as_found, tasks_have_terms, times_are_of_lines};
+use ssq_value::Row;
 use std::alloc::Global;
+
+/// Why a round stopped.
+#[derive(Drop)]
+pub struct Stopped {
+    pub cause: Cause,
+    /// The key that overflows, where one does.
+    pub key: Option<Row>,
+}
 
 /// What a round leaves.
 #[derive(Drop)]
@@ -25,30 +35,34 @@ pub struct Went<D: Disk, L: Log> {
     pub logs: Vec<L>,
     /// The epochs that were acknowledged, in order.
     pub told: Vec<Told>,
-    /// What the next round begins on, or why this one stopped.
-    pub end: Result<Opened, Cause>,
+    /// What the next round begins on, with the index of each store in order; or why this one stopped.
+    pub end: Result<(Opened, Vec<Closing>), Stopped>,
 }
 
 /// What the next round begins on, or why this one stopped.
-fn end_of(next: Option<Opened>, stop: Option<Cause>) -> Result<Opened, Cause>
+fn end_of(
+    next: Option<(Opened, Vec<Closing>)>,
+    stop: Option<Cause>,
+    key: Option<Row>,
+) -> Result<(Opened, Vec<Closing>), Stopped>
     requires { next ≡ None → IsSome stop }
-    ensures next { IfOk result (λ opened. next ≡ Some opened) }
-    ensures stop { IfErr result (λ cause. (next ≡ None) × (stop ≡ Some cause)) }
+    ensures next { IfOk result (λ own. next ≡ Some own) }
+    ensures stop { IfErr result (λ why. (next ≡ None) × (stop ≡ Some why.cause) × (why.key ≡ key)) }
 {
     match next {
-        Some(opened) => Ok(opened),
+        Some(next) => Ok(next),
         None => match stop {
-            Some(cause) => Err(cause),
+            Some(cause) => Err(Stopped { cause, key }),
             None => unreachable!(),
         },
     }
 }
 
-/// Runs a round on what was opened: with one log for each part, in order, the lines that were found in them, and how many lines of a
-/// part an epoch may take, if there is a cap. Each task passes the gate as it begins.
+/// Runs a round on what was opened: with one log for each part, in order, the index of each store, in order, the lines that were found in the
+/// logs, and how many lines of a part an epoch may take, if there is a cap. Each task passes the gate as it begins.
 ///
-/// It ends where all that was found is covered, committed and told, and then gives what the next round begins on; or it stops, for a bad
-/// line or a fault of the outside.
+/// It ends where all that was found is covered, committed and told, and no epoch without lines is due, and then gives what the next round
+/// begins on; or it stops, for a bad line, a key that overflows or a fault of the outside.
 pub fn run_round<D: Disk, L: Log, G: Gate>(
     alloc: Global,
     gate: &G,
@@ -56,11 +70,13 @@ pub fn run_round<D: Disk, L: Log, G: Gate>(
     disk: D,
     logs: Vec<L>,
     opened: Opened,
+    closings: Vec<Closing>,
     found: Vec<u64>,
     cap: Option<u64>,
 ) -> Went<D, L>
     requires can { CanBegin bound.now (length logs.items) opened (record { partitions = opened.meta.partitions; available = found.items; cap = cap }) }
     requires long { L.tells → (i : ℕ) (own : _) → get_elem? logs.items i ≡ some own → get_or found.items i 0 ≤ L.available own }
+    requires indexes { HaveIndexes bound.now opened.stores closings.items }
     ensures round { IsRound (D.tells × L.tells) (setting_for L.lines bound.now opened logs.items) (length logs.items) (record { partitions = opened.meta.partitions; available = found.items; cap = cap })
         opened (D.history disk) (D.history result.disk) (D.faults disk) (D.faults result.disk) (sum_by L.faults result.logs.items) result.told.items result.end }
     ensures logs { AreReturned L.tells L.lines L.available L.answers L.faults logs.items result.logs.items }
@@ -70,18 +86,22 @@ pub fn run_round<D: Disk, L: Log, G: Gate>(
     job_is_wanted();
     tasks_have_terms();
     round_begins_as_found();
+    times_are_of_lines();
     let view = View {
         bound,
         partitions: opened.meta.partitions,
     };
-    let mut desk = match Desk::new(alloc, view, disk, logs, opened, found, cap) {
+    let mut desk = match Desk::new(alloc, view, disk, logs, opened, closings, found, cap) {
         Ok(desk) => desk,
         Err((disk, logs)) => {
             return Went {
                 disk,
                 logs,
                 told: Vec::new(alloc),
-                end: Err(Cause::NoMemory),
+                end: Err(Stopped {
+                    cause: Cause::NoMemory,
+                    key: None,
+                }),
             };
         }
     };
@@ -93,6 +113,7 @@ pub fn run_round<D: Disk, L: Log, G: Gate>(
         logs,
         told,
         stop,
+        key,
         next,
         ..
     } = desk.closed();
@@ -100,6 +121,6 @@ pub fn run_round<D: Disk, L: Log, G: Gate>(
         disk,
         logs,
         told,
-        end: end_of(next, stop),
+        end: end_of(next, stop, key),
     }
 }

@@ -3,6 +3,7 @@
 //! The Stop that a call answers is the desk's from then on, and the next turn sees it there.
 
 ghost use Rattle.std.specs.Prelude.{◌≡◌, ◌⊎◌, true, false};
+ghost use Rattle.ssq_shape.specs.Late.{closes};
 ghost use Rattle.ssq_board.specs.declared.front.Ready.TheVariants as ready;
 ghost use Rattle.ssq_board.specs.Core.{ready_of};
 ghost use Rattle.ssq_board.specs.Rounds.{HasCap, IsAtRest};
@@ -22,7 +23,7 @@ fn plan<'a, D: Disk, L: Log>(alloc: Global, desk: &mut Desk<'a, D, L>)
     requires cap { HasCap desk.old.scope.cap }
     requires rest { IsAtRest desk.old.core }
     requires next { ready_of desk.old.scope desk.old.core ≡ ready.Plan }
-    ensures turn { IsTurn D.faults desk.old desk.new }
+    ensures turn { IsTurn D.faults (closes desk.old.opening.view.bound.now) desk.old desk.new }
     ensures good { KeepsGood L.lines (D.tells × L.tells) desk.old desk.new }
 {
     desk.is_in_order();
@@ -34,7 +35,7 @@ fn plan<'a, D: Disk, L: Log>(alloc: Global, desk: &mut Desk<'a, D, L>)
 fn sync<'a, D: Disk, L: Log>(desk: &mut Desk<'a, D, L>)
     requires rest { IsAtRest desk.old.core }
     requires next { ready_of desk.old.scope desk.old.core ≡ ready.Sync }
-    ensures turn { IsTurn D.faults desk.old desk.new }
+    ensures turn { IsTurn D.faults (closes desk.old.opening.view.bound.now) desk.old desk.new }
     ensures good { KeepsGood L.lines (D.tells × L.tells) desk.old desk.new }
 {
     desk.is_in_order();
@@ -45,7 +46,7 @@ fn sync<'a, D: Disk, L: Log>(desk: &mut Desk<'a, D, L>)
 fn commit<'a, D: Disk, L: Log>(desk: &mut Desk<'a, D, L>)
     requires rest { IsAtRest desk.old.core }
     requires next { ready_of desk.old.scope desk.old.core ≡ ready.Commit }
-    ensures turn { IsTurn D.faults desk.old desk.new }
+    ensures turn { IsTurn D.faults (closes desk.old.opening.view.bound.now) desk.old desk.new }
     ensures good { KeepsGood L.lines (D.tells × L.tells) desk.old desk.new }
 {
     desk.is_in_order();
@@ -79,7 +80,7 @@ fn id_of<L: Log, S: Stage>(task: &Task<'_, L, S>) -> TaskId
 fn work<'a, D: Disk, L: Log, G: Gate>(alloc: Global, gate: &G, desk: &mut Desk<'a, D, L>)
     requires rest { IsAtRest desk.old.core }
     requires next { ready_of desk.old.scope desk.old.core ≡ ready.Task }
-    ensures turn { IsTurn D.faults desk.old desk.new }
+    ensures turn { IsTurn D.faults (closes desk.old.opening.view.bound.now) desk.old desk.new }
     ensures good { KeepsGood L.lines (D.tells × L.tells) desk.old desk.new }
 {
     desk.is_in_order();
@@ -109,7 +110,7 @@ pub(crate) fn turn<'a, D: Disk, L: Log, G: Gate>(
 ) -> bool
     requires cap { HasCap desk.old.scope.cap }
     requires rest { IsAtRest desk.old.core }
-    ensures done { result ≡ true → IsTurn D.faults desk.old desk.new }
+    ensures done { result ≡ true → IsTurn D.faults (closes desk.old.opening.view.bound.now) desk.old desk.new }
     ensures good { KeepsGood L.lines (D.tells × L.tells) desk.old desk.new }
     ensures end { result ≡ false → (desk.new ≡ desk.old) × ((ready_of desk.old.scope desk.old.core ≡ ready.Over) ⊎ (ready_of desk.old.scope desk.old.core ≡ ready.Stopped)) }
 {

@@ -1,3 +1,4 @@
 pub mod Joining
 pub mod Leaving
 pub mod Truths
+pub mod Coming

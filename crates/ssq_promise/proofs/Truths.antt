@@ -24,6 +24,7 @@ use Rattle.ssq_board.specs.Core.{Scope, Core, May, comes_back, cuts_by, events_a
 use Rattle.ssq_board.specs.Shown.{Start, IsSound}
 use Rattle.ssq_board.specs.Follows.{Terms, State, Step, Leads, Shows, Goes, Tries, IsTried, BringsVersion, publishes_by, change_of, shown}
 use Rattle.ssq_board.proofs.Following.{list_follows}
+use Rattle.ssq_board.proofs.Lists.{nat_lt-not}
 use Rattle.ssq_board.proofs.Opening.{shows_first}
 use Rattle.ssq_board.proofs.Sounds.{first_sound, step_sound}
 use Rattle.ssq_promise.specs.Run.{Begins, AreTrueTo, AreFilesOf, as_planned, one_tried}
@@ -98,7 +99,7 @@ more_true course n had has q c may = elim (has q c may) [
 
 -- ---- cuts that go on
 
-extended_below : (cuts : Cuts) (n : ℕ) (ends : Ends) (e : ℕ) → e ≤ n → extended cuts n ends e ≡ cuts e
+pub extended_below : (cuts : Cuts) (n : ℕ) (ends : Ends) (e : ℕ) → e ≤ n → extended cuts n ends e ≡ cuts e
 extended_below cuts n ends e le = by (nat_lt n e) refl
   where
     by : (b : Bool) → nat_lt n e ≡ b → (if b then ends else cuts e) ≡ cuts e
@@ -229,41 +230,53 @@ module _ (job : Job) (r : Scope) (next : Cuts → ℕ → Bool) (terms : Terms j
         still_true mid n refl step.cuts (ap (λ (c : Core). c.front.planned) step.core) (ap (λ (c : Core). c.ends) step.core) (ap (λ (c : Core). c.front.due) step.core) (ap (λ (c : Core). c.front.committed) step.core) (ap (λ (c : Core). c.front.settled) step.core)
         (stop_true s.disk n.disk s.core s.cuts m.0 (running_true s d cuts shows step.may.0 sound) m.1 m.2)
 
+    -- what is due where no epoch is open
+    abbrev IsDueSo : State → Type 0
+    IsDueSo n = n.core.front.planned ≤ n.core.front.committed → n.core.front.due ≡ next n.cuts n.core.front.planned
+
+    closed_due : (s : State) (d : Desk) → d.cuts ≡ s.cuts → Shows job r next terms s.core d → IsDueSo s
+    closed_due s d cuts shows all = shows.due (nat_lt-not s.core.front.committed s.core.front.planned all) ∙ ap (λ (k : Cuts). next k s.core.front.planned) cuts
+
     -- and so it is of what entries lead to
     run_true : (es : List Entry) (s n : State) (d : Desk) → IsSound r s.core → d.cuts ≡ s.cuts → Shows job r next terms s.core d → Sound job (shown s.disk s.core d) → IsTrueState job r s → Leads tells job r next s es n
-        → IsTrueState job r n × (n.cuts n.core.front.planned ≡ n.core.ends)
+        → IsTrueState job r n × (n.cuts n.core.front.planned ≡ n.core.ends) × IsDueSo n
     run_true [] s n d core cuts shows sound is l =
-        subst (λ (x : State). IsTrueState job r x × (x.cuts x.core.front.planned ≡ x.core.ends)) l (is, ap (λ (k : Cuts). k s.core.front.planned) (sym cuts) ∙ shows.ends)
+        subst (λ (x : State). IsTrueState job r x × (x.cuts x.core.front.planned ≡ x.core.ends) × IsDueSo x) l (is, ap (λ (k : Cuts). k s.core.front.planned) (sym cuts) ∙ shows.ends, closed_due s d cuts shows)
     run_true (e ∷ es) s n d core cuts shows sound is l =
         let mid = l.0 in
         let one = list_follows tells job r next terms t (e ∷ []) s mid d core cuts shows (mid, l.1, refl) in
         let later : Sound job (shown mid.disk mid.core one.0) = (moves_on tells job (events_all r s.core (e ∷ [])) (shown s.disk s.core d) (shown mid.disk mid.core one.0) t terms.causal sound one.1).sound in
         run_true es mid n one.0 (subst (IsSound r) (sym l.1.core) (step_sound r s.core e l.1.may core)) one.2 one.3 later (step_true e s mid d one.0 l.1 cuts shows sound one.2 one.3 later is) l.2
 
-first_or : (a b : Bool) → (a || b) ≡ true → b ≡ false → a ≡ true
-first_or true b is none = refl
-first_or false b is none = absurd (true≢false (sym is ∙ none))
+pub either_of : (a b : Bool) → (a || b) ≡ true → (a ≡ true) ⊎ (b ≡ true)
+either_of true b is = inl refl
+either_of false b is = inr is
 
 -- said of other cuts that are the same so far
-files_by : (job : Job) (r : Scope) (next : Cuts → ℕ → Bool) (terms : Terms job r next) (n : State) (cuts : Cuts) → IsTrueState job r n → n.cuts n.core.front.planned ≡ n.core.ends → n.core.front.due ≡ false → AreSameUpTo cuts n.cuts n.core.front.planned
-    → AreFilesOf job r.cap (λ found. found ≡ r.available) ((n.core.front.planned ≤ n.core.front.committed) × (n.core.front.settled ≡ true)) cuts n.core.front.planned n.disk
-files_by job r next terms n cuts (so_far has) ends none same =
+files_by : (job : Job) (r : Scope) (next : Cuts → ℕ → Bool) (terms : Terms job r next) (n : State) (cuts : Cuts) → IsTrueState job r n → n.cuts n.core.front.planned ≡ n.core.ends
+    → (n.core.front.planned ≤ n.core.front.committed → n.core.front.due ≡ next n.cuts n.core.front.planned) → AreSameUpTo cuts n.cuts n.core.front.planned
+    → AreFilesOf job r.cap next (λ found. found ≡ r.available) ((n.core.front.planned ≤ n.core.front.committed) × (n.core.front.settled ≡ true)) cuts n.core.front.planned n.disk
+files_by job r next terms n cuts (so_far has) ends dues same =
     as_planned (now_true (job.course cuts) n.core.front.planned n.disk
     (agree_true (job.course n.cuts) (job.course cuts) n.core.front.planned (had_now n.disk) (terms.causal.agrees n.cuts cuts n.core.front.planned (λ e le. sym (same e le))) has))
-files_by job r next terms n cuts (so_tried all settled behind has) ends none same =
+files_by job r next terms n cuts (so_tried all settled more has) ends dues same =
     let k = n.core.front.planned in
     let here : cuts k ≡ n.core.ends = same k (omega arith) ∙ ends in
     let to = next_ends r.cap n.core.ends r.available in
-    one_tried (all, settled) r.available refl (ap (λ (l : Ends). is_behind l r.available) here ∙ first_or (is_behind n.core.ends r.available) n.core.front.due behind none)
+    let comes : (is_behind (cuts k) r.available ≡ true) ⊎ (next cuts k ≡ true) = elim (either_of (is_behind n.core.ends r.available) n.core.front.due more) [
+      | inl behind ↦ inl (ap (λ (l : Ends). is_behind l r.available) here ∙ behind)
+      | inr due ↦ inr (terms.dues cuts n.cuts k same ∙ sym (dues all) ∙ due)
+    ] in
+    one_tried (all, settled) r.available refl comes
     (subst (λ (l : Ends). LeavesNow n.disk (AreTrueTo (job.course (extended cuts k (next_ends r.cap l r.available))) (k + 1))) (sym here)
     (now_true (job.course (extended cuts k to)) (k + 1) n.disk
     (agree_true (job.course (extended n.cuts k to)) (job.course (extended cuts k to)) (k + 1) (had_now n.disk)
     (terms.causal.agrees (extended n.cuts k to) (extended cuts k to) (k + 1) (extended_same n.cuts cuts k to (λ e le. sym (same e le)))) has)))
 
 pub round_leaves_true : (tells : Type 0) → tells → (job : Job) (r : Scope) (next : Cuts → ℕ → Bool) (terms : Terms job r next) (st : Start) (es : List Entry) (s n : State) → Begins job r next terms st s
-    → Leads tells job r next s es n → n.core.front.due ≡ false
-    → (cuts : Cuts) → AreSameUpTo cuts n.cuts n.core.front.planned → AreFilesOf job r.cap (λ found. found ≡ r.available) ((n.core.front.planned ≤ n.core.front.committed) × (n.core.front.settled ≡ true)) cuts n.core.front.planned n.disk
-round_leaves_true tells t job r next terms st es s n b l none cuts same =
+    → Leads tells job r next s es n
+    → (cuts : Cuts) → AreSameUpTo cuts n.cuts n.core.front.planned → AreFilesOf job r.cap next (λ found. found ≡ r.available) ((n.core.front.planned ≤ n.core.front.committed) × (n.core.front.settled ≡ true)) cuts n.core.front.planned n.disk
+round_leaves_true tells t job r next terms st es s n b l cuts same =
     let here : Shows job r next terms s.core b.desk = subst (λ (x : Core). Shows job r next terms x b.desk) (sym b.core)
     (shows_first job r next terms st b.files b.desk b.at.committed b.at.begins b.at.from b.is st.is_planned b.at.planned b.at.to b.at.due) in
     let sound : IsSound r s.core = subst (IsSound r) (sym b.core) (first_sound r st b.at.start) in
@@ -272,4 +285,4 @@ round_leaves_true tells t job r next terms st es s n b l none cuts same =
     let first_true : IsTrueState job r s = so_far (subst (λ (m : ℕ). HasTruth (job.course s.cuts) m (had_now s.disk)) here.planned
     (subst (λ (k : Cuts). HasTruth (job.course k) b.desk.planned (had_now s.disk)) (sym b.cuts) (sound_true job b.desk (had_now s.disk) sound_first))) in
     let last = run_true job r next terms tells t es s n b.desk sound (sym b.cuts) here begun first_true l in
-    files_by job r next terms n cuts last.0 last.1 none same
+    files_by job r next terms n cuts last.0 last.1 last.2 same

@@ -1,5 +1,5 @@
 -- A run as a list of events of the machine, and what that promises.
-use Rattle.std.specs.Prelude.{◌≡◌, ◌≤◌, ◌+◌, ◌++◌, ℕ, Bool, true, false, List, [], Option, None, Contains}
+use Rattle.std.specs.Prelude.{◌≡◌, ◌⊎◌, ◌<◌, ◌≤◌, ◌+◌, ◌++◌, ℕ, Bool, true, false, List, [], Option, None, Contains}
 use Rattle.ssq_outside.specs.declared.name.Name.{Name}
 use Rattle.ssq_outside.specs.Files.{Files}
 use Rattle.ssq_outside.specs.History.{History, files_now, LeavesNow, LeavesOnly}
@@ -73,22 +73,32 @@ pub record AreTrueTo (course : Course) (planned : ℕ) (files : Files) : Type 0 
 
 -- The plans of a round are those of the files that it leaves: each image is true to their cuts, and has no other plan. Or the publishing of
 -- one plan more failed, so that an image may have it: which comes only where all others are done with, and is cut as the next, by lines that
--- were found so, of which it takes some.
-pub data AreFilesOf (job : Job) (cap : Option ℕ) (IsFound : List ℕ → Type 0) (AreDone : Type 0) (cuts : Cuts) (planned : ℕ) (now : History) : Type 0 where
-  as_planned : LeavesNow now (AreTrueTo (job.course cuts) planned) → AreFilesOf job cap IsFound AreDone cuts planned now
-  one_tried : AreDone → (found : List ℕ) → IsFound found → is_behind (cuts planned) found ≡ true
-      → LeavesNow now (AreTrueTo (job.course (extended cuts planned (next_ends cap (cuts planned) found))) (planned + 1)) → AreFilesOf job cap IsFound AreDone cuts planned now
+-- were found so, of which it takes some, or where an epoch without lines is due.
+pub data AreFilesOf (job : Job) (cap : Option ℕ) (due : Cuts → ℕ → Bool) (IsFound : List ℕ → Type 0) (AreDone : Type 0) (cuts : Cuts) (planned : ℕ) (now : History) : Type 0 where
+  as_planned : LeavesNow now (AreTrueTo (job.course cuts) planned) → AreFilesOf job cap due IsFound AreDone cuts planned now
+  one_tried : AreDone → (found : List ℕ) → IsFound found → (is_behind (cuts planned) found ≡ true) ⊎ (due cuts planned ≡ true)
+      → LeavesNow now (AreTrueTo (job.course (extended cuts planned (next_ends cap (cuts planned) found))) (planned + 1)) → AreFilesOf job cap due IsFound AreDone cuts planned now
 
 -- Where a desk opens on settled files they are true to its cuts.
 abbrev pub OpenedIsTrue : Type 0
 OpenedIsTrue = (job : Job) (disk : History) (d : Desk) → IsSettledAs disk (files_now disk) → opened job (files_now disk) d → LeavesNow disk (AreTrueTo (job.course d.cuts) d.planned)
 
--- What a round leaves are files of its plans, for any cuts that are the round's as far as epochs are planned, where no epoch without lines is
--- due.
+-- What a round leaves are files of its plans, for any cuts that are the round's as far as epochs are planned.
 abbrev pub RoundLeavesTrue : Type 0 → Type 0
 RoundLeavesTrue tells = tells → (job : Job) (r : Scope) (due : Cuts → ℕ → Bool) (terms : Terms job r due) (st : Start) (es : List Entry) (s n : State) → Begins job r due terms st s
-    → Leads tells job r due s es n → n.core.front.due ≡ false
-    → (cuts : Cuts) → AreSameUpTo cuts n.cuts n.core.front.planned → AreFilesOf job r.cap (λ found. found ≡ r.available) ((n.core.front.planned ≤ n.core.front.committed) × (n.core.front.settled ≡ true)) cuts n.core.front.planned n.disk
+    → Leads tells job r due s es n
+    → (cuts : Cuts) → AreSameUpTo cuts n.cuts n.core.front.planned → AreFilesOf job r.cap due (λ found. found ≡ r.available) ((n.core.front.planned ≤ n.core.front.committed) × (n.core.front.settled ≡ true)) cuts n.core.front.planned n.disk
+
+-- How a round went on: each epoch that it planned was to come, since some part had lines that no plan covered, or one without lines was due;
+-- none that is committed has a fault; and where no epoch is open, it is known whether one without lines is due.
+pub record WentOn (job : Job) (r : Scope) (due : Cuts → ℕ → Bool) (s n : State) : Type 0 where
+  pub come : (e : ℕ) → s.core.front.planned ≤ e → e < n.core.front.planned → (is_behind (n.cuts e) r.available ≡ true) ⊎ (due n.cuts e ≡ true)
+  pub faultless : (e : ℕ) → e < n.core.front.committed → (job.course n.cuts).is_faulty e ≡ false
+  pub due_is : is_open n.core ≡ false → n.core.front.due ≡ due n.cuts n.core.front.planned
+
+abbrev pub RoundGoesOn : Type 0 → Type 0
+RoundGoesOn tells = tells → (job : Job) (r : Scope) (due : Cuts → ℕ → Bool) (terms : Terms job r due) (st : Start) (es : List Entry) (s n : State) → Begins job r due terms st s
+    → Leads tells job r due s es n → WentOn job r due s n
 
 -- Each epoch that was acknowledged by some time of a run is in each image from then on.
 abbrev pub AcknowledgedAreKept : {tells : Type 0} {job : Job} {start now : History} {told : List ℕ} → WasRun tells job start now told → Type 0

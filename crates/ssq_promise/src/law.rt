@@ -1,11 +1,12 @@
 //! What holds of every run.
 
-ghost use Rattle.ssq_promise.specs.Run.{NothingIsRun, OpenedIsTrue, RoundIsRun, RunsAreJoined, RoundLeavesFound, RoundLeavesTrue, RunIsKept};
+ghost use Rattle.ssq_promise.specs.Run.{NothingIsRun, OpenedIsTrue, RoundIsRun, RoundGoesOn, RunsAreJoined, RoundLeavesFound, RoundLeavesTrue, RunIsKept};
 
 use ssq_outside::{Disk, Log};
 
 /// The law of rounds: a round's entries are a run; rounds are joined to one run; what a round that is over leaves is settled and
-/// stands, so that the next may begin on it; and the files that any round leaves are those of its plans.
+/// stands, so that the next may begin on it; the files that any round leaves are those of its plans; and each epoch that a round plans
+/// was to come, while none that it commits has a fault.
 pub fn rounds<D: Disk, L: Log>()
     ensures nothing { NothingIsRun (D.tells × L.tells) }
     ensures round { RoundIsRun (D.tells × L.tells) }
@@ -13,6 +14,7 @@ pub fn rounds<D: Disk, L: Log>()
     ensures over { RoundLeavesFound (D.tells × L.tells) }
     ensures opened { OpenedIsTrue }
     ensures files { RoundLeavesTrue (D.tells × L.tells) }
+    ensures on { RoundGoesOn (D.tells × L.tells) }
 {}
 
 /// The law of runs: from a checkpoint that stands, and is settled, each image of each moment stands; each file that was there stays as it

@@ -1,5 +1,5 @@
 -- Plans that go on: what was said of the first of them stays said.
-use Rattle.std.proofs.Common.{◌≡◌, ◌<◌, ◌≤◌, ◌+◌, ◌++◌, ◌∙◌, ℕ, zero, suc, List, [], ◌∷◌, length, get_or, All, Option, refl, sym, ap, subst, arith, append_assoc, add-one, take, Result, Ok, Err, OnErr}
+use Rattle.std.proofs.Common.{◌≡◌, ◌<◌, ◌≤◌, ◌+◌, ◌++◌, ◌∙◌, ◌&&◌, ℕ, zero, suc, List, [], ◌∷◌, length, get_or, All, Option, inl, inr, refl, sym, ap, subst, arith, append_assoc, add-one, take, Result, Ok, Err, OnErr}
 use Rattle.std.proofs.lemmas.List.{get_or_append_left, append-nil}
 use Rattle.std.proofs.Math.Seq.{take-suc}
 use Rattle.std.specs.Option.{ForSome}
@@ -7,11 +7,18 @@ use Rattle.ssq_time.specs.Time.{IsStampTime}
 use Rattle.std.proofs.lemmas.List.Elements.{All-cons, All-nil}
 use Rattle.ssq_plans.specs.declared.plan.Plan.{Plan}
 use Rattle.ssq_core.specs.Course.{Ends as EndsOf, Cuts}
+use Rattle.ssq_shape.specs.declared.bound.Bound.{Bound}
+use Rattle.ssq_meaning.specs.Parts.{Part}
+use Rattle.ssq_meaning.specs.Cut.{AreSameTo}
+use Rattle.ssq_meaning.specs.Cut.{Cuts as Offsets}
+use Rattle.ssq_meaning.specs.Times.{is_above}
+use Rattle.ssq_meaning.specs.Laws.{SaysSame}
 use Rattle.ssq_board.specs.Core.{next_ends, is_behind}
 use Rattle.ssq_open.specs.Epochs.{cut_of, no_plan}
-use Rattle.ssq_course.specs.Setting.{cut_of as offsets_of}
+use Rattle.ssq_course.specs.Setting.{Setting, parts_in, closes, cut_of as offsets_of, cuts_of as offsets}
+use Rattle.ssq_terms.specs.Laws.{due_at}
 use Rattle.ssq_desk.specs.declared.told.Told.{Told}
-use Rattle.ssq_drive.specs.Rounds.{AreTold}
+use Rattle.ssq_drive.specs.Rounds.{AreTold, IsMore}
 use Rattle.ssq_desk.specs.Closing.{lines_between}
 use Rattle.ssq_runner.specs.Rounds.{Round, AreNext, AreRounds, epochs_after}
 use Rattle.ssq_runner.specs.Told.{told_line, told_text}
@@ -21,21 +28,48 @@ pub cut_more : (first : EndsOf) (plans more : List Plan) (e : ℕ) → e ≤ len
 cut_more first plans more zero le = refl
 cut_more first plans more (suc e) le = ap (λ (p : Plan). p.ends) (get_or_append_left plans more (no_plan first) e (omega (arith, le)))
 
+-- the law of cuts, as the crate of the meaning has it
+abbrev pub CutsHang : Type 0
+CutsHang = (query : Bound) (parts : List Part) (one other : Offsets) (n : ℕ) → AreSameTo one other n → SaysSame query parts one other n
+
+-- whether an epoch without lines is due hangs on the cuts so far
+pub due_same : CutsHang → (s : Setting) (one other : Cuts) (n : ℕ) → ((e : ℕ) → e ≤ n → other e ≡ one e) → due_at s other n ≡ due_at s one n
+due_same hang s one other n same =
+    let law = hang s.job.bound (parts_in s) (offsets other) (offsets one) n (λ e le. ap offsets_of (same e le)) in
+    let now = law.same_watermark n (omega arith) in
+    let before = law.same_watermark_before n (omega arith) in
+    λ i. closes s.job.bound && is_above (now i) (before i)
+
+-- and so does whether one more is to come
+pub more_same : CutsHang → (s : Setting) (found : List ℕ) (one other : Cuts) (n : ℕ) → ((e : ℕ) → e ≤ n → other e ≡ one e) → IsMore s one found n → IsMore s other found n
+more_same hang s found one other n same (inl behind) = inl (ap (λ (ends : EndsOf). is_behind ends found) (same n (omega arith)) ∙ behind)
+more_same hang s found one other n same (inr due) = inr (due_same hang s one other n same ∙ due)
+
 -- a cutting that is the same up to an epoch says the same of the rounds up to there
-pub next_same : (cap : Option ℕ) (found : List ℕ) (one other : Cuts) (from to : ℕ) → ((e : ℕ) → e ≤ to → other e ≡ one e) → AreNext cap found one from to → AreNext cap found other from to
-next_same cap found one other from to same is = record {
+next_same : CutsHang → (owned : Type 0) (s : Setting) (cap : Option ℕ) (found : List ℕ) (one other : Cuts) (from to : ℕ) → ((e : ℕ) → e ≤ to → other e ≡ one e) → AreNext owned s cap found one from to → AreNext owned s cap found other from to
+next_same hang owned s cap found one other from to same is = record {
   next = λ e ge less. same (e + 1) (omega (arith, less)) ∙ is.next e ge less ∙ ap (λ (ends : EndsOf). next_ends cap ends found) (sym (same e (omega (arith, less))));
-  due = λ e ge less. ap (λ (ends : EndsOf). is_behind ends found) (same e (omega (arith, less))) ∙ is.due e ge less;
+  due = λ e ge less. elim (is.due e ge less) [
+    | inl behind ↦ inl (ap (λ (ends : EndsOf). is_behind ends found) (same e (omega (arith, less))) ∙ behind)
+    | inr last ↦ inr last
+  ];
+  more = λ own e ge less. more_same hang s found one other e (λ f le. same f (omega (arith, le, less))) (is.more own e ge less);
 }
 
-pub rounds_same : (cap : Option ℕ) (one other : Cuts) (before : ℕ) (done : List Round) (n : ℕ) → ((e : ℕ) → e ≤ n → other e ≡ one e) → epochs_after before done ≤ n → AreRounds cap one before done → AreRounds cap other before done
+pub rounds_same : CutsHang → (owned : Type 0) (s : Setting) (cap : Option ℕ) (one other : Cuts) (before : ℕ) (done : List Round) (n : ℕ) → ((e : ℕ) → e ≤ n → other e ≡ one e) → epochs_after before done ≤ n → AreRounds owned s cap one before done
+    → AreRounds owned s cap other before done
 unfolding AreRounds
-rounds_same cap one other before [] n same within are = tt
-rounds_same cap one other before (round ∷ earlier) n same within are =
+rounds_same hang owned s cap one other before [] n same within are = tt
+rounds_same hang owned s cap one other before (round ∷ earlier) n same within are =
     let below : (e : ℕ) → e ≤ round.epochs → other e ≡ one e = λ e le. same e (omega (arith, le, within)) in
     let on = are.0.on in (
-      record { on = on; cut = next_same cap round.found one other (epochs_after before earlier) round.epochs below are.0.cut; covers = ap (λ (ends : EndsOf). is_behind ends round.found) (below round.epochs (omega arith)) ∙ are.0.covers },
-      rounds_same cap one other before earlier n same (omega (arith, on, within)) are.1,
+      record {
+        on = on;
+        cut = next_same hang owned s cap round.found one other (epochs_after before earlier) round.epochs below are.0.cut;
+        covers = ap (λ (ends : EndsOf). is_behind ends round.found) (below round.epochs (omega arith)) ∙ are.0.covers;
+        quiet = λ own. due_same hang s one other round.epochs below ∙ are.0.quiet own;
+      },
+      rounds_same hang owned s cap one other before earlier n same (omega (arith, on, within)) are.1,
     )
 
 -- what is told of the first epochs stays told

@@ -64,3 +64,19 @@ pub epoch_fine : (query : Bound) (parts : List Part) (cuts : Cuts) (e : ℕ) (at
 epoch_fine query parts cuts e at good is =
     no_line (key_fault query parts cuts e) at
     (subst (λ (f : Option LineAt). or_else (option_map of_line f) (option_map of_key (key_fault query parts cuts e)) ≡ Some (of_line at)) (parts_fine query parts (cuts e) (cuts (e + 1)) good) is)
+
+-- ---- keys
+
+-- a line is no key
+abbrev is_key : Option EpochFault → Type 0
+is_key None = ⊥
+is_key (Some (of_line at)) = ⊥
+is_key (Some (of_key key)) = Unit {0}
+
+no_key : (line : Option LineAt) (own : Option Values) (key : Values) → own ≡ None → or_else (option_map of_line line) (option_map of_key own) ≡ Some (of_key key) → ⊥
+no_key None own key none is = subst is_key (sym is ∙ ap (λ (o : Option Values). option_map of_key o) none) tt
+no_key (Some at) own key none is = subst is_key (sym is) tt
+
+-- so an epoch in which no key overflows has no key that is its fault
+pub keyless : (query : Bound) (parts : List Part) (cuts : Cuts) (e : ℕ) (key : Values) → key_fault query parts cuts e ≡ None → fault query parts cuts e ≡ Some (of_key key) → ⊥
+keyless query parts cuts e key none is = no_key (fault_between query parts (cuts e) (cuts (e + 1))) (key_fault query parts cuts e) key none is

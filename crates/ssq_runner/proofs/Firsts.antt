@@ -10,17 +10,21 @@ use Rattle.std.specs.Option.{ForSome}
 use Rattle.ssq_outside.specs.History.{History, files_now, LeavesNow}
 use Rattle.ssq_outside.specs.Logs.{Line}
 use Rattle.ssq_shape.specs.declared.bound.Bound.{Bound}
+use Rattle.ssq_shape.specs.declared.bound.Shape.{Shape}
+use Rattle.ssq_shape.specs.declared.bound.Shape.TheVariants.{Plain, Group, Dedup, Join}
 use Rattle.ssq_plans.specs.declared.part.PartEnd.{PartEnd}
-use Rattle.ssq_course.specs.Setting.{Setting, parts_in, end_at, job_of, cut_of as offsets_of}
+use Rattle.ssq_course.specs.Setting.{Setting, parts_in, end_at, job_of, keeping_of, cut_of as offsets_of}
 use Rattle.ssq_meaning.specs.Parts.{Part}
 use Rattle.ssq_open.specs.declared.wanted.Opened.{Opened}
 use Rattle.ssq_open.specs.Epochs.{starts, last_ends}
 use Rattle.ssq_open.specs.Lens.{CanBeAsked, IsFew, found_from}
 use Rattle.ssq_open.specs.Numbers.{HasNumbers}
+use Rattle.ssq_open.specs.Stateful.{keeping_of as opened_keeping}
+use Rattle.ssq_open.specs.Stores.{AreStores}
 use Rattle.ssq_open.specs.Opening.{first_short, is_short}
 use Rattle.ssq_open.specs.Watermarks.{watermarked}
 use Rattle.ssq_board.specs.Rounds.{HasCap}
-use Rattle.ssq_terms.specs.Setting.{IsPlain, IsSettingOf, found_lines}
+use Rattle.ssq_terms.specs.Setting.{CanRun, IsSettingOf, found_lines}
 use Rattle.ssq_terms.specs.Laws.{PartsAreFound}
 use Rattle.ssq_promise.specs.Run.{AreTrueTo, NothingIsRun, OpenedIsTrue, as_planned}
 use Rattle.ssq_logs.specs.Asked.{AreAsked}
@@ -49,6 +53,13 @@ use Rattle.ssq_runner.proofs.Readying.{asked_under, asked_at, asked_found, asked
 setting_over : Bound → ℕ → List ℕ → List ℕ → Setting
 setting_over bound partitions parts found = record { job = record { bound = bound; partitions = partitions; parts = parts }; lines = map (λ _. []) found }
 
+-- as many partitions keep state, as the opening and the course count them
+same_keeping : (shape : Shape) (partitions : ℕ) → opened_keeping shape partitions ≡ keeping_of shape partitions
+same_keeping Plain partitions = refl
+same_keeping (Group grouping) partitions = refl
+same_keeping (Dedup columns) partitions = refl
+same_keeping (Join joining) partitions = refl
+
 -- the lines apart are the lines
 pub apart_joined : (counts found : List ℕ) → length found ≡ sum counts → found_lines (lens_of counts found) ≡ found
 apart_joined [] [] count = refl
@@ -70,7 +81,7 @@ short_at (end ∷ ends) (there ∷ found) none count i = first_by (is_short (end
     first_by false e none rest zero = ltb-false there.end end.end e
     first_by false e none rest (suc i) = rest i none
 
-module _ (law : PartsAreFound) (bound : Bound) (asks : Option ℕ) (counts found : List ℕ) (can_ask : CanBeAsked bound asks (lens_of counts found)) (plain : IsPlain bound) (each : length found ≡ sum counts)
+module _ (law : PartsAreFound) (bound : Bound) (asks : Option ℕ) (counts found : List ℕ) (can_ask : CanBeAsked bound asks (lens_of counts found)) (runs : CanRun bound) (each : length found ≡ sum counts)
     {D : Type 0} (tells : Type 0) (history : D → History) (before now : D) (opened : Opened) (is : IsOpenedOn tells history bound asks (lens_of counts found) before now opened) where
   s : Setting
   s = setting_over bound opened.meta.partitions opened.meta.parts found
@@ -79,7 +90,7 @@ module _ (law : PartsAreFound) (bound : Bound) (asks : Option ℕ) (counts found
   unfolding s setting_over
   is_setting = record {
     query = refl;
-    plain = plain;
+    runs = runs;
     asked = can_ask;
     some_partitions = is.some_partitions;
     few_partitions = is.few_partitions;
@@ -102,7 +113,7 @@ module _ (law : PartsAreFound) (bound : Bound) (asks : Option ℕ) (counts found
 
   pub can_first : (logs : ℕ) (cap : Option ℕ) → logs ≡ length found → logs ≤ 128 → sum found < 2 ^ 64 → HasCap cap → CanBegin bound logs opened (scope_of opened found cap)
   can_first logs cap same few small has_cap = record {
-    plain = plain;
+    runs = runs;
     partitions = refl;
     some_partitions = is.some_partitions;
     few_partitions = is.few_partitions;
@@ -114,6 +125,7 @@ module _ (law : PartsAreFound) (bound : Bound) (asks : Option ℕ) (counts found
     few_tasks = (let p = is.few_partitions in omega (arith, same, few, p));
     few_lines = small;
     numbers = subst (λ (ends : List PartEnd). HasNumbers (watermarked bound.streams) ends opened) begin_same is.numbers;
+    stores = subst (λ (n : ℕ). AreStores n opened.committed opened.stores) (same_keeping bound.shape opened.meta.partitions) is.stores;
     long = λ i. long i;
   }
     where
@@ -151,7 +163,7 @@ ready_first T U lines available answers faults less nothing at_rest b news found
         wrote = λ o. text_start b.written;
         asked = record { answered = none_asked U lines available answers faults 0 b.logs; first = tt };
         fits = record {
-          plain = can.plain;
+          runs = can.runs;
           some_partitions = can.some_partitions;
           few_partitions = can.few_partitions;
           streams = can.streams;
@@ -160,6 +172,7 @@ ready_first T U lines available answers faults less nothing at_rest b news found
           few_logs = few;
           has_cap = can.cap;
           numbers = can.numbers;
+          stores = can.stores;
         };
         there = λ never. absurd (omega (arith, never));
         disk_counted = omega arith;
@@ -181,7 +194,7 @@ ready_first T U lines available answers faults less nothing at_rest b news found
       can = can;
       few = (let c = count.0 in omega (arith, few, c));
       seen = λ u i own at. (let e = asked_at T lines available answers faults b.logs news found ask (less u) i own at in omega (arith, e));
-      are = λ u small. asked_found T lines available answers faults b.logs news found ask (less u) small;
+      are = λ u. asked_found T lines available answers faults b.logs news found ask (less u);
     }
 
 -- the job that is wanted is that of the query, the parts and the lines that were found

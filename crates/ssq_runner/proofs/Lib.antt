@@ -1,4 +1,5 @@
 pub mod Cutting
+pub mod Indexing
 pub mod Answering
 pub mod Turning
 pub mod Stopping

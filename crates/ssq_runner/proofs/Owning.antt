@@ -1,5 +1,5 @@
 -- What was opened is the job's own, where the checkpoint stands for the run's job or is empty.
-use Rattle.std.proofs.Common.{◌≡◌, ◌<◌, ◌≤◌, ◌+◌, ◌∙◌, ◌^◌, ◌⊎◌, ℕ, suc, List, [], ◌∷◌, length, map, sum, take, drop, unwrap_or, All, Option, Some, None, inl, inr, is_some, true, true≢false, refl, sym, ap, subst, arith}
+use Rattle.std.proofs.Common.{◌≡◌, ◌≤◌, ◌+◌, ◌∙◌, ◌⊎◌, ℕ, suc, List, [], ◌∷◌, length, map, sum, take, drop, unwrap_or, All, Option, Some, None, inl, inr, is_some, true, true≢false, refl, sym, ap, subst, arith}
 use Rattle.std.specs.Prelude.{Contains}
 use Rattle.std.specs.Option.{ForSome}
 use Rattle.std.proofs.lemmas.List.{length-take, length-drop}
@@ -18,7 +18,7 @@ use Rattle.ssq_core.specs.Standing.{Stands, StandsAt, IsThere}
 use Rattle.ssq_plans.specs.Records.{meta_text}
 use Rattle.ssq_core.specs.Settled.{IsSettledAs}
 use Rattle.ssq_core.specs.Sound.{StandsOrEmpty}
-use Rattle.ssq_course.specs.Setting.{Setting, meta_of, job_of}
+use Rattle.ssq_course.specs.Setting.{Setting, meta_of, state_at, job_of}
 use Rattle.ssq_open.specs.declared.wanted.Lens.{Lens}
 use Rattle.ssq_open.specs.declared.wanted.Opened.{Opened}
 use Rattle.ssq_open.specs.Epochs.{starts, cut_of}
@@ -26,10 +26,10 @@ use Rattle.ssq_open.specs.Lens.{CanBeAsked, IsFew, asked, counts_of, found_from}
 use Rattle.ssq_open.specs.Looking.{begins}
 use Rattle.ssq_open.specs.Sought.{Sought}
 use Rattle.ssq_open.specs.Opening.{IsImageOpening, IsOpen, kept, begun, first_meta}
-use Rattle.ssq_open.specs.Jobs.{IsWantedJob, IsDeskOf}
-use Rattle.ssq_terms.specs.Setting.{IsPlain, IsSettingOf, AreFound, found_lines}
-use Rattle.ssq_terms.specs.Laws.{JobIsWanted, FirstRecordIsJobs, PartsAreFound}
-use Rattle.ssq_terms.specs.Opening.{FoundIsJobs}
+use Rattle.ssq_open.specs.Jobs.{IsWantedJob, IsDeskOf, AreStates}
+use Rattle.ssq_terms.specs.Setting.{CanRun, IsSettingOf, AreFound, found_lines}
+use Rattle.ssq_terms.specs.Laws.{JobIsWanted, StatesAreJobs, FirstRecordIsJobs, PartsAreFound}
+use Rattle.ssq_terms.specs.Opening.{FoundIsJobs, StoresHoldStates}
 use Rattle.ssq_promise.specs.Run.{IsKept, RunIsKept, WasRun}
 use Rattle.ssq_drive.specs.Rounds.{IsFoundOf, setting_for}
 use Rattle.ssq_runner.specs.Lens.{lens_of, apart}
@@ -140,9 +140,9 @@ few_counts (c ∷ counts) found each few =
 -- ---- the run's own
 
 module _ {L : Type 0} (tells : Type 0) (lines : L → List Line) (available : L → ℕ) (answers : L → List ℕ) (faults : L → ℕ)
-    (wanted : JobIsWanted) (first_record : FirstRecordIsJobs) (found_law : FoundIsJobs) (parts_law : PartsAreFound)
-    (bound : Bound) (asks : Option ℕ) (counts found : List ℕ) (can_ask : CanBeAsked bound asks (lens_of counts found)) (plain : IsPlain bound) (each : length found ≡ sum counts)
-    (logs : List L) (s : Setting) (query : s.job.bound ≡ bound) (parts : s.job.parts ≡ counts) (all : s.lines ≡ map lines logs) (few_lines : All (λ (own : List Line). length own < 2 ^ 64) s.lines)
+    (wanted : JobIsWanted) (first_record : FirstRecordIsJobs) (found_law : FoundIsJobs) (parts_law : PartsAreFound) (states_law : StatesAreJobs) (stores_law : StoresHoldStates)
+    (bound : Bound) (asks : Option ℕ) (counts found : List ℕ) (can_ask : CanBeAsked bound asks (lens_of counts found)) (runs : CanRun bound) (each : length found ≡ sum counts)
+    (logs : List L) (s : Setting) (query : s.job.bound ≡ bound) (parts : s.job.parts ≡ counts) (all : s.lines ≡ map lines logs)
     (some_partitions : 1 ≤ s.job.partitions) (few_partitions : s.job.partitions ≤ 64) (as_asked : ForSome asks (λ count. s.job.partitions ≡ count)) where
   job : Job
   job = job_of s
@@ -151,7 +151,7 @@ module _ {L : Type 0} (tells : Type 0) (lines : L → List Line) (available : L 
   setting_at : (more : List ℕ) → length more ≡ sum counts → length s.lines ≡ length more → IsSettingOf s bound asks (lens_of counts more)
   setting_at more same long = record {
     query = query;
-    plain = plain;
+    runs = runs;
     asked = record {
       partitions_in = can_ask.partitions_in;
       few_parts = apart_few counts more (few_counts counts found each can_ask.few_parts);
@@ -180,6 +180,9 @@ module _ {L : Type 0} (tells : Type 0) (lines : L → List Line) (available : L 
 
     pub record_is : IsEmpty (files_now (history before)) → (cuts : Cuts) → ((job_of s).course cuts).meta ≡ first_meta (asked bound asks (lens_of counts found))
     record_is empty = first_record s bound asks (lens_of counts found) setting (first empty)
+
+    pub are_states : AreStates (job_of s) (state_at s)
+    are_states = states_law s bound asks (lens_of counts found) setting found_are
 
     module _ (T : Type 0) (t : T) (opened : Opened) (is : IsOpenedOn T history bound asks (lens_of counts found) before after opened) (stands : StandsOrEmpty (job_of s) (files_now (history before))) where
       desk : IsDeskOf (asked bound asks (lens_of counts found)) (job_of s) (files_now (history after)) opened
@@ -228,6 +231,7 @@ module _ {L : Type 0} (tells : Type 0) (lines : L → List Line) (available : L 
               committed = desk.committed;
               plans = jobs.plans;
               seen = jobs.seen;
+              states = stores_law s bound asks (lens_of counts found) (files_now (history after)) opened setting (sym (ap (λ (m : Meta). m.partitions) meta_is)) is.stores (is.states t (job_of s) (state_at s) is_wanted are_states stands) desk;
             }
 
         pub owned : (cap : Option ℕ) (rounds disk_faults : ℕ) (written : List ℕ)
@@ -242,7 +246,6 @@ module _ {L : Type 0} (tells : Type 0) (lines : L → List Line) (available : L 
                   subst (λ (x : Setting). IsSettingOf x bound asks (lens_of opened.meta.parts more)) (sym setting_is) (subst (λ (c : List ℕ). IsSettingOf s bound asks (lens_of c more)) (sym parts_are) (setting_at more same counted)),
                   ap (λ (c : List ℕ). found_lines (lens_of c more)) parts_are ∙ apart_joined counts more same,
                 );
-            few = subst (All (λ (own : List Line). length own < 2 ^ 64)) all few_lines;
             settled = open_settled bound asks (lens_of counts found) (files_now (history before)) (history after) opened is_open;
             found_is = subst (λ (x : Setting). IsFoundOf x (files_now (history after)) opened) (sym setting_is) found_of;
           },

@@ -1,15 +1,14 @@
 -- A text that was not written.
-use Rattle.std.proofs.Common.{◌≡◌, ◌++◌, ◌∙◌, ℕ, List, [], take, Result, refl, sym, ap}
+use Rattle.std.proofs.Common.{◌≡◌, ◌++◌, ◌∙◌, ℕ, List, [], take, refl, sym, ap}
 use Rattle.std.proofs.lemmas.List.{append-nil}
-use Rattle.ssq_board.specs.declared.front.Cause.{Cause}
-use Rattle.ssq_open.specs.declared.wanted.Opened.{Opened}
 use Rattle.ssq_desk.specs.declared.told.Told.{Told}
+use Rattle.ssq_drive.specs.Rounds.{Ended}
 use Rattle.ssq_runner.specs.declared.fault.RunFault.{RunFault}
 use Rattle.ssq_runner.specs.declared.fault.RunFault.TheVariants as fault
 use Rattle.ssq_runner.specs.Told.{told_text}
 use Rattle.ssq_runner.specs.Putting.{IsUntold, OutCause, failed, starved}
 
-pub put_untold : (Tells : Type 0) (old new : List ℕ) (before now : ℕ) (text left : List ℕ) (told : List Told) (end : Result Opened Cause) (why : RunFault) → OutCause before now why → text ≡ told_text told
+pub put_untold : (Tells : Type 0) (old new : List ℕ) (before now : ℕ) (text left : List ℕ) (told : List Told) (end : Ended) (why : RunFault) → OutCause before now why → text ≡ told_text told
     → (why ≡ fault.OutFault → (left ≡ []) × (Tells → (n : ℕ) × (new ≡ old ++ take n text))) → (why ≡ fault.NoMemory → (left ≡ text) × (Tells → new ≡ old)) → IsUntold Tells old new before now left told end why
 put_untold Tells old new before now text left told end fault.OutFault cause is fails starves =
     failed refl cause (λ t. let f = (fails refl).1 t in (f.0, f.1 ∙ ap (λ (l : List ℕ). old ++ take f.0 l) is)) (fails refl).0
@@ -19,3 +18,4 @@ put_untold Tells old new before now text left told end (fault.Parts f) cause is 
 put_untold Tells old new before now text left told end (fault.Lines f) cause is fails starves = absurd cause
 put_untold Tells old new before now text left told end (fault.Open f) cause is fails starves = absurd cause
 put_untold Tells old new before now text left told end (fault.Round f) cause is fails starves = absurd cause
+put_untold Tells old new before now text left told end (fault.KeyOverflow key) cause is fails starves = absurd cause

@@ -1,5 +1,5 @@
 -- Logs that were asked for a round.
-use Rattle.std.proofs.Common.{◌≡◌, ◌<◌, ◌≤◌, ◌+◌, ◌*◌, ◌∙◌, ◌^◌, nat_lt, ℕ, zero, suc, Bool, true, false, List, [], ◌∷◌, length, map, get_or, sum, All, Option, Some, None, refl, sym, ap, subst, arith, add-one, if◌then◌else◌}
+use Rattle.std.proofs.Common.{◌≡◌, ◌<◌, ◌≤◌, ◌+◌, ◌*◌, ◌∙◌, nat_lt, ℕ, zero, suc, Bool, true, false, List, [], ◌∷◌, length, map, get_or, sum, All, Option, Some, None, refl, sym, ap, subst, arith, add-one, if◌then◌else◌}
 use Rattle.std.proofs.lemmas.List.{get_or_default}
 use Rattle.std.proofs.lemmas.Bool.{ltb-false, eqb-true, and_parts}
 use Rattle.std.specs.List.{list_all, zip}
@@ -124,15 +124,14 @@ module _ {L : Type 0} (tells : Type 0) (lines : L → List Line) (available : L 
   asked_at (old ∷ olds) [] found ask t i own at = absurd ask
   asked_at (old ∷ olds) (new ∷ news) [] ask t i own at = absurd ask
 
-  -- and the log will come to hold it
-  pub asked_found : (olds news : List L) (found : List ℕ) → AreAsked tells lines available answers faults olds news found → tells → All (λ (own : List Line). length own < 2 ^ 64) (map lines news) → AreFound found (map lines news)
-  asked_found [] [] [] ask t few = tt
-  asked_found (old ∷ olds) (new ∷ news) (n ∷ found) ask t few =
-      (ask.0.within t, All-head (λ (own : List Line). length own < 2 ^ 64) (lines new) (map lines news) few, asked_found olds news found ask.2 t (All-tail (λ (own : List Line). length own < 2 ^ 64) (lines new) (map lines news) few))
-  asked_found [] [] (n ∷ found) ask t few = absurd ask
-  asked_found [] (new ∷ news) found ask t few = absurd ask
-  asked_found (old ∷ olds) [] found ask t few = absurd ask
-  asked_found (old ∷ olds) (new ∷ news) [] ask t few = absurd ask
+  -- and the log will come to hold it, and no more of it is taken
+  pub asked_found : (olds news : List L) (found : List ℕ) → AreAsked tells lines available answers faults olds news found → tells → AreFound found (map lines news)
+  asked_found [] [] [] ask t = tt
+  asked_found (old ∷ olds) (new ∷ news) (n ∷ found) ask t = (ask.0.within t, ask.1, asked_found olds news found ask.2 t)
+  asked_found [] [] (n ∷ found) ask t = absurd ask
+  asked_found [] (new ∷ news) found ask t = absurd ask
+  asked_found (old ∷ olds) [] found ask t = absurd ask
+  asked_found (old ∷ olds) (new ∷ news) [] ask t = absurd ask
 
 -- an end follows each
 pub follows_count : (before ends : List PartEnd) → IsTrue (follows before ends) → length before ≡ length ends
@@ -152,7 +151,7 @@ can_on tells lines available answers faults bound cap olds news opened found fit
     let few = fits.few_logs in
     let parts : length found ≡ length (first_of opened) = count.1 ∙ fits.log_each in
     record {
-      plain = fits.plain;
+      runs = fits.runs;
       partitions = refl;
       some_partitions = fits.some_partitions;
       few_partitions = fits.few_partitions;
@@ -164,5 +163,6 @@ can_on tells lines available answers faults bound cap olds news opened found fit
       few_tasks = (let a = count.1 in let p = fits.few_partitions in omega (arith, a, few, p));
       few_lines = (let a = count.1 in omega (arith, a, few, most));
       numbers = fits.numbers;
+      stores = fits.stores;
       long = planned_long opened found parts (ends_each (watermarked bound.streams) opened fits.numbers (length opened.plans) (omega arith)) none;
     }

@@ -30,7 +30,7 @@ use Rattle.ssq_drive.specs.Rounds.{first_of}
 use Rattle.ssq_runner.specs.Lens.{lens_of, apart}
 use Rattle.ssq_runner.specs.Ending.{Begun, IsOwnRun, setting_in, cuts_in}
 use Rattle.ssq_runner.specs.Running.{Given, IsRunOf, sought_in}
-use Rattle.ssq_runner.specs.Complete.{CanBeResumed, is_empty as resumes_empty, stands as resumes, covered_by, planned_in, covered_in, committed_in}
+use Rattle.ssq_runner.specs.Complete.{CanBeResumed, is_empty as resumes_empty, stands as resumes, covered_by, planned_in, commits_in, covered_in, committed_in, GoOnFrom}
 use Rattle.ssq_runner.proofs.Readying.{zero_at, begins_zero, follows_count}
 use Rattle.ssq_runner.proofs.Owning.{counts_same, settled_files_are}
 use Rattle.ssq_runner.proofs.Growing.{follow_from}
@@ -145,8 +145,9 @@ covered_known (resumes is long) i = long i
 
 module _ {L : Type 0} (tells : Type 0) (lines : L → List Line) (available : L → ℕ) (answers : L → List ℕ) (faults : L → ℕ) (b : Begun L) where
   -- As many epochs were opened as are planned, and the first cuts are the checkpoint's.
-  pub record IsResumed (planned : ℕ) (covered committed : List ℕ) : Type 0 where
+  pub record IsResumed (planned commits : ℕ) (covered committed : List ℕ) : Type 0 where
     pub planned_is : planned ≡ length b.found.plans
+    pub commits_are : commits ≡ b.found.committed
     pub covered_is : (i : ℕ) → get_or covered i 0 ≡ get_or (offsets_of (cuts_in b b.found.plans (length b.found.plans))) i 0
     pub committed_is : (i : ℕ) → get_or committed i 0 ≡ get_or (offsets_of (cuts_in b b.found.plans b.found.committed)) i 0
 
@@ -202,10 +203,10 @@ module _ {L : Type 0} (tells : Type 0) (lines : L → List Line) (available : L 
       desk_at : StandsAt (course_of x own.found_is.desk.cuts) own.found_is.desk.planned own.found_is.desk.committed files
       desk_at = subst (λ (f : Files). StandsAt (course_of x own.found_is.desk.cuts) own.found_is.desk.planned own.found_is.desk.committed f) here own.found_is.is.0
 
-      stood : IsResumed is.planned (covered_by is.cuts is.planned) (covered_by is.cuts is.committed)
+      stood : IsResumed is.planned is.committed (covered_by is.cuts is.planned) (covered_by is.cuts is.committed)
       stood = by is.planned refl
         where
-          by : (n : ℕ) → is.planned ≡ n → IsResumed is.planned (covered_by is.cuts is.planned) (covered_by is.cuts is.committed)
+          by : (n : ℕ) → is.planned ≡ n → IsResumed is.planned is.committed (covered_by is.cuts is.planned) (covered_by is.cuts is.committed)
           by zero e =
               let law = files_law sought (job_of x) own.found_is.desk.cuts own.found_is.desk.cuts 0 is.committed own.found_is.desk.planned own.found_is.desk.committed files is_wanted (λ f less. absurd (omega (arith, less))) own.found_is.is.1
               (restarted x is.cuts own.found_is.desk.cuts is.committed files (subst (λ (n : ℕ). StandsAt (course_of x is.cuts) n is.committed files) e is.at)) desk_at (λ nothing. refl) in
@@ -214,6 +215,7 @@ module _ {L : Type 0} (tells : Type 0) (lines : L → List Line) (available : L 
               let commits : b.found.committed ≡ 0 = sym (sym none ∙ law.1 ∙ own.found_is.committed) in
               record {
                 planned_is = e ∙ sym plans;
+                commits_are = none ∙ sym commits;
                 covered_is = λ i. ap (λ (n : ℕ). get_or (covered_by is.cuts n) i 0) e ∙ zero_cut (length b.found.plans) plans i;
                 committed_is = λ i. ap (λ (n : ℕ). get_or (covered_by is.cuts n) i 0) none ∙ zero_cut b.found.committed commits i;
               }
@@ -221,6 +223,7 @@ module _ {L : Type 0} (tells : Type 0) (lines : L → List Line) (available : L 
               let law = files_law sought (job_of x) is.cuts own.found_is.desk.cuts is.planned is.committed own.found_is.desk.planned own.found_is.desk.committed files is_wanted is.proper own.found_is.is.1 is.at desk_at (λ nothing. absurd (omega (arith, nothing, e))) in
               record {
                 planned_is = law.0 ∙ own.found_is.planned;
+                commits_are = law.1 ∙ own.found_is.committed;
                 covered_is = λ i.
                     ap (λ (cut : List ℕ). get_or cut i 0) (covered_some is.cuts is.planned n e ∙ ap offsets_of (law.2 is.planned (omega arith) ∙ desk_cuts is.planned))
                     ∙ ap (λ (m : ℕ). get_or (offsets_of (cuts_in b b.found.plans m)) i 0) (law.0 ∙ own.found_is.planned);
@@ -233,12 +236,27 @@ module _ {L : Type 0} (tells : Type 0) (lines : L → List Line) (available : L 
                   ap (λ (cut : List ℕ). get_or cut i 0) (covered_some is.cuts is.committed f k ∙ ap offsets_of (cuts is.committed is.at.reached.planned_first ∙ desk_cuts is.committed))
                   ∙ ap (λ (m : ℕ). get_or (offsets_of (cuts_in b b.found.plans m)) i 0) (same ∙ own.found_is.committed)
 
-    pub resumed_is : (known : List ℕ) (files : Files) (s : Sought) → IsOpen s files b.start b.found → (of : CanBeResumed (job_of x) known files) → IsResumed (planned_in of) (covered_in of) (committed_in of)
+    pub resumed_is : (known : List ℕ) (files : Files) (s : Sought) → IsOpen s files b.start b.found → (of : CanBeResumed (job_of x) known files) → IsResumed (planned_in of) (commits_in of) (covered_in of) (committed_in of)
     resumed_is known files s (kept passes settled) (resumes_empty none) = absurd (none-some _ (sym (none name.Meta) ∙ passes.found.record_is.spells.text))
     resumed_is known files s (begun empty is settled) (resumes_empty none) = record {
       planned_is = sym (ap length is.plans);
+      commits_are = sym is.committed;
       covered_is = zero_cut (length b.found.plans) (ap length is.plans);
       committed_is = zero_cut b.found.committed is.committed;
     }
     resumed_is known files s (kept passes settled) (resumes is long) = stood known files (settled_files_are b.start files settled) is long
     resumed_is known files s (begun empty first settled) (resumes is long) = absurd (gone files name.Meta (empty name.Meta) (is.at.needed name.Meta refl))
+
+    -- the cuts of plans that go on from those that were opened go on from the checkpoint
+    module _ (cuts : Cuts) (same : (e : ℕ) → e ≤ length b.found.plans → cuts e ≡ cuts_in b b.found.plans e) where
+      stood_on : (files : Files) (here : files_now b.start ≡ files) (is : Stands (job_of x) files) → (e : ℕ) → 0 < e → e ≤ is.planned → offsets_of (cuts e) ≡ offsets_of (is.cuts e)
+      stood_on files here is e some le =
+          let at : StandsAt (course_of x own.found_is.desk.cuts) own.found_is.desk.planned own.found_is.desk.committed files =
+          subst (λ (f : Files). StandsAt (course_of x own.found_is.desk.cuts) own.found_is.desk.planned own.found_is.desk.committed f) here own.found_is.is.0 in
+          let law = files_law sought (job_of x) is.cuts own.found_is.desk.cuts is.planned is.committed own.found_is.desk.planned own.found_is.desk.committed files is_wanted is.proper own.found_is.is.1 is.at at (λ nothing. absurd (omega (arith, nothing, some, le))) in
+          ap offsets_of (same e (let p = law.0 in let q = own.found_is.planned in omega (arith, le, p, q)) ∙ sym (law.2 e le ∙ desk_cuts e))
+
+      pub goes_on_from : (known : List ℕ) (files : Files) (s : Sought) → IsOpen s files b.start b.found → (of : CanBeResumed (job_of x) known files) → GoOnFrom of (λ e. offsets_of (cuts e))
+      goes_on_from known files s open_is (resumes_empty none) = tt
+      goes_on_from known files s (kept passes settled) (resumes is long) = stood_on files (settled_files_are b.start files settled) is
+      goes_on_from known files s (begun empty first settled) (resumes is long) = absurd (gone files name.Meta (empty name.Meta) (is.at.needed name.Meta refl))

@@ -1,5 +1,5 @@
 -- The logs of the parts of streams.
-use Rattle.std.proofs.Common.{◌≡◌, ◌<◌, ◌≤◌, ◌+◌, ◌-◌, ◌^◌, ◌∙◌, ℕ, zero, suc, List, [], ◌∷◌, length, map, min, sum, unwrap_or, Option, Result, Ok, Err, refl, sym, ap, subst, arith}
+use Rattle.std.proofs.Common.{◌≡◌, ◌<◌, ◌≤◌, ◌+◌, ◌-◌, ◌^◌, ◌∙◌, ℕ, zero, suc, List, [], ◌∷◌, length, map, min, sum, unwrap_or, Option, Some, None, Result, Ok, Err, refl, sym, ap, subst, arith}
 use Rattle.std.specs.Option.{ForSome}
 use Rattle.std.specs.List.{sum_by}
 use Rattle.std.proofs.lemmas.List.{length-append}
@@ -12,6 +12,7 @@ use Rattle.ssq_shape.specs.declared.bound.Bound.{Bound}
 use Rattle.ssq_plans.specs.declared.plan.Plan.{Plan}
 use Rattle.ssq_core.specs.Course.{Cuts}
 use Rattle.ssq_course.specs.Setting.{Setting}
+use Rattle.ssq_meaning.specs.Meaning.{Values}
 use Rattle.ssq_board.specs.declared.front.Cause.{Cause}
 use Rattle.ssq_board.specs.declared.front.Cause.TheVariants as cause
 use Rattle.ssq_open.specs.declared.fault.OpenFault.{OpenFault}
@@ -26,9 +27,10 @@ use Rattle.ssq_logs.specs.declared.fault.LengthFault.TheVariants as length_fault
 use Rattle.ssq_logs.specs.Parts.{counts_in, lines_in, InputsRise}
 use Rattle.ssq_runner.specs.declared.fault.RunFault.{RunFault}
 use Rattle.ssq_runner.specs.declared.fault.RunFault.TheVariants as fault
+use Rattle.ssq_runner.specs.Faults.{fault_by, fault_of}
 use Rattle.ssq_runner.specs.Rounds.{Round}
 use Rattle.ssq_runner.specs.Putting.{OutRises}
-use Rattle.ssq_runner.specs.Ending.{Begun, setting_in, cuts_in, IsEnd, IsUncounted, finished, stopped, unput, uncounted as rounds_uncounted, starved as rounds_starved}
+use Rattle.ssq_runner.specs.Ending.{Begun, Owned, setting_in, cuts_in, IsEnd, IsUncounted, finished, stopped, unput, uncounted as rounds_uncounted, starved as rounds_starved}
 use Rattle.ssq_runner.specs.Running.{Given, RunEnd, IsRunOf, uncounted, refused, starved, ran}
 use Rattle.ssq_runner.specs.Sources.{HasCount, IsSettingFor, IsUnparted}
 use Rattle.ssq_runner.proofs.Turning.{rises_from}
@@ -76,16 +78,18 @@ module _ {L : Type 0} (tells : Type 0) (lines : L → List Line) (available : L 
   logs_before held mid known more (part ∷ parts) [] same grown are = absurd are
 
   -- a fault of the outside was counted
-  stop_counts : (s : Setting) (cuts : Cuts) (found : List ℕ) (planned e : ℕ) (first disk disk_now logs inputs inputs_now out out_now : ℕ) (c : Cause) → disk ≤ first → (0 < logs → Rises inputs inputs_now) → IsRoundStop tells s cuts found planned e first disk_now logs c
-      → HasCount disk disk_now inputs inputs_now out out_now (Err (fault.Round c))
-  stop_counts s cuts found planned e first disk disk_now logs inputs inputs_now out out_now (cause.BadLine a b o r) le risen is = tt
-  stop_counts s cuts found planned e first disk disk_now logs inputs inputs_now out out_now (cause.Overflow a b o) le risen is = tt
-  stop_counts s cuts found planned e first disk disk_now logs inputs inputs_now out out_now cause.LogFault le risen is = risen is
-  stop_counts s cuts found planned e first disk disk_now logs inputs inputs_now out out_now (cause.LogShort a b m k) le risen is = tt
-  stop_counts s cuts found planned e first disk disk_now logs inputs inputs_now out out_now (cause.Damaged q) le risen is = tt
-  stop_counts s cuts found planned e first disk disk_now logs inputs inputs_now out out_now cause.DiskFault le risen is = rises_from disk first disk_now le is
-  stop_counts s cuts found planned e first disk disk_now logs inputs inputs_now out out_now cause.Full le risen is = tt
-  stop_counts s cuts found planned e first disk disk_now logs inputs inputs_now out out_now cause.NoMemory le risen is = tt
+  stop_counts : (owned : Type 0) (s : Setting) (cuts : Cuts) (found : List ℕ) (planned e : ℕ) (first disk disk_now logs inputs inputs_now out out_now : ℕ) (key : Option Values) (c : Cause) → disk ≤ first → (0 < logs → Rises inputs inputs_now)
+      → IsRoundStop tells owned s cuts found planned e first disk_now logs key c → HasCount disk disk_now inputs inputs_now out out_now (Err (fault_by c key))
+  stop_counts owned s cuts found planned e first disk disk_now logs inputs inputs_now out out_now key (cause.BadLine a b o r) le risen is = tt
+  stop_counts owned s cuts found planned e first disk disk_now logs inputs inputs_now out out_now key (cause.Overflow a b o) le risen is = tt
+  stop_counts owned s cuts found planned e first disk disk_now logs inputs inputs_now out out_now None cause.KeyOverflow le risen is = tt
+  stop_counts owned s cuts found planned e first disk disk_now logs inputs inputs_now out out_now (Some own) cause.KeyOverflow le risen is = tt
+  stop_counts owned s cuts found planned e first disk disk_now logs inputs inputs_now out out_now key cause.LogFault le risen is = risen is
+  stop_counts owned s cuts found planned e first disk disk_now logs inputs inputs_now out out_now key (cause.LogShort a b m k) le risen is = tt
+  stop_counts owned s cuts found planned e first disk disk_now logs inputs inputs_now out out_now key (cause.Damaged q) le risen is = tt
+  stop_counts owned s cuts found planned e first disk disk_now logs inputs inputs_now out out_now key cause.DiskFault le risen is = rises_from disk first disk_now le is
+  stop_counts owned s cuts found planned e first disk disk_now logs inputs inputs_now out out_now key cause.Full le risen is = tt
+  stop_counts owned s cuts found planned e first disk disk_now logs inputs inputs_now out out_now key cause.NoMemory le risen is = tt
 
   lines_count : (olds logs : List L) (disk disk_now inputs inputs_now out out_now : ℕ) (why : LengthFault) → (0 < sum_by faults logs → Rises inputs inputs_now) → IsUncounted tells lines available answers faults olds logs why → HasCount disk disk_now inputs inputs_now out out_now (Err (fault.Lines why))
   lines_count olds logs disk disk_now inputs inputs_now out out_now (length_fault.Full at found) risen is = tt
@@ -107,7 +111,7 @@ module _ {L : Type 0} (tells : Type 0) (lines : L → List Line) (available : L 
 
     rounds_count : (b : Begun L) (plans : List Plan) (done : List Round) (told : List Told) → disk ≤ b.disk_faults → IsEnd tells lines available answers faults b disk_now logs OutTells written plans done told text end → HasCount disk disk_now inputs inputs_now out out_now end
     rounds_count b plans done told le (finished number all committed asked wrote left is) = at_end (Unit {0}) (Ok tt) is tt
-    rounds_count b plans done told le (stopped number found next asked why stop put_told more split wrote left is) = at_end (Unit {0}) (Err (fault.Round why)) is (stop_counts (setting_in tells lines available answers faults b) (cuts_in b plans) found (length plans) (b.found.committed + length told) b.disk_faults disk disk_now (sum_by faults logs) inputs inputs_now out out_now why le risen stop)
+    rounds_count b plans done told le (stopped number found next asked why stop put_told more split wrote left is) = at_end (Unit {0}) (Err (fault_of why)) is (stop_counts (Owned tells lines available answers faults b) (setting_in tells lines available answers faults b) (cuts_in b plans) found (length plans) (b.found.committed + length told) b.disk_faults disk disk_now (sum_by faults logs) inputs inputs_now out out_now why.key why.cause le risen stop)
     rounds_count b plans done told le (rounds_uncounted number all before has_asked why not stop wrote left is) = at_end (Unit {0}) (Err (fault.Lines why)) is (lines_count b.logs logs disk disk_now inputs inputs_now out out_now why risen not)
     rounds_count b plans done told le (unput number found next has_asked put_told more split wrote left is) = at_end (Unit {0}) (Err fault.OutFault) is (subst (OutRises out out_now) is put)
     rounds_count b plans done told le (rounds_starved number rounds were has_asked put_told more rest split wrote left is) = at_end (Unit {0}) (Err fault.NoMemory) is tt
@@ -147,12 +151,14 @@ parted_counts disk inputs now out (fault.Round why) is = unturned why is
     unturned : (why : Cause) → HasCount 0 0 inputs now 0 0 (Err (fault.Round why)) → HasCount disk disk inputs now out out (Err (fault.Round why))
     unturned (cause.BadLine a b o r) is = tt
     unturned (cause.Overflow a b o) is = tt
+    unturned cause.KeyOverflow is = tt
     unturned cause.LogFault is = is
     unturned (cause.LogShort a b m k) is = tt
     unturned (cause.Damaged q) is = tt
     unturned cause.DiskFault is = absurd (omega (arith, is))
     unturned cause.Full is = tt
     unturned cause.NoMemory is = tt
+parted_counts disk inputs now out (fault.KeyOverflow key) is = tt
 parted_counts disk inputs now out fault.OutFault is = absurd (omega (arith, is))
 parted_counts disk inputs now out fault.NoMemory is = tt
 
@@ -162,7 +168,6 @@ run_of lines held bound asks g s same asked counts all is = record {
   query = is.query ∙ sym same;
   parts = is.parts ∙ sym counts;
   lines_are = is.lines_are ∙ sym all;
-  few_lines = is.few_lines;
   some_partitions = is.some_partitions;
   few_partitions = is.few_partitions;
   as_asked = subst (λ (o : Option ℕ). ForSome o (λ count. s.job.partitions ≡ count)) (sym asked) is.as_asked;

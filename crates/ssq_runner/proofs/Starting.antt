@@ -1,5 +1,5 @@
 -- How a round that is not the first begins, or does not.
-use Rattle.std.proofs.Common.{◌≡◌, ◌<◌, ◌≤◌, ◌+◌, ◌++◌, ◌∙◌, nat_lt, ℕ, zero, suc, Bool, true, false, List, [], ◌∷◌, length, get_or, Option, Some, None, Result, Ok, Err, OnOk, IfErr, inl, refl, sym, ap, subst, arith, if◌then◌else◌}
+use Rattle.std.proofs.Common.{◌≡◌, ◌<◌, ◌≤◌, ◌+◌, ◌++◌, ◌∙◌, nat_lt, ℕ, zero, suc, Bool, true, false, List, [], ◌∷◌, length, get_or, Option, Some, None, Result, Ok, Err, OnOk, IfErr, inl, inr, refl, sym, ap, subst, arith, if◌then◌else◌}
 use Rattle.std.proofs.lemmas.List.{append-nil}
 use Rattle.std.proofs.lemmas.Bool.{ltb-true}
 use Rattle.std.proofs.lemmas.Option.{none-some}
@@ -19,8 +19,9 @@ use Rattle.ssq_logs.specs.Asked.{AreAsked}
 use Rattle.ssq_drive.specs.Rounds.{IsRoundStop}
 use Rattle.ssq_runner.specs.declared.fault.RunFault.{RunFault}
 use Rattle.ssq_runner.specs.declared.fault.RunFault.TheVariants as fault
+use Rattle.ssq_runner.specs.Faults.{fault_by}
 use Rattle.ssq_runner.specs.Told.{done_line}
-use Rattle.ssq_runner.specs.Ending.{Begun, Ends, IsEnd, WereAsked, stopped, finished, starved, uncounted as end_uncounted, cuts_in, setting_in}
+use Rattle.ssq_runner.specs.Ending.{Begun, Ends, IsEnd, Owned, WereAsked, stopped, finished, starved, uncounted as end_uncounted, cuts_in, setting_in}
 use Rattle.ssq_runner.specs.Going.{SoFar, IsReady}
 use Rattle.ssq_runner.specs.Stops.{short_of, planned_ends, IsUnready, uncounted, short}
 use Rattle.ssq_runner.proofs.Answering.{asked_on, begin_on}
@@ -32,6 +33,18 @@ use Rattle.ssq_runner.proofs.Stopping.{stopped_under, uncounted_is, uncounted_si
 abbrev is_short : Cause → Type 0
 is_short (cause.LogShort s p logged lines) = lines < logged
 is_short _ = ⊥
+
+-- and so the run stops for it
+short_fault : (c : Cause) → is_short c → fault_by c None ≡ fault.Round c
+short_fault (cause.LogShort s p logged lines) less = refl
+short_fault (cause.BadLine s p o f) less = refl
+short_fault (cause.Overflow s p o) less = refl
+short_fault cause.KeyOverflow less = refl
+short_fault cause.LogFault less = refl
+short_fault (cause.Damaged q) less = refl
+short_fault cause.DiskFault less = refl
+short_fault cause.Full less = refl
+short_fault cause.NoMemory less = refl
 
 own_of : Cause → Option Cause → Cause
 own_of d None = d
@@ -94,7 +107,7 @@ module _ {L : Type 0} (T U : Type 0) (lines : L → List Line) (available : L �
         can = can_on T lines available answers faults b.bound b.cap olds news opened found so.fits ask none;
         few = (let f = so.fits.few_logs in let c = count.0 in omega (arith, f, c));
         seen = λ u i own at. (let e = asked_at T lines available answers faults olds news found ask (less_known u) i own at in omega (arith, e));
-        are = λ u few. asked_found T lines available answers faults olds news found ask (less_known u) few;
+        are = λ u. asked_found T lines available answers faults olds news found ask (less_known u);
       }
 
   -- nothing was done, and so the run ends
@@ -108,8 +121,13 @@ module _ {L : Type 0} (T U : Type 0) (lines : L → List Line) (available : L �
       (stopped_under T U lines available answers faults less_known 0 olds news c ask) so.wrote empty (ap Err is))
   unready_end later why text few empty (short found stop ask is named) =
       idle_end why text (stopped (let m = so.number in omega (arith, m, few)) found
-      (record { next = λ e ge le. absurd (let a = so.all in omega (arith, ge, le, a)); due = λ e ge le. absurd (let a = so.all in omega (arith, ge, le, a)) })
-      (asked_more later found (length opened.plans) (asked_under T U lines available answers faults less_known olds news found ask)) stop (stop_of stop is ask (short_is (planned_ends opened) found stop is)) so.told [] (sym (append-nil so.told)) so.wrote (empty ∙ text_none) (ap Err named))
+      (record {
+        next = λ e ge le. absurd (let a = so.all in omega (arith, ge, le, a));
+        due = λ e ge le. absurd (let a = so.all in omega (arith, ge, le, a));
+        more = λ own e ge le. absurd (let a = so.all in omega (arith, ge, le, a));
+      })
+      (asked_more later found (length opened.plans) (asked_under T U lines available answers faults less_known olds news found ask)) (record { cause = stop; key = None }) (stop_of stop is ask (short_is (planned_ends opened) found stop is)) so.told [] (sym (append-nil so.told))
+      so.wrote (empty ∙ text_none) (ap Err (named ∙ sym (short_fault stop (short_is (planned_ends opened) found stop is)))))
     where
       -- where logs tell what they hold none is short
       never : (c : Cause) → AreAsked T lines available answers faults olds news found → short_of (planned_ends opened) found ≡ Some c → U → ⊥
@@ -125,10 +143,11 @@ module _ {L : Type 0} (T U : Type 0) (lines : L → List Line) (available : L �
               (let t = so.there later u i old.0 old.1 in let o = old.2 in let e = ap (λ (ends : List PartEnd). get_or (offsets_of ends) i 0) same in omega (arith, t, o, e))
 
       stop_of : (c : Cause) → short_of (planned_ends opened) found ≡ Some c → AreAsked T lines available answers faults olds news found → is_short c
-          → IsRoundStop U (setting_in U lines available answers faults b) (cuts_in b opened.plans) found (length opened.plans) (b.found.committed + length so.told) b.disk_faults disk (sum_by faults news) c
+          → IsRoundStop U (Owned U lines available answers faults b) (setting_in U lines available answers faults b) (cuts_in b opened.plans) found (length opened.plans) (b.found.committed + length so.told) b.disk_faults disk (sum_by faults news) None c
       stop_of (cause.LogShort s p logged k) is ask less = (less, λ u. never (cause.LogShort s p logged k) ask is u)
       stop_of (cause.BadLine s p o f) is ask less = absurd less
       stop_of (cause.Overflow s p o) is ask less = absurd less
+      stop_of cause.KeyOverflow is ask less = absurd less
       stop_of cause.LogFault is ask less = absurd less
       stop_of (cause.Damaged q) is ask less = absurd less
       stop_of cause.DiskFault is ask less = absurd less
@@ -152,3 +171,29 @@ module _ {L : Type 0} (T U : Type 0) (lines : L → List Line) (available : L �
   }
   finish (Err why) before text all some_round empty have said unsaid =
       idle_end why text (starved (let m = so.number in omega (arith, m, all)) so.done (inl refl) have so.told [] [] (sym (append-nil so.told)) so.wrote (unsaid.1 ∙ empty ∙ text_none) (ap Err unsaid.0))
+
+-- The logs were asked for the next round, and memory ran out before it began.
+pub starve : {L : Type 0} (tells : Type 0) (lines : L → List Line) (available : L → ℕ) (answers : L → List ℕ) (faults : L → ℕ) (b : Begun L) (n : ℕ) (now : History) (disk : ℕ) (logs : List L) (OutTells : Type 0) (written : List ℕ) (opened : Opened) (found text : List ℕ)
+    → IsReady tells lines available answers faults b n now disk logs OutTells written opened found → n ≤ b.rounds → text ≡ [] → Ends tells lines available answers faults b now disk logs OutTells written text (Err fault.NoMemory)
+starve tells lines available answers faults b n now disk logs OutTells written opened found text ready le empty =
+    let so = ready.so_far in
+    record {
+      plans = opened.plans;
+      done = so.done;
+      told = so.told;
+      has = so.has;
+      is_end = starved (let m = so.number in omega (arith, m, le)) (record { found = found; epochs = length opened.plans } ∷ so.done)
+          (inr (
+            found,
+            record {
+              next = λ e ge less. absurd (let a = so.all in omega (arith, ge, less, a));
+              due = λ e ge less. absurd (let a = so.all in omega (arith, ge, less, a));
+              more = λ own e ge less. absurd (let a = so.all in omega (arith, ge, less, a));
+            },
+            refl,
+          ))
+          (ready.asked (length opened.plans)) so.told [] [] (sym (append-nil so.told)) so.wrote (empty ∙ text_none) refl;
+      good = so.good;
+      ran = λ t own. (so.ran t own).0;
+      left = λ ok. absurd (never_ok fault.NoMemory ok);
+    }

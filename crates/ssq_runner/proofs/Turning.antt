@@ -1,48 +1,47 @@
 -- A round that is over leads from one moment between rounds to the next.
-use Rattle.std.proofs.Common.{◌≡◌, ◌<◌, ◌≤◌, ◌+◌, ◌++◌, ◌∙◌, ◌^◌, ℕ, suc, true, false, List, [], ◌∷◌, length, map, take, All, Option, Result, Ok, Err, inr, refl, sym, ap, subst, arith, append_assoc}
+use Rattle.std.proofs.Common.{◌≡◌, ◌<◌, ◌≤◌, ◌+◌, ◌++◌, ◌∙◌, ℕ, suc, Bool, true, false, List, [], ◌∷◌, length, map, take, All, Option, Some, None, Ok, Err, inl, inr, refl, sym, ap, subst, arith, append_assoc}
 use Rattle.std.proofs.lemmas.List.{length-append}
 use Rattle.std.proofs.lemmas.List.Elements.{All-nil, All-cons, All-head, All-tail, All-append}
 use Rattle.std.specs.List.{sum_by}
+use Rattle.std.specs.Prelude.{◌⊎◌, IsSomeAnd}
+use Rattle.std.specs.Global.{Vec}
 use Rattle.ssq_outside.specs.History.{History, files_now}
 use Rattle.ssq_outside.specs.Logs.{Line}
 use Rattle.ssq_plans.specs.declared.plan.Plan.{Plan}
 use Rattle.ssq_core.specs.Course.{Ends as EndsOf, Cuts, Job}
 use Rattle.ssq_core.specs.Settled.{IsSettledAs}
-use Rattle.ssq_course.specs.Setting.{Setting, parts_in, cut_of as offsets_of, cuts_of as offsets, job_of}
-use Rattle.ssq_meaning.specs.Parts.{Part}
-use Rattle.ssq_meaning.specs.Cut.{Cuts as Offsets, AreSameTo}
+use Rattle.ssq_course.specs.Setting.{Setting, parts_in, closes, cut_of as offsets_of, cuts_of as offsets, job_of}
 use Rattle.ssq_meaning.specs.Epochs.{fault_between}
-use Rattle.ssq_meaning.specs.Laws.{SaysSame}
 use Rattle.ssq_shape.specs.declared.bound.Bound.{Bound}
 use Rattle.ssq_open.specs.declared.wanted.Opened.{Opened}
 use Rattle.ssq_open.specs.Epochs.{cut_of}
 use Rattle.ssq_terms.specs.Setting.{AreFound}
+use Rattle.ssq_terms.specs.Laws.{due_at}
 use Rattle.ssq_promise.specs.Run.{AreFilesOf, RunsAreJoined, WasRun, as_planned, one_tried}
 use Rattle.ssq_board.specs.declared.front.Cause.{Cause}
 use Rattle.ssq_board.specs.declared.front.Cause.TheVariants as cause
 use Rattle.ssq_outside.specs.Faults.{Rises}
 use Rattle.ssq_meaning.specs.Feeding.{LineAt}
+use Rattle.ssq_meaning.specs.Meaning.{Values}
+use Rattle.ssq_agg.specs.Indexing.{Timed}
 use Rattle.ssq_board.specs.Core.{next_ends, is_behind}
 use Rattle.ssq_board.specs.Rounds.{HasCap}
 use Rattle.ssq_open.specs.Looking.{begins}
 use Rattle.ssq_plans.specs.declared.meta.Meta.{Meta}
 use Rattle.ssq_desk.specs.declared.told.Told.{Told}
 use Rattle.ssq_drive.specs.Good.{HasGoodLines}
-use Rattle.ssq_drive.specs.Rounds.{IsRound, RoundRan, IsOwn, IsFoundOf, IsMeant, CanBegin, AreReturned, PlansOn, AreTold, IsRoundStop, IsFaultAt, setting_for, first_of}
+use Rattle.ssq_drive.specs.declared.round.Stopped.{Stopped}
+use Rattle.ssq_drive.specs.Rounds.{IsRound, RoundRan, Ended, IsOwn, IsFoundOf, IsMeant, IsMore, CanBegin, AreReturned, PlansOn, AreTold, IsRoundStop, IsFaultAt, IsKeyAt, setting_for, first_of}
 use Rattle.ssq_desk.specs.Contents.{line_of}
 use Rattle.ssq_runner.specs.Lens.{lens_of}
 use Rattle.ssq_runner.specs.Rounds.{Round, AreNext, AreRounds, HaveAnswered, epochs_after}
 use Rattle.ssq_runner.specs.Told.{told_text}
 use Rattle.ssq_runner.specs.declared.fault.RunFault.{RunFault}
 use Rattle.ssq_runner.specs.Putting.{IsUntold, stopped as untold_stopped, failed, starved as untold_starved}
-use Rattle.ssq_runner.specs.Ending.{Begun, HasRounds, IsOwnRun, HaveRun, Ends, IsEnd, AreGood, WereAsked, stopped, unput, starved, cuts_in, setting_in}
+use Rattle.ssq_runner.specs.Ending.{Begun, HasRounds, IsOwnRun, Owned, HaveRun, Ends, IsEnd, AreGood, WereAsked, stopped, unput, starved, cuts_in, setting_in}
 use Rattle.ssq_runner.specs.Going.{SoFar, IsReady, Fits, scope_of}
-use Rattle.ssq_runner.proofs.Cutting.{cut_more, rounds_same, told_more, told_then, text_then, never_ok}
+use Rattle.ssq_runner.proofs.Cutting.{CutsHang, cut_more, rounds_same, told_more, told_then, text_then, never_ok}
 use Rattle.ssq_runner.proofs.Answering.{back_after, same_lines, returned_count, returned_at}
-
--- the law of cuts, as the crate of the meaning has it
-abbrev pub CutsHang : Type 0
-CutsHang = (query : Bound) (parts : List Part) (one other : Offsets) (n : ℕ) → AreSameTo one other n → SaysSame query parts one other n
 
 -- what is told of epochs among the first has the same rows, however the later ones are cut
 pub rows_more : CutsHang → (s : Setting) (one other : Cuts) (n e : ℕ) (first : EndsOf) (plans : List Plan) (told : List Told) → ((f : ℕ) → f ≤ n → other f ≡ one f) → AreTold first plans e told → e + length told ≤ n
@@ -52,7 +51,7 @@ rows_more hang s one other n e first plans (t ∷ rest) same are le rows =
     let here : t.epoch < n = let at = are.0.epoch in omega (arith, at, le) in
     let law = hang s.job.bound (parts_in s) (offsets one) (offsets other) n (λ f below. ap offsets_of (sym (same f below))) in
     let own = All-head (IsMeant s one) t rest rows in
-    All-cons (IsMeant s other) t rest (record { watermark = own.watermark ∙ law.same_watermark t.epoch (omega (arith, here)); rows = own.rows ∙ ap length (law.same_out t.epoch here) })
+    All-cons (IsMeant s other) t rest (record { faultless = sym (law.same_fault t.epoch here) ∙ own.faultless; watermark = own.watermark ∙ law.same_watermark t.epoch (omega (arith, here)); rows = own.rows ∙ ap length (law.same_out t.epoch here) })
     (rows_more hang s one other n (e + 1) first plans rest same are.1 (omega (arith, le)) (All-tail (IsMeant s one) t rest rows))
 
 -- and none of their lines is a fault
@@ -67,9 +66,10 @@ good_more s one other n e first plans (t ∷ rest) same are le good =
     (good_more s one other n (e + 1) first plans rest same are.1 (omega (arith, le)) (All-tail (λ (t : Told). HasGoodLines s one t.epoch) t rest good))
 
 -- all are told of the rounds so far, too
-files_once : (job : Job) (cap : Option ℕ) (IsFound : List ℕ → Type 0) (One Other : Type 0) (cuts : Cuts) (planned : ℕ) (now : History) → (One → Other) → AreFilesOf job cap IsFound One cuts planned now → AreFilesOf job cap IsFound Other cuts planned now
-files_once job cap IsFound One Other cuts planned now more (as_planned each) = as_planned each
-files_once job cap IsFound One Other cuts planned now more (one_tried done found is behind each) = one_tried (more done) found is behind each
+files_once : (job : Job) (cap : Option ℕ) (due : Cuts → ℕ → Bool) (IsFound : List ℕ → Type 0) (One Other : Type 0) (cuts : Cuts) (planned : ℕ) (now : History) → (One → Other) → AreFilesOf job cap due IsFound One cuts planned now
+    → AreFilesOf job cap due IsFound Other cuts planned now
+files_once job cap due IsFound One Other cuts planned now more (as_planned each) = as_planned each
+files_once job cap due IsFound One Other cuts planned now more (one_tried done found is behind each) = one_tried (more done) found is behind each
 
 -- the epochs that are told
 abbrev pub epochs_of : List Told → List ℕ
@@ -89,18 +89,21 @@ module _ {L : Type 0} (tells : Type 0) (lines : L → List Line) (available : L 
   }
 
   -- the plans of a round go on from those of the rounds before
-  pub going_on : (b : Begun L) (opened : Opened) (done : List Round) (told more_told : List Told) (found : List ℕ) (plans : List Plan) → HasRounds b opened.plans done told → opened.meta ≡ b.found.meta
+  pub going_on : CutsHang → (b : Begun L) (opened : Opened) (done : List Round) (told more_told : List Told) (found : List ℕ) (plans : List Plan)
+      → HasRounds (Owned tells lines available answers faults b) (setting_in tells lines available answers faults b) b opened.plans done told → opened.meta ≡ b.found.meta
       → epochs_after (length b.found.plans) done ≡ length opened.plans → b.found.committed + length told ≡ opened.committed
-      → PlansOn (first_of opened) b.cap found opened.plans plans → AreTold (first_of opened) plans opened.committed more_told → opened.committed + length more_told ≤ length plans
-      → HasRounds b plans done (told ++ more_told) × AreNext b.cap found (cuts_in b plans) (epochs_after (length b.found.plans) done) (length plans)
-  going_on b opened done told more_told found plans has meta all committed on are few =
+      → PlansOn (closes b.bound) (first_of opened) b.cap found opened.plans plans → AreTold (first_of opened) plans opened.committed more_told → opened.committed + length more_told ≤ length plans
+      → (Owned tells lines available answers faults b → (e : ℕ) → length opened.plans ≤ e → e < length plans → IsMore (setting_in tells lines available answers faults b) (cuts_in b plans) found e)
+      → HasRounds (Owned tells lines available answers faults b) (setting_in tells lines available answers faults b) b plans done (told ++ more_told)
+      × AreNext (Owned tells lines available answers faults b) (setting_in tells lines available answers faults b) b.cap found (cuts_in b plans) (epochs_after (length b.found.plans) done) (length plans)
+  going_on hang b opened done told more_told found plans has meta all committed on are few more =
       let first : first_of opened ≡ first_of b.found = ap (λ (m : Meta). begins m.parts) meta in
       let grown : length plans ≡ length opened.plans + length on.more = ap length on.behind ∙ length-append opened.plans on.more in
       let same : (e : ℕ) → e ≤ length opened.plans → cuts_in b plans e ≡ cuts_in b opened.plans e = λ e le. ap (λ (ps : List Plan). cut_of (first_of b.found) ps e) on.behind ∙ cut_more (first_of b.found) opened.plans on.more e le in (
         record {
           more = has.more ++ on.more;
           keeps = on.behind ∙ ap (λ (ps : List Plan). ps ++ on.more) has.keeps ∙ append_assoc b.found.plans has.more on.more;
-          are = rounds_same b.cap (cuts_in b opened.plans) (cuts_in b plans) (length b.found.plans) done (length opened.plans) same has.within has.are;
+          are = rounds_same hang (Owned tells lines available answers faults b) (setting_in tells lines available answers faults b) b.cap (cuts_in b opened.plans) (cuts_in b plans) (length b.found.plans) done (length opened.plans) same has.within has.are;
           within = (let w = has.within in omega (arith, w, grown));
           told_are = told_then (first_of b.found) plans b.found.committed told more_told
               (subst (λ (ps : List Plan). AreTold (first_of b.found) ps b.found.committed told) (sym on.behind) (told_more (first_of b.found) opened.plans on.more b.found.committed told has.few has.told_are))
@@ -109,20 +112,25 @@ module _ {L : Type 0} (tells : Type 0) (lines : L → List Line) (available : L 
         },
         record {
           next = λ e ge less. subst (λ (ends : EndsOf). cut_of ends plans (e + 1) ≡ next_ends b.cap (cut_of ends plans e) found) first (on.next e (subst (λ (n : ℕ). n ≤ e) all ge) less);
-          due = λ e ge less. subst (λ (ends : EndsOf). is_behind (cut_of ends plans e) found ≡ true) first (on.due e (subst (λ (n : ℕ). n ≤ e) all ge) less);
+          due = λ e ge less. elim (on.due e (subst (λ (n : ℕ). n ≤ e) all ge) less) [
+            | inl behind ↦ inl (subst (λ (ends : EndsOf). is_behind (cut_of ends plans e) found ≡ true) first behind)
+            | inr last ↦ inr last
+          ];
+          more = λ own e ge less. more own e (subst (λ (n : ℕ). n ≤ e) all ge) less;
         },
       )
 
   -- what a round did goes on from what those before it did
-  pub running_on : CutsHang → RunsAreJoined tells → (b : Begun L) (start now : History) (opened : Opened) (done : List Round) (told more_told : List Told) (plans more : List Plan) (end : Result Opened Cause)
-      → plans ≡ opened.plans ++ more → b.found.committed + length told ≡ opened.committed → HasRounds b opened.plans done told → HaveRun tells lines available answers faults b start opened.plans told
-      → RoundRan tells (setting_in tells lines available answers faults b) b.cap start now (cuts_in b plans) opened.committed (length plans) more_told end
+  pub running_on : CutsHang → RunsAreJoined tells → (b : Begun L) (start now : History) (opened : Opened) (done : List Round) (told more_told : List Told) (found : List ℕ) (plans more : List Plan) (end : Ended)
+      → plans ≡ opened.plans ++ more → b.found.committed + length told ≡ opened.committed
+      → HasRounds (Owned tells lines available answers faults b) (setting_in tells lines available answers faults b) b opened.plans done told → HaveRun tells lines available answers faults b start opened.plans told
+      → RoundRan tells (setting_in tells lines available answers faults b) (scope_of opened found b.cap) start now (cuts_in b plans) (length opened.plans) opened.committed (length plans) more_told end
       → HaveRun tells lines available answers faults b now plans (told ++ more_told)
-  running_on hang joined b start now opened done told more_told plans more end behind committed has have ran =
+  running_on hang joined b start now opened done told more_told found plans more end behind committed has have ran =
       let s = setting_in tells lines available answers faults b in
       record {
         run = subst (WasRun tells (job_of s) b.start now) (sym (epochs_then told more_told)) (joined (job_of s) b.start start now (epochs_of told) (epochs_of more_told) have.run ran.run);
-        files = files_once (job_of s) b.cap (λ found. AreFound found (map lines b.logs)) (opened.committed + length more_told ≡ length plans) (b.found.committed + length (told ++ more_told) ≡ length plans) (cuts_in b plans) (length plans) now
+        files = files_once (job_of s) b.cap (due_at s) (λ found. AreFound found (map lines b.logs)) (opened.committed + length more_told ≡ length plans) (b.found.committed + length (told ++ more_told) ≡ length plans) (cuts_in b plans) (length plans) now
             (λ all. (let e = length-append told more_told in omega (arith, all, e, committed))) ran.files;
         meant = All-append (IsMeant s (cuts_in b plans)) told more_told
             (rows_more hang s (cuts_in b opened.plans) (cuts_in b plans) (length opened.plans) b.found.committed (first_of b.found) opened.plans told
@@ -153,25 +161,42 @@ fault_moved s t cuts others e f at same cut here is = subst (λ (x : Setting). I
 pub rises_from : (first before now : ℕ) → first ≤ before → Rises before now → Rises first now
 rises_from first before now le risen = omega (arith, le, risen)
 
+key_moved : (one other : Type 0) (s t : Setting) (cuts others : Cuts) (e f : ℕ) (key : Option Values) → (other → s ≡ t) → (other → one) → cuts ≡ others → e ≡ f → IsSomeAnd key (λ own. one → IsKeyAt s cuts e own)
+    → IsSomeAnd key (λ own. other → IsKeyAt t others f own)
+key_moved one other s t cuts others e f None same own cut here is = absurd is
+key_moved one other s t cuts others e f (Some key) same own cut here is =
+    λ o. subst (λ (x : Setting). IsKeyAt x others f key) (same o) (subst (λ (c : Cuts). IsKeyAt s c f key) cut (subst (λ (n : ℕ). IsKeyAt s cuts n key) here (is (own o))))
+
+more_by : (s t : Setting) (cuts others : Cuts) (found : List ℕ) (e : ℕ) → s ≡ t → cuts ≡ others → IsMore s cuts found e → IsMore t others found e
+more_by s t cuts others found e same cut is = subst (λ (x : Setting). IsMore x others found e) same (subst (λ (c : Cuts). IsMore s c found e) cut is)
+
 -- why a round stopped, said of the run
-pub stop_moved : (tells : Type 0) (s t : Setting) (cuts others : Cuts) (found : List ℕ) (planned e f : ℕ) (first disk disk_now logs : ℕ) (cause : Cause) → (tells → s ≡ t) → cuts ≡ others → e ≡ f → first ≤ disk
-    → IsRoundStop tells s cuts found planned e disk disk_now logs cause → IsRoundStop tells t others found planned f first disk_now logs cause
-stop_moved tells s t cuts others found planned e f first disk disk_now logs (cause.BadLine a b o r) same cut at le is =
+pub stop_moved : (tells one other : Type 0) (s t : Setting) (cuts others : Cuts) (found : List ℕ) (planned e f : ℕ) (first disk disk_now logs : ℕ) (key : Option Values) (cause : Cause) → (tells → s ≡ t) → s.job.bound ≡ t.job.bound
+    → (other → tells) → (other → one) → cuts ≡ others → e ≡ f → first ≤ disk
+    → IsRoundStop tells one s cuts found planned e disk disk_now logs key cause → IsRoundStop tells other t others found planned f first disk_now logs key cause
+stop_moved tells one other s t cuts others found planned e f first disk disk_now logs key (cause.BadLine a b o r) same query known own cut at le is =
     (subst (λ (n : ℕ). n < planned) at is.0, λ told. fault_moved s t cuts others e f (line_of (cause.BadLine a b o r)) (same told) cut at (is.1 told))
-stop_moved tells s t cuts others found planned e f first disk disk_now logs (cause.Overflow a b o) same cut at le is =
+stop_moved tells one other s t cuts others found planned e f first disk disk_now logs key (cause.Overflow a b o) same query known own cut at le is =
     (subst (λ (n : ℕ). n < planned) at is.0, λ told. fault_moved s t cuts others e f (line_of (cause.Overflow a b o)) (same told) cut at (is.1 told))
-stop_moved tells s t cuts others found planned e f first disk disk_now logs cause.LogFault same cut at le is = is
-stop_moved tells s t cuts others found planned e f first disk disk_now logs (cause.LogShort a b m k) same cut at le is = is
-stop_moved tells s t cuts others found planned e f first disk disk_now logs (cause.Damaged q) same cut at le is = absurd is
-stop_moved tells s t cuts others found planned e f first disk disk_now logs cause.DiskFault same cut at le is = rises_from first disk disk_now le is
-stop_moved tells s t cuts others found planned e f first disk disk_now logs cause.Full same cut at le is = (is.0, subst (λ (c : Cuts). is_behind (c planned) found ≡ true) cut is.1)
-stop_moved tells s t cuts others found planned e f first disk disk_now logs cause.NoMemory same cut at le is = tt
+stop_moved tells one other s t cuts others found planned e f first disk disk_now logs key cause.KeyOverflow same query known own cut at le is =
+    (subst (λ (n : ℕ). n < planned) at is.0, key_moved one other s t cuts others e f key (λ o. same (known o)) own cut at is.1)
+stop_moved tells one other s t cuts others found planned e f first disk disk_now logs key cause.LogFault same query known own cut at le is = is
+stop_moved tells one other s t cuts others found planned e f first disk disk_now logs key (cause.LogShort a b m k) same query known own cut at le is = is
+stop_moved tells one other s t cuts others found planned e f first disk disk_now logs key (cause.Damaged q) same query known own cut at le is = absurd is
+stop_moved tells one other s t cuts others found planned e f first disk disk_now logs key cause.DiskFault same query known own cut at le is = rises_from first disk disk_now le is
+stop_moved tells one other s t cuts others found planned e f first disk disk_now logs key cause.Full same query known own cut at le is =
+    (is.0, full_by is.1, λ o. more_by s t cuts others found planned (same (known o)) cut (is.2 (own o)))
+  where
+    full_by : (is_behind (cuts planned) found ≡ true) ⊎ (closes s.job.bound ≡ true) → (is_behind (others planned) found ≡ true) ⊎ (closes t.job.bound ≡ true)
+    full_by (inl behind) = inl (subst (λ (c : Cuts). is_behind (c planned) found ≡ true) cut behind)
+    full_by (inr closing) = inr (subst (λ (query : Bound). closes query ≡ true) query closing)
+stop_moved tells one other s t cuts others found planned e f first disk disk_now logs key cause.NoMemory same query known own cut at le is = tt
 
 -- what can begin again over the logs that came back can be run on
 pub fits_over : {L : Type 0} (tells : Type 0) (lines : L → List Line) (available : L → ℕ) (answers : L → List ℕ) (faults : L → ℕ) (bound : Bound) (cap : Option ℕ) (logs news : List L) (found : List ℕ) (of next : Opened)
     → length logs ≤ 128 → AreReturned tells lines available answers faults logs news → CanBegin bound (length logs) next (scope_of of found cap) → Fits bound cap (length news) next
 fits_over tells lines available answers faults bound cap logs news found of next few back can = record {
-  plain = can.plain;
+  runs = can.runs;
   some_partitions = can.some_partitions;
   few_partitions = can.few_partitions;
   streams = can.streams;
@@ -180,11 +205,12 @@ fits_over tells lines available answers faults bound cap logs news found of next
   few_logs = subst (λ (n : ℕ). n ≤ 128) (sym (returned_count tells lines available answers faults logs news back)) few;
   has_cap = can.cap;
   numbers = can.numbers;
+  stores = can.stores;
 }
 
 module _ {L : Type 0} (tells : Type 0) (lines : L → List Line) (available : L → ℕ) (answers : L → List ℕ) (faults : L → ℕ)
     (hang : CutsHang) (joined : RunsAreJoined tells)
-    (b : Begun L) (n : ℕ) (start now : History) (disk disk_now : ℕ) (logs news : List L) (OutTells : Type 0) (written : List ℕ) (opened : Opened) (found : List ℕ) (told : List Told) (end : Result Opened Cause)
+    (b : Begun L) (n : ℕ) (start now : History) (disk disk_now : ℕ) (logs news : List L) (OutTells : Type 0) (written : List ℕ) (opened : Opened) (found : List ℕ) (told : List Told) (end : Ended)
     (ready : IsReady tells lines available answers faults b n start disk logs OutTells written opened found)
     (round : IsRound tells (setting_for lines b.bound opened logs) (length logs) (scope_of opened found b.cap) opened start now disk disk_now (sum_by faults news) told end)
     (back : AreReturned tells lines available answers faults logs news) (counted : disk ≤ disk_now) where
@@ -194,13 +220,10 @@ module _ {L : Type 0} (tells : Type 0) (lines : L → List Line) (available : L 
   found_of : tells → IsOwnRun tells lines available answers faults b → AreFound found (map lines b.logs)
   found_of t own =
       let same : map lines logs ≡ map lines b.logs = same_lines tells lines available answers faults 0 (record { found = found; epochs = 0 } ∷ ready.so_far.done) b.logs logs (ready.asked 0).answered t in
-      subst (AreFound found) same (ready.are t (subst (All (λ (own : List Line). length own < 2 ^ 64)) (sym same) own.few))
+      subst (AreFound found) same (ready.are t)
 
   abbrev pub all_told : List Told
   all_told = so.told ++ told
-
-  goes : HasRounds b round.plans so.done all_told × AreNext b.cap found (cuts_in b round.plans) (epochs_after (length b.found.plans) so.done) (length round.plans)
-  goes = going_on tells lines available answers faults b opened so.done so.told told found round.plans so.has so.meta_is so.all so.committed round.went.on round.went.told_are round.went.few
 
   same_s : tells → setting_for lines b.bound opened logs ≡ setting_in tells lines available answers faults b
   same_s t = same_setting tells lines available answers faults b (record { found = found; epochs = 0 } ∷ so.done) logs opened so.meta_is (ready.asked 0).answered t
@@ -208,15 +231,27 @@ module _ {L : Type 0} (tells : Type 0) (lines : L → List Line) (available : L 
   cuts_same : cut_of (first_of opened) round.plans ≡ cuts_in b round.plans
   cuts_same = ap (λ (m : Meta). cut_of (begins m.parts) round.plans) so.meta_is
 
-  pub ran_on : tells → IsOwnRun tells lines available answers faults b → RoundRan tells (setting_in tells lines available answers faults b) b.cap start now (cuts_in b round.plans) opened.committed (length round.plans) told end
-  ran_on t own =
+  -- what was opened for it is the job's own
+  own_at : tells → IsOwnRun tells lines available answers faults b → IsOwn (setting_for lines b.bound opened logs) (scope_of opened found b.cap) start opened
+  own_at t own =
       let before = so.ran t own in
-      subst (λ (cuts : Cuts). RoundRan tells (setting_in tells lines available answers faults b) b.cap start now cuts opened.committed (length round.plans) told end) cuts_same
-      (subst (λ (s : Setting). IsOwn s (scope_of opened found b.cap) start opened → RoundRan tells s b.cap start now (cut_of (first_of opened) round.plans) opened.committed (length round.plans) told end) (same_s t) (round.ran t)
-      (own_round tells lines available answers faults b found start opened so.meta_is so.fits.has_cap (found_of t own) own before.1 before.2))
+      subst (λ (s : Setting). IsOwn s (scope_of opened found b.cap) start opened) (sym (same_s t))
+      (own_round tells lines available answers faults b found start opened so.meta_is so.fits.has_cap (found_of t own) own before.1 before.2)
+
+  pub ran_on : tells → IsOwnRun tells lines available answers faults b
+      → RoundRan tells (setting_in tells lines available answers faults b) (scope_of opened found b.cap) start now (cuts_in b round.plans) (length opened.plans) opened.committed (length round.plans) told end
+  ran_on t own =
+      subst (λ (cuts : Cuts). RoundRan tells (setting_in tells lines available answers faults b) (scope_of opened found b.cap) start now cuts (length opened.plans) opened.committed (length round.plans) told end) cuts_same
+      (subst (λ (s : Setting). RoundRan tells s (scope_of opened found b.cap) start now (cut_of (first_of opened) round.plans) (length opened.plans) opened.committed (length round.plans) told end) (same_s t) (round.ran t (own_at t own)))
+
+  goes : HasRounds (Owned tells lines available answers faults b) (setting_in tells lines available answers faults b) b round.plans so.done all_told
+      × AreNext (Owned tells lines available answers faults b) (setting_in tells lines available answers faults b) b.cap found (cuts_in b round.plans) (epochs_after (length b.found.plans) so.done) (length round.plans)
+  goes =
+      going_on tells lines available answers faults hang b opened so.done so.told told found round.plans so.has so.meta_is so.all so.committed round.went.on round.went.told_are round.went.few
+      (λ own e ge less. (ran_on own.0 own.1).due e ge less)
 
   pub have_on : tells → IsOwnRun tells lines available answers faults b → HaveRun tells lines available answers faults b now round.plans all_told
-  have_on t own = running_on tells lines available answers faults hang joined b start now opened so.done so.told told round.plans round.went.on.more end round.went.on.behind so.committed so.has (so.ran t own).0 (ran_on t own)
+  have_on t own = running_on tells lines available answers faults hang joined b start now opened so.done so.told told found round.plans round.went.on.more end round.went.on.behind so.committed so.has (so.ran t own).0 (ran_on t own)
 
   -- no line of what was told is a fault
   good_on : tells → AreGood tells lines available answers faults b round.plans all_told
@@ -235,7 +270,7 @@ module _ {L : Type 0} (tells : Type 0) (lines : L → List Line) (available : L 
       record { answered = back_after tells lines available answers faults 0 (record { found = found; epochs = length round.plans } ∷ so.done) b.logs logs news ask.answered back; first = ask.first }
 
   -- the round is over
-  pub turned : (next : Opened) (text : List ℕ) → end ≡ Ok next → (OutTells → text ≡ written ++ told_text told) → SoFar tells lines available answers faults b (suc n) now disk_now news OutTells text next
+  pub turned : (next : Opened × Vec (List Timed)) (text : List ℕ) → end ≡ Ok next → (OutTells → text ≡ written ++ told_text told) → SoFar tells lines available answers faults b (suc n) now disk_now news OutTells text next.0
   unfolding AreRounds
   turned next text ok wrote =
       let over = round.went.over next ok in
@@ -243,10 +278,18 @@ module _ {L : Type 0} (tells : Type 0) (lines : L → List Line) (available : L 
         done = record { found = found; epochs = length round.plans } ∷ so.done;
         told = all_told;
         number = ap suc so.number;
-        has = subst (λ (ps : List Plan). HasRounds b ps (record { found = found; epochs = length round.plans } ∷ so.done) all_told) (sym over.plans_are) (record {
+        has = subst (λ (ps : List Plan). HasRounds (Owned tells lines available answers faults b) (setting_in tells lines available answers faults b) b ps (record { found = found; epochs = length round.plans } ∷ so.done) all_told) (sym over.plans_are) (record {
           more = goes.0.more;
           keeps = goes.0.keeps;
-          are = (record { on = goes.0.within; cut = goes.1; covers = subst (λ (ends : EndsOf). is_behind ends found ≡ false) (ap (λ (f : Cuts). f (length round.plans)) cuts_same) over.covered }, goes.0.are);
+          are = (
+            record {
+              on = goes.0.within;
+              cut = goes.1;
+              covers = subst (λ (ends : EndsOf). is_behind ends found ≡ false) (ap (λ (f : Cuts). f (length round.plans)) cuts_same) over.covered;
+              quiet = λ own. (ran_on own.0 own.1).quiet next ok;
+            },
+            goes.0.are,
+          );
           within = omega arith;
           told_are = goes.0.told_are;
           few = goes.0.few;
@@ -258,7 +301,7 @@ module _ {L : Type 0} (tells : Type 0) (lines : L → List Line) (available : L 
         good = λ t. subst (λ (ps : List Plan). AreGood tells lines available answers faults b ps all_told) (sym over.plans_are) (good_on t);
         wrote = λ o. wrote o ∙ ap (λ (l : List ℕ). l ++ told_text told) (so.wrote o) ∙ append_assoc b.written (told_text so.told) (told_text told) ∙ ap (λ (l : List ℕ). b.written ++ l) (sym (text_then so.told told));
         asked = back_asked;
-        fits = fits_over tells lines available answers faults b.bound b.cap logs news found opened next ready.few back over.can;
+        fits = fits_over tells lines available answers faults b.bound b.cap logs news found opened next.0 ready.few back over.can;
         there = λ some_round t i own at.
             let old = returned_at tells lines available answers faults logs news back i own at in
             (let a = over.can.long i in let e = ready.seen t i old.0 old.1 in let g = old.2.grown t in omega (arith, a, e, g));
@@ -291,19 +334,20 @@ module _ {L : Type 0} (tells : Type 0) (lines : L → List Line) (available : L 
       put_so : OutTells → written ≡ b.written ++ told_text so.told
       put_so = so.wrote
 
-      stop_at : (cause : Cause) → end ≡ Err cause → IsRoundStop tells (setting_in tells lines available answers faults b) (cuts_in b round.plans) found (length round.plans) (b.found.committed + length all_told) b.disk_faults disk_now (sum_by faults news) cause
-      stop_at cause is_err =
-          stop_moved tells (setting_for lines b.bound opened logs) (setting_in tells lines available answers faults b) (cut_of (first_of opened) round.plans) (cuts_in b round.plans) found (length round.plans) (opened.committed + length told) (b.found.committed + length all_told)
-          b.disk_faults disk disk_now (sum_by faults news) cause same_s cuts_same (let e = length-append so.told told in let c = so.committed in omega (arith, e, c)) so.disk_counted (round.went.stopped cause is_err)
+      stop_at : (stop : Stopped) → end ≡ Err stop
+          → IsRoundStop tells (Owned tells lines available answers faults b) (setting_in tells lines available answers faults b) (cuts_in b round.plans) found (length round.plans) (b.found.committed + length all_told) b.disk_faults disk_now (sum_by faults news) stop.key stop.cause
+      stop_at stop is_err =
+          stop_moved tells (tells × IsOwn (setting_for lines b.bound opened logs) (scope_of opened found b.cap) start opened) (Owned tells lines available answers faults b) (setting_for lines b.bound opened logs) (setting_in tells lines available answers faults b) (cut_of (first_of opened) round.plans) (cuts_in b round.plans) found (length round.plans) (opened.committed + length told) (b.found.committed + length all_told)
+          b.disk_faults disk disk_now (sum_by faults news) stop.key stop.cause same_s refl (λ own. own.0) (λ own. (own.0, own_at own.0 own.1)) cuts_same (let e = length-append so.told told in let c = so.committed in omega (arith, e, c)) so.disk_counted (round.went.stopped stop is_err)
 
       end_of : IsUntold OutTells written written_now before after text told end why → IsEnd tells lines available answers faults b disk_now news OutTells written_now round.plans so.done all_told text (Err why)
-      end_of (untold_stopped cause is_err is_why same left) =
-          stopped some_done found goes.1 back_asked cause (stop_at cause is_err) so.told told refl (λ o. same o ∙ put_so o) left (ap Err is_why)
+      end_of (untold_stopped stop is_err is_why same left) =
+          stopped some_done found goes.1 back_asked stop (stop_at stop is_err) so.told told refl (λ o. same o ∙ put_so o) left (ap Err is_why)
       end_of (failed is_why risen front empty) = unput some_done found goes.1 back_asked so.told told refl (λ o. let f = front o in (f.0, f.1 ∙ ap (λ (l : List ℕ). l ++ take f.0 (told_text told)) (put_so o))) empty (ap Err is_why)
       end_of (untold_starved is_why first rest split same left) = starved some_le (record { found = found; epochs = length round.plans } ∷ so.done) (inr (found, goes.1, refl)) back_asked so.told first rest (ap (λ (l : List Told). so.told ++ l) split) (λ o. same o ∙ put_so o) left (ap Err is_why)
 
 -- a round's own query and cap are those of the run
-pub of_run : {L : Type 0} (tells : Type 0) (lines : L → List Line) (b : Begun L) (bound : Bound) (cap : Option ℕ) (logs : List L) (opened : Opened) (found : List ℕ) (start now : History) (disk disk_now faulty : ℕ) (told : List Told) (end : Result Opened Cause)
+pub of_run : {L : Type 0} (tells : Type 0) (lines : L → List Line) (b : Begun L) (bound : Bound) (cap : Option ℕ) (logs : List L) (opened : Opened) (found : List ℕ) (start now : History) (disk disk_now faulty : ℕ) (told : List Told) (end : Ended)
     → b.bound ≡ bound → b.cap ≡ cap → IsRound tells (setting_for lines bound opened logs) (length logs) (scope_of opened found cap) opened start now disk disk_now faulty told end
     → IsRound tells (setting_for lines b.bound opened logs) (length logs) (scope_of opened found b.cap) opened start now disk disk_now faulty told end
 of_run tells lines b bound cap logs opened found start now disk disk_now faulty told end same caps round =

@@ -1,15 +1,18 @@
 -- When a run goes on: what a checkpoint, the logs and the query have to be that it is not refused, meets no limit and finds no fault.
-use Rattle.std.specs.Prelude.{◌≡◌, ◌<◌, ◌≤◌, ◌+◌, ℕ, zero, suc, List, [], length, map, get_or, sum, slice_get, All, Option, Some, None, Result, Err}
+use Rattle.std.specs.Prelude.{◌≡◌, ◌<◌, ◌≤◌, ◌+◌, ◌-◌, ℕ, zero, suc, List, [], length, map, get_or, sum, slice_get, All, Option, Some, None, Result, Err, if◌then◌else◌}
 use Rattle.ssq_outside.specs.Files.{Files, IsEmpty}
 use Rattle.ssq_outside.specs.History.{History, files_now}
 use Rattle.ssq_outside.specs.Logs.{Held, Line}
 use Rattle.ssq_shape.specs.declared.bound.Bound.{Bound}
 use Rattle.ssq_shape.specs.declared.bound.Stream.{Stream}
 use Rattle.ssq_meaning.specs.Parts.{Part}
+use Rattle.ssq_meaning.specs.Cut.{AreCuts}
+use Rattle.ssq_meaning.specs.Cut.{Cuts as Offsets}
 use Rattle.ssq_meaning.specs.Feeding.{fault_at}
+use Rattle.ssq_meaning.specs.Epochs.{key_fault}
 use Rattle.ssq_core.specs.Course.{Cuts, Job}
 use Rattle.ssq_core.specs.Standing.{Stands}
-use Rattle.ssq_course.specs.Setting.{Setting, parts_in, job_of, cut_of as offsets_of}
+use Rattle.ssq_course.specs.Setting.{Setting, parts_in, job_of, closes, cut_of as offsets_of}
 use Rattle.ssq_board.specs.declared.front.Cause.TheVariants as cause
 use Rattle.ssq_open.specs.Opening.{IsOutside}
 use Rattle.ssq_logs.specs.declared.fault.PartsFault.TheVariants as parts_fault
@@ -57,6 +60,16 @@ module _ {job : Job} {known : List ℕ} {files : Files} where
   committed_in (is_empty none) = []
   committed_in (stands is long) = covered_by is.cuts is.committed
 
+  -- how many it has committed
+  abbrev pub commits_in : CanBeResumed job known files → ℕ
+  commits_in (is_empty none) = 0
+  commits_in (stands is long) = is.committed
+
+  -- cuts that go on from it: its planned epochs end where they do there
+  abbrev pub GoOnFrom : CanBeResumed job known files → Offsets → Type 0
+  GoOnFrom (is_empty none) cuts = Unit {0}
+  GoOnFrom (stands is long) cuts = (e : ℕ) → 0 < e → e ≤ is.planned → cuts e ≡ offsets_of (is.cuts e)
+
 -- A run can go on: the setting is that of the query over what the inputs hold; no stream has more than 64 parts; and the checkpoint can be
 -- resumed, so that no log has lost a line that is planned.
 pub record CanGoOn (held : Held) (known : List ℕ → ℕ → ℕ) (bound : Bound) (asks : Option ℕ) (start : History) (s : Setting) : Type 0 where
@@ -64,18 +77,25 @@ pub record CanGoOn (held : Held) (known : List ℕ → ℕ → ℕ) (bound : Bou
   pub few_parts : All IsFew (counts_in held bound.streams)
   pub resumed : CanBeResumed (job_of s) (known_in held known bound.streams) (files_now start)
 
--- And no limit is in the way: no part will come to hold more lines than are taken of one; and since each epoch that is still to be planned has a
--- line of its own, fewer epochs than the most are needed.
+-- How many epochs so many lines come to, at most. Each has a line of its own; but where the query closes, one without lines may come first, and one
+-- behind each that has lines.
+abbrev pub epochs_for : Bound → ℕ → ℕ
+epochs_for bound lines = if closes bound then lines + lines + 1 else lines
+
+-- And no limit is in the way: no part will come to hold more lines than are taken of one; and with the epochs that the lines come to that are not
+-- planned yet there are fewer than the most.
 pub record HasRoom (held : Held) (known : List ℕ → ℕ → ℕ) (bound : Bound) (asks : Option ℕ) (start : History) (s : Setting) : Type 0 where
   pub can : CanGoOn held known bound asks start s
   pub few_lines : All (λ (own : List Line). length own ≤ most_lines) s.lines
-  pub few_epochs : planned_in can.resumed + sum (map (λ (own : List Line). length own) s.lines) < most_epochs + sum (covered_in can.resumed)
+  pub few_epochs : planned_in can.resumed + epochs_for s.job.bound (sum (map (λ (own : List Line). length own) s.lines) - sum (covered_in can.resumed)) < most_epochs
 
--- And no line that is not committed is a fault of its part.
+-- And no line that is not committed is a fault of its part; and however the lines that no plan covers are cut into epochs, none that is not committed
+-- overflows on a key.
 pub record IsFaultless (held : Held) (known : List ℕ → ℕ → ℕ) (bound : Bound) (asks : Option ℕ) (start : History) (s : Setting) : Type 0 where
   pub room : HasRoom held known bound asks start s
   pub good : (i : ℕ) (part : Part) → slice_get (parts_in s) i ≡ Some part → (at : ℕ) (line : Line) → get_or (committed_in room.can.resumed) i 0 ≤ at → slice_get part.lines at ≡ Some line
       → fault_at s.job.bound part at line ≡ None
+  pub keys : (cuts : Offsets) (n e : ℕ) → AreCuts (parts_in s) cuts n → GoOnFrom room.can.resumed cuts → commits_in room.can.resumed ≤ e → e < n → key_fault s.job.bound (parts_in s) cuts e ≡ None
 
 -- The end is not a refusal: the checkpoint is refused for the outside alone, no log is short, and no file is damaged.
 abbrev pub IsNoRefusal : Result (Unit {0}) RunFault → Type 0
@@ -91,10 +111,12 @@ IsNoLimit (Err (fault.Lines (length_fault.Full part lines))) = ⊥
 IsNoLimit (Err (fault.Round cause.Full)) = ⊥
 IsNoLimit _ = Unit {0}
 
--- It is not a fault of a line.
+-- It is not a fault of a line, nor of a key.
 abbrev pub IsNoFault : Result (Unit {0}) RunFault → Type 0
 IsNoFault (Err (fault.Round (cause.BadLine stream part offset what))) = ⊥
 IsNoFault (Err (fault.Round (cause.Overflow stream part offset))) = ⊥
+IsNoFault (Err (fault.Round cause.KeyOverflow)) = ⊥
+IsNoFault (Err (fault.KeyOverflow key)) = ⊥
 IsNoFault _ = Unit {0}
 
 module _ {L : Type 0} (told tells : Type 0) (lines : L → List Line) (available : L → ℕ) (answers : L → List ℕ) (faults : L → ℕ) (OutTells : Type 0) where

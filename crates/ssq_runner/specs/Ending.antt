@@ -1,5 +1,5 @@
 -- What rounds leave, and how they end.
-use Rattle.std.specs.Prelude.{◌≡◌, ◌⊎◌, ◌<◌, ◌≤◌, ◌+◌, ◌^◌, ◌++◌, ℕ, List, [], ◌∷◌, length, map, take, All, Option, Result, Ok, Err}
+use Rattle.std.specs.Prelude.{◌≡◌, ◌⊎◌, ◌<◌, ◌≤◌, ◌+◌, ◌++◌, ℕ, List, [], ◌∷◌, length, map, take, All, Option, Result, Ok, Err}
 use Rattle.std.specs.List.{sum_by}
 use mathlib.Core.Option.{some}
 use lib.ListN.{get_elem?}
@@ -16,13 +16,15 @@ use Rattle.ssq_promise.specs.Run.{WasRun, AreFilesOf}
 use Rattle.ssq_logs.specs.declared.fault.LengthFault.{LengthFault}
 use Rattle.ssq_logs.specs.declared.fault.LengthFault.TheVariants as length_fault
 use Rattle.ssq_logs.specs.Asked.{IsStopped, most_lines}
-use Rattle.ssq_board.specs.declared.front.Cause.{Cause}
 use Rattle.ssq_terms.specs.Setting.{IsSettingOf, AreFound, found_lines}
+use Rattle.ssq_terms.specs.Laws.{due_at}
 use Rattle.ssq_desk.specs.declared.told.Told.{Told}
+use Rattle.ssq_drive.specs.declared.round.Stopped.{Stopped}
 use Rattle.ssq_drive.specs.Good.{HasGoodLines}
 use Rattle.ssq_drive.specs.Rounds.{AreTold, IsMeant, IsFoundOf, IsRoundStop, setting_for, first_of}
 use Rattle.ssq_runner.specs.declared.fault.RunFault.{RunFault}
 use Rattle.ssq_runner.specs.declared.fault.RunFault.TheVariants as fault
+use Rattle.ssq_runner.specs.Faults.{fault_of}
 use Rattle.ssq_runner.specs.Lens.{lens_of}
 use Rattle.ssq_runner.specs.Rounds.{Round, AreNext, AreRounds, BeginWith, HaveAnswered, epochs_after}
 use Rattle.ssq_runner.specs.Told.{told_text, done_line}
@@ -46,11 +48,11 @@ module _ {L : Type 0} where
   cuts_in b plans = cut_of (first_of b.found) plans
 
   -- These rounds are over, the latest of which comes first, and these epochs were told. The plans that were opened stay, and the rounds cut
-  -- on from them; the epochs that are told are the first that were not committed, one after another.
-  pub record HasRounds (b : Begun L) (plans : List Plan) (done : List Round) (told : List Told) : Type 0 where
+  -- on from them, the query's setting being s; the epochs that are told are the first that were not committed, one after another.
+  pub record HasRounds (owned : Type 0) (s : Setting) (b : Begun L) (plans : List Plan) (done : List Round) (told : List Told) : Type 0 where
     pub more : List Plan
     pub keeps : plans ≡ b.found.plans ++ more
-    pub are : AreRounds b.cap (cuts_in b plans) (length b.found.plans) done
+    pub are : AreRounds owned s b.cap (cuts_in b plans) (length b.found.plans) done
     pub within : epochs_after (length b.found.plans) done ≤ length plans
     pub told_are : AreTold (first_of b.found) plans b.found.committed told
     pub few : b.found.committed + length told ≤ length plans
@@ -61,19 +63,22 @@ module _ {L : Type 0} (tells : Type 0) (lines : L → List Line) (available : L 
   setting_in b = setting_for lines b.bound b.found b.logs
 
   -- What was opened is the job's own: its files are settled, and what was found is what they hold. So it is for each number of lines that may
-  -- be found of each part, which are not more than it will come to hold.
+  -- be found of each part, which are not more than it will come to hold, nor than are taken of a log.
   pub record IsOwnRun (b : Begun L) : Type 0 where
     pub asks : Option ℕ
     pub settings : (found : List ℕ) → AreFound found (map lines b.logs) → IsSettingOf (setting_in b) b.bound asks (lens_of b.found.meta.parts found) × (found_lines (lens_of b.found.meta.parts found) ≡ found)
-    pub few : All (λ (own : List Line). length own < 2 ^ 64) (map lines b.logs)
     pub settled : IsSettledAs b.start (files_now b.start)
     pub found_is : IsFoundOf (setting_in b) (files_now b.start) b.found
 
+  -- disk and logs tell what they hold, and what was opened is the job's own
+  abbrev pub Owned : Begun L → Type 0
+  Owned b = tells × IsOwnRun b
+
   -- What rounds did that began so: they are a run of the machine; their plans are those of the files that they leave, or, once all are told,
-  -- the publishing of one more failed; and each epoch is told as the meaning has it.
+  -- the publishing of one more failed; and each epoch is told as the meaning has it, which finds no fault in it.
   pub record HaveRun (b : Begun L) (now : History) (plans : List Plan) (told : List Told) : Type 0 where
     pub run : WasRun tells (job_of (setting_in b)) b.start now (map (λ t. t.epoch) told)
-    pub files : AreFilesOf (job_of (setting_in b)) b.cap (λ found. AreFound found (map lines b.logs)) (b.found.committed + length told ≡ length plans) (cuts_in b plans) (length plans) now
+    pub files : AreFilesOf (job_of (setting_in b)) b.cap (due_at (setting_in b)) (λ found. AreFound found (map lines b.logs)) (b.found.committed + length told ≡ length plans) (cuts_in b plans) (length plans) now
     pub meant : All (IsMeant (setting_in b) (cuts_in b plans)) told
 
   -- no line of these epochs is a fault
@@ -97,7 +102,7 @@ module _ {L : Type 0} (tells : Type 0) (lines : L → List Line) (available : L 
   -- These are the rounds that are over; or they are those and one more, that cut on from them up to the last plan.
   abbrev pub AreBegun : (b : Begun L) → List Plan → (done rounds : List Round) → Type 0
   AreBegun b plans done rounds = (rounds ≡ done)
-      ⊎ ((found : List ℕ) × AreNext b.cap found (cuts_in b plans) (epochs_after (length b.found.plans) done) (length plans) × (rounds ≡ record { found = found; epochs = length plans } ∷ done))
+      ⊎ ((found : List ℕ) × AreNext (Owned b) (setting_in b) b.cap found (cuts_in b plans) (epochs_after (length b.found.plans) done) (length plans) × (rounds ≡ record { found = found; epochs = length plans } ∷ done))
 
   -- The log of this number came back with so many lines: all of them are there, of those that it held before, and no fewer than were known then.
   pub record HasSoMany (before after : List L) (at found : ℕ) : Type 0 where
@@ -124,13 +129,13 @@ module _ {L : Type 0} (tells : Type 0) (lines : L → List Line) (available : L 
   pub data IsEnd (b : Begun L) (disk_faults : ℕ) (logs : List L) (OutTells : Type 0) (written : List ℕ) (plans : List Plan) (done : List Round) (told : List Told) (text : List ℕ) (end : Result (Unit {0}) RunFault) : Type 0 where
     finished : length done ≡ b.rounds → epochs_after (length b.found.plans) done ≡ length plans → b.found.committed + length told ≡ length plans → WereAsked b done logs
         → (OutTells → written ≡ b.written ++ told_text told) → text ≡ done_line (length plans) → end ≡ Ok tt → IsEnd b disk_faults logs OutTells written plans done told text end
-    stopped : length done < b.rounds → (found : List ℕ) → AreNext b.cap found (cuts_in b plans) (epochs_after (length b.found.plans) done) (length plans)
-        → WereAsked b (record { found = found; epochs = length plans } ∷ done) logs → (why : Cause)
-        → IsRoundStop tells (setting_in b) (cuts_in b plans) found (length plans) (b.found.committed + length told) b.disk_faults disk_faults (sum_by faults logs) why
-        → (put more : List Told) → told ≡ put ++ more → (OutTells → written ≡ b.written ++ told_text put) → text ≡ told_text more → end ≡ Err (fault.Round why) → IsEnd b disk_faults logs OutTells written plans done told text end
+    stopped : length done < b.rounds → (found : List ℕ) → AreNext (Owned b) (setting_in b) b.cap found (cuts_in b plans) (epochs_after (length b.found.plans) done) (length plans)
+        → WereAsked b (record { found = found; epochs = length plans } ∷ done) logs → (why : Stopped)
+        → IsRoundStop tells (Owned b) (setting_in b) (cuts_in b plans) found (length plans) (b.found.committed + length told) b.disk_faults disk_faults (sum_by faults logs) why.key why.cause
+        → (put more : List Told) → told ≡ put ++ more → (OutTells → written ≡ b.written ++ told_text put) → text ≡ told_text more → end ≡ Err (fault_of why) → IsEnd b disk_faults logs OutTells written plans done told text end
     uncounted : length done < b.rounds → epochs_after (length b.found.plans) done ≡ length plans → (before : List L) → WereAsked b done before → (why : LengthFault) → IsUncounted b.logs logs why
         → IsStopped tells lines available answers faults 0 before logs why → (OutTells → written ≡ b.written ++ told_text told) → text ≡ [] → end ≡ Err (fault.Lines why) → IsEnd b disk_faults logs OutTells written plans done told text end
-    unput : length done < b.rounds → (found : List ℕ) → AreNext b.cap found (cuts_in b plans) (epochs_after (length b.found.plans) done) (length plans)
+    unput : length done < b.rounds → (found : List ℕ) → AreNext (Owned b) (setting_in b) b.cap found (cuts_in b plans) (epochs_after (length b.found.plans) done) (length plans)
         → WereAsked b (record { found = found; epochs = length plans } ∷ done) logs → (put more : List Told) → told ≡ put ++ more → (OutTells → (n : ℕ) × (written ≡ (b.written ++ told_text put) ++ take n (told_text more))) → text ≡ [] → end ≡ Err fault.OutFault
         → IsEnd b disk_faults logs OutTells written plans done told text end
     starved : length done ≤ b.rounds → (rounds : List Round) → AreBegun b plans done rounds → WereAsked b rounds logs → (put more rest : List Told) → told ≡ put ++ (more ++ rest) → (OutTells → written ≡ b.written ++ told_text put) → text ≡ told_text more → end ≡ Err fault.NoMemory
@@ -141,7 +146,7 @@ module _ {L : Type 0} (tells : Type 0) (lines : L → List Line) (available : L 
     pub plans : List Plan
     pub done : List Round
     pub told : List Told
-    pub has : HasRounds b plans done told
+    pub has : HasRounds (Owned b) (setting_in b) b plans done told
     pub is_end : IsEnd b disk_faults logs OutTells written plans done told text end
     -- where disk and logs tell what they hold, whatever the files say
     pub good : tells → AreGood b plans told

@@ -1,28 +1,29 @@
 -- What holds between two rounds, and when the next may begin.
-use Rattle.std.specs.Prelude.{◌≡◌, ◌≤◌, ◌<◌, ◌+◌, ◌^◌, ◌++◌, ℕ, List, ◌∷◌, length, map, get_or, All, Option}
+use Rattle.std.specs.Prelude.{◌≡◌, ◌≤◌, ◌<◌, ◌+◌, ◌^◌, ◌++◌, ℕ, List, ◌∷◌, length, map, get_or, Option}
 use mathlib.Core.Option.{some}
 use lib.ListN.{get_elem?}
 use Rattle.ssq_outside.specs.History.{History, files_now}
 use Rattle.ssq_outside.specs.Logs.{Line}
 use Rattle.ssq_shape.specs.declared.bound.Bound.{Bound}
 use Rattle.ssq_core.specs.Settled.{IsSettledAs}
-use Rattle.ssq_course.specs.Setting.{cut_of as offsets_of}
+use Rattle.ssq_course.specs.Setting.{cut_of as offsets_of, keeping_of}
 use Rattle.ssq_open.specs.declared.wanted.Opened.{Opened}
 use Rattle.ssq_open.specs.Watermarks.{watermarked}
 use Rattle.ssq_open.specs.Epochs.{last_ends}
 use Rattle.ssq_board.specs.Core.{Scope}
 use Rattle.ssq_board.specs.Rounds.{HasCap}
-use Rattle.ssq_terms.specs.Setting.{IsPlain, AreFound}
+use Rattle.ssq_terms.specs.Setting.{CanRun, AreFound}
 use Rattle.ssq_desk.specs.declared.told.Told.{Told}
 use Rattle.ssq_open.specs.Numbers.{HasNumbers}
+use Rattle.ssq_open.specs.Stores.{AreStores}
 use Rattle.ssq_drive.specs.Rounds.{CanBegin, IsFoundOf, first_of}
 use Rattle.ssq_runner.specs.Rounds.{Round, epochs_after}
 use Rattle.ssq_runner.specs.Told.{told_text}
-use Rattle.ssq_runner.specs.Ending.{Begun, HasRounds, IsOwnRun, HaveRun, AreGood, WereAsked, setting_in}
+use Rattle.ssq_runner.specs.Ending.{Begun, HasRounds, IsOwnRun, Owned, HaveRun, AreGood, WereAsked, setting_in}
 
 -- Rounds may be run over this number of logs, however many lines are found, as long as these are not fewer than are planned.
 pub record Fits (bound : Bound) (cap : Option ℕ) (logs : ℕ) (found : Opened) : Type 0 where
-  pub plain : IsPlain bound
+  pub runs : CanRun bound
   pub some_partitions : 1 ≤ found.meta.partitions
   pub few_partitions : found.meta.partitions ≤ 64
   pub streams : length found.meta.parts ≡ length bound.streams
@@ -31,6 +32,7 @@ pub record Fits (bound : Bound) (cap : Option ℕ) (logs : ℕ) (found : Opened)
   pub few_logs : logs ≤ 128
   pub has_cap : HasCap cap
   pub numbers : HasNumbers (watermarked bound.streams) (first_of found) found
+  pub stores : AreStores (keeping_of bound.shape found.meta.partitions) found.committed found.stores
 
 -- where the planned epochs end, part by part
 abbrev pub planned_lines : Opened → List ℕ
@@ -45,7 +47,7 @@ module _ {L : Type 0} (tells : Type 0) (lines : L → List Line) (available : L 
     pub done : List Round
     pub told : List Told
     pub number : length done ≡ n
-    pub has : HasRounds b opened.plans done told
+    pub has : HasRounds (Owned tells lines available answers faults b) (setting_in tells lines available answers faults b) b opened.plans done told
     pub all : epochs_after (length b.found.plans) done ≡ length opened.plans
     pub committed : b.found.committed + length told ≡ opened.committed
     pub whole : 0 < n → opened.committed ≡ length opened.plans
@@ -67,4 +69,4 @@ module _ {L : Type 0} (tells : Type 0) (lines : L → List Line) (available : L 
     pub can : CanBegin b.bound (length logs) opened (scope_of opened found b.cap)
     pub few : length logs ≤ 128
     pub seen : tells → (i : ℕ) (own : L) → get_elem? logs i ≡ some own → get_or found i 0 ≤ available own
-    pub are : tells → All (λ (own : List Line). length own < 2 ^ 64) (map lines logs) → AreFound found (map lines logs)
+    pub are : tells → AreFound found (map lines logs)

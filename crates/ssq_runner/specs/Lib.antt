@@ -1,3 +1,4 @@
+pub mod Faults
 pub mod Lens
 pub mod Told
 pub mod Rounds

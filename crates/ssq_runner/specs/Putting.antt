@@ -1,11 +1,12 @@
 -- How a round's lines are written, or not.
 use Rattle.std.specs.Prelude.{◌≡◌, ◌++◌, ℕ, List, [], take, Result, Err}
 use Rattle.ssq_outside.specs.Faults.{Rises}
-use Rattle.ssq_board.specs.declared.front.Cause.{Cause}
-use Rattle.ssq_open.specs.declared.wanted.Opened.{Opened}
 use Rattle.ssq_desk.specs.declared.told.Told.{Told}
+use Rattle.ssq_drive.specs.declared.round.Stopped.{Stopped}
+use Rattle.ssq_drive.specs.Rounds.{Ended}
 use Rattle.ssq_runner.specs.declared.fault.RunFault.{RunFault}
 use Rattle.ssq_runner.specs.declared.fault.RunFault.TheVariants as fault
+use Rattle.ssq_runner.specs.Faults.{fault_of}
 use Rattle.ssq_runner.specs.Told.{told_text}
 
 -- the output failed, which it counted, or memory ran out
@@ -16,8 +17,8 @@ OutCause before now _ = ⊥
 
 -- The lines of a round were not written: it stopped, and they are left; the output failed, and a front of them was written; or memory ran
 -- out, and lines of its first epochs are left.
-pub data IsUntold (Tells : Type 0) (old new : List ℕ) (before now : ℕ) (text : List ℕ) (told : List Told) (end : Result Opened Cause) (why : RunFault) : Type 0 where
-  stopped : (cause : Cause) → end ≡ Err cause → why ≡ fault.Round cause → (Tells → new ≡ old) → text ≡ told_text told → IsUntold Tells old new before now text told end why
+pub data IsUntold (Tells : Type 0) (old new : List ℕ) (before now : ℕ) (text : List ℕ) (told : List Told) (end : Ended) (why : RunFault) : Type 0 where
+  stopped : (stop : Stopped) → end ≡ Err stop → why ≡ fault_of stop → (Tells → new ≡ old) → text ≡ told_text told → IsUntold Tells old new before now text told end why
   failed : why ≡ fault.OutFault → Rises before now → (Tells → (n : ℕ) × (new ≡ old ++ take n (told_text told))) → text ≡ [] → IsUntold Tells old new before now text told end why
   starved : why ≡ fault.NoMemory → (first rest : List Told) → told ≡ first ++ rest → (Tells → new ≡ old) → text ≡ told_text first → IsUntold Tells old new before now text told end why
 

@@ -1,8 +1,11 @@
 -- Rounds, one after another: how they cut the logs further.
-use Rattle.std.specs.Prelude.{◌≡◌, ◌<◌, ◌≤◌, ◌+◌, ◌^◌, ◌++◌, ℕ, true, false, List, [], ◌∷◌, length, get_or, All, Option}
+use Rattle.std.specs.Prelude.{◌≡◌, ◌⊎◌, ◌<◌, ◌≤◌, ◌+◌, ◌^◌, ◌++◌, ℕ, true, false, List, [], ◌∷◌, length, get_or, All, Option}
 use Rattle.ssq_outside.specs.Logs.{Line}
 use Rattle.ssq_core.specs.Course.{Cuts}
+use Rattle.ssq_course.specs.Setting.{Setting, closes}
 use Rattle.ssq_board.specs.Core.{next_ends, is_behind}
+use Rattle.ssq_terms.specs.Laws.{due_at}
+use Rattle.ssq_drive.specs.Rounds.{IsMore}
 
 -- A round that is over: how many lines it found in each part, as their logs answered it, and how many epochs there are then.
 pub record Round : Type 0 where
@@ -14,21 +17,25 @@ abbrev pub epochs_after : ℕ → List Round → ℕ
 epochs_after before [] = before
 epochs_after before (round ∷ earlier) = round.epochs
 
--- From one epoch up to another each cut is the next: each part's end goes on to what was found, by no more than the cap. Each epoch has lines.
-pub record AreNext (cap : Option ℕ) (found : List ℕ) (cuts : Cuts) (from to : ℕ) : Type 0 where
+-- From one epoch up to another each cut is the next: each part's end goes on to what was found, by no more than the cap. Each epoch has lines; but
+-- the last may have none, where the query closes. And where what was opened is the job's own, each was to come: some part had lines that those
+-- before it do not cover, or one without lines was due.
+pub record AreNext (owned : Type 0) (s : Setting) (cap : Option ℕ) (found : List ℕ) (cuts : Cuts) (from to : ℕ) : Type 0 where
   pub next : (e : ℕ) → from ≤ e → e < to → cuts (e + 1) ≡ next_ends cap (cuts e) found
-  pub due : (e : ℕ) → from ≤ e → e < to → is_behind (cuts e) found ≡ true
+  pub due : (e : ℕ) → from ≤ e → e < to → (is_behind (cuts e) found ≡ true) ⊎ ((e + 1 ≡ to) × (closes s.job.bound ≡ true))
+  pub more : owned → (e : ℕ) → from ≤ e → e < to → IsMore s cuts found e
 
--- a round cut on until all that it found was covered
-pub record IsOne (cap : Option ℕ) (cuts : Cuts) (before : ℕ) (round : Round) : Type 0 where
+-- A round cut on until all that it found was covered; and, where what was opened is the job's own, until no epoch without lines was due.
+pub record IsOne (owned : Type 0) (s : Setting) (cap : Option ℕ) (cuts : Cuts) (before : ℕ) (round : Round) : Type 0 where
   pub on : before ≤ round.epochs
-  pub cut : AreNext cap round.found cuts before round.epochs
+  pub cut : AreNext owned s cap round.found cuts before round.epochs
   pub covers : is_behind (cuts round.epochs) round.found ≡ false
+  pub quiet : owned → due_at s cuts round.epochs ≡ false
 
 -- these rounds did, one after another
-unfoldable pub AreRounds : Option ℕ → Cuts → ℕ → List Round → Type 0
-AreRounds cap cuts before [] = Unit {0}
-AreRounds cap cuts before (round ∷ earlier) = IsOne cap cuts (epochs_after before earlier) round × AreRounds cap cuts before earlier
+unfoldable pub AreRounds : Type 0 → Setting → Option ℕ → Cuts → ℕ → List Round → Type 0
+AreRounds owned s cap cuts before [] = Unit {0}
+AreRounds owned s cap cuts before (round ∷ earlier) = IsOne owned s cap cuts (epochs_after before earlier) round × AreRounds owned s cap cuts before earlier
 
 -- what the log of a part answered these rounds, the first one first
 unfoldable pub answers_of : ℕ → List Round → List ℕ

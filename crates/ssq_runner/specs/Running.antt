@@ -1,5 +1,5 @@
 -- How a run goes, from its logs on.
-use Rattle.std.specs.Prelude.{◌≡◌, ◌≤◌, ◌<◌, ◌+◌, ◌^◌, ℕ, List, [], length, map, unwrap_or, All, Option, None, Result, Err}
+use Rattle.std.specs.Prelude.{◌≡◌, ◌≤◌, ◌+◌, ℕ, List, [], length, map, unwrap_or, All, Option, None, Result, Err}
 use Rattle.std.specs.Option.{ForSome}
 use Rattle.ssq_outside.specs.Files.{IsEmpty}
 use Rattle.ssq_outside.specs.History.{History, files_now, LeavesNow, LeavesOnly}
@@ -9,7 +9,7 @@ use Rattle.ssq_plans.specs.declared.plan.Plan.{Plan}
 use Rattle.ssq_core.specs.Course.{Cuts, Job}
 use Rattle.ssq_core.specs.Standing.{Stands}
 use Rattle.ssq_core.specs.Sound.{StandsOrEmpty}
-use Rattle.ssq_open.specs.Jobs.{IsWantedJob, IsJobs, IsDeskOf, States, AreStates}
+use Rattle.ssq_open.specs.Jobs.{IsWantedJob, IsJobs, IsDeskOf, States, AreStates, HoldStates}
 use Rattle.ssq_course.specs.Setting.{Setting, job_of}
 use Rattle.ssq_open.specs.declared.fault.OpenFault.{OpenFault}
 use Rattle.ssq_open.specs.Fault.{DiskRises}
@@ -18,11 +18,14 @@ use Rattle.ssq_open.specs.declared.wanted.Opened.{Opened}
 use Rattle.ssq_open.specs.Epochs.{starts, last_ends}
 use Rattle.ssq_open.specs.Lens.{asked, counts_of, found_from}
 use Rattle.ssq_open.specs.Numbers.{HasNumbers}
+use Rattle.ssq_open.specs.Stateful.{keeping_of}
+use Rattle.ssq_open.specs.Stores.{AreStores}
 use Rattle.ssq_open.specs.Watermarks.{watermarked}
 use Rattle.ssq_open.specs.Sought.{Sought}
 use Rattle.ssq_open.specs.Opening.{IsOpen, IsRefused, IsOutside, SyncedSince, IsBegun, IsOpening, first_short, first_meta}
 use Rattle.ssq_promise.specs.Run.{WasRun, AreFilesOf, IsKept}
 use Rattle.ssq_terms.specs.Setting.{AreFound}
+use Rattle.ssq_terms.specs.Laws.{due_at}
 use Rattle.ssq_logs.specs.declared.fault.LengthFault.{LengthFault}
 use Rattle.ssq_logs.specs.Asked.{AreAsked, IsStopped}
 use Rattle.ssq_board.specs.Rounds.{HasCap}
@@ -48,7 +51,7 @@ pub record Given (L : Type 0) : Type 0 where
   pub written : List ℕ
 
 -- What was opened, over so many lines: it is in order, of the parts that were found and 1 to 64 partitions, those that are asked for where that is
--- asked; of no part more lines are planned than were found; and where the disk tells what it holds, each check of its files is met, or it was
+-- asked; of no part more lines are planned than were found; of each partition that keeps state its store is there; and where the disk tells what it holds, each check of its files is met, or it was
 -- begun. Its names were synced: until then each image is one that a crash might have left before, and from then on each has the files as they
 -- were, or, where no file was there, the job's record alone.
 pub record IsOpenedOn {D : Type 0} (tells : Type 0) (history : D → History) (bound : Bound) (asks : Option ℕ) (lens : Lens) (before now : D) (opened : Opened) : Type 0 where
@@ -58,11 +61,14 @@ pub record IsOpenedOn {D : Type 0} (tells : Type 0) (history : D → History) (b
   pub few_partitions : opened.meta.partitions ≤ 64
   pub as_asked : ForSome asks (λ count. opened.meta.partitions ≡ count)
   pub long : first_short (last_ends (starts (found_from 0 lens.streams)) opened.plans) (found_from 0 lens.streams) ≡ None
+  pub stores : AreStores (keeping_of bound.shape opened.meta.partitions) opened.committed opened.stores
   pub is_open : tells → IsOpen (asked bound asks lens) (files_now (history before)) (history now) opened
   pub synced : tells → SyncedSince (history before) (history now) (IsBegun (asked bound asks lens) (files_now (history before)))
   -- where the checkpoint stands for a job that is wanted, or is empty and gets its record, a desk opens on it
   pub desk : tells → (job : Job) → IsWantedJob (asked bound asks lens) job → (IsEmpty (files_now (history before)) → (cuts : Cuts) → (job.course cuts).meta ≡ first_meta (asked bound asks lens)) → StandsOrEmpty job (files_now (history before))
       → IsDeskOf (asked bound asks lens) job (files_now (history now)) opened
+  -- and the stores hold its states
+  pub states : tells → (job : Job) (states : States) → IsWantedJob (asked bound asks lens) job → AreStates job states → StandsOrEmpty job (files_now (history before)) → HoldStates (asked bound asks lens) states opened
 
 -- Nothing was opened: the checkpoint is refused, or memory ran out before it was asked. A refusal leaves no image that is new before the names
 -- are synced, and from then on the files as they were, or, where no file was there, the job's record alone. Nothing but the outside refuses a
@@ -108,7 +114,6 @@ module _ {L : Type 0} (lines : L → List Line) where
     pub query : s.job.bound ≡ g.bound
     pub parts : s.job.parts ≡ g.counts
     pub lines_are : s.lines ≡ map lines g.logs
-    pub few_lines : All (λ (own : List Line). length own < 2 ^ 64) s.lines
     pub some_partitions : 1 ≤ s.job.partitions
     pub few_partitions : s.job.partitions ≤ 64
     pub as_asked : ForSome g.asks (λ count. s.job.partitions ≡ count)
@@ -134,10 +139,11 @@ module _ {L : Type 0} (tells : Type 0) (lines : L → List Line) (available : L 
 
   -- What rounds promise that began so and told these epochs: they are a run of the machine; their plans are those of the files that they leave,
   -- or, once all are told, the publishing of one more failed; each file that was there when they began is in each image from then on, as it was, but for files of the
-  -- state; each epoch is in each image from when it was acknowledged; and it is told with the watermark and the number of rows of the meaning.
+  -- state; each epoch is in each image from when it was acknowledged; and it is told with the watermark and the number of rows
+  -- of the meaning, which finds no fault in it.
   pub record HavePromised (s : Setting) (b : Begun L) (now : History) (plans : List Plan) (told : List Told) : Type 0 where
     pub run : WasRun tells (job_of s) b.start now (map (λ t. t.epoch) told)
-    pub files : AreFilesOf (job_of s) b.cap (λ found. AreFound found s.lines) (b.found.committed + length told ≡ length plans) (cuts_in b plans) (length plans) now
+    pub files : AreFilesOf (job_of s) b.cap (due_at s) (λ found. AreFound found s.lines) (b.found.committed + length told ≡ length plans) (cuts_in b plans) (length plans) now
     pub kept : IsKept tells (job_of s) b.start now (files_now b.start) (map (λ t. t.epoch) told) run
     pub meant : All (IsMeant s (cuts_in b plans)) told
 

@@ -1,5 +1,5 @@
 -- How a run over the parts of its streams goes.
-use Rattle.std.specs.Prelude.{◌≡◌, ◌<◌, ◌≤◌, ◌^◌, ℕ, List, [], length, map, unwrap_or, All, Option, Result, Ok, Err}
+use Rattle.std.specs.Prelude.{◌≡◌, ◌≤◌, ℕ, List, [], map, unwrap_or, Option, Result, Ok, Err}
 use Rattle.std.specs.Option.{ForSome}
 use Rattle.ssq_outside.specs.Faults.{Rises}
 use Rattle.ssq_outside.specs.Files.{IsEmpty}
@@ -20,13 +20,11 @@ use Rattle.ssq_runner.specs.declared.fault.RunFault.{RunFault}
 use Rattle.ssq_runner.specs.declared.fault.RunFault.TheVariants as fault
 use Rattle.ssq_runner.specs.Running.{Given, IsOf, IsRunOf, RunEnd}
 
--- The setting is that of the query over what inputs hold: all lines that the parts of its streams will come to hold, each fewer than 2^64; with 1
--- to 64 partitions, those that are asked for where that is asked. A new checkpoint gets the partitions that are asked for, or one.
+-- The setting is that of the query over what inputs hold: all lines that the parts of its streams will come to hold; with 1 to 64 partitions, those that are asked for where that is asked. A new checkpoint gets the partitions that are asked for, or one.
 pub record IsSettingFor (held : Held) (bound : Bound) (asks : Option ℕ) (start : History) (s : Setting) : Type 0 where
   pub query : s.job.bound ≡ bound
   pub parts : s.job.parts ≡ counts_in held bound.streams
   pub lines_are : s.lines ≡ lines_in held bound.streams
-  pub few_lines : All (λ (own : List Line). length own < 2 ^ 64) s.lines
   pub some_partitions : 1 ≤ s.job.partitions
   pub few_partitions : s.job.partitions ≤ 64
   pub as_asked : ForSome asks (λ count. s.job.partitions ≡ count)

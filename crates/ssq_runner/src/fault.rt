@@ -1,8 +1,10 @@
 //! Why a run stops.
 
 use ssq_board::Cause;
+use ssq_drive::Stopped;
 use ssq_logs::{LengthFault, PartsFault};
 use ssq_open::OpenFault;
+use ssq_value::Row;
 use std::alloc::AllocError;
 use thiserror::Error;
 
@@ -21,6 +23,9 @@ pub enum RunFault {
     /// A round was run.
     #[error("a round stopped")]
     Round(Cause),
+    /// What an epoch shows of this key is outside of its type's range: it is the least such key of the epoch.
+    #[error("an epoch overflows on a key")]
+    KeyOverflow { key: Row },
     /// The output failed.
     #[error("the output failed")]
     OutFault,
@@ -48,6 +53,21 @@ impl From<AllocError> for RunFault {
 
     fn from(_: AllocError) -> RunFault {
         RunFault::NoMemory
+    }
+}
+
+impl From<Stopped> for RunFault {
+    ghost use Rattle.std.specs.Prelude.{◌≡◌};
+    ghost use Rattle.ssq_runner.specs.Faults.{fault_of};
+
+    ghost from_gives = { λ stopped fault. fault ≡ fault_of stopped };
+
+    fn from(stopped: Stopped) -> RunFault {
+        let Stopped { cause, key } = stopped;
+        match (cause, key) {
+            (Cause::KeyOverflow, Some(key)) => RunFault::KeyOverflow { key },
+            (cause, _) => RunFault::Round(cause),
+        }
     }
 }
 

@@ -10,8 +10,9 @@ ghost use Rattle.ssq_runner.specs.Putting.{IsUntold, OutCause};
 
 use crate::fault::RunFault;
 use crate::line::push_all;
-use ssq_board::Cause;
+use ssq_agg::Closing;
 use ssq_desk::Told;
+use ssq_drive::Stopped;
 use ssq_open::Opened;
 use ssq_outside::{OutError, Output};
 use std::alloc::Global;
@@ -46,8 +47,8 @@ pub(crate) fn tell_round<O: Output>(
     out: &mut O,
     text: &mut Vec<u8>,
     told: &[Told],
-    end: Result<Opened, Cause>,
-) -> Result<Opened, RunFault>
+    end: Result<(Opened, Vec<Closing>), Stopped>,
+) -> Result<(Opened, Vec<Closing>), RunFault>
     requires stamps { All (λ told. ForSome told.watermark IsStampTime) told.now }
     requires empty { text.old.items ≡ [] }
     ensures over { OnOk result ((O.tells → O.content out.new ≡ O.content out.old ++ told_text told.now) × (text.new.items ≡ [])) }
@@ -57,10 +58,10 @@ pub(crate) fn tell_round<O: Output>(
 {
     push_all(alloc, text, told)?;
     match end {
-        Ok(opened) => {
+        Ok(next) => {
             put_text(out, text)?;
-            Ok(opened)
+            Ok(next)
         }
-        Err(cause) => Err(RunFault::Round(cause)),
+        Err(stopped) => Err(RunFault::from(stopped)),
     }
 }

@@ -4,7 +4,7 @@ ghost use Rattle.std.specs.Prelude.{◌≡◌, ◌<◌, ◌≤◌, ◌+◌, ◌+
 ghost use mathlib.Core.Option.{some};
 ghost use lib.ListN.{get_elem?};
 ghost use Rattle.ssq_logs.specs.Asked.{AreAsked, IsStopped};
-ghost use Rattle.ssq_drive.specs.Rounds.{CanBegin};
+ghost use Rattle.ssq_drive.specs.Rounds.{CanBegin, HaveIndexes};
 ghost use Rattle.ssq_runner.specs.Ending.{Begun, Ends};
 ghost use Rattle.ssq_runner.specs.Going.{SoFar, IsReady, Fits, scope_of};
 ghost use Rattle.ssq_runner.specs.Putting.{OutRises};
@@ -14,8 +14,10 @@ ghost use Rattle.ssq_runner.specs.Stops.{short_of, planned_ends, IsUnready};
 
 use crate::ask::Ask;
 use crate::fault::RunFault;
+use crate::index::closings_of;
 use crate::line::push_done;
 use crate::put::tell_round;
+use ssq_agg::Closing;
 use ssq_board::Cause;
 use ssq_drive::{Went, run_round};
 use ssq_logs::{LengthFault, count_lines};
@@ -33,6 +35,8 @@ pub(crate) struct Standing<D: Disk, L: Log> {
     pub(crate) disk: D,
     pub(crate) logs: Vec<L>,
     pub(crate) opened: Opened,
+    /// The index of each store, in order.
+    pub(crate) closings: Vec<Closing>,
 }
 
 /// What is left where rounds end, and why they do.
@@ -57,6 +61,7 @@ fn one_round<D: Disk, L: Log, O: Output, G: Gate>(
     requires can { CanBegin bound.now (length standing.logs.items) standing.opened (scope_of standing.opened found.items cap) }
     requires few { length standing.logs.items ≤ 128 }
     requires long { L.tells → (i : ℕ) (own : _) → get_elem? standing.logs.items i ≡ some own → get_or found.items i 0 ≤ L.available own }
+    requires indexes { HaveIndexes bound.now standing.opened.stores standing.closings.items }
     requires empty { text.old.items ≡ [] }
     ensures over { (b : Begun L) (n : ℕ) → b.bound ≡ bound.now → b.cap ≡ cap → IsReady (D.tells × L.tells) L.lines L.available L.answers L.faults b n (D.history standing.disk) (D.faults standing.disk) standing.logs.items O.tells (O.content out.old) standing.opened found.items →
         IfOk result (λ next. SoFar (D.tells × L.tells) L.lines L.available L.answers L.faults b (n + 1) (D.history next.disk) (D.faults next.disk) next.logs.items O.tells (O.content out.new) next.opened) }
@@ -64,20 +69,31 @@ fn one_round<D: Disk, L: Log, O: Output, G: Gate>(
         IfErr result (λ left. Ends (D.tells × L.tells) L.lines L.available L.answers L.faults b (D.history left.disk) (D.faults left.disk) left.logs.items O.tells (O.content out.new) text.new.items left.end) }
     ensures empty { OnOk result (text.new.items ≡ []) }
     ensures fits { IfOk result (λ next. Fits bound.now cap (length next.logs.items) next.opened) }
+    ensures indexes { IfOk result (λ next. HaveIndexes bound.now next.opened.stores next.closings.items) }
     ensures counted { O.faults out.old ≤ O.faults out.new }
     ensures cause { IfErr result (λ left. OutRises (O.faults out.old) (O.faults out.new) left.end) }
 {
     rounds::<D, L>();
     epochs_hang_on_their_cuts();
-    let Standing { disk, logs, opened } = standing;
+    let Standing {
+        disk,
+        logs,
+        opened,
+        closings,
+    } = standing;
     let Went {
         disk,
         logs,
         told,
         end,
-    } = run_round(alloc, gate, bound, disk, logs, opened, found, cap);
+    } = run_round(alloc, gate, bound, disk, logs, opened, closings, found, cap);
     match tell_round(alloc, out, text, told.as_slice(), end) {
-        Ok(opened) => Ok(Standing { disk, logs, opened }),
+        Ok((opened, closings)) => Ok(Standing {
+            disk,
+            logs,
+            opened,
+            closings,
+        }),
         Err(fault) => Err(Left {
             disk,
             logs,
@@ -150,6 +166,7 @@ fn next_round<D: Disk, L: Log, O: Output, G: Gate>(
     text: &mut Vec<u8>,
 ) -> Result<Standing<D, L>, Left<D, L>>
     requires fits { Fits bound.now cap (length standing.logs.items) standing.opened }
+    requires indexes { HaveIndexes bound.now standing.opened.stores standing.closings.items }
     requires empty { text.old.items ≡ [] }
     ensures over { (b : Begun L) (n : ℕ) → 0 < n → b.bound ≡ bound.now → b.cap ≡ cap → SoFar (D.tells × L.tells) L.lines L.available L.answers L.faults b n (D.history standing.disk) (D.faults standing.disk) standing.logs.items O.tells (O.content out.old) standing.opened →
         IfOk result (λ next. SoFar (D.tells × L.tells) L.lines L.available L.answers L.faults b (n + 1) (D.history next.disk) (D.faults next.disk) next.logs.items O.tells (O.content out.new) next.opened) }
@@ -157,6 +174,7 @@ fn next_round<D: Disk, L: Log, O: Output, G: Gate>(
         IfErr result (λ left. Ends (D.tells × L.tells) L.lines L.available L.answers L.faults b (D.history left.disk) (D.faults left.disk) left.logs.items O.tells (O.content out.new) text.new.items left.end) }
     ensures empty { OnOk result (text.new.items ≡ []) }
     ensures fits { IfOk result (λ next. Fits bound.now cap (length next.logs.items) next.opened) }
+    ensures indexes { IfOk result (λ next. HaveIndexes bound.now next.opened.stores next.closings.items) }
     ensures counted { O.faults out.old ≤ O.faults out.new }
     ensures cause { IfErr result (λ left. OutRises (O.faults out.old) (O.faults out.new) left.end) }
 {
@@ -164,6 +182,7 @@ fn next_round<D: Disk, L: Log, O: Output, G: Gate>(
         disk,
         mut logs,
         opened,
+        closings,
     } = standing;
     match count_again(alloc, &opened, &mut logs) {
         Ok(found) => one_round(
@@ -172,7 +191,12 @@ fn next_round<D: Disk, L: Log, O: Output, G: Gate>(
             bound,
             cap,
             out,
-            Standing { disk, logs, opened },
+            Standing {
+                disk,
+                logs,
+                opened,
+                closings,
+            },
             found,
             text,
         ),
@@ -193,27 +217,43 @@ fn tell_done(alloc: Global, text: &mut Vec<u8>, epochs: u32) -> Result<(), RunFa
     Ok(())
 }
 
-/// Runs all rounds: the first, in which so many lines were found, and then the others, each of which asks the logs again.
+/// Runs all rounds on what was opened: the first, in which so many lines were found, and then the others, each of which asks the logs again.
+/// Before the first the index of each store is made.
 pub(crate) fn run_rounds<D: Disk, L: Log, O: Output, G: Gate>(
     alloc: Global,
     gate: &G,
     bound: &Bound,
     ask: Ask,
     out: &mut O,
-    standing: Standing<D, L>,
+    disk: D,
+    logs: Vec<L>,
+    opened: Opened,
     found: Vec<u64>,
     text: &mut Vec<u8>,
 ) -> Left<D, L>
-    requires can { CanBegin bound.now (length standing.logs.items) standing.opened (scope_of standing.opened found.items ask.cap) }
-    requires few { length standing.logs.items ≤ 128 }
-    requires long { L.tells → (i : ℕ) (own : _) → get_elem? standing.logs.items i ≡ some own → get_or found.items i 0 ≤ L.available own }
+    requires can { CanBegin bound.now (length logs.items) opened (scope_of opened found.items ask.cap) }
+    requires few { length logs.items ≤ 128 }
+    requires long { L.tells → (i : ℕ) (own : _) → get_elem? logs.items i ≡ some own → get_or found.items i 0 ≤ L.available own }
     requires rounds { 1 ≤ ask.rounds }
     requires empty { text.old.items ≡ [] }
-    ensures ended { (b : Begun L) → b.bound ≡ bound.now → b.cap ≡ ask.cap → b.rounds ≡ ask.rounds → IsReady (D.tells × L.tells) L.lines L.available L.answers L.faults b 0 (D.history standing.disk) (D.faults standing.disk) standing.logs.items O.tells (O.content out.old) standing.opened found.items →
+    ensures ended { (b : Begun L) → b.bound ≡ bound.now → b.cap ≡ ask.cap → b.rounds ≡ ask.rounds → IsReady (D.tells × L.tells) L.lines L.available L.answers L.faults b 0 (D.history disk) (D.faults disk) logs.items O.tells (O.content out.old) opened found.items →
         Ends (D.tells × L.tells) L.lines L.available L.answers L.faults b (D.history result.disk) (D.faults result.disk) result.logs.items O.tells (O.content out.new) text.new.items result.end }
     ensures counted { O.faults out.old ≤ O.faults out.new }
     ensures cause { OutRises (O.faults out.old) (O.faults out.new) result.end }
 {
+    let Ok(closings) = closings_of(alloc, bound, opened.stores.as_slice()) else {
+        return Left {
+            disk,
+            logs,
+            end: Err(RunFault::NoMemory),
+        };
+    };
+    let standing = Standing {
+        disk,
+        logs,
+        opened,
+        closings,
+    };
     let first = one_round(alloc, gate, bound, ask.cap, out, standing, found, text);
     let mut standing = match first {
         Ok(next) => next,
@@ -225,7 +265,12 @@ pub(crate) fn run_rounds<D: Disk, L: Log, O: Output, G: Gate>(
             Err(left) => return left,
         };
     }
-    let Standing { disk, logs, opened } = standing;
+    let Standing {
+        disk,
+        logs,
+        opened,
+        ..
+    } = standing;
     let end = tell_done(alloc, text, opened.committed);
     Left { disk, logs, end }
 }

@@ -11,7 +11,7 @@ ghost use Rattle.ssq_course.specs.Setting.{Setting as SettingOf, job_of};
 ghost use Rattle.ssq_open.specs.Lens.{CanBeAsked};
 ghost use Rattle.ssq_logs.specs.Asked.{AreAsked};
 ghost use Rattle.ssq_board.specs.Rounds.{HasCap};
-ghost use Rattle.ssq_terms.specs.Setting.{IsPlain};
+ghost use Rattle.ssq_terms.specs.Setting.{CanRun};
 ghost use Rattle.ssq_runner.specs.Lens.{lens_of};
 ghost use Rattle.ssq_runner.specs.Putting.{OutRises};
 ghost use Rattle.ssq_runner.specs.Running.{Given, IsOf, IsOpenedOn, IsUnopened, IsRunOf, KeepsStanding, LeavesStanding, RunEnd};
@@ -19,7 +19,7 @@ ghost use Rattle.ssq_runner.specs.Running.{Given, IsOf, IsOpenedOn, IsUnopened, 
 use crate::ask::Ask;
 use crate::fault::RunFault;
 use crate::lens::lens_of;
-use crate::rounds::{Left, Standing, count_all, run_rounds};
+use crate::rounds::{Left, count_all, run_rounds};
 use ssq_open::{Opened, open};
 use ssq_outside::{Disk, Gate, Log, Output};
 use ssq_promise::{rounds, run as promise};
@@ -63,7 +63,7 @@ fn run_found<D: Disk, L: Log, O: Output, G: Gate>(
     text: &mut Vec<u8>,
 ) -> Left<D, L>
     requires asked { CanBeAsked bound.now ask.partitions (lens_of counts.now found.items) }
-    requires plain { IsPlain bound.now }
+    requires runs { CanRun bound.now }
     requires each { length found.items ≡ sum counts.now }
     requires log_each { length logs.items ≡ length found.items }
     requires few { length logs.items ≤ 128 }
@@ -97,14 +97,7 @@ fn run_found<D: Disk, L: Log, O: Output, G: Gate>(
         found.as_slice(),
     ) {
         Ok(opened) => run_rounds(
-            alloc,
-            gate,
-            bound,
-            ask,
-            out,
-            Standing { disk, logs, opened },
-            found,
-            text,
+            alloc, gate, bound, ask, out, disk, logs, opened, found, text,
         ),
         Err(fault) => Left {
             disk,
@@ -130,7 +123,7 @@ pub(crate) fn run_logs<D: Disk, L: Log, O: Output, G: Gate>(
     requires counts { All (λ count. count ≤ 64) counts.now }
     requires streams { length counts.now ≡ length bound.now.streams }
     requires few_streams { length bound.now.streams ≤ 2 }
-    requires plain { IsPlain bound.now }
+    requires runs { CanRun bound.now }
     requires log_each { length logs.items ≡ sum counts.now }
     requires cap { HasCap ask.cap }
     requires rounds { 1 ≤ ask.rounds }

@@ -7,7 +7,7 @@ ghost use Rattle.ssq_core.specs.Standing.{Stands};
 ghost use Rattle.ssq_core.specs.Sound.{StandsOrEmpty};
 ghost use Rattle.ssq_course.specs.Setting.{Setting as SettingOf, job_of};
 ghost use Rattle.ssq_board.specs.Rounds.{HasCap};
-ghost use Rattle.ssq_terms.specs.Setting.{IsPlain};
+ghost use Rattle.ssq_terms.specs.Setting.{CanRun};
 ghost use Rattle.ssq_logs.specs.declared.fault.LengthFault.{LengthFault as LengthFaultOf};
 ghost use Rattle.ssq_logs.specs.Parts.{counts_in, lines_in};
 ghost use Rattle.ssq_logs.specs.Opened.{parts_of, AreLogsOf};
@@ -80,7 +80,7 @@ pub fn run_query<D: Disk, I: Inputs, O: Output, G: Gate>(
 ) -> Ran<D>
     requires partitions { ForSome ask.partitions (λ count. (1 ≤ count) × (count ≤ 64)) }
     requires few_streams { length bound.now.streams ≤ 2 }
-    requires plain { IsPlain bound.now }
+    requires runs { CanRun bound.now }
     requires cap { HasCap ask.cap }
     requires rounds { 1 ≤ ask.rounds }
     // How it goes, in the order of its work: what it leaves, what is written, and why it ends.

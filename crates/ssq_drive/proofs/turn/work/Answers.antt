@@ -1,14 +1,15 @@
 use Rattle.std.proofs.Common.{[], ◌∷◌, ap, ◌∙◌, subst}
 use Rattle.ssq_outside.specs.declared.gate.TaskId.{TaskId}
+use Rattle.ssq_shape.specs.Late.{closes}
 use Rattle.ssq_board.specs.declared.front.Entry.TheVariants as entry
 use Rattle.ssq_board.specs.Core.{May}
 use Rattle.ssq_ledger.specs.Shown.{did}
 use Rattle.ssq_desk.specs.declared.task.Task.{Task}
 use Rattle.ssq_desk.specs.Tasks.{id_of}
 use Rattle.ssq_desk.specs.Handed.{IsTaskOf}
-use Rattle.ssq_desk.specs.Results.{cause_of_feed, cause_of_failed, fault_of}
+use Rattle.ssq_desk.specs.Results.{cause_of_feed, cause_of_failed, delta_of, fault_of}
 use Rattle.ssq_desk.specs.Published.{cause_of_left}
-use Rattle.ssq_drive.proofs.Doing.{fed_may, fed_turn, no_version, reduced_may, reduced_turn, gathered_may, gathered_turn}
+use Rattle.ssq_drive.proofs.Doing.{at_version, fed_may, fed_turn, reduced_may, reduced_turn, gathered_may, gathered_turn}
 use Rattle.ssq_drive.proofs.Goods.{claimed_good, fed_good, published_good, reduced_good}
 use Rattle.ssq_drive.proofs.turn.work.Goals as goal
 
@@ -35,7 +36,7 @@ returns-in-Map-clause-turn g c =
     let id = ap (λ (x : Task g.row.L.Denot g.row.D-Stage.Denot g.row.D-Stage-Sealed.Denot). id_of x) c.in-Map.is in
     let may = subst (λ (t : TaskId). May old.scope old.core (entry.Claim t)) id c.in-Some.ensures.claimed.0 in
     let claimed = c.in-Some.ensures.claimed.1 ∙ ap (λ (t : TaskId). did old old.disk (entry.Claim t ∷ [])) id in
-    fed_turn g.L.Log.tells g.L.Log.lines g.L.Log.available g.L.Log.answers g.L.Log.faults c.in-Map.task c.feed.result c.feed.ensures g.D.Disk.faults old c.claim.new.self c.report_fed.new.self c.is_in_order.ensures.sound c.requires.rest may claimed c.report_fed.ensures.did
+    fed_turn g.L.Log.tells g.L.Log.lines g.L.Log.available g.L.Log.answers g.L.Log.faults c.in-Map.task c.feed.result c.feed.ensures g.D.Disk.faults (closes c.args.desk.now.opening.view.bound.now) old c.claim.new.self c.report_fed.new.self c.is_in_order.ensures.sound c.requires.rest may claimed c.report_fed.ensures.did
 
 pub reduce-requires-clause-windows : goal.reduce-requires-clause-windows
 reduce-requires-clause-windows g c = (let of = subst (λ (x : Task g.row.L.Denot g.row.D-Stage.Denot g.row.D-Stage-Sealed.Denot). IsTaskOf g.D.Disk.tells g.L.Log.tells g.L.Log.lines g.L.Log.available g.L.Log.answers g.L.Log.faults g.D.Stage.Stage.written c.claim.new.self x) c.in-Reduce.is c.in-Some.ensures.task in of.view.windows)
@@ -44,7 +45,7 @@ pub reduce-requires-clause-fit : goal.reduce-requires-clause-fit
 reduce-requires-clause-fit g c = (let of = subst (λ (x : Task g.row.L.Denot g.row.D-Stage.Denot g.row.D-Stage-Sealed.Denot). IsTaskOf g.D.Disk.tells g.L.Log.tells g.L.Log.lines g.L.Log.available g.L.Log.answers g.L.Log.faults g.D.Stage.Stage.written c.claim.new.self x) c.in-Reduce.is c.in-Some.ensures.task in of.fit)
 
 pub reduce-requires-clause-version : goal.reduce-requires-clause-version
-reduce-requires-clause-version g c = (let of = subst (λ (x : Task g.row.L.Denot g.row.D-Stage.Denot g.row.D-Stage-Sealed.Denot). IsTaskOf g.D.Disk.tells g.L.Log.tells g.L.Log.lines g.L.Log.available g.L.Log.answers g.L.Log.faults g.D.Stage.Stage.written c.claim.new.self x) c.in-Reduce.is c.in-Some.ensures.task in no_version c.in-Reduce.task of.stateless)
+reduce-requires-clause-version g c = (let of = subst (λ (x : Task g.row.L.Denot g.row.D-Stage.Denot g.row.D-Stage-Sealed.Denot). IsTaskOf g.D.Disk.tells g.L.Log.tells g.L.Log.lines g.L.Log.available g.L.Log.answers g.L.Log.faults g.D.Stage.Stage.written c.claim.new.self x) c.in-Reduce.is c.in-Some.ensures.task in at_version _ _ _ _ _ c.in-Reduce.task of)
 
 pub report_reduced-requires-clause-may : goal.report_reduced-requires-clause-may
 report_reduced-requires-clause-may g c =
@@ -66,8 +67,8 @@ returns-in-Reduce-clause-turn g c =
     let id = ap (λ (x : Task g.row.L.Denot g.row.D-Stage.Denot g.row.D-Stage-Sealed.Denot). id_of x) c.in-Reduce.is in
     let may = subst (λ (t : TaskId). May old.scope old.core (entry.Claim t)) id c.in-Some.ensures.claimed.0 in
     let claimed = c.in-Some.ensures.claimed.1 ∙ ap (λ (t : TaskId). did old old.disk (entry.Claim t ∷ [])) id in
-    let of = subst (λ (x : Task g.row.L.Denot g.row.D-Stage.Denot g.row.D-Stage-Sealed.Denot). IsTaskOf g.D.Disk.tells g.L.Log.tells g.L.Log.lines g.L.Log.available g.L.Log.answers g.L.Log.faults g.D.Stage.Stage.written c.claim.new.self x) c.in-Reduce.is c.in-Some.ensures.task in
-    reduced_turn g.D.Stage.Stage.tells g.D.Stage.Stage.written g.D.Stage.Stage.sealed g.D.Stage.Stage.faults c.in-Reduce.task c.reduce.result c.reduce.ensures g.D.Disk.faults old c.claim.new.self c.report_reduced.new.self of.stateless c.is_in_order.ensures.sound c.requires.rest may claimed c.report_reduced.ensures.did
+    reduced_turn g.D.Stage.Stage.tells g.D.Stage.Stage.written g.D.Stage.Stage.sealed g.D.Stage.Stage.faults c.in-Reduce.task c.reduce.result c.reduce.ensures g.D.Disk.faults (closes c.args.desk.now.opening.view.bound.now) old c.claim.new.self c.report_reduced.new.self c.report_reduced.result c.is_in_order.ensures.sound c.requires.rest may claimed
+    c.report_reduced.ensures.did c.report_reduced.ensures.cause c.report_reduced.ensures.counted
 
 pub publish_out-requires-clause-may : goal.publish_out-requires-clause-may
 publish_out-requires-clause-may g c =
@@ -89,7 +90,7 @@ returns-in-Out-clause-turn g c =
     let id = ap (λ (x : Task g.row.L.Denot g.row.D-Stage.Denot g.row.D-Stage-Sealed.Denot). id_of x) c.in-Out.is in
     let may = subst (λ (t : TaskId). May old.scope old.core (entry.Claim t)) id c.in-Some.ensures.claimed.0 in
     let claimed = c.in-Some.ensures.claimed.1 ∙ ap (λ (t : TaskId). did old old.disk (entry.Claim t ∷ [])) id in
-    gathered_turn g.D.Stage.Stage.tells g.D.Stage.Stage.written g.D.Stage.Stage.sealed g.D.Stage.Stage.faults c.in-Out.task c.gather.result c.gather.ensures g.D.Disk.faults old c.claim.new.self c.publish_out.new.self c.publish_out.result c.is_in_order.ensures.sound c.requires.rest may claimed
+    gathered_turn g.D.Stage.Stage.tells g.D.Stage.Stage.written g.D.Stage.Stage.sealed g.D.Stage.Stage.faults c.in-Out.task c.gather.result c.gather.ensures g.D.Disk.faults (closes c.args.desk.now.opening.view.bound.now) old c.claim.new.self c.publish_out.new.self c.publish_out.result c.is_in_order.ensures.sound c.requires.rest may claimed
     c.publish_out.ensures.out c.publish_out.ensures.cause c.publish_out.ensures.counted
 
 pub returns-in-Map-clause-good : goal.returns-in-Map-clause-good
@@ -100,7 +101,7 @@ returns-in-Map-clause-good g c = λ t good.
 
 pub returns-in-Reduce-clause-good : goal.returns-in-Reduce-clause-good
 returns-in-Reduce-clause-good g c = λ t good.
-    reduced_good g.L.Log.lines c.claim.new.self c.report_reduced.new.self _ _ _ c.report_reduced.ensures.did (claimed_good g.L.Log.lines c.args.desk.now c.claim.new.self _ c.in-Some.ensures.claimed.1 good)
+    reduced_good g.L.Log.lines c.claim.new.self c.report_reduced.new.self (delta_of c.reduce.result.outcome) _ _ _ c.report_reduced.result _ c.report_reduced.ensures.did (claimed_good g.L.Log.lines c.args.desk.now c.claim.new.self _ c.in-Some.ensures.claimed.1 good)
 
 pub returns-in-Out-clause-good : goal.returns-in-Out-clause-good
 returns-in-Out-clause-good g c = λ t good.

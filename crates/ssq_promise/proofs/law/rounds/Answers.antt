@@ -1,3 +1,4 @@
+use Rattle.ssq_promise.proofs.Coming.{round_goes_on}
 use Rattle.ssq_promise.proofs.Joining.{nothing_is_run, round_is_run, runs_are_joined}
 use Rattle.ssq_promise.proofs.Leaving.{round_leaves_found}
 use Rattle.ssq_promise.proofs.Truths.{opened_true, round_leaves_true}
@@ -20,3 +21,6 @@ returns-clause-files g c = round_leaves_true (g.D.Disk.tells × g.L.Log.tells)
 
 pub returns-clause-opened : goal.returns-clause-opened
 returns-clause-opened g c = opened_true
+
+pub returns-clause-on : goal.returns-clause-on
+returns-clause-on g c = round_goes_on (g.D.Disk.tells × g.L.Log.tells)

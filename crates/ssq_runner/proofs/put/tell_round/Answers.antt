@@ -18,4 +18,4 @@ returns-in_err-put_text-in-Ok-clause-untold g c =
     c.in_err-put_text-in-Ok.ensures.failed c.in_err-put_text-in-Ok.ensures.starved)
 
 pub returns-in-Err-clause-untold : goal.returns-in-Err-clause-untold
-returns-in-Err-clause-untold g c = stopped c.in-Err.cause c.in-Err.is refl (λ o. refl) (c.in_ok-push_all.ensures.ok ∙ ap (λ (l : List ℕ). l ++ told_text c.args.told.now) c.requires.empty)
+returns-in-Err-clause-untold g c = stopped c.in-Err.stopped c.in-Err.is c.from.ensures (λ o. refl) (c.in_ok-push_all.ensures.ok ∙ ap (λ (l : List ℕ). l ++ told_text c.args.told.now) c.requires.empty)

@@ -24,14 +24,17 @@ returns-in-Ok-clause-over g c = λ b n same cap ready.
     subst (λ (m : ℕ). SoFar (g.D.Disk.tells × g.L.Log.tells) g.L.Log.lines g.L.Log.available g.L.Log.answers g.L.Log.faults b m (g.D.Disk.history c.run_round-disk.result.disk) (g.D.Disk.faults c.run_round-disk.result.disk) c.run_round-disk.result.logs.items
     g.O.Output.tells (g.O.Output.content c.tell_round.new.out) c.in-Ok.opened) (sym (add-one n))
     (turned (g.D.Disk.tells × g.L.Log.tells) g.L.Log.lines g.L.Log.available g.L.Log.answers g.L.Log.faults c.epochs_hang_on_their_cuts.ensures c.rounds.ensures.joined b n _ _ _ _ _ _ g.O.Output.tells _ c.args.standing.opened c.args.found.items
-    c.run_round-disk.result.told.items c.run_round-disk.result.end ready round back c.run_round-disk.ensures.counted c.in-Ok.opened (g.O.Output.content c.tell_round.new.out) c.in-Ok.ensures.same
+    c.run_round-disk.result.told.items c.run_round-disk.result.end ready round back c.run_round-disk.ensures.counted (c.in-Ok.opened, c.in-Ok.closings) (g.O.Output.content c.tell_round.new.out) c.in-Ok.ensures.same
     (λ o. c.in-Ok.ensures.over.0 o ∙ ap (λ (l : List Told). g.O.Output.content c.args.out.now ++ told_text l) c.as_slice.ensures.value))
+
+pub returns-in-Ok-clause-indexes : goal.returns-in-Ok-clause-indexes
+returns-in-Ok-clause-indexes g c = (c.run_round-disk.ensures.round.went.over (c.in-Ok.opened, c.in-Ok.closings) c.in-Ok.ensures.same).indexes
 
 pub returns-in-Ok-clause-fits : goal.returns-in-Ok-clause-fits
 returns-in-Ok-clause-fits g c =
     let round = c.run_round-disk.ensures.round in
     fits_over g.L.Log.tells g.L.Log.lines g.L.Log.available g.L.Log.answers g.L.Log.faults c.args.bound.now c.args.cap c.args.standing.logs.items c.run_round-disk.result.logs.items c.args.found.items c.args.standing.opened c.in-Ok.opened c.requires.few
-    c.run_round-disk.ensures.logs (round.went.over c.in-Ok.opened c.in-Ok.ensures.same).can
+    c.run_round-disk.ensures.logs (round.went.over (c.in-Ok.opened, c.in-Ok.closings) c.in-Ok.ensures.same).can
 
 pub returns-clause-ended : goal.returns-clause-ended
 returns-clause-ended g c = λ b n same cap less ready.

@@ -23,9 +23,11 @@ returns-clause-opened g c =
       few_partitions = e.job.3;
       as_asked = e.job.4;
       long = e.long;
+      stores = e.stores;
       is_open = e.opened;
       synced = e.synced;
       desk = λ t job w first stands. e.desk t job w first stands;
+      states = λ t job states w are stands. e.states t job states w are stands;
     })
 
 pub returns-clause-images : goal.returns-clause-images

@@ -8,6 +8,7 @@ use Rattle.ssq_core.specs.Sound.{StandsOrEmpty}
 use Rattle.ssq_course.specs.Setting.{Setting, job_of}
 use Rattle.ssq_promise.specs.Run.{WasRun, AreFilesOf}
 use Rattle.ssq_terms.specs.Setting.{AreFound}
+use Rattle.ssq_terms.specs.Laws.{due_at}
 use Rattle.ssq_drive.specs.Rounds.{IsMeant}
 use Rattle.ssq_runner.specs.Lens.{lens_of}
 use Rattle.ssq_runner.specs.Ending.{Begun, cuts_in}
@@ -20,14 +21,14 @@ use Rattle.ssq_runner.proofs.run.run_found.Goals as goal
 
 pub run_rounds-requires-clause-can : goal.run_rounds-requires-clause-can
 run_rounds-requires-clause-can g c = λ κs lives.
-    can_first c.job_is_wanted.ensures.parts c.args.bound.now c.args.ask.partitions c.args.counts.now c.args.found.items c.requires.asked c.requires.plain c.requires.each g.D.Disk.tells g.D.Disk.history c.args.disk c.open_found.new.disk c.in-Ok.opened
+    can_first c.job_is_wanted.ensures.parts c.args.bound.now c.args.ask.partitions c.args.counts.now c.args.found.items c.requires.asked c.requires.runs c.requires.each g.D.Disk.tells g.D.Disk.history c.args.disk c.open_found.new.disk c.in-Ok.opened
     (subst (λ (l : List ℕ). IsOpenedOn g.D.Disk.tells g.D.Disk.history c.args.bound.now c.args.ask.partitions (lens_of c.args.counts.now l) c.args.disk c.open_found.new.disk c.in-Ok.opened) c.as_slice.ensures.value c.in-Ok.ensures.opened)
     (length c.args.logs.items) c.args.ask.cap c.requires.log_each c.requires.few c.requires.small c.requires.cap
 
 pub returns-in-Ok-clause-end : goal.returns-in-Ok-clause-end
 returns-in-Ok-clause-end g c = λ given of start faulty wrote ask.
     let is = subst (λ (l : List ℕ). IsOpenedOn g.D.Disk.tells g.D.Disk.history c.args.bound.now c.args.ask.partitions (lens_of c.args.counts.now l) c.args.disk c.open_found.new.disk c.in-Ok.opened) c.as_slice.ensures.value c.in-Ok.ensures.opened in
-    let can = can_first c.job_is_wanted.ensures.parts c.args.bound.now c.args.ask.partitions c.args.counts.now c.args.found.items c.requires.asked c.requires.plain c.requires.each g.D.Disk.tells g.D.Disk.history c.args.disk c.open_found.new.disk c.in-Ok.opened
+    let can = can_first c.job_is_wanted.ensures.parts c.args.bound.now c.args.ask.partitions c.args.counts.now c.args.found.items c.requires.asked c.requires.runs c.requires.each g.D.Disk.tells g.D.Disk.history c.args.disk c.open_found.new.disk c.in-Ok.opened
     is (length c.args.logs.items) c.args.ask.cap c.requires.log_each c.requires.few c.requires.small c.requires.cap in
     let b : Begun g.row.L.Denot = record {
       bound = c.args.bound.now;
@@ -58,21 +59,21 @@ returns-in-Ok-clause-end g c = λ given of start faulty wrote ask.
       synced = λ t. subst (λ (s : Sought). SyncedSince given.start (g.D.Disk.history c.open_found.new.disk) (IsBegun s (files_now given.start))) (sym (sought_same given c.args.bound.now c.args.ask c.args.counts.now c.args.found.items of))
           (subst (λ (h : History). SyncedSince h (g.D.Disk.history c.open_found.new.disk) (IsBegun (asked c.args.bound.now c.args.ask.partitions (lens_of c.args.counts.now c.args.found.items)) (files_now h))) (sym start) (is.synced t.0));
       own = λ t s run stands.
-          own_run (g.D.Disk.tells × g.L.Log.tells) g.L.Log.tells g.L.Log.lines g.L.Log.available g.L.Log.answers g.L.Log.faults c.job_is_wanted.ensures.wanted c.job_is_wanted.ensures.first c.round_begins_as_found.ensures.found c.job_is_wanted.ensures.parts
-          c.args.bound.now c.args.ask c.args.counts.now c.args.found.items c.requires.asked c.requires.plain c.requires.each given of s run c.args.logs.items ask t.1 g.D.Disk.history c.args.disk c.open_found.new.disk start g.D.Disk.tells t.0 c.in-Ok.opened is
+          own_run (g.D.Disk.tells × g.L.Log.tells) g.L.Log.tells g.L.Log.lines g.L.Log.available g.L.Log.answers g.L.Log.faults c.job_is_wanted.ensures.wanted c.job_is_wanted.ensures.first c.round_begins_as_found.ensures.found c.job_is_wanted.ensures.parts c.job_is_wanted.ensures.states c.round_begins_as_found.ensures.stores
+          c.args.bound.now c.args.ask c.args.counts.now c.args.found.items c.requires.asked c.requires.runs c.requires.each given of s run c.args.logs.items ask t.1 g.D.Disk.history c.args.disk c.open_found.new.disk start g.D.Disk.tells t.0 c.in-Ok.opened is
           c.args.ask.rounds (g.D.Disk.faults c.open_found.new.disk) (g.O.Output.content c.args.out.now) stands;
     })
     ends
     (λ t s run stands.
-    let own = own_run (g.D.Disk.tells × g.L.Log.tells) g.L.Log.tells g.L.Log.lines g.L.Log.available g.L.Log.answers g.L.Log.faults c.job_is_wanted.ensures.wanted c.job_is_wanted.ensures.first c.round_begins_as_found.ensures.found c.job_is_wanted.ensures.parts
-    c.args.bound.now c.args.ask c.args.counts.now c.args.found.items c.requires.asked c.requires.plain c.requires.each given of s run c.args.logs.items ask t.1 g.D.Disk.history c.args.disk c.open_found.new.disk start g.D.Disk.tells t.0 c.in-Ok.opened is
+    let own = own_run (g.D.Disk.tells × g.L.Log.tells) g.L.Log.tells g.L.Log.lines g.L.Log.available g.L.Log.answers g.L.Log.faults c.job_is_wanted.ensures.wanted c.job_is_wanted.ensures.first c.round_begins_as_found.ensures.found c.job_is_wanted.ensures.parts c.job_is_wanted.ensures.states c.round_begins_as_found.ensures.stores
+    c.args.bound.now c.args.ask c.args.counts.now c.args.found.items c.requires.asked c.requires.runs c.requires.each given of s run c.args.logs.items ask t.1 g.D.Disk.history c.args.disk c.open_found.new.disk start g.D.Disk.tells t.0 c.in-Ok.opened is
     c.args.ask.rounds (g.D.Disk.faults c.open_found.new.disk) (g.O.Output.content c.args.out.now) stands in
     let was = subst (λ (x : Setting). WasRun (g.D.Disk.tells × g.L.Log.tells) (job_of x) (g.D.Disk.history c.open_found.new.disk) (g.D.Disk.history c.run_rounds.result.disk) (map (λ t. t.epoch) ends.told)) own.0 (ends.ran t own.1).run in
     record {
       run = was;
-      files = subst (λ (x : Setting). AreFilesOf (job_of x) b.cap (λ lines. AreFound lines x.lines) (b.found.committed + length ends.told ≡ length ends.plans) (cuts_in b ends.plans) (length ends.plans) (g.D.Disk.history c.run_rounds.result.disk)) own.0 (ends.ran t own.1).files;
-      kept = rounds_keep (g.D.Disk.tells × g.L.Log.tells) g.L.Log.tells g.L.Log.lines g.L.Log.available g.L.Log.answers g.L.Log.faults c.job_is_wanted.ensures.wanted c.job_is_wanted.ensures.first c.round_begins_as_found.ensures.found c.job_is_wanted.ensures.parts
-          c.args.bound.now c.args.ask c.args.counts.now c.args.found.items c.requires.asked c.requires.plain c.requires.each given of s run c.args.logs.items ask t.1 g.D.Disk.history c.args.disk c.open_found.new.disk start g.D.Disk.tells t.0 c.in-Ok.opened is
+      files = subst (λ (x : Setting). AreFilesOf (job_of x) b.cap (due_at x) (λ lines. AreFound lines x.lines) (b.found.committed + length ends.told ≡ length ends.plans) (cuts_in b ends.plans) (length ends.plans) (g.D.Disk.history c.run_rounds.result.disk)) own.0 (ends.ran t own.1).files;
+      kept = rounds_keep (g.D.Disk.tells × g.L.Log.tells) g.L.Log.tells g.L.Log.lines g.L.Log.available g.L.Log.answers g.L.Log.faults c.job_is_wanted.ensures.wanted c.job_is_wanted.ensures.first c.round_begins_as_found.ensures.found c.job_is_wanted.ensures.parts c.job_is_wanted.ensures.states c.round_begins_as_found.ensures.stores
+          c.args.bound.now c.args.ask c.args.counts.now c.args.found.items c.requires.asked c.requires.runs c.requires.each given of s run c.args.logs.items ask t.1 g.D.Disk.history c.args.disk c.open_found.new.disk start g.D.Disk.tells t.0 c.in-Ok.opened is
           c.run.ensures t (g.D.Disk.history c.run_rounds.result.disk) (map (λ t. t.epoch) ends.told) stands was;
       meant = subst (λ (x : Setting). All (IsMeant x (cuts_in b ends.plans)) ends.told) own.0 (ends.ran t own.1).meant;
     })
@@ -82,20 +83,20 @@ returns-in-Err-clause-end g c = λ given of start faulty wrote ask.
     unopened_end g.D.Disk.tells (g.D.Disk.tells × g.L.Log.tells) g.D.Disk.history g.D.Disk.faults g.L.Log.lines g.L.Log.available g.L.Log.answers g.L.Log.faults (λ t. t.0) given c.args.bound.now c.args.ask c.args.counts.now c.args.found.items c.args.disk c.open_found.new.disk
     c.args.logs.items g.O.Output.tells (g.O.Output.content c.args.out.now) c.args.text.now.items c.in-Err.fault
     (asked_under g.L.Log.tells (g.D.Disk.tells × g.L.Log.tells) g.L.Log.lines g.L.Log.available g.L.Log.answers g.L.Log.faults (λ t. t.1) given.logs c.args.logs.items c.args.found.items ask) (λ cause outside t s run.
-    opening_outside (g.D.Disk.tells × g.L.Log.tells) g.L.Log.tells g.L.Log.lines g.L.Log.available g.L.Log.answers g.L.Log.faults c.job_is_wanted.ensures.wanted c.job_is_wanted.ensures.first c.round_begins_as_found.ensures.found c.job_is_wanted.ensures.parts
-    c.args.bound.now c.args.ask c.args.counts.now c.args.found.items c.requires.asked c.requires.plain c.requires.each given of s run c.args.logs.items ask t.1 g.D.Disk.history c.args.disk c.open_found.new.disk start c.job_is_wanted.ensures.states g.D.Disk.tells t.0 cause outside) of start faulty wrote c.requires.empty
+    opening_outside (g.D.Disk.tells × g.L.Log.tells) g.L.Log.tells g.L.Log.lines g.L.Log.available g.L.Log.answers g.L.Log.faults c.job_is_wanted.ensures.wanted c.job_is_wanted.ensures.first c.round_begins_as_found.ensures.found c.job_is_wanted.ensures.parts c.job_is_wanted.ensures.states c.round_begins_as_found.ensures.stores
+    c.args.bound.now c.args.ask c.args.counts.now c.args.found.items c.requires.asked c.requires.runs c.requires.each given of s run c.args.logs.items ask t.1 g.D.Disk.history c.args.disk c.open_found.new.disk start g.D.Disk.tells t.0 cause outside) of start faulty wrote c.requires.empty
     (subst (λ (l : List ℕ). IsUnopened g.D.Disk.tells g.D.Disk.history g.D.Disk.faults c.args.bound.now c.args.ask.partitions (lens_of c.args.counts.now l) c.args.disk c.open_found.new.disk c.in-Err.fault) c.as_slice.ensures.value c.in-Err.ensures.unopened)
 
 pub returns-in-Err-clause-stands : goal.returns-in-Err-clause-stands
 returns-in-Err-clause-stands g c = λ told heard given s of start ask run each.
-    opening_stands (g.D.Disk.tells × g.L.Log.tells) g.L.Log.tells g.L.Log.lines g.L.Log.available g.L.Log.answers g.L.Log.faults c.job_is_wanted.ensures.wanted c.job_is_wanted.ensures.first c.round_begins_as_found.ensures.found c.job_is_wanted.ensures.parts
-    c.args.bound.now c.args.ask c.args.counts.now c.args.found.items c.requires.asked c.requires.plain c.requires.each given of s run c.args.logs.items ask heard g.D.Disk.history c.args.disk c.open_found.new.disk start g.D.Disk.tells told
+    opening_stands (g.D.Disk.tells × g.L.Log.tells) g.L.Log.tells g.L.Log.lines g.L.Log.available g.L.Log.answers g.L.Log.faults c.job_is_wanted.ensures.wanted c.job_is_wanted.ensures.first c.round_begins_as_found.ensures.found c.job_is_wanted.ensures.parts c.job_is_wanted.ensures.states c.round_begins_as_found.ensures.stores
+    c.args.bound.now c.args.ask c.args.counts.now c.args.found.items c.requires.asked c.requires.runs c.requires.each given of s run c.args.logs.items ask heard g.D.Disk.history c.args.disk c.open_found.new.disk start g.D.Disk.tells told
     (subst (λ (l : List ℕ). LeavesStanding g.D.Disk.tells g.D.Disk.history c.args.bound.now c.args.ask.partitions (lens_of c.args.counts.now l) c.args.disk c.open_found.new.disk) c.as_slice.ensures.value c.open_found.ensures.images) each
 
 pub returns-in-Ok-clause-stands : goal.returns-in-Ok-clause-stands
 returns-in-Ok-clause-stands g c = λ told heard given s of start ask run each.
     let is = subst (λ (l : List ℕ). IsOpenedOn g.D.Disk.tells g.D.Disk.history c.args.bound.now c.args.ask.partitions (lens_of c.args.counts.now l) c.args.disk c.open_found.new.disk c.in-Ok.opened) c.as_slice.ensures.value c.in-Ok.ensures.opened in
-    let can = can_first c.job_is_wanted.ensures.parts c.args.bound.now c.args.ask.partitions c.args.counts.now c.args.found.items c.requires.asked c.requires.plain c.requires.each g.D.Disk.tells g.D.Disk.history c.args.disk c.open_found.new.disk c.in-Ok.opened
+    let can = can_first c.job_is_wanted.ensures.parts c.args.bound.now c.args.ask.partitions c.args.counts.now c.args.found.items c.requires.asked c.requires.runs c.requires.each g.D.Disk.tells g.D.Disk.history c.args.disk c.open_found.new.disk c.in-Ok.opened
     is (length c.args.logs.items) c.args.ask.cap c.requires.log_each c.requires.few c.requires.small c.requires.cap in
     let b : Begun g.row.L.Denot = record {
       bound = c.args.bound.now;
@@ -108,14 +109,14 @@ returns-in-Ok-clause-stands g c = λ told heard given s of start ask run each.
       seen = c.args.found.items;
       written = g.O.Output.content c.args.out.now;
     } in
-    let own = own_run (g.D.Disk.tells × g.L.Log.tells) g.L.Log.tells g.L.Log.lines g.L.Log.available g.L.Log.answers g.L.Log.faults c.job_is_wanted.ensures.wanted c.job_is_wanted.ensures.first c.round_begins_as_found.ensures.found c.job_is_wanted.ensures.parts
-    c.args.bound.now c.args.ask c.args.counts.now c.args.found.items c.requires.asked c.requires.plain c.requires.each given of s run c.args.logs.items ask heard g.D.Disk.history c.args.disk c.open_found.new.disk start g.D.Disk.tells told c.in-Ok.opened is
+    let own = own_run (g.D.Disk.tells × g.L.Log.tells) g.L.Log.tells g.L.Log.lines g.L.Log.available g.L.Log.answers g.L.Log.faults c.job_is_wanted.ensures.wanted c.job_is_wanted.ensures.first c.round_begins_as_found.ensures.found c.job_is_wanted.ensures.parts c.job_is_wanted.ensures.states c.round_begins_as_found.ensures.stores
+    c.args.bound.now c.args.ask c.args.counts.now c.args.found.items c.requires.asked c.requires.runs c.requires.each given of s run c.args.logs.items ask heard g.D.Disk.history c.args.disk c.open_found.new.disk start g.D.Disk.tells told c.in-Ok.opened is
     c.args.ask.rounds (g.D.Disk.faults c.open_found.new.disk) (g.O.Output.content c.args.out.now) (stands_now given.start (StandsOrEmpty (job_of s)) each) in
     let ends = c.run_rounds.ensures.ended b refl refl refl
     (ready_first g.L.Log.tells (g.D.Disk.tells × g.L.Log.tells) g.L.Log.lines g.L.Log.available g.L.Log.answers g.L.Log.faults (λ t. t.1) c.rounds.ensures.nothing c.rounds.ensures.opened b c.args.logs.items c.args.found.items g.O.Output.tells refl ask
     (let n = asked_count g.L.Log.tells g.L.Log.lines g.L.Log.available g.L.Log.answers g.L.Log.faults given.logs c.args.logs.items c.args.found.items ask in let few = c.requires.few in (let e = n.0 in omega (arith, e, few))) can) in
-    rounds_stand (g.D.Disk.tells × g.L.Log.tells) g.L.Log.tells g.L.Log.lines g.L.Log.available g.L.Log.answers g.L.Log.faults c.job_is_wanted.ensures.wanted c.job_is_wanted.ensures.first c.round_begins_as_found.ensures.found c.job_is_wanted.ensures.parts
-    c.args.bound.now c.args.ask c.args.counts.now c.args.found.items c.requires.asked c.requires.plain c.requires.each given of s run c.args.logs.items ask heard g.D.Disk.history c.args.disk c.open_found.new.disk start g.D.Disk.tells told c.in-Ok.opened is
+    rounds_stand (g.D.Disk.tells × g.L.Log.tells) g.L.Log.tells g.L.Log.lines g.L.Log.available g.L.Log.answers g.L.Log.faults c.job_is_wanted.ensures.wanted c.job_is_wanted.ensures.first c.round_begins_as_found.ensures.found c.job_is_wanted.ensures.parts c.job_is_wanted.ensures.states c.round_begins_as_found.ensures.stores
+    c.args.bound.now c.args.ask c.args.counts.now c.args.found.items c.requires.asked c.requires.runs c.requires.each given of s run c.args.logs.items ask heard g.D.Disk.history c.args.disk c.open_found.new.disk start g.D.Disk.tells told c.in-Ok.opened is
     c.run.ensures (told, heard) (g.D.Disk.history c.run_rounds.result.disk) (map (λ t. t.epoch) ends.told)
     (subst (λ (l : List ℕ). LeavesStanding g.D.Disk.tells g.D.Disk.history c.args.bound.now c.args.ask.partitions (lens_of c.args.counts.now l) c.args.disk c.open_found.new.disk) c.as_slice.ensures.value c.open_found.ensures.images) each
     (subst (λ (x : Setting). WasRun (g.D.Disk.tells × g.L.Log.tells) (job_of x) (g.D.Disk.history c.open_found.new.disk) (g.D.Disk.history c.run_rounds.result.disk) (map (λ t. t.epoch) ends.told)) own.0 (ends.ran (told, heard) own.1).run)
@@ -123,7 +124,7 @@ returns-in-Ok-clause-stands g c = λ told heard given s of start ask run each.
 pub returns-in-Ok-clause-stay : goal.returns-in-Ok-clause-stay
 returns-in-Ok-clause-stay g c = λ told heard given s of start ask run each.
     let is = subst (λ (l : List ℕ). IsOpenedOn g.D.Disk.tells g.D.Disk.history c.args.bound.now c.args.ask.partitions (lens_of c.args.counts.now l) c.args.disk c.open_found.new.disk c.in-Ok.opened) c.as_slice.ensures.value c.in-Ok.ensures.opened in
-    let can = can_first c.job_is_wanted.ensures.parts c.args.bound.now c.args.ask.partitions c.args.counts.now c.args.found.items c.requires.asked c.requires.plain c.requires.each g.D.Disk.tells g.D.Disk.history c.args.disk c.open_found.new.disk c.in-Ok.opened
+    let can = can_first c.job_is_wanted.ensures.parts c.args.bound.now c.args.ask.partitions c.args.counts.now c.args.found.items c.requires.asked c.requires.runs c.requires.each g.D.Disk.tells g.D.Disk.history c.args.disk c.open_found.new.disk c.in-Ok.opened
     is (length c.args.logs.items) c.args.ask.cap c.requires.log_each c.requires.few c.requires.small c.requires.cap in
     let b : Begun g.row.L.Denot = record {
       bound = c.args.bound.now;
@@ -136,14 +137,14 @@ returns-in-Ok-clause-stay g c = λ told heard given s of start ask run each.
       seen = c.args.found.items;
       written = g.O.Output.content c.args.out.now;
     } in
-    let own = own_run (g.D.Disk.tells × g.L.Log.tells) g.L.Log.tells g.L.Log.lines g.L.Log.available g.L.Log.answers g.L.Log.faults c.job_is_wanted.ensures.wanted c.job_is_wanted.ensures.first c.round_begins_as_found.ensures.found c.job_is_wanted.ensures.parts
-    c.args.bound.now c.args.ask c.args.counts.now c.args.found.items c.requires.asked c.requires.plain c.requires.each given of s run c.args.logs.items ask heard g.D.Disk.history c.args.disk c.open_found.new.disk start g.D.Disk.tells told c.in-Ok.opened is
+    let own = own_run (g.D.Disk.tells × g.L.Log.tells) g.L.Log.tells g.L.Log.lines g.L.Log.available g.L.Log.answers g.L.Log.faults c.job_is_wanted.ensures.wanted c.job_is_wanted.ensures.first c.round_begins_as_found.ensures.found c.job_is_wanted.ensures.parts c.job_is_wanted.ensures.states c.round_begins_as_found.ensures.stores
+    c.args.bound.now c.args.ask c.args.counts.now c.args.found.items c.requires.asked c.requires.runs c.requires.each given of s run c.args.logs.items ask heard g.D.Disk.history c.args.disk c.open_found.new.disk start g.D.Disk.tells told c.in-Ok.opened is
     c.args.ask.rounds (g.D.Disk.faults c.open_found.new.disk) (g.O.Output.content c.args.out.now) (inr (stands_now given.start (Stands (job_of s)) each)) in
     let ends = c.run_rounds.ensures.ended b refl refl refl
     (ready_first g.L.Log.tells (g.D.Disk.tells × g.L.Log.tells) g.L.Log.lines g.L.Log.available g.L.Log.answers g.L.Log.faults (λ t. t.1) c.rounds.ensures.nothing c.rounds.ensures.opened b c.args.logs.items c.args.found.items g.O.Output.tells refl ask
     (let n = asked_count g.L.Log.tells g.L.Log.lines g.L.Log.available g.L.Log.answers g.L.Log.faults given.logs c.args.logs.items c.args.found.items ask in let few = c.requires.few in (let e = n.0 in omega (arith, e, few))) can) in
-    rounds_stay (g.D.Disk.tells × g.L.Log.tells) g.L.Log.tells g.L.Log.lines g.L.Log.available g.L.Log.answers g.L.Log.faults c.job_is_wanted.ensures.wanted c.job_is_wanted.ensures.first c.round_begins_as_found.ensures.found c.job_is_wanted.ensures.parts
-    c.args.bound.now c.args.ask c.args.counts.now c.args.found.items c.requires.asked c.requires.plain c.requires.each given of s run c.args.logs.items ask heard g.D.Disk.history c.args.disk c.open_found.new.disk start g.D.Disk.tells told c.in-Ok.opened is
+    rounds_stay (g.D.Disk.tells × g.L.Log.tells) g.L.Log.tells g.L.Log.lines g.L.Log.available g.L.Log.answers g.L.Log.faults c.job_is_wanted.ensures.wanted c.job_is_wanted.ensures.first c.round_begins_as_found.ensures.found c.job_is_wanted.ensures.parts c.job_is_wanted.ensures.states c.round_begins_as_found.ensures.stores
+    c.args.bound.now c.args.ask c.args.counts.now c.args.found.items c.requires.asked c.requires.runs c.requires.each given of s run c.args.logs.items ask heard g.D.Disk.history c.args.disk c.open_found.new.disk start g.D.Disk.tells told c.in-Ok.opened is
     c.run.ensures (told, heard) (g.D.Disk.history c.run_rounds.result.disk) (map (λ t. t.epoch) ends.told)
     c.open_found.ensures.stay each
     (subst (λ (x : Setting). WasRun (g.D.Disk.tells × g.L.Log.tells) (job_of x) (g.D.Disk.history c.open_found.new.disk) (g.D.Disk.history c.run_rounds.result.disk) (map (λ t. t.epoch) ends.told)) own.0 (ends.ran (told, heard) own.1).run)
