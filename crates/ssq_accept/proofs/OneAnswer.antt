@@ -20,7 +20,7 @@ use Rattle.ssq_parse.specs.File.{Fault, query_of}
 use Rattle.ssq_shape.specs.declared.bound.Bound.{Bound}
 use Rattle.ssq_shape.specs.declared.bound.Shape.{Shape}
 use Rattle.ssq_shape.specs.declared.bound.Shape.TheVariants as shape
-use Rattle.ssq_accept.specs.Accepting.{IsRead, HasFault, Breaks, Forbids, MayRun, Keeps, IsBroken, IsForbidden, IsNotYet, AcceptedAreTaken, KnownAreTaken, AreRefusedAlike}
+use Rattle.ssq_accept.specs.Accepting.{IsRead, HasFault, Breaks, Forbids, MayRun, Runs, Keeps, IsBroken, IsForbidden, IsNotYet, AcceptedAreTaken, KnownAreTaken, AreRefusedAlike}
 
 ok_same : (found : Result Query Fault) (x y : Query) → found ≡ Ok x → found ≡ Ok y → y ≡ x
 ok_same found x y is also = cc
@@ -44,6 +44,12 @@ no_forbidden bound fault may forbids = apart (sym forbids.stands ∙ may fault)
     apart : true ≡ false → ⊥
     apart same = absurd cc
 
+not_later : (s : Shape) (own : LaterShape) → Runs s → Keeps s own → ⊥
+not_later shape.Plain own runs keeps = keeps
+not_later (shape.Group grouping) own runs keeps = keeps
+not_later (shape.Dedup columns) own runs keeps = runs
+not_later (shape.Join joining) own runs keeps = runs
+
 pub accepted_are_taken : AcceptedAreTaken
 accepted_are_taken file query bound (refusal.Parse at cause) is why = absurd (no_fault file query at cause is.read why)
 accepted_are_taken file query bound (refusal.Bind fault) is why =
@@ -51,7 +57,7 @@ accepted_are_taken file query bound (refusal.Bind fault) is why =
 accepted_are_taken file query bound (refusal.Mode fault) is why =
     absurd (no_forbidden bound fault is.may_run (subst (λ (b : Bound). Forbids b fault) (ap bound_of (one_query file query why.query is.read why.read) ∙ sym is.names.is) why.forbids))
 accepted_are_taken file query bound (refusal.NotYet own) is why =
-    absurd (subst (λ (s : Shape). Keeps s own) (ap (λ (b : Bound). b.shape) (ap bound_of (one_query file query why.query is.read why.read) ∙ sym is.names.is) ∙ is.plain) why.keeps)
+    absurd (not_later bound.shape own is.shape (subst (λ (b : Bound). Keeps b.shape own) (ap bound_of (one_query file query why.query is.read why.read) ∙ sym is.names.is) why.keeps))
 accepted_are_taken file query bound refusal.NoMemory is why = refl
 
 pub known_are_taken : KnownAreTaken
@@ -144,7 +150,7 @@ one_forbidden bound f g is also = sym (fault_is f) ∙ ap fault_at ranks ∙ fau
 
 one_kept : (s : Shape) (own other : LaterShape) → Keeps s own → Keeps s other → own ≡ other
 one_kept shape.Plain own other is also = absurd is
-one_kept (shape.Group grouping) own other is also = is ∙ sym also
+one_kept (shape.Group grouping) own other is also = absurd is
 one_kept (shape.Dedup columns) own other is also = is ∙ sym also
 one_kept (shape.Join joining) own other is also = is ∙ sym also
 

@@ -63,7 +63,7 @@ is_accepted file query bound read taken = record {
   read = read;
   names = taken.names;
   may_run = taken.run.may_run;
-  plain = taken.run.plain;
+  shape = taken.run.shape;
   delays = subst (λ (b : Bound). All HasSpan b.streams) (sym taken.names.is) (delays_are_spans (cut_of file).tokens query read.written.written);
   windows = windows_of file query bound read taken.names;
 }

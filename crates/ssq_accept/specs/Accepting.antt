@@ -1,5 +1,5 @@
 -- Which query files are accepted, and why others are refused: a file is a query or not, its query breaks a rule of binding
--- or not, it may run in its mode or not, and what it keeps is run now or not. The first of these that refuses is told.
+-- or not, it may run in its mode or not, and its shape is run now or not. The first of these that refuses is told.
 use Rattle.std.specs.Prelude.{◌≡◌, ◌⊎◌, ℕ, List, Ok, Err}
 use Rattle.std.specs.List.{All}
 use Rattle.ssq_accept.specs.declared.refusal.LaterShape.{LaterShape}
@@ -9,6 +9,7 @@ use Rattle.ssq_accept.specs.declared.refusal.Refusal.TheVariants as refusal
 use Rattle.ssq_ast.specs.declared.query.Query.{Query}
 use Rattle.ssq_bind.specs.Bound.{bound_of}
 use Rattle.ssq_bind.specs.Delays.{HasSpan}
+use Rattle.ssq_bind.specs.Limits.{HasLimits}
 use Rattle.ssq_bind.specs.Sound.{IsSoundBound}
 use Rattle.ssq_check.specs.declared.fault.BindFault.{BindFault}
 use Rattle.ssq_check.specs.Fault as rule
@@ -49,6 +50,7 @@ pub record IsBoundAs (query : Query) (bound : Bound) : Type 0 where
   pub is : bound ≡ bound_of query
   pub unbroken : AreNone (QueryFaults query)
   pub sound : IsSoundBound bound
+  pub limits : HasLimits bound
 
 -- this is the first of the rules that it breaks
 abbrev pub Breaks : Query → BindFault → Type 0
@@ -78,11 +80,19 @@ MayNotRun bound (refusal.Mode fault) = Forbids bound fault
 MayNotRun bound (refusal.NotYet own) = ⊥
 MayNotRun bound refusal.NoMemory = ⊥
 
--- ---- a query that keeps something is not run yet
+-- ---- a query that deduplicates or joins is not run yet
 
+-- the shapes that are run: a query that keeps nothing, and one that groups its rows
+abbrev pub Runs : Shape → Type 0
+Runs shape.Plain = Unit {0}
+Runs (shape.Group grouping) = Unit {0}
+Runs (shape.Dedup columns) = ⊥
+Runs (shape.Join joining) = ⊥
+
+-- what a query of another shape keeps
 abbrev pub Keeps : Shape → LaterShape → Type 0
 Keeps shape.Plain own = ⊥
-Keeps (shape.Group grouping) own = own ≡ later.Group
+Keeps (shape.Group grouping) own = ⊥
 Keeps (shape.Dedup columns) own = own ≡ later.Dedup
 Keeps (shape.Join joining) own = own ≡ later.Join
 
@@ -95,10 +105,10 @@ IsLater kept refusal.NoMemory = ⊥
 
 -- ---- a bound query is run
 
--- no rule of modes forbids it, and it keeps nothing
+-- no rule of modes forbids it, and its shape is one that is run
 pub record IsRun (bound : Bound) : Type 0 where
   pub may_run : MayRun bound
-  pub plain : bound.shape ≡ shape.Plain
+  pub shape : Runs bound.shape
 
 -- a rule of modes forbids it; or none does, and it keeps what is not run yet
 abbrev pub IsHeld : Bound → Refusal → Type 0
@@ -146,13 +156,14 @@ pub record IsKnown (file : List ℕ) (query : Query) (bound : Bound) : Type 0 wh
 -- ---- the whole
 
 -- The file is this query, written by the grammar; it breaks no rule of binding, no rule of modes forbids it, and it keeps
--- nothing. So it reads one stream or two, whose delays are 1 second to 366 days long, an event column stands only with a
--- delay, its windows fit as those of a query that is known, and the canonical text is UTF-8 of a length of 64 bits.
+-- nothing, or groups its rows by at most 64 keys and with at most 64 aggregates. So it reads one stream or two, whose delays
+-- are 1 second to 366 days long, an event column stands only with a delay, its windows fit as those of a query that is
+-- known, and the canonical text is UTF-8 of a length of 64 bits.
 pub record IsAccepted (file : List ℕ) (query : Query) (bound : Bound) : Type 0 where
   pub read : IsRead file query
   pub names : IsBoundAs query bound
   pub may_run : MayRun bound
-  pub plain : bound.shape ≡ shape.Plain
+  pub shape : Runs bound.shape
   pub delays : All HasSpan bound.streams
   pub windows : HasWindows bound
 

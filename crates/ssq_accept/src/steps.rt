@@ -1,8 +1,7 @@
 //! The steps from the bytes of a query file to the query as it is run.
 
-ghost use Rattle.std.specs.Prelude.{◌≡◌, IfOk, IfErr, OnOk};
-ghost use Rattle.ssq_shape.specs.declared.bound.Shape.TheVariants as shape;
-ghost use Rattle.ssq_accept.specs.Accepting.{IsRead, IsNoQuery, IsBoundAs, IsUnbound, MayRun, MayNotRun, IsLater, IsRun, IsHeld, IsTaken, IsStopped, IsAccepted, IsRefused, IsAllowed, IsNotAllowed, IsKnown, IsUnknown, AcceptedAreTaken, KnownAreTaken, AreRefusedAlike};
+ghost use Rattle.std.specs.Prelude.{IfOk, IfErr, OnOk};
+ghost use Rattle.ssq_accept.specs.Accepting.{IsRead, IsNoQuery, IsBoundAs, IsUnbound, MayRun, MayNotRun, Runs, IsLater, IsRun, IsHeld, IsTaken, IsStopped, IsAccepted, IsRefused, IsAllowed, IsNotAllowed, IsKnown, IsUnknown, AcceptedAreTaken, KnownAreTaken, AreRefusedAlike};
 
 use crate::refusal::{LaterShape, Refusal};
 use ssq_ast::Query;
@@ -52,13 +51,13 @@ fn may_run(bound: &Bound) -> Result<(), Refusal>
     }
 }
 
-fn keeps_nothing(bound: &Bound) -> Result<(), Refusal>
-    ensures taken { OnOk result (bound.now.shape ≡ shape.Plain) }
+fn has_shape(bound: &Bound) -> Result<(), Refusal>
+    ensures taken { OnOk result (Runs bound.now.shape) }
     ensures refused { IfErr result (IsLater bound.now.shape) }
 {
     match &bound.shape {
         Shape::Plain => Ok(()),
-        Shape::Group(_) => Err(Refusal::NotYet(LaterShape::Group)),
+        Shape::Group(_) => Ok(()),
         Shape::Dedup(_) => Err(Refusal::NotYet(LaterShape::Dedup)),
         Shape::Join(_) => Err(Refusal::NotYet(LaterShape::Join)),
     }
@@ -70,7 +69,7 @@ fn is_run(bound: &Bound) -> Result<(), Refusal>
     ensures refused { IfErr result (IsHeld bound.now) }
 {
     match may_run(bound) {
-        Ok(()) => keeps_nothing(bound),
+        Ok(()) => has_shape(bound),
         Err(refusal) => Err(refusal),
     }
 }
@@ -88,13 +87,13 @@ fn taken(alloc: Global, query: &Query) -> Result<Bound, Refusal>
 }
 
 /// The query that a file is, bound, where it is run: it is written by the grammar, breaks no rule of binding, may run in
-/// its mode, and keeps nothing.
+/// its mode, and keeps nothing or groups its rows.
 ///
 /// # Errors
 ///
 /// The first of these steps that refuses it, where all steps before it take it: [`Refusal::Parse`] where the file is no
 /// query, [`Refusal::Bind`] where the query breaks a rule of binding, [`Refusal::Mode`] where it may not run in its mode,
-/// [`Refusal::NotYet`] where it groups, deduplicates or joins, which is not run yet. [`Refusal::NoMemory`] is want of
+/// [`Refusal::NotYet`] where it deduplicates or joins, which is not run yet. [`Refusal::NoMemory`] is want of
 /// memory alone.
 #[tactic(auto, using(crate::proofs::Refused::no_query, crate::proofs::Refused::query_stops, crate::proofs::Refused::is_accepted))]
 pub fn accept(alloc: Global, bytes: &[u8]) -> Result<Accepted, Refusal>

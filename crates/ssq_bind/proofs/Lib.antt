@@ -14,3 +14,4 @@ pub mod SameQueries
 pub mod SpanLemmas
 pub mod WindowLemmas
 pub mod SoundLemmas
+pub mod LimitLemmas

@@ -11,3 +11,4 @@ pub mod Delays
 pub mod Windows
 pub mod Places
 pub mod Sound
+pub mod Limits

@@ -1,6 +1,7 @@
 //! Laws of bound queries.
 
 ghost use Rattle.ssq_bind.specs.Delays.{DelaysAreSpans};
+ghost use Rattle.ssq_bind.specs.Limits.{GroupsAreLimited};
 ghost use Rattle.ssq_bind.specs.Places.{PlacesAreIgnored};
 ghost use Rattle.ssq_bind.specs.Timed.{EventsHaveDelays};
 ghost use Rattle.ssq_bind.specs.Typed.{RowsAreTyped};
@@ -25,6 +26,12 @@ pub fn delays_are_spans()
 /// window, whose size and slide are 1 second to 366 days long, and whose size is one to 64 slides.
 pub fn windows_are_fit()
     ensures { WindowsAreFit }
+{}
+
+/// The law of limits: a query that breaks no rule of binding has at most 64 parts in GROUP BY, and SELECT and HAVING have at
+/// most 64 aggregates together.
+pub fn groups_are_limited()
+    ensures { GroupsAreLimited }
 {}
 
 /// The law of places: queries that are the same, places aside, are bound to the same bound query.

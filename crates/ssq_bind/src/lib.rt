@@ -3,8 +3,9 @@
 //! The definitions stand in `specs/`. `Bound` is the bound query, a function of the query; it is put together from
 //! `Value` (which typed expression an expression is), `Streams` (what is read), `Shapes` (what is shown, what rows are
 //! grouped by, and the order) and `Joins`. `Sound` is what holds of it where no rule is broken. `Typed` is the law of
-//! types, `Timed` that of event columns, `Delays` that of delays, `Windows` that of windows, `Places` that of places, and
-//! `Explained` what is told. Which rules there are, and what names mean, stands in `ssq_check`.
+//! types, `Timed` that of event columns, `Delays` that of delays, `Windows` that of windows, `Limits` that of the limits of
+//! groups, `Places` that of places, and `Explained` what is told. Which rules there are, and what names mean, stands in
+//! `ssq_check`.
 #![tactic(auto)]
 
 mod context;
@@ -22,7 +23,8 @@ mod whole;
 pub use context::Context;
 pub use join::Parts;
 pub use laws::{
-    delays_are_spans, events_have_delays, places_are_ignored, rows_are_typed, windows_are_fit,
+    delays_are_spans, events_have_delays, groups_are_limited, places_are_ignored, rows_are_typed,
+    windows_are_fit,
 };
 pub use told::explain;
 pub use whole::{bind, build};

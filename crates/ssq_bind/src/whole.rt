@@ -6,6 +6,7 @@ ghost use Rattle.ssq_check.specs.Fault.{AreNone};
 ghost use Rattle.ssq_check.specs.Names.{left_stream, right_stream, row_scope, scope_of};
 ghost use Rattle.ssq_check.specs.Whole.{QueryFaults, IsRefusedBy};
 ghost use Rattle.ssq_bind.specs.Bound.{context_of, shown_of, grouping_of, kept_by, shape_of, mode_of, filter_value, bound_of};
+ghost use Rattle.ssq_bind.specs.Limits.{HasLimits};
 ghost use Rattle.ssq_bind.specs.Sound.{IsSoundBound};
 ghost use Rattle.ssq_bind.specs.Streams.{streams_of};
 ghost use Rattle.ssq_bind.specs.Windows.{HasWindowsIfWritten};
@@ -249,6 +250,7 @@ pub fn bind(alloc: Global, query: &Query) -> Result<Bound, Refusal>
     ensures taken { OnOk result (AreNone (QueryFaults query.now)) }
     ensures sound { IfOk result IsSoundBound }
     ensures windows { IfOk result (HasWindowsIfWritten query.now) }
+    ensures limits { IfOk result HasLimits }
     ensures refused { IfErr result (IsRefusedBy (QueryFaults query.now)) }
 {
     check(alloc, query)?;

@@ -27,12 +27,12 @@ use Rattle.ssq_run.specs.Stopping.{stop_of_refusal, stop_of_end, status_in, IsTo
 use Rattle.ssq_run.specs.Program.{Given, Went, IsOutside, ask_of, HasRun, HasObeyed, has_run, has_explained, has_looked, ran_out, ProgramEnd, unread, no_command, no_file, refused, obeyed, IsStatus}
 use Rattle.ssq_course.specs.Setting.{Setting}
 use Rattle.ssq_runner.specs.Sources.{IsSettingFor}
-use Rattle.ssq_run.specs.Going.{AsksRun, IsAskedFor, CanGoOn, HasRoom, IsFaultless, NoneFailed, IsDone, IsDoneToALine}
+use Rattle.ssq_run.specs.Going.{AsksRun, IsAskedFor, CanGoOn, HasRoom, IsFaultless, NoneFailed, IsDone, IsDoneToAFault}
 
 -- the status of a run's end, by what it is
 data IsEndStatus (end : Result (Unit {0}) RunFault) (n : ℕ) : Type 0 where
   done : n ≡ 0 → IsEndStatus end n
-  at_line : (n ≡ 4) ⊎ (n ≡ 5) → (IsNoFault end → ⊥) → IsEndStatus end n
+  at_fault : (n ≡ 4) ⊎ (n ≡ 5) → (IsNoFault end → ⊥) → IsEndStatus end n
   outside : (n ≡ 6) ⊎ ((n ≡ 7) ⊎ (n ≡ 8)) → IsEndStatus end n
   of_checkpoint : n ≡ 9 → (IsNoRefusal end → ⊥) → IsEndStatus end n
   memory : n ≡ 10 → IsEndStatus end n
@@ -57,14 +57,16 @@ end_status streams counts (Err (run.Open (opening.LogShort stream part logged fo
 end_status streams counts (Err (run.Open (opening.Damaged name))) = of_checkpoint refl no
 end_status streams counts (Err (run.Open opening.DiskFault)) = outside (inr (inl refl))
 end_status streams counts (Err (run.Open opening.NoMemory)) = memory refl
-end_status streams counts (Err (run.Round (cause.BadLine stream part offset fault))) = at_line (inl refl) no
-end_status streams counts (Err (run.Round (cause.Overflow stream part offset))) = at_line (inr refl) no
+end_status streams counts (Err (run.Round (cause.BadLine stream part offset fault))) = at_fault (inl refl) no
+end_status streams counts (Err (run.Round (cause.Overflow stream part offset))) = at_fault (inr refl) no
+end_status streams counts (Err (run.Round cause.KeyOverflow)) = at_fault (inr refl) no
 end_status streams counts (Err (run.Round cause.LogFault)) = outside (inl refl)
 end_status streams counts (Err (run.Round (cause.LogShort stream part logged found))) = of_checkpoint refl no
 end_status streams counts (Err (run.Round (cause.Damaged name))) = of_checkpoint refl no
 end_status streams counts (Err (run.Round cause.DiskFault)) = outside (inr (inl refl))
 end_status streams counts (Err (run.Round cause.Full)) = limit refl no
 end_status streams counts (Err (run.Round cause.NoMemory)) = memory refl
+end_status streams counts (Err (run.KeyOverflow key)) = at_fault (inr refl) no
 end_status streams counts (Err run.OutFault) = outside (inr (inr refl))
 end_status streams counts (Err run.NoMemory) = memory refl
 
@@ -160,8 +162,8 @@ module _ {L : Type 0} (told tells : Type 0) (lines : L → List Line) (available
       where
         by_kind : IsEndStatus ran.end (status_in stop) → IsNoRefusal ran.end → ⊥
         by_kind (done is) fine = absurd (omega (arith, is, nine))
-        by_kind (at_line (inl is) no_fault) fine = absurd (omega (arith, is, nine))
-        by_kind (at_line (inr is) no_fault) fine = absurd (omega (arith, is, nine))
+        by_kind (at_fault (inl is) no_fault) fine = absurd (omega (arith, is, nine))
+        by_kind (at_fault (inr is) no_fault) fine = absurd (omega (arith, is, nine))
         by_kind (outside (inl is)) fine = absurd (omega (arith, is, nine))
         by_kind (outside (inr (inl is))) fine = absurd (omega (arith, is, nine))
         by_kind (outside (inr (inr is))) fine = absurd (omega (arith, is, nine))
@@ -187,18 +189,18 @@ module _ {L : Type 0} (told tells : Type 0) (lines : L → List Line) (available
       no_8 : status ≡ 8 → ⊥
       no_8 is = none.out_whole (out is)
 
-      -- what has room is done to a line
-      to_a_line : (room : HasRoom given went.start) → RunsGoOn told tells lines available answers faults OutTells → RunsMeetNoLimit told tells lines available answers faults OutTells → IsOutside stop ⊎ Ran room.asks → status ≡ status_in stop → IsDoneToALine status
-      to_a_line room goes free (inl outer) is = elim (outside_status outer) [ inl six ↦ absurd (no_6 (is ∙ six)) | inr ten ↦ inl (inr (is ∙ ten)) ]
-      to_a_line room goes free (inr ran) is =
+      -- what has room is done to a fault
+      to_a_fault : (room : HasRoom given went.start) → RunsGoOn told tells lines available answers faults OutTells → RunsMeetNoLimit told tells lines available answers faults OutTells → IsOutside stop ⊎ Ran room.asks → status ≡ status_in stop → IsDoneToAFault status
+      to_a_fault room goes free (inl outer) is = elim (outside_status outer) [ inl six ↦ absurd (no_6 (is ∙ six)) | inr ten ↦ inl (inr (is ∙ ten)) ]
+      to_a_fault room goes free (inr ran) is =
           by_kind (ran_status room.asks t ran)
           (goes t k given.held given.known room.asks.bound (ask_of room.asks.partitions room.asks.most room.asks.rounds) went.start went.now went.disk_faults went.disk_faults_now went.returned went.returned_now went.old went.written went.text ran.end room.setting room.room.can ran.over)
           (free t k given.held given.known room.asks.bound (ask_of room.asks.partitions room.asks.most room.asks.rounds) went.start went.now went.disk_faults went.disk_faults_now went.returned went.returned_now went.old went.written went.text ran.end room.setting room.room ran.over)
         where
-          by_kind : IsEndStatus ran.end (status_in stop) → IsNoRefusal ran.end → IsNoLimit ran.end → IsDoneToALine status
+          by_kind : IsEndStatus ran.end (status_in stop) → IsNoRefusal ran.end → IsNoLimit ran.end → IsDoneToAFault status
           by_kind (done same) fine within = inl (inl (is ∙ same))
-          by_kind (at_line (inl same) no_fault) fine within = inr (inl (is ∙ same))
-          by_kind (at_line (inr same) no_fault) fine within = inr (inr (is ∙ same))
+          by_kind (at_fault (inl same) no_fault) fine within = inr (inl (is ∙ same))
+          by_kind (at_fault (inr same) no_fault) fine within = inr (inr (is ∙ same))
           by_kind (outside (inl same)) fine within = absurd (no_6 (is ∙ same))
           by_kind (outside (inr (inl same))) fine within = absurd (no_7 (is ∙ same))
           by_kind (outside (inr (inr same))) fine within = absurd (no_8 (is ∙ same))
@@ -206,16 +208,16 @@ module _ {L : Type 0} (told tells : Type 0) (lines : L → List Line) (available
           by_kind (memory same) fine within = inl (inr (is ∙ same))
           by_kind (limit same full) fine within = absurd (full within)
 
-      pub done_to_a_line : RunsGoOn told tells lines available answers faults OutTells → RunsMeetNoLimit told tells lines available answers faults OutTells → HasRoom given went.start → IsDoneToALine status
-      done_to_a_line goes free room = by_answer answer
+      pub done_to_a_fault : RunsGoOn told tells lines available answers faults OutTells → RunsMeetNoLimit told tells lines available answers faults OutTells → HasRoom given went.start → IsDoneToAFault status
+      done_to_a_fault goes free room = by_answer answer
         where
-          by_answer : IsStatus stop before after status → IsDoneToALine status
-          by_answer (inl is) = to_a_line room goes free (ends_of room.asks taken end) is
+          by_answer : IsStatus stop before after status → IsDoneToAFault status
+          by_answer (inl is) = to_a_fault room goes free (ends_of room.asks taken end) is
           by_answer (inr (inl is)) = absurd (no_8 is.0)
           by_answer (inr (inr is)) = inl (inr is)
 
       -- and what is faultless is done
-      to_the_end : (fine : IsFaultless given went.start) → RunsMeetNoFault told tells lines available answers faults OutTells → IsOutside stop ⊎ Ran fine.asks → status ≡ status_in stop → IsDoneToALine status → IsDone status
+      to_the_end : (fine : IsFaultless given went.start) → RunsMeetNoFault told tells lines available answers faults OutTells → IsOutside stop ⊎ Ran fine.asks → status ≡ status_in stop → IsDoneToAFault status → IsDone status
       to_the_end fine faults_none ran is (inl all) = all
       to_the_end fine faults_none (inl outer) is (inr line) =
           elim (outside_status outer) [ inl six ↦ absurd (no_6 (is ∙ six)) | inr ten ↦ inr (is ∙ ten) ]
@@ -228,7 +230,7 @@ module _ {L : Type 0} (told tells : Type 0) (lines : L → List Line) (available
 
           by_kind : IsEndStatus ran.end (status_in stop) → IsNoFault ran.end → IsDone status
           by_kind (done same) clean = inl (is ∙ same)
-          by_kind (at_line same no_fault) clean = absurd (no_fault clean)
+          by_kind (at_fault same no_fault) clean = absurd (no_fault clean)
           by_kind (outside (inl same)) clean = absurd (no_6 (is ∙ same))
           by_kind (outside (inr (inl same))) clean = absurd (no_7 (is ∙ same))
           by_kind (outside (inr (inr same))) clean = absurd (no_8 (is ∙ same))
@@ -243,6 +245,6 @@ module _ {L : Type 0} (told tells : Type 0) (lines : L → List Line) (available
           room = record { asks = fine.asks; setting = fine.setting; room = fine.faultless.room }
 
           by_answer : IsStatus stop before after status → IsDone status
-          by_answer (inl is) = to_the_end fine faults_none (ends_of fine.asks taken end) is (done_to_a_line goes free room)
+          by_answer (inl is) = to_the_end fine faults_none (ends_of fine.asks taken end) is (done_to_a_fault goes free room)
           by_answer (inr (inl is)) = absurd (no_8 is.0)
           by_answer (inr (inr is)) = inr is

@@ -3,3 +3,6 @@ pub mod PartLines
 pub mod Passing
 pub mod Going
 pub mod Looking
+mod Runnable
+mod KeyLemmas
+mod ShownKeys

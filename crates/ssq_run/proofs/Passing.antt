@@ -55,12 +55,14 @@ run_counts streams counts d0 d1 i0 i1 o0 o1 (Err (run.Open opening.DiskFault)) i
 run_counts streams counts d0 d1 i0 i1 o0 o1 (Err (run.Open opening.NoMemory)) is = tt
 run_counts streams counts d0 d1 i0 i1 o0 o1 (Err (run.Round (cause.BadLine stream part offset fault))) is = tt
 run_counts streams counts d0 d1 i0 i1 o0 o1 (Err (run.Round (cause.Overflow stream part offset))) is = tt
+run_counts streams counts d0 d1 i0 i1 o0 o1 (Err (run.Round cause.KeyOverflow)) is = tt
 run_counts streams counts d0 d1 i0 i1 o0 o1 (Err (run.Round cause.LogFault)) is = is
 run_counts streams counts d0 d1 i0 i1 o0 o1 (Err (run.Round (cause.LogShort stream part logged found))) is = tt
 run_counts streams counts d0 d1 i0 i1 o0 o1 (Err (run.Round (cause.Damaged name))) is = tt
 run_counts streams counts d0 d1 i0 i1 o0 o1 (Err (run.Round cause.DiskFault)) is = is
 run_counts streams counts d0 d1 i0 i1 o0 o1 (Err (run.Round cause.Full)) is = tt
 run_counts streams counts d0 d1 i0 i1 o0 o1 (Err (run.Round cause.NoMemory)) is = tt
+run_counts streams counts d0 d1 i0 i1 o0 o1 (Err (run.KeyOverflow key)) is = tt
 run_counts streams counts d0 d1 i0 i1 o0 o1 (Err run.OutFault) is = is
 run_counts streams counts d0 d1 i0 i1 o0 o1 (Err run.NoMemory) is = tt
 
@@ -82,12 +84,14 @@ run_past streams counts (Err (run.Open opening.DiskFault)) = tt
 run_past streams counts (Err (run.Open opening.NoMemory)) = tt
 run_past streams counts (Err (run.Round (cause.BadLine stream part offset fault))) = tt
 run_past streams counts (Err (run.Round (cause.Overflow stream part offset))) = tt
+run_past streams counts (Err (run.Round cause.KeyOverflow)) = tt
 run_past streams counts (Err (run.Round cause.LogFault)) = tt
 run_past streams counts (Err (run.Round (cause.LogShort stream part logged found))) = tt
 run_past streams counts (Err (run.Round (cause.Damaged name))) = tt
 run_past streams counts (Err (run.Round cause.DiskFault)) = tt
 run_past streams counts (Err (run.Round cause.Full)) = tt
 run_past streams counts (Err (run.Round cause.NoMemory)) = tt
+run_past streams counts (Err (run.KeyOverflow key)) = tt
 run_past streams counts (Err run.OutFault) = tt
 run_past streams counts (Err run.NoMemory) = tt
 
@@ -98,6 +102,7 @@ told_of streams counts parts_are (Err (run.Lines why)) same = ap (λ c. stop_of_
 told_of streams counts parts_are (Err (run.Parts why)) same = refl
 told_of streams counts parts_are (Err (run.Open why)) same = refl
 told_of streams counts parts_are (Err (run.Round why)) same = refl
+told_of streams counts parts_are (Err (run.KeyOverflow key)) same = refl
 told_of streams counts parts_are (Err run.OutFault) same = refl
 told_of streams counts parts_are (Err run.NoMemory) same = refl
 

@@ -40,7 +40,7 @@ pub record HasRoom (given : Given) (start : History) : Type 0 where
   pub setting : Setting
   pub room : run.HasRoom given.held given.known asks.bound asks.partitions start setting
 
--- And no line from the first one on that is not committed is a fault.
+-- And no line from the first one on that is not committed is a fault, and no key.
 pub record IsFaultless (given : Given) (start : History) : Type 0 where
   pub asks : AsksRun given
   pub setting : Setting
@@ -70,6 +70,6 @@ pub record NoneFailed (inputs inputs_now disk disk_now out out_now : ℕ) : Type
 abbrev pub IsDone : ℕ → Type 0
 IsDone status = (status ≡ 0) ⊎ (status ≡ 10)
 
--- or a line was a fault
-abbrev pub IsDoneToALine : ℕ → Type 0
-IsDoneToALine status = IsDone status ⊎ ((status ≡ 4) ⊎ (status ≡ 5))
+-- or a line or a key was a fault
+abbrev pub IsDoneToAFault : ℕ → Type 0
+IsDoneToAFault status = IsDone status ⊎ ((status ≡ 4) ⊎ (status ≡ 5))

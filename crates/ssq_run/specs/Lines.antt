@@ -8,7 +8,7 @@ use Rattle.ssq_open.specs.declared.wanted.Opened.{Opened}
 use Rattle.ssq_open.specs.Epochs.{no_plan, last_ends}
 use Rattle.ssq_open.specs.Looking.{begins}
 use Rattle.ssq_run.specs.declared.stop.Stop.{Stop}
-use Rattle.ssq_run.specs.declared.stop.Stop.TheVariants.{Usage, Refused, BadLine, Overflow, LogFault, DiskFault, OutFault, OtherQuery, OtherPartitions, OtherParts, LogShort, Damaged, NoMemory, FullParts, FullLines, FullEpochs}
+use Rattle.ssq_run.specs.declared.stop.Stop.TheVariants.{Usage, Refused, BadLine, Overflow, KeyOverflow, LogFault, DiskFault, OutFault, OtherQuery, OtherPartitions, OtherParts, LogShort, Damaged, NoMemory, FullParts, FullLines, FullEpochs}
 use Rattle.ssq_run.specs.declared.stop.Wrong.{Wrong}
 use Rattle.ssq_run.specs.declared.stop.Wrong.TheVariants.{TooLong, NotJson, NotObject, WrongType, NoEventTime}
 
@@ -30,6 +30,7 @@ stop_text Usage = codes "stopped 2 Usage"
 stop_text (Refused why) = codes "stopped 3 " ++ refusal_text why
 stop_text (BadLine stream part offset wrong) = codes "stopped 4 BadLine " ++ at_part stream part ++ codes " " ++ decimal offset ++ codes " " ++ wrong_text wrong
 stop_text (Overflow stream part offset) = codes "stopped 5 Overflow " ++ at_part stream part ++ codes " " ++ decimal offset
+stop_text (KeyOverflow key) = codes "stopped 5 Overflow key " ++ key
 stop_text LogFault = codes "stopped 6 LogFault"
 stop_text DiskFault = codes "stopped 7 DiskFault"
 stop_text OutFault = codes "stopped 8 OutFault"

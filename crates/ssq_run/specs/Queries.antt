@@ -4,7 +4,7 @@ use Rattle.ssq_outside.specs.Logs.{Held}
 use Rattle.ssq_ast.specs.declared.query.Query.{Query}
 use Rattle.ssq_shape.specs.declared.bound.Bound.{Bound}
 use Rattle.ssq_accept.specs.Accepting.{IsAccepted, IsRefused, IsKnown, IsUnknown}
-use Rattle.ssq_terms.specs.Setting.{IsPlain}
+use Rattle.ssq_terms.specs.Setting.{CanRun}
 use Rattle.ssq_words.specs.Asking.{Asked, asks_run, asks_explain, asks_status}
 use Rattle.ssq_accept.specs.declared.refusal.Refusal.{Refusal}
 
@@ -34,7 +34,7 @@ IsRefusedFor held (asks_run file partitions most rounds) why = IsRefused (read_o
 IsRefusedFor held (asks_explain file) why = IsUnknown (read_of held file) why
 IsRefusedFor held (asks_status file) why = IsUnknown (read_of held file) why
 
--- a query that is to be run keeps nothing
-abbrev pub KeepsNothing : Asked → Bound → Type 0
-KeepsNothing (asks_run file partitions most rounds) bound = IsPlain bound
-KeepsNothing _ bound = Unit {0}
+-- a query that is to be run is one that can be
+abbrev pub CanRunIfAsked : Asked → Bound → Type 0
+CanRunIfAsked (asks_run file partitions most rounds) bound = CanRun bound
+CanRunIfAsked _ bound = Unit {0}

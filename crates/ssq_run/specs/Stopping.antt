@@ -1,5 +1,5 @@
 -- How faults become the program's stop, its status, and when each may come.
-use Rattle.std.specs.Prelude.{◌≡◌, ◌⊎◌, ℕ, List, Option, Some, None, Result, Ok, Err, IsSome}
+use Rattle.std.specs.Prelude.{◌≡◌, ◌⊎◌, ℕ, List, [], Option, Some, None, Result, Ok, Err, IsSome}
 use Rattle.ssq_outside.specs.Faults.{Rises}
 use Rattle.ssq_outside.specs.Logs.{Held}
 use Rattle.ssq_outside.specs.declared.inputs.InputError.{InputError}
@@ -24,9 +24,10 @@ use Rattle.ssq_words.specs.Asking.{Asked, asked}
 use Rattle.ssq_words.specs.declared.error.AskError.{AskError}
 use Rattle.ssq_words.specs.declared.error.AskError.TheVariants as words
 use Rattle.ssq_run.specs.declared.stop.Stop.{Stop}
-use Rattle.ssq_run.specs.declared.stop.Stop.TheVariants.{Usage, Refused, BadLine, Overflow, LogFault, DiskFault, OutFault, OtherQuery, OtherPartitions, OtherParts, LogShort, Damaged, NoMemory, FullParts, FullLines, FullEpochs}
+use Rattle.ssq_run.specs.declared.stop.Stop.TheVariants.{Usage, Refused, BadLine, Overflow, KeyOverflow, LogFault, DiskFault, OutFault, OtherQuery, OtherPartitions, OtherParts, LogShort, Damaged, NoMemory, FullParts, FullLines, FullEpochs}
 use Rattle.ssq_run.specs.declared.stop.Wrong.{Wrong}
 use Rattle.ssq_run.specs.declared.stop.Wrong.TheVariants.{TooLong, NotJson, NotObject, WrongType, NoEventTime}
+use Rattle.ssq_run.specs.Keys.{key_text}
 use Rattle.ssq_run.specs.Places.{name_of, columns_of, column_of, place_of}
 use Rattle.ssq_run.specs.Queries.{IsRefusedFor}
 
@@ -72,9 +73,11 @@ stop_of_open streams (opening.Damaged name) = Damaged name
 stop_of_open streams opening.DiskFault = DiskFault
 stop_of_open streams opening.NoMemory = NoMemory
 
+-- (a cause alone does not say which key overflows: a run tells of one with its key)
 abbrev pub stop_of_cause : List Stream → Cause → Stop
 stop_of_cause streams (cause.BadLine stream part offset fault) = BadLine (name_of streams stream) part offset (wrong_of (columns_of streams stream) fault)
 stop_of_cause streams (cause.Overflow stream part offset) = Overflow (name_of streams stream) part offset
+stop_of_cause streams cause.KeyOverflow = KeyOverflow (key_text [])
 stop_of_cause streams cause.LogFault = LogFault
 stop_of_cause streams (cause.LogShort stream part logged found) = LogShort (name_of streams stream) part logged found
 stop_of_cause streams (cause.Damaged name) = Damaged name
@@ -88,6 +91,7 @@ stop_of_run streams counts (run.Parts fault) = stop_of_parts streams fault
 stop_of_run streams counts (run.Lines fault) = stop_of_lines streams counts fault
 stop_of_run streams counts (run.Open fault) = stop_of_open streams fault
 stop_of_run streams counts (run.Round why) = stop_of_cause streams why
+stop_of_run streams counts (run.KeyOverflow key) = KeyOverflow (key_text key)
 stop_of_run streams counts run.OutFault = OutFault
 stop_of_run streams counts run.NoMemory = NoMemory
 
@@ -111,6 +115,7 @@ status_of Usage = 2
 status_of (Refused why) = 3
 status_of (BadLine stream part offset wrong) = 4
 status_of (Overflow stream part offset) = 5
+status_of (KeyOverflow key) = 5
 status_of LogFault = 6
 status_of DiskFault = 7
 status_of OutFault = 8

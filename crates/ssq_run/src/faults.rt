@@ -2,15 +2,18 @@
 
 ghost use Rattle.std.specs.Prelude.{◌≡◌, ◌≤◌, length, IfOk};
 ghost use Rattle.ssq_run.specs.Places.{name_of, columns_of, column_of, place_of};
+ghost use Rattle.ssq_run.specs.declared.stop.Stop.TheVariants as stop;
+ghost use Rattle.ssq_run.specs.Keys.{key_text};
 ghost use Rattle.ssq_run.specs.Stopping.{wrong_of, stop_of_parts, stop_of_lines, stop_of_open, stop_of_cause, stop_of_run, stop_of_end, stop_in, IsToldAs};
 
+use crate::key::key_text;
 use crate::stop::{Stop, Wrong};
 use ssq_board::{Cause, RowFault};
 use ssq_logs::{LengthFault, PartsFault};
 use ssq_open::OpenFault;
 use ssq_runner::RunFault;
 use ssq_shape::Stream;
-use ssq_value::{Column, Text};
+use ssq_value::{Column, Text, Value};
 use std::alloc::{AllocError, Global};
 
 /// The declared name of the stream at a place in the order of FROM. Where there is no such place it is empty.
@@ -138,7 +141,7 @@ fn log_short(
     logged: u64,
     found: u64,
 ) -> Result<Stop, AllocError>
-    ensures { IfOk result (λ stop. stop ≡ stop_of_cause streams.now (Cause.LogShort stream part logged found)) }
+    ensures { IfOk result (λ own. own ≡ stop.LogShort (name_of streams.now stream) part logged found) }
 {
     Ok(Stop::LogShort {
         stream: name_of(alloc, streams, stream as usize)?,
@@ -189,7 +192,7 @@ fn bad_line(
     offset: u64,
     fault: RowFault,
 ) -> Result<Stop, AllocError>
-    ensures { IfOk result (λ stop. stop ≡ stop_of_cause streams.now (Cause.BadLine stream part offset fault)) }
+    ensures { IfOk result (λ own. own ≡ stop.BadLine (name_of streams.now stream) part offset (wrong_of (columns_of streams.now stream) fault)) }
 {
     let wrong = wrong_of(alloc, columns_of(streams, stream as usize), fault)?;
     Ok(Stop::BadLine {
@@ -200,9 +203,18 @@ fn bad_line(
     })
 }
 
+/// The stop where a key overflows.
+fn key_overflow(alloc: Global, key: &[Value]) -> Result<Stop, AllocError>
+    ensures { IfOk result (λ own. own ≡ stop.KeyOverflow (key_text key.now)) }
+{
+    Ok(Stop::KeyOverflow {
+        key: key_text(alloc, key)?,
+    })
+}
+
 /// The stop where a round stopped.
 fn stop_of_cause(alloc: Global, streams: &[Stream], cause: Cause) -> Result<Stop, AllocError>
-    ensures { IfOk result (λ stop. stop ≡ stop_of_cause streams.now cause) }
+    ensures { IfOk result (λ own. own ≡ stop_of_cause streams.now cause) }
 {
     match cause {
         Cause::BadLine {
@@ -220,6 +232,7 @@ fn stop_of_cause(alloc: Global, streams: &[Stream], cause: Cause) -> Result<Stop
             part,
             offset,
         }),
+        Cause::KeyOverflow => key_overflow(alloc, &[]),
         Cause::LogFault => Ok(Stop::LogFault),
         Cause::LogShort {
             stream,
@@ -248,6 +261,7 @@ fn stop_of_run(
         RunFault::Lines(fault) => stop_of_lines(alloc, streams, counts, fault),
         RunFault::Open(fault) => stop_of_open(alloc, streams, fault),
         RunFault::Round(cause) => stop_of_cause(alloc, streams, cause),
+        RunFault::KeyOverflow { key } => key_overflow(alloc, key.as_slice()),
         RunFault::OutFault => Ok(Stop::OutFault),
         RunFault::NoMemory => Ok(Stop::NoMemory),
     }

@@ -1,10 +1,11 @@
 //! The top call of the engine: `stream_main` does all that the program does, over the traits of the outside.
 //!
 //! The definitions are in `specs/`: `Program` says how the program ends, `Going` what it promises, `Stopping` why it stops and with which
-//! status, `Lines` what it tells.
+//! status, `Lines` what it tells, `Keys` how a key is told.
 #![tactic(auto)]
 
 mod faults;
+mod key;
 mod obey;
 mod prepare;
 mod status;

@@ -8,12 +8,12 @@ ghost use Rattle.ssq_core.specs.Standing.{Stands};
 ghost use Rattle.ssq_course.specs.Setting.{Setting as SettingOf, job_of};
 ghost use Rattle.ssq_bind.specs.Explained.{explained};
 ghost use Rattle.ssq_board.specs.Rounds.{HasCap};
-ghost use Rattle.ssq_terms.specs.Setting.{IsPlain};
+ghost use Rattle.ssq_terms.specs.Setting.{CanRun};
 ghost use Rattle.ssq_runner.specs.Sources.{IsSettingFor};
 ghost use Rattle.ssq_words.specs.Asking.{asked_of, asks_run, IsInRange};
 ghost use Rattle.ssq_run.specs.declared.stop.Stop.TheVariants.{NoMemory};
 ghost use Rattle.ssq_run.specs.Looked.{LookEnd};
-ghost use Rattle.ssq_run.specs.Queries.{KeepsNothing};
+ghost use Rattle.ssq_run.specs.Queries.{CanRunIfAsked};
 ghost use Rattle.ssq_run.specs.Program.{HasObeyed, HasRun, went_of};
 ghost use Rattle.ssq_run.specs.Stopping.{HasCount, IsPastWords, stop_in};
 
@@ -91,8 +91,7 @@ fn run<D: Disk, I: Inputs, O: Output, G: Gate>(
     inputs: &mut I,
     out: &mut O,
 ) -> Done<D>
-    requires plain { IsPlain bound.now }
-    requires few { length bound.now.streams ≤ 2 }
+    requires can { CanRun bound.now }
     requires partitions { ForSome ask.partitions (λ count. (1 ≤ count) × (count ≤ 64)) }
     requires cap { HasCap ask.cap }
     requires rounds { 1 ≤ ask.rounds }
@@ -128,7 +127,7 @@ pub(crate) fn obey<D: Disk, I: Inputs, O: Output, G: Gate>(
     inputs: &mut I,
     out: &mut O,
 ) -> Done<D>
-    requires plain { KeepsNothing (asked_of command) bound.now }
+    requires can { CanRunIfAsked (asked_of command) bound.now }
     requires few { length bound.now.streams ≤ 2 }
     requires in_range { IsInRange command }
     ensures obeyed { D.tells → I.tells → HasObeyed I.tells (D.tells × I.Log.tells) I.Log.lines I.Log.available I.Log.answers I.Log.faults (I.held inputs.old) (I.available inputs.old) bound.now O.tells

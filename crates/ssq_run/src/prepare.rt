@@ -2,11 +2,11 @@
 
 ghost use Rattle.std.specs.Prelude.{◌≡◌, ◌≤◌, List, ℕ, length, take, Err, IfOk, IfErr};
 ghost use Rattle.ssq_accept.specs.Accepting.{IsAccepted, IsRefused, IsKnown, IsUnknown};
-ghost use Rattle.ssq_terms.specs.Setting.{IsPlain};
+ghost use Rattle.ssq_terms.specs.Setting.{CanRun};
 ghost use Rattle.ssq_words.specs.Asking.{asked_of};
 ghost use Rattle.ssq_ast.specs.declared.query.Query.{Query as QueryOf};
 ghost use Rattle.ssq_run.specs.Program.{file_of};
-ghost use Rattle.ssq_run.specs.Queries.{IsQueryFor, KeepsNothing};
+ghost use Rattle.ssq_run.specs.Queries.{IsQueryFor, CanRunIfAsked};
 ghost use Rattle.ssq_run.specs.Stopping.{HasCount, IsPastWords, IsUnread, stop_in};
 
 use crate::stop::Stop;
@@ -31,9 +31,10 @@ fn file_of<'a>(command: Command<'a>) -> &'a str
 }
 
 /// The query that is run.
+#[tactic(auto, using(crate::proofs::Runnable::can_run))]
 fn run_query(alloc: Global, bytes: &[u8]) -> Result<Bound, Refusal>
     ensures accepted { IfOk result (λ bound. (query : QueryOf) × IsAccepted bytes.now query bound) }
-    ensures plain { IfOk result IsPlain }
+    ensures can { IfOk result CanRun }
     ensures few { IfOk result (λ bound. length bound.streams ≤ 2) }
     ensures refused { IfErr result (IsRefused bytes.now) }
 {
@@ -58,7 +59,7 @@ pub(crate) fn read_query<I: Inputs>(
     command: Command<'_>,
 ) -> Result<Bound, Stop>
     ensures is { I.tells → IfOk result (IsQueryFor (I.held inputs.old) (asked_of command.entry)) }
-    ensures plain { IfOk result (KeepsNothing (asked_of command.entry)) }
+    ensures can { IfOk result (CanRunIfAsked (asked_of command.entry)) }
     ensures few { IfOk result (λ bound. length bound.streams ≤ 2) }
     ensures unread { I.tells → IfErr result (IsUnread (I.held inputs.old) (asked_of command.entry)) }
     ensures held { I.tells → I.held inputs.new ≡ I.held inputs.old }

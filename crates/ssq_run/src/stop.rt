@@ -62,6 +62,11 @@ pub enum Stop {
         part: u32,
         offset: u64,
     },
+    /// No line of a planned epoch that shows nothing is a fault, and on this key, the least such, a result is outside its range. The key is
+    /// told as a JSON array of its values.
+    KeyOverflow {
+        key: Text,
+    },
     /// The inputs failed, or a log.
     LogFault,
     /// The disk failed.
@@ -120,6 +125,7 @@ impl Stop {
             Stop::Refused(_) => 3,
             Stop::BadLine { .. } => 4,
             Stop::Overflow { .. } => 5,
+            Stop::KeyOverflow { .. } => 5,
             Stop::LogFault => 6,
             Stop::DiskFault => 7,
             Stop::OutFault => 8,
@@ -162,6 +168,7 @@ impl fmt::Display for Stop {
                 part,
                 offset,
             } => write!(f, "stopped 5 Overflow {} {part} {offset}", stream.as_str()),
+            Stop::KeyOverflow { key } => write!(f, "stopped 5 Overflow key {}", key.as_str()),
             Stop::LogFault => write!(f, "stopped 6 LogFault"),
             Stop::DiskFault => write!(f, "stopped 7 DiskFault"),
             Stop::OutFault => write!(f, "stopped 8 OutFault"),

@@ -1,17 +1,25 @@
 //! The top call.
 
-ghost use Rattle.std.specs.Prelude.{◌≡◌, ◌≢◌, ◌≤◌, ◌⊎◌, ℕ, None, map, string_bytes};
+ghost use Rattle.std.specs.Prelude.{◌≡◌, ◌≢◌, ◌<◌, ◌≤◌, ◌⊎◌, ℕ, true, None, All, map, string_bytes};
 ghost use Rattle.std.specs.List.Sorted.{IsPermutation};
+ghost use Rattle.ssq_shape.specs.declared.bound.Grouping.{Grouping as GroupingOf};
+ghost use Rattle.ssq_shape.specs.declared.bound.Mode.TheVariants as mode;
 ghost use Rattle.ssq_shape.specs.declared.bound.Shape.TheVariants as shape;
 ghost use Rattle.ssq_meaning.specs.Cut.{Cuts as OffsetsOf, AreCuts};
+ghost use Rattle.ssq_meaning.specs.Epochs.{accepted, key_fault, on_time, watermark, watermark_before};
+ghost use Rattle.ssq_meaning.specs.Group.{has_key, is_closed};
+ghost use Rattle.ssq_meaning.specs.GroupLaws.{IsWholeAt, meaning_at, times_considered};
 ghost use Rattle.ssq_meaning.specs.Laws.{outs, batch};
+ghost use Rattle.ssq_meaning.specs.Meaning.{Values as ValuesOf};
+ghost use Rattle.ssq_meaning.specs.Table.{table};
+ghost use Rattle.ssq_meaning.specs.Times.{AtMost};
 ghost use Rattle.ssq_outside.specs.Faults.{Rises};
 ghost use Rattle.ssq_outside.specs.History.{LeavesNow, LeavesOnly};
 ghost use Rattle.ssq_core.specs.Sound.{StandsOrEmpty};
 ghost use Rattle.ssq_core.specs.Standing.{Stands};
 ghost use Rattle.ssq_course.specs.Setting.{Setting as SettingOf, parts_in, job_of};
 ghost use Rattle.ssq_words.specs.Asking.{asked};
-ghost use Rattle.ssq_run.specs.Going.{IsAskedFor, CanGoOn, HasRoom, IsFaultless, CanLook, NoneFailed, IsDone, IsDoneToALine};
+ghost use Rattle.ssq_run.specs.Going.{IsAskedFor, CanGoOn, HasRoom, IsFaultless, CanLook, NoneFailed, IsDone, IsDoneToAFault};
 ghost use Rattle.ssq_run.specs.Program.{went_of, ProgramEnd, ProgramWrote};
 ghost use Rattle.ssq_run.specs.Stopping.{stop_in, HasCount, WordsCause};
 
@@ -20,7 +28,10 @@ use crate::prepare::read_query;
 use crate::stop::Stop;
 use crate::tell::tell;
 use ssq_accept::files_have_one_answer;
-use ssq_meaning::rows_add_up;
+use ssq_meaning::{
+    forgotten_groups_lose_no_row, groups_in_append_add_up, groups_in_complete_are_shown_whole,
+    groups_in_update_replace_their_rows, rows_add_up, watermarks_never_fall,
+};
 use ssq_outside::{Disk, Gate, Inputs, Output};
 use ssq_runner::runs_go_on;
 use ssq_terms::job_is_wanted;
@@ -78,7 +89,7 @@ fn work<D: Disk, I: Inputs, O: Output, G: Gate>(
 /// come. Both change nothing.
 ///
 /// A refusal is one line, and its number is the status: 2, the words are none of these; 3, the file is no query that is run; 4
-/// and 5, the first line of the planned epoch that is bad or overflows; 6, 7 and 8, the inputs, the disk or the output failed; 9, the
+/// and 5, the first line of the planned epoch that is bad or overflows, or where none is the least key that overflows; 6, 7 and 8, the inputs, the disk or the output failed; 9, the
 /// checkpoint is not of this query, these partitions and these parts, is damaged, or a log has lost lines; 10, memory ran out; 11, a limit is
 /// met.
 pub fn stream_main<R: Threads + Wait + Sync, D: Disk, I: Inputs, O: Output, G: Gate>(
@@ -103,6 +114,25 @@ pub fn stream_main<R: Threads + Wait + Sync, D: Disk, I: Inputs, O: Output, G: G
     ensures adds_up { (s : SettingOf) (cuts : OffsetsOf) (n : ℕ) → s.job.bound.shape ≡ shape.Plain → AreCuts (parts_in s) cuts n →
         IsPermutation (outs s.job.bound (parts_in s) cuts n) (batch s.job.bound (parts_in s) (cuts n)) }
 
+    // What a query that groups its rows means after so many epochs is the batch query over all rows of these that were not late: in Append on the
+    // groups that are closed by then. In Append that is what the epochs show, one after the other, each row as often, and each such group was
+    // considered by exactly one of them; in Complete it is what the last one shows.
+    ensures groups_add_up { (s : SettingOf) (grouping : GroupingOf) (cuts : OffsetsOf) (n : ℕ) → s.job.bound.shape ≡ shape.Group grouping → s.job.bound.mode ≡ mode.Append →
+        IsPermutation (outs s.job.bound (parts_in s) cuts n) (meaning_at s.job.bound grouping (parts_in s) cuts n) }
+    ensures groups_come_once { (s : SettingOf) (grouping : GroupingOf) (cuts : OffsetsOf) (n : ℕ) (key : ValuesOf) → s.job.bound.shape ≡ shape.Group grouping → s.job.bound.mode ≡ mode.Append →
+        has_key (accepted s.job.bound (parts_in s) cuts n) key ≡ true → is_closed s.job.bound grouping (watermark_before s.job.bound (parts_in s) cuts n) key ≡ true →
+        times_considered s.job.bound grouping (parts_in s) cuts key n ≡ 1 }
+    ensures groups_are_whole { (s : SettingOf) (grouping : GroupingOf) (cuts : OffsetsOf) (n : ℕ) → s.job.bound.shape ≡ shape.Group grouping → s.job.bound.mode ≡ mode.Complete →
+        IsPermutation (table s.job.bound (parts_in s) cuts n) (meaning_at s.job.bound grouping (parts_in s) cuts n) }
+    // And in Update it is the last row of each key, for the query that is to be run, where no key overflows.
+    ensures groups_are_replaced { (s : SettingOf) (grouping : GroupingOf) (cuts : OffsetsOf) (n : ℕ) → IsAskedFor (record { words = map string_bytes words.now; held = I.held inputs; known = I.available inputs }) (D.history disk) s →
+        s.job.bound.shape ≡ shape.Group grouping → s.job.bound.mode ≡ mode.Update → ((e : ℕ) → e < n → key_fault s.job.bound (parts_in s) cuts e ≡ None) →
+        IsPermutation (table s.job.bound (parts_in s) cuts n) (meaning_at s.job.bound grouping (parts_in s) cuts n) }
+    // No row that is not late comes after its group was forgotten: what is kept of the group has each of its rows. And watermarks never fall.
+    ensures groups_lose_no_row { (s : SettingOf) (grouping : GroupingOf) (cuts : OffsetsOf) (e : ℕ) → s.job.bound.shape ≡ shape.Group grouping →
+        All (λ row. IsWholeAt s.job.bound grouping (parts_in s) cuts e row.key) (on_time s.job.bound (parts_in s) cuts e) }
+    ensures watermarks_rise { (s : SettingOf) (cuts : OffsetsOf) (e f : ℕ) → e ≤ f → AtMost (watermark s.job.bound (parts_in s) cuts e) (watermark s.job.bound (parts_in s) cuts f) }
+
     // How it ends, in the order of its work: what is left on the disk, which logs came back, what was written, and why.
     ensures ending { D.tells → I.tells → ProgramWrote I.tells (D.tells × I.Log.tells) I.Log.lines I.Log.available I.Log.answers I.Log.faults
         (record { words = map string_bytes words.now; held = I.held inputs; known = I.available inputs })
@@ -114,11 +144,11 @@ pub fn stream_main<R: Threads + Wait + Sync, D: Disk, I: Inputs, O: Output, G: G
         (record { words = map string_bytes words.now; held = I.held inputs; known = I.available inputs }) (D.history disk) → result.status ≢ 9 }
 
     // And these are all the ways to end. Where the outside did not fail, it is done to its end, or memory ran out: for a run that can go
-    // on with no limit in its way, unless a line is a fault; and for a look at a checkpoint that stands or is empty.
-    ensures is_done_to_a_line { D.tells → I.tells → HasRoom
+    // on with no limit in its way, unless a line or a key is a fault; and for a look at a checkpoint that stands or is empty.
+    ensures is_done_to_a_fault { D.tells → I.tells → HasRoom
         (record { words = map string_bytes words.now; held = I.held inputs; known = I.available inputs }) (D.history disk) →
         NoneFailed (I.faults inputs) (I.faults result.inputs) (D.faults disk) (D.faults result.disk) (O.faults out) (O.faults result.out) →
-        IsDoneToALine result.status }
+        IsDoneToAFault result.status }
     ensures is_done { D.tells → I.tells → IsFaultless
         (record { words = map string_bytes words.now; held = I.held inputs; known = I.available inputs }) (D.history disk) →
         NoneFailed (I.faults inputs) (I.faults result.inputs) (D.faults disk) (D.faults result.disk) (O.faults out) (O.faults result.out) →
@@ -139,6 +169,11 @@ pub fn stream_main<R: Threads + Wait + Sync, D: Disk, I: Inputs, O: Output, G: G
 {
     runs_go_on::<D, I, O>();
     rows_add_up();
+    groups_in_append_add_up();
+    groups_in_complete_are_shown_whole();
+    groups_in_update_replace_their_rows();
+    forgotten_groups_lose_no_row();
+    watermarks_never_fall();
     files_have_one_answer();
     job_is_wanted();
     let mut inputs = inputs;

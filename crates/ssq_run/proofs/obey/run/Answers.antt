@@ -3,7 +3,6 @@ use Rattle.ssq_shape.specs.declared.bound.Stream.{Stream}
 use Rattle.ssq_logs.specs.Parts.{counts_in}
 use Rattle.ssq_run.specs.Stopping.{stop_in, stop_of_end, IsToldAs}
 use Rattle.ssq_run.proofs.Passing.{told_counts, told_past, told_by_parts}
-use Rattle.ssq_run.proofs.obey.run.Given.{Over}
 use Rattle.ssq_run.proofs.obey.run.Goals as goal
 
 pub returns-clause-has_run : goal.returns-clause-has_run

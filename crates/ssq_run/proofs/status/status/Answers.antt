@@ -1,4 +1,4 @@
-use Rattle.std.proofs.Common.{◌≡◌, ◌≤◌, ◌^◌, ◌∙◌, List, ℕ, Option, Some, refl, ap, subst, arith, length}
+use Rattle.std.proofs.Common.{◌≡◌, ◌∙◌, List, Option, Some, refl, ap, subst, arith, length}
 use Rattle.std.specs.Prelude.{IfSome}
 use Rattle.ssq_outside.specs.History.{files_now}
 use Rattle.ssq_shape.specs.declared.bound.Stream.{Stream}

@@ -1,7 +1,9 @@
 use Rattle.std.proofs.Common.{map, string_bytes}
 use Rattle.ssq_run.specs.Program.{Given, went_of}
 use Rattle.ssq_run.specs.Stopping.{stop_in}
+use Rattle.ssq_course.specs.Setting.{parts_in}
 use Rattle.ssq_run.proofs.Going as going
+use Rattle.ssq_run.proofs.ShownKeys.{asked_shows_keys}
 use Rattle.ssq_run.proofs.Looking.{looked_well}
 use Rattle.ssq_run.proofs.Telling.{status_since, wrote_since, usage_told, no_command_told, log_told, disk_told, out_told}
 use Rattle.ssq_run.proofs.stream.stream_main.Goals as goal
@@ -38,10 +40,10 @@ returns-clause-goes_on g c = λ tells told can.
     (went_of (g.D.Disk.history c.args.disk) (g.D.Disk.history c.work-disk.result.disk) (g.D.Disk.faults c.args.disk) (g.D.Disk.faults c.work-disk.result.disk) (g.I.Inputs.returned c.args.inputs) (g.I.Inputs.returned c.work-disk.new.inputs) (g.O.Output.content c.args.out) (g.O.Output.content c.work-disk.new.out) c.work-disk.result.text.items)
     (stop_in c.work-disk.result.end) told (tells, g.met.I.Inputs.logs_tell told) c.files_have_one_answer.ensures.accepted (c.work-disk.ensures.end tells told) _ _ _ c.tell-status.ensures.status c.runs_go_on.ensures.goes_on can
 
-pub returns-clause-is_done_to_a_line : goal.returns-clause-is_done_to_a_line
-returns-clause-is_done_to_a_line g c = λ tells told room none.
+pub returns-clause-is_done_to_a_fault : goal.returns-clause-is_done_to_a_fault
+returns-clause-is_done_to_a_fault g c = λ tells told room none.
     let given : Given = record { words = map string_bytes c.args.words.now; held = g.I.Inputs.held c.args.inputs; known = g.I.Inputs.available c.args.inputs } in
-    going.done_to_a_line g.I.Inputs.tells (g.D.Disk.tells × g.I.Log.Log.tells) g.I.Log.Log.lines g.I.Log.Log.available g.I.Log.Log.answers g.I.Log.Log.faults given g.O.Output.tells
+    going.done_to_a_fault g.I.Inputs.tells (g.D.Disk.tells × g.I.Log.Log.tells) g.I.Log.Log.lines g.I.Log.Log.available g.I.Log.Log.answers g.I.Log.Log.faults given g.O.Output.tells
     (went_of (g.D.Disk.history c.args.disk) (g.D.Disk.history c.work-disk.result.disk) (g.D.Disk.faults c.args.disk) (g.D.Disk.faults c.work-disk.result.disk) (g.I.Inputs.returned c.args.inputs) (g.I.Inputs.returned c.work-disk.new.inputs) (g.O.Output.content c.args.out) (g.O.Output.content c.work-disk.new.out) c.work-disk.result.text.items)
     (stop_in c.work-disk.result.end) told (tells, g.met.I.Inputs.logs_tell told) c.files_have_one_answer.ensures.accepted (c.work-disk.ensures.end tells told) _ _ _ c.tell-status.ensures.status
     _ _ _ _ _ _ none
@@ -73,3 +75,22 @@ returns-clause-is_told g c = λ tells told can none.
     (disk_told _ _ _ _ _ _ (stop_in c.work-disk.result.end) _ _ _ c.work-disk.ensures.cause c.tell-status.ensures.status)
     (out_told _ _ _ _ _ _ (stop_in c.work-disk.result.end) _ _ c.work-disk.ensures.cause c.work-disk.ensures.counted c.tell-status.ensures.counted c.tell-status.ensures.status)
     (c.work-disk.ensures.end tells told)
+
+pub returns-clause-groups_add_up : goal.returns-clause-groups_add_up
+returns-clause-groups_add_up g c = λ s grouping cuts n is append. c.groups_in_append_add_up.ensures.rows s.job.bound grouping is (parts_in s) cuts append n
+
+pub returns-clause-groups_come_once : goal.returns-clause-groups_come_once
+returns-clause-groups_come_once g c = λ s grouping cuts n key is append has closed. c.groups_in_append_add_up.ensures.once s.job.bound grouping is (parts_in s) cuts append key n has closed
+
+pub returns-clause-groups_are_whole : goal.returns-clause-groups_are_whole
+returns-clause-groups_are_whole g c = λ s grouping cuts n is complete. c.groups_in_complete_are_shown_whole.ensures s.job.bound grouping is (parts_in s) cuts complete n
+
+pub returns-clause-groups_are_replaced : goal.returns-clause-groups_are_replaced
+returns-clause-groups_are_replaced g c = λ s grouping cuts n of is update clean.
+    c.groups_in_update_replace_their_rows.ensures s.job.bound grouping is (parts_in s) cuts update (asked_shows_keys _ _ s grouping of is update) n clean
+
+pub returns-clause-groups_lose_no_row : goal.returns-clause-groups_lose_no_row
+returns-clause-groups_lose_no_row g c = λ s grouping cuts e is. c.forgotten_groups_lose_no_row.ensures.whole s.job.bound grouping is (parts_in s) cuts e
+
+pub returns-clause-watermarks_rise : goal.returns-clause-watermarks_rise
+returns-clause-watermarks_rise g c = λ s cuts e f later. c.watermarks_never_fall.ensures s.job.bound (parts_in s) cuts e f later

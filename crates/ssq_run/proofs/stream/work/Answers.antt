@@ -1,14 +1,12 @@
 use Rattle.std.proofs.Common.{List, ℕ, ap, map, subst, string_bytes, refl}
 use Rattle.ssq_core.specs.Sound.{StandsOrEmpty}
 use Rattle.ssq_core.specs.Standing.{Stands}
-use Rattle.ssq_course.specs.Setting.{Setting, job_of}
+use Rattle.ssq_course.specs.Setting.{job_of}
 use Rattle.ssq_words.specs.Asking.{asked_of}
-use Rattle.ssq_run.specs.Going.{IsAskedFor}
 use Rattle.ssq_run.specs.Program.{Given, HasObeyed, went_of}
 use Rattle.ssq_run.specs.Stopping.{stop_in}
 use Rattle.ssq_run.proofs.Going.{is_here}
 use Rattle.ssq_run.proofs.Passing.{obeyed_end, read_end, idle_of, same_leaves}
-use Rattle.ssq_run.proofs.stream.work.Given.{Over}
 use Rattle.ssq_run.proofs.stream.work.Goals as goal
 
 pub returns-in-Ok-read_query-clause-end : goal.returns-in-Ok-read_query-clause-end

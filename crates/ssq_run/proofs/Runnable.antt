@@ -1,0 +1,43 @@
+-- A query that is accepted can be run.
+use Rattle.std.proofs.Common.{ℕ, ◌≤ℤ◌, ℤ, pos, List, Option, Some, None, IfSome, arith}
+use Rattle.std.specs.List.{All}
+use Rattle.std.proofs.lemmas.List.Elements.{All-weaker}
+use Rattle.ssq_time.specs.Time.{IsSpan}
+use Rattle.ssq_ast.specs.declared.query.Query.{Query}
+use Rattle.ssq_shape.specs.declared.bound.Bound.{Bound}
+use Rattle.ssq_shape.specs.declared.bound.Shape.{Shape}
+use Rattle.ssq_shape.specs.declared.bound.Shape.TheVariants as shape
+use Rattle.ssq_shape.specs.declared.bound.Stream.{Stream}
+use Rattle.ssq_bind.specs.Delays.{HasSpan}
+use Rattle.ssq_bind.specs.Limits.{IsLimitedBy}
+use Rattle.ssq_water.specs.Water.{IsDelay}
+use Rattle.ssq_accept.specs.Accepting.{Runs as IsRunShape, IsAccepted}
+use Rattle.ssq_terms.specs.Setting.{Runs, CanRun}
+
+run_shape : (own : Shape) → IsRunShape own → IsLimitedBy own → Runs own
+run_shape shape.Plain runs limits = tt
+run_shape (shape.Group grouping) runs limits = record { keys = limits.keys; aggregates = limits.aggregates }
+run_shape (shape.Dedup columns) runs limits = absurd runs
+run_shape (shape.Join joining) runs limits = absurd runs
+
+-- a span is a delay
+at_least_none : (span : ℤ) → pos 1_000_000 ≤ℤ span → pos 0 ≤ℤ span
+at_least_none span least = grind arith
+
+span_delay : (span : ℤ) → IsSpan span → IsDelay span
+span_delay span is = (at_least_none span is.0, is.1)
+
+stream_delay : (delay : Option ℤ) → IfSome delay IsSpan → IfSome delay IsDelay
+stream_delay None is = tt
+stream_delay (Some span) is = span_delay span is
+
+pub can_run : (file : List ℕ) (query : Query) (bound : Bound) → IsAccepted file query bound → CanRun bound
+can_run file query bound is = record {
+  shape = run_shape bound.shape is.shape is.names.limits;
+  few_streams = is.names.sound.few_streams;
+  utf8 = is.names.sound.utf8;
+  few = is.names.sound.few_bytes;
+  delays = All-weaker HasSpan (λ (stream : Stream). IfSome stream.delay IsDelay) (λ stream has. stream_delay stream.delay has) bound.streams is.delays;
+  windows = is.windows;
+  events = is.names.sound.events;
+}
