@@ -285,6 +285,7 @@ def trial(folder, job, kills, chance):
     assert epochs.next_cut() is None, f"not each line is in an epoch, or a window is left to be closed: {epochs.cuts[-1:]}"
     checkpoint.judge_end(commits)
     found["late"] = sum(len(epochs.fed(e)) - len(epochs.on_time(e)) for e in range(plans))
+    found["equal"] = sum(row.time is not None and row.time == epochs.watermark(e) for e in range(plans) for row in epochs.fed(e))
     found["closing"] = sum(epochs.begin(e) == epochs.cuts[e] for e in range(plans))
     return found
 
@@ -346,7 +347,7 @@ def main():
     print(f"{killed} runs killed over {over}, seed {ask.seed}: {number} checkpoints, {found['early']} epochs told before a kill,")
     print(f"{found['opened']} planned and not committed at a kill, {found['epochs']} epochs in all, each file right")
     if ask.shape == "group":
-        print(f"{found['late']} rows late, {found['closing']} epochs without lines")
+        print(f"{found['late']} rows late, {found['equal']} of them at the watermark itself, {found['closing']} epochs without lines")
 
 
 if __name__ == "__main__":

@@ -394,7 +394,7 @@ class Complete(unittest.TestCase):
 
 class Examples(unittest.TestCase):
     def judge(self, name, query, most):
-        folder = next(path for path in ROOT.glob(f"examples*/{name}"))
+        folder = ROOT / "examples" / name
         self.assertEqual((folder / "query.sql").read_text().split(), query.text.split())
         (log,) = folder.glob("*.jsonl")
         self.assertIn(f"--max-lines {most}", (folder / "words").read_text())

@@ -78,11 +78,11 @@ static MODES: [(&str, &str); 20] = [
     ),
     (
         "CREATE STREAM s (ts TIMESTAMP) FROM 's' WATERMARK FOR ts DELAY '10 minutes'; SELECT window_start, COUNT(*) AS n FROM s GROUP BY WINDOW(ts, '5 minutes') OUTPUT APPEND;",
-        "NotYet Group",
+        "accepted",
     ),
     (
         "CREATE STREAM s (k STRING, v BIGINT) FROM 's'; SELECT k, SUM(v) AS t FROM s WHERE v > 0 GROUP BY k OUTPUT UPDATE;",
-        "NotYet Group",
+        "accepted",
     ),
 ];
 
@@ -94,7 +94,7 @@ fn modes_are_refused(rt: HostRuntime) -> Result<(), Fail> {
 static MORE_MODES: [(&str, &str); 14] = [
     (
         "CREATE STREAM s (k STRING) FROM 's'; SELECT k, COUNT(*) AS n FROM s GROUP BY k ORDER BY n DESC OUTPUT COMPLETE;",
-        "NotYet Group",
+        "accepted",
     ),
     (
         "CREATE STREAM s (id BIGINT, ts TIMESTAMP, src STRING) FROM 's' WATERMARK FOR ts DELAY '10 minutes'; SELECT id, src FROM s DEDUPLICATE BY id, ts OUTPUT APPEND;",

@@ -3,6 +3,10 @@
 #![tactic(auto)]
 
 #[cfg(test)]
+mod group_tests;
+#[cfg(test)]
+mod grouped;
+#[cfg(test)]
 mod rows;
 #[cfg(test)]
 mod tests;

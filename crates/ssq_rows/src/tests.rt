@@ -1,8 +1,8 @@
 //! Runs of the rows, and of some of them with faults and crashes.
 
 use crate::rows::{
-    BY_TWO, COMMIT_0, DONE, FAULT, FILTER, Files, META, OUT_0, OUT_1, PLAN_0, QA, REFUSED, RUN,
-    Row, THREE, TOLD, WORKED,
+    BY_TWO, COMMIT_0, DONE, FAULT, FILTER, Files, META, OUT_0, OUT_1, PLAN_0, REFUSED, RUN, Row,
+    THREE, TOLD, WORKED,
 };
 use ssq_fakes::{FailAt, MemDisk, MemInputs, MemLog, MemOut, OpenGate};
 use ssq_files::{FolderDisk, FolderInputs};
@@ -28,7 +28,7 @@ fn words_of(alloc: Global, words: &[&str]) -> Result<Vec<String>, AllocError> {
 }
 
 /// A disk on which these files are settled.
-fn disk_of(alloc: Global, files: Files) -> Result<MemDisk, DiskError> {
+pub(crate) fn disk_of(alloc: Global, files: Files) -> Result<MemDisk, DiskError> {
     let mut disk = MemDisk::new(alloc);
     for (name, bytes) in files {
         let mut stage = disk.stage(alloc)?;
@@ -65,7 +65,7 @@ fn run<R: Threads + Wait + Sync>(
 }
 
 /// Runs a row over a disk, with logs and an output that never fail.
-fn run_on<R: Threads + Wait + Sync>(
+pub(crate) fn run_on<R: Threads + Wait + Sync>(
     rt: &R,
     alloc: Global,
     row: &Row,
@@ -90,7 +90,7 @@ fn run_log<R: Threads + Wait + Sync>(
 }
 
 /// Whether the disk has exactly these files.
-fn holds<D: Disk>(alloc: Global, disk: &mut D, files: &[(Name, &[u8])]) -> bool {
+pub(crate) fn holds<D: Disk>(alloc: Global, disk: &mut D, files: &[(Name, &[u8])]) -> bool {
     let Ok(names) = disk.names(alloc) else {
         return false;
     };
@@ -106,7 +106,7 @@ fn holds<D: Disk>(alloc: Global, disk: &mut D, files: &[(Name, &[u8])]) -> bool 
 }
 
 /// Whether the disk has this file.
-fn has<D: Disk>(alloc: Global, disk: &mut D, file: (Name, &[u8])) -> bool {
+pub(crate) fn has<D: Disk>(alloc: Global, disk: &mut D, file: (Name, &[u8])) -> bool {
     match disk.read(alloc, file.0) {
         Ok(Some(read)) => read.as_slice() == file.1,
         _ => false,
@@ -114,7 +114,7 @@ fn has<D: Disk>(alloc: Global, disk: &mut D, file: (Name, &[u8])) -> bool {
 }
 
 /// Whether a run of the row over the disk ends as the row says.
-fn ends_so<R: Threads + Wait + Sync>(
+pub(crate) fn ends_so<R: Threads + Wait + Sync>(
     rt: &R,
     alloc: Global,
     row: &Row,
@@ -150,7 +150,7 @@ fn refusals_are_told(rt: HostRuntime) -> Result<(), Fail> {
 }
 
 /// The lines that tell why queries are not run, for each rule of modes and for what is not run yet.
-static UNRUN: [(&[u8], &[u8]); 12] = [
+static UNRUN: [(&[u8], &[u8]); 13] = [
     (
         b"CREATE STREAM s (ts TIMESTAMP) FROM 's'; SELECT window_start, COUNT(*) AS n FROM s GROUP BY WINDOW(ts, '5 minutes') OUTPUT APPEND;",
         b"stopped 3 AppendNeedsWatermark\n",
@@ -191,7 +191,14 @@ static UNRUN: [(&[u8], &[u8]); 12] = [
         b"CREATE STREAM s (id BIGINT) FROM 's';\nSELECT DISTINCT id FROM s OUTPUT APPEND;",
         b"stopped 3 Distinct at 45\n",
     ),
-    (QA, b"stopped 3 NotYet Group\n"),
+    (
+        b"CREATE STREAM s (id BIGINT, ts TIMESTAMP, src STRING) FROM 's' WATERMARK FOR ts DELAY '10 minutes'; SELECT id, src FROM s DEDUPLICATE BY id, ts OUTPUT APPEND;",
+        b"stopped 3 NotYet Dedup\n",
+    ),
+    (
+        b"CREATE STREAM l (id BIGINT, t TIMESTAMP) FROM 'l' WATERMARK FOR t DELAY '10 minutes'; CREATE STREAM r (id BIGINT, t TIMESTAMP) FROM 'r' WATERMARK FOR t DELAY '10 minutes'; SELECT l.id, l.t AS lt, r.t AS rt FROM l JOIN r ON l.id = r.id AND r.t BETWEEN l.t AND l.t + INTERVAL '1 hour' OUTPUT APPEND;",
+        b"stopped 3 NotYet Join\n",
+    ),
     (b"", b"stopped 3 Expected at 0\n"),
 ];
 

@@ -1,0 +1,291 @@
+#!/usr/bin/env python3
+"""Runs random queries with groups over random logs, and judges every file that they leave.
+
+    python3 tests/queries.py [QUERIES] [SEED]      (100; `make` builds bin/ssq)
+
+Each query has other keys, windows, aggregates, HAVING, ORDER BY, mode and watermark. It runs up to three times, over logs of one to
+three parts that grow in between, in one to five partitions, with a cap or none. Some rows are late, some lines bad, and some results
+overflow. What each run has to print, its status, and each file of the checkpoint are computed from the logs (tests/model.py), and
+compared byte for byte.
+
+It is not part of the gate, since it takes minutes.
+"""
+import argparse
+import collections
+import dataclasses
+import datetime
+import json
+import pathlib
+import random
+import shutil
+import subprocess
+import sys
+import tempfile
+import time
+import typing
+
+import model
+from model import Aggregate, Direction, Epochs, Function, Kind, Mode, Overflow, Query, Window, compare, compute, disjunction
+
+SSQ = pathlib.Path(__file__).resolve().parent.parent / "bin" / "ssq"
+COLUMNS = {"ts": Kind.TIMESTAMP, "k": Kind.STRING, "v": Kind.BIGINT, "b": Kind.BOOLEAN, "u": Kind.TIMESTAMP}
+SECOND = datetime.timedelta(seconds=1)
+START = datetime.datetime(2024, 1, 1)
+MOST = 2**63 - 1
+TEXTS = ["a", "b", "c", "", 'q"\\\n', "é", None]
+BAD_LINES = [b"{", b"[]", b'{"ts":null}', b'{"v":"x","ts":"2024-01-01T00:00:00Z"}', b'{"k":1,"ts":"2024-01-01T00:00:00Z"}']
+
+
+# ---- queries
+
+
+@dataclasses.dataclass
+class Term:
+    """A part of a query's text, and its value."""
+
+    text: str
+    value: typing.Callable
+    kind: Kind = Kind.BIGINT
+
+
+def number(chance):
+    """An argument that is a number."""
+    return chance.choice([
+        Term("v", lambda row: row["v"]),
+        Term("v * 3", lambda row: compute(row["v"], "*", 3)),
+        Term("v % 7", lambda row: compute(row["v"], "%", 7)),
+        Term("v DIV 2 - 1", lambda row: compute(compute(row["v"], "DIV", 2), "-", 1)),
+    ])
+
+
+def column(chance):
+    name = chance.choice(list(COLUMNS))
+    return Term(name, lambda row: row[name], COLUMNS[name])
+
+
+@dataclasses.dataclass
+class Draft:
+    """A query that is made: its aggregates so far, in the order of SELECT and HAVING, and its items with their texts."""
+
+    chance: random.Random
+    aggregates: list = dataclasses.field(default_factory=list)
+    items: dict = dataclasses.field(default_factory=dict)
+    texts: list = dataclasses.field(default_factory=list)
+
+    def aggregate(self):
+        """One aggregate more, as a term of a group."""
+        function, at = self.chance.choice([*Function, Function.SUM]), len(self.aggregates)
+        argument = number(self.chance) if function is Function.SUM else self.chance.choice([number, column])(self.chance)
+        if function is Function.COUNT and self.chance.random() < 0.5:
+            self.aggregates.append(Aggregate(function))
+            return Term("COUNT(*)", lambda group: group[at])
+        self.aggregates.append(Aggregate(function, argument.value))
+        kind = Kind.BIGINT if function is Function.COUNT else argument.kind
+        return Term(f"{function.name}({argument.text})", lambda group: group[at], kind)
+
+    def add(self, name, term):
+        self.texts.append(term.text if term.text == name else f"{term.text} AS {name}")
+        self.items[name] = term.value
+
+    def add_key(self, part):
+        """Shows a part of the key: a window by its start, its end or both."""
+        if isinstance(part, Window):
+            names = self.chance.choice([["window_start"], ["window_end"], ["window_start", "window_end"]])
+        else:
+            names = [part]
+        for name in names:
+            own = f"own_{name}" if self.chance.random() < 0.2 else name
+            self.add(own, Term(name, lambda group, name=name: group[name]))
+
+    def add_aggregate(self, name):
+        term = self.aggregate()
+        if term.kind is Kind.BIGINT and self.chance.random() < 0.25:
+            more = self.chance.choice([1, MOST // 2, MOST - 40])
+            term = Term(f"{term.text} + {more}", lambda group, of=term.value: compute(of(group), "+", more))
+        self.add(name, term)
+
+    def having(self):
+        """A comparison of a number, which now and then overflows."""
+        term = self.aggregate()
+        while term.kind is not Kind.BIGINT:
+            self.aggregates.pop()
+            term = self.aggregate()
+        least = self.chance.randrange(6)
+        if self.chance.random() < 0.2:
+            times = MOST // 4
+            term = Term(f"{term.text} * {times}", lambda group, of=term.value: compute(of(group), "*", times))
+        return Term(f" HAVING {term.text} > {least}", lambda group: compare(term.value(group), ">", least))
+
+
+def made_group(chance):
+    """Some columns, and a window or none."""
+    group = chance.sample(list(COLUMNS), chance.randrange(3))
+    if chance.random() < 0.7:
+        slide = chance.choice([5, 7, 10])
+        size = slide * chance.randrange(1, 4) + chance.choice([0, 0, chance.randrange(slide)])
+        group.append(Window(chance.choice(["ts", "ts", "u"]), size * SECOND, slide * SECOND))
+    chance.shuffle(group)
+    return tuple(group)
+
+
+def has_time(group):
+    return any(part == "ts" or isinstance(part, Window) and part.column == "ts" for part in group)
+
+
+def group_text(part):
+    return f"WINDOW({part.column}, '{part.size // SECOND} seconds', '{part.slide // SECOND} seconds')" if isinstance(part, Window) else part
+
+
+def made_query(chance):
+    mode, delay, group = chance.choice(list(Mode)), chance.choice([None, 1, 5, 10, 30]), made_group(chance)
+    if mode is Mode.APPEND and not (delay and has_time(group)):
+        return made_query(chance)
+    draft = Draft(chance)
+    for part in group:
+        if mode is Mode.UPDATE or chance.random() < 0.8:
+            draft.add_key(part)
+    for at in range(chance.randrange(0 if draft.items else 1, 4)):
+        draft.add_aggregate(f"a{at}")
+    having = draft.having() if mode is not Mode.UPDATE and chance.random() < 0.4 else None
+    least = chance.choice([None, chance.randrange(8)])
+    order = [(name, chance.choice(list(Direction))) for name in chance.sample(list(draft.items), min(2, len(draft.items)))]
+    order = order if mode is Mode.COMPLETE and chance.random() < 0.7 else []
+    text = [
+        f"CREATE STREAM s ({', '.join(f'{name} {kind.name}' for name, kind in COLUMNS.items())}) FROM 's'",
+        f" WATERMARK FOR ts DELAY '{delay} seconds'" if delay else "",
+        f"; SELECT {', '.join(draft.texts)} FROM s",
+        "" if least is None else f" WHERE v IS NULL OR v > {least}",
+        f" GROUP BY {', '.join(map(group_text, group))}" if group else "",
+        having.text if having else "",
+        f" ORDER BY {', '.join(name + ' DESC' * (way is Direction.DESC) for name, way in order)}" if order else "",
+        f" OUTPUT {mode.name};",
+    ]
+    return Query(
+        text="".join(text),
+        columns=COLUMNS,
+        items=draft.items,
+        mode=mode,
+        event="ts" if delay else None,
+        delay=delay * SECOND if delay else None,
+        where=None if least is None else lambda row: disjunction(row["v"] is None, lambda: compare(row["v"], ">", least)),
+        group=group,
+        aggregates=tuple(draft.aggregates),
+        having=having.value if having else None,
+        order=tuple(order),
+    )
+
+
+# ---- logs
+
+
+def made_line(chance, number, wild):
+    """A line whose time is up to 15 seconds from its neighbours'; of a wild log some are bad or great."""
+    if chance.random() < 0.04:
+        return b" \t"
+    if wild and chance.random() < 0.004:
+        return chance.choice(BAD_LINES)
+    at = START + datetime.timedelta(seconds=number // 2 + chance.randrange(-15, 15), milliseconds=chance.choice([0, 0, 0, 500]))
+    v = chance.choice([None, *range(-3, 20)])
+    if wild and chance.random() < 0.01:
+        v = chance.choice([MOST, -MOST - 1, MOST // 2, -MOST // 3])
+    u = chance.choice([None, model.stamp(START + chance.randrange(40) * SECOND)])
+    line = {"ts": model.stamp(at), "k": chance.choice(TEXTS), "v": v, "b": chance.choice([True, False, None]), "u": u}
+    present = {name: value for name, value in line.items() if value is not None or chance.random() < 0.5}
+    return json.dumps(present, ensure_ascii=chance.random() < 0.5).encode()
+
+
+# ---- runs
+
+
+def wanted_files(epochs):
+    """Each file that a run leaves that was let end, and the number of commits. Of an epoch that stops by a key the partitions in which
+    no key overflows have written what changed."""
+    files, commits = {"metadata": epochs.meta()}, 0
+    for e in range(len(epochs.cuts)):
+        if epochs.fault(e):
+            files[f"offsets/{e}"] = epochs.plan(e)
+            if not epochs.line_fault(e):
+                keys = [key for key, row in epochs.shown(e) if isinstance(row, Overflow)]
+                stopped = {model.partition_of(model.key_bytes(key), epochs.partitions) for key in keys}
+                files |= {f"state/{p}/{e}.delta": delta for p, delta in enumerate(epochs.deltas(e)) if p not in stopped}
+            break
+        files |= {name: content for name, content in epochs.files(e).items() if not name.endswith("snapshot")}
+        commits += 1
+    return files, commits
+
+
+def found_files(root):
+    """The files of a checkpoint, but for those that are written aside."""
+    paths = (path for path in root.rglob("*") if path.is_file() and path.parent.name != "aside")
+    return {str(path.relative_to(root)): path.read_bytes() for path in paths}
+
+
+@dataclasses.dataclass
+class Trial:
+    """One query with its logs, run after run."""
+
+    folder: pathlib.Path
+    chance: random.Random
+
+    def __post_init__(self):
+        self.query = made_query(self.chance)
+        self.logs = [[] for _ in range(self.chance.randrange(1, 4))]
+        self.partitions = self.chance.choice([1, 1, 2, 3, 5])
+        self.wild = self.chance.random() < 0.4
+        self.cuts, self.commits = [], 0
+        (self.folder / "q.sql").write_text(self.query.text)
+
+    def grow(self):
+        for part, log in enumerate(self.logs):
+            log += [made_line(self.chance, len(log) + more, self.wild) for more in range(self.chance.randrange(40))]
+            (self.folder / f"s.{part}.jsonl").write_bytes(b"".join(line + b"\n" for line in log))
+
+    def run(self):
+        """One run, judged. Its epochs."""
+        most = self.chance.choice([None, 1, 3, 7, 20])
+        self.cuts = model.cuts_of_run(self.query, [self.logs], most, self.cuts)
+        epochs = Epochs(self.query, self.logs, self.cuts, self.partitions)
+        words = [SSQ, "run", "q.sql", "--partitions", str(self.partitions), "--rounds", self.chance.choice("12")]
+        done = subprocess.run(words + (["--max-lines", str(most)] if most else []), cwd=self.folder, stdout=subprocess.PIPE)
+        output = epochs.output(self.commits)
+        assert done.stdout.decode().splitlines() == output, f"told\n{done.stdout.decode()}\nand not\n{output}"
+        status = 0 if output[-1].startswith("done") else int(output[-1].split()[1])
+        assert done.returncode == status, f"status {done.returncode}, and not {status}"
+        wanted, self.commits = wanted_files(epochs)
+        found = found_files(self.folder / "checkpoint")
+        for name in sorted(wanted.keys() | found.keys()):
+            assert found.get(name) == wanted.get(name), f"{name} holds\n{found.get(name)}\nand not\n{wanted.get(name)}"
+        return epochs
+
+
+def trial(folder, chance):
+    """What came of a query, in numbers."""
+    own = Trial(folder, chance)
+    for _ in range(chance.randrange(1, 4)):
+        own.grow()
+        epochs = own.run()
+    done = range(own.commits)
+    late = sum(len(epochs.fed(e)) - len(epochs.on_time(e)) for e in done)
+    closing = sum(epochs.begin(e) == epochs.cuts[e] for e in done)
+    return collections.Counter(epochs=own.commits, late=late, closing=closing, stopped=len(own.cuts) - own.commits)
+
+
+def main():
+    words = argparse.ArgumentParser(description="Runs random queries with groups, and judges what they leave.")
+    words.add_argument("queries", nargs="?", type=int, default=100)
+    words.add_argument("seed", nargs="?", type=int, default=int(time.time()))
+    ask = words.parse_args()
+    found = collections.Counter()
+    for seed in range(ask.seed, ask.seed + ask.queries):
+        folder = pathlib.Path(tempfile.mkdtemp(prefix="ssq-queries-"))
+        try:
+            found += trial(folder, random.Random(seed))
+        except AssertionError as wrong:
+            sys.exit(f"seed {seed}: {wrong}; what is left is in {folder}")
+        shutil.rmtree(folder)
+    print(f"{ask.queries} queries from seed {ask.seed} on, {found['epochs']} epochs, each file right;")
+    print(f"{found['late']} rows late, {found['closing']} epochs without lines, {found['stopped']} queries stopped by a line or a key")
+
+
+if __name__ == "__main__":
+    main()
