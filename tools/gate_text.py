@@ -1,0 +1,56 @@
+#!/usr/bin/env python3
+"""Asks of a checkout what the gate refuses before it proves anything, in half a minute.
+
+    tools/gate_text.py [CHECKOUT]
+
+Names crates with files that nothing reads, with a use that stands for something else than the library's own, with another layout than
+`rt fmt` gives, and must-fail edits that cannot be applied. The last line counts them; the status is 1 where there is one.
+It reads the toolchain's own rules (`rt` and `rtlib` beside it), so it holds for the kit that is installed.
+"""
+import importlib.machinery
+import importlib.util
+import os
+import pathlib
+import re
+import shutil
+import sys
+
+sys.dont_write_bytecode = True
+KIT = pathlib.Path(os.path.realpath(shutil.which("rt"))).parent
+sys.path.insert(0, str(KIT))
+root = os.path.abspath(sys.argv[1] if len(sys.argv) > 1 else ".")
+sys.argv = ["rt"]
+os.chdir(root)
+loader = importlib.machinery.SourceFileLoader("rt_command", str(KIT / "rt"))
+rt = importlib.util.module_from_spec(importlib.util.spec_from_loader("rt_command", loader))
+loader.exec_module(rt)
+import rtlib  # noqa: E402
+
+rtlib.stop = rt.stop
+known = {}
+names = [line.split("#")[0].split(":")[0].split() for line in open("crates.txt")]
+crates = [rtlib.Crate(f"{root}/crates/{words[0]}", root, known) for words in names if words]
+found = []
+for crate in crates:
+    checks = {
+        "links": lambda: rtlib.stop_on_links(crate.folder),
+        "files that nothing reads": lambda: rtlib.stop_on_unread(crate.folder, crates),
+        "text": lambda: rtlib.stop_on_text(crate, "verdict"),
+        "words": lambda: rt.stop_on_words(crate),
+    }
+    for what, check in checks.items():
+        try:
+            check()
+        except SystemExit:
+            found.append(f"{crate.name}: {what}")
+    if rtlib.fmt(crate.folder, "--check", open(os.devnull, "w")):
+        found.append(f"{crate.name}: layout")
+    code = rtlib.code_of(crate.folder)
+    if re.search(rt.RENAMES, code) or re.search(rt.IGNORED, code):
+        found.append(f"{crate.name}: renames std, or ignores a test")
+    good, bad = rt.edits_of(crate)
+    found += [f"{edit}: no edit" for edit in bad]
+    found += [f"{edit}: {why}" for edit in good if (why := rt.read_edit(edit, crate.folder)[1])]
+print(*found, sep="\n", end="\n" if found else "")
+print(f"{len(found)} found")
+sys.exit(bool(found))
