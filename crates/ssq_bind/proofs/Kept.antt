@@ -1,5 +1,5 @@
 -- What is bound has the type that it has where it is written.
-use Rattle.std.proofs.Common.{◌≡◌, ◌∙◌, ap, sym, refl, ℕ, zero, suc, ◌+◌, ◌<◌, ℤ, Bool, true, false, ◌&&◌, nat_lt, List, [], ◌∷◌, ◌++◌, length, Option, Some, None, Result, Ok, Err, arith}
+use Rattle.std.proofs.Common.{◌≡◌, ◌∙◌, ap, sym, subst, refl, ℕ, zero, suc, ◌+◌, ◌<◌, ℤ, Bool, true, false, ◌&&◌, nat_lt, List, [], ◌∷◌, ◌++◌, length, Option, Some, None, Result, Ok, Err, arith}
 use Rattle.std.specs.Prelude.{slice_get, position, if◌then◌else◌, IfSome, IfOk}
 use Rattle.std.specs.Option.{option_map}
 use Rattle.std.proofs.lemmas.Option.{slice_get-map, slice_get_within}
@@ -8,12 +8,16 @@ use Rattle.ssq_value.specs.declared.column.ColType.{ColType}
 use Rattle.ssq_value.specs.declared.column.ColType.TheVariants as type
 use Rattle.ssq_value.specs.declared.column.Column.{Column}
 use Rattle.ssq_shape.specs.Kinds.{is_kind, gives, kind_with}
+use Rattle.ssq_shape.specs.declared.bound.Aggregate.{Aggregate}
+use Rattle.ssq_shape.specs.declared.bound.Function.TheVariants as function
 use Rattle.ssq_shape.specs.declared.typed.Typed.{Typed}
 use Rattle.ssq_shape.specs.declared.typed.Typed.TheVariants as typed
 use Rattle.ssq_ast.specs.declared.expr.BinaryOp.{BinaryOp}
 use Rattle.ssq_ast.specs.declared.expr.BinaryOp.TheVariants as op
+use Rattle.ssq_ast.specs.declared.expr.ColumnRef.{ColumnRef}
 use Rattle.ssq_ast.specs.declared.expr.Expr.{Expr}
 use Rattle.ssq_ast.specs.declared.expr.Expr.TheVariants as expr
+use Rattle.ssq_ast.specs.declared.expr.Function.{Function as Called}
 use Rattle.ssq_ast.specs.declared.expr.Ident.{Ident}
 use Rattle.ssq_ast.specs.declared.expr.NullTest.{NullTest}
 use Rattle.ssq_ast.specs.declared.expr.NullTest.TheVariants as null_test
@@ -26,17 +30,19 @@ use Rattle.ssq_check.specs.declared.scope.Scope.{Scope}
 use Rattle.ssq_check.specs.declared.scope.Side.TheVariants as side
 use Rattle.ssq_check.specs.declared.scope.Source.{Source}
 use Rattle.ssq_check.specs.declared.scope.Spot.{Spot}
+use Rattle.ssq_check.specs.declared.scope.Within.{Within}
 use Rattle.ssq_check.specs.declared.scope.Within.TheVariants as within
 use Rattle.ssq_check.specs.Joined.{spot_in, spot_by}
-use Rattle.ssq_check.specs.Rules.{operands_of, operator_kind, unary_kind, between_kind, divides, is_sum, is_shift, type_of, of_one, together, if_divides, kind}
-use Rattle.ssq_check.specs.Scope.{spot_from, spot_where, in_source, only_one, known, source_named, bare_spot, named_spot, grouped, column_kind_by}
+use Rattle.ssq_check.specs.Rules.{operands_of, operator_kind, unary_kind, aggregate_kind, between_kind, divides, is_sum, is_shift, may_stand, type_of, of_one, together, if_divides, kind}
+use Rattle.ssq_check.specs.Scope.{spot_from, spot_where, in_source, only_one, known, source_named, bare_spot, named_spot, grouped, column_kind_by, column_kind}
 use Rattle.ssq_bind.specs.declared.context.Context.{Context}
 use Rattle.ssq_bind.specs.Typed.{column_kinds, source_kinds, row_kinds}
-use Rattle.ssq_bind.specs.Value.{width, behind, row_index, unary_value, null_value, binary_value, between_value, shift_of, shift_by, shifted_or, shifted_value, count, value_of}
+use Rattle.ssq_bind.specs.Value.{width, behind, row_index, column_value, unary_value, null_value, binary_value, between_value, shift_of, shift_by, shifted_or, shifted_value, function_of, numbered, given, count, value_of, aggregates_of, row_value}
+use Rattle.ssq_bind.proofs.Opened.{counted}
 
 -- ---- columns
 
-in_left : {A : Type 0} (xs ys : List A) (k : ℕ) (x : A) → slice_get xs k ≡ Some x → slice_get (xs ++ ys) k ≡ Some x
+pub in_left : {A : Type 0} (xs ys : List A) (k : ℕ) (x : A) → slice_get xs k ≡ Some x → slice_get (xs ++ ys) k ≡ Some x
 in_left [] ys k x is = absurd cc
 in_left (z ∷ xs) ys zero x is = is
 in_left (z ∷ xs) ys (suc k) x is = in_left xs ys k x is
@@ -47,7 +53,7 @@ one_more n m k is = omega (arith, is)
 none_more : (k : ℕ) → 0 + k ≡ k
 none_more k = omega arith
 
-in_right : {A : Type 0} (xs ys : List A) (k : ℕ) → slice_get (xs ++ ys) (length xs + k) ≡ slice_get ys k
+pub in_right : {A : Type 0} (xs ys : List A) (k : ℕ) → slice_get (xs ++ ys) (length xs + k) ≡ slice_get ys k
 in_right [] ys k = ap (slice_get ys) (none_more k)
 in_right (x ∷ xs) ys k = ap (slice_get (x ∷ (xs ++ ys))) (one_more (length (x ∷ xs)) (length xs) k refl) ∙ in_right xs ys k
 
@@ -61,7 +67,7 @@ width_is (Some source) = length_kinds source.columns
 
 module _ (scope : Scope) where
   -- a column stands in the row where it is looked up, with its type
-  abbrev Stands : Spot → Type 0
+  abbrev pub Stands : Spot → Type 0
   Stands spot = slice_get (row_kinds scope) (row_index scope (Some spot)) ≡ Some spot.kind
 
   on_left : (source : Source) (at : ℕ) (got : Option Column) → scope.left ≡ Some source → slice_get source.columns at ≡ got → IfSome (spot_from side.Left at got) Stands
@@ -70,11 +76,11 @@ module _ (scope : Scope) where
       in_left (source_kinds scope.left) (source_kinds scope.right) at column.kind
       (rw stands (slice_get-map (λ (x : Column). x.kind) source.columns at ∙ ap (option_map (λ (x : Column). x.kind)) is))
 
-  if_true : {A : Type 0} (b : Bool) (x y : A) → b ≡ true → (if b then x else y) ≡ x
+  pub if_true : {A : Type 0} (b : Bool) (x y : A) → b ≡ true → (if b then x else y) ≡ x
   if_true true x y is = refl
   if_true false x y is = absurd cc
 
-  lt_true : (m n : ℕ) → m < n → nat_lt m n ≡ true
+  pub lt_true : (m n : ℕ) → m < n → nat_lt m n ≡ true
   lt_true m n less = lt-ltb m n less
 
   on_right : (source : Source) (at : ℕ) (got : Option Column) → scope.right ≡ Some source → slice_get source.columns at ≡ got → IfSome (spot_from side.Right at got) Stands
@@ -117,7 +123,7 @@ module _ (scope : Scope) where
   one_stands false true x y z p q r = q
   one_stands false false x y z p q r = r
 
-  spot_stands : (stream : Option Ident) (column : Ident) → IfOk (spot_by scope stream column) Stands
+  pub spot_stands : (stream : Option Ident) (column : Ident) → IfOk (spot_by scope stream column) Stands
   spot_stands None column = only_stands (in_source side.Left scope.left column.text) (in_source side.Right scope.right column.text) column.at (in_left_source scope.left column.text refl) (in_right_source scope.right column.text refl)
   spot_stands (Some stream) column =
       one_stands (source_named scope.left stream.text) (source_named scope.right stream.text) _ _ _
@@ -129,7 +135,7 @@ module _ (scope : Scope) where
 
 module _ (aggregates kinds : List ColType) where
   -- the expression has this type, where there is one
-  abbrev Has : Option ColType → Typed → Type 0
+  abbrev pub Has : Option ColType → Typed → Type 0
   Has own x = IfSome own (λ t. kind_with aggregates kinds x ≡ Some t)
 
   has : (own : Option ColType) (x : Typed) → kind_with aggregates kinds x ≡ own → Has own x
@@ -178,7 +184,7 @@ module _ (aggregates kinds : List ColType) where
   between_has (Some a) (Some b) None x y z p q r = tt
   between_has (Some a) (Some b) (Some c) x y z p q r = has (between_kind a b c) (between_value x y z) (rw (p, q, r) refl)
 
-  shifted_has : (own : Option ColType) (x : Typed) (by : ℤ) → Has own x → is_kind type.Timestamp own ≡ true → kind_with aggregates kinds (shifted_value x by) ≡ Some type.Timestamp
+  pub shifted_has : (own : Option ColType) (x : Typed) (by : ℤ) → Has own x → is_kind type.Timestamp own ≡ true → kind_with aggregates kinds (shifted_value x by) ≡ Some type.Timestamp
   unfolding kind_with
   shifted_has None x by is time = absurd cc
   shifted_has (Some own) x by is time = rw (is, time) refl
@@ -217,22 +223,22 @@ module _ (aggregates kinds : List ColType) where
       Has (if is_sum o && false && time then Some type.Timestamp else if_divides divided (of_one (λ pair. operator_kind (operands_of o) pair.0 pair.1) (together a b))) (binary_value o x y)
   other_has o time divided a b x y p q = rw (no_shift (is_sum o) time) (binary_has o divided a b x y p q)
 
-  module _ (scope : Scope) (o : BinaryOp) (divided : Bool) (a : Option ColType) (x y : Typed) where
-    behind_has : (b : Expr) → Has a x → Has (kind scope within.Row b) y →
-        Has (if is_shift o a b then Some type.Timestamp else if_divides divided (of_one (λ pair. operator_kind (operands_of o) pair.0 pair.1) (together a (kind scope within.Row b)))) (shifted_or (shift_of o b) x (binary_value o x y))
+  module _ (scope : Scope) (w : Within) (o : BinaryOp) (divided : Bool) (a : Option ColType) (x y : Typed) where
+    behind_has : (b : Expr) → Has a x → Has (kind scope w b) y →
+        Has (if is_shift o a b then Some type.Timestamp else if_divides divided (of_one (λ pair. operator_kind (operands_of o) pair.0 pair.1) (together a (kind scope w b)))) (shifted_or (shift_of o b) x (binary_value o x y))
     unfolding kind shift_of
     behind_has (expr.Interval span at) p q = span_has o (is_kind type.Timestamp a) divided a x y span.micros refl p
     behind_has (expr.Number n at) p q = other_has o (is_kind type.Timestamp a) divided a _ x y p q
     behind_has (expr.Text text at) p q = other_has o (is_kind type.Timestamp a) divided a _ x y p q
     behind_has (expr.Truth truth at) p q = other_has o (is_kind type.Timestamp a) divided a _ x y p q
     behind_has (expr.Timestamp moment at) p q = other_has o (is_kind type.Timestamp a) divided a _ x y p q
-    behind_has (expr.Column column) p q = other_has o (is_kind type.Timestamp a) divided a (kind scope within.Row (expr.Column column)) x y p q
-    behind_has (expr.CountRows at) p q = other_has o (is_kind type.Timestamp a) divided a (kind scope within.Row (expr.CountRows at)) x y p q
-    behind_has (expr.Aggregate' f at r (only e)) p q = other_has o (is_kind type.Timestamp a) divided a (kind scope within.Row (expr.Aggregate' f at r (only e))) x y p q
-    behind_has (expr.Unary' u at r (only e)) p q = other_has o (is_kind type.Timestamp a) divided a (kind scope within.Row (expr.Unary' u at r (only e))) x y p q
-    behind_has (expr.IsNull' r (only e) at test) p q = other_has o (is_kind type.Timestamp a) divided a (kind scope within.Row (expr.IsNull' r (only e) at test)) x y p q
-    behind_has (expr.Binary' left_at r (only e) u at right_at s (only f)) p q = other_has o (is_kind type.Timestamp a) divided a (kind scope within.Row (expr.Binary' left_at r (only e) u at right_at s (only f))) x y p q
-    behind_has (expr.Between' r (only e) at s (only f) u (only g)) p q = other_has o (is_kind type.Timestamp a) divided a (kind scope within.Row (expr.Between' r (only e) at s (only f) u (only g))) x y p q
+    behind_has (expr.Column column) p q = other_has o (is_kind type.Timestamp a) divided a (kind scope w (expr.Column column)) x y p q
+    behind_has (expr.CountRows at) p q = other_has o (is_kind type.Timestamp a) divided a (kind scope w (expr.CountRows at)) x y p q
+    behind_has (expr.Aggregate' f at r (only e)) p q = other_has o (is_kind type.Timestamp a) divided a (kind scope w (expr.Aggregate' f at r (only e))) x y p q
+    behind_has (expr.Unary' u at r (only e)) p q = other_has o (is_kind type.Timestamp a) divided a (kind scope w (expr.Unary' u at r (only e))) x y p q
+    behind_has (expr.IsNull' r (only e) at test) p q = other_has o (is_kind type.Timestamp a) divided a (kind scope w (expr.IsNull' r (only e) at test)) x y p q
+    behind_has (expr.Binary' left_at r (only e) u at right_at s (only f)) p q = other_has o (is_kind type.Timestamp a) divided a (kind scope w (expr.Binary' left_at r (only e) u at right_at s (only f))) x y p q
+    behind_has (expr.Between' r (only e) at s (only f) u (only g)) p q = other_has o (is_kind type.Timestamp a) divided a (kind scope w (expr.Between' r (only e) at s (only f) u (only g))) x y p q
 
 -- ---- the whole
 
@@ -241,26 +247,61 @@ unfolding kind_with
 spot_has scope keys at (Err f) is = tt
 spot_has scope keys at (Ok spot) is = is
 
-column_has : (scope : Scope) (stream : Option Ident) (column : Ident) → Has [] (row_kinds scope) (type_of (column_kind_by scope within.Row stream column)) (typed.Column (row_index scope (spot_in (spot_by scope stream column))))
+pub column_has : (scope : Scope) (stream : Option Ident) (column : Ident) → Has [] (row_kinds scope) (type_of (column_kind_by scope within.Row stream column)) (typed.Column (row_index scope (spot_in (spot_by scope stream column))))
 column_has scope None column = spot_has scope scope.keys column.at (bare_spot scope column) (spot_stands scope None column)
 column_has scope (Some stream) column = spot_has scope scope.keys stream.at (named_spot scope stream column) (spot_stands scope (Some stream) column)
 
+-- what an expression is bound to has its type, where the columns and the aggregates in it have theirs; of the aggregates
+-- before and in it something is said that holds of their parts
+pub record HaveTypes (scope : Scope) (context : Context) (w : Within) (aggregates kinds : List ColType) (Stand : ℕ → List Aggregate → Type 0) : Type 0 where
+  pub column : (c : ColumnRef) → Has aggregates kinds (type_of (column_kind scope w c)) (column_value context w c)
+  pub rows : (n : ℕ) → Stand n (given w (record { function = function.Count; argument = None })) → Has aggregates kinds (may_stand w (Some type.Bigint)) (numbered w n)
+  pub called : (n : ℕ) (f : Called) (x : Expr) → Stand n (given w (record { function = function_of f; argument = Some (row_value context x) })) → Has aggregates kinds (may_stand w (of_one (aggregate_kind f) (kind scope within.Row x))) (numbered w n)
+  pub front : (n : ℕ) (xs ys : List Aggregate) → Stand n (xs ++ ys) → Stand n xs
+  pub back : (n : ℕ) (xs ys : List Aggregate) → Stand n (xs ++ ys) → Stand (n + length xs) ys
+
+three : (n a b : ℕ) → (n + a) + b ≡ n + (a + b)
+three n a b = omega arith
+
+module _ (scope : Scope) (context : Context) (w : Within) (aggregates kinds : List ColType) (Stand : ℕ → List Aggregate → Type 0) (have : HaveTypes scope context w aggregates kinds Stand) where
+  behind_own : (n : ℕ) (a : Expr) (ys : List Aggregate) → Stand n (aggregates_of context w a ++ ys) → Stand (n + count w a) ys
+  behind_own n a ys stand = subst (λ (m : ℕ). Stand (n + m) ys) (counted context w a) (have.back n (aggregates_of context w a) ys stand)
+
+  pub typed_at : (n : ℕ) (e : Expr) → Stand n (aggregates_of context w e) → Has aggregates kinds (kind scope w e) (value_of context w n e)
+  unfolding kind value_of kind_with aggregates_of
+  typed_at n (expr.Number m at) stand = refl
+  typed_at n (expr.Text text at) stand = refl
+  typed_at n (expr.Truth truth at) stand = refl
+  typed_at n (expr.Timestamp moment at) stand = refl
+  typed_at n (expr.Interval span at) stand = tt
+  typed_at n (expr.Column column) stand = have.column column
+  typed_at n (expr.CountRows at) stand = have.rows n stand
+  typed_at n (expr.Aggregate' f at p (only x)) stand = have.called n f x stand
+  typed_at n (expr.Unary' o at p (only x)) stand = unary_has aggregates kinds o (kind scope w x) (value_of context w n x) (typed_at n x stand)
+  typed_at n (expr.IsNull' p (only x) at test) stand = null_has aggregates kinds test (kind scope w x) (value_of context w n x) (typed_at n x stand)
+  typed_at n (expr.Binary' left_at p (only a) o at right_at q (only b)) stand =
+      behind_has aggregates kinds scope w o (divides o b) (kind scope w a) (value_of context w n a) (value_of context w (n + count w a) b) b
+      (typed_at n a (have.front n (aggregates_of context w a) (aggregates_of context w b) stand))
+      (typed_at (n + count w a) b (behind_own n a (aggregates_of context w b) stand))
+  typed_at n (expr.Between' p (only a) at q (only b) r (only c)) stand =
+      let more : Stand (n + count w a) (aggregates_of context w b ++ aggregates_of context w c) = behind_own n a (aggregates_of context w b ++ aggregates_of context w c) stand in
+      let last : Stand (n + (count w a + count w b)) (aggregates_of context w c) = subst (λ (m : ℕ). Stand m (aggregates_of context w c)) (three n (count w a) (count w b)) (behind_own (n + count w a) b (aggregates_of context w c) more) in
+      between_has aggregates kinds (kind scope w a) (kind scope w b) (kind scope w c)
+      (value_of context w n a) (value_of context w (n + count w a) b) (value_of context w (n + (count w a + count w b)) c)
+      (typed_at n a (have.front n (aggregates_of context w a) (aggregates_of context w b ++ aggregates_of context w c) stand))
+      (typed_at (n + count w a) b (have.front (n + count w a) (aggregates_of context w b) (aggregates_of context w c) more))
+      (typed_at (n + (count w a + count w b)) c last)
+
+-- on rows no aggregate has a type
+abbrev pub AnyStand : ℕ → List Aggregate → Type 0
+AnyStand n xs = Unit {0}
+
+pub rows_have : (scope : Scope) (context : Context) → ((c : ColumnRef) → Has [] (row_kinds scope) (type_of (column_kind scope within.Row c)) (column_value context within.Row c))
+    → HaveTypes scope context within.Row [] (row_kinds scope) AnyStand
+rows_have scope context column = record { column = column; rows = λ n stand. tt; called = λ n f x stand. tt; front = λ n xs ys stand. tt; back = λ n xs ys stand. tt }
+
+pub own_rows_have : (context : Context) → HaveTypes context.scope context within.Row [] (row_kinds context.scope) AnyStand
+own_rows_have context = rows_have context.scope context (λ c. column_has context.scope c.stream c.column)
+
 pub row_typed : (context : Context) (n : ℕ) (e : Expr) → Has [] (row_kinds context.scope) (kind context.scope within.Row e) (value_of context within.Row n e)
-unfolding kind value_of kind_with
-row_typed context n (expr.Number m at) = refl
-row_typed context n (expr.Text text at) = refl
-row_typed context n (expr.Truth truth at) = refl
-row_typed context n (expr.Timestamp moment at) = refl
-row_typed context n (expr.Interval span at) = tt
-row_typed context n (expr.Column column) = column_has context.scope column.stream column.column
-row_typed context n (expr.CountRows at) = tt
-row_typed context n (expr.Aggregate' f at p (only x)) = tt
-row_typed context n (expr.Unary' o at p (only x)) = unary_has [] (row_kinds context.scope) o (kind context.scope within.Row x) (value_of context within.Row n x) (row_typed context n x)
-row_typed context n (expr.IsNull' p (only x) at test) = null_has [] (row_kinds context.scope) test (kind context.scope within.Row x) (value_of context within.Row n x) (row_typed context n x)
-row_typed context n (expr.Binary' left_at p (only a) o at right_at q (only b)) =
-    behind_has [] (row_kinds context.scope) context.scope o (divides o b) (kind context.scope within.Row a) (value_of context within.Row n a) (value_of context within.Row (n + count within.Row a) b) b
-    (row_typed context n a) (row_typed context (n + count within.Row a) b)
-row_typed context n (expr.Between' p (only a) at q (only b) r (only c)) =
-    between_has [] (row_kinds context.scope) (kind context.scope within.Row a) (kind context.scope within.Row b) (kind context.scope within.Row c)
-    (value_of context within.Row n a) (value_of context within.Row (n + count within.Row a) b) (value_of context within.Row (n + (count within.Row a + count within.Row b)) c)
-    (row_typed context n a) (row_typed context (n + count within.Row a) b) (row_typed context (n + (count within.Row a + count within.Row b)) c)
+row_typed context n e = typed_at context.scope context within.Row [] (row_kinds context.scope) AnyStand (own_rows_have context) n e tt

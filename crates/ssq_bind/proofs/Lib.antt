@@ -3,6 +3,9 @@ pub mod Events
 pub mod Filled
 pub mod Joined
 pub mod Kept
+pub mod Placed
+pub mod GroupLemmas
+pub mod WellTyped
 pub mod Made
 pub mod Opened
 pub mod TimedLemmas

@@ -24,13 +24,13 @@ use Rattle.ssq_check.specs.Fault.{AreNone}
 use Rattle.ssq_check.specs.Names.{row_scope}
 use Rattle.ssq_check.specs.Shown as places
 use Rattle.ssq_check.specs.Shown.{is_group, shown_within}
-use Rattle.ssq_check.specs.Sound.{IsSoundGroup, IsSound}
+use Rattle.ssq_check.specs.Sound.{IsSoundDeduplicate, IsSoundGroup, IsSound}
 use Rattle.ssq_check.specs.Whole.{QueryFaults}
 use Rattle.ssq_check.proofs.SoundLemmas.{sound_where_none}
 use Rattle.ssq_bind.specs.declared.context.Context.{Context}
 use Rattle.ssq_bind.specs.Bound.{context_of, select_aggregates, shown_of, grouping_of, kept_by, shape_of, bound_of}
 use Rattle.ssq_bind.specs.Limits.{IsLimitedBy, HasLimits, GroupsAreLimited}
-use Rattle.ssq_bind.specs.Shapes.{item_aggregates, having_aggregates, group_items, key_of}
+use Rattle.ssq_bind.specs.Shapes.{bare_index, item_aggregates, having_aggregates, group_items, key_of}
 use Rattle.ssq_bind.specs.Value.{aggregates_of}
 
 -- ---- the keys are the parts of GROUP BY
@@ -97,10 +97,10 @@ few_aggregates query few =
 
 -- ---- the whole
 
-kept_has : (context : Context) (join : Option Join) (deduplicate : Option Deduplicate) → IsLimitedBy (kept_by context join deduplicate)
-kept_has context (Some join) deduplicate = tt
-kept_has context None (Some deduplicate) = tt
-kept_has context None None = tt
+kept_has : (context : Context) (rows : Scope) (join : Option Join) (deduplicate : Option Deduplicate) → IfSome deduplicate (IsSoundDeduplicate rows) → IsLimitedBy (kept_by context join deduplicate)
+kept_has context rows (Some join) deduplicate sound = tt
+kept_has context rows None (Some deduplicate) sound = subst (λ (n : ℕ). n ≤ 64) (sym (length-map deduplicate.columns (bare_index context.scope))) sound.few
+kept_has context rows None None sound = tt
 
 either_has : (b : Bool) (grouping : Grouping) (kept : Shape) → IsLimitedBy (shape.Group grouping) → IsLimitedBy kept → IsLimitedBy (if b then shape.Group grouping else kept)
 either_has true grouping kept grouped else_kept = grouped
@@ -111,7 +111,7 @@ unfolding bound_of shape_of
 query_has query sound =
     either_has (is_group query) (grouping_of query) (kept_by (context_of query) query.select.join query.select.deduplicate)
     (record { keys = few_keys (context_of query).scope (row_scope query) query.select.group sound.group; aggregates = few_aggregates query sound.few_aggregates })
-    (kept_has (context_of query) query.select.join query.select.deduplicate)
+    (kept_has (context_of query) (row_scope query) query.select.join query.select.deduplicate sound.deduplicate)
 
 pub groups_are_limited : GroupsAreLimited
 groups_are_limited query none = query_has query (sound_where_none query none)

@@ -1,4 +1,4 @@
--- How much a query groups by.
+-- How much a query groups or deduplicates by.
 use Rattle.std.specs.Prelude.{◌≤◌, length}
 use Rattle.ssq_shape.specs.declared.bound.Bound.{Bound}
 use Rattle.ssq_shape.specs.declared.bound.Grouping.{Grouping}
@@ -14,16 +14,17 @@ pub record IsLimited (grouping : Grouping) : Type 0 where
   pub keys : length grouping.keys ≤ 64
   pub aggregates : length grouping.aggregates ≤ 64
 
+-- and DEDUPLICATE has at most 64 columns
 abbrev pub IsLimitedBy : Shape → Type 0
 IsLimitedBy shape.Plain = Unit {0}
 IsLimitedBy (shape.Group grouping) = IsLimited grouping
-IsLimitedBy (shape.Dedup columns) = Unit {0}
+IsLimitedBy (shape.Dedup columns) = length columns ≤ 64
 IsLimitedBy (shape.Join joining) = Unit {0}
 
--- if the query groups its rows, it keeps the limits of groups
+-- if the query groups its rows or deduplicates them, it keeps the limits of that
 abbrev pub HasLimits : Bound → Type 0
 HasLimits bound = IsLimitedBy bound.shape
 
--- A query that breaks no rule of binding keeps the limits of groups.
+-- A query that breaks no rule of binding keeps these limits.
 abbrev pub GroupsAreLimited : Type 0
 GroupsAreLimited = (query : Query) → AreNone (QueryFaults query) → HasLimits (bound_of query)

@@ -4,12 +4,19 @@ ghost use Rattle.ssq_bind.specs.Delays.{DelaysAreSpans};
 ghost use Rattle.ssq_bind.specs.Limits.{GroupsAreLimited};
 ghost use Rattle.ssq_bind.specs.Places.{PlacesAreIgnored};
 ghost use Rattle.ssq_bind.specs.Timed.{EventsHaveDelays};
-ghost use Rattle.ssq_bind.specs.Typed.{RowsAreTyped};
+ghost use Rattle.ssq_bind.specs.Typed.{RowsAreTyped, QueriesAreTyped};
 ghost use Rattle.ssq_bind.specs.Windows.{WindowsAreFit};
 
 /// The law of types: an expression on rows that has a type has the same type once it is bound.
 pub fn rows_are_typed()
     ensures { RowsAreTyped }
+{}
+
+/// The law of types of a query: once a query that breaks no rule of binding is bound, WHERE is BOOLEAN over the rows that it reads,
+/// each output has its type over them or over groups, and ORDER BY names outputs. Of groups what rows are grouped by and each
+/// aggregate has a type, and HAVING is BOOLEAN over them.
+pub fn queries_are_typed()
+    ensures { QueriesAreTyped }
 {}
 
 /// The law of event columns: a stream without a watermark has no delay and no event column.

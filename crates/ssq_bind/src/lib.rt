@@ -23,8 +23,8 @@ mod whole;
 pub use context::Context;
 pub use join::Parts;
 pub use laws::{
-    delays_are_spans, events_have_delays, groups_are_limited, places_are_ignored, rows_are_typed,
-    windows_are_fit,
+    delays_are_spans, events_have_delays, groups_are_limited, places_are_ignored,
+    queries_are_typed, rows_are_typed, windows_are_fit,
 };
 pub use told::explain;
 pub use whole::{bind, build};

@@ -7,8 +7,10 @@ ghost use Rattle.ssq_check.specs.Names.{left_stream, right_stream, row_scope, sc
 ghost use Rattle.ssq_check.specs.Whole.{QueryFaults, IsRefusedBy};
 ghost use Rattle.ssq_bind.specs.Bound.{context_of, shown_of, grouping_of, kept_by, shape_of, mode_of, filter_value, bound_of};
 ghost use Rattle.ssq_bind.specs.Limits.{HasLimits};
+ghost use Rattle.ssq_bind.specs.Places.{IsOfEach};
 ghost use Rattle.ssq_bind.specs.Sound.{IsSoundBound};
 ghost use Rattle.ssq_bind.specs.Streams.{streams_of};
+ghost use Rattle.ssq_bind.specs.Typed.{IsTyped};
 ghost use Rattle.ssq_bind.specs.Windows.{HasWindowsIfWritten};
 
 use crate::context::Context;
@@ -251,6 +253,8 @@ pub fn bind(alloc: Global, query: &Query) -> Result<Bound, Refusal>
     ensures sound { IfOk result IsSoundBound }
     ensures windows { IfOk result (HasWindowsIfWritten query.now) }
     ensures limits { IfOk result HasLimits }
+    ensures typed { IfOk result IsTyped }
+    ensures places { IfOk result (IsOfEach query.now) }
     ensures refused { IfErr result (IsRefusedBy (QueryFaults query.now)) }
 {
     check(alloc, query)?;

@@ -93,7 +93,7 @@ fn reads_queries(rt: HostRuntime) -> Result<(), Fail> {
     check(&rt, &SELECTS)
 }
 
-static OTHERS: [(&str, &str); 40] = [
+static OTHERS: [(&str, &str); 42] = [
     ("CREATE STREAM s (v BIGINT) FROM s", "Expected at 32"),
     (
         "CREATE STREAM s (v BIGINT) FROM 's' WATERMARK v",
@@ -125,6 +125,8 @@ static OTHERS: [(&str, &str); 40] = [
         "BadText at 17",
     ),
     ("SELECT INTERVAL 5 AS w", "Expected at 16"),
+    ("CREATE STREAM s (t TIMESTAMP '')", "Expected at 29"),
+    ("SELECT v, '' FROM s", "Expected at 13"),
     ("SELECT TIMESTAMP v AS w", "Expected at 17"),
     (
         "SELECT v FROM s GROUP BY WINDOW(v, '5 apples')",
@@ -226,7 +228,7 @@ fn takes_no_keyword_as_a_name(rt: HostRuntime) -> Result<(), Fail> {
 }
 
 /// A repeated part, how often, and what stands before and behind all of them.
-static DEEP: [(&str, &str, usize, &str, &str); 14] = [
+static DEEP: [(&str, &str, usize, &str, &str); 17] = [
     ("SELECT ", "(", 64, "v", "Expected at 72"),
     ("SELECT ", "(", 65, "v", "TooDeep at 71"),
     (
@@ -283,6 +285,21 @@ static DEEP: [(&str, &str, usize, &str, &str); 14] = [
         "TooDeep at 9",
     ),
     ("SELECT ", "- ", 32000, ")", "Expected at 64007"),
+    (
+        "SELECT a BETWEEN v",
+        " + v",
+        63,
+        " AND 1 AS w FROM s OUTPUT APPEND;",
+        "TooDeep at 9",
+    ),
+    ("SELECT v", " + v", 63, " IS )", "TooDeep at 261"),
+    (
+        "SELECT SUM(v",
+        " + v",
+        63,
+        ") + 1 AS w FROM s OUTPUT COMPLETE;",
+        "read",
+    ),
 ];
 
 #[test]

@@ -56,6 +56,11 @@ static RUNS: [(&str, &str, Option<u32>, Option<u64>, u32); 20] = [
     ("ssq run help", "help", None, None, 1),
 ];
 
+static SHOWS: [(&str, &str); 2] = [
+    ("ssq show q.sql", "q.sql"),
+    ("ssq show -- -q.sql", "-q.sql"),
+];
+
 static EXPLAINS: [(&str, &str); 2] = [
     ("ssq explain q.sql", "q.sql"),
     ("ssq explain explain", "explain"),
@@ -66,7 +71,7 @@ static STATUSES: [(&str, &str); 2] = [
     ("ssq status -- --rounds", "--rounds"),
 ];
 
-static REFUSED: [&str; 50] = [
+static REFUSED: [&str; 52] = [
     "",
     "ssq",
     "ssq run",
@@ -75,7 +80,9 @@ static REFUSED: [&str; 50] = [
     "ssq RUN q.sql",
     "ssq ru q.sql",
     "ssq -- run q.sql",
-    "ssq show q.sql",
+    "ssq show",
+    "ssq show a b",
+    "ssq show q.sql --rounds 2",
     "ssq explain",
     "ssq explain a b",
     "ssq explain q.sql --partitions 2",
@@ -132,6 +139,15 @@ fn lines_are_taken_or_refused(rt: HostRuntime) -> Result<(), Fail> {
             rounds,
         };
         assert_eq!(rt; ask(alloc, words.as_slice()), Ok(asked), "{line}");
+    }
+    for (line, query) in &SHOWS {
+        let words = words(alloc, line)?;
+        let query = *query;
+        assert_eq!(rt;
+            ask(alloc, words.as_slice()),
+            Ok(Command::Show { query }),
+            "{line}"
+        );
     }
     for (line, query) in &EXPLAINS {
         let words = words(alloc, line)?;

@@ -1,4 +1,4 @@
--- A file's fault Expected stands at the first token that no query has there.
+-- A token that is missing, and a text that is no span or no time, is the first that no query has there.
 use Rattle.std.proofs.Common.{◌≡◌, ℕ, Bool, true, false, ap, ◌∙◌, sym, subst, List, [], ◌∷◌, ◌++◌, length, refl, Option, Some, None, Result, Ok, Err}
 use Rattle.std.specs.Prelude.{IfErr, nat_lt, if◌then◌else◌}
 use Rattle.std.specs.Str.{is_utf8}
@@ -15,10 +15,10 @@ use Rattle.ssq_parse.specs.declared.fault.ParseCause.{ParseCause}
 use Rattle.ssq_parse.specs.declared.fault.ParseCause.TheVariants as cause
 use Rattle.ssq_parse.specs.declared.fault.ParseFault.{ParseFault}
 use Rattle.ssq_parse.specs.declared.fault.ParseFault.TheVariants.{Refused, NoMemory}
-use Rattle.ssq_parse.specs.Faults.{next_word, or_end, IsFirst, IfExpected, AtExpected}
+use Rattle.ssq_parse.specs.Faults.{next_word, or_end, IsFirst, IsMisread, FaultAt, StandsAt}
 use Rattle.ssq_parse.specs.File.{Fault, as_cause, ended, placed, judged, judged_cut, query_of, Answers}
 use Rattle.ssq_parse.specs.Queries.{query_at}
-use Rattle.ssq_parse.specs.Reading.{Ahead, Made}
+use Rattle.ssq_parse.specs.Reading.{Ahead, Made, Refusal}
 use Rattle.ssq_parse.specs.Written.{says, starts}
 use Rattle.ssq_parse.proofs.Laid.{Where, laid}
 use Rattle.ssq_parse.proofs.Laid as laying
@@ -27,7 +27,7 @@ use Rattle.ssq_parse.proofs.LocalQueries.{Stands, IfStands, query_stands}
 
 abbrev IfFirst : List ℕ → Result Query Fault → Type 0
 IfFirst file (Ok query) = Unit {0}
-IfFirst file (Err fault) = IfExpected fault.cause (IsFirst file fault.at)
+IfFirst file (Err fault) = FaultAt file fault.cause fault.at
 
 -- tokens of these words, of which the next is the same token
 record Alike (rest : Ahead) (words : Words) : Type 0 where
@@ -48,9 +48,9 @@ alike (t ∷ ts) (w ∷ ws) is =
     let p : Where = record { starts = []; ends = [] } in
     record { others = t ∷ laid ws p; same = refl; said = ap (λ v. v ∷ says (laid ws p)) word ∙ ap (λ vs. w ∷ vs) (says_laid ws p) }
 
-none_written : (tokens : Ahead) (at : Option ℕ) (s : Stands tokens at) (words : Words) (a : Alike s.rest words) (query : Query) (w : Ahead)
+none_written : (tokens : Ahead) (refusal : Refusal) (s : Stands tokens refusal) (words : Words) (a : Alike s.rest words) (query : Query) (w : Ahead)
     → says w ≡ says s.taken ++ words → IsWritten w query → ⊥
-none_written tokens at s words a query w same q =
+none_written tokens refusal s words a query w same q =
     let all : Ahead = s.taken ++ a.others in
     s.none a.others a.same (query_tree q.written (starts all)) (record {
       written = q.written;
@@ -59,32 +59,34 @@ none_written tokens at s words a query w same q =
       meant = refl;
     })
 
-first_of_file : (file : List ℕ) (at : Option ℕ) → Stands (cut_of file).tokens at → IsFirst file (or_end (length file) at)
-first_of_file file at s = record {
+abbrev first_of_file : (file : List ℕ) (refusal : Refusal) → Stands (cut_of file).tokens refusal → IsFirst file (or_end (length file) refusal.at)
+first_of_file file refusal s = record {
   taken = s.taken;
   rest = s.rest;
   whole = s.whole;
   here = ap (or_end (length file)) s.here;
-  none = λ other words is next_is query q. none_written (cut_of file).tokens at s words (alike s.rest words next_is) query (cut_of other).tokens is q.written;
+  none = λ other words is next_is query q. none_written (cut_of file).tokens refusal s words (alike s.rest words next_is) query (cut_of other).tokens is q.written;
 }
 
-lexical : (file : List ℕ) (at : ℕ) (c : LexCause) → IfExpected (as_cause c) (IsFirst file at)
+lexical : (file : List ℕ) (at : ℕ) (c : LexCause) → FaultAt file (as_cause c) at
 lexical file at lex.BadChar = tt
 lexical file at lex.BadNumber = tt
 lexical file at lex.Unclosed = tt
 
 at_end : {P : Type 0} (c : ParseCause) → IfMissing c None P → P
 at_end cause.Expected p = p
+at_end cause.BadText p = p
 at_end other p = p
 
-ended_first : (file : List ℕ) (fault : Option LexRefusal) → Stands (cut_of file).tokens None → IfFirst file (Err (ended (length file) fault))
-ended_first file None s = first_of_file file None s
-ended_first file (Some refusal) s = lexical file refusal.at refusal.cause
+ended_first : (file : List ℕ) (fault : Option LexRefusal) (c : ParseCause) → Stands (cut_of file).tokens (record { at = None; cause = c }) → IfFirst file (Err (ended (length file) fault))
+ended_first file None c s = first_of_file file (record { at = None; cause = c }) s
+ended_first file (Some refusal) c s = lexical file refusal.at refusal.cause
 
-placed_first : (file : List ℕ) (fault : Option LexRefusal) (c : ParseCause) (at : Option ℕ) → IfMissing c at (Stands (cut_of file).tokens at)
+placed_first : (file : List ℕ) (fault : Option LexRefusal) (c : ParseCause) (at : Option ℕ) → IfMissing c at (Stands (cut_of file).tokens (record { at = at; cause = c }))
     → IfFirst file (Err (placed (ended (length file) fault) at c))
-placed_first file fault cause.Expected (Some at) s = first_of_file file (Some at) s
-placed_first file fault c None s = ended_first file fault (at_end c s)
+placed_first file fault cause.Expected (Some at) s = first_of_file file (record { at = Some at; cause = cause.Expected }) s
+placed_first file fault cause.BadText (Some at) s = record { first = first_of_file file (record { at = Some at; cause = cause.BadText }) s; bad = s.bad }
+placed_first file fault c None s = ended_first file fault c (at_end c s)
 placed_first file fault c (Some at) s = tt
 
 judged_first : (file : List ℕ) (fault : Option LexRefusal) (made : Made Query) → IfStands (cut_of file).tokens made → IfFirst file (judged (length file) fault made)
@@ -103,10 +105,10 @@ file_first : (file : List ℕ) → IfFirst file (query_of file)
 unfolding query_of
 file_first file = file_by file (nat_lt 65536 (length file)) (is_utf8 file)
 
-answered : (file : List ℕ) (found : Result Query Fault) (result : Result Query ParseFault) → IfFirst file found → Answers found result → IfErr result (AtExpected (IsFirst file))
+answered : (file : List ℕ) (found : Result Query Fault) (result : Result Query ParseFault) → IfFirst file found → Answers found result → IfErr result (StandsAt file)
 answered file found (Ok query) holds same = tt
 answered file found (Err (Refused at why)) holds same = let P : Result Query Fault → Type 0 = IfFirst file in subst P same holds
 answered file found (Err NoMemory) holds same = tt
 
-pub expected_first : (file : List ℕ) (result : Result Query ParseFault) → Answers (query_of file) result → IfErr result (AtExpected (IsFirst file))
-expected_first file result answer = answered file (query_of file) result (file_first file) answer
+pub fault_first : (file : List ℕ) (result : Result Query ParseFault) → Answers (query_of file) result → IfErr result (StandsAt file)
+fault_first file result answer = answered file (query_of file) result (file_first file) answer

@@ -11,7 +11,7 @@ use Rattle.ssq_lex.specs.contracts.symbol.Symbol.{the_type as symbol_type}
 use Rattle.ssq_lex.specs.declared.keyword.Keyword.{Keyword}
 use Rattle.ssq_lex.specs.declared.keyword.Keyword.TheVariants as key
 use Rattle.ssq_lex.specs.declared.symbol.Symbol.TheVariants as mark
-use Rattle.ssq_lex.specs.Lexeme.{Lexeme, keyword, name, number, quoted, symbol}
+use Rattle.ssq_lex.specs.Lexeme.{Lexeme, keyword, symbol}
 use Rattle.ssq_parse.specs.declared.operators.Level.{Level}
 use Rattle.ssq_parse.specs.declared.operators.Level.TheVariants as level
 use Rattle.ssq_parse.specs.Operators.{operator_of, is_prefix}
@@ -48,75 +48,20 @@ keyword_found k wanted false is l o so = tt
 pub is_found : (l : Level) (word : Lexeme) → IfFound l word (operator_of l word)
 unfolding operator_of
 is_found level.Or (keyword k) = keyword_found k key.Or (sameb keyword_type k key.Or) refl level.Or op.Or (record { spelt = refl; level = refl; left = refl })
-is_found level.Or (symbol s) = tt
-is_found level.Or (name text) = tt
-is_found level.Or (number n) = tt
-is_found level.Or (quoted text) = tt
 is_found level.And (keyword k) = keyword_found k key.And (sameb keyword_type k key.And) refl level.And op.And (record { spelt = refl; level = refl; left = refl })
-is_found level.And (symbol s) = tt
-is_found level.And (name text) = tt
-is_found level.And (number n) = tt
-is_found level.And (quoted text) = tt
-is_found level.Comparison (keyword k) = tt
-is_found level.Comparison (symbol mark.LeftParen) = tt
-is_found level.Comparison (symbol mark.RightParen) = tt
-is_found level.Comparison (symbol mark.Comma) = tt
-is_found level.Comparison (symbol mark.Semicolon) = tt
-is_found level.Comparison (symbol mark.Dot) = tt
-is_found level.Comparison (symbol mark.Plus) = tt
-is_found level.Comparison (symbol mark.Minus) = tt
-is_found level.Comparison (symbol mark.Star) = tt
-is_found level.Comparison (symbol mark.Percent) = tt
-is_found level.Comparison (symbol mark.Concat) = tt
 is_found level.Comparison (symbol mark.Equal) = record { spelt = refl; level = refl; left = refl }
 is_found level.Comparison (symbol mark.NotEqual) = record { spelt = refl; level = refl; left = refl }
 is_found level.Comparison (symbol mark.Less) = record { spelt = refl; level = refl; left = refl }
 is_found level.Comparison (symbol mark.AtMost) = record { spelt = refl; level = refl; left = refl }
 is_found level.Comparison (symbol mark.Greater) = record { spelt = refl; level = refl; left = refl }
 is_found level.Comparison (symbol mark.AtLeast) = record { spelt = refl; level = refl; left = refl }
-is_found level.Comparison (name text) = tt
-is_found level.Comparison (number n) = tt
-is_found level.Comparison (quoted text) = tt
-is_found level.Sum (keyword k) = tt
-is_found level.Sum (symbol mark.LeftParen) = tt
-is_found level.Sum (symbol mark.RightParen) = tt
-is_found level.Sum (symbol mark.Comma) = tt
-is_found level.Sum (symbol mark.Semicolon) = tt
-is_found level.Sum (symbol mark.Dot) = tt
 is_found level.Sum (symbol mark.Plus) = record { spelt = refl; level = refl; left = refl }
 is_found level.Sum (symbol mark.Minus) = record { spelt = refl; level = refl; left = refl }
-is_found level.Sum (symbol mark.Star) = tt
-is_found level.Sum (symbol mark.Percent) = tt
 is_found level.Sum (symbol mark.Concat) = record { spelt = refl; level = refl; left = refl }
-is_found level.Sum (symbol mark.Equal) = tt
-is_found level.Sum (symbol mark.NotEqual) = tt
-is_found level.Sum (symbol mark.Less) = tt
-is_found level.Sum (symbol mark.AtMost) = tt
-is_found level.Sum (symbol mark.Greater) = tt
-is_found level.Sum (symbol mark.AtLeast) = tt
-is_found level.Sum (name text) = tt
-is_found level.Sum (number n) = tt
-is_found level.Sum (quoted text) = tt
-is_found level.Product (keyword k) = keyword_found k key.Div (sameb keyword_type k key.Div) refl level.Product op.Divide (record { spelt = refl; level = refl; left = refl })
-is_found level.Product (symbol mark.LeftParen) = tt
-is_found level.Product (symbol mark.RightParen) = tt
-is_found level.Product (symbol mark.Comma) = tt
-is_found level.Product (symbol mark.Semicolon) = tt
-is_found level.Product (symbol mark.Dot) = tt
-is_found level.Product (symbol mark.Plus) = tt
-is_found level.Product (symbol mark.Minus) = tt
 is_found level.Product (symbol mark.Star) = record { spelt = refl; level = refl; left = refl }
 is_found level.Product (symbol mark.Percent) = record { spelt = refl; level = refl; left = refl }
-is_found level.Product (symbol mark.Concat) = tt
-is_found level.Product (symbol mark.Equal) = tt
-is_found level.Product (symbol mark.NotEqual) = tt
-is_found level.Product (symbol mark.Less) = tt
-is_found level.Product (symbol mark.AtMost) = tt
-is_found level.Product (symbol mark.Greater) = tt
-is_found level.Product (symbol mark.AtLeast) = tt
-is_found level.Product (name text) = tt
-is_found level.Product (number n) = tt
-is_found level.Product (quoted text) = tt
+is_found level.Product (keyword k) = keyword_found k key.Div (sameb keyword_type k key.Div) refl level.Product op.Divide (record { spelt = refl; level = refl; left = refl })
+is_found l other = tt
 
 -- what holds where a test passes
 abbrev pub IfTrue : Bool → Type 0 → Type 0
@@ -130,12 +75,5 @@ if_true false P holds = tt
 pub is_prefix_word : (o : UnaryOp) (word : Lexeme) → IfTrue (is_prefix o word) (word ≡ unary_word o)
 unfolding is_prefix
 is_prefix_word unary.Not (keyword k) = if_true (sameb keyword_type k key.Not) (keyword k ≡ keyword key.Not) (λ is. ap keyword (same_true keyword_type (search rules) k key.Not is))
-is_prefix_word unary.Not (symbol s) = tt
-is_prefix_word unary.Not (name text) = tt
-is_prefix_word unary.Not (number n) = tt
-is_prefix_word unary.Not (quoted text) = tt
-is_prefix_word unary.Minus (keyword k) = tt
 is_prefix_word unary.Minus (symbol s) = if_true (sameb symbol_type s mark.Minus) (symbol s ≡ symbol mark.Minus) (λ is. ap symbol (same_true symbol_type (search rules) s mark.Minus is))
-is_prefix_word unary.Minus (name text) = tt
-is_prefix_word unary.Minus (number n) = tt
-is_prefix_word unary.Minus (quoted text) = tt
+is_prefix_word o other = tt

@@ -20,9 +20,9 @@ use Rattle.ssq_parse.specs.declared.tree.Tree.{Tree}
 use Rattle.ssq_parse.specs.Expressions.{Reader, further, further_by, chain, prefixed, column_by, column_at, timestamp_at, interval_at, test_by, inside_at, bracketed_at, argument_at, aggregate_at, rows_by, count_at, worded_at, primary_by, primary_at, signed_at, product_at, sum_at, null_test_at, between_at, ranged, tested, compared, comparison_at, negation_at, conjunction_at, disjunction_at, expr_at, whole_at}
 use Rattle.ssq_parse.specs.Operators.{operator_of, prefixes}
 use Rattle.ssq_parse.specs.Reading.{Ahead, Made, Read, ◌>>=◌, before, behind, refused, is_keyword, is_symbol, keyword_at, with_place}
-use Rattle.ssq_parse.specs.Trees.{unary, binary, null_test, between, risen, wrapped, ◌and_then◌}
+use Rattle.ssq_parse.specs.Trees.{leaf, unary, binary, null_test, between, risen, wrapped, ◌and_then◌}
 use Rattle.ssq_parse.proofs.Local.{next, Local, Told, Unexpected, told_as, behind_told, skip_told, pure, nothing, made_local, skip, followed, maybe}
-use Rattle.ssq_parse.proofs.LocalParts.{if_seen, keyword_local, symbol_local, name_local, span_local, moment_local}
+use Rattle.ssq_parse.proofs.LocalParts.{if_seen, keyword_local, symbol_local, name_local, span_then, moment_then, interval_asks, timestamp_asks}
 
 -- ---- no tree lacks a token: it is too high, or it is made
 
@@ -122,14 +122,6 @@ column_local : (first : Ident) → Local (column_at first)
 unfolding column_at
 column_local first = if_seen (is_symbol mark.Dot) (column_by first) (pure _) (λ dot. skip (followed name_local (λ column. pure _)))
 
-timestamp_local : (at : ℕ) → Local (timestamp_at at)
-unfolding timestamp_at
-timestamp_local at = followed moment_local (λ moment. pure _)
-
-interval_local : (at : ℕ) → Local (interval_at at)
-unfolding interval_at
-interval_local at = followed span_local (λ span. pure _)
-
 deep_or : (r : Reader) (bracket : ℕ) (b : Bool) → Local r → Local (λ tokens. if b then refused (Some bracket) TooDeep else r tokens)
 deep_or r bracket true l = record { told = λ tokens. tt }
 deep_or r bracket false l = l
@@ -162,27 +154,27 @@ module _ (depth : ℕ) (inner : Reader) (il : Local inner) where
     Behind r = Told (λ us. r (drop 1 us)) (t ∷ ts) (r ts)
 
     none_begins : Behind (λ us. refused (Some t.start) Expected)
-    none_begins = record { rest = t ∷ ts; at = refl; seen = record { taken = []; whole = refl; same = λ others is. refl } }
+    none_begins = record { rest = t ∷ ts; at = refl; seen = record { taken = []; whole = refl; same = λ others is. refl }; bad = tt }
 
-    worded_told : (k : Keyword) → Behind (worded_at depth inner k t.start)
-    unfolding worded_at
-    worded_told key.True = skip_told _ (pure (record { value = e.Truth true t.start; at = t.start; height = 1 })) (t ∷ ts)
-    worded_told key.False = skip_told _ (pure (record { value = e.Truth false t.start; at = t.start; height = 1 })) (t ∷ ts)
-    worded_told key.Timestamp = skip_told _ (timestamp_local t.start) (t ∷ ts)
-    worded_told key.Interval = skip_told _ (interval_local t.start) (t ∷ ts)
-    worded_told key.Count = skip_told _ (count_local t.start) (t ∷ ts)
-    worded_told key.Sum = skip_told _ (aggregate_local function.Sum t.start) (t ∷ ts)
-    worded_told key.Min = skip_told _ (aggregate_local function.Min t.start) (t ∷ ts)
-    worded_told key.Max = skip_told _ (aggregate_local function.Max t.start) (t ∷ ts)
-    worded_told other = none_begins
+    worded_told : (k : Keyword) → t.said ≡ keyword k → Behind (worded_at depth inner k t.start)
+    unfolding worded_at timestamp_at interval_at
+    worded_told key.True is = skip_told _ (pure (record { value = e.Truth true t.start; at = t.start; height = 1 })) (t ∷ ts)
+    worded_told key.False is = skip_told _ (pure (record { value = e.Truth false t.start; at = t.start; height = 1 })) (t ∷ ts)
+    worded_told key.Timestamp is = moment_then (λ moment us. Ok (leaf t.start (e.Timestamp moment t.start), us)) (λ moment. pure _) t (timestamp_asks t is) ts
+    worded_told key.Interval is = span_then (λ span us. Ok (leaf t.start (e.Interval span t.start), us)) (λ span. pure _) t (interval_asks t is) ts
+    worded_told key.Count is = skip_told _ (count_local t.start) (t ∷ ts)
+    worded_told key.Sum is = skip_told _ (aggregate_local function.Sum t.start) (t ∷ ts)
+    worded_told key.Min is = skip_told _ (aggregate_local function.Min t.start) (t ∷ ts)
+    worded_told key.Max is = skip_told _ (aggregate_local function.Max t.start) (t ∷ ts)
+    worded_told other is = none_begins
 
-    word_told : (word : Lexeme) → Behind (primary_by depth inner word t.start)
-    word_told (number n) = skip_told _ (pure (record { value = e.Number n t.start; at = t.start; height = 1 })) (t ∷ ts)
-    word_told (quoted text) = skip_told _ (pure (record { value = e.Text text t.start; at = t.start; height = 1 })) (t ∷ ts)
-    word_told (name text) = skip_told _ (column_local (record { text = text; at = t.start })) (t ∷ ts)
-    word_told (keyword k) = worded_told k
-    word_told (symbol mark.LeftParen) = skip_told _ (bracketed_local t.start) (t ∷ ts)
-    word_told (symbol other) = none_begins
+    word_told : (word : Lexeme) → t.said ≡ word → Behind (primary_by depth inner word t.start)
+    word_told (number n) is = skip_told _ (pure (record { value = e.Number n t.start; at = t.start; height = 1 })) (t ∷ ts)
+    word_told (quoted text) is = skip_told _ (pure (record { value = e.Text text t.start; at = t.start; height = 1 })) (t ∷ ts)
+    word_told (name text) is = skip_told _ (column_local (record { text = text; at = t.start })) (t ∷ ts)
+    word_told (keyword k) is = worded_told k is
+    word_told (symbol mark.LeftParen) is = skip_told _ (bracketed_local t.start) (t ∷ ts)
+    word_told (symbol other) is = none_begins
 
   -- by the first token and those behind it
   abbrev primary_from : Option Lexed → Reader
@@ -195,8 +187,8 @@ module _ (depth : ℕ) (inner : Reader) (il : Local inner) where
   primary_is (t ∷ ts) = refl
 
   from_told : (tokens : Ahead) → Told (primary_from (next tokens)) tokens (primary_from (next tokens) tokens)
-  from_told [] = record { rest = []; at = refl; seen = record { taken = []; whole = refl; same = λ others is. refl } }
-  from_told (t ∷ ts) = word_told t ts t.said
+  from_told [] = record { rest = []; at = refl; seen = record { taken = []; whole = refl; same = λ others is. refl }; bad = tt }
+  from_told (t ∷ ts) = word_told t ts t.said refl
 
   primary_told : (tokens : Ahead) → Told (primary_at depth inner) tokens (primary_at depth inner tokens)
   primary_told tokens =

@@ -3,12 +3,15 @@ use Rattle.std.proofs.Common.{◌≡◌, ℕ, Bool, true, false, sym, ap, ◌∙
 use Rattle.std.specs.Prelude.{is_some, if◌then◌else◌}
 use Rattle.ssq_ast.specs.declared.expr.Expr.{Expr}
 use Rattle.ssq_ast.specs.declared.expr.Expr.TheVariants as expr
+use Rattle.ssq_ast.specs.declared.expr.Ident.{Ident}
+use Rattle.ssq_ast.specs.declared.expr.Span.{Span}
 use Rattle.ssq_ast.specs.declared.query.Direction.TheVariants as direction
 use Rattle.ssq_ast.specs.declared.query.JoinKind.{JoinKind}
 use Rattle.ssq_ast.specs.declared.query.JoinKind.TheVariants as join
 use Rattle.ssq_ast.specs.declared.query.Mode.TheVariants as mode
 use Rattle.ssq_ast.specs.declared.query.Query.{Query}
 use Rattle.ssq_ast.specs.declared.query.Select.{Select}
+use Rattle.ssq_ast.specs.declared.query.Window.{Window}
 use Rattle.ssq_ast.specs.Statement.{IsWritten}
 use Rattle.ssq_lex.specs.declared.keyword.Keyword.{Keyword}
 use Rattle.ssq_lex.specs.declared.keyword.Keyword.TheVariants as key
@@ -18,12 +21,12 @@ use Rattle.ssq_value.specs.declared.column.ColType.TheVariants as kind
 use Rattle.ssq_parse.specs.declared.fault.ParseCause.TheVariants as cause
 use Rattle.ssq_parse.specs.Expressions.{whole_at}
 use Rattle.ssq_parse.specs.Queries.{list_at, or_type, type_at, decl_at, watermark_by, watermark_at, stream_at, streams_at, bare_at, item_by, item_at, condition_by, condition_at, joined_at, outer_at, bare_join, right_join, left_join, inner_join, join_at, deduplicate_by, deduplicate_at, slide_by, slide_at, window_at, group_item_by, group_item_at, group_by, group_at, direction_by, direction_at, order_item_at, order_by, order_at, limit_by, limit_at, or_mode, mode_at, select_at, alone, whole_query, query_at}
-use Rattle.ssq_parse.specs.Reading.{Ahead, Made, Read, Refusal, ◌>>=◌, place, expected, behind, seen, sees, is_keyword, is_symbol, is_name, keyword_at, symbol_at, name_at}
+use Rattle.ssq_parse.specs.Reading.{Ahead, Made, Read, Refusal, ◌>>=◌, place, expected, behind, seen, sees, is_keyword, is_symbol, is_name, keyword_at, symbol_at, name_at, span_at}
 use Rattle.ssq_parse.proofs.LaidQueries.{query_reads}
-use Rattle.ssq_parse.proofs.Local.{next, Local, Told, Seen, IfMissing, if_missing, first_same, place_same, pure, nothing, skip, followed, looking}
+use Rattle.ssq_parse.proofs.Local.{next, Local, Told, Seen, IfMissing, if_missing, first_same, place_same, IfBad, pure, nothing, skip, followed, looking, maybe_at, needs_then}
 use Rattle.ssq_parse.proofs.LocalExpressions.{whole_local, whole_none}
 use Rattle.ssq_parse.proofs.LocalLoops.{list_local, streams_local}
-use Rattle.ssq_parse.proofs.LocalParts.{if_seen, keyword_local, symbol_local, name_local, quoted_local, number_local, span_local}
+use Rattle.ssq_parse.proofs.LocalParts.{if_seen, keyword_local, symbol_local, name_local, quoted_local, number_local, span_then, delay_asks, comma_asks}
 
 if_sees : {A : Type 0} (is : Lexeme → Bool) (by : Bool → Ahead → Read A) → ((b : Bool) → Local (by b)) → Local (λ tokens. by (sees is tokens) tokens)
 if_sees is by l = looking (sees is) (λ us vs same. ap is_some (first_same (λ token. if is token.said then Some token.start else None) us vs same)) by l
@@ -60,9 +63,12 @@ unfolding decl_at name_at
 decl_none = refl
 
 watermark_local : Local watermark_at
-unfolding watermark_at
+unfolding watermark_at keyword_at
 watermark_local = if_seen (is_keyword key.Watermark) watermark_by (pure _)
-    (λ at. skip (followed (keyword_local key.For) (λ for. followed name_local (λ column. followed (keyword_local key.Delay) (λ delay. followed span_local (λ span. pure _))))))
+    (λ at. skip (followed (keyword_local key.For) (λ for. followed name_local (λ column.
+    needs_then (λ token. if is_keyword key.Delay token.said then Some token.start else None)
+    (λ delay tokens. span_at tokens >>= (λ span. Ok (Some (record { column = column; delay = span.0 }), span.1)))
+    (λ delay t ts is. span_then (λ span us. Ok (Some (record { column = column; delay = span }), us)) (λ span. pure _) t (delay_asks delay t is) ts)))))
 
 stream_local : (at : ℕ) → Local (stream_at at)
 unfolding stream_at
@@ -125,17 +131,32 @@ deduplicate_local = if_seen (is_keyword key.Deduplicate) deduplicate_by (pure _)
 
 slide_local : Local slide_at
 unfolding slide_at
-slide_local = if_seen (is_symbol mark.Comma) slide_by (pure _) (λ at. skip (followed span_local (λ span. pure _)))
+slide_local = maybe_at (λ token. if is_symbol mark.Comma token.said then Some token.start else None) slide_by (pure _)
+    (λ at t ts is. span_then (λ span us. Ok (Some span, us)) (λ span. pure _) t (comma_asks at t is) ts)
+
+-- behind the size of a window
+abbrev sized : ℕ → Ident → Span → Ahead → Read Window
+sized at column size tokens = do
+  slide ← slide_at tokens
+  closed ← symbol_at mark.RightParen slide.1
+  Ok (record { at = at; column = column; size = size; slide = slide.0 }, closed.1)
+
+sized_local : (at : ℕ) (column : Ident) (size : Span) → Local (sized at column size)
+sized_local at column size = followed slide_local (λ slide. followed (symbol_local mark.RightParen) (λ closed. pure _))
+
+-- a comma, and the size behind it
+abbrev comma_at : ℕ → Ident → Ahead → Read Window
+comma_at at column tokens = symbol_at mark.Comma tokens >>= (λ comma. span_at comma.1 >>= (λ size. sized at column size.0 size.1))
+
+comma_local : (at : ℕ) (column : Ident) → Local (comma_at at column)
+unfolding symbol_at
+comma_local at column =
+    needs_then (λ token. if is_symbol mark.Comma token.said then Some token.start else None) (λ comma tokens. span_at tokens >>= (λ size. sized at column size.0 size.1))
+    (λ comma t ts is. span_then (sized at column) (sized_local at column) t (comma_asks comma t is) ts)
 
 window_local : (at : ℕ) → Local (window_at at)
 unfolding window_at
-window_local at =
-    followed (symbol_local mark.LeftParen) (λ opened.
-    followed name_local (λ column.
-    followed (symbol_local mark.Comma) (λ comma.
-    followed span_local (λ size.
-    followed slide_local (λ slide.
-    followed (symbol_local mark.RightParen) (λ closed. pure _))))))
+window_local at = followed (symbol_local mark.LeftParen) (λ opened. followed name_local (λ column. comma_local at column))
 
 group_item_local : Local group_item_at
 unfolding group_item_at
@@ -255,35 +276,37 @@ query_is tokens = refl
 -- ---- no query goes on with a token that was refused
 
 -- no query is written as these tokens, up to that place and the token there
-pub record Stands (tokens : Ahead) (at : Option ℕ) : Type 0 where
+pub record Stands (tokens : Ahead) (refusal : Refusal) : Type 0 where
   pub taken : Ahead
   pub rest : Ahead
   pub whole : tokens ≡ taken ++ rest
-  pub here : place rest ≡ at
+  pub here : place rest ≡ refusal.at
   pub none : (others : Ahead) → next rest ≡ next others → (query : Query) → IsWritten (taken ++ others) query → ⊥
+  pub bad : IfBad refusal.cause taken rest
 
 abbrev pub IfStands : Ahead → Made Query → Type 0
 IfStands tokens (Ok query) = Unit {0}
-IfStands tokens (Err refusal) = IfMissing refusal.cause refusal.at (Stands tokens refusal.at)
+IfStands tokens (Err refusal) = IfMissing refusal.cause refusal.at (Stands tokens refusal)
 
 refuses_each : (tokens : Ahead) (refusal : Refusal) (query : Query) → query_at tokens ≡ Err refusal → IsWritten tokens query → ⊥
 refuses_each tokens refusal query is w = let found : query_at tokens ≡ Ok query = query_reads tokens query w in absurd (cc)
 
-stands : (tokens : Ahead) (refusal : Refusal) (taken rest : Ahead) → tokens ≡ taken ++ rest → place rest ≡ refusal.at
-    → ((others : Ahead) → next rest ≡ next others → whole_query (query_from (taken ++ others)) ≡ Err refusal) → Stands tokens refusal.at
-stands tokens refusal taken rest whole at same = record {
+stands : (tokens : Ahead) (refusal : Refusal) (taken rest : Ahead) → tokens ≡ taken ++ rest → place rest ≡ refusal.at → IfBad refusal.cause taken rest
+    → ((others : Ahead) → next rest ≡ next others → whole_query (query_from (taken ++ others)) ≡ Err refusal) → Stands tokens refusal
+stands tokens refusal taken rest whole at bad same = record {
   taken = taken;
   rest = rest;
   whole = whole;
   here = at;
   none = λ others is query. refuses_each (taken ++ others) refusal query (query_is (taken ++ others) ∙ same others is);
+  bad = bad;
 }
 
 alone_stands : (tokens : Ahead) (query : Query) (rest : Ahead) → Seen query_from tokens rest (λ others. Ok (query, others))
     → (at : Option ℕ) → place rest ≡ at → IfStands tokens (alone query at rest)
 alone_stands tokens query rest s None is = tt
 alone_stands tokens query rest s (Some at) is =
-    stands tokens (record { at = place rest; cause = cause.Expected }) s.taken rest s.whole refl (λ others same.
+    stands tokens (record { at = place rest; cause = cause.Expected }) s.taken rest s.whole refl tt (λ others same.
     ap whole_query (s.same others same)
     ∙ ap (λ p. alone query p others) (sym (place_same rest others same) ∙ is)
     ∙ ap (λ p. Err (record { at = p; cause = cause.Expected })) (sym (place_same rest others same)))
@@ -291,7 +314,7 @@ alone_stands tokens query rest s (Some at) is =
 whole_stands : (tokens : Ahead) (read : Read Query) → Told query_from tokens read → IfStands tokens (whole_query read)
 whole_stands tokens (Ok found) told = alone_stands tokens found.0 found.1 told (place found.1) refl
 whole_stands tokens (Err refusal) told =
-    if_missing refusal.cause refusal.at (λ u. stands tokens refusal u.seen.taken u.rest u.seen.whole u.at (λ others same. ap whole_query (u.seen.same others same))) told
+    if_missing refusal.cause refusal.at (λ u. stands tokens refusal u.seen.taken u.rest u.seen.whole u.at u.bad (λ others same. ap whole_query (u.seen.same others same))) told
 
 pub query_stands : (tokens : Ahead) → IfStands tokens (query_at tokens)
 unfolding query_at

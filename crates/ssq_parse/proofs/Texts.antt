@@ -1,13 +1,16 @@
 -- The canonical text of a query is read as that query.
-use Rattle.std.proofs.Common.{◌≡◌, ℕ, refl, sym, subst, List, Option, Some, None, Ok}
+use Rattle.std.proofs.Common.{◌≡◌, ℕ, refl, sym, subst, List, Option, Some, None, Result, Ok, Err}
+use Rattle.std.specs.Prelude.{IfOk}
+use Rattle.ssq_ast.specs.declared.query.Query.{Query}
 use Rattle.ssq_ast.specs.Again.{IsReadAgain, IsSayableAgain}
 use Rattle.ssq_ast.specs.Canonical.{canonical, plain_query}
 use Rattle.ssq_ast.specs.Statement.{IsWritten, query_words}
 use Rattle.ssq_lex.specs.Cut.{whole, cut_of, tokens_of}
 use Rattle.ssq_lex.specs.declared.fault.Refusal.{Refusal}
 use Rattle.ssq_lex.specs.Sayable.{PrintedIsRead, PrintedIsText, TokensAreSayable}
-use Rattle.ssq_parse.specs.Again.{TextIsParsed}
-use Rattle.ssq_parse.specs.File.{IsQuery}
+use Rattle.ssq_parse.specs.declared.fault.ParseFault.{ParseFault}
+use Rattle.ssq_parse.specs.Again.{HasFile, TextIsParsed}
+use Rattle.ssq_parse.specs.File.{IsQuery, query_of, Answers}
 use Rattle.ssq_parse.specs.Reading.{Ahead}
 use Rattle.ssq_parse.proofs.Files.{written_is}
 use Rattle.ssq_parse.proofs.Selects.{parsed}
@@ -38,3 +41,8 @@ text_read printed_read printed_text said again sayable file query is short =
       });
       equal = same.2;
     }
+
+-- the text of a query that the call answers
+pub read_again : (file : List ℕ) (result : Result Query ParseFault) → Answers (query_of file) result → TextIsParsed → IfOk result HasFile
+read_again file (Ok query) answer law = law file query answer
+read_again file (Err fault) answer law = tt

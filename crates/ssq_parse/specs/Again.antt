@@ -11,8 +11,10 @@ pub record IsFileOf (file : List ℕ) (query : Query) : Type 0 where
   pub read : query_of file ≡ Ok same
   pub equal : erased same ≡ erased query
 
+-- the text of the query is a file of it, where a file may have so many bytes
+abbrev pub HasFile : Query → Type 0
+HasFile query = length (canonical query) ≤ 65536 → IsFileOf (canonical query) query
+
 -- The text of a query that is read is a file of that query, where a file may have so many bytes.
 abbrev pub TextIsParsed : Type 0
-TextIsParsed =
-    (file : List ℕ) (query : Query) → query_of file ≡ Ok query → length (canonical query) ≤ 65536
-    → IsFileOf (canonical query) query
+TextIsParsed = (file : List ℕ) (query : Query) → query_of file ≡ Ok query → HasFile query

@@ -5,8 +5,8 @@ ghost use Rattle.std.specs.Str.{IsUtf8};
 ghost use Rattle.ssq_ast.specs.declared.query.Query.{Query};
 ghost use Rattle.ssq_lex.specs.Cut.{cut_of};
 ghost use Rattle.ssq_lex.specs.Lexeme.{lexed};
-ghost use Rattle.ssq_parse.specs.Again.{TextIsParsed};
-ghost use Rattle.ssq_parse.specs.Faults.{AtExpected, IsFirst};
+ghost use Rattle.ssq_parse.specs.Again.{HasFile, TextIsParsed};
+ghost use Rattle.ssq_parse.specs.Faults.{StandsAt};
 ghost use Rattle.ssq_parse.specs.File as spec;
 ghost use Rattle.ssq_parse.specs.File.{Answers};
 
@@ -93,8 +93,11 @@ pub fn parse(alloc: Global, file: &[u8]) -> Result<Query, ParseFault>
     ensures written { IfOk result (λ query. spec.IsQuery file.now query) }
     // and each query that is written so is found: a file that is refused is written as none
     ensures each { (query : Query) → spec.IsQuery file.now query → spec.Finds query result }
-    // where something else is expected, no query goes on like this
-    ensures first { IfErr result (AtExpected (IsFirst file.now)) }
+    // where something else is expected, no query goes on like this; nor with a text that is no span or no time where one has to
+    // stand
+    ensures first { IfErr result (StandsAt file.now) }
+    // the text of the query is read as that query, places aside
+    ensures again { IfOk result HasFile }
 {
     if file.len() > MOST_BYTES {
         return Err(ParseFault::Refused {
@@ -103,7 +106,10 @@ pub fn parse(alloc: Global, file: &[u8]) -> Result<Query, ParseFault>
         });
     }
     match str::from_utf8(file) {
-        Ok(text) => parse_text(alloc, text),
+        Ok(text) => {
+            text_is_parsed();
+            parse_text(alloc, text)
+        }
         Err(error) => Err(ParseFault::Refused {
             at: error.valid_up_to(),
             cause: ParseCause::NotUtf8,
