@@ -1,11 +1,11 @@
--- What is kept of groups, by the bytes of keys.
+-- What is kept of keys, by their bytes.
 use Rattle.std.proofs.Common.{◌≡◌, ◌++◌, [], ◌∷◌, ℕ, ℤ, List, Option, Some, None, Bool, true, false, refl, ap, sym, ◌∙◌, arith, filter, map, length}
 use Rattle.std.specs.Prelude.{◌&&◌, ◌||◌, not, if◌then◌else◌, All, T, option_map, cond}
 use Rattle.std.specs.declared.cmp.Ordering.{Ordering}
 use Rattle.std.specs.declared.cmp.Ordering.TheVariants.{Less, Equal, Greater}
 use Rattle.std.specs.BTreeMap.{is_at}
 use Rattle.std.specs.Cmp.Lexicographic.{slice_cmp, nat_list_cmp_total}
-use Rattle.std.specs.FinMap.{from_entries, entries_sorted, get-entries, get-from_entries, find, nat_cmp-IsAntisymmetric, slice_cmp-IsAntisymmetric}
+use Rattle.std.specs.FinMap.{entries, from_entries, entries_sorted, get-entries, get-from_entries, find, nat_cmp-IsAntisymmetric, slice_cmp-IsAntisymmetric}
 use Rattle.std.specs.FinMap.Entries.{is_sorted, below_all}
 use Rattle.std.specs.List.{AllByRecursion, list_any}
 use Rattle.std.specs.List.Sorted.{IsStrictlySortedBy}
@@ -17,7 +17,9 @@ use Rattle.ssq_shape.specs.declared.bound.Bound.{Bound}
 use Rattle.ssq_shape.specs.declared.bound.Grouping.{Grouping}
 use Rattle.ssq_meaning.specs.declared.fed_row.FedRow.{FedRow}
 use Rattle.ssq_meaning.specs.declared.total.Total.{Total}
-use Rattle.ssq_meaning.specs.Group.{is_same, keys_in, has_key, totals_in, is_closed, open_keys, entry_of, kept}
+use Rattle.ssq_meaning.specs.Dedup as repeats
+use Rattle.ssq_meaning.specs.DedupLaws.{is_held, entry_if}
+use Rattle.ssq_meaning.specs.Group.{is_same, keys_in, has_key, totals_in, is_closed, kept}
 use Rattle.ssq_meaning.specs.GroupLaws.{times, held_if, held, IsKeySpelled}
 use Rattle.ssq_meaning.specs.Meaning.{Values}
 use Rattle.ssq_meaning.specs.Totals.{totals_bytes}
@@ -49,9 +51,29 @@ found_is : {X : Type 0} (q : List ℕ) (es : List (List ℕ × X)) → lookup (i
 found_is q [] = refl
 found_is q (e ∷ es) = ap (λ o. cond (is_eq (by_bytes q e.0)) (Some e.1) o) (found_is q es)
 
-module _ (query : Bound) (grouping : Grouping) (rows : List FedRow) (now : Option ℤ) (key : Values)
-    (apart : (left right : Values) (x y : List ℕ) → length left ≡ length right → All IsSpelled left → All IsSpelled right → keys_of left ++ x ≡ keys_of right ++ y → (left ≡ right) × (x ≡ y))
-    (spelled : All IsSpelled key) where
+-- that keys of one number of values are apart by their bytes
+abbrev pub AreApart : Type 0
+AreApart = (left right : Values) (x y : List ℕ) → length left ≡ length right → All IsSpelled left → All IsSpelled right → keys_of left ++ x ≡ keys_of right ++ y → (left ≡ right) × (x ≡ y)
+
+-- the keys of rows that pass a test, each with its value
+abbrev entry_with : (Values → List ℕ) → Values → List ℕ × List ℕ
+entry_with value key = (keys_of key, value key)
+
+abbrev pub kept_by : (Values → Bool) → (Values → List ℕ) → List FedRow → List (List ℕ × List ℕ)
+kept_by is_open value rows = entries (from_entries {R = slice_cmp nat_cmp} (map (entry_with value) (filter is_open (keys_in rows))))
+
+open_among : (is_open : Values → Bool) (rows : List FedRow) (key : Values) → list_any (is_same key) (filter is_open (keys_in rows)) ≡ (has_key rows key && is_open key)
+open_among is_open rows key =
+    any_by key (filter is_open (keys_in rows)) (has_key rows key && is_open key)
+    (times_passing key is_open (keys_in rows) ∙ ap (λ n. if is_open key then n else 0) (times_in key rows) ∙ by (is_open key) (has_key rows key))
+  where
+    by : (a b : Bool) → ◌≡◌ {A = ℕ} (if a then (if b then 1 else 0) else 0) (if (b && a) then 1 else 0)
+    by true true = refl
+    by true false = refl
+    by false true = refl
+    by false false = refl
+
+module _ (is_open : Values → Bool) (value : Values → List ℕ) (rows : List FedRow) (key : Values) (apart : AreApart) (spelled : All IsSpelled key) where
   -- two keys have the same bytes exactly where they are the same
   same_bytes : (other : Values) → IsKeySpelled (length key) other → is_eq (by_bytes (keys_of key) (keys_of other)) ≡ is_same key other
   same_bytes other are = by (is_eq (by_bytes (keys_of key) (keys_of other))) (is_same key other) refl refl
@@ -67,51 +89,82 @@ module _ (query : Bound) (grouping : Grouping) (rows : List FedRow) (now : Optio
           let no : true ≡ false = ap is_eq (sym (tied_itself nat_list_cmp_total (keys_of key))) ∙ ap (λ k. is_eq (by_bytes (keys_of key) (keys_of k))) (same_is key other same) ∙ is in absurd cc
 
   found_among : (keys : List Values) → AllByRecursion (IsKeySpelled (length key)) keys
-      → find by_bytes (keys_of key) (map (entry_of grouping rows) keys) ≡ (if list_any (is_same key) keys then Some (totals_bytes (totals_in grouping rows key)) else None)
+      → find by_bytes (keys_of key) (map (entry_with value) keys) ≡ (if list_any (is_same key) keys then Some (value key) else None)
   found_among [] all = refl
   found_among (other ∷ keys) all = by (is_same key other) refl (found_among keys all.1)
     where
-      by : (b : Bool) → is_same key other ≡ b → find by_bytes (keys_of key) (map (entry_of grouping rows) keys) ≡ (if list_any (is_same key) keys then Some (totals_bytes (totals_in grouping rows key)) else None)
-          → cond (is_eq (by_bytes (keys_of key) (keys_of other))) (Some (totals_bytes (totals_in grouping rows other))) (find by_bytes (keys_of key) (map (entry_of grouping rows) keys))
-          ≡ (if (b || list_any (is_same key) keys) then Some (totals_bytes (totals_in grouping rows key)) else None)
+      by : (b : Bool) → is_same key other ≡ b → find by_bytes (keys_of key) (map (entry_with value) keys) ≡ (if list_any (is_same key) keys then Some (value key) else None)
+          → cond (is_eq (by_bytes (keys_of key) (keys_of other))) (Some (value other)) (find by_bytes (keys_of key) (map (entry_with value) keys))
+          ≡ (if (b || list_any (is_same key) keys) then Some (value key) else None)
       by true same rest =
-          ap (λ b. cond b (Some (totals_bytes (totals_in grouping rows other))) (find by_bytes (keys_of key) (map (entry_of grouping rows) keys))) (same_bytes other all.0 ∙ same)
-          ∙ ap (λ k. Some (totals_bytes (totals_in grouping rows k))) (sym (same_is key other same))
+          ap (λ b. cond b (Some (value other)) (find by_bytes (keys_of key) (map (entry_with value) keys))) (same_bytes other all.0 ∙ same)
+          ∙ ap (λ k. Some (value k)) (sym (same_is key other same))
       by false same rest =
-          ap (λ b. cond b (Some (totals_bytes (totals_in grouping rows other))) (find by_bytes (keys_of key) (map (entry_of grouping rows) keys))) (same_bytes other all.0 ∙ same) ∙ rest
-
-  is_open : list_any (is_same key) (open_keys query grouping rows now) ≡ (has_key rows key && not (is_closed query grouping now key))
-  is_open = any_by key (open_keys query grouping rows now) (has_key rows key && not (is_closed query grouping now key))
-      (times_passing key (λ key. not (is_closed query grouping now key)) (keys_in rows)
-      ∙ ap (λ n. if not (is_closed query grouping now key) then n else 0) (times_in key rows)
-      ∙ by (not (is_closed query grouping now key)) (has_key rows key))
-    where
-      by : (a b : Bool) → ◌≡◌ {A = ℕ} (if a then (if b then 1 else 0) else 0) (if (b && a) then 1 else 0)
-      by true true = refl
-      by true false = refl
-      by false true = refl
-      by false false = refl
-
-  as_held : (b : Bool) (totals : List Total) → (if b then Some (totals_bytes totals) else None) ≡ option_map totals_bytes (held_if b totals)
-  as_held true totals = refl
-  as_held false totals = refl
+          ap (λ b. cond b (Some (value other)) (find by_bytes (keys_of key) (map (entry_with value) keys))) (same_bytes other all.0 ∙ same) ∙ rest
 
   pub kept_found : AllByRecursion (λ (row : FedRow). IsKeySpelled (length key) row.key) rows
-      → lookup (is_at (by_bytes (keys_of key))) (kept query grouping rows now) ≡ option_map totals_bytes (held query grouping rows now key)
+      → lookup (is_at (by_bytes (keys_of key))) (kept_by is_open value rows) ≡ (if has_key rows key && is_open key then Some (value key) else None)
   kept_found all =
-      found_is (keys_of key) (kept query grouping rows now)
-      ∙ sym (get-entries (from_entries {R = by_bytes} (map (entry_of grouping rows) (open_keys query grouping rows now))) (keys_of key))
-      ∙ get-from_entries nat_list_cmp_total (map (entry_of grouping rows) (open_keys query grouping rows now)) (keys_of key)
-      ∙ found_among (open_keys query grouping rows now)
-      (All-by (IsKeySpelled (length key)) (λ key. not (is_closed query grouping now key)) (keys_in rows)
-      (All-distinct (IsKeySpelled (length key)) (map (λ (row : FedRow). row.key) rows) (keys_of_rows query grouping (IsKeySpelled (length key)) rows all)))
-      ∙ ap (λ b. if b then Some (totals_bytes (totals_in grouping rows key)) else None) is_open
-      ∙ as_held (has_key rows key && not (is_closed query grouping now key)) (totals_in grouping rows key)
+      found_is (keys_of key) (kept_by is_open value rows)
+      ∙ sym (get-entries (from_entries {R = by_bytes} (map (entry_with value) (filter is_open (keys_in rows)))) (keys_of key))
+      ∙ get-from_entries nat_list_cmp_total (map (entry_with value) (filter is_open (keys_in rows))) (keys_of key)
+      ∙ found_among (filter is_open (keys_in rows))
+      (All-by (IsKeySpelled (length key)) is_open (keys_in rows)
+      (All-distinct (IsKeySpelled (length key)) (map (λ (row : FedRow). row.key) rows) (keys_of_rows (IsKeySpelled (length key)) rows all)))
+      ∙ ap (λ b. if b then Some (value key) else None) (open_among is_open rows key)
 
-pub all_found : ((left right : Values) (x y : List ℕ) → length left ≡ length right → All IsSpelled left → All IsSpelled right → keys_of left ++ x ≡ keys_of right ++ y → (left ≡ right) × (x ≡ y))
+as_held : (b : Bool) (totals : List Total) → (if b then Some (totals_bytes totals) else None) ≡ option_map totals_bytes (held_if b totals)
+as_held true totals = refl
+as_held false totals = refl
+
+pub all_found : AreApart
     → (query : Bound) (grouping : Grouping) (rows : List FedRow) (now : Option ℤ) (key : Values) → All IsSpelled key → AllByRecursion (λ (row : FedRow). IsKeySpelled (length key) row.key) rows
     → lookup (is_at (by_bytes (keys_of key))) (kept query grouping rows now) ≡ option_map totals_bytes (held query grouping rows now key)
-all_found apart query grouping rows now key spelled all = kept_found query grouping rows now key apart spelled all
+all_found apart query grouping rows now key spelled all =
+    kept_found (λ key. not (is_closed query grouping now key)) (λ key. totals_bytes (totals_in grouping rows key)) rows key apart spelled all
+    ∙ as_held (has_key rows key && not (is_closed query grouping now key)) (totals_in grouping rows key)
+
+as_entry : (b : Bool) → (if b then Some [] else None) ≡ entry_if b
+as_entry true = refl
+as_entry false = refl
+
+-- and of rows without repeats
+pub repeats_found : AreApart
+    → (query : Bound) (columns : List ℕ) (rows : List FedRow) (now : Option ℤ) (key : Values) → All IsSpelled key → AllByRecursion (λ (row : FedRow). IsKeySpelled (length key) row.key) rows
+    → lookup (is_at (by_bytes (keys_of key))) (repeats.kept query columns rows now) ≡ entry_if (is_held query columns rows now key)
+repeats_found apart query columns rows now key spelled all =
+    kept_found (λ key. not (repeats.is_closed query columns now key)) (λ key. []) rows key apart spelled all ∙ as_entry (is_held query columns rows now key)
+
+-- ---- each key that is kept is a row's
+
+either_true : (a b : Bool) → b ≡ true → (a || b) ≡ true
+either_true true b is = refl
+either_true false b is = is
+
+first_true : (a b : Bool) → (a && b) ≡ true → a ≡ true
+first_true true b is = refl
+first_true false b is = absurd cc
+
+entry_among : (value : Values → List ℕ) (q v : List ℕ) (keys : List Values) → find by_bytes q (map (entry_with value) keys) ≡ Some v → (key : Values) × (q ≡ keys_of key) × (list_any (is_same key) keys ≡ true)
+entry_among value q v [] is = absurd cc
+entry_among value q v (key ∷ keys) is = by (is_eq (by_bytes q (keys_of key))) refl is (entry_among value q v keys)
+  where
+    by : (b : Bool) → is_eq (by_bytes q (keys_of key)) ≡ b → cond b (Some (value key)) (find by_bytes q (map (entry_with value) keys)) ≡ Some v
+        → (find by_bytes q (map (entry_with value) keys) ≡ Some v → (other : Values) × (q ≡ keys_of other) × (list_any (is_same other) keys ≡ true))
+        → (other : Values) × (q ≡ keys_of other) × ((is_same other key || list_any (is_same other) keys) ≡ true)
+    by true at has rest =
+        (key, slice_cmp-IsAntisymmetric nat_cmp-IsAntisymmetric q (keys_of key) (is_equal (by_bytes q (keys_of key)) at), ap (λ b. b || list_any (is_same key) keys) (same_itself key))
+    by false apart has rest = let found = rest has in (found.0, found.1, either_true (is_same found.0 key) (list_any (is_same found.0) keys) found.2)
+
+pub repeats_own : (query : Bound) (columns : List ℕ) (rows : List FedRow) (now : Option ℤ) (q v : List ℕ) → lookup (is_at (by_bytes q)) (repeats.kept query columns rows now) ≡ Some v
+    → (key : Values) × (q ≡ keys_of key) × (has_key rows key ≡ true)
+repeats_own query columns rows now q v is =
+    let is_open : Values → Bool = λ key. not (repeats.is_closed query columns now key) in
+    let found = entry_among (λ key. []) q v (repeats.open_keys query columns rows now)
+    (sym (get-from_entries nat_list_cmp_total (map repeats.entry_of (repeats.open_keys query columns rows now)) q)
+    ∙ get-entries (from_entries {R = by_bytes} (map repeats.entry_of (repeats.open_keys query columns rows now))) q
+    ∙ sym (found_is q (repeats.kept query columns rows now)) ∙ is) in
+    (found.0, found.1, first_true (has_key rows found.0) (is_open found.0) (sym (open_among is_open rows found.0) ∙ found.2))
 
 -- ---- the order of keys
 
@@ -137,6 +190,11 @@ sorted_is (e ∷ es) sorted =
     let parts = both_hold (below_all by_bytes e.0 es) (is_sorted by_bytes es) sorted in
     (below_each e.0 es parts.0, sorted_is es parts.1)
 
+ascends_by : (is_open : Values → Bool) (value : Values → List ℕ) (rows : List FedRow) → IsStrictlySortedBy by_bytes (map (λ (entry : List ℕ × List ℕ). entry.0) (kept_by is_open value rows))
+ascends_by is_open value rows = sorted_is (kept_by is_open value rows) (entries_sorted (from_entries {R = by_bytes} (map (entry_with value) (filter is_open (keys_in rows)))))
+
 pub kept_ascends : (query : Bound) (grouping : Grouping) (rows : List FedRow) (now : Option ℤ) → IsStrictlySortedBy by_bytes (map (λ (entry : List ℕ × List ℕ). entry.0) (kept query grouping rows now))
-kept_ascends query grouping rows now =
-    sorted_is (kept query grouping rows now) (entries_sorted (from_entries {R = by_bytes} (map (entry_of grouping rows) (open_keys query grouping rows now))))
+kept_ascends query grouping rows now = ascends_by (λ key. not (is_closed query grouping now key)) (λ key. totals_bytes (totals_in grouping rows key)) rows
+
+pub repeats_ascend : (query : Bound) (columns : List ℕ) (rows : List FedRow) (now : Option ℤ) → IsStrictlySortedBy by_bytes (map (λ (entry : List ℕ × List ℕ). entry.0) (repeats.kept query columns rows now))
+repeats_ascend query columns rows now = ascends_by (λ key. not (repeats.is_closed query columns now key)) (λ key. []) rows

@@ -22,6 +22,7 @@ use Rattle.ssq_shape.specs.Windows.{HasWindow, HasWindowsBy, HasWindows, is_wind
 use Rattle.ssq_meaning.specs.declared.fed_row.FedRow.{FedRow}
 use Rattle.ssq_meaning.specs.declared.line.LineFault.{LineFault}
 use Rattle.ssq_meaning.specs.Cut.{Cut, Cuts, AreCuts, AreWithin, of_parts}
+use Rattle.ssq_meaning.specs.Dedup.{distinguished, key_in}
 use Rattle.ssq_meaning.specs.Epochs.{accepted, bucket, fed, fed_between, on_time, watermark}
 use Rattle.ssq_meaning.specs.Feeding.{fed_at, fed_if, fed_in, line_handed, offset_lines, placed, read_at}
 use Rattle.ssq_meaning.specs.Group.{arguments_of, key_values, member, row_keys, starts_if}
@@ -88,20 +89,23 @@ module _ (few : AreFew) (query : Bound) (windows : HasWindows query) where
   abbrev HasFew : List Handed → Type 0
   HasFew rows = length rows ≤ 64
 
-  once_few : (row : Result Values Excess) → IfOk row (λ values. HasFew (record { key = []; time = None; values = values } ∷ []))
-  once_few (Ok values) = omega arith
-  once_few (Err excess) = tt
+  once_few : (hand : Values → Handed) (row : Result Values Excess) → IfOk row (λ values. HasFew (hand values ∷ []))
+  once_few hand (Ok values) = omega arith
+  once_few hand (Err excess) = tt
+
+  shown_few : (row : Values) → Gives query HasFew shape.Plain row
+  shown_few row = once_few (λ values. record { key = []; time = None; values = values }) (projected query.outputs row)
 
   members_few : (grouping : Grouping) (keys : List Values) → length keys ≤ 64 → (arguments : Result Values Excess) → IfOk arguments (λ arguments. HasFew (map (member query grouping arguments) keys))
   members_few grouping keys few_of (Ok arguments) = omega (arith, length-map keys (member query grouping arguments), few_of)
   members_few grouping keys few_of (Err excess) = tt
 
   gives_few : (of : Shape) → HasWindowsBy of → (row : Values) → Gives query HasFew of row
-  gives_few shape.Plain own row = once_few (projected query.outputs row)
+  gives_few shape.Plain own row = shown_few row
   gives_few (shape.Group grouping) own row =
       members_few grouping (row_keys grouping.keys row) (few_keys few grouping.keys row own.each own.one) (arguments_of grouping.aggregates row)
-  gives_few (shape.Dedup columns) own row = once_few (projected query.outputs row)
-  gives_few (shape.Join joining) own row = once_few (projected query.outputs row)
+  gives_few (shape.Dedup columns) own row = once_few (distinguished query columns (key_in columns row)) (projected query.outputs row)
+  gives_few (shape.Join joining) own row = shown_few row
 
   if_few : (part : Part) (at : ℕ) (rows : Result (List Handed) LineFault) → IfOk rows HasFew → length (fed_if part at rows) ≤ 64
   if_few part at (Ok rows) few_of = omega (arith, length-map rows (placed part at), few_of)

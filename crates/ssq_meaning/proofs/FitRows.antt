@@ -31,6 +31,7 @@ use Rattle.ssq_shape.specs.Plain.{projected}
 use Rattle.ssq_shape.specs.Windows.{HasWindow, HasWindowsBy, HasWindows}
 use Rattle.ssq_meaning.specs.declared.fed_row.FedRow.{FedRow}
 use Rattle.ssq_meaning.specs.Cut.{Cuts}
+use Rattle.ssq_meaning.specs.Dedup.{distinguished, key_in}
 use Rattle.ssq_meaning.specs.Epochs.{fed, on_time, accepted}
 use Rattle.ssq_meaning.specs.Feeding.{layout_at, line_handed, fed_in}
 use Rattle.ssq_meaning.specs.Fit.{IsFitRow}
@@ -191,13 +192,22 @@ module _ (rows_fit : RowsFit) (stays : StaysFit) (held : AreHeld) (query : Bound
       IfOk-weaker (projected query.outputs row) (AllByRecursion IsFit) (λ values. AllByRecursion (IsGiven query AreFit) (record { key = []; time = None; values = values } ∷ []))
       (λ values fit. ((tt, fit), tt)) (items_fit stays row (row_fits row all) query.outputs)
 
+  cells_fit : (columns : List ℕ) (row : Values) → AllByRecursion IsRead row → AllByRecursion IsFit (key_in columns row)
+  cells_fit [] row all = tt
+  cells_fit (column ∷ columns) row all = ((cell_read row column all).0, cells_fit columns row all)
+
+  dedup_fit : (columns : List ℕ) (row : Values) → AllByRecursion IsRead row → Gives query (AllByRecursion (IsGiven query AreFit)) (shape.Dedup columns) row
+  dedup_fit columns row all =
+      IfOk-weaker (projected query.outputs row) (AllByRecursion IsFit) (λ values. AllByRecursion (IsGiven query AreFit) (distinguished query columns (key_in columns row) values ∷ []))
+      (λ values fit. ((cells_fit columns row all, fit), tt)) (items_fit stays row (row_fits row all) query.outputs)
+
   gives_fit : (of : Shape) → HasWindowsBy of → (row : Values) → AllByRecursion IsRead row → Gives query (AllByRecursion (IsGiven query AreFit)) of row
   gives_fit shape.Plain own row all = once_fit row all
   gives_fit (shape.Group grouping) own row all =
       IfOk-weaker (arguments_of grouping.aggregates row) (AllByRecursion IsFit) (λ arguments. AllByRecursion (IsGiven query AreFit) (map (member query grouping arguments) (row_keys grouping.keys row)))
       (λ arguments fit. members_fit query grouping arguments (row_keys grouping.keys row) fit (keys_fit held grouping.keys row own.each all))
       (arguments_fit stays row (row_fits row all) grouping.aggregates)
-  gives_fit (shape.Dedup columns) own row all = once_fit row all
+  gives_fit (shape.Dedup columns) own row all = dedup_fit columns row all
   gives_fit (shape.Join joining) own row all = once_fit row all
 
   line_fit : (stream : ℕ) (line : Line) → IfOk (line_handed query stream line) (AllByRecursion (IsGiven query AreFit))

@@ -18,26 +18,21 @@ use Rattle.ssq_meaning.specs.Laws.{outs}
 use Rattle.ssq_meaning.specs.Meaning.{Values}
 use Rattle.ssq_meaning.specs.Operator.{group, operator_for, operator_of}
 use Rattle.ssq_meaning.specs.Parts.{Part}
-use Rattle.ssq_meaning.specs.Times.{AtMost}
 use Rattle.ssq_meaning.proofs.Counted.{considered}
 use Rattle.ssq_meaning.proofs.FedTimes.{on_time_open}
 use Rattle.ssq_meaning.proofs.Grouped.{past_stays, appended}
 use Rattle.ssq_meaning.proofs.Handing.{weaker}
-use Rattle.ssq_meaning.proofs.Water.{water_stays}
+use Rattle.ssq_meaning.proofs.Water.{water_rose, water_stays}
 
 module _ (query : Bound) (grouping : Grouping) (is : query.shape ≡ Group grouping) (parts : List Part) (cuts : Cuts) where
   pub group_is : operator_of query ≡ group query grouping
   unfolding operator_of
   group_is = ap (λ (shape : Shape). operator_for shape query) is
 
-  before_rises : (e : ℕ) → AtMost (watermark_before query parts cuts e) (watermark query parts cuts e)
-  before_rises zero = tt
-  before_rises (suc e) = water_stays query parts cuts e (suc e) (omega arith)
-
   -- each epoch comes after those before it
   pub follows_at : (e : ℕ) → Follows query grouping (on_time query parts cuts e) (watermark_before query parts cuts e) (watermark query parts cuts e)
   follows_at e = record {
-    rises = before_rises e;
+    rises = water_rose query parts cuts e;
     timely = All-from_recursion _ (on_time query parts cuts e) (on_time_open query grouping is parts cuts e);
   }
 

@@ -39,6 +39,10 @@ members-append old new key =
     ap (map (λ (row : FedRow). row.values)) (filter-append (λ row. is_same key row.key) old new)
     ∙ map-append (λ (row : FedRow). row.values) (filter (λ row. is_same key row.key) old) (filter (λ row. is_same key row.key) new)
 
+pub keys_of_rows : (P : Values → Type 0) (rows : List FedRow) → AllByRecursion (λ row. P row.key) rows → AllByRecursion P (map (λ row. row.key) rows)
+keys_of_rows P [] all = tt
+keys_of_rows P (row ∷ rows) all = (all.0, keys_of_rows P rows all.1)
+
 module _ (query : Bound) (grouping : Grouping) where
   -- a closed key is that of no row that is not late
   pub apart : (now : Option ℤ) (key : Values) → is_closed query grouping now key ≡ true → (new : List FedRow)
@@ -59,10 +63,6 @@ module _ (query : Bound) (grouping : Grouping) where
       members-append old new key
       ∙ ap (λ more. members old key ++ more) (no_members key new (apart now key closed new timely))
       ∙ append-nil (members old key)
-
-  pub keys_of_rows : (P : Values → Type 0) (rows : List FedRow) → AllByRecursion (λ row. P row.key) rows → AllByRecursion P (map (λ row. row.key) rows)
-  keys_of_rows P [] all = tt
-  keys_of_rows P (row ∷ rows) all = (all.0, keys_of_rows P rows all.1)
 
   -- among keys that are closed, those of more rows are those of the rows before
   pub same_keys : (p : Values → Bool) (old new : List FedRow) → AllByRecursion (λ row. p row.key ≡ false) new → filter p (keys_in (old ++ new)) ≡ filter p (keys_in old)

@@ -13,6 +13,7 @@ use Rattle.ssq_shape.specs.Plain.{passes, projected}
 use Rattle.ssq_meaning.specs.declared.fed_row.FedRow.{FedRow}
 use Rattle.ssq_meaning.specs.declared.line.LineFault.{LineFault}
 use Rattle.ssq_meaning.specs.Cut.{Cut, Cuts, of_parts}
+use Rattle.ssq_meaning.specs.Dedup.{distinguished, distinguished_if, handed_to_dedup, key_in}
 use Rattle.ssq_meaning.specs.Epochs.{fed_between, fed, on_time, accepted, watermark}
 use Rattle.ssq_meaning.specs.Feeding.{shown_once, handed_by, line_evaluated, line_read, line_handed, read_at, placed, fed_if, fed_at, offset_lines, fed_in}
 use Rattle.ssq_meaning.specs.Group.{member, row_keys, arguments_of, handed_to_groups}
@@ -58,7 +59,7 @@ module _ (query : Bound) (Q : List Handed → Type 0) where
   Gives shape.Plain row = IfOk (projected query.outputs row) (λ values. Q (shown_once (Some values)))
   Gives (shape.Group grouping) row =
       IfOk (arguments_of grouping.aggregates row) (λ arguments. Q (map (member query grouping arguments) (row_keys grouping.keys row)))
-  Gives (shape.Dedup columns) row = IfOk (projected query.outputs row) (λ values. Q (shown_once (Some values)))
+  Gives (shape.Dedup columns) row = IfOk (projected query.outputs row) (λ values. Q (distinguished query columns (key_in columns row) values ∷ []))
   Gives (shape.Join joining) row = IfOk (projected query.outputs row) (λ values. Q (shown_once (Some values)))
 
   module _ (none : Q []) where
@@ -73,18 +74,22 @@ module _ (query : Bound) (Q : List Handed → Type 0) where
         if_passing (passes query.filter row) (and_then (arguments_of grouping.aggregates row) (λ arguments. Ok (map (member query grouping arguments) (row_keys grouping.keys row))))
         (then_ok Q (λ arguments. map (member query grouping arguments) (row_keys grouping.keys row)) (arguments_of grouping.aggregates row) has)
 
-    once_if : (passing : Result Bool Excess) (row : Result Values Excess) → IfOk row (λ values. Q (shown_once (Some values)))
-        → IfOk (and_then (and_then passing (λ passing. if passing then and_then row (λ values. Ok (Some values)) else Ok None)) (λ values. Ok (shown_once values))) Q
-    once_if (Ok true) (Ok values) has = has
-    once_if (Ok true) (Err excess) has = tt
-    once_if (Ok false) row has = none
-    once_if (Err excess) row has = tt
+    once_if : (hand : Option Values → List Handed) → Q (hand None) → (passing : Result Bool Excess) (row : Result Values Excess) → IfOk row (λ values. Q (hand (Some values)))
+        → IfOk (and_then (and_then passing (λ passing. if passing then and_then row (λ values. Ok (Some values)) else Ok None)) (λ values. Ok (hand values))) Q
+    once_if hand nothing (Ok true) (Ok values) has = has
+    once_if hand nothing (Ok true) (Err excess) has = tt
+    once_if hand nothing (Ok false) row has = nothing
+    once_if hand nothing (Err excess) row has = tt
+
+    to_dedup : (columns : List ℕ) (row : Values) → Gives (shape.Dedup columns) row → IfOk (handed_to_dedup query columns row) Q
+    unfolding handed_to_dedup
+    to_dedup columns row has = once_if (distinguished_if query columns (key_in columns row)) none (passes query.filter row) (projected query.outputs row) has
 
     row_has : (of : Shape) (stream : ℕ) (row : Values) → Gives of row → IfOk (handed_by of query stream row) Q
-    row_has shape.Plain stream row has = once_if (passes query.filter row) (projected query.outputs row) has
+    row_has shape.Plain stream row has = once_if shown_once none (passes query.filter row) (projected query.outputs row) has
     row_has (shape.Group grouping) stream row has = to_groups grouping row has
-    row_has (shape.Dedup columns) stream row has = once_if (passes query.filter row) (projected query.outputs row) has
-    row_has (shape.Join joining) stream row has = once_if (passes query.filter row) (projected query.outputs row) has
+    row_has (shape.Dedup columns) stream row has = to_dedup columns row has
+    row_has (shape.Join joining) stream row has = once_if shown_once none (passes query.filter row) (projected query.outputs row) has
 
     evaluated_has : (rows : Result (List Handed) Excess) → IfOk rows Q → IfOk (line_evaluated rows) Q
     evaluated_has (Ok rows) has = has

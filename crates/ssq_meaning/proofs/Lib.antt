@@ -16,6 +16,10 @@ pub mod Updates
 pub mod Leasts
 pub mod Dues
 pub mod Parted
+pub mod Together
+pub mod Firsts
+pub mod Repeats
+pub mod ByShape
 pub mod Coding
 pub mod Overflowing
 pub mod Following

@@ -72,6 +72,10 @@ module _ (partitions : ℕ) where
           rest ∙ (λ i. away i && has_key rows key) ∙ ap (λ b. b && true) (sym away)
       by false false here same rest = rest
 
+  pub has_in : (p : ℕ) (key : Values) (rows : List FedRow) → has_key (bucket partitions p rows) key ≡ ((place_of (keys_of key) partitions == p) && has_key rows key)
+  unfolding place
+  has_in p key rows = has_there p key rows
+
   are_there : (p : ℕ) (rows : List FedRow) → AllByRecursion (λ row. (place row.key == p) ≡ true) (bucket partitions p rows)
   unfolding place
   are_there p [] = tt
@@ -126,7 +130,7 @@ module _ (partitions : ℕ) where
     due_there p =
         All-by (λ key. (place key == p) ≡ true) (λ key. is_due query.mode (is_closed query grouping before key) (is_closed query grouping now key) (has_key (bucket partitions p new) key)) (keys_in (bucket partitions p old ++ bucket partitions p new))
         (All-distinct (λ key. (place key == p) ≡ true) (map (λ (row : FedRow). row.key) (bucket partitions p old ++ bucket partitions p new))
-        (keys_of_rows query grouping (λ key. (place key == p) ≡ true) (bucket partitions p old ++ bucket partitions p new)
+        (keys_of_rows (λ key. (place key == p) ≡ true) (bucket partitions p old ++ bucket partitions p new)
         (subst (λ rows. AllByRecursion (λ (row : FedRow). (place row.key == p) ≡ true) rows) (sym (both_rows p)) (are_there p (old ++ new)))))
 
     all_due : ℕ → ℕ → List Values

@@ -190,7 +190,7 @@ module _ (query : Bound) (grouping : Grouping) (shows : ShowsKeys query grouping
 
     newer_are : AllByRecursion (λ key. IsKeyOf grouping.keys key × (has_key new key ≡ true)) newer
     newer_are = all_passing (IsKeyOf grouping.keys) (λ key. IsKeyOf grouping.keys key × (has_key new key ≡ true)) (has_key new) (λ key is touched. (is, touched)) (keys_in all)
-        (All-distinct (IsKeyOf grouping.keys) (map (λ (row : FedRow). row.key) all) (keys_of_rows query grouping (IsKeyOf grouping.keys) all keyed_all))
+        (All-distinct (IsKeyOf grouping.keys) (map (λ (row : FedRow). row.key) all) (keys_of_rows (IsKeyOf grouping.keys) all keyed_all))
 
     -- a row of the table has a newer row of its key exactly where the key has a new row
     any_is : (key row : Values) → IsKeyOf grouping.keys key → items_in old key ≡ Ok row → (b : Bool) → has_key new key ≡ b

@@ -8,7 +8,7 @@ use Rattle.ssq_meaning.specs.Parts.{Part}
 use Rattle.ssq_meaning.specs.Cut.{Cut, Cuts, of_parts}
 use Rattle.ssq_meaning.specs.Times.{later, earlier, greatest, AtMost, Delay, delays, less_delay, watermark_by}
 use Rattle.ssq_meaning.specs.Feeding.{time_at, time_in}
-use Rattle.ssq_meaning.specs.Epochs.{time_of_stream, time_between, seen, watermark}
+use Rattle.ssq_meaning.specs.Epochs.{time_of_stream, time_between, seen, watermark, watermark_before}
 use Rattle.ssq_meaning.proofs.Between.{lines_between-none}
 
 pub AtMost-refl : (t : Option ℤ) → AtMost t t
@@ -68,6 +68,11 @@ pub water_stays : (query : Bound) (parts : List Part) (cuts : Cuts) (e f : ℕ) 
 water_stays query parts cuts e f le =
     let same : e + (f - e) ≡ f = omega (arith, le) in
     subst (λ f. AtMost (watermark query parts cuts e) (watermark query parts cuts f)) same (water_after query parts cuts e (f - e))
+
+-- from the epoch before to the next
+pub water_rose : (query : Bound) (parts : List Part) (cuts : Cuts) (e : ℕ) → AtMost (watermark_before query parts cuts e) (watermark query parts cuts e)
+water_rose query parts cuts zero = tt
+water_rose query parts cuts (suc e) = water_stays query parts cuts e (suc e) (omega arith)
 
 none_yet : Option ℤ
 none_yet = None

@@ -1,13 +1,17 @@
 -- Worked cuts: watermarks over two parts, and the first fault of epochs. Times are in minutes of a day.
-use Rattle.std.proofs.Common.{◌≡◌, ◌==◌, [], ◌∷◌, ℕ, pos, List, Some, None, Ok, Err, refl, ap, ◌∙◌}
+use Rattle.std.proofs.Common.{◌≡◌, ◌==◌, [], ◌∷◌, ℕ, pos, List, Some, None, true, Ok, Err, refl, ap, ◌∙◌}
 use Rattle.std.specs.Prelude.{if◌then◌else◌}
+use Rattle.ssq_value.specs.declared.value.Value.TheVariants as value
+use Rattle.ssq_value.specs.Order.{value_cmp}
 use Rattle.ssq_shape.specs.declared.bound.Bound.{Bound}
+use Rattle.ssq_meaning.specs.declared.fed_row.FedRow.{FedRow}
 use Rattle.ssq_meaning.specs.declared.line.LineFault.{LineFault}
 use Rattle.ssq_meaning.specs.declared.line.LineFault.TheVariants.{Overflow}
+use Rattle.ssq_meaning.specs.Dedup.{firsts}
 use Rattle.ssq_meaning.specs.Meaning.{Line}
 use Rattle.ssq_meaning.specs.Parts.{Part, parts_of, parts_from}
 use Rattle.ssq_meaning.specs.Cut.{Cuts, of_parts}
-use Rattle.ssq_meaning.specs.Times.{later, less_delay, Delay, delays, watermark_by}
+use Rattle.ssq_meaning.specs.Times.{later, less_delay, Delay, delays, is_past, watermark_by}
 use Rattle.ssq_meaning.specs.Feeding.{line_handed, time_at}
 use Rattle.ssq_meaning.specs.Epochs.{fault_between, seen, watermark}
 
@@ -52,3 +56,30 @@ module _ (query : Bound) (good over bad : Line) (what : LineFault)
   other_fault : fault_between query faulty_parts (0 ∷ 0 ∷ []) (2 ∷ 2 ∷ []) ≡ Some (record { stream = 0; part = 1; offset = 1; what = what })
   unfolding of_parts parts_from
   other_fault = rw (is_good, is_bad) refl
+
+-- Rows without repeats by an id and a time, with their offsets as values: the second row of a key is none, in its epoch or in a later one.
+-- Where the watermark is at a row's time, the row is late, and its key is forgotten.
+abbrev timed_row : ℕ → ℕ → ℕ → FedRow
+timed_row offset id minute = record {
+  stream = 0;
+  part = 0;
+  offset = offset;
+  key = value.Int (pos id) ∷ value.Time (pos minute) ∷ [];
+  time = Some (pos minute);
+  values = value.Int (pos offset) ∷ [];
+}
+
+first_epoch : firsts [] (timed_row 0 1 720 ∷ timed_row 1 1 720 ∷ []) ≡ timed_row 0 1 720 ∷ []
+unfolding firsts value_cmp
+first_epoch = refl
+
+next_epoch : firsts (timed_row 0 1 720 ∷ timed_row 1 1 720 ∷ []) (timed_row 2 1 720 ∷ timed_row 3 2 740 ∷ []) ≡ timed_row 3 2 740 ∷ []
+unfolding firsts value_cmp
+next_epoch = refl
+
+-- 12:20 less ten minutes is above 12:00
+last_epoch : is_past (Some (pos 730)) (timed_row 4 1 720).time ≡ true
+last_epoch = refl
+
+at_its_time : is_past (Some (pos 720)) (timed_row 4 1 720).time ≡ true
+at_its_time = refl

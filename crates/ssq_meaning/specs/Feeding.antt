@@ -7,13 +7,14 @@ use Rattle.ssq_json.specs.declared.bad_row.BadRow.{BadRow}
 use Rattle.ssq_shape.specs.declared.bound.Bound.{Bound}
 use Rattle.ssq_shape.specs.declared.bound.Stream.{Stream}
 use Rattle.ssq_shape.specs.declared.bound.Shape.{Shape}
-use Rattle.ssq_shape.specs.declared.bound.Shape.TheVariants.{Plain, Group}
+use Rattle.ssq_shape.specs.declared.bound.Shape.TheVariants.{Plain, Group, Dedup, Join}
 use Rattle.ssq_shape.specs.Evaluation.{Overflow as Excess, and_then, time_in as time_of_value}
 use Rattle.ssq_shape.specs.Plain.{shown as shown_row}
 use Rattle.ssq_meaning.specs.declared.line.LineFault.{LineFault}
 use Rattle.ssq_meaning.specs.declared.line.LineFault.TheVariants.{Bad, Overflow}
 use Rattle.ssq_meaning.specs.declared.fed_row.FedRow.{FedRow}
 use Rattle.ssq_meaning.specs.Meaning.{Line, Values, lines_between}
+use Rattle.ssq_meaning.specs.Dedup.{handed_to_dedup}
 use Rattle.ssq_meaning.specs.Group.{handed_to_groups}
 pub use Rattle.ssq_meaning.specs.Handed.{Handed}
 use Rattle.ssq_meaning.specs.Parts.{Part}
@@ -34,11 +35,13 @@ shown_once (Some values) = record { key = []; time = None; values = values } ∷
 
 -- What is handed on of a row of a stream, or that evaluating it overflows. Plain: the row as SELECT shows it, where WHERE is TRUE;
 -- WHERE and then the items of SELECT are evaluated. Groups: the arguments of the aggregates, once for each window, where WHERE is TRUE.
--- What Dedup and Join hand on is to come: nothing is said of them yet.
+-- DEDUPLICATE: the row as SELECT shows it, by its values in the columns, where WHERE is TRUE. What Join hands on is to come: nothing is said
+-- of it yet.
 abbrev pub handed_by : Shape → Bound → ℕ → Values → Result (List Handed) Excess
 handed_by Plain query stream row = and_then (shown_row query row) (λ values. Ok (shown_once values))
 handed_by (Group grouping) query stream row = handed_to_groups query grouping row
-handed_by _ query stream row = and_then (shown_row query row) (λ values. Ok (shown_once values))
+handed_by (Dedup columns) query stream row = handed_to_dedup query columns row
+handed_by (Join joining) query stream row = and_then (shown_row query row) (λ values. Ok (shown_once values))
 
 abbrev pub handed : Bound → ℕ → Values → Result (List Handed) Excess
 handed query stream row = handed_by query.shape query stream row

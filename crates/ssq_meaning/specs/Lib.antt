@@ -5,6 +5,8 @@ pub mod Times
 pub mod Handed
 pub mod Totals
 pub mod Group
+pub mod Dedup
+pub mod Keyed
 pub mod Windows
 pub mod Fit
 pub mod Feeding
@@ -12,4 +14,5 @@ pub mod Operator
 pub mod Epochs
 pub mod Laws
 pub mod GroupLaws
+pub mod DedupLaws
 pub mod Table

@@ -3,8 +3,9 @@ use Rattle.std.specs.Prelude.{ℕ, ℤ, Bool, false, List, [], ◌++◌, map, fi
 use Rattle.ssq_shape.specs.declared.bound.Bound.{Bound}
 use Rattle.ssq_shape.specs.declared.bound.Shape.{Shape}
 use Rattle.ssq_shape.specs.declared.bound.Grouping.{Grouping}
-use Rattle.ssq_shape.specs.declared.bound.Shape.TheVariants.{Plain, Group}
+use Rattle.ssq_shape.specs.declared.bound.Shape.TheVariants.{Plain, Group, Dedup, Join}
 use Rattle.ssq_meaning.specs.declared.fed_row.FedRow.{FedRow}
+use Rattle.ssq_meaning.specs.Dedup as repeats
 use Rattle.ssq_meaning.specs.Group.{row_of_key, key_overflows, due_keys, least_key, kept}
 use Rattle.ssq_meaning.specs.Meaning.{Values}
 use Rattle.ssq_meaning.specs.Times.{is_past}
@@ -40,11 +41,22 @@ group query grouping = record {
   state = kept query grouping;
 }
 
--- The operator of a shape, for a query of that shape. Those of Dedup and Join are to come: nothing is said of them yet.
+-- Rows without repeats: a row is late where its key's time is past; an epoch shows those of its rows whose key no accepted row before them
+-- has; no key overflows; what is open is kept.
+abbrev pub dedup : Bound → List ℕ → Operator
+dedup query columns = record {
+  is_late = λ now row. is_past now row.time;
+  added = λ old new before now. repeats.values_in (repeats.firsts old new);
+  fault = λ old new before now. None;
+  state = repeats.kept query columns;
+}
+
+-- The operator of a shape, for a query of that shape. That of Join is to come: nothing is said of it yet.
 abbrev pub operator_for : Shape → Bound → Operator
 operator_for Plain query = plain
 operator_for (Group grouping) query = group query grouping
-operator_for _ query = plain
+operator_for (Dedup columns) query = dedup query columns
+operator_for (Join joining) query = plain
 
 unfoldable pub operator_of : Bound → Operator
 operator_of query = operator_for query.shape query

@@ -1,4 +1,4 @@
-//! When groups are closed.
+//! When keys are closed.
 
 ghost use Rattle.std.specs.Prelude.{◌≡◌, ◌+ℤ◌};
 ghost use Rattle.std.specs.List.{AllByRecursion};
@@ -6,10 +6,12 @@ ghost use Rattle.ssq_time.specs.Time.{IsSpan, IsStampTime};
 ghost use Rattle.ssq_value.specs.Kind.{IfTime};
 ghost use Rattle.ssq_shape.specs.Evaluation.{time_in};
 ghost use Rattle.ssq_shape.specs.Late.{event_of, is_column_of, is_event, is_window_of};
+ghost use Rattle.ssq_meaning.specs.Dedup as repeats;
 ghost use Rattle.ssq_meaning.specs.Group.{closing_time, end_of, event_time, time_by, window_end};
-ghost use Rattle.ssq_meaning.specs.Windows.{HasWindow};
+ghost use Rattle.ssq_meaning.specs.Keyed.{key_length, key_time};
+ghost use Rattle.ssq_meaning.specs.Windows.{HasWindow, HasWindows};
 
-use ssq_shape::{Bound, GroupKey, Grouping, Mode, Stream, TimeKey, time_key};
+use ssq_shape::{Bound, GroupKey, Grouping, Mode, Shape, Stream, TimeKey, time_key};
 use ssq_value::Value;
 
 fn event_of(streams: &[Stream]) -> Option<usize>
@@ -144,5 +146,60 @@ pub fn closing_time(bound: &Bound, grouping: &Grouping, key: &[Value]) -> Option
             grouping.keys.as_slice(),
             key,
         ),
+    }
+}
+
+/// The event time, where the event column is among the columns.
+#[tactic(auto, unfolding(crate::specs::Dedup::event_time))]
+fn event_time_in(event: Option<usize>, columns: &[usize], values: &[Value]) -> Option<i64>
+    ensures { result ≡ repeats.event_time event columns.now values.now }
+{
+    let (column, columns) = columns.split_first()?;
+    let (value, values) = values.split_first()?;
+    if is_event(event, *column) {
+        time_in(value)
+    } else {
+        event_time_in(event, columns, values)
+    }
+}
+
+/// The time of a key of DEDUPLICATE, in microseconds since 1970: where the watermark is at or above it, rows of the key are late and the key is
+/// forgotten. There is none of a key that is never forgotten: where the event column is not among the columns, and in Complete.
+#[tactic(auto, unfolding(crate::specs::Dedup::closing_time))]
+pub fn repeat_time(bound: &Bound, columns: &[usize], key: &[Value]) -> Option<i64>
+    ensures { result ≡ repeats.closing_time bound.now columns.now key.now }
+{
+    match bound.mode {
+        Mode::Complete => None,
+        Mode::Append | Mode::Update => {
+            event_time_in(event_of(bound.streams.as_slice()), columns, key)
+        }
+    }
+}
+
+/// How many values a key of the query has: one for each part of GROUP BY, or for each column of DEDUPLICATE; else none.
+pub fn key_length(bound: &Bound) -> usize
+    ensures { result ≡ key_length bound.now }
+{
+    match &bound.shape {
+        Shape::Group(grouping) => grouping.keys.len(),
+        Shape::Dedup(columns) => columns.len(),
+        Shape::Plain | Shape::Join(_) => 0,
+    }
+}
+
+/// The time of a key of the query, in microseconds since 1970: where the watermark is at or above it, rows of the key are late and the key is
+/// kept no more. There is none of a key that stays open, and none where nothing is kept.
+///
+/// The key has times of the years 0001 to 9999.
+pub fn key_time(bound: &Bound, key: &[Value]) -> Option<i64>
+    requires windows { HasWindows bound.now }
+    requires years { AllByRecursion (IfTime IsStampTime) key.now }
+    ensures { result ≡ key_time bound.now key.now }
+{
+    match &bound.shape {
+        Shape::Group(grouping) => closing_time(bound, grouping, key),
+        Shape::Dedup(columns) => repeat_time(bound, columns.as_slice(), key),
+        Shape::Plain | Shape::Join(_) => None,
     }
 }

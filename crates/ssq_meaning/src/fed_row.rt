@@ -15,11 +15,11 @@ pub struct FedRow {
     /// What says the row's partition: its group values, its DEDUPLICATE columns or its join key; none of a query that keeps
     /// nothing.
     pub key: Row,
-    /// The time by which the row may be late, in microseconds since 1970, where it has one: of a grouped query that of its key, and none
-    /// in Complete.
+    /// The time by which the row may be late, in microseconds since 1970, where it has one: of a grouped query, or one that deduplicates,
+    /// that of its key, and none in Complete.
     pub time: Option<i64>,
-    /// What the query's operator needs of the row: of a query that keeps nothing, the row as SELECT shows it; of a grouped query, for each
-    /// aggregate the value of its argument, TRUE for `COUNT(*)`.
+    /// What the query's operator needs of the row: of a query that keeps nothing, or one that deduplicates, the row as SELECT shows it; of a
+    /// grouped query, for each aggregate the value of its argument, TRUE for `COUNT(*)`.
     pub values: Row,
 }
 

@@ -1,9 +1,13 @@
 //! Laws of epochs, of each query.
 
-ghost use Rattle.std.specs.Prelude.{◌≡◌, ◌+◌, ◌<◌, ◌≤◌, ℕ, List, [], ◌∷◌, None};
-ghost use Rattle.std.specs.List.Sorted.{IsPermutation};
+ghost use Rattle.std.specs.Prelude.{◌≡◌, ◌+◌, ◌<◌, ◌≤◌, ℕ, ℤ, List, [], ◌∷◌, Option, None, flat_map, map};
+ghost use Rattle.std.specs.Cmp.Lexicographic.{slice_cmp};
+ghost use Rattle.std.specs.List.{range_with_len};
+ghost use Rattle.std.specs.List.Sorted.{IsPermutation, IsStrictlySortedBy};
+ghost use Rattle.std.specs.Ordering.{nat_cmp};
 ghost use Rattle.ssq_shape.specs.declared.bound.Bound.{Bound as Query};
 ghost use Rattle.ssq_shape.specs.declared.bound.Shape.TheVariants as shape;
+ghost use Rattle.ssq_meaning.specs.declared.fed_row.FedRow.{FedRow as Fed};
 ghost use Rattle.ssq_meaning.specs.Parts.{Part};
 ghost use Rattle.ssq_meaning.specs.Cut.{Cuts, AreCuts, AreSameTo};
 ghost use Rattle.ssq_meaning.specs.Times.{AtMost};
@@ -47,4 +51,17 @@ pub fn keys_overflow_in_their_partitions()
         ((p : ℕ) → p < partitions → (operator_of query).fault (bucket partitions p (accepted query parts cuts e)) (bucket partitions p (on_time query parts cuts e))
         (watermark_before query parts cuts e) (watermark query parts cuts e) ≡ None) →
         key_fault query parts cuts e ≡ None }
+{}
+
+/// The law of partitions, of a query of any shape: what these show together, each of its own rows, is what the epoch shows, as a bag.
+pub fn partitions_show_all_rows()
+    ensures { (query : Query) (partitions : ℕ) → 1 ≤ partitions → (old new : List Fed) (before now : Option ℤ) →
+        IsPermutation (flat_map (λ p. (operator_of query).added (bucket partitions p old) (bucket partitions p new) before now) (range_with_len 0 partitions))
+        ((operator_of query).added old new before now) }
+{}
+
+/// The law of what is kept, of a query of any shape: the keys ascend by their bytes.
+pub fn kept_keys_ascend()
+    ensures { (query : Query) (rows : List Fed) (now : Option ℤ) →
+        IsStrictlySortedBy (slice_cmp nat_cmp) (map (λ entry. entry.0) ((operator_of query).state rows now)) }
 {}

@@ -5,6 +5,7 @@
 #![tactic(auto)]
 
 mod closing;
+mod dedup;
 mod fed;
 mod fed_row;
 mod groups;
@@ -12,7 +13,12 @@ mod laws;
 mod line;
 mod total;
 
-pub use closing::closing_time;
+pub use closing::{closing_time, key_length, key_time, repeat_time};
+pub use dedup::{
+    epochs_without_repeats_follow, first_rows_add_up, first_rows_are_told_by_what_is_kept,
+    first_rows_fall_into_partitions, forgotten_keys_lose_no_row, kept_keys_are_found,
+    repeats_are_fed_by_their_keys,
+};
 pub use fed::{fed_rows_are_few, fed_rows_are_fit, fit_values_are_spelled};
 pub use fed_row::{FedRow, View};
 pub use groups::{
@@ -23,8 +29,9 @@ pub use groups::{
     groups_in_update_replace_their_rows, kept_groups_are_found,
 };
 pub use laws::{
-    epochs_hang_on_their_cuts, epochs_without_lines_are_quiet, keys_overflow_in_their_partitions,
-    rows_add_up, watermarks_never_fall,
+    epochs_hang_on_their_cuts, epochs_without_lines_are_quiet, kept_keys_ascend,
+    keys_overflow_in_their_partitions, partitions_show_all_rows, rows_add_up,
+    watermarks_never_fall,
 };
 pub use line::LineFault;
 pub use total::Total;

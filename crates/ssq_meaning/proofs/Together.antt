@@ -1,0 +1,69 @@
+-- The rows of all partitions together are all rows.
+use Rattle.std.proofs.Common.{◌≡◌, ◌≤◌, ◌+◌, ◌++◌, [], ◌∷◌, ℕ, zero, suc, List, Bool, true, false, refl, ap, sym, ◌∙◌, subst, arith, filter, map}
+use Rattle.std.specs.Prelude.{◌==◌, ◌&&◌, if◌then◌else◌, nat_le, not}
+use Rattle.std.specs.List.{flat_map, range_with_len}
+use Rattle.std.specs.List.Sorted.{IsPermutation}
+use Rattle.std.proofs.lemmas.Bool.Decides.{nat_tests}
+use Rattle.std.proofs.lemmas.List.{map-append}
+use Rattle.std.proofs.lemmas.List.Sorted.{IsPermutation-append, IsPermutation-filter_both, IsPermutation-map, IsPermutation-refl, IsPermutation-sym, IsPermutation-trans}
+use Rattle.std.proofs.lemmas.Nat.{mod_below}
+use Rattle.ssq_value.specs.Key.{keys_of}
+use Rattle.ssq_route.specs.Place.{place_of, fnv_1a}
+use Rattle.ssq_meaning.specs.declared.fed_row.FedRow.{FedRow}
+use Rattle.ssq_meaning.specs.Epochs.{bucket}
+use Rattle.ssq_meaning.specs.Meaning.{Values}
+
+filter_both : {X : Type 0} (p q r : X → Bool) → ((x : X) → (q x && p x) ≡ r x) → (xs : List X) → filter p (filter q xs) ≡ filter r xs
+filter_both p q r is [] = refl
+filter_both {X} p q r is (x ∷ xs) = by (p x) (q x) (r x) refl (is x) (filter_both p q r is xs)
+  where
+    by : (a b c : Bool) → p x ≡ a → (b && p x) ≡ c → filter p (filter q xs) ≡ filter r xs → filter p (if b then x ∷ filter q xs else filter q xs) ≡ (if c then x ∷ filter r xs else filter r xs)
+    by true true c here is rest = ap (λ b. if b then x ∷ filter p (filter q xs) else filter p (filter q xs)) here ∙ ap (λ rows. x ∷ rows) rest ∙ ap (λ b. if b then x ∷ filter r xs else filter r xs) (sym here ∙ is)
+    by false true c here is rest = ap (λ b. if b then x ∷ filter p (filter q xs) else filter p (filter q xs)) here ∙ rest ∙ ap (λ b. if b then x ∷ filter r xs else filter r xs) (sym here ∙ is)
+    by a false c here is rest = rest ∙ ap (λ b. if b then x ∷ filter r xs else filter r xs) is
+
+filter_all : {X : Type 0} (p : X → Bool) → ((x : X) → p x ≡ true) → (xs : List X) → filter p xs ≡ xs
+filter_all p all [] = refl
+filter_all p all (x ∷ xs) = ap (λ b. if b then x ∷ filter p xs else filter p xs) (all x) ∙ ap (λ rest. x ∷ rest) (filter_all p all xs)
+
+filter_no : {X : Type 0} (p : X → Bool) → ((x : X) → p x ≡ false) → (xs : List X) → filter p xs ≡ []
+filter_no p none [] = refl
+filter_no p none (x ∷ xs) = ap (λ b. if b then x ∷ filter p xs else filter p xs) (none x) ∙ filter_no p none xs
+
+module _ (partitions : ℕ) (some : 1 ≤ partitions) (rows : List FedRow) where
+  place : FedRow → ℕ
+  place row = place_of (keys_of row.key) partitions
+
+  -- the rows from this partition on
+  from_on : ℕ → List FedRow
+  from_on at = filter (λ row. nat_le at (place row)) rows
+
+  next : (at : ℕ) → IsPermutation (bucket partitions at rows ++ from_on (at + 1)) (from_on at)
+  unfolding place from_on
+  next at =
+      subst (λ (parts : List FedRow). IsPermutation parts (from_on at))
+      (λ i. filter_both (λ row. place row == at) (λ row. nat_le at (place row)) (λ row. place row == at) (λ row. grind (arith, nat_tests)) rows i
+      ++ filter_both (λ row. not (place row == at)) (λ row. nat_le at (place row)) (λ row. nat_le (at + 1) (place row)) (λ row. grind (arith, nat_tests)) rows i)
+      (IsPermutation-sym _ _ (IsPermutation-filter_both (λ row. place row == at) (λ row. not (place row == at)) (λ row. refl) (from_on at)))
+
+  together : (at many : ℕ) → at + many ≡ partitions → IsPermutation (flat_map (λ p. bucket partitions p rows) (range_with_len at many)) (from_on at)
+  unfolding place from_on
+  together at zero end =
+      let none : from_on at ≡ [] = filter_no (λ row. nat_le at (place row)) (λ row. let below = mod_below (fnv_1a (keys_of row.key)) partitions (omega (arith, some)) in grind (arith, nat_tests, below, end)) rows in
+      subst (IsPermutation []) (sym none) (IsPermutation-refl [])
+  together at (suc many) end = IsPermutation-trans _ _ _ (IsPermutation-append _ _ _ _ (IsPermutation-refl (bucket partitions at rows)) (together (at + 1) many (omega (arith, end)))) (next at)
+
+  pub all_together : IsPermutation (flat_map (λ p. bucket partitions p rows) (range_with_len 0 partitions)) rows
+  unfolding from_on
+  all_together =
+      subst (IsPermutation (flat_map (λ p. bucket partitions p rows) (range_with_len 0 partitions))) (filter_all (λ row. nat_le 0 (place row)) (λ row. grind (arith, nat_tests)) rows) (together 0 partitions (omega arith))
+
+map_each : {X Y Z : Type 0} (f : Y → Z) (g : X → List Y) (xs : List X) → flat_map (λ x. map f (g x)) xs ≡ map f (flat_map g xs)
+map_each f g [] = refl
+map_each f g (x ∷ xs) = ap (λ rest. map f (g x) ++ rest) (map_each f g xs) ∙ sym (map-append f (g x) (flat_map g xs))
+
+-- so what these show, each row by itself, is what all rows show
+pub shown_together : (partitions : ℕ) → 1 ≤ partitions → (rows : List FedRow) → IsPermutation (flat_map (λ p. map (λ row. row.values) (bucket partitions p rows)) (range_with_len 0 partitions)) (map (λ row. row.values) rows)
+shown_together partitions some rows =
+    subst (λ (shown : List Values). IsPermutation shown (map (λ row. row.values) rows)) (sym (map_each (λ (row : FedRow). row.values) (λ p. bucket partitions p rows) (range_with_len 0 partitions)))
+    (IsPermutation-map (λ (row : FedRow). row.values) _ _ (all_together partitions some rows))
