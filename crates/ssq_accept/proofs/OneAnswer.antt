@@ -47,7 +47,7 @@ no_forbidden bound fault may forbids = apart (sym forbids.stands ∙ may fault)
 not_later : (s : Shape) (own : LaterShape) → Runs s → Keeps s own → ⊥
 not_later shape.Plain own runs keeps = keeps
 not_later (shape.Group grouping) own runs keeps = keeps
-not_later (shape.Dedup columns) own runs keeps = runs
+not_later (shape.Dedup columns) own runs keeps = keeps
 not_later (shape.Join joining) own runs keeps = runs
 
 pub accepted_are_taken : AcceptedAreTaken
@@ -151,7 +151,7 @@ one_forbidden bound f g is also = sym (fault_is f) ∙ ap fault_at ranks ∙ fau
 one_kept : (s : Shape) (own other : LaterShape) → Keeps s own → Keeps s other → own ≡ other
 one_kept shape.Plain own other is also = absurd is
 one_kept (shape.Group grouping) own other is also = absurd is
-one_kept (shape.Dedup columns) own other is also = is ∙ sym also
+one_kept (shape.Dedup columns) own other is also = absurd is
 one_kept (shape.Join joining) own other is also = is ∙ sym also
 
 fault_same : (found : Result Query Fault) (x y : Fault) → found ≡ Err x → found ≡ Err y → x ≡ y

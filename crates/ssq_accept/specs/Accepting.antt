@@ -80,20 +80,20 @@ MayNotRun bound (refusal.Mode fault) = Forbids bound fault
 MayNotRun bound (refusal.NotYet own) = ⊥
 MayNotRun bound refusal.NoMemory = ⊥
 
--- ---- a query that deduplicates or joins is not run yet
+-- ---- a query that joins is not run yet
 
--- the shapes that are run: a query that keeps nothing, and one that groups its rows
+-- the shapes that are run: a query that keeps nothing, one that groups its rows, and one that deduplicates them
 abbrev pub Runs : Shape → Type 0
 Runs shape.Plain = Unit {0}
 Runs (shape.Group grouping) = Unit {0}
-Runs (shape.Dedup columns) = ⊥
+Runs (shape.Dedup columns) = Unit {0}
 Runs (shape.Join joining) = ⊥
 
 -- what a query of another shape keeps
 abbrev pub Keeps : Shape → LaterShape → Type 0
 Keeps shape.Plain own = ⊥
 Keeps (shape.Group grouping) own = ⊥
-Keeps (shape.Dedup columns) own = own ≡ later.Dedup
+Keeps (shape.Dedup columns) own = ⊥
 Keeps (shape.Join joining) own = own ≡ later.Join
 
 abbrev pub IsLater : Shape → Refusal → Type 0
@@ -156,7 +156,7 @@ pub record IsKnown (file : List ℕ) (query : Query) (bound : Bound) : Type 0 wh
 -- ---- the whole
 
 -- The file is this query, written by the grammar; it breaks no rule of binding, no rule of modes forbids it, and it keeps
--- nothing, or groups its rows by at most 64 keys and with at most 64 aggregates. So it reads one stream or two, whose delays
+-- nothing, or groups its rows by at most 64 keys and with at most 64 aggregates, or deduplicates them by at most 64 columns. So it reads one stream or two, whose delays
 -- are 1 second to 366 days long, an event column stands only with a delay, its windows fit as those of a query that is
 -- known, and the canonical text is UTF-8 of a length of 64 bits.
 pub record IsAccepted (file : List ℕ) (query : Query) (bound : Bound) : Type 0 where

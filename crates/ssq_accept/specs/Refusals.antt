@@ -46,7 +46,6 @@ mode_name mode.HavingInUpdate = codes "HavingInUpdate"
 mode_name mode.KeyNotShown = codes "KeyNotShown"
 
 abbrev pub shape_name : LaterShape → List ℕ
-shape_name later.Dedup = codes "Dedup"
 shape_name later.Join = codes "Join"
 
 -- a cause and its place, in bytes; of modes the cause alone

@@ -11,7 +11,6 @@ use std::fmt;
 /// What a query keeps, where that is not run yet.
 #[derive(Clone, Copy, Debug, PartialEq, Eq)]
 pub enum LaterShape {
-    Dedup,
     Join,
 }
 
@@ -82,7 +81,6 @@ fn shape_name(shape: LaterShape) -> &'static str
     ensures { result.now ≡ shape_name shape }
 {
     match shape {
-        LaterShape::Dedup => "Dedup",
         LaterShape::Join => "Join",
     }
 }

@@ -58,7 +58,7 @@ fn has_shape(bound: &Bound) -> Result<(), Refusal>
     match &bound.shape {
         Shape::Plain => Ok(()),
         Shape::Group(_) => Ok(()),
-        Shape::Dedup(_) => Err(Refusal::NotYet(LaterShape::Dedup)),
+        Shape::Dedup(_) => Ok(()),
         Shape::Join(_) => Err(Refusal::NotYet(LaterShape::Join)),
     }
 }

@@ -16,7 +16,7 @@ use Rattle.ssq_meaning.specs.GroupLaws.{held}
 use Rattle.ssq_meaning.specs.Meaning.{Values}
 use Rattle.ssq_meaning.specs.Totals.{totals_bytes}
 use Rattle.ssq_agg.specs.declared.epoch.Moved.{Moved}
-use Rattle.ssq_agg.specs.Indexing.{Timed}
+use Rattle.ssq_step.specs.Indexing.{Timed}
 use Rattle.ssq_agg.specs.Readable.{IsKey}
 use Rattle.ssq_agg.specs.Steps.{Given, IsKept, IsMove, Says, after_if, is_among, said_if}
 use Rattle.ssq_agg.proofs.Given.{AreFound, kept_at, kept_key, old_rows, spelled_rows}

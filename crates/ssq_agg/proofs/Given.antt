@@ -19,18 +19,20 @@ use Rattle.ssq_shape.specs.declared.bound.Bound.{Bound}
 use Rattle.ssq_shape.specs.declared.bound.Function.{Function}
 use Rattle.ssq_shape.specs.declared.bound.Function.TheVariants as function
 use Rattle.ssq_shape.specs.declared.bound.Grouping.{Grouping}
+use Rattle.ssq_shape.specs.declared.bound.Shape.{Shape}
 use Rattle.ssq_shape.specs.Evaluation.{cell_at, is_null}
 use Rattle.ssq_meaning.specs.declared.fed_row.FedRow.{FedRow}
 use Rattle.ssq_meaning.specs.declared.total.Total.{Total}
 use Rattle.ssq_meaning.specs.Fit.{IsFit}
 use Rattle.ssq_meaning.specs.Group.{entry_of, has_key, is_closed, is_same, kept, keys_in, members, open_keys, totals_in}
 use Rattle.ssq_meaning.specs.GroupLaws.{IsKeySpelled, held, held_if}
+use Rattle.ssq_meaning.specs.Keyed.{key_length_by, key_time_by}
 use Rattle.ssq_meaning.specs.Meaning.{Values}
 use Rattle.ssq_meaning.specs.Totals.{column_of, greater, lesser, total_of, totals_bytes, totals_from}
 use Rattle.ssq_meaning.proofs.Keys.{All-by, All-distinct}
 use Rattle.ssq_agg.specs.Fits.{AllFit, Fits}
 use Rattle.ssq_agg.specs.Groups.{AreSteady, started}
-use Rattle.ssq_agg.specs.Indexing.{Timed}
+use Rattle.ssq_step.specs.Indexing.{Indexes, Timed}
 use Rattle.ssq_agg.specs.Readable.{AreTotalsOf, IsKey, IsReadableGroup, IsReadableKey, IsTotalOf}
 use Rattle.ssq_agg.specs.Steps.{Given, GivenGroups, IsKept}
 use Rattle.ssq_agg.proofs.Found.{key_of_readable}
@@ -163,7 +165,7 @@ given_groups found query grouping state closing old new before now given =
         found = λ key is. ap (λ (s : State). value_at s (keys_of key)) given.kept ∙ kept_at found query grouping old before (spelled_rows grouping old olds) key is;
         readable = group_readable query grouping old new before olds given.steady;
       };
-      indexes = given.indexed grouping given.groups;
+      indexes = subst (λ (shape : Shape). Indexes (key_length_by shape) (key_time_by shape query) state closing) given.groups given.indexed;
       keys = spelled_rows grouping new (new_rows grouping old new all);
       follows = given.follows;
       steady = given.steady;

@@ -1,7 +1,6 @@
 pub mod Spellings
 pub mod Totalling
 pub mod Reading
-pub mod Timing
 pub mod Taking
 pub mod Fitting
 pub mod Saying

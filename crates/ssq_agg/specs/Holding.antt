@@ -1,21 +1,20 @@
 -- What the bytes of a state say of groups.
-use Rattle.std.specs.Prelude.{◌≡◌, ◌++◌, ◌&&◌, ℕ, ℤ, if◌then◌else◌, List, [], ◌∷◌, length, map, filter, Option, Some, IfSome, is_some, option_map, option_to_list}
-use Rattle.std.specs.Borrow.{Bor}
-use Rattle.std.specs.BTreeMap.{is_at}
+use Rattle.std.specs.Prelude.{◌≡◌, ◌++◌, ℕ, ℤ, List, [], ◌∷◌, length, Option, Some, IfSome, option_map, option_to_list}
 use Rattle.std.specs.List.{cons_option}
 use Rattle.ssq_value.specs.Key.{keys_of}
-use Rattle.ssq_version.specs.State.{State, by_bytes, value_at}
+use Rattle.ssq_version.specs.State.{State, value_at}
 use Rattle.ssq_shape.specs.declared.bound.Aggregate.{Aggregate}
 use Rattle.ssq_shape.specs.declared.bound.Bound.{Bound}
 use Rattle.ssq_shape.specs.declared.bound.Grouping.{Grouping}
 use Rattle.ssq_meaning.specs.declared.total.Total.{Total}
 use Rattle.ssq_meaning.specs.Group.{closing_time}
 use Rattle.ssq_meaning.specs.Meaning.{Values}
-use Rattle.ssq_meaning.specs.Times.{is_past}
 use Rattle.ssq_meaning.specs.Totals.{totals_bytes}
+use Rattle.ssq_step.specs.Indexing as index
+pub use Rattle.ssq_step.specs.Indexing.{seen, stands}
 use Rattle.ssq_agg.specs.declared.kept.Group.{Group}
 use Rattle.ssq_agg.specs.Groups.{Held}
-use Rattle.ssq_agg.specs.Readable.{AreTotalsOf, IsKey, IsReadableGroup, IsReadableKey}
+use Rattle.ssq_agg.specs.Readable.{AreTotalsOf, IsKey, IsReadableGroup}
 
 -- ---- what is found, in any state
 
@@ -57,10 +56,6 @@ abbrev pub entries_at : State → List (List ℕ) → List Entry
 entries_at state [] = []
 entries_at state (key ∷ keys) = cons_option (entry_at key (value_at state key)) (entries_at state keys)
 
--- the keys that are lent
-abbrev pub seen : List (Bor (List ℕ)) → List (List ℕ)
-seen keys = map (λ (key : Bor (List ℕ)). key.now) keys
-
 -- ---- what a state holds
 
 -- The state holds these totals: behind the bytes of a key stand those of its totals, where it has some, and key and totals can be read back.
@@ -68,11 +63,6 @@ pub record Holds (grouping : Grouping) (state : State) (own : Held) : Type 0 whe
   pub found : (key : Values) → IsKey grouping key → value_at state (keys_of key) ≡ option_map totals_bytes (own key)
   pub readable : (key : Values) (totals : List Total) → own key ≡ Some totals → IsReadableGroup grouping key totals
 
--- how often a key is among some keys, by its bytes
-abbrev pub stands : List ℕ → List (List ℕ) → ℕ
-stands key keys = length (filter (is_at (by_bytes key)) keys)
-
 -- Of the keys that can be read back those that the state has and whose time is past, each once.
 abbrev pub AreDueKeys : Bound → Grouping → State → Option ℤ → List (List ℕ) → Type 0
-AreDueKeys query grouping state now keys = (key : Values) → IsReadableKey grouping key →
-    stands (keys_of key) keys ≡ (if is_some (value_at state (keys_of key)) && is_past now (closing_time query grouping key) then 1 else 0)
+AreDueKeys query grouping state now keys = index.AreDueKeys (length grouping.keys) (closing_time query grouping) state now keys

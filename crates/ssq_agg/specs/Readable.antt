@@ -12,6 +12,7 @@ use Rattle.ssq_meaning.specs.declared.total.Total.TheVariants as total
 use Rattle.ssq_meaning.specs.Fit.{IsFit}
 use Rattle.ssq_meaning.specs.GroupLaws.{IsKeySpelled}
 use Rattle.ssq_meaning.specs.Meaning.{Values}
+use Rattle.ssq_step.specs.Indexing as index
 use Rattle.ssq_agg.specs.declared.kept.Group.{Group}
 
 -- a state can hold the value that is a least or a greatest
@@ -52,9 +53,8 @@ abbrev pub IsKey : Grouping → Values → Type 0
 IsKey grouping key = IsKeySpelled (length grouping.keys) key
 
 -- a key that is read back from its bytes
-pub record IsReadableKey (grouping : Grouping) (key : Values) : Type 0 where
-  pub values : All IsFit key
-  pub many : length key ≡ length grouping.keys
+abbrev pub IsReadableKey : Grouping → Values → Type 0
+IsReadableKey grouping key = index.IsReadableKey (length grouping.keys) key
 
 -- a group that is
 pub record IsReadableGroup (grouping : Grouping) (key : Values) (totals : List Total) : Type 0 where

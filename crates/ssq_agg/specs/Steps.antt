@@ -1,11 +1,11 @@
 -- The step of an epoch.
-use Rattle.std.specs.Prelude.{◌≡◌, ◌++◌, ⊤, ℕ, ℤ, Bool, true, false, if◌then◌else◌, List, All, length, map, Option, Some, None, is_some}
+use Rattle.std.specs.Prelude.{◌≡◌, ◌++◌, ℕ, ℤ, Bool, true, false, if◌then◌else◌, List, All, length, map, Option, Some, None, is_some}
 use Rattle.std.specs.BTreeMap.{BTreeMap, get}
 use Rattle.std.specs.List.{AllByRecursion, list_any}
 use Rattle.std.specs.List.Sorted.{IsPermutation}
 use Rattle.ssq_value.specs.Key.{keys_of}
 use Rattle.ssq_value.specs.Order.{values_cmp}
-use Rattle.ssq_version.specs.State.{State, Change, IsAfter, value_at}
+use Rattle.ssq_version.specs.State.{State, Change, value_at}
 use Rattle.ssq_shape.specs.declared.bound.Bound.{Bound}
 use Rattle.ssq_shape.specs.declared.bound.Grouping.{Grouping}
 use Rattle.ssq_shape.specs.declared.bound.Mode.{Mode}
@@ -21,15 +21,16 @@ use Rattle.ssq_meaning.specs.Meaning.{Values}
 use Rattle.ssq_meaning.specs.Operator.{group}
 use Rattle.ssq_meaning.specs.Times.{is_past}
 use Rattle.ssq_meaning.specs.Totals.{totals_bytes}
-use Rattle.ssq_agg.specs.declared.fault.StepFault.{StepFault}
-use Rattle.ssq_agg.specs.declared.fault.StepFault.TheVariants.{Overflow, NoMemory}
+use Rattle.ssq_step.specs.declared.fault.StepFault.{StepFault}
+use Rattle.ssq_step.specs.declared.stepped.Stepped.{Stepped}
+use Rattle.ssq_step.specs.Steps as step
 use Rattle.ssq_agg.specs.declared.kept.Group.{Group}
 use Rattle.ssq_agg.specs.declared.shown.Shown.{Shown}
 use Rattle.ssq_agg.specs.declared.epoch.Moved.{Moved}
-use Rattle.ssq_agg.specs.declared.epoch.Stepped.{Stepped}
 use Rattle.ssq_agg.specs.Groups.{AreSteady, Held}
 use Rattle.ssq_agg.specs.Holding.{Holds}
-use Rattle.ssq_agg.specs.Indexing.{Indexes, IsIndex, Timed}
+use Rattle.ssq_step.specs.Indexing.{IsIndex, Timed}
+use Rattle.ssq_agg.specs.Indexing.{Indexes}
 use Rattle.ssq_agg.specs.Readable.{IsKey}
 use Rattle.ssq_agg.specs.Shown.{Pair, shown_rows, least_fault}
 
@@ -96,15 +97,12 @@ pub record IsMove (query : Bound) (grouping : Grouping) (old new : List FedRow) 
 
 -- Its change leads from the state over the rows before to the state over these rows too, at the new watermark; it shows the epoch's rows, as
 -- a bag; and no key overflows.
-pub record IsStep (query : Bound) (grouping : Grouping) (state : State) (old new : List FedRow) (before now : Option ℤ) (stepped : Stepped) : Type 0 where
-  pub leads : IsAfter stepped.change state ((group query grouping).state (old ++ new) now)
-  pub shown : IsPermutation stepped.rows.items ((group query grouping).added old new before now)
-  pub faultless : (group query grouping).fault old new before now ≡ None
+abbrev pub IsStep : Bound → Grouping → State → (old new : List FedRow) → (before now : Option ℤ) → Stepped → Type 0
+IsStep query grouping state old new before now stepped = step.IsStep (group query grouping) state old new before now stepped
 
 -- it shows nothing because the epoch overflows on this key, the least, or because memory ran out
 abbrev pub IsCause : Bound → Grouping → (old new : List FedRow) → (before now : Option ℤ) → StepFault → Type 0
-IsCause query grouping old new before now (Overflow key) = (group query grouping).fault old new before now ≡ Some key
-IsCause query grouping old new before now NoMemory = ⊤
+IsCause query grouping old new before now fault = step.IsCause (group query grouping) old new before now fault
 
 -- what was touched, or else what was kept
 abbrev pub or_kept : Option (List Total) → Option (List Total) → Option (List Total)

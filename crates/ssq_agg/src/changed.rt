@@ -10,9 +10,10 @@ ghost use Rattle.ssq_meaning.specs.Totals.{totals_bytes};
 ghost use Rattle.ssq_agg.specs.Readable.{AreFit, AreFitGroups, IsFitGroup};
 ghost use Rattle.ssq_agg.specs.Steps.{AreKeys, AreTouchedKeys, Says, keys_of_groups};
 
-use crate::kept::{Group, bytes_of_key, short};
+use crate::kept::Group;
 use crate::total_bytes::bytes_of;
 use crate::totals::Totals;
+use ssq_step::{bytes_of_key, short};
 use ssq_value::{Row, keys_are_apart};
 use ssq_version::Change;
 use std::alloc::{AllocError, Global};

@@ -17,8 +17,6 @@ ghost use Rattle.ssq_agg.specs.Shown.{ArePrintable, others_of};
 ghost use Rattle.ssq_agg.specs.Steps.{Given, GivenGroups, IsCause, IsMove, IsStep, IsUngrouped, ShowsDue};
 
 use crate::changed::changed;
-use crate::closing::Closing;
-use crate::fault::StepFault;
 use crate::groups::touched;
 use crate::kept::{Group, all_groups, groups_at};
 use crate::shown::{Shown, nothing_shown, show_each, show_touched};
@@ -28,19 +26,11 @@ use ssq_meaning::{
     kept_groups_are_found,
 };
 use ssq_shape::{Bound, Grouping, Mode, Shape};
+use ssq_step::{Closing, StepFault, Stepped};
 use ssq_value::Row;
 use ssq_version::{Change, StateMap, states_are_kept};
 use std::alloc::{AllocError, Global};
 use std::collections::BTreeMap;
-
-/// What a step changes and shows.
-#[derive(Debug, Drop)]
-pub struct Stepped {
-    /// What changes in the state: a group with new rows has its totals after them, and a group that is closed goes.
-    pub change: Change,
-    /// The rows that the epoch shows, in no order.
-    pub rows: Vec<Row>,
-}
 
 /// What becomes of groups in an epoch.
 #[derive(Debug, Drop)]

@@ -2,7 +2,6 @@
 
 ghost use Rattle.std.specs.Prelude.{◌≡◌, All, IfOk, OnOk};
 ghost use Rattle.ssq_value.specs.Key.{keys_of};
-ghost use Rattle.ssq_version.specs.State.{IsShort};
 ghost use Rattle.ssq_meaning.specs.Fit.{IsFit};
 ghost use Rattle.ssq_agg.specs.Holding.{Adds, AreRead, IsRead, IsReadAt, entries_at, seen};
 
@@ -11,7 +10,8 @@ use crate::totals::Totals;
 use ssq_field::Bytes;
 use ssq_keys::read_key;
 use ssq_shape::Grouping;
-use ssq_value::{Row, Value, key_bytes};
+use ssq_step::bytes_of_key;
+use ssq_value::{Row, Value};
 use ssq_version::StateMap;
 use std::alloc::{AllocError, Global};
 
@@ -20,27 +20,6 @@ use std::alloc::{AllocError, Global};
 pub(crate) struct Group {
     pub key: Row,
     pub totals: Totals,
-}
-
-/// The bytes, where they are fewer than 2^32, as a state holds. Else they count as too many for the memory.
-pub(crate) fn short(bytes: Vec<u8>) -> Result<Bytes, AllocError>
-    ensures bytes { IfOk result (λ short. short ≡ bytes.items) }
-    ensures short { IfOk result IsShort }
-{
-    if bytes.as_slice().len() <= u32::MAX as usize {
-        Ok(Bytes::from_vec(bytes))
-    } else {
-        Err(AllocError)
-    }
-}
-
-/// The bytes under which a key is kept.
-pub(crate) fn bytes_of_key(alloc: Global, key: &[Value]) -> Result<Bytes, AllocError>
-    requires { All IsFit key.now }
-    ensures bytes { IfOk result (λ bytes. bytes ≡ keys_of key.now) }
-    ensures short { IfOk result IsShort }
-{
-    short(key_bytes(alloc, key)?)
 }
 
 /// The totals that the state keeps of a key.

@@ -2,9 +2,7 @@
 #![tactic(auto)]
 
 mod changed;
-mod closing;
 mod epoch;
-mod fault;
 mod groups;
 mod kept;
 mod laws;
@@ -14,7 +12,5 @@ mod total;
 mod total_bytes;
 mod totals;
 
-pub use closing::Closing;
-pub use epoch::{Stepped, step};
-pub use fault::StepFault;
+pub use epoch::step;
 pub use laws::few_rows_are_steady;

@@ -128,7 +128,7 @@ faultless s cuts e some quiet still =
 kept_is_one : (shape : Shape) (partitions p : ℕ) → p < keeping_of shape partitions → nat_lt p partitions ≡ true
 kept_is_one Plain partitions p less = absurd (omega (arith, less))
 kept_is_one (Group grouping) partitions p less = lt_true p partitions less
-kept_is_one (Dedup columns) partitions p less = absurd (omega (arith, less))
+kept_is_one (Dedup columns) partitions p less = lt_true p partitions less
 kept_is_one (Join joining) partitions p less = absurd (omega (arith, less))
 
 pub are_causal : AreCausal

@@ -1,4 +1,4 @@
--- How many bytes and entries the states of groups have.
+-- How many bytes and entries the states of a query have.
 use Rattle.std.proofs.Common.{◌≡◌, ◌≤◌, ◌+◌, ◌*◌, [], ◌∷◌, ℕ, zero, suc, ℤ, List, Option, Bool, true, false, refl, sym, ◌∙◌, subst, map, filter, length, arith}
 use Rattle.std.specs.Prelude.{if◌then◌else◌, fold, not, All}
 use Rattle.std.specs.declared.cmp.Ordering.{Ordering}
@@ -24,7 +24,8 @@ use Rattle.ssq_shape.specs.Evaluation.{cell_at, is_null}
 use Rattle.ssq_shape.specs.Fit.{IsFit}
 use Rattle.ssq_meaning.specs.declared.fed_row.FedRow.{FedRow}
 use Rattle.ssq_meaning.specs.Fit.{IsFitRow}
-use Rattle.ssq_meaning.specs.Group.{distinct, entry_of, is_closed, is_same, keys_in, kept, members, open_keys}
+use Rattle.ssq_meaning.specs.Dedup as repeats
+use Rattle.ssq_meaning.specs.Group.{distinct, is_closed, is_same, keys_in, kept, members, totals_in}
 use Rattle.ssq_meaning.specs.Meaning.{Values}
 use Rattle.ssq_meaning.specs.Totals.{column_of, greater, greatest_of, least_of, lesser, total_bytes, total_of, totals_bytes, totals_from}
 use Rattle.ssq_meaning.proofs.Grouped.{keys_of_rows}
@@ -150,11 +151,7 @@ values_are_short : (es : State) → AllByRecursion IsShortEntry es → AllByRecu
 values_are_short [] all = tt
 values_are_short (e ∷ es) all = (all.0.1, values_are_short es all.1)
 
--- ---- groups
-
--- a row has a key with a value for each part of GROUP BY
-abbrev pub HasKeyOf : Grouping → FedRow → Type 0
-HasKeyOf grouping row = length row.key ≡ length grouping.keys
+-- ---- what is kept of keys
 
 filter_few : {X : Type 0} (p : X → Bool) (xs : List X) → length (filter p xs) ≤ length xs
 filter_few p [] = omega arith
@@ -169,46 +166,77 @@ unfolding distinct
 distinct_few [] = omega arith
 distinct_few (key ∷ keys) = omega (arith, filter_few (λ other. not (is_same key other)) (distinct keys), distinct_few keys)
 
-module _ (query : Bound) (grouping : Grouping) (rows : List FedRow) (now : Option ℤ) where
+-- the keys of rows that pass a test, each with its value
+abbrev entry_by : (Values → List ℕ) → Values → List ℕ × List ℕ
+entry_by value key = (keys_of key, value key)
+
+abbrev kept_by : (Values → Bool) → (Values → List ℕ) → List FedRow → State
+kept_by is_open value rows = entries (from_entries {R = by_bytes} (map (entry_by value) (filter is_open (keys_in rows))))
+
+module _ (is_open : Values → Bool) (value : Values → List ℕ) (rows : List FedRow) where
   -- there are no more entries than rows
-  pub kept_few : length (kept query grouping rows now) ≤ length rows
-  kept_few =
+  few_by : length (kept_by is_open value rows) ≤ length rows
+  few_by =
       omega (
         arith,
-        entries_few (map (entry_of grouping rows) (open_keys query grouping rows now)),
-        length-map (open_keys query grouping rows now) (entry_of grouping rows),
-        filter_few (λ key. not (is_closed query grouping now key)) (keys_in rows),
+        entries_few (map (entry_by value) (filter is_open (keys_in rows))),
+        length-map (filter is_open (keys_in rows)) (entry_by value),
+        filter_few is_open (keys_in rows),
         distinct_few (map (λ (row : FedRow). row.key) rows),
         length-map rows (λ (row : FedRow). row.key),
       )
 
-  module _ (limits : AreWithinLimits grouping) (fit : All IsFitRow rows) (lengths : All (HasKeyOf grouping) rows) (ascend : Ascends (kept query grouping rows now)) where
+  module _ (count : ℕ) (limit : count ≤ 64) (fit : All IsFitRow rows) (lengths : All (λ (row : FedRow). length row.key ≡ count) rows) (short : (key : Values) → IsShort (value key))
+      (ascend : Ascends (kept_by is_open value rows)) where
     -- a key of these rows
     abbrev IsOwnKey : Values → Type 0
-    IsOwnKey key = AreFit key × (length key ≡ length grouping.keys)
+    IsOwnKey key = AreFit key × (length key ≡ count)
 
-    own_keys : (rows : List FedRow) → AllByRecursion IsFitRow rows → AllByRecursion (HasKeyOf grouping) rows → AllByRecursion (λ (row : FedRow). IsOwnKey row.key) rows
+    own_keys : (rows : List FedRow) → AllByRecursion IsFitRow rows → AllByRecursion (λ (row : FedRow). length row.key ≡ count) rows → AllByRecursion (λ (row : FedRow). IsOwnKey row.key) rows
     own_keys [] fit lengths = tt
     own_keys (row ∷ rows) fit lengths = ((recursion_from_All IsFit row.key fit.0.key, lengths.0), own_keys rows fit.1 lengths.1)
 
-    entry_short : (key : Values) → IsOwnKey key → IsShortEntry (entry_of grouping rows key)
-    entry_short key own = (
-      omega (arith, keys_bytes key own.0, own.1, limits.keys),
-      omega (arith, all_totals 0 grouping.aggregates (members rows key) (members_fit rows key (recursion_from_All IsFitRow rows fit)), limits.aggregates),
-    )
-
-    each_short : (keys : List Values) → AllByRecursion IsOwnKey keys → AllByRecursion IsShortEntry (map (entry_of grouping rows) keys)
+    each_short : (keys : List Values) → AllByRecursion IsOwnKey keys → AllByRecursion IsShortEntry (map (entry_by value) keys)
     each_short [] all = tt
-    each_short (key ∷ keys) all = (entry_short key all.0, each_short keys all.1)
+    each_short (key ∷ keys) all = ((omega (arith, keys_bytes key all.0.0, all.0.1, limit), short key), each_short keys all.1)
 
-    kept_short : AllByRecursion IsShortEntry (kept query grouping rows now)
+    kept_short : AllByRecursion IsShortEntry (kept_by is_open value rows)
     kept_short =
-        entries_short (map (entry_of grouping rows) (open_keys query grouping rows now)) (each_short (open_keys query grouping rows now)
-        (All-by IsOwnKey (λ key. not (is_closed query grouping now key)) (keys_in rows) (All-distinct IsOwnKey (map (λ (row : FedRow). row.key) rows) (keys_of_rows query grouping IsOwnKey rows (own_keys rows (recursion_from_All IsFitRow rows fit) (recursion_from_All _ rows lengths))))))
+        entries_short (map (entry_by value) (filter is_open (keys_in rows))) (each_short (filter is_open (keys_in rows))
+        (All-by IsOwnKey is_open (keys_in rows) (All-distinct IsOwnKey (map (λ (row : FedRow). row.key) rows) (keys_of_rows IsOwnKey rows (own_keys rows (recursion_from_All IsFitRow rows fit) (recursion_from_All _ rows lengths))))))
+
+    state_by : IsState (kept_by is_open value rows)
+    state_by = record {
+      ascend = ascend;
+      keys = All-from_recursion IsShort _ (keys_are_short (kept_by is_open value rows) kept_short);
+      values = All-from_recursion IsShort _ (values_are_short (kept_by is_open value rows) kept_short);
+    }
+
+-- ---- groups
+
+-- a row has a key with a value for each part of GROUP BY
+abbrev pub HasKeyOf : Grouping → FedRow → Type 0
+HasKeyOf grouping row = length row.key ≡ length grouping.keys
+
+module _ (query : Bound) (grouping : Grouping) (rows : List FedRow) (now : Option ℤ) where
+  pub kept_few : length (kept query grouping rows now) ≤ length rows
+  kept_few = few_by (λ key. not (is_closed query grouping now key)) (λ key. totals_bytes (totals_in grouping rows key)) rows
+
+  module _ (limits : AreWithinLimits grouping) (fit : All IsFitRow rows) (lengths : All (HasKeyOf grouping) rows) (ascend : Ascends (kept query grouping rows now)) where
+    totals_short : (key : Values) → IsShort (totals_bytes (totals_in grouping rows key))
+    totals_short key = omega (arith, all_totals 0 grouping.aggregates (members rows key) (members_fit rows key (recursion_from_All IsFitRow rows fit)), limits.aggregates)
 
     pub kept_is_state : IsState (kept query grouping rows now)
-    kept_is_state = record {
-      ascend = ascend;
-      keys = All-from_recursion IsShort _ (keys_are_short (kept query grouping rows now) kept_short);
-      values = All-from_recursion IsShort _ (values_are_short (kept query grouping rows now) kept_short);
-    }
+    kept_is_state =
+        state_by (λ key. not (is_closed query grouping now key)) (λ key. totals_bytes (totals_in grouping rows key)) rows (length grouping.keys) limits.keys fit lengths totals_short ascend
+
+-- ---- rows without repeats
+
+module _ (query : Bound) (columns : List ℕ) (rows : List FedRow) (now : Option ℤ) where
+  pub repeats_few : length (repeats.kept query columns rows now) ≤ length rows
+  repeats_few = few_by (λ key. not (repeats.is_closed query columns now key)) (λ key. []) rows
+
+  pub repeats_are_state : length columns ≤ 64 → All IsFitRow rows → All (λ (row : FedRow). length row.key ≡ length columns) rows → Ascends (repeats.kept query columns rows now)
+      → IsState (repeats.kept query columns rows now)
+  repeats_are_state limit fit lengths ascend =
+      state_by (λ key. not (repeats.is_closed query columns now key)) (λ key. []) rows (length columns) limit fit lengths (λ key. omega arith) ascend

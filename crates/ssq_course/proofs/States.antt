@@ -7,7 +7,7 @@ use Rattle.std.specs.BTreeMap.{insert_entry}
 use Rattle.std.specs.Ordering.{match_ordering}
 use Rattle.std.proofs.lemmas.Bool.{cases_lt}
 use Rattle.std.proofs.lemmas.List.{length-append}
-use Rattle.std.proofs.lemmas.List.Elements.{All-filter, All-nil}
+use Rattle.std.proofs.lemmas.List.Elements.{All-filter, All-nil, All-weaker}
 use Rattle.ssq_value.specs.Key.{keys_of}
 use Rattle.ssq_route.specs.Place.{place_of}
 use Rattle.ssq_shape.specs.declared.bound.Bound.{Bound}
@@ -17,6 +17,8 @@ use Rattle.ssq_shape.specs.declared.bound.Shape.TheVariants.{Plain, Group, Dedup
 use Rattle.ssq_shape.specs.Windows.{HasWindows, HasWindowsBy}
 use Rattle.ssq_meaning.specs.declared.fed_row.FedRow.{FedRow}
 use Rattle.ssq_meaning.specs.Cut.{AreCuts, Cuts as Offsets}
+use Rattle.ssq_meaning.specs.Dedup as repeats
+use Rattle.ssq_meaning.specs.DedupLaws.{IsDedupRow}
 use Rattle.ssq_meaning.specs.Epochs.{accepted, bucket, on_time, state, watermark_before}
 use Rattle.ssq_meaning.specs.Fit.{IsFitRow}
 use Rattle.ssq_meaning.specs.Group.{distinct, kept}
@@ -28,7 +30,7 @@ use Rattle.ssq_version.proofs.Leading.{between_kept, news_few}
 use Rattle.ssq_core.specs.Course.{Cuts}
 use Rattle.ssq_course.specs.Setting.{Setting, cuts_of, parts_in, state_at}
 use Rattle.ssq_course.specs.States.{AreOfStates, AreWithinLimits, CanHold, CanHoldBy, CoverFewLines, StatesCanBeHeld}
-use Rattle.ssq_course.proofs.Sizes.{HasKeyOf, kept_few, kept_is_state, none_kept}
+use Rattle.ssq_course.proofs.Sizes.{HasKeyOf, kept_few, kept_is_state, none_kept, repeats_are_state, repeats_few}
 
 -- ---- how many keys a change has
 
@@ -77,7 +79,8 @@ pub record RowLaws : Type 0 where
   pub few : (query : Bound) → HasWindows query → (parts : List Part) (cuts : Offsets) (e : ℕ) → AreCuts parts cuts e → length (accepted query parts cuts e) ≤ 64 * sum (cuts e)
   pub own_few : (rows : List FedRow) (partitions p : ℕ) → length (bucket partitions p rows) ≤ length rows
   pub lengths : (query : Bound) (grouping : Grouping) → query.shape ≡ Group grouping → (parts : List Part) (cuts : Offsets) (e : ℕ) → All (HasKeyOf grouping) (accepted query parts cuts e)
-  pub ascend : (query : Bound) (grouping : Grouping) (rows : List FedRow) (now : Option ℤ) → Ascends (kept query grouping rows now)
+  pub repeats_lengths : (query : Bound) (columns : List ℕ) → query.shape ≡ Dedup columns → (parts : List Part) (cuts : Offsets) (e : ℕ) → All (IsDedupRow query columns) (accepted query parts cuts e)
+  pub ascend : (query : Bound) (rows : List FedRow) (now : Option ℤ) → Ascends ((operator_of query).state rows now)
 
 -- what a state is, with fewer than 2^63 entries
 abbrev IsSmall : State → Type 0
@@ -91,25 +94,23 @@ starts_by : (shape : Shape) (query : Bound) → (operator_for shape query).state
 unfolding distinct
 starts_by Plain query = refl
 starts_by (Group grouping) query = none_kept
-starts_by (Dedup columns) query = refl
+starts_by (Dedup columns) query = none_kept
 starts_by (Join joining) query = refl
 
 module _ (laws : RowLaws) where
-  ascends_by : (shape : Shape) (query : Bound) (rows : List FedRow) (now : Option ℤ) → Ascends ((operator_for shape query).state rows now)
-  unfolding Rattle.std.specs.List.Sorted.IsStrictlySortedBy
-  ascends_by Plain query rows now = tt
-  ascends_by (Group grouping) query rows now = laws.ascend query grouping rows now
-  ascends_by (Dedup columns) query rows now = tt
-  ascends_by (Join joining) query rows now = tt
-
   pub are_of_states : (s : Setting) (cuts : Cuts) → AreOfStates s cuts
   unfolding operator_of accepted
   are_of_states s cuts = record {
     snapshots = λ p v. ap (λ (n : ℕ). snapshot_text p n (state_at s cuts p (v + 1))) (let same : v + 1 - 1 ≡ v = omega arith in same);
     deltas = λ p v. refl;
     start = λ p. starts_by s.job.bound.shape s.job.bound;
-    ascend = λ p e. ascends_by s.job.bound.shape s.job.bound (bucket s.job.partitions p (accepted s.job.bound (parts_in s) (cuts_of cuts) e)) (watermark_before s.job.bound (parts_in s) (cuts_of cuts) e);
+    ascend = λ p e. laws.ascend s.job.bound (bucket s.job.partitions p (accepted s.job.bound (parts_in s) (cuts_of cuts) e)) (watermark_before s.job.bound (parts_in s) (cuts_of cuts) e);
   }
+
+  -- of a query of this shape
+  ascends : (s : Setting) (shape : Shape) → s.job.bound.shape ≡ shape → (rows : List FedRow) (now : Option ℤ) → Ascends ((operator_for shape s.job.bound).state rows now)
+  unfolding operator_of
+  ascends s shape is rows now = subst (λ (own : Shape). Ascends ((operator_for own s.job.bound).state rows now)) is (laws.ascend s.job.bound rows now)
 
   groups_are_small : (s : Setting) (cuts : Cuts) (n : ℕ) (grouping : Grouping) → s.job.bound.shape ≡ Group grouping → AreWithinLimits grouping → CoverFewLines s cuts n → (p e : ℕ) → e ≤ n
       → IsSmall (kept s.job.bound grouping (bucket s.job.partitions p (accepted s.job.bound (parts_in s) (cuts_of cuts) e)) (watermark_before s.job.bound (parts_in s) (cuts_of cuts) e))
@@ -121,15 +122,31 @@ module _ (laws : RowLaws) where
       let own = bucket s.job.partitions p rows in
       let now = watermark_before query parts (cuts_of cuts) e in (
         kept_is_state query grouping own now limits (laws.own_fit rows s.job.partitions p (laws.fit query windows parts (cuts_of cuts) e))
-            (All-filter (λ (row : FedRow). place_of (keys_of row.key) s.job.partitions == p) (HasKeyOf grouping) rows (laws.lengths query grouping is parts (cuts_of cuts) e)) (laws.ascend query grouping own now),
+            (All-filter (λ (row : FedRow). place_of (keys_of row.key) s.job.partitions == p) (HasKeyOf grouping) rows (laws.lengths query grouping is parts (cuts_of cuts) e)) (ascends s (Group grouping) is own now),
         omega (arith, kept_few query grouping own now, laws.own_few rows s.job.partitions p, accepted_grow query parts (cuts_of cuts) e n le, laws.few query windows parts (cuts_of cuts) n lines.are_cuts, lines.few),
+      )
+
+  repeats_are_small : (s : Setting) (cuts : Cuts) (n : ℕ) (columns : List ℕ) → s.job.bound.shape ≡ Dedup columns → length columns ≤ 64 → CoverFewLines s cuts n → (p e : ℕ) → e ≤ n
+      → IsSmall (repeats.kept s.job.bound columns (bucket s.job.partitions p (accepted s.job.bound (parts_in s) (cuts_of cuts) e)) (watermark_before s.job.bound (parts_in s) (cuts_of cuts) e))
+  repeats_are_small s cuts n columns is limit lines p e le =
+      let query = s.job.bound in
+      let parts = parts_in s in
+      let windows : HasWindows query = subst HasWindowsBy (sym is) tt in
+      let rows = accepted query parts (cuts_of cuts) e in
+      let own = bucket s.job.partitions p rows in
+      let now = watermark_before query parts (cuts_of cuts) e in
+      let lengths : All (λ (row : FedRow). length row.key ≡ length columns) rows =
+      All-weaker (IsDedupRow query columns) (λ (row : FedRow). length row.key ≡ length columns) (λ row own. own.key) rows (laws.repeats_lengths query columns is parts (cuts_of cuts) e) in (
+        repeats_are_state query columns own now limit (laws.own_fit rows s.job.partitions p (laws.fit query windows parts (cuts_of cuts) e))
+            (All-filter (λ (row : FedRow). place_of (keys_of row.key) s.job.partitions == p) (λ (row : FedRow). length row.key ≡ length columns) rows lengths) (ascends s (Dedup columns) is own now),
+        omega (arith, repeats_few query columns own now, laws.own_few rows s.job.partitions p, accepted_grow query parts (cuts_of cuts) e n le, laws.few query windows parts (cuts_of cuts) n lines.are_cuts, lines.few),
       )
 
   small_by : (s : Setting) (cuts : Cuts) (n : ℕ) (shape : Shape) → s.job.bound.shape ≡ shape → CanHoldBy shape s cuts n → (p e : ℕ) → e ≤ n
       → IsSmall ((operator_for shape s.job.bound).state (bucket s.job.partitions p (accepted s.job.bound (parts_in s) (cuts_of cuts) e)) (watermark_before s.job.bound (parts_in s) (cuts_of cuts) e))
   small_by s cuts n Plain is can p e le = none_is_small
   small_by s cuts n (Group grouping) is can p e le = groups_are_small s cuts n grouping is can.0 can.1 p e le
-  small_by s cuts n (Dedup columns) is can p e le = none_is_small
+  small_by s cuts n (Dedup columns) is can p e le = repeats_are_small s cuts n columns is can.0 can.1 p e le
   small_by s cuts n (Join joining) is can p e le = none_is_small
 
   is_small : (s : Setting) (cuts : Cuts) (n : ℕ) → CanHold s cuts n → (p e : ℕ) → e ≤ n → IsSmall (state_at s cuts p e)

@@ -68,11 +68,12 @@ rows_at s cuts e = sink_text s.job.bound (out s.job.bound (parts_in s) (cuts_of 
 abbrev pub is_faulty_at : Setting → Cuts → ℕ → Bool
 is_faulty_at s cuts e = is_some (fault s.job.bound (parts_in s) (cuts_of cuts) e)
 
--- How many partitions keep state: of a query that keeps nothing none, of groups each. Of the other shapes nothing is said yet.
+-- How many partitions keep state: of a query that keeps nothing none, of groups and of rows without repeats each. Of Join nothing is said
+-- yet.
 abbrev pub keeping_of : Shape → ℕ → ℕ
 keeping_of Plain partitions = 0
 keeping_of (Group grouping) partitions = partitions
-keeping_of (Dedup columns) partitions = 0
+keeping_of (Dedup columns) partitions = partitions
 keeping_of (Join joining) partitions = 0
 
 -- the state of a partition after the first e epochs

@@ -37,11 +37,12 @@ pub record CoverFewLines (s : Setting) (cuts : Cuts) (n : ℕ) : Type 0 where
   pub few : sum (cut_of (cuts n)) < 2 ^ 57
 
 -- Whether the states of the first n epochs can be held, by the query's shape: those of groups where these are within the limits and the
--- lines are few. Of the shapes that are to come nothing is said yet.
+-- lines are few, and those of rows without repeats where DEDUPLICATE has at most 64 columns and the lines are few. Of Join nothing is said
+-- yet.
 abbrev pub CanHoldBy : Shape → Setting → Cuts → ℕ → Type 0
 CanHoldBy Plain s cuts n = Unit {0}
 CanHoldBy (Group grouping) s cuts n = AreWithinLimits grouping × CoverFewLines s cuts n
-CanHoldBy (Dedup columns) s cuts n = Unit {0}
+CanHoldBy (Dedup columns) s cuts n = (length columns ≤ 64) × CoverFewLines s cuts n
 CanHoldBy (Join joining) s cuts n = Unit {0}
 
 abbrev pub CanHold : Setting → Cuts → ℕ → Type 0

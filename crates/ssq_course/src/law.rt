@@ -6,7 +6,8 @@ ghost use Rattle.ssq_course.specs.States.{AreOfStates, StatesCanBeHeld};
 ghost use Rattle.ssq_course.specs.Laws.{AreCausal, FilesSayTheirCourse, PartitionsShowRows, PlansCanBeWritten};
 
 use ssq_meaning::{
-    epochs_of_groups_follow, fed_rows_are_few, fed_rows_are_fit, kept_groups_are_found,
+    epochs_of_groups_follow, fed_rows_are_few, fed_rows_are_fit, kept_keys_ascend,
+    partitions_show_all_rows, repeats_are_fed_by_their_keys,
 };
 
 /// The law of jobs: what the files of a query's checkpoint hold of its first epochs hangs on where these end, and on nothing that comes
@@ -30,10 +31,13 @@ pub fn plans_can_be_written()
 /// The law of partitions: the rows that they show of an epoch, put together, are the epoch's, and have the text of its sink file.
 pub fn partitions_show_rows()
     ensures { PartitionsShowRows }
-{}
+{
+    partitions_show_all_rows();
+}
 
 /// The law of the state's files: they are those of the states after each epoch and of what each epoch changes. These have a spelling where
-/// the query's groups are within the limits of the language and its epochs cover fewer than 2^57 lines, whatever these are.
+/// the query's groups, or the columns of DEDUPLICATE, are within the limits of the language and its epochs cover fewer than 2^57 lines, whatever
+/// these are.
 pub fn files_hold_states()
     ensures files { (s : Setting) (cuts : Cuts) → AreOfStates s cuts }
     ensures held { StatesCanBeHeld }
@@ -41,5 +45,6 @@ pub fn files_hold_states()
     fed_rows_are_fit();
     fed_rows_are_few();
     epochs_of_groups_follow();
-    kept_groups_are_found();
+    repeats_are_fed_by_their_keys();
+    kept_keys_ascend();
 }

@@ -2,6 +2,7 @@
 
 ghost use Rattle.std.specs.Prelude.{◌≡◌, ◌≤◌, ◌∷◌, ◌++◌, [], length, map, All, IfOk, OnOk, Some};
 ghost use Rattle.std.specs.List.{AllByRecursion};
+ghost use Rattle.ssq_meaning.specs.Dedup.{distinguished};
 ghost use Rattle.ssq_meaning.specs.Feeding.{shown_once};
 ghost use Rattle.ssq_meaning.specs.Fit.{IsFit, IsFitRow};
 ghost use Rattle.ssq_meaning.specs.Group.{row_keys};
@@ -13,7 +14,7 @@ ghost use Rattle.ssq_feed.specs.Dealing.{Deals, from_origin, member_row, member_
 
 use crate::handed::HandedOn;
 use crate::key_values::KeyValues;
-use ssq_meaning::{FedRow, closing_time, fit_values_are_spelled};
+use ssq_meaning::{FedRow, closing_time, fit_values_are_spelled, repeat_time};
 use ssq_route::Buckets;
 use ssq_shape::{Bound, GroupKey, Grouping};
 use ssq_value::{Row, Value, put_key};
@@ -121,6 +122,35 @@ impl Dealer {
         self.buckets.add(self.key.as_slice(), row)
     }
 
+    /// Deals a row by its values in the columns of DEDUPLICATE.
+    fn deal_distinguished(
+        &mut self,
+        bound: &Bound,
+        origin: Origin,
+        columns: &[usize],
+        key: Row,
+        values: Row,
+    ) -> Result<(), AllocError>
+        requires key { All IsFit key }
+        requires values { All IsFit values }
+        ensures { OnOk result (Deals self.old.buckets self.new.buckets (from_origin origin (distinguished bound.now columns.now key values) ∷ [])) }
+    {
+        let Origin {
+            stream,
+            part,
+            offset,
+        } = origin;
+        let time = repeat_time(bound, columns, key.as_slice());
+        self.deal(FedRow {
+            stream,
+            part,
+            offset,
+            key,
+            time,
+            values,
+        })
+    }
+
     /// Deals a row to one group.
     fn deal_member(&mut self, from: &Source<'_>, key: Row, arguments: Row) -> Result<(), AllocError>
         requires windows { HasGroupWindows from.now.grouping.now }
@@ -193,6 +223,11 @@ impl Dealer {
         match handed {
             HandedOn::Nothing => Ok(()),
             HandedOn::Shown(values) => self.deal_shown(alloc, origin, values),
+            HandedOn::Distinguished {
+                columns,
+                key,
+                values,
+            } => self.deal_distinguished(bound, origin, columns, key, values),
             HandedOn::Grouped {
                 grouping,
                 row,

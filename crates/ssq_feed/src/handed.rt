@@ -1,7 +1,9 @@
 //! What a row hands on, by the shape of the query.
 
-ghost use Rattle.std.specs.Prelude.{ℕ, All, IfOk};
+ghost use Rattle.std.specs.Prelude.{◌≡◌, ℕ, All, IfOk};
+ghost use Rattle.ssq_shape.specs.Evaluation.{cell_at};
 ghost use Rattle.ssq_expr.specs.Answers.{Answers, itself};
+ghost use Rattle.ssq_meaning.specs.Dedup.{handed_to_dedup, key_in};
 ghost use Rattle.ssq_meaning.specs.Feeding.{handed};
 ghost use Rattle.ssq_meaning.specs.Fit.{IsFit};
 ghost use Rattle.ssq_meaning.specs.Group.{argument_of, arguments_of, handed_to_groups};
@@ -21,6 +23,12 @@ pub(crate) enum HandedOn<'a> {
     Nothing,
     /// The row as SELECT shows it.
     Shown(Row),
+    /// The row as SELECT shows it, by its values in the columns of DEDUPLICATE.
+    Distinguished {
+        columns: &'a [usize],
+        key: Row,
+        values: Row,
+    },
     /// The arguments of the aggregates, to each group of the row.
     Grouped {
         grouping: &'a Grouping,
@@ -71,6 +79,55 @@ fn shown<'a>(alloc: Global, bound: &Bound, row: &[Value]) -> Result<HandedOn<'a>
     }
 }
 
+/// The value of a column: NULL, where the row does not have it.
+fn cell_at(row: &[Value], column: usize) -> Result<Value, AllocError>
+    requires { All IsFit row.now }
+    ensures value { IfOk result (λ value. value ≡ cell_at row.now column) }
+    ensures fit { IfOk result IsFit }
+{
+    match row.get(column) {
+        Some(value) => value.clone(),
+        None => Ok(Value::Null),
+    }
+}
+
+/// The values of the columns, in their order.
+fn key_in(alloc: Global, columns: &[usize], row: &[Value]) -> Result<Row, AllocError>
+    requires { All IsFit row.now }
+    ensures key { IfOk result (λ key. key ≡ key_in columns.now row.now) }
+    ensures fit { IfOk result (All IsFit) }
+{
+    let mut key = Vec::with_capacity(alloc, columns.len())?;
+    for column in columns {
+        key.push(cell_at(row, *column)?)?;
+    }
+    Ok(Row::from_vec(key))
+}
+
+#[tactic(auto, unfolding(ssq_meaning::specs::Dedup::handed_to_dedup))]
+fn distinguished<'a>(
+    alloc: Global,
+    bound: &Bound,
+    columns: &'a [usize],
+    row: &[Value],
+) -> Result<HandedOn<'a>, EvalFault>
+    requires read { IsReadRow row.now }
+    ensures handed { Answers (handed_rows bound.now) result (handed_to_dedup bound.now columns.now row.now) }
+    ensures fit { IfOk result IsFitHanded }
+{
+    match show(alloc, bound, row)? {
+        Some(values) => {
+            let key = key_in(alloc, columns, row)?;
+            Ok(HandedOn::Distinguished {
+                columns,
+                key,
+                values,
+            })
+        },
+        None => Ok(HandedOn::Nothing),
+    }
+}
+
 #[tactic(auto, unfolding(ssq_meaning::specs::Group::handed_to_groups))]
 fn grouped<'a>(
     alloc: Global,
@@ -108,6 +165,7 @@ pub(crate) fn handed_on<'a>(
 {
     match &bound.shape {
         Shape::Group(grouping) => grouped(alloc, bound, grouping, row),
-        Shape::Plain | Shape::Dedup(_) | Shape::Join(_) => shown(alloc, bound, row.as_slice()),
+        Shape::Dedup(columns) => distinguished(alloc, bound, columns.as_slice(), row.as_slice()),
+        Shape::Plain | Shape::Join(_) => shown(alloc, bound, row.as_slice()),
     }
 }

@@ -1,4 +1,5 @@
 pub mod Lists
+pub mod Stepping
 pub mod Reducing
 pub mod Committing
 pub mod Gathering

@@ -5,7 +5,6 @@ use Rattle.ssq_time.specs.Time.{IsStampTime}
 use Rattle.ssq_value.specs.Kind.{IfTime}
 use Rattle.ssq_outside.specs.Faults.{Rises}
 use Rattle.ssq_shape.specs.declared.bound.Bound.{Bound}
-use Rattle.ssq_shape.specs.declared.bound.Grouping.{Grouping}
 use Rattle.ssq_shape.specs.declared.bound.Shape.{Shape}
 use Rattle.ssq_shape.specs.declared.bound.Shape.TheVariants.{Plain, Group, Dedup, Join}
 use Rattle.ssq_meaning.specs.declared.fed_row.FedRow.{FedRow}
@@ -13,10 +12,9 @@ use Rattle.ssq_meaning.specs.Meaning.{Values}
 use Rattle.ssq_meaning.specs.Operator.{operator_of}
 use Rattle.ssq_meaning.specs.Epochs.{timely}
 use Rattle.ssq_meaning.specs.Times.{is_past}
-use Rattle.ssq_agg.specs.declared.fault.StepFault.{StepFault}
-use Rattle.ssq_agg.specs.declared.fault.StepFault.TheVariants as step
-use Rattle.ssq_agg.specs.Indexing.{IsIndex}
-use Rattle.ssq_agg.specs.Steps.{Given}
+use Rattle.ssq_step.specs.declared.fault.StepFault.{StepFault}
+use Rattle.ssq_step.specs.declared.fault.StepFault.TheVariants as step
+use Rattle.ssq_step.specs.Indexing.{IsIndex}
 use Rattle.ssq_version.specs.State.{between}
 use Rattle.ssq_version.specs.Text.{delta_text}
 use Rattle.ssq_store.specs.declared.fault.SealFault.{SealFault}
@@ -29,6 +27,7 @@ use Rattle.ssq_task.specs.declared.partition.ReducedRows.{ReducedRows}
 use Rattle.ssq_task.specs.declared.partition.ReduceFault.{ReduceFault}
 use Rattle.ssq_task.specs.declared.partition.ReduceFault.TheVariants as fault
 use Rattle.ssq_task.specs.Lists.{joined_vecs}
+use Rattle.ssq_task.specs.Stepping.{CanStepBy}
 
 -- the values of each row, in order
 abbrev pub values_of : List FedRow → List Values
@@ -87,18 +86,18 @@ written_in written (Some state) = written state.stage
 
 -- ---- what a task is given
 
--- The state is the partition's own, and what the rows leave that it accepted before, with the index of its groups by the times at which they
--- close: from that the operator of groups can step.
-pub record IsGivenGroups {S : Type 0} (query : Bound) (grouping : Grouping) (partition : ℕ) (old new : List FedRow) (before now : Option ℤ) (state : State S) : Type 0 where
+-- The state is the partition's own, and what the rows leave that it accepted before, with the index of its keys by the times at which they
+-- close: from that the operator of the shape can step.
+pub record IsGivenState {S : Type 0} (shape : Shape) (query : Bound) (partition : ℕ) (old new : List FedRow) (before now : Option ℤ) (state : State S) : Type 0 where
   pub own : state.held.store.partition ≡ partition
-  pub given : Given query grouping state.held.store.state state.held.closing old new before now
+  pub given : CanStepBy shape query state.held.store.state state.held.closing old new before now
 
--- What the operator of a shape needs: a query that keeps nothing has no state, one that groups has such a one. The operators of Dedup and
--- Join are to come, and keep nothing yet.
+-- What the operator of a shape needs: a query that keeps nothing has no state, one that groups or deduplicates has such a one. The operator
+-- of Join is to come, and keeps nothing yet.
 abbrev pub IsGivenBy : {S : Type 0} → Shape → Bound → (partition : ℕ) → (old new : List FedRow) → (before now : Option ℤ) → Option (State S) → Type 0
 IsGivenBy Plain query partition old new before now state = state ≡ None
-IsGivenBy (Group grouping) query partition old new before now state = IsSomeAnd state (IsGivenGroups query grouping partition old new before now)
-IsGivenBy (Dedup columns) query partition old new before now state = state ≡ None
+IsGivenBy (Group grouping) query partition old new before now state = IsSomeAnd state (IsGivenState (Group grouping) query partition old new before now)
+IsGivenBy (Dedup columns) query partition old new before now state = IsSomeAnd state (IsGivenState (Dedup columns) query partition old new before now)
 IsGivenBy (Join joining) query partition old new before now state = state ≡ None
 
 -- what the operator of a query needs

@@ -11,6 +11,7 @@ mod late;
 mod out;
 mod partition;
 mod stages;
+mod step;
 mod version;
 
 pub use commit::seen_from;

@@ -9,10 +9,10 @@ ghost use Rattle.ssq_task.specs.Reducing.{IsIndexed, IsReduced, values_of};
 ghost use Rattle.ssq_task.specs.Lists.{joined_vecs};
 
 use crate::version::next_version;
-use ssq_agg::{Closing, StepFault};
 use ssq_meaning::{FedRow, View};
 use ssq_outside::Stage;
 use ssq_shape::Bound;
+use ssq_step::{Closing, StepFault};
 use ssq_store::{SealFault, Store};
 use ssq_value::Row;
 use std::alloc::{AllocError, Global};
@@ -76,7 +76,7 @@ impl From<SealFault> for ReduceFault {
 pub struct Held {
     /// What the partition keeps, and its version.
     pub store: Store,
-    /// The keys of its groups by the times at which they close: those of what the store keeps.
+    /// Its keys by the times at which they close: those of what the store keeps.
     pub closing: Closing,
 }
 
@@ -177,8 +177,8 @@ fn show_all<S: Stage>(
 }
 
 /// Shows the rows of the task's partition, and takes what it keeps to the epoch's version. A query that keeps nothing shows each row as it is.
-/// One that groups leaves late rows out, steps its groups, and seals what changes as the delta of the epoch's version. No group is read but
-/// those that have rows and those that close, or in Complete all, since all are shown.
+/// One that groups or deduplicates leaves late rows out, steps its operator, and seals what changes as the delta of the epoch's version. No key
+/// is read but those that have rows and those that close, or of groups in Complete all, since all are shown.
 ///
 /// The store is at the version before the epoch's, a state can hold what the rows hold, and the query can have its windows. Against it are a
 /// key whose result is outside of its type's range, a file aside that failed, and want of memory: what the store keeps is then as it was, and

@@ -3,13 +3,14 @@
 ghost use Rattle.std.specs.Prelude.{◌≡◌, ◌<◌, ◌++◌, ◌^◌, ℕ, ℤ, List, Option, Some, All, IfOk, IfErr, OnOk, OnErr};
 ghost use Rattle.ssq_time.specs.Time.{IsStampTime};
 ghost use Rattle.ssq_value.specs.Kind.{IfTime};
-ghost use Rattle.ssq_shape.specs.declared.bound.Grouping.{Grouping as Groups};
 ghost use Rattle.ssq_meaning.specs.declared.fed_row.FedRow.{FedRow as Fed};
 ghost use Rattle.ssq_meaning.specs.Epochs.{timely};
 ghost use Rattle.ssq_meaning.specs.Fit.{IsFitRow};
 ghost use Rattle.ssq_meaning.specs.Windows.{HasWindows};
-ghost use Rattle.ssq_agg.specs.Indexing.{IsIndex};
-ghost use Rattle.ssq_agg.specs.Steps.{Given, IsCause, IsStep};
+ghost use Rattle.ssq_step.specs.Indexing.{IsIndex};
+ghost use Rattle.ssq_step.specs.Steps.{IsCause, IsStep};
+ghost use Rattle.ssq_meaning.specs.Operator.{operator_of};
+ghost use Rattle.ssq_task.specs.Stepping.{CanStep};
 ghost use Rattle.ssq_version.specs.State.{State as Kept, Ascends, IsAfter, between};
 ghost use Rattle.ssq_version.specs.Text.{delta_text};
 ghost use Rattle.ssq_store.specs.Loaded.{count_to};
@@ -18,10 +19,11 @@ ghost use Rattle.ssq_task.specs.Lists.{joined_vecs};
 
 use crate::late::timely_rows;
 use crate::partition::{Held, ReduceFault, ReducedRows, State};
-use ssq_agg::{StepFault, Stepped, step};
-use ssq_meaning::{FedRow, kept_groups_are_found};
+use crate::step::step_operator;
+use ssq_meaning::{FedRow, kept_keys_ascend};
 use ssq_outside::Stage;
 use ssq_shape::Bound;
+use ssq_step::{StepFault, Stepped};
 use ssq_store::SealFault;
 use ssq_version::{
     Change, changes_are_kept, states_are_kept, states_have_a_change, versions_are_one,
@@ -38,24 +40,16 @@ fn step_rows(
     watermark: Option<i64>,
 ) -> Result<Stepped, StepFault>
     requires { All IsFitRow (joined_vecs parts.items) }
-    ensures stepped { (grouping : Groups) (old : List Fed) (before : Option ℤ) →
-        Given bound.now grouping held.now.store.state held.now.closing old (timely bound.now watermark (joined_vecs parts.items)) before watermark →
-        IfOk result (IsStep bound.now grouping held.now.store.state old (timely bound.now watermark (joined_vecs parts.items)) before watermark) }
-    ensures cause { (grouping : Groups) (old : List Fed) (before : Option ℤ) →
-        Given bound.now grouping held.now.store.state held.now.closing old (timely bound.now watermark (joined_vecs parts.items)) before watermark →
-        IfErr result (IsCause bound.now grouping old (timely bound.now watermark (joined_vecs parts.items)) before watermark) }
+    ensures stepped { (old : List Fed) (before : Option ℤ) →
+        CanStep bound.now held.now.store.state held.now.closing old (timely bound.now watermark (joined_vecs parts.items)) before watermark →
+        IfOk result (IsStep (operator_of bound.now) held.now.store.state old (timely bound.now watermark (joined_vecs parts.items)) before watermark) }
+    ensures cause { (old : List Fed) (before : Option ℤ) →
+        CanStep bound.now held.now.store.state held.now.closing old (timely bound.now watermark (joined_vecs parts.items)) before watermark →
+        IfErr result (IsCause (operator_of bound.now) old (timely bound.now watermark (joined_vecs parts.items)) before watermark) }
     ensures printable { IfOk result (λ stepped. All (All (IfTime IsStampTime)) stepped.rows.items) }
 {
     let rows = timely_rows(alloc, watermark, parts)?;
-    step(
-        alloc,
-        bound,
-        &held.store.state,
-        &held.closing,
-        rows.as_slice(),
-        epoch,
-        watermark,
-    )
+    step_operator(alloc, bound, held, rows.as_slice(), epoch, watermark)
 }
 
 /// Takes what a partition keeps to the next version by a change, and first the index beside it. After an `Err` the store is as it was, and the
@@ -133,7 +127,7 @@ pub(crate) fn next_version<S: Stage>(
     ensures failed { (partition : ℕ) → IfErr result.1
         (HasFailed S.faults bound.now partition watermark (timely bound.now watermark (joined_vecs parts.items)) (Some state) (Some result.0)) }
 {
-    kept_groups_are_found();
+    kept_keys_ascend();
     let State { mut held, stage } = state;
     let outcome = match step_rows(alloc, bound, &held, parts, epoch, watermark) {
         Ok(Stepped { change, rows }) => {

@@ -1,14 +1,15 @@
 use Rattle.ssq_course.proofs.States.{RowLaws, are_of_states, can_be_held}
 use Rattle.ssq_course.proofs.law.files_hold_states.Goals as goal
 
-row_laws : (c : goal.After-kept_groups_are_found) → RowLaws
+row_laws : (c : goal.After-kept_keys_ascend) → RowLaws
 row_laws c = record {
   fit = c.fed_rows_are_fit.ensures.accepted;
   own_fit = c.fed_rows_are_fit.ensures.bucket;
   few = c.fed_rows_are_few.ensures.accepted;
   own_few = c.fed_rows_are_few.ensures.bucket;
   lengths = c.epochs_of_groups_follow.ensures.lengths;
-  ascend = c.kept_groups_are_found.ensures.ascend;
+  repeats_lengths = c.repeats_are_fed_by_their_keys.ensures.accepted;
+  ascend = c.kept_keys_ascend.ensures;
 }
 
 pub returns-clause-files : goal.returns-clause-files

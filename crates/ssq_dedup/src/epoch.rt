@@ -1,0 +1,158 @@
+//! The step of an epoch.
+
+ghost use Rattle.std.specs.Prelude.{◌≡◌, ◌||◌, [], ℕ, ℤ, Bool, List, Option, All, is_some, IfOk, IfErr, OnOk};
+ghost use Rattle.ssq_value.specs.declared.value.Value.{Value as Cell};
+ghost use Rattle.ssq_time.specs.Time.{IsStampTime};
+ghost use Rattle.ssq_value.specs.Kind.{IfTime};
+ghost use Rattle.ssq_shape.specs.declared.bound.Bound.{Bound as Query};
+ghost use Rattle.ssq_meaning.specs.declared.fed_row.FedRow.{FedRow as Fed};
+ghost use Rattle.ssq_meaning.specs.Dedup.{values_in};
+ghost use Rattle.ssq_meaning.specs.Fit.{IsFitRow};
+ghost use Rattle.ssq_meaning.specs.Operator.{dedup};
+ghost use Rattle.ssq_version.specs.State.{IsShort, value_at};
+ghost use Rattle.ssq_step.specs.Indexing.{seen};
+ghost use Rattle.ssq_step.specs.Steps.{IsStep};
+ghost use Rattle.ssq_step.specs.declared.fault.StepFault.TheVariants.{NoMemory};
+ghost use Rattle.ssq_dedup.specs.Firsts.{HoldsKeys, IsGone, IsKeyed, SaysFirsts, Takes, first_among};
+ghost use Rattle.ssq_dedup.specs.Steps.{Given, KeepsRepeats};
+
+use ssq_field::Bytes;
+use ssq_meaning::{FedRow, first_rows_are_told_by_what_is_kept, kept_keys_are_found};
+use ssq_shape::{Bound, Shape};
+use ssq_step::{Closing, StepFault, Stepped, bytes_of_key, short};
+use ssq_value::{Row, keys_are_apart};
+use ssq_version::{Change, StateMap};
+use std::alloc::{AllocError, Global};
+
+fn is_kept(state: &StateMap, key: &Bytes) -> bool
+    ensures { result ≡ is_some (value_at state.now key.now) }
+{
+    state.get(key).is_some()
+}
+
+fn is_told(change: &Change, key: &Bytes) -> bool
+    ensures { result ≡ is_some (value_at change.now key.now) }
+{
+    change.get(key).is_some()
+}
+
+/// Whether a key is kept, or has a row of the epoch already.
+fn is_known(state: &StateMap, change: &Change, key: &Bytes) -> bool
+    ensures { result ≡ (is_some (value_at state.now key.now) || is_some (value_at change.now key.now)) }
+{
+    is_kept(state, key) || is_told(change, key)
+}
+
+/// Takes one more row: where its key is new, the row is shown, and its key is kept from now on.
+fn take_row(
+    alloc: Global,
+    state: &StateMap,
+    change: &mut Change,
+    shown: &mut Vec<Row>,
+    row: &FedRow,
+) -> Result<(), AllocError>
+    requires { IsFitRow row.now }
+    ensures { OnOk result (Takes state.now row.now change.old change.new shown.old.items shown.new.items) }
+{
+    let key = bytes_of_key(alloc, row.key.as_slice())?;
+    if is_known(state, change, &key) {
+        return Ok(());
+    }
+    shown.push(row.values.clone()?)?;
+    change.put(key, Bytes::new(alloc))
+}
+
+/// The rows that are no repeats, and that their keys are kept from now on. Each row's key is looked up once.
+fn first_rows(alloc: Global, state: &StateMap, rows: &[FedRow]) -> Result<Stepped, AllocError>
+    requires { All IsFitRow rows.now }
+    ensures change { (count : ℕ) (is_held : List Cell → Bool) → HoldsKeys count state.now is_held → All (IsKeyed count) rows.now →
+        IfOk result (λ stepped. SaysFirsts count is_held rows.now stepped.change) }
+    ensures rows { (count : ℕ) (is_held : List Cell → Bool) → HoldsKeys count state.now is_held → All (IsKeyed count) rows.now →
+        IfOk result (λ stepped. stepped.rows.items ≡ values_in (first_among is_held [] rows.now)) }
+    ensures printable { IfOk result (λ stepped. All (All (IfTime IsStampTime)) stepped.rows.items) }
+{
+    keys_are_apart();
+    let mut change = Change::new(alloc);
+    let mut shown = Vec::new(alloc);
+    for row in rows {
+        take_row(alloc, state, &mut change, &mut shown, row)?;
+    }
+    Ok(Stepped {
+        change,
+        rows: shown,
+    })
+}
+
+fn copied(key: &Bytes) -> Result<Bytes, AllocError>
+    ensures bytes { IfOk result (λ copy. copy ≡ key.now) }
+    ensures short { IfOk result IsShort }
+{
+    short(key.clone()?.into_vec())
+}
+
+/// Says that these keys are kept no more.
+fn forget(alloc: Global, change: &mut Change, keys: &[&Bytes]) -> Result<(), AllocError>
+    ensures { OnOk result (IsGone (seen keys.now) change.old change.new) }
+{
+    for key in keys {
+        change.remove(copied(key)?)?;
+    }
+    Ok(())
+}
+
+/// The step of a query that deduplicates.
+fn step_rows(
+    alloc: Global,
+    state: &StateMap,
+    closing: &Closing,
+    rows: &[FedRow],
+    now: Option<i64>,
+) -> Result<Stepped, StepFault>
+    requires { All IsFitRow rows.now }
+    ensures stepped { (query : Query) (columns : List ℕ) (old : List Fed) (before : Option ℤ) → Given query columns state.now closing.now old rows.now before now →
+        IfOk result (IsStep (dedup query columns) state.now old rows.now before now) }
+    ensures cause { IfErr result (λ fault. fault ≡ NoMemory) }
+    ensures printable { IfOk result (λ stepped. All (All (IfTime IsStampTime)) stepped.rows.items) }
+{
+    kept_keys_are_found();
+    first_rows_are_told_by_what_is_kept();
+    let first = first_rows(alloc, state, rows)?;
+    let Stepped { mut change, rows } = first;
+    let keys = closing.past(alloc, now)?;
+    forget(alloc, &mut change, keys.as_slice())?;
+    Ok(Stepped { change, rows })
+}
+
+/// The step of an epoch over the state of a partition and the index of its keys by time: by the epoch's rows that are not late, and its
+/// watermark, in microseconds since 1970, what changes in the state, and which rows are shown. Of a query that does not deduplicate nothing
+/// changes, and nothing is shown.
+///
+/// A row is shown where its key is neither kept nor that of a row before it. A key is looked up once for each of its rows; no other key is
+/// read but those that are forgotten.
+pub fn step(
+    alloc: Global,
+    bound: &Bound,
+    state: &StateMap,
+    closing: &Closing,
+    rows: &[FedRow],
+    _epoch: u32,
+    watermark: Option<i64>,
+) -> Result<Stepped, StepFault>
+    requires { All IsFitRow rows.now }
+    // The change leads from the state over the rows before to that over these rows too, and the rows that are shown are the epoch's.
+    ensures stepped { (columns : List ℕ) (old : List Fed) (before : Option ℤ) → Given bound.now columns state.now closing.now old rows.now before watermark →
+        IfOk result (IsStep (dedup bound.now columns) state.now old rows.now before watermark) }
+    // Want of memory alone is against it.
+    ensures cause { IfErr result (λ fault. fault ≡ NoMemory) }
+    // Whatever the state holds, each time that is shown can be printed.
+    ensures printable { IfOk result (λ stepped. All (All (IfTime IsStampTime)) stepped.rows.items) }
+    ensures repeated { KeepsRepeats bound.now.shape → IfOk result (λ stepped. (stepped.change ≡ []) × (stepped.rows.items ≡ [])) }
+{
+    match &bound.shape {
+        Shape::Dedup(_) => step_rows(alloc, state, closing, rows, watermark),
+        _ => Ok(Stepped {
+            change: Change::new(alloc),
+            rows: Vec::new(alloc),
+        }),
+    }
+}

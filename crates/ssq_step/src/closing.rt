@@ -1,0 +1,184 @@
+//! The keys of a state by their times.
+
+ghost use Rattle.std.specs.Prelude.{◌≡◌, Some, true, false, ℕ, ℤ, List, Option, option_map, IfOk, IfSome, OnOk};
+ghost use Rattle.ssq_value.specs.declared.value.Value.{Value as Cell};
+ghost use Rattle.ssq_value.specs.Key.{keys_of};
+ghost use Rattle.ssq_version.specs.State.{IsAfter, State as Kept};
+ghost use Rattle.ssq_meaning.specs.Keyed.{key_length, key_time};
+ghost use Rattle.ssq_meaning.specs.Times.{is_past};
+ghost use Rattle.ssq_meaning.specs.Windows.{HasWindows};
+ghost use Rattle.ssq_step.specs.Indexing.{AreDueKeys, Indexes, IsIndex, IsReadableKey, Turns, TurnsIf, seen};
+
+use ssq_field::Bytes;
+use ssq_keys::read_key;
+use ssq_meaning::{key_length, key_time};
+use ssq_shape::Bound;
+use ssq_version::{Change, StateMap, changes_are_kept, states_are_kept};
+use std::alloc::{AllocError, Global};
+use std::collections::BTreeSet;
+use std::marker::Model;
+
+/// The keys of a partition's state by their times, kept beside its state: those that a watermark closes are found without a walk over the
+/// others. Contracts see the times, in microseconds since 1970, each with the bytes of a key, in order.
+#[derive(Debug, Drop)]
+pub struct Closing(BTreeSet<(i64, Bytes)>);
+
+impl Model for Closing {
+    ghost use Rattle.std.specs.Prelude.{List};
+    ghost use Rattle.ssq_step.specs.Indexing.{Timed};
+
+    ghost Value = { List Timed };
+
+    ghost view = { λ closing. closing.0.keys };
+}
+
+impl Closing {
+    /// The index of a state, made by a walk over it. That of a query whose keys have no times is empty.
+    pub fn of(alloc: Global, bound: &Bound, state: &StateMap) -> Result<Closing, AllocError>
+        requires { HasWindows bound.now }
+        ensures { IfOk result (IsIndex bound.now state.now) }
+    {
+        Ok(Closing(entries_of(alloc, bound, state)?))
+    }
+
+    /// Follows the state through a change, by the state before it. After an `Err` the index is of no use.
+    pub fn follow(
+        &mut self,
+        alloc: Global,
+        bound: &Bound,
+        state: &StateMap,
+        change: &Change,
+    ) -> Result<(), AllocError>
+        requires { HasWindows bound.now }
+        ensures { (new : Kept) → IsAfter change.now state.now new → IsIndex bound.now state.now self.old → OnOk result (IsIndex bound.now new self.new) }
+    {
+        follow_change(alloc, bound, &mut self.0, state, change)
+    }
+
+    /// The keys whose time is at or below the watermark, in microseconds since 1970. There is none without a watermark.
+    pub fn past(&self, alloc: Global, now: Option<i64>) -> Result<Vec<&Bytes>, AllocError>
+        ensures { (count : ℕ) (time : List Cell → Option ℤ) (state : Kept) → Indexes count time state self.now →
+            IfOk result (λ keys. AreDueKeys count time state now (seen keys.items)) }
+    {
+        let mut keys = Vec::new(alloc);
+        for entry in self.0.iter() {
+            if !is_past(now, entry) {
+                break;
+            }
+            keys.push(&entry.1)?;
+        }
+        Ok(keys)
+    }
+}
+
+fn is_past(now: Option<i64>, entry: &(i64, Bytes)) -> bool
+    ensures { result ≡ is_past now (Some entry.now.0) }
+{
+    match now {
+        Some(now) => entry.0 <= now,
+        None => false,
+    }
+}
+
+/// The time of the key that has these bytes, with them; none where they are no key's, or it stays open.
+fn entry_of(alloc: Global, bound: &Bound, key: &Bytes) -> Result<Option<(i64, Bytes)>, AllocError>
+    requires { HasWindows bound.now }
+    ensures time { (own : List Cell) → IsReadableKey (key_length bound.now) own → keys_of own ≡ key.now →
+        IfOk result (λ entry. entry ≡ option_map (λ t. (t, key.now)) (key_time bound.now own)) }
+    ensures key { IfOk result (λ entry. IfSome entry (λ entry. entry.1 ≡ key.now)) }
+{
+    let Some(own) = read_key(alloc, key.as_slice(), key_length(bound))? else {
+        return Ok(None);
+    };
+    match key_time(bound, own.as_slice()) {
+        Some(time) => Ok(Some((time, key.clone()?))),
+        None => Ok(None),
+    }
+}
+
+/// Puts the key with these bytes under its time, where it has one.
+fn put_key(
+    alloc: Global,
+    bound: &Bound,
+    entries: &mut BTreeSet<(i64, Bytes)>,
+    key: &Bytes,
+) -> Result<(), AllocError>
+    requires { HasWindows bound.now }
+    ensures { OnOk result (Turns (key_length bound.now) (key_time bound.now) key.now true entries.old.keys entries.new.keys) }
+{
+    if let Some(entry) = entry_of(alloc, bound, key)? {
+        entries.insert(entry)?;
+    }
+    Ok(())
+}
+
+/// Takes the key with these bytes away.
+fn remove_key(
+    alloc: Global,
+    bound: &Bound,
+    entries: &mut BTreeSet<(i64, Bytes)>,
+    key: &Bytes,
+) -> Result<(), AllocError>
+    requires { HasWindows bound.now }
+    ensures { OnOk result (Turns (key_length bound.now) (key_time bound.now) key.now false entries.old.keys entries.new.keys) }
+{
+    if let Some(entry) = entry_of(alloc, bound, key)? {
+        entries.remove(&entry);
+    }
+    Ok(())
+}
+
+/// All keys of the state by their times.
+fn entries_of(
+    alloc: Global,
+    bound: &Bound,
+    state: &StateMap,
+) -> Result<BTreeSet<(i64, Bytes)>, AllocError>
+    requires { HasWindows bound.now }
+    ensures { IfOk result (λ entries. IsIndex bound.now state.now entries.keys) }
+{
+    states_are_kept(state);
+    let mut entries = BTreeSet::new(alloc);
+    for (key, _) in state.iter() {
+        put_key(alloc, bound, &mut entries, key)?;
+    }
+    Ok(entries)
+}
+
+/// Follows what a change says of a key, by whether the state had it before.
+fn turn(
+    alloc: Global,
+    bound: &Bound,
+    entries: &mut BTreeSet<(i64, Bytes)>,
+    key: &Bytes,
+    was_there: bool,
+    is_there: bool,
+) -> Result<(), AllocError>
+    requires { HasWindows bound.now }
+    ensures { OnOk result (TurnsIf (key_length bound.now) (key_time bound.now) key.now was_there is_there entries.old.keys entries.new.keys) }
+{
+    match (was_there, is_there) {
+        (false, true) => put_key(alloc, bound, entries, key),
+        (true, false) => remove_key(alloc, bound, entries, key),
+        _ => Ok(()),
+    }
+}
+
+fn follow_change(
+    alloc: Global,
+    bound: &Bound,
+    entries: &mut BTreeSet<(i64, Bytes)>,
+    state: &StateMap,
+    change: &Change,
+) -> Result<(), AllocError>
+    requires { HasWindows bound.now }
+    ensures { (new : Kept) → IsAfter change.now state.now new → IsIndex bound.now state.now entries.old.keys →
+        OnOk result (IsIndex bound.now new entries.new.keys) }
+{
+    changes_are_kept(change);
+    for (key, value) in change.iter() {
+        let was_there = state.get(key).is_some();
+        turn(alloc, bound, entries, key, was_there, value.is_some())?;
+    }
+    Ok(())
+}
