@@ -13,7 +13,8 @@ use Rattle.ssq_board.specs.declared.front.Place.TheVariants as place
 use Rattle.ssq_board.specs.declared.front.Entry.{Entry}
 use Rattle.ssq_board.specs.Core.{Scope, Core, is_fine, is_open, is_stopped, is_of_epoch, may_start, at, moved, with_front, tasks_of, due, or_stop, stops, stopped_front, May, after, events_of, events_all, cuts_by}
 use Rattle.ssq_board.specs.Core as board
-use Rattle.ssq_board.specs.Follows.{Terms, Goes, Tries, IsDone, Shows, life_of, shown}
+use Rattle.ssq_board.specs.Shelf.{Shelf}
+use Rattle.ssq_board.specs.Follows.{Terms, Goes, Tries, IsDone, Shows, ShowsShelf, life_of, shown}
 
 -- a disk to which nothing was done
 pub elapses_same : (h : History) (P : Had → Type 0) → Elapses h h P
@@ -98,5 +99,5 @@ module _ (told : Type 0) (job : Job) where
 
   module _ (r : Scope) (next : Cuts → ℕ → Bool) (terms : Terms job r next) where
     -- where an entry leads, from a desk that is shown
-    abbrev pub Follows : History → Core → Desk → Entry → History → Core → Type 0
-    Follows old c d e new n = (d' : Desk) × machine.Leads told job (shown old c d) (events_of c e) (shown new n d') × (d'.cuts ≡ cuts_by r d.cuts c e) × Shows job r next terms n d'
+    abbrev pub Follows : History → Core → Desk → Entry → History → Core → Shelf → Type 0
+    Follows old c d e new n k = (d' : Desk) × machine.Leads told job (shown old c d) (events_of c e) (shown new n d') × (d'.cuts ≡ cuts_by r d.cuts c e) × Shows job r next terms n d' × ShowsShelf n k d'

@@ -3,8 +3,10 @@ pub mod Sounds
 pub mod Readies
 pub mod Placing
 pub mod Planning
+pub mod Keeping
 pub mod Leading
 pub mod Versions
+pub mod Upkeeping
 pub mod Following
 pub mod Opening
 pub mod Telling

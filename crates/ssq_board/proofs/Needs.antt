@@ -94,6 +94,12 @@ need_falls r c (entry.Commit e b) d m h =
     let none : file_need (after r c (entry.Commit e b)) ≡ 0 = ap (λ (b : Bool). if b then (if c.front.written then 1 else 2) else 0) (nat_lt-not (c.front.committed + 1) c.front.planned d.near) in
     let run = running_one c m.0 in
     omega arith
+need_falls r c (entry.Upkeep p v) d m h = absurd (true≢false (sym h))
+need_falls r c (entry.Snapshot p v) d m h = absurd (true≢false (sym h))
+need_falls r c (entry.Unmade p v f) d m h = absurd (true≢false (sym h))
+need_falls r c (entry.Untaken p v) d m h = absurd (true≢false (sym h))
+need_falls r c (entry.Drop q) d m h = absurd (true≢false (sym h))
+need_falls r c (entry.Undropped q) d m h = absurd (true≢false (sym h))
 need_falls r c (entry.Stop f) d m h = (let run = running_one c m.0 in omega arith)
 
 pub need_sync : (r : Scope) (c : Core) (clock : ℕ) → c.front.stop ≡ None → need (after r c (entry.Sync clock)) ≡ need c

@@ -1,5 +1,5 @@
 -- What the machine's Open leaves is shown by the first state.
-use Rattle.std.proofs.Common.{◌≡◌, ◌+◌, ◌<◌, nat_lt, ℕ, Bool, true, false, true≢false, replicate, None, is_some, sym, refl, ap, ◌∙◌, subst, inl, inr, arith}
+use Rattle.std.proofs.Common.{◌≡◌, ◌+◌, ◌<◌, ◌++◌, nat_lt, ℕ, Bool, true, false, true≢false, replicate, List, Option, None, is_some, sym, refl, ap, ◌∙◌, subst, inl, inr, arith}
 use mathlib.Core.Option.{some, some-ne-none}
 use lib.ListN.{get_elem?}
 use Rattle.ssq_outside.specs.declared.name.Name.{Name}
@@ -8,15 +8,18 @@ use Rattle.ssq_outside.specs.declared.gate.TaskId.{TaskId}
 use Rattle.ssq_outside.specs.declared.gate.Kind.{Kind}
 use Rattle.ssq_outside.specs.declared.gate.Kind.TheVariants as kind
 use Rattle.ssq_outside.specs.Files.{Files}
+use Rattle.ssq_upkeep.specs.Upkeep.{is_among, is_up_to}
 use Rattle.ssq_core.specs.Course.{Cuts, Job}
-use Rattle.ssq_core.specs.Machine.{Desk, opened, out_task}
+use Rattle.ssq_core.specs.Machine.{Desk, opened, out_task, upkeep}
 use Rattle.ssq_core.specs.Machine as machine
-use Rattle.ssq_core.specs.Sound.{AreProper}
+use Rattle.ssq_core.specs.Sound.{AreProper, is_state}
 use Rattle.ssq_board.specs.declared.front.Place.{Place}
 use Rattle.ssq_board.specs.declared.front.Place.TheVariants as place
 use Rattle.ssq_board.specs.Core.{Scope, has_line, has_line_at, tasks_of}
 use Rattle.ssq_board.specs.Shown.{Start, planned_by, first_place, first_by}
-use Rattle.ssq_board.specs.Follows.{Terms, map_task, ShowsAt, Shows}
+use Rattle.ssq_board.specs.Shelf.{Shelf, IsFirstShelf, there_in}
+use Rattle.ssq_board.specs.Follows.{Terms, map_task, ShowsAt, Shows, ShowsShelf}
+use Rattle.ssq_board.proofs.Keeping.{among_end, settled_last, up_to_is}
 use Rattle.ssq_board.proofs.Lists.{at_length, replicate_length, replicate_at, one_at, dealt_at, dealt_length, line_below, back_no_more, nat_lt-is, nat_lt-not}
 
 module _ (job : Job) (r : Scope) (next : Cuts → ℕ → Bool) (terms : Terms job r next) (s : Start) (files : Files) (d : Desk) (committed : d.committed ≡ s.committed)
@@ -46,7 +49,7 @@ module _ (job : Job) (r : Scope) (next : Cuts → ℕ → Bool) (terms : Terms j
     starts = begins;
     ends = to;
     proper = subst (λ (n : ℕ). AreProper job d.cuts n) planned op.1;
-    settled = λ h q there. op.3 q ∙ sym (op.2 q) ∙ there;
+    settled = λ h q other there. op.3 q ∙ sym (op.2 q) ∙ there;
     plan_there = λ e less. there_of (name.Plan e) (plan_file false planned e less);
     plan_settled = λ o. absurd (true≢false (sym o ∙ closed));
     commits = λ e less. there_of (name.Commit e) (commit_file e less);
@@ -70,7 +73,7 @@ module _ (job : Job) (r : Scope) (next : Cuts → ℕ → Bool) (terms : Terms j
     starts = begins;
     ends = to;
     proper = subst (λ (n : ℕ). AreProper job d.cuts n) planned op.1;
-    settled = λ h q there. op.3 q ∙ sym (op.2 q) ∙ there;
+    settled = λ h q other there. op.3 q ∙ sym (op.2 q) ∙ there;
     plan_there = λ e less. there_of (name.Plan e) (plan_file true planned e less);
     plan_settled = λ o f. sure_of (name.Plan s.committed) (plan_file true planned s.committed (omega arith));
     commits = λ e less. there_of (name.Commit e) (commit_file e less);
@@ -110,3 +113,31 @@ module _ (job : Job) (r : Scope) (next : Cuts → ℕ → Bool) (terms : Terms j
           let it : t ≡ out_task s.committed = (λ i. record { epoch = epoch i; kind = same i; number = o.0 i }) in
           shows_it t p o.1 (ap (job.course d.cuts).is_task it ∙ terms.outs d.cuts s.committed)
       by_kind kind.Upkeep t p same epoch here = absurd (some-ne-none p (sym here))
+
+-- The shelf of all files of the state that are there shows what was opened.
+module _ (job : Job) (r : Scope) (s : Start) (files : Files) (d : Desk) (shelf : Shelf) (committed : d.committed ≡ s.committed) (op : opened job files d) (begins : IsFirstShelf files shelf) where
+  first_names : (q : Name) → is_state q ≡ true → is_some (files q) ≡ is_among (there_in shelf) q
+  first_names q is = sym (begins.names q is) ∙ sym (ap (λ (l : List Name). is_among (shelf.settled ++ l) q) begins.news ∙ among_end shelf.settled q)
+
+  first_sure : (q : Name) → is_state q ≡ true → d.sure q ≡ is_among shelf.settled q
+  first_sure q is = op.3 q ∙ sym (begins.names q is)
+
+  -- which commits are there
+  commit_at : (e : ℕ) → is_some (files (name.Commit e)) ≡ nat_lt e s.committed
+  commit_at e = by (nat_lt e s.committed) refl (is_some (files (name.Commit e))) refl
+    where
+      by : (b : Bool) → nat_lt e s.committed ≡ b → (there : Bool) → is_some (files (name.Commit e)) ≡ there → there ≡ b
+      by true less there is = sym (sym (op.0.needed (name.Commit e) (ap (λ (n : ℕ). nat_lt e n) committed ∙ less)) ∙ is)
+      by false other true is = sym (op.0.allowed (name.Commit e) is) ∙ ap (λ (n : ℕ). nat_lt e n) committed ∙ other
+      by false other false is = refl
+
+  pub shelf_first : (b : Bool) → ShowsShelf (first_by b r s) shelf d
+  shelf_first b = record {
+    names = λ q is. op.2 q ∙ first_names q is;
+    sure = first_sure;
+    acknowledged = λ e. op.3 (name.Commit e) ∙ commit_at e ∙ sym (ap (λ (l : Option ℕ). is_up_to l e) (settled_last (first_by b r s) refl) ∙ up_to_is s.committed e);
+    commits = λ e above. op.2 (name.Commit e) ∙ commit_at e ∙ nat_lt-not e s.committed above;
+    tidy = λ h p v there. op.3 (name.Snapshot p v) ∙ sym (op.2 (name.Snapshot p v)) ∙ there;
+    claimed = λ p v is. absurd (true≢false (sym is ∙ ap (λ (l : List Name). is_among l (name.Snapshot p v)) begins.claimed));
+    kept = λ run p v. inl (op.4 (upkeep p v));
+  }

@@ -128,7 +128,7 @@ module _ (job : Job) (r : Scope) (due : Cuts → ℕ → Bool) (terms : Terms jo
     starts = s.starts;
     ends = s.ends;
     proper = s.proper;
-    settled = λ h q there. there;
+    settled = λ h q other there. there;
     plan_there = s.plan_there;
     plan_settled = λ o f. s.plan_there c.front.committed (open_less c o);
     commits = s.commits;
@@ -163,8 +163,8 @@ module _ (job : Job) (r : Scope) (due : Cuts → ℕ → Bool) (terms : Terms jo
         goes_on m.0,
         runs job r due terms c d e sound s m.2 m.3 m.1,
         subst (λ (x : ℕ). d.tasks (out_task x) ≡ machine.back false w.1.bytes) (sym m.1) w.1.is,
-        subst (λ (x : ℕ). d.sure (name.Out x) ≡ true) (sym m.1) (s.settled m.5 (name.Out c.front.committed) w.0),
-        (λ i less. subst (λ (x : ℕ). d.sure (name.Delta i x) ≡ true) (sym m.1) (s.settled m.5 (name.Delta i c.front.committed) (are_there i less))),
+        subst (λ (x : ℕ). d.sure (name.Out x) ≡ true) (sym m.1) (s.settled m.5 (name.Out c.front.committed) refl w.0),
+        (λ i less. subst (λ (x : ℕ). d.sure (name.Delta i x) ≡ true) (sym m.1) (s.settled m.5 (name.Delta i c.front.committed) refl (are_there i less))),
         refl,
         refl,
       )
@@ -253,7 +253,7 @@ module _ (job : Job) (r : Scope) (due : Cuts → ℕ → Bool) (terms : Terms jo
     m.1 ∙ sym s.planned,
     s.committed ∙ all_committed e m ∙ sym m.1,
     m.5,
-    (λ f is. s.settled m.3 (name.Commit f) (s.commits f (let a = all_committed e m in let b = m.1 in omega arith))),
+    (λ f is. s.settled m.3 (name.Commit f) refl (s.commits f (let a = all_committed e m in let b = m.1 in omega arith))),
     subst (λ (n : ℕ). AreSameUpTo d.cuts next_cuts n) (sym m.1) same_below,
     subst (λ (n : ℕ). job.is_next next_cuts n ≡ true) (sym m.1) (next_may e m),
     refl,

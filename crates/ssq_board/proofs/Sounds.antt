@@ -217,6 +217,17 @@ due_none c t f e = by c.front.stop refl e
         some_none : (g : Cause) → Some g ≡ None → ⊥
         some_none g e = cc
 
+pub some_no : (f : Cause) → Some f ≡ None → ⊥
+some_no f e = cc
+
+never : (o : Option Cause) (f : Cause) → or_stop o (Some f) ≡ None → ⊥
+never None f e = some_no f e
+never (Some g) f e = some_no g e
+
+-- a Stop is no count of tasks
+stopped_sound : (r : Scope) (c : Core) (o : Option Cause) → (o ≡ None → ⊥) → IsSound r c → IsSound r (with_front c (stopped_front c.front o))
+stopped_sound r c o over d = record { near = d.near; before = d.before; ends = d.ends; maps = d.maps; reduces = d.reduces; outs = d.outs; out_there = d.out_there; calm = λ run. absurd (over run) }
+
 pub step_sound : (r : Scope) (c : Core) (e : Entry) → May r c e → IsSound r c → IsSound r (after r c e)
 step_sound r c (entry.Plan e) m d = (let o = open_not c m.2 in record {
   near = (let a = d.near in omega arith);
@@ -255,6 +266,12 @@ step_sound r c (entry.Commit e due) m d = (let o = open_less c m.2 in record {
   out_there = λ h. absurd (true≢false (sym h ∙ nat_lt-not (c.front.committed + 1) c.front.planned d.near));
   calm = λ run k. front_calm c (after r c (entry.Commit e due)).front k (d.calm m.0 k);
 })
+step_sound r c (entry.Upkeep p v) m d = d
+step_sound r c (entry.Snapshot p v) m d = d
+step_sound r c (entry.Drop q) m d = d
+step_sound r c (entry.Unmade p v f) m d = stopped_sound r c (or_stop c.front.stop (Some f)) (never c.front.stop f) d
+step_sound r c (entry.Untaken p v) m d = stopped_sound r c (Some cause.DiskFault) (some_no cause.DiskFault) d
+step_sound r c (entry.Undropped q) m d = stopped_sound r c (Some cause.DiskFault) (some_no cause.DiskFault) d
 step_sound r c (entry.Stop f) m d = record { near = d.near; before = d.before; ends = d.ends; maps = d.maps; reduces = d.reduces; outs = d.outs; out_there = d.out_there; calm = λ run k. front_calm c (after r c (entry.Stop f)).front k (d.calm m.0 k) }
 
 pub run_sound : (tells : Type 0) (job : Job) (r : Scope) (due : Cuts → ℕ → Bool) (es : List Entry) (a n : State) → Leads tells job r due a es n → IsSound r a.core → IsSound r n.core

@@ -7,11 +7,12 @@ use Rattle.ssq_core.specs.declared.event.Event.{Event}
 use Rattle.ssq_core.specs.declared.event.Event.TheVariants as event
 use Rattle.ssq_core.specs.Course.{Cuts, Job}
 use Rattle.ssq_core.specs.Laws.{acknowledged}
+use Rattle.ssq_core.specs.Machine.{upkeep}
 use Rattle.ssq_board.specs.declared.front.Cause.{Cause}
 use Rattle.ssq_board.specs.declared.front.Entry.{Entry}
 use Rattle.ssq_board.specs.declared.front.Entry.TheVariants as entry
 use Rattle.ssq_board.specs.declared.front.Ready.TheVariants as ready
-use Rattle.ssq_board.specs.Core.{Scope, Core, May, after, is_stopped, or_stop, due, seals, stops, events_all, ready_of}
+use Rattle.ssq_board.specs.Core.{Scope, Core, May, after, is_stopped, or_stop, due, seals, stops, stops_by, makes, events_all, ready_of}
 use Rattle.ssq_board.specs.Shown.{Start, first, IsSound}
 use Rattle.ssq_board.specs.Follows.{State, Leads}
 use Rattle.ssq_board.specs.Told.{acknowledged_of, AreFrom, IsTold, IsCovered}
@@ -41,7 +42,7 @@ some_is {A} a b e = ap or_a e
     or_a (Some x) = x
 
 -- a Stop leaves nothing that waits
-abbrev after_stop : Option Cause → Option ℕ → Option ℕ
+abbrev pub after_stop : Option Cause → Option ℕ → Option ℕ
 after_stop None p = p
 after_stop (Some f) p = None
 
@@ -65,7 +66,7 @@ stays_stopped : (a o : Option Cause) → is_stopped a ≡ true → is_stopped (o
 stays_stopped None o h = absurd (true≢false (sym h))
 stays_stopped (Some f) o h = refl
 
-now_stopped : (a : Option Cause) (g : Cause) → is_stopped (or_stop a (Some g)) ≡ true
+pub now_stopped : (a : Option Cause) (g : Cause) → is_stopped (or_stop a (Some g)) ≡ true
 now_stopped None g = refl
 now_stopped (Some f) g = refl
 
@@ -89,6 +90,23 @@ version_at r c t p a at = by (report_at r c t None (due c t None) p a refl at)
     by (inl x) = inl x
     by (inr (inl x)) = inr (inl (x.0, x.1, unsettled c.front.stop c.front.settled x.2))
     by (inr (inr x)) = inr (inr (x.0, x.1, unsettled c.front.stop c.front.settled x.2, x.3))
+
+-- a snapshot that comes back is published, or not
+pub ack_snapshot : (i v : ℕ) (o : Option Cause) (p : Option ℕ) (rest : List Event) → acknowledged p ((event.Seal (upkeep i v) ∷ event.Report (upkeep i v) ∷ makes o i v) ++ rest) ≡ acknowledged p rest
+ack_snapshot i v None p rest = refl
+ack_snapshot i v (Some f) p rest = refl
+
+pub ack_unmade : (t : TaskId) (o : Option Cause) (p : Option ℕ) (rest : List Event) → acknowledged p ((event.Report t ∷ stops o) ++ rest) ≡ acknowledged (after_stop o p) rest
+ack_unmade t None p rest = refl
+ack_unmade t (Some f) p rest = refl
+
+unmade_at : (r : Scope) (c : Core) (i v : ℕ) (f : Cause) (p : Option ℕ) (a : ℕ) (o : Option Cause) → c.front.stop ≡ o → IsAt c p a → IsAt (after r c (entry.Unmade i v f)) (after_stop (stops_by o f) p) a
+unmade_at r c i v f p a None is (inl at) = inl (refl, at.1)
+unmade_at r c i v f p a None is (inr (inl at)) = inr (inr (refl, at.1, at.2, now_stopped c.front.stop f))
+unmade_at r c i v f p a None is (inr (inr at)) = inr (inr (refl, at.1, at.2, now_stopped c.front.stop f))
+unmade_at r c i v f p a (Some g) is (inl at) = inl at
+unmade_at r c i v f p a (Some g) is (inr (inl at)) = inr (inl at)
+unmade_at r c i v f p a (Some g) is (inr (inr at)) = inr (inr (at.0, at.1, at.2, now_stopped c.front.stop f))
 
 module _ (r : Scope) where
   abbrev Tells : List Event → ℕ → Option ℕ → Core → Type 0
@@ -115,6 +133,20 @@ module _ (r : Scope) where
   told (entry.OutFile e ∷ es) c n p a (inl at) l = told es (after r c (entry.OutFile e)) n p a (inl at) l.1
   told (entry.OutFile e ∷ es) c n p a (inr (inl at)) l = told es (after r c (entry.OutFile e)) n p a (inr (inl (at.0, at.1, refl))) l.1
   told (entry.OutFile e ∷ es) c n p a (inr (inr at)) l = absurd (unstopped c l.0.0 at.3)
+  told (entry.Upkeep i v ∷ es) c n p a at l = told es c n p a at l.1
+  told (entry.Drop q ∷ es) c n p a at l = told es c n p a at l.1
+  told (entry.Snapshot i v ∷ es) c n p a at l =
+      let more = told es c n p a at l.1 in
+      subst (λ (x : List ℕ). AreFrom a x × ((q : Option ℕ) × IsAt n q (a + length x))) (sym (ack_snapshot i v c.front.stop p (events_all r c es))) more
+  told (entry.Unmade i v f ∷ es) c n p a at l =
+      let more = told es (after r c (entry.Unmade i v f)) n (after_stop (stops_by c.front.stop f) p) a (unmade_at r c i v f p a c.front.stop refl at) l.1 in
+      subst (λ (x : List ℕ). AreFrom a x × ((q : Option ℕ) × IsAt n q (a + length x))) (sym (ack_unmade (upkeep i v) (stops_by c.front.stop f) p (events_all r (after r c (entry.Unmade i v f)) es))) more
+  told (entry.Untaken i v ∷ es) c n p a (inl at) l = told es (after r c (entry.Untaken i v)) n None a (inl (refl, at.1)) l.1
+  told (entry.Untaken i v ∷ es) c n p a (inr (inl at)) l = told es (after r c (entry.Untaken i v)) n None a (inr (inr (refl, at.1, at.2, refl))) l.1
+  told (entry.Untaken i v ∷ es) c n p a (inr (inr at)) l = told es (after r c (entry.Untaken i v)) n None a (inr (inr (refl, at.1, at.2, refl))) l.1
+  told (entry.Undropped q ∷ es) c n p a (inl at) l = told es (after r c (entry.Undropped q)) n None a (inl (refl, at.1)) l.1
+  told (entry.Undropped q ∷ es) c n p a (inr (inl at)) l = told es (after r c (entry.Undropped q)) n None a (inr (inr (refl, at.1, at.2, refl))) l.1
+  told (entry.Undropped q ∷ es) c n p a (inr (inr at)) l = told es (after r c (entry.Undropped q)) n None a (inr (inr (refl, at.1, at.2, refl))) l.1
   told (entry.Stop f ∷ es) c n p a (inl at) l = told es (after r c (entry.Stop f)) n None a (inl (refl, at.1)) l.1
   told (entry.Stop f ∷ es) c n p a (inr (inl at)) l = told es (after r c (entry.Stop f)) n None a (inr (inr (refl, at.1, at.2, refl))) l.1
   told (entry.Stop f ∷ es) c n p a (inr (inr at)) l = told es (after r c (entry.Stop f)) n None a (inr (inr (refl, at.1, at.2, refl))) l.1

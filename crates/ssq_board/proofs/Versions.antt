@@ -17,7 +17,9 @@ use Rattle.ssq_board.specs.declared.front.Front.{Front}
 use Rattle.ssq_board.specs.declared.front.Place.TheVariants as place
 use Rattle.ssq_board.specs.declared.front.Entry.TheVariants as entry
 use Rattle.ssq_board.specs.Core.{Scope, Core, is_open, at, moved, with_front, stopped_front, version_front, is_stopped, or_stop, due, May, after}
-use Rattle.ssq_board.specs.Follows.{Terms, Goes, Tries, Moves, publishes_by, BringsVersion, IsRight, IsDone, Shows, life_of, shown}
+use Rattle.ssq_board.specs.Follows.{Terms, Goes, Tries, Moves, publishes_by, BringsVersion, IsRight, IsDone, is_snapshot, Shows, Shelves, ShowsShelf, life_of, shown}
+use Rattle.ssq_board.specs.Shelf.{Shelf, last_of, version_on, shelf_by}
+use Rattle.ssq_board.proofs.Keeping.{shelves_placed, shelves_stored, shelves_stopped, shelves_delta, open_last, or_stop_none}
 use Rattle.ssq_board.proofs.Lists.{nat_lt-less}
 use Rattle.ssq_board.proofs.Sounds.{due_none}
 use Rattle.ssq_board.proofs.Placing.{placed_at, placed_twice, same_at, HasBrought, placed_shows}
@@ -45,7 +47,7 @@ owing_stopped t e = cc
 
 module _ (told : Type 0) (job : Job) (r : Scope) (next : Cuts → ℕ → Bool) (terms : Terms job r next) where
   -- files that come are no other tasks, and stores are not shown
-  grown_shows : (c : Core) (d : Desk) (names : Name → Bool) (stores : ℕ → List ℕ) (settled : Bool) → ((q : Name) → d.there q ≡ true → names q ≡ true) → (settled ≡ true → (q : Name) → names q ≡ true → d.sure q ≡ true)
+  grown_shows : (c : Core) (d : Desk) (names : Name → Bool) (stores : ℕ → List ℕ) (settled : Bool) → ((q : Name) → d.there q ≡ true → names q ≡ true) → (settled ≡ true → (q : Name) → is_snapshot q ≡ false → names q ≡ true → d.sure q ≡ true)
       → Shows job r next terms c d → Shows job r next terms (with_front c (settled_as c.front settled)) (grown names stores d)
   grown_shows c d names stores settled more sure s = record {
     planned = s.planned;
@@ -70,7 +72,7 @@ module _ (told : Type 0) (job : Job) (r : Scope) (next : Cuts → ℕ → Bool) 
   }
 
   -- the reduce task t of partition p in epoch e is away
-  module _ (c : Core) (d : Desk) (e p : ℕ) (s : Shows job r next terms c d) (opened : is_open c ≡ true) (epoch : e ≡ c.front.committed) (here : at c (reduce e p) ≡ some place.Away) where
+  module _ (c : Core) (d : Desk) (e p : ℕ) (s : Shows job r next terms c d) (opened : is_open c ≡ true) (epoch : e ≡ c.front.committed) (here : at c (reduce e p) ≡ some place.Away) (k : Shelf) (held : ShowsShelf c k d) where
     is_out : d.tasks (reduce e p) ≡ machine.out
     is_out = s.tasks opened (reduce e p) place.Away epoch here
 
@@ -79,7 +81,7 @@ module _ (told : Type 0) (job : Job) (r : Scope) (next : Cuts → ℕ → Bool) 
 
     -- once its version is back
     version_shows : (was : Option Cause) → c.front.stop ≡ was → (there : machine.Place) → IsDone (job.course d.cuts) (reduce e p) there → (there ≡ machine.failed → ⊥) → (names : Name → Bool) (stores : ℕ → List ℕ)
-        → ((q : Name) → d.there q ≡ true → names q ≡ true) → ((is_stopped was && c.front.settled) ≡ true → (q : Name) → names q ≡ true → d.sure q ≡ true) → (was ≡ None → names (name.Delta p e) ≡ true)
+        → ((q : Name) → d.there q ≡ true → names q ≡ true) → ((is_stopped was && c.front.settled) ≡ true → (q : Name) → is_snapshot q ≡ false → names q ≡ true → d.sure q ≡ true) → (was ≡ None → names (name.Delta p e) ≡ true)
         → Shows job r next terms (after r c (entry.Version (reduce e p))) (placed (reduce e p) there (grown names stores d))
     version_shows was is there done whole names stores more sure brought =
         let t : TaskId = reduce e p in
@@ -124,6 +126,22 @@ module _ (told : Type 0) (job : Job) (r : Scope) (next : Cuts → ℕ → Bool) 
         (λ t. (elapses_same disk (Allows nothing (had_now disk)), refl, tt)),
         refl,
       )
+
+      -- its place is none of upkeep
+      elsewhere : (there : machine.Place) → ShowsShelf c k (placed (reduce e p) there stored)
+      elsewhere there = shelves_placed (last_of c) c.front.committed c.front.stop c.front.stop k stored (reduce e p) there no_upkeep_kind (λ run. run)
+          (shelves_stored (last_of c) c.front.committed c.front.stop k d p ((job.course d.cuts).state p (e + 1)) held)
+        where
+          no_upkeep_kind : kind.Reduce ≡ kind.Upkeep → ⊥
+          no_upkeep_kind e = cc
+
+      -- the shelf with its version, where the desk ran or did not
+      version_shelf : (was : Option Cause) → c.front.stop ≡ was → (n : Desk) → Shelves (last_of c) c.front.committed (or_stop c.front.stop (due c (reduce e p) None)) (version_on (is_stopped was) (name.Delta p e) k) n
+          → ShowsShelf (after r c (entry.Version (reduce e p))) (shelf_by c k (entry.Version (reduce e p))) n
+      version_shelf was is n held_on =
+          subst (λ (l : Option ℕ). Shelves l c.front.committed (or_stop c.front.stop (due c (reduce e p) None)) (shelf_by c k (entry.Version (reduce e p))) n)
+          (open_last c opened ∙ sym (open_last (after r c (entry.Version (reduce e p))) opened))
+          (subst (λ (o : Option Cause). Shelves (last_of c) c.front.committed (or_stop c.front.stop (due c (reduce e p) None)) (version_on (is_stopped o) (name.Delta p e) k) n) (sym is) held_on)
 
       -- the delta is published
       abbrev published : Desk
@@ -189,7 +207,7 @@ module _ (told : Type 0) (job : Job) (r : Scope) (next : Cuts → ℕ → Bool) 
           )
 
       version_by : (was : Option Cause) → c.front.stop ≡ was → (old new : History) → Goes (publishes_by job d.cuts (reduce e p) was) old new
-          → Follows told job r next terms old c d (entry.Version (reduce e p)) new (after r c (entry.Version (reduce e p)))
+          → Follows told job r next terms old c d (entry.Version (reduce e p)) new (after r c (entry.Version (reduce e p))) (shelf_by c k (entry.Version (reduce e p)))
       version_by None run old new moves =
           let t : TaskId = reduce e p in (
             published,
@@ -197,15 +215,17 @@ module _ (told : Type 0) (job : Job) (r : Scope) (next : Cuts → ℕ → Bool) 
             refl,
             version_shows None run (back_place false) (done false refl) (λ e. back_failed e) (with_file (name.Delta p e) d).there stored.stores (λ q is. there_still q (name.Delta p e) d is)
                 (λ h. absurd (true≢false (sym h))) (λ none. there_now (name.Delta p e) d),
+            version_shelf None run published (shelves_delta (last_of c) c.front.committed p e c.front.stop (or_stop c.front.stop (due c t None)) k (placed t (back_place false) stored) (or_stop_none c.front.stop (due c t None)) (elsewhere (back_place false))),
           )
       version_by (Some f) is old new moves =
           let t : TaskId = reduce e p in
           let there = back_place ((job.course d.cuts).is_fault t) in
-          subst (λ (h : History). Follows told job r next terms old c d (entry.Version t) h (after r c (entry.Version t))) (sym moves) (
+          subst (λ (h : History). Follows told job r next terms old c d (entry.Version t) h (after r c (entry.Version t)) (shelf_by c k (entry.Version t))) (sym moves) (
             placed t there stored,
             report_stops told job (shown old c d) old c (placed t there stored) (event.Seal t ∷ event.Report t ∷ []) (due c t None) (due_why c t None) (keeps_leads old (ap life_of is)),
             refl,
             version_shows (Some f) is there (done ((job.course d.cuts).is_fault t) right.0) (λ e. back_failed e) d.there stored.stores (λ q is. is) s.settled (λ none. absurd (some_none none)),
+            version_shelf (Some f) is (placed t there stored) (shelves_stopped (last_of c) c.front.committed c.front.stop (or_stop c.front.stop (due c t None)) k (placed t there stored) (or_stop_none c.front.stop (due c t None)) (elsewhere there)),
           )
         where
           some_none : Some f ≡ None → ⊥
@@ -213,7 +233,7 @@ module _ (told : Type 0) (job : Job) (r : Scope) (next : Cuts → ℕ → Bool) 
 
       -- The publishing failed: the report misses it, and the Stop behind it may have tried it.
       missed_by : (old new : History) → c.front.stop ≡ None → Tries (publishes (name.Delta p e) ((job.course d.cuts).delta p e)) old new
-          → Follows told job r next terms old c d (entry.Missed (reduce e p)) new (after r c (entry.Missed (reduce e p)))
+          → Follows told job r next terms old c d (entry.Missed (reduce e p)) new (after r c (entry.Missed (reduce e p))) k
       missed_by old new run moves =
           let t : TaskId = reduce e p in
           let bytes = (job.course d.cuts).delta p e in
@@ -257,6 +277,7 @@ module _ (told : Type 0) (job : Job) (r : Scope) (next : Cuts → ℕ → Bool) 
             refl,
             placed_shows job r next terms c (grown d.there stored.stores d) t place.Away (place.Back (Some cause.DiskFault)) (back_place false) (Some cause.DiskFault) opened epoch is_fresh here
                 (out_not_done (job.course d.cuts) t (d.tasks t) machine.out is_out out_back) tt has (λ none. absurd (some_none none)) (grown_shows c d d.there stored.stores c.front.settled (λ q is. is) s.settled s),
+            shelves_stopped (last_of c) c.front.committed c.front.stop (Some cause.DiskFault) k n (λ none. absurd (some_none none)) (elsewhere (back_place false)),
           )
         where
           some_none : Some cause.DiskFault ≡ None → ⊥
@@ -272,14 +293,14 @@ module _ (told : Type 0) (job : Job) (r : Scope) (next : Cuts → ℕ → Bool) 
   of_reduce : (P : TaskId → Type 0) (t : TaskId) → t.kind ≡ kind.Reduce → P (reduce t.epoch t.number) → P t
   of_reduce P t is = subst (λ (k : Kind). P (record { epoch = t.epoch; kind = k; number = t.number })) (sym is)
 
-  pub version_follows : (old new : History) (c : Core) (d : Desk) (t : TaskId) → Shows job r next terms c d → May r c (entry.Version t) → IsRight job next d.cuts (entry.Version t) → Moves job r c d.cuts (entry.Version t) old new
-      → Follows told job r next terms old c d (entry.Version t) new (after r c (entry.Version t))
-  version_follows old new c d t s m right moves =
-      of_reduce (λ (x : TaskId). Follows told job r next terms old c d (entry.Version x) new (after r c (entry.Version x))) t m.3
-      (version_by c d t.epoch t.number s m.0 m.1 (as_reduce (λ (x : TaskId). at c x ≡ some place.Away) t m.3 m.2) (as_reduce (BringsVersion (job.course d.cuts)) t m.3 right) c.front.stop refl old new moves)
+  pub version_follows : (old new : History) (c : Core) (d : Desk) (k : Shelf) (t : TaskId) → Shows job r next terms c d → ShowsShelf c k d → May r c (entry.Version t) → IsRight job next d.cuts (entry.Version t) → Moves job r c d.cuts (entry.Version t) old new
+      → Follows told job r next terms old c d (entry.Version t) new (after r c (entry.Version t)) (shelf_by c k (entry.Version t))
+  version_follows old new c d k t s held m right moves =
+      of_reduce (λ (x : TaskId). Follows told job r next terms old c d (entry.Version x) new (after r c (entry.Version x)) (shelf_by c k (entry.Version x))) t m.3
+      (version_by c d t.epoch t.number s m.0 m.1 (as_reduce (λ (x : TaskId). at c x ≡ some place.Away) t m.3 m.2) k held (as_reduce (BringsVersion (job.course d.cuts)) t m.3 right) c.front.stop refl old new moves)
 
-  pub missed_follows : (old new : History) (c : Core) (d : Desk) (t : TaskId) → Shows job r next terms c d → May r c (entry.Missed t) → IsRight job next d.cuts (entry.Missed t) → Moves job r c d.cuts (entry.Missed t) old new
-      → Follows told job r next terms old c d (entry.Missed t) new (after r c (entry.Missed t))
-  missed_follows old new c d t s m right moves =
-      of_reduce (λ (x : TaskId). Follows told job r next terms old c d (entry.Missed x) new (after r c (entry.Missed x))) t m.3
-      (missed_by c d t.epoch t.number s m.0 m.1 (as_reduce (λ (x : TaskId). at c x ≡ some place.Away) t m.3 m.2) (as_reduce (BringsVersion (job.course d.cuts)) t m.3 right) old new m.4 moves)
+  pub missed_follows : (old new : History) (c : Core) (d : Desk) (k : Shelf) (t : TaskId) → Shows job r next terms c d → ShowsShelf c k d → May r c (entry.Missed t) → IsRight job next d.cuts (entry.Missed t) → Moves job r c d.cuts (entry.Missed t) old new
+      → Follows told job r next terms old c d (entry.Missed t) new (after r c (entry.Missed t)) k
+  missed_follows old new c d k t s held m right moves =
+      of_reduce (λ (x : TaskId). Follows told job r next terms old c d (entry.Missed x) new (after r c (entry.Missed x)) k) t m.3
+      (missed_by c d t.epoch t.number s m.0 m.1 (as_reduce (λ (x : TaskId). at c x ≡ some place.Away) t m.3 m.2) k held (as_reduce (BringsVersion (job.course d.cuts)) t m.3 right) old new m.4 moves)

@@ -11,6 +11,7 @@ use Rattle.ssq_plans.specs.declared.part.PartEnd.{PartEnd}
 use Rattle.ssq_core.specs.declared.event.Event.{Event}
 use Rattle.ssq_core.specs.declared.event.Event.TheVariants as event
 use Rattle.ssq_core.specs.Course.{Ends, Cuts}
+use Rattle.ssq_core.specs.Machine.{upkeep}
 use Rattle.ssq_board.specs.declared.front.Cause.{Cause}
 use Rattle.ssq_board.specs.declared.front.Cause.TheVariants as cause
 use Rattle.ssq_board.specs.declared.front.Place.{Place}
@@ -198,14 +199,19 @@ HasCause r c cause.DiskFault = Unit {0}
 HasCause r c cause.NoMemory = Unit {0}
 HasCause r c _ = ⊥
 
--- a task comes back
-abbrev pub comes_back : Entry → Bool
-comes_back (entry.Report t f) = true
-comes_back (entry.Version t) = true
-comes_back (entry.Missed t) = true
-comes_back _ = false
+-- Where its call fails there is an entry of its own, or none: where a task or a snapshot comes back, and where a file is removed.
+abbrev pub fails_apart : Entry → Bool
+fails_apart (entry.Report t f) = true
+fails_apart (entry.Version t) = true
+fails_apart (entry.Missed t) = true
+fails_apart (entry.Snapshot p v) = true
+fails_apart (entry.Unmade p v f) = true
+fails_apart (entry.Untaken p v) = true
+fails_apart (entry.Drop q) = true
+fails_apart (entry.Undropped q) = true
+fails_apart _ = false
 
--- an entry that may come
+-- An entry that may come, by what the desk counts and where its tasks are. What upkeep asks of files beside, `MayKeep` says.
 abbrev pub May : Scope → Core → Entry → Type 0
 May r c (entry.Plan e) = (c.front.stop ≡ None) × (e ≡ c.front.planned) × (is_open c ≡ false) × (c.front.settled ≡ true) × (is_more r c ≡ true) × (e < 4294967295)
 May r c (entry.Claim t) = (c.front.stop ≡ None) × (is_open c ≡ true) × (t.epoch ≡ c.front.committed) × (may_start c t.kind ≡ true) × (at c t ≡ some place.Waits)
@@ -215,6 +221,12 @@ May r c (entry.Missed t) = (is_open c ≡ true) × (t.epoch ≡ c.front.committe
 May r c (entry.OutFile e) = (c.front.stop ≡ None) × (e ≡ c.front.committed) × (is_open c ≡ true) × (c.front.written ≡ false) × (get_elem? c.outs 0 ≡ some (place.Back None))
 May r c (entry.Sync clock) = c.front.stop ≡ None
 May r c (entry.Commit e due) = (c.front.stop ≡ None) × (e ≡ c.front.committed) × (is_open c ≡ true) × (c.front.fresh ≡ true) × (c.front.written ≡ true) × (c.front.settled ≡ true)
+May r c (entry.Upkeep p v) = c.front.stop ≡ None
+May r c (entry.Snapshot p v) = Unit {0}
+May r c (entry.Unmade p v f) = is_of_epoch f ≡ false
+May r c (entry.Untaken p v) = c.front.stop ≡ None
+May r c (entry.Drop q) = c.front.stop ≡ None
+May r c (entry.Undropped q) = c.front.stop ≡ None
 May r c (entry.Stop f) = (c.front.stop ≡ None) × HasCause r c f
 
 -- the counts after each entry
@@ -263,6 +275,12 @@ after r c (entry.Missed t) = with_front (moved c t (place.Back (Some cause.DiskF
 after r c (entry.OutFile e) = with_front c (written_front c.front)
 after r c (entry.Sync clock) = with_front c (synced_front c.front)
 after r c (entry.Commit e due) = with_front c (committed_front c.front due)
+after r c (entry.Upkeep p v) = c
+after r c (entry.Snapshot p v) = c
+after r c (entry.Unmade p v f) = with_front c (stopped_front c.front (or_stop c.front.stop (Some f)))
+after r c (entry.Untaken p v) = with_front c (stopped_front c.front (Some cause.DiskFault))
+after r c (entry.Drop q) = c
+after r c (entry.Undropped q) = with_front c (stopped_front c.front (Some cause.DiskFault))
 after r c (entry.Stop f) = with_front c (stopped_front c.front (Some f))
 
 abbrev pub after_all : Scope → Core → List Entry → Core
@@ -279,6 +297,16 @@ abbrev pub stops : Option Cause → List Event
 stops None = []
 stops (Some f) = event.Stop ∷ []
 
+-- the snapshot that came back is published, but not after a Stop
+abbrev pub makes : Option Cause → ℕ → ℕ → List Event
+makes None p v = event.Snapshot p v ∷ []
+makes (Some f) p v = []
+
+-- a cause brings about a Stop, but not after another
+abbrev pub stops_by : Option Cause → Cause → Option Cause
+stops_by None f = Some f
+stops_by (Some g) f = None
+
 abbrev pub events_of : Core → Entry → List Event
 events_of c (entry.Plan e) = event.Plan e ∷ []
 events_of c (entry.Claim t) = event.Claim t ∷ []
@@ -288,6 +316,12 @@ events_of c (entry.Missed t) = event.Seal t ∷ event.Report t ∷ event.Stop �
 events_of c (entry.OutFile e) = event.OutFile e ∷ []
 events_of c (entry.Sync clock) = event.Sync clock ∷ []
 events_of c (entry.Commit e due) = event.Commit e ∷ []
+events_of c (entry.Upkeep p v) = event.Claim (upkeep p v) ∷ []
+events_of c (entry.Snapshot p v) = event.Seal (upkeep p v) ∷ event.Report (upkeep p v) ∷ makes c.front.stop p v
+events_of c (entry.Unmade p v f) = event.Report (upkeep p v) ∷ stops (stops_by c.front.stop f)
+events_of c (entry.Untaken p v) = event.Seal (upkeep p v) ∷ event.Report (upkeep p v) ∷ event.Stop ∷ []
+events_of c (entry.Drop q) = event.Drop q ∷ []
+events_of c (entry.Undropped q) = event.Stop ∷ []
 events_of c (entry.Stop f) = event.Stop ∷ []
 
 -- the history of the machine

@@ -17,13 +17,15 @@ use Rattle.ssq_board.specs.declared.front.Entry.TheVariants as entry
 use Rattle.ssq_board.specs.declared.front.Ready.TheVariants as ready
 use Rattle.ssq_board.specs.Rounds.{WaitsFor, HasCap, Comes, Worked, Versioned, IsAtRest, spends, left}
 use Rattle.ssq_board.specs.Told.{IsTold, IsCovered}
-use Rattle.ssq_board.specs.Follows.{Terms, State, Leads, Shows, shown}
+use Rattle.ssq_board.specs.Shelf.{Shelf, IsFirstShelf}
+use Rattle.ssq_board.specs.Follows.{Terms, State, Leads, Shows, ShowsShelf, shown}
 
 -- From a desk that the state shows, each list of entries that came is a legal list of events of the machine, and leads to a desk that
 -- the state then shows.
 abbrev pub FollowsMachine : Type 0 → Type 0
 FollowsMachine tells = tells → (job : Job) (r : Scope) (due : Cuts → ℕ → Bool) (terms : Terms job r due) (es : List Entry) (s n : State) (d : Desk) → IsSound r s.core → d.cuts ≡ s.cuts → Shows job r due terms s.core d
-    → Leads tells job r due s es n → (d' : Desk) × machine.Leads tells job (shown s.disk s.core d) (events_all r s.core es) (shown n.disk n.core d') × (d'.cuts ≡ n.cuts) × Shows job r due terms n.core d'
+    → ShowsShelf s.core s.shelf d → Leads tells job r due s es n
+    → (d' : Desk) × machine.Leads tells job (shown s.disk s.core d) (events_all r s.core es) (shown n.disk n.core d') × (d'.cuts ≡ n.cuts) × Shows job r due terms n.core d' × ShowsShelf n.core n.shelf d'
 
 -- the numbers of what was opened
 pub record IsOpenedAt (job : Job) (r : Scope) (next_due : Cuts → ℕ → Bool) (terms : Terms job r next_due) (s : Start) (d : Desk) : Type 0 where
@@ -38,6 +40,10 @@ pub record IsOpenedAt (job : Job) (r : Scope) (next_due : Cuts → ℕ → Bool)
 -- What the machine's Open leaves is shown by the first state.
 abbrev pub FirstShows : Type 0
 FirstShows = (job : Job) (r : Scope) (due : Cuts → ℕ → Bool) (terms : Terms job r due) (s : Start) (files : Files) (d : Desk) → IsOpenedAt job r due terms s d → opened job files d → IsSound r (first r s) × Shows job r due terms (first r s) d
+
+-- The shelf where a round begins shows that desk.
+abbrev pub FirstShelf : Type 0
+FirstShelf = (job : Job) (r : Scope) (s : Start) (files : Files) (d : Desk) (shelf : Shelf) → d.committed ≡ s.committed → opened job files d → IsFirstShelf files shelf → ShowsShelf (first r s) shelf d
 
 -- What is so of every state that entries lead to, whatever the disk and the logs tell; and what it means that a round is over.
 abbrev pub SoundAndTold : Type 0 → Type 0

@@ -1,4 +1,5 @@
 pub mod Core
+pub mod Shelf
 pub mod Shown
 pub mod Follows
 pub mod Told

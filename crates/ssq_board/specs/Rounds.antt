@@ -21,11 +21,17 @@ abbrev pub HasCap : Option ℕ → Type 0
 HasCap None = Unit {0}
 HasCap (Some most) = 0 < most
 
--- all entries but plans and syncs spend of the room that was taken for them
+-- All entries of an epoch but plans and syncs spend of the room that was taken for it, and so does a Stop. What upkeep does has room of its
+-- own.
 abbrev pub spends : Entry → Bool
-spends (entry.Plan e) = false
-spends (entry.Sync clock) = false
-spends _ = true
+spends (entry.Claim t) = true
+spends (entry.Report t f) = true
+spends (entry.Version t) = true
+spends (entry.Missed t) = true
+spends (entry.OutFile e) = true
+spends (entry.Commit e due) = true
+spends (entry.Stop f) = true
+spends _ = false
 
 -- A task was claimed, and its result is back; the rows of an out task without a fault are published.
 abbrev pub brings_rows : Kind → Option Cause → Bool

@@ -1,5 +1,5 @@
 -- What is told: the epochs that the history acknowledged.
-use Rattle.std.specs.Prelude.{◌≡◌, ◌+◌, ◌≤◌, ℕ, Bool, true, false, List, [], ◌∷◌, length, Option, Some, None}
+use Rattle.std.specs.Prelude.{◌≡◌, ◌+◌, ◌≤◌, ℕ, true, false, List, [], ◌∷◌, length, None}
 use Rattle.ssq_core.specs.Laws.{acknowledged}
 use Rattle.ssq_board.specs.declared.front.Entry.{Entry}
 use Rattle.ssq_board.specs.Core.{Scope, Core, events_all, is_behind}

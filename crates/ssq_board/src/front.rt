@@ -124,6 +124,18 @@ pub enum Entry {
     Sync(u64),
     /// The commit of this epoch was published, and whether by its watermark an epoch without lines is due next.
     Commit(u32, bool),
+    /// The snapshot of this partition at this version, which is due, was handed out to be made.
+    Upkeep(u32, u32),
+    /// The sealed snapshot of this partition at this version came back. It was published, but not after a Stop.
+    Snapshot(u32, u32),
+    /// What came back in place of the snapshot of this partition at this version: what its making met, by which the desk is stopped.
+    Unmade(u32, u32, Cause),
+    /// The sealed snapshot of this partition at this version came back, and the publishing of it failed. By that the desk is stopped.
+    Untaken(u32, u32),
+    /// This file was removed, which may go.
+    Drop(Name),
+    /// The removal of this file, which may go, failed. By that the desk is stopped.
+    Undropped(Name),
     /// A call failed, or a limit was met.
     Stop(Cause),
 }

@@ -1,6 +1,6 @@
 //! What holds of every list of entries.
 
-ghost use Rattle.ssq_board.specs.Laws.{EntryKeepsSound, FirstIsSound, FirstShows, FollowsMachine, ReadyNames, RoomIsKept, SoundAndTold, StopsByTheFirst, TurnsFall, TurnsRest};
+ghost use Rattle.ssq_board.specs.Laws.{EntryKeepsSound, FirstIsSound, FirstShelf, FirstShows, FollowsMachine, ReadyNames, RoomIsKept, SoundAndTold, StopsByTheFirst, TurnsFall, TurnsRest};
 
 use ssq_outside::{Disk, Log};
 
@@ -20,6 +20,7 @@ pub fn entry<D: Disk>()
 /// said of contents holds where disk and logs tell them.
 pub fn entries<D: Disk, L: Log>()
     ensures first { FirstShows }
+    ensures shelf { FirstShelf }
     ensures legal { FollowsMachine (D.tells × L.tells) }
     ensures told { SoundAndTold (D.tells × L.tells) }
 {}

@@ -1,13 +1,13 @@
 -- The example runs.
-use Rattle.std.proofs.Common.{◌≡◌, ◌⊎◌, ◌<◌, ◌≤◌, ◌+◌, ◌==◌, ◌++◌, [], ◌∷◌, ℕ, List, Bool, true, false, Option, Some, None, refl, ap, sym, ◌∙◌, subst, inl, inr, arith, nat_lt}
-use Rattle.std.specs.Prelude.{is_some, IsSome, if◌then◌else◌, ⊤}
+use Rattle.std.proofs.Common.{◌≡◌, ◌+◌, ◌==◌, [], ◌∷◌, ℕ, List, Bool, true, false, Option, Some, None, refl, ap, sym, ◌∙◌, subst, inl, inr, arith, nat_lt}
+use Rattle.std.specs.Prelude.{is_some, if◌then◌else◌, ⊤}
 use Rattle.std.proofs.lemmas.Bool.{ltb-true, le-ltb, eqb-true}
 use Rattle.ssq_outside.specs.declared.name.Name.{Name}
 use Rattle.ssq_outside.specs.declared.name.Name.TheVariants as name
 use Rattle.ssq_outside.specs.declared.gate.TaskId.{TaskId}
 use Rattle.ssq_outside.specs.declared.gate.Kind.{Kind}
 use Rattle.ssq_outside.specs.declared.gate.Kind.TheVariants as kind
-use Rattle.ssq_outside.specs.Files.{Content, Files, Had, MayBe, IsImage, newest, same_name, files_of, added, removed, settled_at, IsSyncStep}
+use Rattle.ssq_outside.specs.Files.{Content, Files, Had, MayBe, same_name, files_of, added, removed, settled_at}
 use Rattle.ssq_outside.specs.History.{History, had_now, files_now, Elapses}
 use Rattle.ssq_outside.proofs.Steps.{files_are_image}
 use Rattle.ssq_plans.specs.declared.meta.Meta.{Meta}
@@ -17,8 +17,8 @@ use Rattle.ssq_core.specs.Course.{truth, Cuts, IsCausal}
 use Rattle.ssq_core.specs.Standing.{IsThere, StandsAt, is_needed, is_allowed}
 use Rattle.ssq_core.specs.Staying.{IsNoOther}
 use Rattle.ssq_core.specs.Machine.{Place, waits, out, sealed, back, failed, Desk, Life, running, life_after, State, Change, nothing, misses, publishes, removes, syncs, Allows, Leaves, IsMarked, GoesOn, IsRunning, IsBack, AreBack, reduce, out_task, same_task, placed, with_file, with_plan, with_commit, with_sync, with_store, opened, May, Leads}
-use Rattle.ssq_core.specs.Sound.{IsSure, IsSoundAt, IsSoundWith}
-use Rattle.ssq_core.specs.Example.{example_course, example_job, map_task, example_run, ExampleRuns}
+use Rattle.ssq_core.specs.Sound.{IsSure, IsSoundAt}
+use Rattle.ssq_core.specs.Example.{example_course, example_job, map_task, ExampleRuns}
 use Rattle.ssq_core.proofs.Hads.{newest_changed, settled_may}
 use Rattle.ssq_core.proofs.Holding.{lt_true}
 use Rattle.ssq_core.proofs.Moves.{IsEvent, moves_on, open_sound}

@@ -1,10 +1,10 @@
 -- After a task that failed the Stop is next.
-use Rattle.std.proofs.Common.{◌≡◌, true, Option, Some, None, refl, ap, sym, ◌∙◌, subst, inl, inr}
+use Rattle.std.proofs.Common.{◌≡◌, true, Option, Some, None, refl, ap, sym, ◌∙◌, inl, inr}
 use Rattle.ssq_outside.specs.declared.gate.TaskId.{TaskId}
 use Rattle.ssq_core.specs.declared.event.Event.{Event}
 use Rattle.ssq_core.specs.declared.event.Event.TheVariants as event
 use Rattle.ssq_core.specs.Course.{Job}
-use Rattle.ssq_core.specs.Machine.{Place, failed, Desk, Life, running, owing, Change, GoesOn, OwesNone, State, MayOn, May, Step}
+use Rattle.ssq_core.specs.Machine.{failed, Desk, Life, running, owing, Change, GoesOn, OwesNone, State, MayOn}
 use Rattle.ssq_core.specs.Laws.{is_end, is_return, StopIsNext}
 
 owes_not : (life : Life) (t : TaskId) → life ≡ running → life ≡ owing t → ⊥

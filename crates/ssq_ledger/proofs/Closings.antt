@@ -93,6 +93,12 @@ step_last r c (entry.Missed t) m s w d = reported c t.number (Some cause.DiskFau
 step_last r c (entry.OutFile e) m s w d = record { out = λ o. (let all = d.out o in record { maps = all.maps; reduces = all.reduces }); between = λ b. (let all = d.between b in record { maps = all.maps; reduces = all.reduces }) }
 step_last r c (entry.Sync clock) m s w d = record { out = λ o. (let all = d.out o in record { maps = all.maps; reduces = all.reduces }); between = λ b. (let all = d.between b in record { maps = all.maps; reduces = all.reduces }) }
 step_last r c (entry.Commit e next) m s w d = (let all = d.out (inr (w m.4)) in record { out = λ o. record { maps = all.maps; reduces = all.reduces }; between = λ b. record { maps = all.maps; reduces = all.reduces } })
+step_last r c (entry.Upkeep p v) m s w d = d
+step_last r c (entry.Snapshot p v) m s w d = d
+step_last r c (entry.Unmade p v f) m s w d = record { out = λ o. (let all = d.out o in record { maps = all.maps; reduces = all.reduces }); between = λ b. (let all = d.between b in record { maps = all.maps; reduces = all.reduces }) }
+step_last r c (entry.Untaken p v) m s w d = record { out = λ o. (let all = d.out o in record { maps = all.maps; reduces = all.reduces }); between = λ b. (let all = d.between b in record { maps = all.maps; reduces = all.reduces }) }
+step_last r c (entry.Drop q) m s w d = d
+step_last r c (entry.Undropped q) m s w d = record { out = λ o. (let all = d.out o in record { maps = all.maps; reduces = all.reduces }); between = λ b. (let all = d.between b in record { maps = all.maps; reduces = all.reduces }) }
 step_last r c (entry.Stop f) m s w d = record { out = λ o. (let all = d.out o in record { maps = all.maps; reduces = all.reduces }); between = λ b. (let all = d.between b in record { maps = all.maps; reduces = all.reduces }) }
 
 rest_fine : {A : Type 0} (l : List A) → list_all is_fine (map (λ _. place.Rests) l) ≡ true
@@ -140,6 +146,12 @@ step_out r c (entry.Missed t) m s w d = λ closed. never c m.0 closed
 step_out r c (entry.OutFile e) m s w d = d
 step_out r c (entry.Sync clock) m s w d = d
 step_out r c (entry.Commit e next) m s w d = λ closed. only_fine c.outs s.outs (w m.4)
+step_out r c (entry.Upkeep p v) m s w d = d
+step_out r c (entry.Snapshot p v) m s w d = d
+step_out r c (entry.Unmade p v f) m s w d = d
+step_out r c (entry.Untaken p v) m s w d = d
+step_out r c (entry.Drop q) m s w d = d
+step_out r c (entry.Undropped q) m s w d = d
 step_out r c (entry.Stop f) m s w d = d
 
 first_out : (r : Scope) (s : Start) → IsOutBack (first r s)

@@ -1,15 +1,17 @@
 -- What is so of each ledger stays so after the entries of a call.
-use Rattle.std.proofs.Common.{◌≡◌, ◌+◌, ◌≤◌, ◌<◌, ◌++◌, ◌∷◌, [], ℕ, Bool, true, List, length, length-append, sym, refl, ap, ◌∙◌, subst, arith}
+use Rattle.std.proofs.Common.{◌≡◌, ◌+◌, ◌≤◌, ◌<◌, ◌++◌, ◌∷◌, [], ℕ, Bool, true, true≢false, List, length, length-append, sym, refl, ap, ◌∙◌, subst, arith}
 use Rattle.ssq_outside.specs.History.{History}
 use Rattle.ssq_core.specs.Course.{Cuts, Job}
 use Rattle.ssq_board.specs.declared.front.Entry.{Entry}
+use Rattle.ssq_board.specs.declared.front.Entry.TheVariants as entry
 use Rattle.ssq_board.specs.Core.{Scope, Core, need, May, after, after_all, cuts_by, cuts_all}
 use Rattle.ssq_board.specs.Rounds.{spends}
+use Rattle.ssq_board.specs.Shelf.{Shelf, MayKeep, shelf_by, shelf_all}
 use Rattle.ssq_board.specs.Shown.{IsSound, first}
 use Rattle.ssq_board.specs.Follows.{State, Leads, Moves, IsRight}
 use Rattle.ssq_board.proofs.Needs.{need_falls}
 use Rattle.ssq_board.proofs.Sounds.{run_sound, first_sound}
-use Rattle.ssq_ledger.specs.Shown.{Opening, state, first_state, cuts_after, IsLedger}
+use Rattle.ssq_ledger.specs.Shown.{Opening, state, first_state, cuts_after, shelf_after, IsLedger}
 
 module _ (tells : Type 0) (job : Job) (r : Scope) (next : Cuts → ℕ → Bool) where
   leads_more : (s : State) (es : List Entry) (mid : State) (fs : List Entry) (n : State) → Leads tells job r next s es mid → Leads tells job r next mid fs n → Leads tells job r next s (es ++ fs) n
@@ -21,6 +23,11 @@ module _ (tells : Type 0) (job : Job) (r : Scope) (next : Cuts → ℕ → Bool)
   leads_cuts s [] n l = ap (λ x. x.cuts) (sym l)
   leads_cuts s (e ∷ es) n l = leads_cuts l.0 es n l.2 ∙ (λ i. cuts_all r (l.1.cuts i) (l.1.core i) es)
 
+  -- and so do the files of the state
+  leads_shelf : (s : State) (es : List Entry) (n : State) → Leads tells job r next s es n → n.shelf ≡ shelf_all r s.core s.shelf es
+  leads_shelf s [] n l = ap (λ x. x.shelf) (sym l)
+  leads_shelf s (e ∷ es) n l = leads_shelf l.0 es n l.2 ∙ (λ i. shelf_all r (l.1.core i) (l.1.shelf i) es)
+
   -- and so does what the ledger knows
   leads_core : (s : State) (es : List Entry) (n : State) → Leads tells job r next s es n → n.core ≡ after_all r s.core es
   leads_core s [] n l = ap (λ x. x.core) (sym l)
@@ -31,20 +38,45 @@ pub cuts_more : (r : Scope) (cuts : Cuts) (c : Core) (es : List Entry) (e : Entr
 cuts_more r cuts c [] e = refl
 cuts_more r cuts c (x ∷ es) e = cuts_more r (cuts_by r cuts c x) (after r c x) es e
 
+-- and the files of the state
+pub shelf_more : (r : Scope) (k : Shelf) (c : Core) (es : List Entry) (e : Entry) → shelf_all r c k (es ++ e ∷ []) ≡ shelf_by (after_all r c es) (shelf_all r c k es) e
+shelf_more r k c [] e = refl
+shelf_more r k c (x ∷ es) e = shelf_more r (shelf_by c k x) (after r c x) es e
+
+-- an entry that spends of the room asks nothing of the files of the state
+keeps_spent : (r : Scope) (c : Core) (k : Shelf) (e : Entry) → spends e ≡ true → MayKeep r c k e
+keeps_spent r c k (entry.Plan e) is = tt
+keeps_spent r c k (entry.Claim t) is = tt
+keeps_spent r c k (entry.Report t f) is = tt
+keeps_spent r c k (entry.Version t) is = tt
+keeps_spent r c k (entry.Missed t) is = tt
+keeps_spent r c k (entry.OutFile e) is = tt
+keeps_spent r c k (entry.Sync clock) is = tt
+keeps_spent r c k (entry.Commit e due) is = tt
+keeps_spent r c k (entry.Stop f) is = tt
+keeps_spent r c k (entry.Upkeep p v) is = absurd (true≢false (sym is))
+keeps_spent r c k (entry.Snapshot p v) is = absurd (true≢false (sym is))
+keeps_spent r c k (entry.Unmade p v f) is = absurd (true≢false (sym is))
+keeps_spent r c k (entry.Untaken p v) is = absurd (true≢false (sym is))
+keeps_spent r c k (entry.Drop q) is = absurd (true≢false (sym is))
+keeps_spent r c k (entry.Undropped q) is = absurd (true≢false (sym is))
+
 module _ (tells : Type 0) (o : Opening) (opened : History) (r : Scope) (disk : History) (c : Core) (entries : List Entry) (capacity : ℕ) (d : IsLedger tells o opened r disk c entries capacity) where
   -- one entry more
-  pub one : (new : History) (n : Core) (now : List Entry) (more : ℕ) (e : Entry) → May r c e → (tells → Moves o.job r c (cuts_after o r entries) e disk new)
+  pub one : (new : History) (n : Core) (now : List Entry) (more : ℕ) (e : Entry) → May r c e → MayKeep r c (shelf_after o r entries) e → (tells → Moves o.job r c (cuts_after o r entries) e disk new)
       → (tells → IsRight o.job o.due (cuts_after o r entries) e) → n ≡ after r c e → now ≡ entries ++ e ∷ [] → length entries + 1 + need n ≤ more → IsLedger tells o opened r new n now more
-  one new n now more e may moves right is here room =
-      let next : State = state new n (cuts_by r (cuts_after o r entries) c e) in
+  one new n now more e may keeps moves right is here room =
+      let next : State = state new n (shelf_by c (shelf_after o r entries) e) (cuts_by r (cuts_after o r entries) c e) in
       let moved : tells → Moves o.job r c (cuts_after o r entries) e d.until new = (λ t. subst (λ (x : History). Moves o.job r c (cuts_after o r entries) e x new) (sym (d.is_disk t)) (moves t)) in
-      let last : Leads tells o.job r o.due (state d.until c (cuts_after o r entries)) (e ∷ []) next = (next, record { may = may; moves = moved; right = right; core = is; cuts = refl }, refl) in
-      let all = leads_more tells o.job r o.due (first_state o r opened) entries (state d.until c (cuts_after o r entries)) (e ∷ []) next d.leads last in
-      let same = leads_cuts tells o.job r o.due (first_state o r opened) (entries ++ e ∷ []) next all in record {
+      let last : Leads tells o.job r o.due (state d.until c (shelf_after o r entries) (cuts_after o r entries)) (e ∷ []) next = (next, record { may = may; keeps = keeps; moves = moved; right = right; core = is; shelf = refl; cuts = refl }, refl) in
+      let all = leads_more tells o.job r o.due (first_state o r opened) entries (state d.until c (shelf_after o r entries) (cuts_after o r entries)) (e ∷ []) next d.leads last in
+      let same = leads_cuts tells o.job r o.due (first_state o r opened) (entries ++ e ∷ []) next all in
+      let kept = leads_shelf tells o.job r o.due (first_state o r opened) (entries ++ e ∷ []) next all in record {
         until = new;
         is_disk = λ t. refl;
-        leads = subst (λ (x : List Entry). Leads tells o.job r o.due (first_state o r opened) x (state new n (cuts_after o r x))) (sym here)
-            (subst (λ (x : Cuts). Leads tells o.job r o.due (first_state o r opened) (entries ++ e ∷ []) (state new n x)) same all);
+        leads = subst (λ (x : List Entry). Leads tells o.job r o.due (first_state o r opened) x (state new n (shelf_after o r x) (cuts_after o r x))) (sym here)
+            (subst (λ (k : Shelf). Leads tells o.job r o.due (first_state o r opened) (entries ++ e ∷ []) (state new n k (cuts_after o r (entries ++ e ∷ [])))) kept
+            (subst (λ (x : Cuts). Leads tells o.job r o.due (first_state o r opened) (entries ++ e ∷ []) (state new n (shelf_by c (shelf_after o r entries) e) x)) same all));
         start = d.start;
         terms = d.terms;
         plans = d.plans;
@@ -58,11 +90,11 @@ module _ (tells : Type 0) (o : Opening) (opened : History) (r : Scope) (disk : H
 
   -- what it knows follows from its entries
   pub known : c ≡ after_all r (first r o.start) entries
-  known = leads_core tells o.job r o.due (first_state o r opened) entries (state d.until c (cuts_after o r entries)) d.leads
+  known = leads_core tells o.job r o.due (first_state o r opened) entries (state d.until c (shelf_after o r entries) (cuts_after o r entries)) d.leads
 
   -- what holds of each state that entries lead to
   pub held : IsSound r c
-  held = run_sound tells o.job r o.due entries (first_state o r opened) (state d.until c (cuts_after o r entries)) d.leads (first_sound r o.start d.start)
+  held = run_sound tells o.job r o.due entries (first_state o r opened) (state d.until c (shelf_after o r entries) (cuts_after o r entries)) d.leads (first_sound r o.start d.start)
 
   -- there is room for an entry that spends of it
   pub has_room : (e : Entry) → May r c e → spends e ≡ true → length entries < capacity
@@ -72,4 +104,4 @@ module _ (tells : Type 0) (o : Opening) (opened : History) (r : Scope) (disk : H
   pub spent : (new : History) (n : Core) (now : List Entry) (more : ℕ) (e : Entry) → spends e ≡ true → May r c e → (tells → Moves o.job r c (cuts_after o r entries) e disk new)
       → (tells → IsRight o.job o.due (cuts_after o r entries) e) → n ≡ after r c e → now ≡ entries ++ e ∷ [] → capacity ≤ more → IsLedger tells o opened r new n now more
   spent new n now more e is may moves right to here kept =
-      one new n now more e may moves right to here (let n = need_falls r c e held may is in let k = d.room in let q = ap need to in omega arith)
+      one new n now more e may (keeps_spent r c (shelf_after o r entries) e is) moves right to here (let n = need_falls r c e held may is in let k = d.room in let q = ap need to in omega arith)

@@ -1,6 +1,7 @@
 pub mod Lists
 pub mod Boards
 pub mod Ledgers
+pub mod Shelves
 pub mod Moves
 pub mod Written
 pub mod Publishing

@@ -53,6 +53,12 @@ step_back r c (entry.Missed t) m d = reported_back c t.number (Some cause.DiskFa
 step_back r c (entry.OutFile e) m d = λ written. m.4
 step_back r c (entry.Sync clock) m d = d
 step_back r c (entry.Commit e next) m d = d
+step_back r c (entry.Upkeep p v) m d = d
+step_back r c (entry.Snapshot p v) m d = d
+step_back r c (entry.Unmade p v f) m d = d
+step_back r c (entry.Untaken p v) m d = d
+step_back r c (entry.Drop q) m d = d
+step_back r c (entry.Undropped q) m d = d
 step_back r c (entry.Stop f) m d = d
 
 pub first_back : (r : Scope) (s : Start) → IsBackWritten (first r s)

@@ -19,15 +19,17 @@ use Rattle.ssq_board.specs.declared.front.Entry.{Entry}
 use Rattle.ssq_outside.specs.declared.disk.DiskError.{DiskError}
 use Rattle.ssq_outside.specs.declared.disk.DiskError.TheVariants as disk
 use Rattle.ssq_board.specs.Core.{Scope, Core, May, need, after, after_all, cuts_all, has_line, is_open, is_fine, due}
+use Rattle.ssq_board.specs.Shelf.{Shelf, shelf_all}
 use Rattle.ssq_board.specs.Shown.{Start, IsStart, IsSound, first, planned_by}
 use Rattle.ssq_board.specs.Follows.{State, Terms, Leads, IsOwn, BringsNone, BringsVersion}
 
--- What was opened: the job, its cuts so far, when an epoch without lines is due, and where the round begins.
+-- What was opened: the job, its cuts so far, when an epoch without lines is due, where the round begins, and the files of the state.
 pub record Opening : Type 0 where
   pub job : Job
   pub due : Cuts → ℕ → Bool
   pub cuts : Cuts
   pub start : Start
+  pub shelf : Shelf
 
 -- What a ledger shows: what was opened, with the disk as it was then; what the round has before it; the disk and what the ledger knows
 -- now; and what its calls did.
@@ -39,16 +41,20 @@ pub record Shown (D O : Type 0) : Type 0 where
   pub core : Core
   pub history : List Entry
 
-abbrev pub state : History → Core → Cuts → State
-state disk core cuts = record { disk = disk; core = core; cuts = cuts }
+abbrev pub state : History → Core → Shelf → Cuts → State
+state disk core shelf cuts = record { disk = disk; core = core; shelf = shelf; cuts = cuts }
 
 -- the cuts of the epochs that are planned by these entries
 abbrev pub cuts_after : Opening → Scope → List Entry → Cuts
 cuts_after o r es = cuts_all r o.cuts (first r o.start) es
 
+-- the files of the state after these entries, and the snapshots that are being made
+abbrev pub shelf_after : Opening → Scope → List Entry → Shelf
+shelf_after o r es = shelf_all r (first r o.start) o.shelf es
+
 -- the state where a round begins
 abbrev pub first_state : Opening → Scope → History → State
-first_state o r opened = state opened (first r o.start) o.cuts
+first_state o r opened = state opened (first r o.start) o.shelf o.cuts
 
 -- What the plans of a job tell: where the cuts end, and a watermark that hangs on the epochs before.
 pub record TellsPlans (job : Job) : Type 0 where
@@ -64,7 +70,7 @@ pub record IsLedger (tells : Type 0) (o : Opening) (opened : History) (r : Scope
   -- the entries may come one after another, and lead to what the ledger is: with the disk as it is, where it tells that
   pub until : History
   pub is_disk : tells → until ≡ disk
-  pub leads : Leads tells o.job r o.due (first_state o r opened) entries (state until core (cuts_after o r entries))
+  pub leads : Leads tells o.job r o.due (first_state o r opened) entries (state until core (shelf_after o r entries) (cuts_after o r entries))
   pub start : IsStart r o.start
   -- what its numbers rest on
   pub terms : tells → Terms o.job r o.due
@@ -78,15 +84,19 @@ module _ {D O : Type 0} where
   abbrev pub cuts_of : (O → Opening) → Shown D O → Cuts
   cuts_of opening s = cuts_after (opening s.opening) s.scope s.history
 
+  -- the files of the state, and the snapshots that are being made
+  abbrev pub shelf_of : (O → Opening) → Shown D O → Shelf
+  shelf_of opening s = shelf_after (opening s.opening) s.scope s.history
+
   -- the ledger's history is legal from what was opened, and leads to what it is
   abbrev pub IsLegal : Type 0 → (D → History) → (O → Opening) → Shown D O → Type 0
   IsLegal tells history opening s = (until : History) × (tells → until ≡ history s.disk)
-      × Leads tells (opening s.opening).job s.scope (opening s.opening).due (first_state (opening s.opening) s.scope (history s.opened)) s.history (state until s.core (cuts_of opening s))
+      × Leads tells (opening s.opening).job s.scope (opening s.opening).due (first_state (opening s.opening) s.scope (history s.opened)) s.history (state until s.core (shelf_of opening s) (cuts_of opening s))
 
   -- where disk and logs tell what they hold, it leads to the disk as it is
   abbrev pub LeadsHere : Type 0 → (D → History) → (O → Opening) → Shown D O → Type 0
   LeadsHere tells history opening s = Leads tells (opening s.opening).job s.scope (opening s.opening).due (first_state (opening s.opening) s.scope (history s.opened)) s.history
-      (state (history s.disk) s.core (cuts_of opening s))
+      (state (history s.disk) s.core (shelf_of opening s) (cuts_of opening s))
 
   -- a result is its task's own
   abbrev pub IsTrue : (O → Opening) → Shown D O → TaskId → Option Cause → Type 0

@@ -14,9 +14,11 @@ ghost use mathlib.Core.Option.{some};
 ghost use Rattle.ssq_board.specs.declared.front.Place.TheVariants as place;
 ghost use Rattle.ssq_board.specs.Core.{Scope, May, HasCause, at, after, cuts_by, ready_of, due, with_front, stopped_front};
 ghost use Rattle.ssq_ledger.specs.Shown.{Shown, IsTrue, HasNone, HasVersion, IsVersioned, HasRisen, IsUnplanned, did, cuts_of, cause_of, answer};
+ghost use Rattle.ssq_ledger.specs.Names.{MakesRoom, MakesSettled};
 
 use crate::board::Board;
 use crate::ledger::{Ledger, Opening};
+use crate::names::{Names, add, make_room as make_names_room, make_settled, settle};
 use crate::plan::{Next, seal};
 use ssq_board::{Cause, Entry, Ready};
 use ssq_outside::{Disk, DiskError, DiskFault, Name, Stage, TaskId};
@@ -75,8 +77,12 @@ impl<D: Disk, O: Opening> Ledger<D, O> {
         if self.board.front().stop.is_some() {
             return note_version(&mut self.board, &mut self.entries, id);
         }
-        match self.disk.publish(file, Name::Delta(id.number, id.epoch)) {
-            Ok(()) => note_version(&mut self.board, &mut self.entries, id),
+        let name = Name::Delta(id.number, id.epoch);
+        match self.disk.publish(file, name) {
+            Ok(()) => {
+                add(self.names.settled.as_slice(), &mut self.names.news, name);
+                note_version(&mut self.board, &mut self.entries, id)
+            }
             Err(_) => {
                 note_missed(&mut self.board, &mut self.entries, id);
                 Err(Cause::DiskFault)
@@ -113,13 +119,15 @@ impl<D: Disk, O: Opening> Ledger<D, O> {
         ensures stopped { IfErr result (λ f. (self.new ≡ did self.old self.new.disk (entry.Stop f ∷ [])) × HasRisen f (D.faults self.old.disk) (D.faults self.new.disk)) }
         ensures counted { D.faults self.old.disk ≤ D.faults self.new.disk }
     {
-        let Some(()) = make_room(&mut self.entries, self.board.count()) else {
+        let Some(()) = make_sync_room(&mut self.entries, &mut self.names, self.board.count()) else {
             halt(&mut self.board, &mut self.entries, Cause::NoMemory);
             return Err(Cause::NoMemory);
         };
         match self.disk.sync_names() {
             Ok(()) => {
                 self.board.settle();
+                settle(&mut self.names.settled, &mut self.names.news);
+                self.names.tidy = true;
                 let clock = self.disk.clock();
                 self.entries.push_reserved(Entry::Sync(clock));
                 Ok(())
@@ -185,7 +193,7 @@ impl<D: Disk, O: Opening> Ledger<D, O> {
         ensures counted { D.faults self.old.disk ≤ D.faults self.new.disk }
     {
         let Next { board, text } = next;
-        let Some(()) = make_room(&mut self.entries, board.count()) else {
+        let Some(()) = make_plan_room(&mut self.entries, &mut self.names, board.count()) else {
             halt(&mut self.board, &mut self.entries, Cause::NoMemory);
             return Err(Cause::NoMemory);
         };
@@ -278,6 +286,32 @@ fn make_room(entries: &mut Vec<Entry>, tasks: usize) -> Option<()>
         Ok(()) => Some(()),
         Err(_) => None,
     }
+}
+
+/// Makes room for a sync, and for all entries that can come before the next.
+fn make_sync_room(entries: &mut Vec<Entry>, names: &mut Names, tasks: usize) -> Option<()>
+    requires { tasks ≤ 2 ^ 40 }
+    ensures items { entries.new.items ≡ entries.old.items }
+    ensures kept { vec_capacity entries.old ≤ vec_capacity entries.new }
+    ensures room { IfSome result (λ made. length entries.old.items + (2 * tasks + 4) ≤ vec_capacity entries.new) }
+    ensures names { MakesSettled names.old names.new result }
+{
+    let made = make_settled(names);
+    make_room(entries, tasks)?;
+    made
+}
+
+/// Makes room for all entries and names that can come before the next sync.
+fn make_plan_room(entries: &mut Vec<Entry>, names: &mut Names, tasks: usize) -> Option<()>
+    requires { tasks ≤ 2 ^ 40 }
+    ensures items { entries.new.items ≡ entries.old.items }
+    ensures kept { vec_capacity entries.old ≤ vec_capacity entries.new }
+    ensures room { IfSome result (λ made. length entries.old.items + (2 * tasks + 4) ≤ vec_capacity entries.new) }
+    ensures names { MakesRoom (2 * tasks + 4) names.old names.new result }
+{
+    let made = make_names_room(names, room_of(tasks));
+    make_room(entries, tasks)?;
+    made
 }
 
 fn cause_of(error: DiskError) -> Cause

@@ -4,15 +4,18 @@ ghost use Rattle.std.specs.Prelude.{◌≡◌, ◌≤◌, ◌<◌, ◌+◌, ◌^
 ghost use Rattle.ssq_outside.specs.Faults.{Rises};
 ghost use Rattle.ssq_board.specs.declared.front.Entry.{Entry};
 ghost use Rattle.ssq_board.specs.Core.{need, after_all, cuts_by, ready_of};
+ghost use Rattle.ssq_board.specs.Shelf.{first_shelf, shelf_by};
 ghost use Rattle.ssq_board.specs.Shown.{IsStart, first};
 ghost use Rattle.ssq_board.specs.Follows.{Terms};
-ghost use Rattle.ssq_ledger.specs.Shown.{Shown, IsLedger, IsLegal, LeadsHere, IsInOrder, TellsPlans, did, cuts_of};
+ghost use Rattle.ssq_ledger.specs.Shown.{Shown, IsLedger, IsLegal, LeadsHere, IsInOrder, TellsPlans, did, cuts_of, shelf_after, shelf_of};
+ghost use Rattle.ssq_ledger.specs.Names.{IsShelved};
 
 use crate::board::Board;
 use crate::calls::room_of;
+use crate::names::Names;
 use crate::scope::{Scope, Start};
 use ssq_board::{Entry, Front, Place, Ready};
-use ssq_outside::{Disk, DiskError, Stage};
+use ssq_outside::{Disk, DiskError, Name, Stage};
 use ssq_plans::PartEnd;
 use std::alloc::{AllocError, Global};
 use std::marker::Model;
@@ -25,7 +28,7 @@ pub trait Opening: Drop {
 
     /// Whether the logs tell what they hold, and what was opened is the job's own, with this before the round.
     ghost tells: { Self → Scope → Type 0 };
-    /// The job, its cuts so far, when an epoch without lines is due, and where the round begins.
+    /// The job, its cuts so far, when an epoch without lines is due, where the round begins, and the files of the state.
     ghost opening: { Self → Opening };
 }
 
@@ -37,6 +40,7 @@ pub struct Ledger<D: Disk, O: Opening> {
     pub(crate) scope: Scope,
     pub(crate) disk: D,
     pub(crate) board: Board,
+    pub(crate) names: Names,
     pub(crate) entries: Vec<Entry>,
 }
 
@@ -45,20 +49,23 @@ impl<D: Disk, O: Opening> Model for Ledger<D, O> {
 
     ghost view = { λ s. record { opening = s.opening.value; opened = s.opened.value; scope = s.scope; disk = s.disk; core = s.board; history = s.entries.items } };
 
-    ghost invariant = { λ s. IsLedger (D.tells × O.tells s.opening.value s.scope) (O.opening s.opening.value) (D.history s.opened.value) s.scope (D.history s.disk) s.board s.entries.items (vec_capacity s.entries) };
+    ghost invariant = { λ s. IsLedger (D.tells × O.tells s.opening.value s.scope) (O.opening s.opening.value) (D.history s.opened.value) s.scope (D.history s.disk) s.board s.entries.items (vec_capacity s.entries)
+        × IsShelved (shelf_after (O.opening s.opening.value) s.scope s.entries.items) (need s.board) s.names };
 }
 
 impl<D: Disk, O: Opening> Ledger<D, O> {
-    /// The ledger of a round that begins here. The disk comes back where memory ran out.
+    /// The ledger of a round that begins here, with the names of the state's files that are there. The disk comes back where memory ran out.
     pub fn new(
         alloc: Global,
         opening: Snapshot<O>,
         disk: D,
         scope: Scope,
         start: Start,
+        names: Vec<Name>,
     ) -> Result<Ledger<D, O>, D>
         requires start { IsStart scope start }
         requires opened { start ≡ (O.opening opening.value).start }
+        requires listed { (O.opening opening.value).shelf ≡ first_shelf names.items }
         requires numbers { start.is_planned ≡ true → start.committed < 4294967295 }
         requires few { length scope.available + scope.partitions ≤ 2 ^ 32 }
         requires terms { (D.tells × O.tells opening.value scope) → Terms (O.opening opening.value).job scope (O.opening opening.value).due }
@@ -68,12 +75,18 @@ impl<D: Disk, O: Opening> Ledger<D, O> {
     {
         let opened = Snapshot::of(&disk);
         match begin(alloc, &scope, start) {
-            Ok((board, entries)) => Ok(Ledger {
+            Ok((board, entries, news)) => Ok(Ledger {
                 opening,
                 opened,
                 scope,
                 disk,
                 board,
+                names: Names {
+                    settled: names,
+                    news,
+                    claimed: Vec::new(alloc),
+                    tidy: true,
+                },
                 entries,
             }),
             Err(_) => Err(disk),
@@ -84,9 +97,10 @@ impl<D: Disk, O: Opening> Ledger<D, O> {
     pub fn is_legal(&self)
         ensures legal { IsLegal (D.tells × O.tells self.now.opening self.now.scope) D.history O.opening self.now }
         ensures here { (D.tells × O.tells self.now.opening self.now.scope) → LeadsHere (D.tells × O.tells self.now.opening self.now.scope) D.history O.opening self.now }
-        // What it knows and which cuts are planned follow from its entries, one by one.
+        // What it knows, which cuts are planned and which files of the state are there follow from its entries, one by one.
         ensures core { self.now.core ≡ after_all self.now.scope (first self.now.scope (O.opening self.now.opening).start) self.now.history }
         ensures cuts { (disk : _) (e : Entry) → cuts_of O.opening (did self.now disk (e ∷ [])) ≡ cuts_by self.now.scope (cuts_of O.opening self.now) self.now.core e }
+        ensures shelf { (disk : _) (e : Entry) → shelf_of O.opening (did self.now disk (e ∷ [])) ≡ shelf_by self.now.core (shelf_of O.opening self.now) e }
         ensures start { IsStart self.now.scope (O.opening self.now.opening).start }
         ensures terms { (D.tells × O.tells self.now.opening self.now.scope) → Terms (O.opening self.now.opening).job self.now.scope (O.opening self.now.opening).due }
         ensures plans { TellsPlans (O.opening self.now.opening).job }
@@ -124,13 +138,27 @@ impl<D: Disk, O: Opening> Ledger<D, O> {
         self.disk.discard(stage);
     }
 
-    /// The disk, and the history of what was done.
-    pub fn closed(self) -> (D, Vec<Entry>)
+    /// The disk, the history of what was done, and the names of the state's files that no crash can take away.
+    pub fn closed(self) -> (D, Vec<Entry>, Vec<Name>)
         ensures disk { result.0 ≡ self.disk }
         ensures history { result.1.items ≡ self.history }
+        ensures names { result.2.items ≡ (shelf_of O.opening self).settled }
     {
-        let Ledger { disk, entries, .. } = self;
-        (disk, entries)
+        let Ledger {
+            disk,
+            entries,
+            names,
+            ..
+        } = self;
+        let Names { settled, .. } = names;
+        (disk, entries, settled)
+    }
+
+    /// Whether all files of the state that are there are settled, but for deltas of the epoch that runs.
+    pub fn is_tidy(&self) -> bool
+        ensures { result ≡ (shelf_of O.opening self.now).tidy }
+    {
+        self.names.tidy
     }
 
     /// What is next.
@@ -204,16 +232,23 @@ impl<D: Disk, O: Opening> Ledger<D, O> {
     }
 }
 
-/// What a ledger knows where its round begins, and a history with room for all entries that can come before the next sync.
-fn begin(alloc: Global, scope: &Scope, start: Start) -> Result<(Board, Vec<Entry>), AllocError>
+/// What a ledger knows where its round begins, and a history and a list of names with room for all that can come before the next sync.
+fn begin(
+    alloc: Global,
+    scope: &Scope,
+    start: Start,
+) -> Result<(Board, Vec<Entry>, Vec<Name>), AllocError>
     requires numbers { start.is_planned ≡ true → start.committed < 4294967295 }
     requires start { IsStart scope.now start }
     requires few { length scope.now.available + scope.now.partitions ≤ 2 ^ 32 }
     ensures board { IfOk result (λ made. made.0 ≡ first scope.now start) }
     ensures entries { IfOk result (λ made. made.1.items ≡ []) }
+    ensures names { IfOk result (λ made. made.2.items ≡ []) }
     ensures room { IfOk result (λ made. need made.0 ≤ vec_capacity made.1) }
+    ensures names_room { IfOk result (λ made. need made.0 ≤ vec_capacity made.2) }
 {
     let board = Board::first(alloc, scope, start)?;
     let entries = Vec::with_capacity(alloc, room_of(board.count()))?;
-    Ok((board, entries))
+    let names = Vec::with_capacity(alloc, room_of(board.count()))?;
+    Ok((board, entries, names))
 }

@@ -9,6 +9,7 @@ mod calls;
 mod ends;
 mod law;
 mod ledger;
+mod names;
 mod places;
 mod plan;
 mod scope;

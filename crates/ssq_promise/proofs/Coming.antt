@@ -12,12 +12,12 @@ use Rattle.ssq_board.specs.declared.front.Entry.{Entry}
 use Rattle.ssq_board.specs.declared.front.Entry.TheVariants as entry
 use Rattle.ssq_board.specs.Core.{Scope, Core, events_all, is_behind, is_open, next_ends}
 use Rattle.ssq_board.specs.Shown.{Start, IsSound}
-use Rattle.ssq_board.specs.Follows.{Terms, State, Step, Leads, Shows, shown}
+use Rattle.ssq_board.specs.Follows.{Terms, State, Step, Leads, Shows, ShowsShelf, shown}
 use Rattle.ssq_board.proofs.Following.{list_follows}
 use Rattle.ssq_board.proofs.Opening.{shows_first}
 use Rattle.ssq_board.proofs.Sounds.{first_sound, step_sound}
 use Rattle.ssq_promise.specs.Run.{Begins, WentOn}
-use Rattle.ssq_promise.proofs.Joining.{shown_first}
+use Rattle.ssq_promise.proofs.Joining.{shown_first, begins_shelf}
 use Rattle.ssq_promise.proofs.Leaving.{sound_by}
 use Rattle.ssq_promise.proofs.Truths.{either_of, extended_below}
 
@@ -90,6 +90,12 @@ module _ (tells : Type 0) (t : tells) (job : Job) (r : Scope) (next : Cuts → �
   one_come (entry.OutFile e) s n d cuts shows step = none_come s n (ap (λ (c : Core). c.front.planned) step.core) step.cuts
   one_come (entry.Sync clock) s n d cuts shows step = none_come s n (ap (λ (c : Core). c.front.planned) step.core) step.cuts
   one_come (entry.Commit e due) s n d cuts shows step = none_come s n (ap (λ (c : Core). c.front.planned) step.core) step.cuts
+  one_come (entry.Upkeep p v) s n d cuts shows step = none_come s n (ap (λ (c : Core). c.front.planned) step.core) step.cuts
+  one_come (entry.Snapshot p v) s n d cuts shows step = none_come s n (ap (λ (c : Core). c.front.planned) step.core) step.cuts
+  one_come (entry.Unmade p v f) s n d cuts shows step = none_come s n (ap (λ (c : Core). c.front.planned) step.core) step.cuts
+  one_come (entry.Untaken p v) s n d cuts shows step = none_come s n (ap (λ (c : Core). c.front.planned) step.core) step.cuts
+  one_come (entry.Drop q) s n d cuts shows step = none_come s n (ap (λ (c : Core). c.front.planned) step.core) step.cuts
+  one_come (entry.Undropped q) s n d cuts shows step = none_come s n (ap (λ (c : Core). c.front.planned) step.core) step.cuts
   one_come (entry.Stop f) s n d cuts shows step = none_come s n (ap (λ (c : Core). c.front.planned) step.core) step.cuts
 
   -- a running desk has committed no epoch with a fault
@@ -115,17 +121,23 @@ module _ (tells : Type 0) (t : tells) (job : Job) (r : Scope) (next : Cuts → �
   one_faultless (entry.Missed u) s n d step cuts shows sound good = same_faultless s n (ap (λ (c : Core). c.front.committed) step.core) step.cuts good
   one_faultless (entry.OutFile e) s n d step cuts shows sound good = same_faultless s n (ap (λ (c : Core). c.front.committed) step.core) step.cuts good
   one_faultless (entry.Sync clock) s n d step cuts shows sound good = same_faultless s n (ap (λ (c : Core). c.front.committed) step.core) step.cuts good
+  one_faultless (entry.Upkeep p v) s n d step cuts shows sound good = same_faultless s n (ap (λ (c : Core). c.front.committed) step.core) step.cuts good
+  one_faultless (entry.Snapshot p v) s n d step cuts shows sound good = same_faultless s n (ap (λ (c : Core). c.front.committed) step.core) step.cuts good
+  one_faultless (entry.Unmade p v f) s n d step cuts shows sound good = same_faultless s n (ap (λ (c : Core). c.front.committed) step.core) step.cuts good
+  one_faultless (entry.Untaken p v) s n d step cuts shows sound good = same_faultless s n (ap (λ (c : Core). c.front.committed) step.core) step.cuts good
+  one_faultless (entry.Drop q) s n d step cuts shows sound good = same_faultless s n (ap (λ (c : Core). c.front.committed) step.core) step.cuts good
+  one_faultless (entry.Undropped q) s n d step cuts shows sound good = same_faultless s n (ap (λ (c : Core). c.front.committed) step.core) step.cuts good
   one_faultless (entry.Stop f) s n d step cuts shows sound good = same_faultless s n (ap (λ (c : Core). c.front.committed) step.core) step.cuts good
 
-  goes_on : (es : List Entry) (s n : State) (d : Desk) → IsSound r s.core → d.cuts ≡ s.cuts → Shows job r next terms s.core d → Sound job (shown s.disk s.core d) → AreFaultless s → Leads tells job r next s es n
+  goes_on : (es : List Entry) (s n : State) (d : Desk) → IsSound r s.core → d.cuts ≡ s.cuts → Shows job r next terms s.core d → ShowsShelf s.core s.shelf d → Sound job (shown s.disk s.core d) → AreFaultless s → Leads tells job r next s es n
       → HasCome s n × AreFaultless n × (is_open n.core ≡ false → n.core.front.due ≡ next n.cuts n.core.front.planned)
-  goes_on [] s n d core cuts shows sound good l =
+  goes_on [] s n d core cuts shows held sound good l =
       subst (λ (x : State). HasCome s x × AreFaultless x × (is_open x.core ≡ false → x.core.front.due ≡ next x.cuts x.core.front.planned)) l (none_come s s refl refl, good, closed_due s d cuts shows)
-  goes_on (e ∷ es) s n d core cuts shows sound good l =
+  goes_on (e ∷ es) s n d core cuts shows held sound good l =
       let mid = l.0 in
-      let one = list_follows tells job r next terms t (e ∷ []) s mid d core cuts shows (mid, l.1, refl) in
+      let one = list_follows tells job r next terms t (e ∷ []) s mid d core cuts shows held (mid, l.1, refl) in
       let later : Sound job (shown mid.disk mid.core one.0) = (moves_on tells job (events_all r s.core (e ∷ [])) (shown s.disk s.core d) (shown mid.disk mid.core one.0) t terms.causal sound one.1).sound in
-      let rest = goes_on es mid n one.0 (subst (IsSound r) (sym l.1.core) (step_sound r s.core e l.1.may core)) one.2 one.3 later (one_faultless e s mid one.0 l.1 one.2 one.3 later good) l.2 in
+      let rest = goes_on es mid n one.0 (subst (IsSound r) (sym l.1.core) (step_sound r s.core e l.1.may core)) one.2 one.3 one.4 later (one_faultless e s mid one.0 l.1 one.2 one.3 later good) l.2 in
       (come_more s mid n (one_come e s mid d cuts shows l.1) rest.0, rest.1, rest.2)
 
 pub round_goes_on : (tells : Type 0) → tells → (job : Job) (r : Scope) (next : Cuts → ℕ → Bool) (terms : Terms job r next) (st : Start) (es : List Entry) (s n : State) → Begins job r next terms st s
@@ -137,5 +149,5 @@ round_goes_on tells t job r next terms st es s n b l =
     let sound_first : IsSoundAt job b.desk (had_now s.disk) = subst (λ (h : Had). IsSoundAt job b.desk h) (sym b.settled.is) (open_sound job b.files b.desk b.is) in
     let begun : Sound job (shown s.disk s.core b.desk) = subst (Sound job) (sym (shown_first r st s.disk s.core b.desk b.core)) sound_first in
     let good = running_faultless tells t job r next terms s b.desk (sym b.cuts) here (ap (λ (c : Core). c.front.stop) b.core) begun in
-    let on = goes_on tells t job r next terms es s n b.desk sound (sym b.cuts) here begun good l in
+    let on = goes_on tells t job r next terms es s n b.desk sound (sym b.cuts) here (begins_shelf job r next terms st s b) begun good l in
     record { come = on.0.each; faultless = on.1; due_is = on.2 }

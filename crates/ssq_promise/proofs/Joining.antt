@@ -13,10 +13,10 @@ use Rattle.ssq_core.specs.Laws.{acknowledged}
 use Rattle.ssq_board.specs.declared.front.Entry.{Entry}
 use Rattle.ssq_board.specs.Core.{Scope, Core, events_all}
 use Rattle.ssq_board.specs.Shown.{Start, IsSound, first}
-use Rattle.ssq_board.specs.Follows.{Terms, State, Leads, Shows, shown, life_of}
+use Rattle.ssq_board.specs.Follows.{Terms, State, Leads, Shows, ShowsShelf, shown, life_of}
 use Rattle.ssq_board.specs.Told.{acknowledged_of}
 use Rattle.ssq_board.proofs.Following.{list_follows}
-use Rattle.ssq_board.proofs.Opening.{shows_first}
+use Rattle.ssq_board.proofs.Opening.{shows_first, shelf_first}
 use Rattle.ssq_board.proofs.Sounds.{first_sound}
 use Rattle.ssq_promise.specs.Run.{closed, WasRun, Begins}
 
@@ -74,13 +74,17 @@ first_runs r st c is = ap (λ (x : Core). x.front.stop) is ∙ by st.is_planned
 pub shown_first : (r : Scope) (st : Start) (disk : History) (c : Core) (d : Desk) → c ≡ first r st → shown disk c d ≡ record { disk = disk; desk = Some d; life = running }
 shown_first r st disk c d is = ap (λ l. record { disk = disk; desk = Some d; life = life_of l }) (first_runs r st c is)
 
+-- the shelf shows the desk that is opened
+pub begins_shelf : (job : Job) (r : Scope) (due : Cuts → ℕ → Bool) (terms : Terms job r due) (st : Start) (s : State) (b : Begins job r due terms st s) → ShowsShelf s.core s.shelf b.desk
+begins_shelf job r due terms st s b = subst (λ (c : Core). ShowsShelf c s.shelf b.desk) (sym b.core) (shelf_first job r st b.files b.desk s.shelf b.at.committed b.is b.shelf st.is_planned)
+
 pub round_is_run : (tells : Type 0) → tells → (job : Job) (r : Scope) (due : Cuts → ℕ → Bool) (terms : Terms job r due) (st : Start) (es : List Entry) (s n : State) → Begins job r due terms st s
     → Leads tells job r due s es n → WasRun tells job s.disk n.disk (acknowledged_of r st es)
 round_is_run tells t job r due terms st es s n b l =
     let shows : Shows job r due terms (first r st) b.desk = shows_first job r due terms st b.files b.desk b.at.committed b.at.begins b.at.from b.is st.is_planned b.at.planned b.at.to b.at.due in
     let here : Shows job r due terms s.core b.desk = subst (λ (x : Core). Shows job r due terms x b.desk) (sym b.core) shows in
     let sound : IsSound r s.core = subst (IsSound r) (sym b.core) (first_sound r st b.at.start) in
-    let f = list_follows tells job r due terms t es s n b.desk sound (sym b.cuts) here l in
+    let f = list_follows tells job r due terms t es s n b.desk sound (sym b.cuts) here (begins_shelf job r due terms st s b) l in
     let evs = events_all r s.core es in
     let begun : machine.Leads tells job (record { disk = s.disk; desk = Some b.desk; life = running }) evs (shown n.disk n.core f.0) = subst (λ (x : machine.State). machine.Leads tells job x evs (shown n.disk n.core f.0)) (shown_first r st s.disk s.core b.desk b.core) f.1 in
     let ended : machine.Leads tells job (shown n.disk n.core f.0) (event.End ∷ []) (closed n.disk) = (closed n.disk, refl, refl) in

@@ -4,14 +4,14 @@ use Rattle.std.specs.Prelude.{IsSome, is_some}
 use Rattle.std.proofs.lemmas.Bool.{cases_lt, ltb-true, ltb-false}
 use Rattle.ssq_outside.specs.declared.name.Name.{Name}
 use Rattle.ssq_outside.specs.declared.name.Name.TheVariants as name
-use Rattle.ssq_outside.specs.Files.{Content, Files, Had, MayBe, IsImage, IsSyncStep, added, settled_at}
+use Rattle.ssq_outside.specs.Files.{Content, Files, Had, MayBe, IsImage, IsSyncStep, added, removed, settled_at}
 use Rattle.ssq_outside.specs.History.{History, had_now, files_now, LeavesNow, Elapses}
 use Rattle.ssq_core.specs.Course.{Course, Ends, Cuts, Job, AgreeUpTo, AreSameUpTo, truth}
 use Rattle.ssq_core.specs.Standing.{is_allowed}
 use Rattle.ssq_core.specs.Settled.{IsSettledAs}
-use Rattle.ssq_core.specs.Machine.{Desk, opened, publishes, seals_by}
+use Rattle.ssq_core.specs.Machine.{Desk, opened, publishes, seals_by, upkeep, out, waits}
 use Rattle.ssq_core.specs.Sound.{Sound, IsSoundAt}
-use Rattle.ssq_core.proofs.Hads.{added_cases, settled_may}
+use Rattle.ssq_core.proofs.Hads.{added_cases, removed_cases, settled_may}
 use Rattle.ssq_core.proofs.Holding.{agree_truth, lt_true, more_allowed}
 use Rattle.ssq_core.proofs.Desks.{settled_first}
 use Rattle.ssq_core.proofs.Moves.{moves_on, open_sound}
@@ -20,15 +20,15 @@ use Rattle.ssq_board.specs.declared.front.Entry.TheVariants as entry
 use Rattle.ssq_outside.specs.declared.gate.TaskId.{TaskId}
 use Rattle.ssq_outside.specs.declared.gate.Kind.TheVariants as kind
 use Rattle.ssq_board.specs.declared.front.Cause.{Cause}
-use Rattle.ssq_board.specs.Core.{Scope, Core, May, comes_back, cuts_by, events_all, extended, is_behind, is_open, is_stopped, next_ends}
+use Rattle.ssq_board.specs.Core.{Scope, Core, May, fails_apart, cuts_by, events_all, extended, is_behind, is_open, is_stopped, next_ends}
 use Rattle.ssq_board.specs.Shown.{Start, IsSound}
-use Rattle.ssq_board.specs.Follows.{Terms, State, Step, Leads, Shows, Goes, Tries, IsTried, BringsVersion, publishes_by, change_of, shown}
+use Rattle.ssq_board.specs.Follows.{Terms, State, Step, Leads, Shows, Goes, Tries, ShowsShelf, IsTried, BringsVersion, publishes_by, makes_by, change_of, shown}
 use Rattle.ssq_board.proofs.Following.{list_follows}
 use Rattle.ssq_board.proofs.Lists.{nat_lt-not}
 use Rattle.ssq_board.proofs.Opening.{shows_first}
 use Rattle.ssq_board.proofs.Sounds.{first_sound, step_sound}
 use Rattle.ssq_promise.specs.Run.{Begins, AreTrueTo, AreFilesOf, as_planned, one_tried}
-use Rattle.ssq_promise.proofs.Joining.{shown_first}
+use Rattle.ssq_promise.proofs.Joining.{shown_first, begins_shelf}
 use Rattle.ssq_promise.proofs.Leaving.{sound_by}
 
 -- each content that a name may have is the true one, and of an epoch below this one
@@ -85,6 +85,10 @@ added_true course n had q has may r c is = elim (added_cases q r (truth course q
   | inr new ↦ inr (new.1 ∙ ap (λ (x : Name). Some (truth course x)) (sym new.0), subst (λ (x : Name). is_allowed course.keeping n n x ≡ true) (sym new.0) may)
 ]
 
+-- and with one file less
+removed_true : (course : Course) (n : ℕ) (had : Had) (q : Name) → HasTruth course n had → HasTruth course n (removed q had)
+removed_true course n had q has r c is = elim (removed_cases q r c had is) [ inl old ↦ has r c old | inr gone ↦ inl gone.1 ]
+
 agree_true : (one other : Course) (n : ℕ) (had : Had) → AgreeUpTo one other n → HasTruth one n had → HasTruth other n had
 agree_true one other n had agree has q c may = elim (has q c may) [
   | inl none ↦ inl none
@@ -96,6 +100,9 @@ more_true course n had has q c may = elim (has q c may) [
   | inl none ↦ inl none
   | inr so ↦ inr (so.0, more_allowed course.keeping n n (n + 1) (n + 1) q (omega arith) (omega arith) so.1)
 ]
+
+out_waits : out ≡ waits → ⊥
+out_waits e = cc
 
 -- ---- cuts that go on
 
@@ -146,7 +153,7 @@ module _ (job : Job) (r : Scope) (next : Cuts → ℕ → Bool) (terms : Terms j
       more_true (job.course (extended cuts n ends)) n had (agree_true (job.course cuts) (job.course (extended cuts n ends)) n had (terms.causal.agrees cuts (extended cuts n ends) n (λ e le. sym (extended_below cuts n ends e le))) has)
 
   -- a call that failed
-  tried_true : (old new : History) (c : Core) (cuts : Cuts) (e : Entry) → HasTruth (job.course cuts) c.front.planned (had_now old) → May r c e → comes_back e ≡ false → Tries (change_of job c (cuts_by r cuts c e) e) old new
+  tried_true : (old new : History) (c : Core) (cuts : Cuts) (e : Entry) → HasTruth (job.course cuts) c.front.planned (had_now old) → May r c e → fails_apart e ≡ false → Tries (change_of job c (cuts_by r cuts c e) e) old new
       → IsTrueSo job r new cuts c.front.planned c.ends c.front.due c.front.committed c.front.settled
   tried_true old new c cuts (entry.Plan e) has may other step =
       so_tried (ltb-false c.front.committed c.front.planned may.2) may.3 may.4 (file_tried old new (extended cuts c.front.planned (next_ends r.cap c.ends r.available)) (c.front.planned + 1) (name.Plan e) (plan_true cuts c.front.planned (next_ends r.cap c.ends r.available) (had_now old) has)
@@ -163,6 +170,12 @@ module _ (job : Job) (r : Scope) (next : Cuts → ℕ → Bool) (terms : Terms j
   tried_true old new c cuts (entry.Report t f) has may other step = absurd (true≢false other)
   tried_true old new c cuts (entry.Version t) has may other step = absurd (true≢false other)
   tried_true old new c cuts (entry.Missed t) has may other step = absurd (true≢false other)
+  tried_true old new c cuts (entry.Upkeep p v) has may other step = so_far (subst (λ (h : History). HasTruth (job.course cuts) c.front.planned (had_now h)) (sym step) has)
+  tried_true old new c cuts (entry.Snapshot p v) has may other step = absurd (true≢false other)
+  tried_true old new c cuts (entry.Unmade p v f) has may other step = absurd (true≢false other)
+  tried_true old new c cuts (entry.Untaken p v) has may other step = absurd (true≢false other)
+  tried_true old new c cuts (entry.Drop q) has may other step = absurd (true≢false other)
+  tried_true old new c cuts (entry.Undropped q) has may other step = absurd (true≢false other)
   tried_true old new c cuts (entry.Stop f) has may other step = so_far (subst (λ (h : History). HasTruth (job.course cuts) c.front.planned (had_now h)) (sym step) has)
 
   stop_true : (old new : History) (c : Core) (cuts : Cuts) (change : _) → HasTruth (job.course cuts) c.front.planned (had_now old) → IsTried job r c cuts change → Tries change old new → IsTrueSo job r new cuts c.front.planned c.ends c.front.due c.front.committed c.front.settled
@@ -178,6 +191,14 @@ module _ (job : Job) (r : Scope) (next : Cuts → ℕ → Bool) (terms : Terms j
       let keeps : nat_lt t.number (job.course cuts).keeping ≡ true = ap (seals_by (job.course cuts) t) (sym same) ∙ brings.1 in
       let planned : nat_lt t.epoch c.front.planned ≡ true = lt_true t.epoch c.front.planned (let l = ltb-true c.front.committed c.front.planned opened in omega (arith, epoch, l)) in
       file_tried old new cuts c.front.planned (name.Delta t.number t.epoch) has (both_true keeps planned) step
+
+  -- a snapshot that is being made is of a partition that keeps state, and of an epoch that is planned
+  snapshot_allowed : (s : State) (d : Desk) (p v : ℕ) → d.cuts ≡ s.cuts → Shows job r next terms s.core d → d.tasks (upkeep p v) ≡ out → IsSoundAt job d (had_now s.disk) → is_allowed (job.course s.cuts).keeping s.core.front.planned s.core.front.planned (name.Snapshot p v) ≡ true
+  snapshot_allowed s d p v cuts shows away sound =
+      let keeps : p < (job.course d.cuts).keeping = elim (sound.holdings.upkept (upkeep p v) refl) [ inl none ↦ absurd (out_waits (sym away ∙ none)) | inr less ↦ less ] in
+      let keeps' : p < (job.course s.cuts).keeping = subst (λ (k : Cuts). p < (job.course k).keeping) cuts keeps in
+      let planned : v < s.core.front.planned = elim (cases_lt v s.core.front.planned) [ inl less ↦ less | inr most ↦ absurd (out_waits (sym away ∙ shows.later (upkeep p v) most)) ] in
+      both_true (lt_true p (job.course s.cuts).keeping keeps') (lt_true v s.core.front.planned planned)
 
   -- what a running desk shows is true to the cuts
   running_true : (s : State) (d : Desk) → d.cuts ≡ s.cuts → Shows job r next terms s.core d → s.core.front.stop ≡ None → Sound job (shown s.disk s.core d) → HasTruth (job.course s.cuts) s.core.front.planned (had_now s.disk)
@@ -197,17 +218,17 @@ module _ (job : Job) (r : Scope) (next : Cuts → ℕ → Bool) (terms : Terms j
         (subst (λ (m : ℕ). IsTrueSo job r s.disk s.cuts s.core.front.planned s.core.ends s.core.front.due m n.core.front.settled) (sym committed)
         (subst (λ (b : Bool). IsTrueSo job r s.disk s.cuts s.core.front.planned s.core.ends s.core.front.due s.core.front.committed b) (sym settled) is))))))
 
-    step_true : (e : Entry) (s n : State) (d d' : Desk) → Step tells job r next s e n → d.cuts ≡ s.cuts → Shows job r next terms s.core d → Sound job (shown s.disk s.core d)
+    step_true : (e : Entry) (s n : State) (d d' : Desk) → Step tells job r next s e n → d.cuts ≡ s.cuts → Shows job r next terms s.core d → ShowsShelf s.core s.shelf d → Sound job (shown s.disk s.core d)
         → d'.cuts ≡ n.cuts → Shows job r next terms n.core d' → Sound job (shown n.disk n.core d') → IsTrueState job r s → IsTrueState job r n
-    step_true (entry.Plan e) s n d d' step cuts shows sound cuts' shows' sound' is = so_far (running_true n d' cuts' shows' (ap (λ (c : Core). c.front.stop) step.core) sound')
-    step_true (entry.OutFile e) s n d d' step cuts shows sound cuts' shows' sound' is = so_far (running_true n d' cuts' shows' (ap (λ (c : Core). c.front.stop) step.core) sound')
-    step_true (entry.Commit e due) s n d d' step cuts shows sound cuts' shows' sound' is = so_far (running_true n d' cuts' shows' (ap (λ (c : Core). c.front.stop) step.core) sound')
-    step_true (entry.Sync clock) s n d d' step cuts shows sound cuts' shows' sound' is = so_far (running_true n d' cuts' shows' (ap (λ (c : Core). c.front.stop) step.core) sound')
-    step_true (entry.Claim u) s n d d' step cuts shows sound cuts' shows' sound' is =
+    step_true (entry.Plan e) s n d d' step cuts shows held sound cuts' shows' sound' is = so_far (running_true n d' cuts' shows' (ap (λ (c : Core). c.front.stop) step.core) sound')
+    step_true (entry.OutFile e) s n d d' step cuts shows held sound cuts' shows' sound' is = so_far (running_true n d' cuts' shows' (ap (λ (c : Core). c.front.stop) step.core) sound')
+    step_true (entry.Commit e due) s n d d' step cuts shows held sound cuts' shows' sound' is = so_far (running_true n d' cuts' shows' (ap (λ (c : Core). c.front.stop) step.core) sound')
+    step_true (entry.Sync clock) s n d d' step cuts shows held sound cuts' shows' sound' is = so_far (running_true n d' cuts' shows' (ap (λ (c : Core). c.front.stop) step.core) sound')
+    step_true (entry.Claim u) s n d d' step cuts shows held sound cuts' shows' sound' is =
         still_true s n (step.moves t) step.cuts (ap (λ (c : Core). c.front.planned) step.core) (ap (λ (c : Core). c.ends) step.core) (ap (λ (c : Core). c.front.due) step.core) (ap (λ (c : Core). c.front.committed) step.core) (ap (λ (c : Core). c.front.settled) step.core) is
-    step_true (entry.Report u f) s n d d' step cuts shows sound cuts' shows' sound' is =
+    step_true (entry.Report u f) s n d d' step cuts shows held sound cuts' shows' sound' is =
         still_true s n (step.moves t) step.cuts (ap (λ (c : Core). c.front.planned) step.core) (ap (λ (c : Core). c.ends) step.core) (ap (λ (c : Core). c.front.due) step.core) (ap (λ (c : Core). c.front.committed) step.core) (ap (λ (c : Core). c.front.settled) step.core) is
-    step_true (entry.Version u) s n d d' step cuts shows sound cuts' shows' sound' is = by s.core.front.stop refl
+    step_true (entry.Version u) s n d d' step cuts shows held sound cuts' shows' sound' is = by s.core.front.stop refl
       where
         -- after a Stop nothing was done to the disk
         by : (o : Option Cause) → s.core.front.stop ≡ o → IsTrueState job r n
@@ -220,13 +241,40 @@ module _ (job : Job) (r : Scope) (next : Cuts → ℕ → Bool) (terms : Terms j
             let kept : n.disk ≡ s.disk = subst (λ (o : Option Cause). Goes (publishes_by job s.cuts u o) s.disk n.disk) stops (step.moves t) in
             still_true s n kept step.cuts (ap (λ (c : Core). c.front.planned) step.core) (ap (λ (c : Core). c.ends) step.core) (ap (λ (c : Core). c.front.due) step.core) (ap (λ (c : Core). c.front.committed) step.core)
             (ap (λ (c : Core). c.front.settled) step.core ∙ ap (λ (o : Option Cause). is_stopped o && s.core.front.settled) stops) is
-    step_true (entry.Missed u) s n d d' step cuts shows sound cuts' shows' sound' is =
+    step_true (entry.Missed u) s n d d' step cuts shows held sound cuts' shows' sound' is =
         let has = delta_true s.disk n.disk s.core s.cuts u (running_true s d cuts shows step.may.4 sound) step.may.1 step.may.0 step.may.3 (step.right t) (step.moves t) in
         so_far (subst (λ (m : ℕ). HasTruth (job.course n.cuts) m (had_now n.disk)) (sym (ap (λ (c : Core). c.front.planned) step.core))
         (subst (λ (k : Cuts). HasTruth (job.course k) s.core.front.planned (had_now n.disk)) (sym step.cuts) has))
-    step_true (entry.Stop f) s n d d' step cuts shows sound cuts' shows' sound' is =
+    step_true (entry.Upkeep p v) s n d d' step cuts shows held sound cuts' shows' sound' is =
+        still_true s n (step.moves t) step.cuts (ap (λ (c : Core). c.front.planned) step.core) (ap (λ (c : Core). c.ends) step.core) (ap (λ (c : Core). c.front.due) step.core) (ap (λ (c : Core). c.front.committed) step.core) (ap (λ (c : Core). c.front.settled) step.core) is
+    step_true (entry.Snapshot p v) s n d d' step cuts shows held sound cuts' shows' sound' is = by s.core.front.stop refl
+      where
+        -- after a Stop nothing was done to the disk
+        by : (o : Option Cause) → s.core.front.stop ≡ o → IsTrueState job r n
+        by None runs = so_far (running_true n d' cuts' shows' (ap (λ (c : Core). c.front.stop) step.core ∙ runs) sound')
+        by (Some f) stops =
+            let kept : n.disk ≡ s.disk = subst (λ (o : Option Cause). Goes (makes_by job s.cuts p v o) s.disk n.disk) stops (step.moves t) in
+            still_true s n kept step.cuts (ap (λ (c : Core). c.front.planned) step.core) (ap (λ (c : Core). c.ends) step.core) (ap (λ (c : Core). c.front.due) step.core) (ap (λ (c : Core). c.front.committed) step.core) (ap (λ (c : Core). c.front.settled) step.core) is
+    step_true (entry.Unmade p v f) s n d d' step cuts shows held sound cuts' shows' sound' is =
+        still_true s n (step.moves t) step.cuts (ap (λ (c : Core). c.front.planned) step.core) (ap (λ (c : Core). c.ends) step.core) (ap (λ (c : Core). c.front.due) step.core) (ap (λ (c : Core). c.front.committed) step.core) (ap (λ (c : Core). c.front.settled) step.core) is
+    step_true (entry.Untaken p v) s n d d' step cuts shows held sound cuts' shows' sound' is =
+        let out = held.claimed p v step.keeps in
+        let was = running_true s d cuts shows step.may sound in
+        let has = file_tried s.disk n.disk s.cuts s.core.front.planned (name.Snapshot p v) was (snapshot_allowed s d p v cuts shows out (sound_by job s.core.front.stop d (had_now s.disk) step.may sound)) (step.moves t) in
+        so_far (subst (λ (m : ℕ). HasTruth (job.course n.cuts) m (had_now n.disk)) (sym (ap (λ (c : Core). c.front.planned) step.core))
+        (subst (λ (k : Cuts). HasTruth (job.course k) s.core.front.planned (had_now n.disk)) (sym step.cuts) has))
+    step_true (entry.Drop q) s n d d' step cuts shows held sound cuts' shows' sound' is = so_far (running_true n d' cuts' shows' (ap (λ (c : Core). c.front.stop) step.core ∙ step.may) sound')
+    step_true (entry.Undropped q) s n d d' step cuts shows held sound cuts' shows' sound' is =
+        let was = running_true s d cuts shows step.may sound in
+        let has : HasTruth (job.course s.cuts) s.core.front.planned (had_now n.disk) = elim (elapsed_now s.disk n.disk (λ (had : Had). had ≡ removed q (had_now s.disk)) (step.moves t)) [
+          | inl same ↦ subst (HasTruth (job.course s.cuts) s.core.front.planned) (sym same) was
+          | inr gone ↦ subst (HasTruth (job.course s.cuts) s.core.front.planned) (sym gone) (removed_true (job.course s.cuts) s.core.front.planned (had_now s.disk) q was)
+        ] in
+        so_far (subst (λ (m : ℕ). HasTruth (job.course n.cuts) m (had_now n.disk)) (sym (ap (λ (c : Core). c.front.planned) step.core))
+        (subst (λ (k : Cuts). HasTruth (job.course k) s.core.front.planned (had_now n.disk)) (sym step.cuts) has))
+    step_true (entry.Stop f) s n d d' step cuts shows held sound cuts' shows' sound' is =
         let m = step.moves t in
-        let mid : State = record { disk = n.disk; core = s.core; cuts = s.cuts } in
+        let mid : State = record { disk = n.disk; core = s.core; shelf = s.shelf; cuts = s.cuts } in
         still_true mid n refl step.cuts (ap (λ (c : Core). c.front.planned) step.core) (ap (λ (c : Core). c.ends) step.core) (ap (λ (c : Core). c.front.due) step.core) (ap (λ (c : Core). c.front.committed) step.core) (ap (λ (c : Core). c.front.settled) step.core)
         (stop_true s.disk n.disk s.core s.cuts m.0 (running_true s d cuts shows step.may.0 sound) m.1 m.2)
 
@@ -238,15 +286,15 @@ module _ (job : Job) (r : Scope) (next : Cuts → ℕ → Bool) (terms : Terms j
     closed_due s d cuts shows all = shows.due (nat_lt-not s.core.front.committed s.core.front.planned all) ∙ ap (λ (k : Cuts). next k s.core.front.planned) cuts
 
     -- and so it is of what entries lead to
-    run_true : (es : List Entry) (s n : State) (d : Desk) → IsSound r s.core → d.cuts ≡ s.cuts → Shows job r next terms s.core d → Sound job (shown s.disk s.core d) → IsTrueState job r s → Leads tells job r next s es n
+    run_true : (es : List Entry) (s n : State) (d : Desk) → IsSound r s.core → d.cuts ≡ s.cuts → Shows job r next terms s.core d → ShowsShelf s.core s.shelf d → Sound job (shown s.disk s.core d) → IsTrueState job r s → Leads tells job r next s es n
         → IsTrueState job r n × (n.cuts n.core.front.planned ≡ n.core.ends) × IsDueSo n
-    run_true [] s n d core cuts shows sound is l =
+    run_true [] s n d core cuts shows held sound is l =
         subst (λ (x : State). IsTrueState job r x × (x.cuts x.core.front.planned ≡ x.core.ends) × IsDueSo x) l (is, ap (λ (k : Cuts). k s.core.front.planned) (sym cuts) ∙ shows.ends, closed_due s d cuts shows)
-    run_true (e ∷ es) s n d core cuts shows sound is l =
+    run_true (e ∷ es) s n d core cuts shows held sound is l =
         let mid = l.0 in
-        let one = list_follows tells job r next terms t (e ∷ []) s mid d core cuts shows (mid, l.1, refl) in
+        let one = list_follows tells job r next terms t (e ∷ []) s mid d core cuts shows held (mid, l.1, refl) in
         let later : Sound job (shown mid.disk mid.core one.0) = (moves_on tells job (events_all r s.core (e ∷ [])) (shown s.disk s.core d) (shown mid.disk mid.core one.0) t terms.causal sound one.1).sound in
-        run_true es mid n one.0 (subst (IsSound r) (sym l.1.core) (step_sound r s.core e l.1.may core)) one.2 one.3 later (step_true e s mid d one.0 l.1 cuts shows sound one.2 one.3 later is) l.2
+        run_true es mid n one.0 (subst (IsSound r) (sym l.1.core) (step_sound r s.core e l.1.may core)) one.2 one.3 one.4 later (step_true e s mid d one.0 l.1 cuts shows held sound one.2 one.3 later is) l.2
 
 pub either_of : (a b : Bool) → (a || b) ≡ true → (a ≡ true) ⊎ (b ≡ true)
 either_of true b is = inl refl
@@ -284,5 +332,5 @@ round_leaves_true tells t job r next terms st es s n b l cuts same =
     let begun : Sound job (shown s.disk s.core b.desk) = subst (Sound job) (sym (shown_first r st s.disk s.core b.desk b.core)) sound_first in
     let first_true : IsTrueState job r s = so_far (subst (λ (m : ℕ). HasTruth (job.course s.cuts) m (had_now s.disk)) here.planned
     (subst (λ (k : Cuts). HasTruth (job.course k) b.desk.planned (had_now s.disk)) (sym b.cuts) (sound_true job b.desk (had_now s.disk) sound_first))) in
-    let last = run_true job r next terms tells t es s n b.desk sound (sym b.cuts) here begun first_true l in
+    let last = run_true job r next terms tells t es s n b.desk sound (sym b.cuts) here (begins_shelf job r next terms st s b) begun first_true l in
     files_by job r next terms n cuts last.0 last.1 last.2 same

@@ -15,6 +15,7 @@ use Rattle.ssq_core.specs.Laws.{acknowledged, HasEpoch}
 use Rattle.ssq_board.specs.declared.front.Entry.{Entry}
 use Rattle.ssq_board.specs.Core.{Scope, is_open, is_behind, next_ends, extended}
 use Rattle.ssq_board.specs.Shown.{Start, first}
+use Rattle.ssq_board.specs.Shelf.{IsFirstShelf, AreListed}
 use Rattle.ssq_board.specs.Follows.{Terms, State, Leads}
 use Rattle.ssq_board.specs.Laws.{IsOpenedAt}
 use Rattle.ssq_board.specs.Told.{acknowledged_of}
@@ -42,6 +43,7 @@ pub record Begins (job : Job) (r : Scope) (due : Cuts → ℕ → Bool) (terms :
   pub at : IsOpenedAt job r due terms st desk
   pub core : s.core ≡ first r st
   pub cuts : s.cuts ≡ desk.cuts
+  pub shelf : IsFirstShelf files s.shelf
 
 -- the entries of a round's desk are a run
 abbrev pub RoundIsRun : Type 0 → Type 0
@@ -51,7 +53,7 @@ RoundIsRun tells = tells → (job : Job) (r : Scope) (due : Cuts → ℕ → Boo
 abbrev pub RunsAreJoined : Type 0 → Type 0
 RunsAreJoined tells = (job : Job) (start mid now : History) (told more : List ℕ) → WasRun tells job start mid told → WasRun tells job mid now more → WasRun tells job start now (told ++ more)
 
--- What a round left that is over: its files are settled, and for any cuts that are the round's as far as epochs are planned, a desk of the
+-- What a round left that is over: its files are settled, it knows which of the state are there, and for any cuts that are the round's as far as epochs are planned, a desk of the
 -- machine opens on them.
 pub record IsLeft (job : Job) (n : State) (cuts : Cuts) : Type 0 where
   pub settled : IsSettledAs n.disk (files_now n.disk)
@@ -60,10 +62,11 @@ pub record IsLeft (job : Job) (n : State) (cuts : Cuts) : Type 0 where
   pub are : desk.cuts ≡ cuts
   pub planned : desk.planned ≡ n.core.front.planned
   pub committed : desk.committed ≡ n.core.front.committed
+  pub listed : AreListed (files_now n.disk) n.shelf.settled
 
 abbrev pub RoundLeavesFound : Type 0 → Type 0
 RoundLeavesFound tells = tells → (job : Job) (r : Scope) (due : Cuts → ℕ → Bool) (terms : Terms job r due) (st : Start) (es : List Entry) (s n : State) → Begins job r due terms st s
-    → Leads tells job r due s es n → n.core.front.stop ≡ None → n.core.front.settled ≡ true → is_open n.core ≡ false
+    → Leads tells job r due s es n → n.core.front.stop ≡ None → n.core.front.settled ≡ true → n.shelf.tidy ≡ true → is_open n.core ≡ false
     → (cuts : Cuts) → AreSameUpTo cuts n.cuts n.core.front.planned → IsLeft job n cuts
 
 -- The files are true to the course: each that is there is the true one of its name, and none is of an epoch from this one on.

@@ -24,3 +24,24 @@ returns-clause-room c =
     let k = c.room_of.ensures in
     let q = c.in_ok-entries.ensures.capacity in
     omega arith
+
+pub room_of-requires-2 : goal.room_of-requires-2
+room_of-requires-2 c =
+    let d = subst (IsSound c.args.scope.now) (sym c.in_ok-board.ensures) (first_sound c.args.scope.now c.args.start c.requires.start) in
+    let few = c.requires.few in
+    let n = c.count-2.ensures in
+    omega (arith, d.maps, d.reduces, d.outs)
+
+pub count-requires-2 : goal.count-requires-2
+count-requires-2 c =
+    let d = subst (IsSound c.args.scope.now) (sym c.in_ok-board.ensures) (first_sound c.args.scope.now c.args.start c.requires.start) in
+    let few = c.requires.few in
+    omega (arith, d.maps, d.reduces, d.outs)
+
+pub returns-clause-names_room : goal.returns-clause-names_room
+returns-clause-names_room c =
+    let b = need_bound c.in_ok-board.board in
+    let n = c.count-2.ensures in
+    let k = c.room_of-2.ensures in
+    let q = c.in_ok-names.ensures.capacity in
+    omega arith

@@ -10,7 +10,8 @@ use Rattle.ssq_board.specs.Core.{May, ready_of}
 use Rattle.ssq_board.proofs.Readies.{commit_may}
 use Rattle.ssq_board.proofs.Sounds.{open_less}
 use Rattle.ssq_ledger.specs.Shown.{Shown, cuts_of, cuts_after}
-use Rattle.ssq_ledger.proofs.Ledgers.{held, has_room, spent}
+use Rattle.ssq_ledger.proofs.Ledgers.{held, has_room}
+use Rattle.ssq_ledger.proofs.Shelves.{spent_both}
 use Rattle.ssq_ledger.proofs.Moves.{went, tried}
 use Rattle.ssq_ledger.proofs.ledger.Ledger.commit.Goals as goal
 
@@ -25,20 +26,20 @@ commit-requires-clause-last g c =
     let s = c.self.inside in
     let m = commit_may s.scope s.board c.args.due (subst (λ (x : Shown g.row.D.Denot g.row.O.Denot). ready_of x.scope x.core ≡ ready.Commit) (sym c.self.view_is) c.requires.ready) in
     let less : s.board.front.committed < s.board.front.planned = open_less s.board m.2 in
-    let d = held _ _ _ _ _ _ _ _ c.self.invariant in
+    let d = held _ _ _ _ _ _ _ _ c.self.invariant.0 in
     omega (arith, less, d.near)
 
 pub push_reserved-requires : goal.push_reserved-requires
 push_reserved-requires g c =
     let s = c.self.inside in
     let m = commit_may s.scope s.board c.args.due (subst (λ (x : Shown g.row.D.Denot g.row.O.Denot). ready_of x.scope x.core ≡ ready.Commit) (sym c.self.view_is) c.requires.ready) in
-    subst (λ n. n < s.entries.cap) (sym s.entries.ok.0) (has_room _ _ _ _ _ _ _ _ c.self.invariant (entry.Commit s.board.front.committed c.args.due) m refl)
+    subst (λ n. n < s.entries.cap) (sym s.entries.ok.0) (has_room _ _ _ _ _ _ _ _ c.self.invariant.0 (entry.Commit s.board.front.committed c.args.due) m refl)
 
 pub halt-requires : goal.halt-requires
 halt-requires g c =
     let s = c.self.inside in
     let m = commit_may s.scope s.board c.args.due (subst (λ (x : Shown g.row.D.Denot g.row.O.Denot). ready_of x.scope x.core ≡ ready.Commit) (sym c.self.view_is) c.requires.ready) in
-    has_room _ _ _ _ _ _ _ _ c.self.invariant (entry.Stop cause.DiskFault) (m.0, tt) refl
+    has_room _ _ _ _ _ _ _ _ c.self.invariant.0 (entry.Stop cause.DiskFault) (m.0, tt) refl
 
 pub invariant_of-self : goal.invariant_of-self
 invariant_of-self g c =
@@ -55,7 +56,7 @@ invariant_of-self g c =
     (λ t. subst (λ (x : Shown g.row.D.Denot g.row.O.Denot). g.D.Disk.tells × g.O.Opening.tells x.opening x.scope → c.args.due ≡ (g.O.Opening.opening x.opening).due (cuts_of g.O.Opening.opening x) (x.core.front.committed + 1)) (sym c.self.view_is) c.requires.due t
     ∙ ap (λ n. o.due (cuts_after o s.scope s.entries.items) (n + 1)) (sym epoch)) in
     let kept : s.entries.cap ≤ c.push_reserved.new.self.cap = (let k = c.push_reserved.ensures.capacity in omega arith) in
-    spent _ _ _ _ _ _ _ _ c.self.invariant _ _ _ _ e refl m' (λ t. went (name.Commit c.front-epoch.result.committed) _ _ _ _ (right t) (c.publish.ensures.steps t.0) (c.in-Ok.ensures.ok t.0)) due c.commit.ensures c.push_reserved.ensures.items kept
+    spent_both _ _ _ _ _ _ _ _ c.self.invariant.0 _ c.self.invariant.1 _ _ _ _ e refl refl m' (λ t. went (name.Commit c.front-epoch.result.committed) _ _ _ _ (right t) (c.publish.ensures.steps t.0) (c.in-Ok.ensures.ok t.0)) due c.commit.ensures c.push_reserved.ensures.items kept
 
 pub invariant_of-self-in-Err : goal.invariant_of-self-in-Err
 invariant_of-self-in-Err g c =
@@ -69,6 +70,6 @@ invariant_of-self-in-Err g c =
     (λ t. subst (λ (x : Shown g.row.D.Denot g.row.O.Denot). g.D.Disk.tells × g.O.Opening.tells x.opening x.scope → g.D.Stage.Stage.sealed c.args.file ≡ truth ((g.O.Opening.opening x.opening).job.course (cuts_of g.O.Opening.opening x)) (name.Commit x.core.front.committed)) (sym c.self.view_is) c.requires.right t
     ∙ ap (λ n. truth (o.job.course (cuts_after o s.scope s.entries.items)) (name.Commit n)) (sym epoch)) in
     let kept : s.entries.cap ≤ c.halt.new.entries.cap = (let k = c.halt.ensures.capacity in omega arith) in
-    spent _ _ _ _ _ _ _ _ c.self.invariant _ _ _ _ (entry.Stop cause.DiskFault) refl (m.0, tt)
+    spent_both _ _ _ _ _ _ _ _ c.self.invariant.0 _ c.self.invariant.1 _ _ _ _ (entry.Stop cause.DiskFault) refl refl (m.0, tt)
     (λ t. (publishes (name.Commit c.front-epoch.result.committed) (truth (o.job.course (cuts_after o s.scope s.entries.items)) (name.Commit c.front-epoch.result.committed)), inr (e, m', refl, refl), tried (name.Commit c.front-epoch.result.committed) _ _ _ _ (right t) (c.publish.ensures.steps t.0)))
     (λ t. tt) c.halt.ensures.board c.halt.ensures.items kept

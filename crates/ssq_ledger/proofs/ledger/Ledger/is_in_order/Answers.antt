@@ -1,5 +1,5 @@
 use Rattle.std.proofs.Common.{refl, subst}
-use Rattle.ssq_ledger.specs.Shown.{Shown, IsInOrder, first_state, state, cuts_after}
+use Rattle.ssq_ledger.specs.Shown.{Shown, IsInOrder, first_state, state, cuts_after, shelf_after}
 use Rattle.ssq_ledger.proofs.Ledgers.{held}
 use Rattle.ssq_ledger.proofs.Closings.{between_epochs, out_between}
 use Rattle.ssq_ledger.proofs.Written.{unwritten}
@@ -9,11 +9,11 @@ use Rattle.ssq_ledger.proofs.ledger.Ledger.is_in_order.Goals as goal
 pub returns : goal.returns
 returns g c =
     let s = c.self.inside in
-    let d = c.self.invariant in
+    let d = c.self.invariant.0 in
     let o = g.O.Opening.opening s.opening.value in
     let tells = g.D.Disk.tells × g.O.Opening.tells s.opening.value s.scope in
     let from = first_state o s.scope (g.D.Disk.history s.opened.value) in
-    let to = state d.until s.board (cuts_after o s.scope s.entries.items) in
+    let to = state d.until s.board (shelf_after o s.scope s.entries.items) (cuts_after o s.scope s.entries.items) in
     let sound = held _ _ _ _ _ _ _ _ d in
     let order : IsInOrder s.scope s.board = record {
       sound = sound;

@@ -16,5 +16,5 @@ pub publish_plan-requires-clause-right : goal.publish_plan-requires-clause-right
 publish_plan-requires-clause-right g c = (λ t.
     let x = c.args.self.now in
     let text = subst (λ (y : Shown g.row.D.Denot g.row.O.Denot). c.in-Ok.next.text ≡ plan_text (record { epoch = y.core.front.planned; watermark = c.args.watermark; ends = next_ends y.scope.cap y.core.ends y.scope.available })) c.self.view_is c.in-Ok.ensures.text in
-    let plans = subst (λ (y : Shown g.row.D.Denot g.row.O.Denot). TellsPlans (g.O.Opening.opening y.opening).job) c.self.view_is c.self.invariant.plans in
+    let plans = subst (λ (y : Shown g.row.D.Denot g.row.O.Denot). TellsPlans (g.O.Opening.opening y.opening).job) c.self.view_is c.self.invariant.0.plans in
     text ∙ plan_true (g.O.Opening.opening x.opening).job x.scope x.core (cuts_of g.O.Opening.opening x) c.args.watermark plans (c.requires.right t))

@@ -6,19 +6,20 @@ use Rattle.ssq_board.specs.declared.front.Entry.TheVariants as entry
 use Rattle.ssq_board.specs.Core.{need}
 use Rattle.ssq_board.proofs.Needs.{need_bound, need_sync}
 use Rattle.ssq_ledger.specs.Shown.{Shown}
-use Rattle.ssq_ledger.proofs.Ledgers.{held, has_room, spent, one}
+use Rattle.ssq_ledger.proofs.Ledgers.{held, has_room, one}
+use Rattle.ssq_ledger.proofs.Shelves.{made_settled, spent_both, sync_shelved}
 use Rattle.ssq_ledger.proofs.ledger.Ledger.sync.Goals as goal
 
 pub count-requires : goal.count-requires
 count-requires g c =
-    let d = held _ _ _ _ _ _ _ _ c.self.invariant in
-    let few = c.self.invariant.few in
+    let d = held _ _ _ _ _ _ _ _ c.self.invariant.0 in
+    let few = c.self.invariant.0.few in
     omega (arith, d.maps, d.reduces, d.outs)
 
-pub make_room-requires : goal.make_room-requires
-make_room-requires g c =
-    let d = held _ _ _ _ _ _ _ _ c.self.invariant in
-    let few = c.self.invariant.few in
+pub make_sync_room-requires : goal.make_sync_room-requires
+make_sync_room-requires g c =
+    let d = held _ _ _ _ _ _ _ _ c.self.invariant.0 in
+    let few = c.self.invariant.0.few in
     let n = c.count.ensures in
     omega (arith, d.maps, d.reduces, d.outs)
 
@@ -26,20 +27,20 @@ pub halt-requires : goal.halt-requires
 halt-requires g c =
     let s = c.self.inside in
     let running : s.board.front.stop ≡ None = ap (λ (x : Shown g.row.D.Denot g.row.O.Denot). x.core.front.stop) c.self.view_is ∙ c.requires in
-    (let a = has_room _ _ _ _ _ _ _ _ c.self.invariant (entry.Stop cause.NoMemory) (running, tt) refl in let b = ap length c.make_room.ensures.items in let k : s.entries.cap ≤ c.make_room.new.entries.cap = c.make_room.ensures.kept in omega arith)
+    (let a = has_room _ _ _ _ _ _ _ _ c.self.invariant.0 (entry.Stop cause.NoMemory) (running, tt) refl in let b = ap length c.make_sync_room.ensures.items in let k : s.entries.cap ≤ c.make_sync_room.new.entries.cap = c.make_sync_room.ensures.kept in omega arith)
 
 pub halt-requires-in-Err : goal.halt-requires-in-Err
 halt-requires-in-Err g c =
     let s = c.self.inside in
     let running : s.board.front.stop ≡ None = ap (λ (x : Shown g.row.D.Denot g.row.O.Denot). x.core.front.stop) c.self.view_is ∙ c.requires in
-    (let a = has_room _ _ _ _ _ _ _ _ c.self.invariant (entry.Stop cause.NoMemory) (running, tt) refl in let b = ap length c.make_room.ensures.items in let k : s.entries.cap ≤ c.make_room.new.entries.cap = c.make_room.ensures.kept in omega arith)
+    (let a = has_room _ _ _ _ _ _ _ _ c.self.invariant.0 (entry.Stop cause.NoMemory) (running, tt) refl in let b = ap length c.make_sync_room.ensures.items in let k : s.entries.cap ≤ c.make_sync_room.new.entries.cap = c.make_sync_room.ensures.kept in omega arith)
 
 pub push_reserved-requires : goal.push_reserved-requires
 push_reserved-requires g c =
     let s = c.self.inside in
     let running : s.board.front.stop ≡ None = ap (λ (x : Shown g.row.D.Denot g.row.O.Denot). x.core.front.stop) c.self.view_is ∙ c.requires in
-    let less : length c.make_room.new.entries.items < c.make_room.new.entries.cap = (let a = has_room _ _ _ _ _ _ _ _ c.self.invariant (entry.Stop cause.NoMemory) (running, tt) refl in let b = ap length c.make_room.ensures.items in let k : s.entries.cap ≤ c.make_room.new.entries.cap = c.make_room.ensures.kept in omega arith) in
-    subst (λ n. n < c.make_room.new.entries.cap) (sym c.make_room.new.entries.ok.0) less
+    let less : length c.make_sync_room.new.entries.items < c.make_sync_room.new.entries.cap = (let a = has_room _ _ _ _ _ _ _ _ c.self.invariant.0 (entry.Stop cause.NoMemory) (running, tt) refl in let b = ap length c.make_sync_room.ensures.items in let k : s.entries.cap ≤ c.make_sync_room.new.entries.cap = c.make_sync_room.ensures.kept in omega arith) in
+    subst (λ n. n < c.make_sync_room.new.entries.cap) (sym c.make_sync_room.new.entries.ok.0) less
 
 pub settle-requires : goal.settle-requires
 settle-requires g c =
@@ -51,27 +52,32 @@ pub invariant_of-self : goal.invariant_of-self
 invariant_of-self g c =
     let s = c.self.inside in
     let running : s.board.front.stop ≡ None = ap (λ (x : Shown g.row.D.Denot g.row.O.Denot). x.core.front.stop) c.self.view_is ∙ c.requires in
-    let items = c.halt.ensures.items ∙ ap (λ (l : List Entry). l ++ entry.Stop cause.NoMemory ∷ []) c.make_room.ensures.items in
-    let kept : s.entries.cap ≤ c.halt.new.entries.cap = (let k = c.halt.ensures.capacity in let q : s.entries.cap ≤ c.make_room.new.entries.cap = c.make_room.ensures.kept in omega arith) in
-    spent _ _ _ _ _ _ _ _ c.self.invariant _ _ _ _ (entry.Stop cause.NoMemory) refl (running, tt) (λ t. (nothing, inl refl, refl)) (λ t. tt) c.halt.ensures.board items kept
+    let items = c.halt.ensures.items ∙ ap (λ (l : List Entry). l ++ entry.Stop cause.NoMemory ∷ []) c.make_sync_room.ensures.items in
+    let kept : s.entries.cap ≤ c.halt.new.entries.cap = (let k = c.halt.ensures.capacity in let q : s.entries.cap ≤ c.make_sync_room.new.entries.cap = c.make_sync_room.ensures.kept in omega arith) in
+    spent_both _ _ _ _ _ _ _ _ c.self.invariant.0 _ (made_settled _ _ _ _ _ c.self.invariant.1 c.make_sync_room.ensures.names) _ _ _ _ (entry.Stop cause.NoMemory) refl refl (running, tt) (λ t. (nothing, inl refl, refl)) (λ t. tt) c.halt.ensures.board items kept
 
 pub invariant_of-self-in-Ok : goal.invariant_of-self-in-Ok
 invariant_of-self-in-Ok g c =
     let s = c.self.inside in
     let running : s.board.front.stop ≡ None = ap (λ (x : Shown g.row.D.Denot g.row.O.Denot). x.core.front.stop) c.self.view_is ∙ c.requires in
     let e = entry.Sync c.clock-clock.result in
-    let items = c.push_reserved.ensures.items ∙ ap (λ (l : List Entry). l ++ e ∷ []) c.make_room.ensures.items in
+    let items = c.push_reserved.ensures.items ∙ ap (λ (l : List Entry). l ++ e ∷ []) c.make_sync_room.ensures.items in
     let q = c.in-Some.ensures.room in
     let n = c.count.ensures in
     let b = need_bound s.board in
-    let same = ap need c.settle.ensures ∙ need_sync s.scope s.board c.clock-clock.result running in
-    one _ _ _ _ _ _ _ _ c.self.invariant _ _ _ _ e running (λ t. ((c.sync_names.ensures.steps t.0, c.in-Ok.ensures.ok t.0), c.clock-clock.ensures)) (λ t. tt) c.settle.ensures items
-    (let k = c.push_reserved.ensures.capacity in omega arith)
+    let same = ap need c.settle.ensures ∙ need_sync s.scope s.board c.clock-clock.result running in (
+      one _ _ _ _ _ _ _ _ c.self.invariant.0 _ _ _ _ e running tt (λ t. ((c.sync_names.ensures.steps t.0, c.in-Ok.ensures.ok t.0), c.clock-clock.ensures)) (λ t. tt) c.settle.ensures items
+          (let k = c.push_reserved.ensures.capacity in omega arith),
+      sync_shelved _ _ _ _ _ _ _ _ c.self.invariant.0 _ (made_settled _ _ _ _ _ c.self.invariant.1 c.make_sync_room.ensures.names) c.clock-clock.result c.settle.new.self _ _ same items c.settle-in-Ok.ensures.settled c.settle-in-Ok.ensures.news c.settle-in-Ok.ensures.capacity refl refl,
+    )
 
 pub invariant_of-self-in-Err : goal.invariant_of-self-in-Err
 invariant_of-self-in-Err g c =
     let s = c.self.inside in
     let running : s.board.front.stop ≡ None = ap (λ (x : Shown g.row.D.Denot g.row.O.Denot). x.core.front.stop) c.self.view_is ∙ c.requires in
-    let items = c.halt-in-Err.ensures.items ∙ ap (λ (l : List Entry). l ++ entry.Stop cause.DiskFault ∷ []) c.make_room.ensures.items in
-    let kept : s.entries.cap ≤ c.halt-in-Err.new.entries.cap = (let k = c.halt-in-Err.ensures.capacity in let q : s.entries.cap ≤ c.make_room.new.entries.cap = c.make_room.ensures.kept in omega arith) in
-    spent _ _ _ _ _ _ _ _ c.self.invariant _ _ _ _ (entry.Stop cause.DiskFault) refl (running, tt) (λ t. (syncs, inr (entry.Sync 0, running, refl, refl), c.sync_names.ensures.steps t.0)) (λ t. tt) c.halt-in-Err.ensures.board items kept
+    let items = c.halt-in-Err.ensures.items ∙ ap (λ (l : List Entry). l ++ entry.Stop cause.DiskFault ∷ []) c.make_sync_room.ensures.items in
+    let kept : s.entries.cap ≤ c.halt-in-Err.new.entries.cap = (let k = c.halt-in-Err.ensures.capacity in let q : s.entries.cap ≤ c.make_sync_room.new.entries.cap = c.make_sync_room.ensures.kept in omega arith) in
+    spent_both _ _ _ _ _ _ _ _ c.self.invariant.0 _ (made_settled _ _ _ _ _ c.self.invariant.1 c.make_sync_room.ensures.names) _ _ _ _ (entry.Stop cause.DiskFault) refl refl (running, tt) (λ t. (syncs, inr (entry.Sync 0, running, refl, refl), c.sync_names.ensures.steps t.0)) (λ t. tt) c.halt-in-Err.ensures.board items kept
+
+pub settle-requires-in-Ok : goal.settle-requires-in-Ok
+settle-requires-in-Ok g c = c.in-Some.ensures.names.room

@@ -1,0 +1,77 @@
+//! The files of the state that a ledger knows.
+
+ghost use Rattle.std.specs.Prelude.{◌≡◌, ◌≤◌, ◌<◌, ◌+◌, ◌*◌, ◌++◌, ◌||◌, ◌^◌, length, true, [], ◌∷◌, IfSome, vec_capacity, if◌then◌else◌};
+ghost use Rattle.ssq_upkeep.specs.Upkeep.{is_among};
+ghost use Rattle.ssq_ledger.specs.Names.{MakesRoom, MakesSettled};
+
+use ssq_outside::Name;
+
+/// The names of the state's files.
+#[derive(Drop)]
+pub(crate) struct Names {
+    /// Those of files that no crash can take away.
+    pub(crate) settled: Vec<Name>,
+    /// Those of files that were published since the last sync of names.
+    pub(crate) news: Vec<Name>,
+    /// Those of snapshots that are being made.
+    pub(crate) claimed: Vec<Name>,
+    /// Since the last sync no snapshot was published, and no file removed.
+    pub(crate) tidy: bool,
+}
+
+fn is_among(names: &[Name], name: Name) -> bool
+    ensures { result ≡ is_among names.now name }
+{
+    names.iter().any(|other| other.is(name))
+}
+
+fn is_there(settled: &[Name], news: &[Name], name: Name) -> bool
+    ensures { result ≡ (is_among settled.now name || is_among news.now name) }
+{
+    is_among(settled, name) || is_among(news, name)
+}
+
+/// A file is there.
+pub(crate) fn add(settled: &[Name], news: &mut Vec<Name>, name: Name)
+    requires { length news.old.items < vec_capacity news.old }
+    ensures items { news.new.items ≡ (if is_among settled.now name || is_among news.old.items name then news.old.items else news.old.items ++ name ∷ []) }
+    ensures capacity { vec_capacity news.new ≡ vec_capacity news.old }
+{
+    if !is_there(settled, news.as_slice(), name) {
+        news.push_reserved(name);
+    }
+}
+
+/// Names were synced: what was published before is settled.
+pub(crate) fn settle(settled: &mut Vec<Name>, news: &mut Vec<Name>)
+    requires { length settled.old.items + length news.old.items ≤ vec_capacity settled.old }
+    ensures settled { settled.new.items ≡ settled.old.items ++ news.old.items }
+    ensures news { news.new.items ≡ [] }
+    ensures capacity { vec_capacity news.new ≡ vec_capacity news.old }
+{
+    match settled.append(news) {
+        Ok(()) => {}
+        Err(_) => unreachable!(),
+    }
+}
+
+/// Makes room for as many names more, and for one of each snapshot that is being made.
+pub(crate) fn make_room(names: &mut Names, more: usize) -> Option<()>
+    ensures { MakesRoom more names.old names.new result }
+{
+    let count = more.checked_add(names.claimed.as_slice().len())?;
+    match names.news.reserve(count) {
+        Ok(()) => Some(()),
+        Err(_) => None,
+    }
+}
+
+/// Makes room for what is to be settled.
+pub(crate) fn make_settled(names: &mut Names) -> Option<()>
+    ensures { MakesSettled names.old names.new result }
+{
+    match names.settled.reserve(names.news.as_slice().len()) {
+        Ok(()) => Some(()),
+        Err(_) => None,
+    }
+}

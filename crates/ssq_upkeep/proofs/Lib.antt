@@ -1,0 +1,4 @@
+mod Among
+mod Floors
+mod Leasts
+mod Order
