@@ -35,8 +35,8 @@ use Rattle.ssq_open.specs.declared.wanted.Opened.{Opened}
 use Rattle.ssq_open.specs.Opening.{Finds, Passes, first_short, first_meta, only_meta, IsOpen, kept, begun, IsRefused, unchanged, unfinished, IsOutside, IsImageOpening}
 use Rattle.ssq_open.specs.Stateful.{keeping_in}
 use Rattle.ssq_open.specs.Jobs.{IsWantedJob, IsJobs, is_empty, stands, IsDeskOf, States, AreStates, HoldStates}
-use Rattle.ssq_open.specs.Looking.{Query, begins, IsDenied, IsLookedFor}
-use Rattle.ssq_open.proofs.Looks.{not_denied}
+use Rattle.ssq_open.specs.Looking.{Query, begins, IsDenied, IsLookedFor, IsRecordDenied}
+use Rattle.ssq_open.proofs.Looks.{meta_denied, not_denied}
 use Rattle.ssq_open.proofs.Walks.{short-none}
 use Rattle.ssq_open.proofs.Planning.{pushed, longer}
 use Rattle.ssq_open.proofs.Passing.{one_finding, not_refused}
@@ -457,3 +457,9 @@ look_outside query s job files sought w (inr st) (Err fault) denied =
       progress = subst M (sym wanted.parts) (subst F sought.begin (subst S sought.marked (progress s job w files st)));
     })
     fault denied.why
+
+-- nor is its record denied for anything else
+pub record_outside : {T : Type 0} (query : Query) (s : Sought) (job : Job) (files : Files) → IsLookedFor query s → IsWantedJob s job → StandsOrEmpty job files → (r : Result T OpenFault) → IfErr r (IsRecordDenied query files) → IfErr r IsOutside
+record_outside query s job files sought w ours (Ok found) denied = tt
+record_outside query s job files sought w ours (Err fault) denied =
+    look_outside query s job files sought w ours (Err fault) (record { why = meta_denied query files fault denied.why; outside = denied.outside })

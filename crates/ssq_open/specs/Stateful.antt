@@ -5,11 +5,11 @@ use Rattle.ssq_shape.specs.declared.bound.Shape.TheVariants as shape
 use Rattle.ssq_open.specs.declared.stateful.Keeps.{Keeps}
 use Rattle.ssq_open.specs.declared.stateful.Keeps.TheVariants.{Nothing, EachPartition}
 
--- What a query of this shape keeps: one that groups keeps a state in each partition. Of DEDUPLICATE and JOIN nothing is said yet.
+-- What a query of this shape keeps: one that groups or deduplicates keeps a state in each partition. Of JOIN nothing is said yet.
 abbrev pub keeps_state : Shape → Keeps
 keeps_state shape.Plain = Nothing
 keeps_state (shape.Group grouping) = EachPartition
-keeps_state (shape.Dedup columns) = Nothing
+keeps_state (shape.Dedup columns) = EachPartition
 keeps_state (shape.Join joining) = Nothing
 
 -- how many of so many partitions keep state

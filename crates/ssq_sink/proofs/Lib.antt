@@ -1,4 +1,8 @@
+pub mod Keeping
+pub mod LastRows
+pub mod Passes
 pub mod Printed
+pub mod Rereading
 pub mod Rows
 pub mod Sorting
 pub mod Worked

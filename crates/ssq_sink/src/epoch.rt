@@ -40,7 +40,7 @@ pub fn schema_text(alloc: Global, schema: &Schema, rows: Vec<Row>) -> Result<Vec
 }
 
 /// The heads of the columns of SELECT.
-fn output_heads(alloc: Global, outputs: &[Output]) -> Result<Heads, AllocError>
+pub(crate) fn output_heads(alloc: Global, outputs: &[Output]) -> Result<Heads, AllocError>
     ensures { IfOk result (λ heads. heads ≡ heads_of (map (λ output. output.name) outputs.now)) }
 {
     let mut heads = Heads::none(alloc);

@@ -1,11 +1,17 @@
-//! The texts of sink files.
+//! The texts of sink files, and the table that a reader makes of them.
 #![tactic(auto)]
 
+mod columns;
 mod epoch;
+mod fault;
+mod latest;
 mod order;
+mod table;
 
 pub use epoch::{epoch_text, order_is_free, schema_text};
+pub use fault::SinkFault;
 pub use order::row_orders_are_total;
+pub use table::{Reading, count_sinks, write_table};
 
 #[cfg(test)]
 mod tests;

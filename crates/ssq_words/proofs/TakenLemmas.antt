@@ -19,11 +19,11 @@ use Rattle.clap.specs.Faults.{is_simple_and_free}
 use Rattle.clap.proofs.ValueTestLemmas.{accepts-Accepts}
 use Rattle.clap.specs.declared.builder.value_parser.ValueParser.{ValueParser}
 use Rattle.clap.specs.declared.builder.value_parser.ValueParser.TheVariants.{Unsigned}
-use Rattle.ssq_words.specs.Program.{explain_app, max_lines_rule, partitions_rule, program, query_rule, rounds_rule, run_app, status_app, top_app}
+use Rattle.ssq_words.specs.Program.{explain_app, max_lines_rule, partitions_rule, program, query_rule, rounds_rule, run_app, show_app, status_app, tables_app, top_app}
 use Rattle.clap.specs.declared.error.ErrorKind.{ErrorKind}
 use Rattle.ssq_words.specs.declared.error.AskError.{AskError}
 use Rattle.ssq_words.specs.declared.error.AskError.TheVariants.{Usage, NoMemory}
-use Rattle.ssq_words.specs.Asking.{Asked, IsCause, asked, explain_asked, run_asked, status_asked, subcommand_asked}
+use Rattle.ssq_words.specs.Asking.{Asked, IsCause, asked, explain_asked, run_asked, show_asked, status_asked, subcommand_asked}
 use Rattle.ssq_words.specs.Reading.{HasNumberIn, HasQuery, IsWhole}
 use Rattle.ssq_words.proofs.WalkLemmas.{IsGiven, IsOne, found_by, level_good, some_kind}
 
@@ -59,16 +59,16 @@ file_built name = record (with_rule (new_app name) query_rule).top {
   is_built = true;
 }
 
-subs_built : (built program).subs ≡ run_built ∷ file_built (codes "explain") ∷ file_built (codes "status") ∷ []
-unfolding program run_app explain_app status_app top_app run_built file_built
+subs_built : (built program).subs ≡ run_built ∷ file_built (codes "show") ∷ file_built (codes "explain") ∷ file_built (codes "status") ∷ []
+unfolding program tables_app run_app show_app explain_app status_app top_app run_built file_built
 subs_built = refl
 
 pub program_is_free : is_simple_and_free program ≡ true
-unfolding program run_app explain_app status_app top_app
+unfolding program tables_app run_app show_app explain_app status_app top_app
 program_is_free = refl
 
 pub program_is_simple : is_simple program ≡ true
-unfolding program run_app explain_app status_app top_app
+unfolding program tables_app run_app show_app explain_app status_app top_app
 program_is_simple = refl
 
 -- ---- what good rows hold
@@ -235,16 +235,19 @@ file_query name words e =
     let rows = rows_after (file_built name).rules [] words in
     has_query IsFileRule rows level.0 (file_needs name rows level.1)
 
+show_whole : (words : List Text) → level_fault (file_built (codes "show")) [] nothing_held words false [] ≡ [] → IsWhole (Some (rows_at (file_built (codes "show")) words))
+show_whole words e = inr (inl (file_name (codes "show"), file_query (codes "show") words e))
+
 explain_whole : (words : List Text) → level_fault (file_built (codes "explain")) [] nothing_held words false [] ≡ [] → IsWhole (Some (rows_at (file_built (codes "explain")) words))
-explain_whole words e = inr (inl (file_name (codes "explain"), file_query (codes "explain") words e))
+explain_whole words e = inr (inr (inl (file_name (codes "explain"), file_query (codes "explain") words e)))
 
 status_whole : (words : List Text) → level_fault (file_built (codes "status")) [] nothing_held words false [] ≡ [] → IsWhole (Some (rows_at (file_built (codes "status")) words))
-status_whole words e = inr (inr (file_name (codes "status"), file_query (codes "status") words e))
+status_whole words e = inr (inr (inr (file_name (codes "status"), file_query (codes "status") words e)))
 
 -- ---- the whole command
 
 abbrev IsSub : Shape → Type 0
-IsSub s = (s ≡ run_built) ⊎ ((s ≡ file_built (codes "explain")) ⊎ (s ≡ file_built (codes "status")))
+IsSub s = (s ≡ run_built) ⊎ ((s ≡ file_built (codes "show")) ⊎ ((s ≡ file_built (codes "explain")) ⊎ (s ≡ file_built (codes "status"))))
 
 -- words in which this subcommand finds no fault give it what it needs
 abbrev IsSound : Shape → Type 0
@@ -252,8 +255,9 @@ IsSound s = (words : List Text) → level_fault s [] nothing_held words false []
 
 sub_whole : (s : Shape) (words : List Text) → IsSub s → level_fault s [] nothing_held words false [] ≡ [] → IsWhole (Some (rows_at s words))
 sub_whole s words (inl e) fault = subst IsSound (sym e) run_whole words fault
-sub_whole s words (inr (inl e)) fault = subst IsSound (sym e) explain_whole words fault
-sub_whole s words (inr (inr e)) fault = subst IsSound (sym e) status_whole words fault
+sub_whole s words (inr (inl e)) fault = subst IsSound (sym e) show_whole words fault
+sub_whole s words (inr (inr (inl e))) fault = subst IsSound (sym e) explain_whole words fault
+sub_whole s words (inr (inr (inr e))) fault = subst IsSound (sym e) status_whole words fault
 
 met_whole : (o : Option Shape) (words : List Text) → IfSome o IsSub → option_map_or (λ s. level_fault s [] nothing_held words false []) o [] ≡ []
     → is_some (option_map (λ s. rows_at s words) o) ≡ true → IsWhole (option_map (λ s. rows_at s words) o)
@@ -262,8 +266,9 @@ met_whole (Some s) words sub fault some = sub_whole s words sub fault
 
 subs : All IsSub (built program).subs
 subs = subst (All IsSub) (sym subs_built)
-    (All-cons IsSub run_built (file_built (codes "explain") ∷ file_built (codes "status") ∷ []) (inl refl)
-    (All-cons IsSub (file_built (codes "explain")) (file_built (codes "status") ∷ []) (inr (inl refl)) (All-cons IsSub (file_built (codes "status")) [] (inr (inr refl)) (All-nil IsSub))))
+    (All-cons IsSub run_built (file_built (codes "show") ∷ file_built (codes "explain") ∷ file_built (codes "status") ∷ []) (inl refl)
+    (All-cons IsSub (file_built (codes "show")) (file_built (codes "explain") ∷ file_built (codes "status") ∷ []) (inr (inl refl))
+    (All-cons IsSub (file_built (codes "explain")) (file_built (codes "status") ∷ []) (inr (inr (inl refl))) (All-cons IsSub (file_built (codes "status")) [] (inr (inr (inr refl))) (All-nil IsSub)))))
 
 entered_whole : (stop : Option (Text × List Text)) → entered_fault (built program) stop ≡ [] → is_some (entered (built program) stop) ≡ true → IsWhole (entered (built program) stop)
 entered_whole None fault some = absurd (true≢false (sym some))
@@ -276,11 +281,11 @@ abbrev IsTopRule : Rule → Type 0
 IsTopRule a = ⊥
 
 top_rules : (built program).top.rules ≡ []
-unfolding program run_app explain_app status_app top_app
+unfolding program tables_app run_app show_app explain_app status_app top_app
 top_rules = refl
 
 top_once : (built program).top.args_override_self ≡ false
-unfolding program run_app explain_app status_app top_app
+unfolding program tables_app run_app show_app explain_app status_app top_app
 top_once = refl
 
 wanted : (has : Bool) → check_kinds (not has && false) (not has && true) false ≡ [] → has ≡ true
@@ -289,7 +294,7 @@ wanted false e = absurd (some_kind _ _ e)
 
 -- a subcommand is required
 top_needs : (rows : List Row) (has : Bool) → check_fault (built program).top rows has ≡ [] → has ≡ true
-unfolding program run_app explain_app status_app top_app
+unfolding program tables_app run_app show_app explain_app status_app top_app
 top_needs rows has e = wanted has e
 
 pub taken_whole : (words : List Text) → fault_of program words ≡ [] → IsWhole (subcommand_of program words)
@@ -323,11 +328,12 @@ mapped f None e = e
 mapped f (Some x) e = refl
 
 whole_asks : (o : Option (Text × List Row)) → IsWhole o → is_some (option_and_then (λ p. subcommand_asked p.0 p.1) o) ≡ true
-unfolding subcommand_asked run_asked explain_asked status_asked
+unfolding subcommand_asked run_asked show_asked explain_asked status_asked
 whole_asks None whole = absurd whole
 whole_asks (Some p) (inl run) = subst (λ (name : Text). is_some (subcommand_asked name p.1) ≡ true) (sym run.0) (mapped _ (first_of (codes "query") p.1) run.1.query)
-whole_asks (Some p) (inr (inl explain)) = subst (λ (name : Text). is_some (subcommand_asked name p.1) ≡ true) (sym explain.0) (mapped _ (first_of (codes "query") p.1) explain.1)
-whole_asks (Some p) (inr (inr status)) = subst (λ (name : Text). is_some (subcommand_asked name p.1) ≡ true) (sym status.0) (mapped _ (first_of (codes "query") p.1) status.1)
+whole_asks (Some p) (inr (inl show)) = subst (λ (name : Text). is_some (subcommand_asked name p.1) ≡ true) (sym show.0) (mapped _ (first_of (codes "query") p.1) show.1)
+whole_asks (Some p) (inr (inr (inl explain))) = subst (λ (name : Text). is_some (subcommand_asked name p.1) ≡ true) (sym explain.0) (mapped _ (first_of (codes "query") p.1) explain.1)
+whole_asks (Some p) (inr (inr (inr status))) = subst (λ (name : Text). is_some (subcommand_asked name p.1) ≡ true) (sym status.0) (mapped _ (first_of (codes "query") p.1) status.1)
 
 pub free_asks : (words : List Text) → fault_of program words ≡ [] → is_some (asked words) ≡ true
 free_asks words e =

@@ -9,18 +9,20 @@ use Rattle.ssq_words.specs.Program.{program}
 use Rattle.ssq_words.specs.declared.Command.{Command}
 use Rattle.ssq_words.specs.declared.error.AskError.{AskError}
 use Rattle.ssq_words.specs.declared.error.AskError.TheVariants.{Usage, NoMemory}
-use Rattle.ssq_words.specs.declared.Command.TheVariants.{Run, Explain, Status}
+use Rattle.ssq_words.specs.declared.Command.TheVariants.{Run, Show, Explain, Status}
 
 -- a command: the query's file, for a run the number of partitions, if it is asked for, the most lines of an epoch, if there is a
 -- cap, and the number of rounds
 pub data Asked : Type 0 where
   asks_run : Text → Option ℕ → Option ℕ → ℕ → Asked
+  asks_show : Text → Asked
   asks_explain : Text → Asked
   asks_status : Text → Asked
 
 -- the command that a value of the program's type holds
 abbrev pub asked_of : Command → Asked
 asked_of (Run query partitions most_lines rounds) = asks_run query.now partitions most_lines rounds
+asked_of (Show query) = asks_show query.now
 asked_of (Explain query) = asks_explain query.now
 asked_of (Status query) = asks_status query.now
 
@@ -39,6 +41,9 @@ run_asked rows = option_map
     (unwrap_or (number_given (codes "rounds") rows) 1))
     (first_of (codes "query") rows)
 
+unfoldable pub show_asked : List Row → Option Asked
+show_asked rows = option_map asks_show (first_of (codes "query") rows)
+
 unfoldable pub explain_asked : List Row → Option Asked
 explain_asked rows = option_map asks_explain (first_of (codes "query") rows)
 
@@ -49,8 +54,9 @@ status_asked rows = option_map asks_status (first_of (codes "query") rows)
 unfoldable pub subcommand_asked : Text → List Row → Option Asked
 subcommand_asked name rows =
     if bytes_eq name (codes "run") then run_asked rows
+    else (if bytes_eq name (codes "show") then show_asked rows
     else (if bytes_eq name (codes "explain") then explain_asked rows
-    else (if bytes_eq name (codes "status") then status_asked rows else None))
+    else (if bytes_eq name (codes "status") then status_asked rows else None)))
 
 -- The words are taken exactly where clap finds no fault in them; then its matches say what they ask for.
 unfoldable pub asked : List Text → Option Asked
@@ -62,6 +68,7 @@ asked words =
 abbrev pub IsInRange : Command → Type 0
 IsInRange (Run query partitions most_lines rounds) =
     ForSome partitions (λ count. (1 ≤ count) × (count ≤ 64)) × (ForSome most_lines (λ most. (1 ≤ most) × (most ≤ 1099511627776)) × ((1 ≤ rounds) × (rounds ≤ 1000000)))
+IsInRange (Show query) = ⊤
 IsInRange (Explain query) = ⊤
 IsInRange (Status query) = ⊤
 

@@ -25,6 +25,10 @@ rounds_rule = record (new_rule (codes "rounds")) { long = Some (codes "rounds");
 unfoldable pub run_app : App
 run_app = with_rule (with_rule (with_rule (with_rule (new_app (codes "run")) query_rule) partitions_rule) max_lines_rule) rounds_rule
 
+-- `show QUERY`
+unfoldable pub show_app : App
+show_app = with_rule (new_app (codes "show")) query_rule
+
 -- `explain QUERY`
 unfoldable pub explain_app : App
 explain_app = with_rule (new_app (codes "explain")) query_rule
@@ -41,5 +45,9 @@ top_app = on_top (λ s. record s {
   subcommand_required = true;
 }) (new_app (codes "ssq"))
 
+-- with the commands that make a table and show it
+unfoldable pub tables_app : App
+tables_app = with_subcommand (with_subcommand top_app run_app.top) show_app.top
+
 unfoldable pub program : App
-program = with_subcommand (with_subcommand (with_subcommand top_app run_app.top) explain_app.top) status_app.top
+program = with_subcommand (with_subcommand tables_app explain_app.top) status_app.top

@@ -21,4 +21,5 @@ pub record IsRun (rows : List Row) : Type 0 where
 -- a subcommand was met, and has what it needs
 abbrev pub IsWhole : Option (Text × List Row) → Type 0
 IsWhole None = ⊥
-IsWhole (Some p) = ((p.0 ≡ codes "run") × IsRun p.1) ⊎ (((p.0 ≡ codes "explain") × HasQuery p.1) ⊎ ((p.0 ≡ codes "status") × HasQuery p.1))
+IsWhole (Some p) =
+    ((p.0 ≡ codes "run") × IsRun p.1) ⊎ (((p.0 ≡ codes "show") × HasQuery p.1) ⊎ (((p.0 ≡ codes "explain") × HasQuery p.1) ⊎ ((p.0 ≡ codes "status") × HasQuery p.1)))

@@ -35,6 +35,11 @@ pub enum Command<'a> {
         /// 1 to 1000000 rounds.
         rounds: u32,
     },
+    /// Tell the rows of the query's checkpoint, as its mode has them.
+    Show {
+        /// The query's file.
+        query: &'a str,
+    },
     /// Tell the query's canonical text and how it is run.
     Explain {
         /// The query's file.
@@ -48,7 +53,7 @@ pub enum Command<'a> {
 }
 
 /// What the words ask for. They begin with the program's name, and are `run QUERY [--partitions N] [--max-lines N]
-/// [--rounds N]`, `explain QUERY` or `status QUERY`, in the forms that clap takes: a value follows its option as a word or
+/// [--rounds N]`, `show QUERY`, `explain QUERY` or `status QUERY`, in the forms that clap takes: a value follows its option as a word or
 /// after `=`, numbers may have a `+` and leading zeros, and after `--` a word that begins with `-` is a query too.
 ///
 /// `Usage` comes exactly where clap takes the words for none of these, unless memory runs out, which is `NoMemory`.

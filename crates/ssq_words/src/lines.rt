@@ -1,6 +1,6 @@
 //! Some command lines, as they are read.
 ghost use Rattle.std.specs.Prelude.{◌≡◌, ◌∷◌, [], Some, None, codes};
-ghost use Rattle.ssq_words.specs.Asking.{asked, asks_explain, asks_run, asks_status};
+ghost use Rattle.ssq_words.specs.Asking.{asked, asks_explain, asks_run, asks_show, asks_status};
 
 /// The law of some command lines: what they ask for, or that they are refused.
 pub fn lines_are_read()
@@ -11,6 +11,7 @@ pub fn lines_are_read()
         ≡ Some (asks_run (codes "q.sql") None (Some 2) 1) }
     ensures rounds { asked (codes "ssq" ∷ codes "run" ∷ codes "q.sql" ∷ codes "--rounds" ∷ codes "2" ∷ [])
         ≡ Some (asks_run (codes "q.sql") None None 2) }
+    ensures show { asked (codes "ssq" ∷ codes "show" ∷ codes "q.sql" ∷ []) ≡ Some (asks_show (codes "q.sql")) }
     ensures explain { asked (codes "ssq" ∷ codes "explain" ∷ codes "q.sql" ∷ []) ≡ Some (asks_explain (codes "q.sql")) }
     ensures status { asked (codes "ssq" ∷ codes "status" ∷ codes "q.sql" ∷ []) ≡ Some (asks_status (codes "q.sql")) }
     ensures walk { asked (codes "ssq" ∷ codes "walk" ∷ codes "q.sql" ∷ []) ≡ None }

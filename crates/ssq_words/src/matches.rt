@@ -3,7 +3,7 @@ ghost use Rattle.std.specs.Prelude.{◌≡◌, ◌≤◌, Some, codes, option_an
 ghost use Rattle.std.specs.Option.{ForSome};
 ghost use Rattle.clap.specs.Walk.{rows_of, first_of};
 ghost use Rattle.clap.specs.Words.{found_of, subcommand_rows_of};
-ghost use Rattle.ssq_words.specs.Asking.{number_given, run_asked, asked_of, explain_asked, status_asked, subcommand_asked, IsInRange};
+ghost use Rattle.ssq_words.specs.Asking.{number_given, run_asked, asked_of, show_asked, explain_asked, status_asked, subcommand_asked, IsInRange};
 ghost use Rattle.ssq_words.specs.Reading.{HasNumberIn, HasQuery, IsRun, IsWhole};
 
 use crate::Command;
@@ -61,6 +61,16 @@ fn run_of<'a>(matches: &ArgMatches<'a>) -> Command<'a>
     }
 }
 
+#[tactic(auto, unfolding(crate::specs::Asking::show_asked))]
+fn show_of<'a>(matches: &ArgMatches<'a>) -> Command<'a>
+    requires { HasQuery (rows_of (found_of matches.now)) }
+    ensures asked { show_asked (rows_of (found_of matches.now)) ≡ Some (asked_of result) }
+    ensures in_range { IsInRange result }
+{
+    let query = query(matches);
+    Command::Show { query }
+}
+
 #[tactic(auto, unfolding(crate::specs::Asking::explain_asked))]
 fn explain_of<'a>(matches: &ArgMatches<'a>) -> Command<'a>
     requires { HasQuery (rows_of (found_of matches.now)) }
@@ -99,6 +109,7 @@ pub(crate) fn command_of<'a>(matches: &ArgMatches<'a>) -> Command<'a>
     let (name, inner) = met(matches);
     match name {
         "run" => run_of(inner),
+        "show" => show_of(inner),
         "explain" => explain_of(inner),
         _ => status_of(inner),
     }

@@ -2,7 +2,7 @@
 ghost use Rattle.std.specs.Prelude.{◌≡◌, IfOk, false};
 ghost use Rattle.clap.specs.Words.{app_of, rule_of};
 ghost use Rattle.clap.specs.declared.builder.command.Command.TheViews.{out-Command};
-ghost use Rattle.ssq_words.specs.Program.{explain_app, max_lines_rule, partitions_rule, program, query_rule, rounds_rule, run_app, status_app, top_app};
+ghost use Rattle.ssq_words.specs.Program.{explain_app, max_lines_rule, partitions_rule, program, query_rule, rounds_rule, run_app, show_app, status_app, tables_app, top_app};
 
 use clap::builder::ValueParser;
 use clap::{Arg, Command};
@@ -63,6 +63,14 @@ fn run<'a>(alloc: Global) -> Result<Command<'a>, AllocError>
         .arg(rounds(alloc))
 }
 
+#[tactic(auto, unfolding(crate::specs::Program::show_app))]
+fn show<'a>(alloc: Global) -> Result<Command<'a>, AllocError>
+    ensures app { IfOk result (λ c. app_of c ≡ show_app) }
+    ensures local { IfOk result (λ c. (out-Command c).has_globals ≡ false) }
+{
+    Command::new(alloc, "show").arg(query(alloc))
+}
+
 #[tactic(auto, unfolding(crate::specs::Program::explain_app))]
 fn explain<'a>(alloc: Global) -> Result<Command<'a>, AllocError>
     ensures app { IfOk result (λ c. app_of c ≡ explain_app) }
@@ -89,13 +97,20 @@ fn top<'a>(alloc: Global) -> Command<'a>
         .subcommand_required(true)
 }
 
+/// The command with those that make a table and show it.
+#[tactic(auto, unfolding(crate::specs::Program::tables_app))]
+fn tables<'a>(alloc: Global) -> Result<Command<'a>, AllocError>
+    ensures { IfOk result (λ c. app_of c ≡ tables_app) }
+{
+    top(alloc).subcommand(run(alloc)?)?.subcommand(show(alloc)?)
+}
+
 /// The command with all its subcommands.
 #[tactic(auto, unfolding(crate::specs::Program::program))]
 pub(crate) fn program<'a>(alloc: Global) -> Result<Command<'a>, AllocError>
     ensures { IfOk result (λ c. app_of c ≡ program) }
 {
-    top(alloc)
-        .subcommand(run(alloc)?)?
+    tables(alloc)?
         .subcommand(explain(alloc)?)?
         .subcommand(status(alloc)?)
 }
