@@ -32,7 +32,7 @@ use Rattle.ssq_desk.specs.declared.desk.OutWork.{OutWork}
 use Rattle.ssq_desk.specs.declared.first.Made.{Made}
 use Rattle.ssq_desk.specs.declared.round.Round.{Round}
 use Rattle.ssq_desk.specs.Round.{IsRound, OwnsRound, setting_of, start_at}
-use Rattle.ssq_agg.specs.Indexing.{Timed}
+use Rattle.ssq_step.specs.Indexing.{Timed}
 use Rattle.ssq_store.specs.declared.store.Store.{Store}
 use Rattle.ssq_store.specs.Loaded.{count_to}
 use Rattle.ssq_task.specs.declared.partition.Held.{Held}
@@ -142,7 +142,7 @@ module _ {D L S F : Type 0} (stores logs : Type 0) (lines : L → List Line) (av
 
   -- what a desk holds beside its ledger then
   abbrev pub load_of : Vec Plan → Vec (Source L) → Vec (Share S) → Vec (Option Held) → Option (OutWork S F) → Load L S F
-  load_of plans sources shares held out = record { view = round.view; plans = plans; sources = sources; shares = shares; held = held; out = out; seen = made.seen; pending = None; told = made.told; kept = record { meta = round.opened.meta; names = round.opened.names; lines = made.lines; logs = made.logs; stores = made.stores; closings = made.closings } }
+  load_of plans sources shares held out = record { view = round.view; plans = plans; sources = sources; shares = shares; held = held; out = out; seen = made.seen; pending = None; told = made.told; kept = record { meta = round.opened.meta; lines = made.lines; logs = made.logs; stores = made.stores; closings = made.closings } }
 
   module _ (plans : Vec Plan) (sources : Vec (Source L)) (shares : Vec (Share S)) (held : Vec (Option Held)) (closings : List (List Timed)) (indexes : AreIndexes (Unit {0}) s.job.bound round.opened.stores closings) (count : length shares.items ≡ length made.room.shares.items)
       (no_keys : All (λ (x : Share S). x.key ≡ None) shares.items) (held_is : held.items ≡ held_of round.opened.stores closings) (plans_is : plans.items ≡ round.opened.plans) (sources_is : sources.items ≡ sources_of made.parts.items made.ends.items round.logs.items) where
@@ -161,10 +161,9 @@ module _ {D L S F : Type 0} (stores logs : Type 0) (lines : L → List Line) (av
     room_to_tell : (b : Bool) → b ≡ true → length made.told.items < vec_capacity made.told
     room_to_tell b opened = (let none = ap length m.no_told in let room = m.told_room in omega (arith, none, room))
 
-    own_kept : IsKept s round.opened (record { meta = round.opened.meta; names = round.opened.names; lines = made.lines; logs = made.logs; stores = made.stores; closings = made.closings })
+    own_kept : IsKept s round.opened (record { meta = round.opened.meta; lines = made.lines; logs = made.logs; stores = made.stores; closings = made.closings })
     own_kept = record {
       meta_is = refl;
-      names_are = refl;
       no_lines = m.no_lines;
       lines_room = m.lines_room;
       no_logs = m.no_logs;

@@ -16,7 +16,7 @@ use Rattle.ssq_board.specs.declared.front.Ready.{Ready}
 use Rattle.ssq_board.specs.declared.front.Ready.TheVariants as ready
 use Rattle.ssq_board.specs.Core.{Scope, Core, is_open, is_stopped, is_more, is_waiting, is_fine, ready_of, ready_tasks}
 use Rattle.ssq_board.specs.Shown.{first}
-use Rattle.ssq_ledger.specs.Shown.{Shown, IsLegal, IsInOrder, state, first_state, cuts_of}
+use Rattle.ssq_ledger.specs.Shown.{Shown, IsLegal, IsInOrder, state, first_state, cuts_of, shelf_of}
 use Rattle.ssq_desk.specs.declared.desk.Load.{Load}
 use Rattle.ssq_desk.specs.declared.round.Round.{Round}
 use Rattle.ssq_desk.specs.Round.{setting_of, opening_of, Owns}
@@ -87,14 +87,14 @@ module _ {D L S F : Type 0} (stores logs : Type 0) (lines : L → List Line) (av
   pub ends_are : AreEnds (cuts_of (opening_in lines) shown) shown.core
   ends_are =
       run_ends (Owns stores logs lines shown) (opening_in lines shown.opening).job shown.scope (opening_in lines shown.opening).due shown.history (first_state (opening_in lines shown.opening) shown.scope (history shown.opened))
-      (state legal.0 shown.core (cuts_of (opening_in lines) shown)) legal.2
+      (state legal.0 shown.core (shelf_of (opening_in lines) shown) (cuts_of (opening_in lines) shown)) legal.2
       (first_ends_are (setting_of lines shown.opening) shown.opening.opened shown.scope whole.round.numbers.before whole.round.numbers.near)
 
   -- and of no part more is planned than was found
   pub ends_within : AreWithin shown.scope.available shown.core.ends
   ends_within =
       run_within (Owns stores logs lines shown) (opening_in lines shown.opening).job shown.scope (opening_in lines shown.opening).due shown.history (first_state (opening_in lines shown.opening) shown.scope (history shown.opened))
-      (state legal.0 shown.core (cuts_of (opening_in lines) shown)) legal.2 whole.round.long
+      (state legal.0 shown.core (shelf_of (opening_in lines) shown) (cuts_of (opening_in lines) shown)) legal.2 whole.round.long
 
   pub each_end : length shown.core.ends ≡ length (parts_in (setting_of lines shown.opening))
   each_end = order.sound.ends ∙ whole.round.parts

@@ -1,5 +1,5 @@
 -- What a desk tells of the epoch that runs, and what it gives back when it ends.
-use Rattle.std.proofs.Common.{take, add-one, ltb-false, ◌≡◌, ◌<◌, ◌≤◌, ◌+◌, ◌-◌, ◌^◌, ◌||◌, [], ◌∷◌, ℕ, ℤ, zero, suc, Bool, true, false, true≢false, List, length, map, get_or, nat_lt, Option, Some, None, refl, sym, ap, ◌∙◌, subst, inr, arith, ext_get_or}
+use Rattle.std.proofs.Common.{take, add-one, ltb-false, ◌≡◌, ◌⊎◌, ◌<◌, ◌≤◌, ◌+◌, ◌-◌, ◌^◌, ◌||◌, [], ◌∷◌, ℕ, ℤ, zero, suc, Bool, true, false, true≢false, List, length, map, get_or, nat_lt, Option, Some, None, refl, sym, ap, ◌∙◌, subst, inr, arith, ext_get_or}
 use Rattle.std.specs.Prelude.{◌≢◌, All, IsSome, MatchOption, if◌then◌else◌, is_some, slice_get}
 use Rattle.std.specs.Global.{Vec}
 use Rattle.std.specs.Option.{ForSome}
@@ -9,6 +9,7 @@ use Rattle.std.proofs.lemmas.List.{length-map, get_or-map}
 use mathlib.Core.Option.{some, some-injective, some-ne-none}
 use lib.ListN.{get_elem?}
 use Rattle.ssq_outside.specs.History.{History}
+use Rattle.ssq_outside.specs.declared.name.Name.{Name}
 use Rattle.ssq_time.specs.Time.{IsStampTime}
 use Rattle.ssq_meaning.specs.Meaning.{Line}
 use Rattle.ssq_meaning.specs.Epochs.{out}
@@ -20,7 +21,7 @@ use Rattle.ssq_plans.specs.Records.{HasLineTime}
 use Rattle.ssq_meaning.specs.Times.{Delay, delays}
 use Rattle.ssq_water.specs.Water.{seen_at}
 use Rattle.ssq_feed.specs.Causes.{LogWent}
-use Rattle.ssq_agg.specs.Indexing.{Timed}
+use Rattle.ssq_step.specs.Indexing.{Timed}
 use Rattle.ssq_store.specs.declared.store.Store.{Store}
 use Rattle.ssq_task.specs.Committing.{lines_of}
 use Rattle.ssq_core.specs.Course.{Ends, Cuts, Job}
@@ -41,12 +42,13 @@ use Rattle.ssq_board.specs.declared.front.Entry.{Entry}
 use Rattle.ssq_board.specs.declared.front.Entry.TheVariants as entry
 use Rattle.ssq_board.specs.Core.{Scope, Core, May, after, is_fine, is_open, ready_of}
 use Rattle.ssq_board.specs.Rounds.{is_away}
+use Rattle.ssq_board.specs.Shelf.{acknowledged_in}
 use Rattle.ssq_board.specs.Shown.{Start, first, planned_by}
 use Rattle.ssq_board.specs.Follows.{State, Leads}
 use Rattle.ssq_board.proofs.Lists.{at_length, there_at, all_fine, nat_lt-not}
 use Rattle.ssq_board.proofs.Readies.{commit_may, over_is}
 use Rattle.ssq_board.proofs.Sounds.{open_less}
-use Rattle.ssq_ledger.specs.Shown.{Shown, IsLegal, IsInOrder, state, first_state, cuts_of}
+use Rattle.ssq_ledger.specs.Shown.{Shown, IsLegal, IsInOrder, state, first_state, cuts_of, shelf_of}
 use Rattle.ssq_desk.specs.declared.desk.Load.{Load}
 use Rattle.ssq_desk.specs.declared.desk.Source.{Source}
 use Rattle.ssq_desk.specs.declared.round.Round.{Round}
@@ -55,7 +57,7 @@ use Rattle.ssq_desk.specs.Round.{setting_of, Owns}
 use Rattle.ssq_desk.specs.Whole.{IsWhole, opening_in}
 use Rattle.ssq_desk.specs.Contents.{is_away as is_with_worker, IsHeldAt, keeping_in}
 use Rattle.ssq_desk.specs.First.{AreIndexes}
-use Rattle.ssq_desk.specs.Closing.{IsToldOf, AreTold, IsNext, acknowledged_in, closings_in, lines_between, stores_in}
+use Rattle.ssq_desk.specs.Closing.{IsToldOf, AreTold, IsNext, closings_in, lines_between, stores_in}
 use Rattle.ssq_desk.proofs.Betweens.{ends_are, ends_within}
 use Rattle.ssq_desk.proofs.Feeding.{all_at}
 use Rattle.ssq_desk.proofs.Handing.{part_there}
@@ -189,6 +191,12 @@ step_ahead r first c (entry.Commit e due) may is = record {
   few = is.few;
   ahead = λ closed unsettled. (let l = is.low in omega (arith, l));
 }
+step_ahead r first c (entry.Upkeep p v) may is = is
+step_ahead r first c (entry.Snapshot p v) may is = is
+step_ahead r first c (entry.Unmade p v f) may is = record { low = is.low; before = is.before; few = is.few; ahead = is.ahead }
+step_ahead r first c (entry.Untaken p v) may is = record { low = is.low; before = is.before; few = is.few; ahead = is.ahead }
+step_ahead r first c (entry.Drop q) may is = is
+step_ahead r first c (entry.Undropped q) may is = record { low = is.low; before = is.before; few = is.few; ahead = is.ahead }
 step_ahead r first c (entry.Stop f) may is = record { low = is.low; before = is.before; few = is.few; ahead = is.ahead }
 
 run_ahead : (tells : Type 0) (job : Job) (r : Scope) (due : Cuts → ℕ → Bool) (first : ℕ) (es : List Entry) (a n : State) → Leads tells job r due a es n → IsAhead first a.core → IsAhead first n.core
@@ -220,7 +228,7 @@ module _ {D L S F : Type 0} (stores logs : Type 0) (lines : L → List Line) (av
       let numbers = whole.round.numbers in
       let planned = planned_first found.committed (length found.plans) (nat_lt found.committed (length found.plans)) refl numbers.before numbers.near in
       run_ahead owned (opening_in lines shown.opening).job shown.scope (opening_in lines shown.opening).due found.committed shown.history (first_state (opening_in lines shown.opening) shown.scope (history shown.opened))
-      (state legal.0 shown.core cuts) legal.2 (first_ahead shown.scope (opening_in lines shown.opening).start (let few = numbers.few_plans in omega (arith, few, planned)))
+      (state legal.0 shown.core (shelf_of (opening_in lines) shown) cuts) legal.2 (first_ahead shown.scope (opening_in lines shown.opening).start (let few = numbers.few_plans in omega (arith, few, planned)))
 
   -- no log is with a worker
   pub there_back : (list_any is_away shown.core.maps ≡ false) → (i : ℕ) (source : Source L) → get_elem? load.sources.items i ≡ some source
@@ -304,9 +312,9 @@ module _ {D L S F : Type 0} (stores logs : Type 0) (lines : L → List Line) (av
       (subst (λ (b : Bool). IsHeldAt owned s cuts b shown.core.front.committed p at.0 own) closed (whole.holds.kept o.0 p at.0 own at.1 here))))
 
   -- what the next round opens
-  pub next_right : (next : Opened) → ready_of shown.scope shown.core ≡ ready.Over → next ≡ record { meta = load.kept.meta; plans = load.plans.items; committed = shown.core.front.committed; seen = lines_of load.view.bound.now load.seen; stores = stores_in load.held.items; names = load.kept.names }
-      → All HasLineTime next.seen → IsNext owned s cuts shown.scope.available shown.core shown.opening.opened next
-  next_right next over is years =
+  pub next_right : (next : Opened) (names : List Name) → names ≡ (shelf_of (opening_in lines) shown).settled → ready_of shown.scope shown.core ≡ ready.Over → next ≡ record { meta = load.kept.meta; plans = load.plans.items; committed = shown.core.front.committed; seen = lines_of load.view.bound.now load.seen; stores = stores_in load.held.items; names = names }
+      → All HasLineTime next.seen → IsNext owned s cuts shown.scope.available shown.core (shelf_of (opening_in lines) shown) shown.opening.opened next
+  next_right next names listed over is years =
       let runs = (over_is shown.scope shown.core over).0 in
       let bound = whole.view.bound in
       let seen = whole.holds.seen_so_far runs in
@@ -320,7 +328,7 @@ module _ {D L S F : Type 0} (stores logs : Type 0) (lines : L → List Line) (av
       record {
         meta_is = ap (λ (o : Opened). o.meta) is ∙ whole.kept.meta_is;
         stores = subst (λ (n : ℕ). AreStores (keeping_in s) n next.stores) (sym committed) (subst (λ (l : List Store). AreStores (keeping_in s) shown.core.front.committed l) (sym stores_are) left.stores);
-        names_are = ap (λ (o : Opened). o.names) is ∙ whole.kept.names_are;
+        names_are = ap (λ (o : Opened). o.names) is ∙ listed;
         committed_is = committed;
         planned = count;
         plans_on = (whole.plans.on.0, plans ∙ whole.plans.on.1);
@@ -348,12 +356,13 @@ module _ {D L S F : Type 0} (stores logs : Type 0) (lines : L → List Line) (av
   indexes_right next closings over stores_are closings_are =
       subst (λ (l : List Store). AreIndexes (Unit {0}) s.job.bound l closings) (sym stores_are) (subst (λ (l : List (List Timed)). AreIndexes (Unit {0}) s.job.bound (stores_in load.held.items) l) (sym closings_are) (over_left over).indexes)
 
-  pub next_back : (next : Option (Opened × Vec (List Timed))) (b : Bool)
-      → MatchOption next (b ≡ false) (λ next. (b ≡ true) × (next.0 ≡ record { meta = load.kept.meta; plans = load.plans.items; committed = shown.core.front.committed; seen = lines_of load.view.bound.now load.seen; stores = stores_in load.held.items; names = load.kept.names }) × All HasLineTime next.0.seen × (next.1.items ≡ closings_in load.held.items))
-      → (b ≡ true → ready_of shown.scope shown.core ≡ ready.Over) → (b ≡ false → ready_of shown.scope shown.core ≢ ready.Over)
-      → MatchOption next (ready_of shown.scope shown.core ≢ ready.Over) (λ next. (ready_of shown.scope shown.core ≡ ready.Over) × IsNext owned s cuts shown.scope.available shown.core shown.opening.opened next.0 × AreIndexes (Unit {0}) shown.opening.view.bound.now next.0.stores next.1.items)
-  next_back None b is over other = other is
-  next_back (Some next) b is over other = (over is.0, next_right next.0 (over is.0) is.1 is.2, indexes_right next.0 next.1.items (over is.0) (ap (λ (o : Opened). o.stores) is.1) is.3)
+  pub next_back : (next : Option (Opened × Vec (List Timed))) (b : Bool) (names : List Name) → names ≡ (shelf_of (opening_in lines) shown).settled
+      → MatchOption next (b ≡ false) (λ next. (b ≡ true) × (next.0 ≡ record { meta = load.kept.meta; plans = load.plans.items; committed = shown.core.front.committed; seen = lines_of load.view.bound.now load.seen; stores = stores_in load.held.items; names = names }) × All HasLineTime next.0.seen × (next.1.items ≡ closings_in load.held.items))
+      → (b ≡ true → (ready_of shown.scope shown.core ≡ ready.Over) × ((shelf_of (opening_in lines) shown).tidy ≡ true)) → (b ≡ false → (ready_of shown.scope shown.core ≢ ready.Over) ⊎ ((shelf_of (opening_in lines) shown).tidy ≡ false))
+      → MatchOption next ((ready_of shown.scope shown.core ≢ ready.Over) ⊎ ((shelf_of (opening_in lines) shown).tidy ≡ false)) (λ next. (ready_of shown.scope shown.core ≡ ready.Over) × ((shelf_of (opening_in lines) shown).tidy ≡ true)
+      × IsNext owned s cuts shown.scope.available shown.core (shelf_of (opening_in lines) shown) shown.opening.opened next.0 × AreIndexes (Unit {0}) shown.opening.view.bound.now next.0.stores next.1.items)
+  next_back None b names listed is over other = other is
+  next_back (Some next) b names listed is over other = ((over is.0).0, (over is.0).1, next_right next.0 names listed (over is.0).0 is.1 is.2, indexes_right next.0 next.1.items (over is.0).0 (ap (λ (o : Opened). o.stores) is.1) is.3)
 
   -- where the round is over there is a greatest time, or none, for each stream
   pub seen_each : ready_of shown.scope shown.core ≡ ready.Over → length load.seen ≡ length load.view.bound.now.streams

@@ -30,6 +30,12 @@ step_ends r cuts c (entry.Missed t) is = is
 step_ends r cuts c (entry.OutFile e) is = is
 step_ends r cuts c (entry.Sync clock) is = is
 step_ends r cuts c (entry.Commit e due) is = is
+step_ends r cuts c (entry.Upkeep p v) is = is
+step_ends r cuts c (entry.Snapshot p v) is = is
+step_ends r cuts c (entry.Unmade p v f) is = is
+step_ends r cuts c (entry.Untaken p v) is = is
+step_ends r cuts c (entry.Drop q) is = is
+step_ends r cuts c (entry.Undropped q) is = is
 step_ends r cuts c (entry.Stop f) is = is
 
 pub run_ends : (tells : Type 0) (job : Job) (r : Scope) (next : Cuts → ℕ → Bool) (es : List Entry) (a n : State) → Leads tells job r next a es n → AreEnds a.cuts a.core → AreEnds n.cuts n.core
@@ -72,6 +78,12 @@ step_within r c (entry.Missed t) are = are
 step_within r c (entry.OutFile e) are = are
 step_within r c (entry.Sync clock) are = are
 step_within r c (entry.Commit e due) are = are
+step_within r c (entry.Upkeep p v) are = are
+step_within r c (entry.Snapshot p v) are = are
+step_within r c (entry.Unmade p v f) are = are
+step_within r c (entry.Untaken p v) are = are
+step_within r c (entry.Drop q) are = are
+step_within r c (entry.Undropped q) are = are
 step_within r c (entry.Stop f) are = are
 
 pub run_within : (tells : Type 0) (job : Job) (r : Scope) (next : Cuts → ℕ → Bool) (es : List Entry) (a n : State) → Leads tells job r next a es n → AreWithin r.available a.core.ends → AreWithin r.available n.core.ends

@@ -6,7 +6,7 @@ use mathlib.Core.Option.{some, some-injective, some-ne-none}
 use lib.ListN.{get_elem?}
 use Rattle.ssq_shape.specs.declared.bound.Shape.{Shape}
 use Rattle.ssq_shape.specs.declared.bound.Shape.TheVariants.{Plain, Group, Dedup, Join}
-use Rattle.ssq_agg.specs.Indexing.{IsIndex, Timed}
+use Rattle.ssq_step.specs.Indexing.{IsIndex, Timed}
 use Rattle.ssq_store.specs.declared.store.Store.{Store}
 use Rattle.ssq_store.specs.Loaded.{count_to}
 use Rattle.ssq_task.specs.declared.partition.Held.{Held}

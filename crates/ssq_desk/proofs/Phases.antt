@@ -68,6 +68,12 @@ step_phased r c (entry.Missed t) m phased = away_phased c t.number t.kind (place
 step_phased r c (entry.OutFile e) m phased = phased
 step_phased r c (entry.Sync clock) m phased = phased
 step_phased r c (entry.Commit e next) m phased = phased
+step_phased r c (entry.Upkeep p v) m phased = phased
+step_phased r c (entry.Snapshot p v) m phased = phased
+step_phased r c (entry.Unmade p v f) m phased = phased
+step_phased r c (entry.Untaken p v) m phased = phased
+step_phased r c (entry.Drop q) m phased = phased
+step_phased r c (entry.Undropped q) m phased = phased
 step_phased r c (entry.Stop f) m phased = phased
 
 first_phased : (b : Bool) (r : Scope) (s : Start) → IsPhased (first_by b r s)

@@ -22,7 +22,7 @@ use Rattle.ssq_board.specs.declared.front.Ready.TheVariants as ready
 use Rattle.ssq_board.specs.Core.{Scope, Core, after, after_all, cuts_by, extended, next_ends, ready_of}
 use Rattle.ssq_board.specs.Shown.{first}
 use Rattle.ssq_board.proofs.Lists.{nat_lt-not, nat_lt-is}
-use Rattle.ssq_ledger.specs.Shown.{Shown, IsLegal, IsInOrder, state, first_state, cuts_of, did}
+use Rattle.ssq_ledger.specs.Shown.{Shown, IsLegal, IsInOrder, state, first_state, cuts_of, shelf_of, did}
 use Rattle.ssq_desk.specs.declared.desk.Load.{Load}
 use Rattle.ssq_desk.specs.declared.desk.Source.{Source}
 use Rattle.ssq_desk.specs.declared.desk.Share.{Share}
@@ -159,7 +159,7 @@ module _ {D L S F : Type 0} (stores logs : Type 0) (lines : L → List Line) (av
       let core : Core = after r c (entry.Plan c.front.planned) in
       let b : IsBetween s cuts r c = between stores logs lines available answers faults history written sealed shown load whole legal order next in
       let known : c ≡ after_all r (first r (opening_in lines shown.opening).start) shown.history =
-      leads_core (Owns stores logs lines shown) (opening_in lines shown.opening).job r (opening_in lines shown.opening).due (first_state (opening_in lines shown.opening) r (history shown.opened)) shown.history (state legal.0 c cuts) legal.2 in
+      leads_core (Owns stores logs lines shown) (opening_in lines shown.opening).job r (opening_in lines shown.opening).due (first_state (opening_in lines shown.opening) r (history shown.opened)) shown.history (state legal.0 c (shelf_of (opening_in lines) shown) cuts) legal.2 in
       let same : cuts_of (opening_in lines) (did shown disk (entry.Plan c.front.planned ∷ [])) ≡ later =
       cuts_then (opening_in lines shown.opening) r shown.history (entry.Plan c.front.planned) ∙ ap (λ (x : Core). cuts_by r cuts x (entry.Plan c.front.planned)) (sym known) in
       let work : OutWork S F = is_made.work.0 in

@@ -4,7 +4,7 @@ use Rattle.std.specs.Prelude.{All, is_some, IsSomeAnd, slice_get, vec_capacity}
 use Rattle.std.proofs.lemmas.List.Elements.{All-nil, All-cons, All-head, All-tail}
 use mathlib.Core.Option.{some, some-injective, some-ne-none}
 use lib.ListN.{get_elem?}
-use Rattle.ssq_agg.specs.Indexing.{Timed}
+use Rattle.ssq_step.specs.Indexing.{Timed}
 use Rattle.ssq_store.specs.declared.store.Store.{Store}
 use Rattle.ssq_task.specs.declared.partition.Held.{Held}
 use Rattle.ssq_desk.specs.declared.desk.Share.{Share}

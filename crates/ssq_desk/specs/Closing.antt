@@ -5,7 +5,7 @@ use Rattle.std.specs.Option.{ForSome}
 use mathlib.Core.Option.{some}
 use lib.ListN.{get_elem?}
 use Rattle.ssq_time.specs.Time.{IsStampTime}
-use Rattle.ssq_agg.specs.Indexing.{Timed}
+use Rattle.ssq_step.specs.Indexing.{Timed}
 use Rattle.ssq_store.specs.declared.store.Store.{Store}
 use Rattle.ssq_task.specs.declared.partition.Held.{Held}
 use Rattle.ssq_meaning.specs.Cut.{Cut}
@@ -22,7 +22,8 @@ use Rattle.ssq_terms.specs.Partitions.{HoldsStateOf}
 use Rattle.ssq_board.specs.declared.front.Cause.TheVariants as cause
 use Rattle.ssq_board.specs.declared.front.Place.{Place}
 use Rattle.ssq_board.specs.declared.front.Place.TheVariants as place
-use Rattle.ssq_board.specs.Core.{Core, is_open}
+use Rattle.ssq_board.specs.Core.{Core}
+use Rattle.ssq_board.specs.Shelf.{Shelf}
 use Rattle.ssq_desk.specs.declared.desk.Source.{Source}
 use Rattle.ssq_desk.specs.declared.told.Told.{Told}
 use Rattle.ssq_desk.specs.Contents.{keeping_in}
@@ -57,10 +58,6 @@ pub record HasFaulty {L : Type 0} (faults : L → ℕ) (maps : List Place) (sour
   pub log_is : source.log ≡ Some log
   pub counted : 0 < faults log
 
--- how many epochs are acknowledged: all that are committed, but for the last where names are not settled behind its commit
-abbrev pub acknowledged_in : Core → ℕ
-acknowledged_in c = if is_open c || c.front.settled then c.front.committed else c.front.committed - 1
-
 -- the stores of what partitions keep, and their indexes, in order
 abbrev pub stores_in : List (Option Held) → List Store
 stores_in held = filter_map (λ own. option_map (λ (held : Held). held.store) own) held
@@ -68,13 +65,13 @@ stores_in held = filter_map (λ own. option_map (λ (held : Held). held.store) o
 abbrev pub closings_in : List (Option Held) → List (List Timed)
 closings_in held = filter_map (λ own. option_map (λ (held : Held). held.closing) own) held
 
--- What the next round opens: the same job and names, with all epochs that are planned and committed, the opened ones first, and with the stores
--- after these. It is in order, no part is planned beyond what was found; and where what was opened is the job's own, its plans, greatest times
+-- What the next round opens: the same job, with all epochs that are planned and committed, the opened ones first, and with the stores after these and
+-- the names of the state's files that no crash can take away. It is in order, no part is planned beyond what was found; and where what was opened is the job's own, its plans, greatest times
 -- and states are.
-pub record IsNext (owned : Type 0) (s : Setting) (cuts : Cuts) (available : List ℕ) (c : Core) (opened next : Opened) : Type 0 where
+pub record IsNext (owned : Type 0) (s : Setting) (cuts : Cuts) (available : List ℕ) (c : Core) (shelf : Shelf) (opened next : Opened) : Type 0 where
   pub meta_is : next.meta ≡ opened.meta
   pub stores : AreStores (keeping_in s) next.committed next.stores
-  pub names_are : next.names ≡ opened.names
+  pub names_are : next.names ≡ shelf.settled
   pub committed_is : next.committed ≡ c.front.committed
   pub planned : length next.plans ≡ c.front.planned
   pub plans_on : (more : List Plan) × (next.plans ≡ opened.plans ++ more)

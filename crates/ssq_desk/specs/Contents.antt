@@ -17,7 +17,7 @@ use Rattle.ssq_meaning.specs.Feeding.{LineAt, time_in, fault_in}
 use Rattle.ssq_meaning.specs.Epochs.{seen, out, fault, of_line, of_key}
 use Rattle.ssq_water.specs.Water.{seen_at}
 use Rattle.ssq_feed.specs.declared.task.FedRows.{FedRows}
-use Rattle.ssq_agg.specs.Indexing.{IsIndex}
+use Rattle.ssq_step.specs.Indexing.{IsIndex}
 use Rattle.ssq_store.specs.Loaded.{count_to}
 use Rattle.ssq_task.specs.declared.partition.Held.{Held}
 use Rattle.ssq_core.specs.Course.{Cuts, truth}

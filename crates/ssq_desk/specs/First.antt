@@ -1,7 +1,7 @@
 -- What is made for a desk where its round begins, and what it shows then.
 use Rattle.std.specs.Prelude.{◌≡◌, ◌⊎◌, ◌≤◌, ◌<◌, ℕ, ℤ, Bool, true, false, List, [], ◌∷◌, length, slice_get, Option, Some, None, vec_capacity}
 use Rattle.std.specs.Global.{Vec}
-use Rattle.ssq_agg.specs.Indexing.{IsIndex, Timed}
+use Rattle.ssq_step.specs.Indexing.{IsIndex, Timed}
 use Rattle.ssq_store.specs.declared.store.Store.{Store}
 use Rattle.ssq_task.specs.declared.partition.Held.{Held}
 use Rattle.ssq_value.specs.declared.row.Row.{Row}

@@ -21,6 +21,7 @@ use Rattle.ssq_open.specs.Jobs.{IsDeskOf}
 use Rattle.ssq_open.specs.Stores.{AreStores}
 use Rattle.ssq_board.specs.Core.{Scope}
 use Rattle.ssq_board.specs.Rounds.{HasCap}
+use Rattle.ssq_board.specs.Shelf.{first_shelf}
 use Rattle.ssq_board.specs.Shown.{Start}
 use Rattle.ssq_terms.specs.Setting.{CanRun, IsSettingOf, AreFound, found_lines}
 use Rattle.ssq_terms.specs.Laws.{due_at, IsScopeOf}
@@ -58,9 +59,9 @@ start_at first bound found = record {
   due = is_due_on bound found;
 }
 
--- the job of the setting, with the cuts that were opened
+-- the job of the setting, with the cuts and the files of the state that were opened
 abbrev pub opening_of : Setting → Opened → Opening
-opening_of s found = record { job = job_of s; due = due_at s; cuts = cut_of (first_ends s) found.plans; start = start_at (first_ends s) s.job.bound found }
+opening_of s found = record { job = job_of s; due = due_at s; cuts = cut_of (first_ends s) found.plans; start = start_at (first_ends s) s.job.bound found; shelf = first_shelf found.names }
 
 -- What was opened is in order, on any disk and over any logs: it is of a query that can be run, with 1 to 64 partitions; of each part one log
 -- is there, and at least so many lines were found as are planned; of each partition that keeps state its store is there, at the last committed

@@ -36,11 +36,10 @@ pub record ArePlans (owned : Type 0) (opened : List Plan) (s : Setting) (cuts : 
   pub marks : All (λ plan. ForSome plan.watermark IsStampTime) plans
   pub each : owned → (e : ℕ) (default : Plan) → e < planned → get_or plans e default ≡ plan_of (course_of s cuts) e
 
--- What is kept for the end of a round: what was opened of the job and the names, and room for the greatest times, the logs, the stores and
+-- What is kept for the end of a round: what was opened of the job, and room for the greatest times, the logs, the stores and
 -- their indexes.
 pub record IsKept {L : Type 0} (s : Setting) (opened : Opened) (kept : Kept L) : Type 0 where
   pub meta_is : kept.meta ≡ opened.meta
-  pub names_are : kept.names ≡ opened.names
   pub no_lines : kept.lines.items ≡ []
   pub lines_room : length s.job.bound.streams ≤ vec_capacity kept.lines
   pub no_logs : kept.logs.items ≡ []

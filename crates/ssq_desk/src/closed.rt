@@ -1,6 +1,6 @@
 //! How a desk ends.
 
-ghost use Rattle.std.specs.Prelude.{◌≡◌, ◌≢◌, ◌<◌, ◌≤◌, ◌-◌, ◌^◌, ◌||◌, nat_lt, true, false, [], ◌∷◌, ◌++◌, length, map, take, vec_capacity, Some, None, All, IsSome, MatchOption};
+ghost use Rattle.std.specs.Prelude.{◌≡◌, ◌≢◌, ◌⊎◌, ◌<◌, ◌≤◌, ◌-◌, ◌^◌, ◌||◌, nat_lt, true, false, [], ◌∷◌, ◌++◌, length, map, take, vec_capacity, Some, None, All, IsSome, MatchOption};
 ghost use Rattle.std.specs.List.{list_any, AllZip, sum_by};
 ghost use Rattle.ssq_outside.specs.declared.gate.Kind.{Kind as KindOf};
 ghost use Rattle.ssq_plans.specs.Records.{HasLineTime};
@@ -12,22 +12,23 @@ ghost use Rattle.ssq_board.specs.declared.front.Cause.TheVariants as cause;
 ghost use Rattle.ssq_board.specs.declared.front.Ready.TheVariants as ready;
 ghost use Rattle.ssq_board.specs.Core.{ready_of, tasks_of};
 ghost use Rattle.ssq_board.specs.Rounds.{is_away};
-ghost use Rattle.ssq_ledger.specs.Shown.{cuts_of};
+ghost use Rattle.ssq_board.specs.Shelf.{acknowledged_in};
+ghost use Rattle.ssq_ledger.specs.Shown.{cuts_of, shelf_of};
 ghost use Rattle.ssq_desk.specs.Round.{Owns, setting_of};
 ghost use Rattle.ssq_desk.specs.Contents.{IsStopOf};
 ghost use Rattle.ssq_desk.specs.Whole.{opening_in};
 ghost use Rattle.ssq_desk.specs.First.{AreIndexes};
-ghost use Rattle.ssq_desk.specs.Closing.{AreTold, IsNext, acknowledged_in, closings_in, stores_in};
+ghost use Rattle.ssq_desk.specs.Closing.{AreTold, IsNext, closings_in, stores_in};
 
 use crate::desk::{Desk, Kept, Load, Source};
 use crate::keys::take_key;
 use crate::told::Told;
-use ssq_agg::Closing;
 use ssq_board::{Cause, Entry, Front, Ready};
 use ssq_open::Opened;
-use ssq_outside::{Disk, Log};
+use ssq_outside::{Disk, Log, Name};
 use ssq_plans::{Plan, SeenBy};
 use ssq_shape::Bound;
+use ssq_step::Closing;
 use ssq_store::Store;
 use ssq_task::Held;
 use ssq_value::{Row, Sequence};
@@ -47,7 +48,8 @@ pub struct Closed<D: Disk, L: Log> {
     pub stop: Option<Cause>,
     /// The key for which it was stopped: none where it was not stopped for one.
     pub key: Option<Row>,
-    /// What the next round opens, with the index of each store: where all that was found is covered, committed and settled.
+    /// What the next round opens, with the index of each store: where all that was found is covered, committed and settled, and all files of the
+    /// state are.
     pub next: Option<(Opened, Vec<Closing>)>,
 }
 
@@ -161,6 +163,7 @@ fn next_of<L: Log>(
     committed: u32,
     bound: &Bound,
     seen: &Seen,
+    names: Vec<Name>,
 ) -> (Opened, Vec<Closing>, Vec<L>)
     requires no_stores { (kept.stores.items ≡ []) × (kept.closings.items ≡ []) }
     requires stores { (length held.items ≤ vec_capacity kept.stores) × (length held.items ≤ vec_capacity kept.closings) }
@@ -168,14 +171,13 @@ fn next_of<L: Log>(
     requires fits { length bound.now.streams ≤ vec_capacity kept.lines }
     requires each { length seen.now ≡ length bound.now.streams }
     requires few { length bound.now.streams ≤ 2 ^ 32 }
-    ensures next { result.0 ≡ record { meta = kept.meta; plans = plans.items; committed = committed; seen = lines_of bound.now seen.now; stores = stores_in held.items; names = kept.names } }
+    ensures next { result.0 ≡ record { meta = kept.meta; plans = plans.items; committed = committed; seen = lines_of bound.now seen.now; stores = stores_in held.items; names = names.items } }
     ensures closings { result.1.items ≡ closings_in held.items }
     ensures years { All HasLineTime result.0.seen }
     ensures room { result.2 ≡ kept.logs }
 {
     let Kept {
         meta,
-        names,
         lines,
         logs,
         stores,
@@ -190,7 +192,7 @@ fn next_of<L: Log>(
             committed,
             seen,
             stores: Sequence::from_vec(stores),
-            names,
+            names: Sequence::from_vec(names),
         },
         closings,
         logs,
@@ -206,6 +208,7 @@ fn next_if<L: Log>(
     committed: u32,
     bound: &Bound,
     seen: &Seen,
+    names: Vec<Name>,
 ) -> (Option<(Opened, Vec<Closing>)>, Vec<L>)
     requires no_stores { (kept.stores.items ≡ []) × (kept.closings.items ≡ []) }
     requires stores { (length held.items ≤ vec_capacity kept.stores) × (length held.items ≤ vec_capacity kept.closings) }
@@ -213,22 +216,23 @@ fn next_if<L: Log>(
     requires fits { length bound.now.streams ≤ vec_capacity kept.lines }
     requires each { is_over ≡ true → length seen.now ≡ length bound.now.streams }
     requires few { length bound.now.streams ≤ 2 ^ 32 }
-    ensures next { MatchOption result.0 (is_over ≡ false) (λ next. (is_over ≡ true) × (next.0 ≡ record { meta = kept.meta; plans = plans.items; committed = committed; seen = lines_of bound.now seen.now; stores = stores_in held.items; names = kept.names }) × All HasLineTime next.0.seen × (next.1.items ≡ closings_in held.items)) }
+    ensures next { MatchOption result.0 (is_over ≡ false) (λ next. (is_over ≡ true) × (next.0 ≡ record { meta = kept.meta; plans = plans.items; committed = committed; seen = lines_of bound.now seen.now; stores = stores_in held.items; names = names.items }) × All HasLineTime next.0.seen × (next.1.items ≡ closings_in held.items)) }
     ensures room { result.1 ≡ kept.logs }
 {
     if !is_over {
         let Kept { logs, .. } = kept;
         return (None, logs);
     }
-    let (next, closings, logs) = next_of(kept, held, plans, committed, bound, seen);
+    let (next, closings, logs) = next_of(kept, held, plans, committed, bound, seen, names);
     (Some((next, closings)), logs)
 }
 
-fn is_over(next: Ready) -> bool
-    ensures over { result ≡ true → next ≡ ready.Over }
-    ensures other { result ≡ false → next ≢ ready.Over }
+/// Whether the round is over, and all files of the state are settled.
+fn is_over(next: Ready, is_tidy: bool) -> bool
+    ensures over { result ≡ true → (next ≡ ready.Over) × (is_tidy ≡ true) }
+    ensures other { result ≡ false → (next ≢ ready.Over) ⊎ (is_tidy ≡ false) }
 {
-    matches!(next, Ready::Over)
+    is_tidy && matches!(next, Ready::Over)
 }
 
 impl<'a, D: Disk, L: Log> Desk<'a, D, L> {
@@ -244,16 +248,16 @@ impl<'a, D: Disk, L: Log> Desk<'a, D, L> {
         ensures logs { AllZip (LogWent L.tells L.lines L.available L.answers L.faults) self.entry.opening.logs.items result.logs.items }
         ensures faulty { self.entry.core.front.stop ≡ Some cause.LogFault → 0 < sum_by L.faults result.logs.items }
         ensures told { AreTold (Owns D.tells L.tells L.lines self.entry) (setting_of L.lines self.entry.opening) (cuts_of (opening_in L.lines) self.entry) self.entry.opening.opened.committed (acknowledged_in self.entry.core) result.told.items }
-        ensures next { MatchOption result.next (ready_of self.entry.scope self.entry.core ≢ ready.Over)
-            (λ next. (ready_of self.entry.scope self.entry.core ≡ ready.Over) × IsNext (Owns D.tells L.tells L.lines self.entry) (setting_of L.lines self.entry.opening) (cuts_of (opening_in L.lines) self.entry) self.entry.scope.available self.entry.core self.entry.opening.opened next.0
+        ensures next { MatchOption result.next ((ready_of self.entry.scope self.entry.core ≢ ready.Over) ⊎ ((shelf_of (opening_in L.lines) self.entry).tidy ≡ false))
+            (λ next. (ready_of self.entry.scope self.entry.core ≡ ready.Over) × ((shelf_of (opening_in L.lines) self.entry).tidy ≡ true) × IsNext (Owns D.tells L.tells L.lines self.entry) (setting_of L.lines self.entry.opening) (cuts_of (opening_in L.lines) self.entry) self.entry.scope.available self.entry.core (shelf_of (opening_in L.lines) self.entry) self.entry.opening.opened next.0
             × AreIndexes (Unit {0}) self.entry.opening.view.bound.now next.0.stores next.1.items) }
     {
         self.ledger.is_legal();
         self.ledger.is_in_order();
-        let is_over = is_over(self.ledger.ready());
+        let is_over = is_over(self.ledger.ready(), self.ledger.is_tidy());
         let front = self.ledger.front();
         let Desk { ledger, load, .. } = self;
-        let (disk, history) = ledger.closed();
+        let (disk, history, names) = ledger.closed();
         let Load {
             view,
             plans,
@@ -275,6 +279,7 @@ impl<'a, D: Disk, L: Log> Desk<'a, D, L> {
             front.committed,
             view.bound,
             &seen,
+            names,
         );
         Closed {
             disk,

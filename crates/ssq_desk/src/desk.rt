@@ -2,12 +2,12 @@
 
 use crate::round::Round;
 use crate::told::Told;
-use ssq_agg::Closing;
 use ssq_feed::FedRows;
 use ssq_ledger::Ledger;
 use ssq_meaning::{FedRow, View};
-use ssq_outside::{Disk, Log, Name, Stage};
+use ssq_outside::{Disk, Log, Stage};
 use ssq_plans::{Meta, Plan, SeenBy};
+use ssq_step::Closing;
 use ssq_store::Store;
 use ssq_task::{Held, Stages};
 use ssq_value::{Row, Sequence};
@@ -66,8 +66,6 @@ pub(crate) struct Pending<F: Drop> {
 pub(crate) struct Kept<L: Log> {
     /// The record of the job, as it was opened.
     pub(crate) meta: Meta,
-    /// The names that were found.
-    pub(crate) names: Sequence<Name>,
     /// Room for the greatest times of the watermarked streams.
     pub(crate) lines: Vec<SeenBy>,
     /// Room for the logs.

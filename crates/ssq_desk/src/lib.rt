@@ -26,6 +26,7 @@ mod room;
 mod round;
 mod task;
 mod told;
+mod upkeep;
 
 pub use closed::Closed;
 pub use desk::Desk;

@@ -11,11 +11,11 @@ use crate::first::{Made, make_first, with_closings, with_logs};
 use crate::make::cause_of;
 use crate::room::{Room, begin_files};
 use crate::round::Round;
-use ssq_agg::Closing;
 use ssq_ledger::{Ledger, Opening, Scope};
 use ssq_meaning::View;
 use ssq_open::Opened;
 use ssq_outside::{Disk, Log};
+use ssq_step::Closing;
 use ssq_task::Held;
 use ssq_terms::tasks_have_terms;
 use ssq_value::Row;
@@ -79,8 +79,15 @@ impl<'a, D: Disk, L: Log> Desk<'a, D, L> {
             closings: room_for_closings,
         } = made;
         let is_planned = start.is_planned;
+        let Opened {
+            meta,
+            plans,
+            stores,
+            names,
+            ..
+        } = opened;
         tasks_have_terms();
-        let mut ledger = match Ledger::new(alloc, opening, disk, scope, start) {
+        let mut ledger = match Ledger::new(alloc, opening, disk, scope, start, names.into_vec()) {
             Ok(ledger) => ledger,
             Err(disk) => return Err((disk, logs)),
         };
@@ -91,13 +98,6 @@ impl<'a, D: Disk, L: Log> Desk<'a, D, L> {
             seen: before,
             ..
         } = room;
-        let Opened {
-            meta,
-            plans,
-            stores,
-            names,
-            ..
-        } = opened;
         let held = with_closings(held, stores.into_vec(), closings);
         let out = begin_out(
             alloc,
@@ -123,7 +123,6 @@ impl<'a, D: Disk, L: Log> Desk<'a, D, L> {
                 told,
                 kept: Kept {
                     meta,
-                    names,
                     lines,
                     logs: room_for_logs,
                     stores: room_for_stores,

@@ -6,16 +6,17 @@ use Rattle.ssq_outside.specs.declared.gate.Kind.TheVariants as kind
 use Rattle.ssq_core.specs.declared.event.Event.{Event}
 use Rattle.ssq_core.specs.declared.event.Event.TheVariants as event
 use Rattle.ssq_core.specs.Laws.{acknowledged}
+use Rattle.ssq_core.specs.Machine.{upkeep}
 use Rattle.ssq_board.specs.declared.front.Cause.{Cause}
 use Rattle.ssq_board.specs.declared.front.Entry.{Entry}
 use Rattle.ssq_board.specs.declared.front.Entry.TheVariants as entry
-use Rattle.ssq_board.specs.Core.{Scope, Core, after, due, is_open, is_stopped, seals, stops, events_all}
+use Rattle.ssq_board.specs.Core.{Scope, Core, after, due, is_open, is_stopped, seals, stops, stops_by, events_all}
 use Rattle.ssq_board.specs.Shown.{Start, IsSound, first}
 use Rattle.ssq_board.specs.Told.{acknowledged_of}
 use Rattle.ssq_board.proofs.Lists.{nat_lt-is, nat_lt-not}
 use Rattle.ssq_board.proofs.Sounds.{step_sound}
-use Rattle.ssq_board.proofs.Telling.{Runs}
-use Rattle.ssq_desk.specs.Closing.{acknowledged_in}
+use Rattle.ssq_board.proofs.Telling.{Runs, ack_snapshot, ack_unmade, after_stop, now_stopped}
+use Rattle.ssq_board.specs.Shelf.{acknowledged_in}
 
 -- So many are acknowledged, and maybe one waits for its sync. All that are committed are, where an epoch is open or names are settled; and
 -- else all but the last, which waits, but for a Stop.
@@ -40,11 +41,6 @@ or_right false b is = is
 or_left : (a b : Bool) → a ≡ true → (a || b) ≡ true
 or_left a b is = ap (λ (x : Bool). x || b) is
 
--- a Stop leaves nothing that waits
-abbrev after_stop : Option Cause → Option ℕ → Option ℕ
-after_stop None p = p
-after_stop (Some f) p = None
-
 none_waits : (o : Option Cause) (p : Option ℕ) → p ≡ None → after_stop o p ≡ None
 none_waits None p is = is
 none_waits (Some f) p is = refl
@@ -64,6 +60,19 @@ of_report kind.Upkeep t f (Some g) p rest = refl
 of_version : (t : TaskId) (o : Option Cause) (p : Option ℕ) (rest : List Event) → acknowledged p ((event.Seal t ∷ event.Report t ∷ stops o) ++ rest) ≡ acknowledged (after_stop o p) rest
 of_version t None p rest = refl
 of_version t (Some g) p rest = refl
+
+-- what came back in place of a snapshot
+unmade_at : (r : Scope) (c : Core) (i v : ℕ) (f : Cause) (p : Option ℕ) (a : ℕ) (o : Option Cause) → IsAt c p a → IsAt (after r c (entry.Unmade i v f)) (after_stop (stops_by o f) p) a
+unmade_at r c i v f p a None (inl at) = inl (refl, at.1, at.2)
+unmade_at r c i v f p a None (inr at) = inr (inr (refl, now_stopped c.front.stop f), at.1, at.2, at.3)
+unmade_at r c i v f p a (Some g) (inl at) = inl at
+unmade_at r c i v f p a (Some g) (inr (inl waits, one, unsettled, closed)) = inr (inl waits, one, unsettled, closed)
+unmade_at r c i v f p a (Some g) (inr (inr stopped, one, unsettled, closed)) = inr (inr (stopped.0, now_stopped c.front.stop f), one, unsettled, closed)
+
+-- and a Stop
+halted_at : (c n : Core) (p : Option ℕ) (a : ℕ) → n.front.committed ≡ c.front.committed → n.front.settled ≡ c.front.settled → is_open n ≡ is_open c → is_stopped n.front.stop ≡ true → IsAt c p a → IsAt n None a
+halted_at c n p a committed settled opened stopped (inl at) = inl (refl, at.1 ∙ sym committed, (λ i. opened i || settled i) ∙ at.2)
+halted_at c n p a committed settled opened stopped (inr at) = inr (inr (refl, stopped), at.1 ∙ sym committed, settled ∙ at.2, opened ∙ at.3)
 
 module _ (r : Scope) where
   abbrev Counts : List Event → ℕ → Option ℕ → Core → Type 0
@@ -94,6 +103,17 @@ module _ (r : Scope) where
   counts (entry.Missed t ∷ es) c n p a sound (inr at) l = absurd (true≢false (sym l.0.0 ∙ at.3))
   counts (entry.OutFile e ∷ es) c n p a sound (inl at) l = counts es (after r c (entry.OutFile e)) n p a (step_sound r c (entry.OutFile e) l.0 sound) (inl (at.0, at.1, or_left (is_open c) false l.0.2)) l.1
   counts (entry.OutFile e ∷ es) c n p a sound (inr at) l = absurd (true≢false (sym l.0.2 ∙ at.3))
+  counts (entry.Upkeep i v ∷ es) c n p a sound at l = counts es c n p a sound at l.1
+  counts (entry.Drop q ∷ es) c n p a sound at l = counts es c n p a sound at l.1
+  counts (entry.Snapshot i v ∷ es) c n p a sound at l =
+      subst (λ (x : List ℕ). (q : Option ℕ) × IsAt n q (a + length x)) (sym (ack_snapshot i v c.front.stop p (events_all r c es))) (counts es c n p a sound at l.1)
+  counts (entry.Unmade i v f ∷ es) c n p a sound at l =
+      let more = counts es (after r c (entry.Unmade i v f)) n (after_stop (stops_by c.front.stop f) p) a (step_sound r c (entry.Unmade i v f) l.0 sound) (unmade_at r c i v f p a c.front.stop at) l.1 in
+      subst (λ (x : List ℕ). (q : Option ℕ) × IsAt n q (a + length x)) (sym (ack_unmade (upkeep i v) (stops_by c.front.stop f) p (events_all r (after r c (entry.Unmade i v f)) es))) more
+  counts (entry.Untaken i v ∷ es) c n p a sound at l =
+      counts es (after r c (entry.Untaken i v)) n None a (step_sound r c (entry.Untaken i v) l.0 sound) (halted_at c (after r c (entry.Untaken i v)) p a refl refl refl refl at) l.1
+  counts (entry.Undropped q ∷ es) c n p a sound at l =
+      counts es (after r c (entry.Undropped q)) n None a (step_sound r c (entry.Undropped q) l.0 sound) (halted_at c (after r c (entry.Undropped q)) p a refl refl refl refl at) l.1
   counts (entry.Stop f ∷ es) c n p a sound (inl at) l = counts es (after r c (entry.Stop f)) n None a (step_sound r c (entry.Stop f) l.0 sound) (inl (refl, at.1, at.2)) l.1
   counts (entry.Stop f ∷ es) c n p a sound (inr at) l = counts es (after r c (entry.Stop f)) n None a (step_sound r c (entry.Stop f) l.0 sound) (inr (inr (refl, refl), at.1, at.2, at.3)) l.1
   counts (entry.Commit e b ∷ es) c n p a sound (inl at) l =

@@ -7,7 +7,7 @@ use Rattle.ssq_board.specs.declared.front.Cause.{Cause}
 use Rattle.ssq_board.specs.declared.front.Cause.TheVariants as cause
 use Rattle.ssq_board.specs.declared.front.Entry.{Entry}
 use Rattle.ssq_board.specs.declared.front.Entry.TheVariants as entry
-use Rattle.ssq_board.specs.Core.{Scope, Core, May, HasCause, after, cuts_by, cuts_all, extended, next_end, next_ends, within, is_behind, is_of_epoch, is_open}
+use Rattle.ssq_board.specs.Core.{Scope, Core, May, HasCause, after, cuts_by, cuts_all, extended, next_end, next_ends, within, is_behind, is_of_epoch, is_open, or_stop}
 use Rattle.ssq_board.proofs.Lists.{nat_lt-is, nat_lt-not}
 use Rattle.ssq_board.proofs.Telling.{Runs}
 use Rattle.ssq_drive.specs.Driven.{brings_due}
@@ -160,6 +160,12 @@ module _ (r : Scope) (closing : Bool) (from : ℕ) (old : Cuts) where
       and_none : (b : Bool) → (b && false) ≡ false
       and_none true = refl
       and_none false = refl
+  one_goes cuts c (entry.Upkeep p v) may undue gone = still_goes c (after r c (entry.Upkeep p v)) cuts refl refl refl (λ lines due. due) (λ none due. due) gone
+  one_goes cuts c (entry.Snapshot p v) may undue gone = still_goes c (after r c (entry.Snapshot p v)) cuts refl refl refl (λ lines due. due) (λ none due. due) gone
+  one_goes cuts c (entry.Unmade p v f) may undue gone = still_goes c (after r c (entry.Unmade p v f)) cuts refl refl refl (λ lines due. due) (λ none due. due) gone
+  one_goes cuts c (entry.Untaken p v) may undue gone = still_goes c (after r c (entry.Untaken p v)) cuts refl refl refl (λ lines due. due) (λ none due. due) gone
+  one_goes cuts c (entry.Drop q) may undue gone = still_goes c (after r c (entry.Drop q)) cuts refl refl refl (λ lines due. due) (λ none due. due) gone
+  one_goes cuts c (entry.Undropped q) may undue gone = still_goes c (after r c (entry.Undropped q)) cuts refl refl refl (λ lines due. due) (λ none due. due) gone
   one_goes cuts c (entry.Stop f) may undue gone = still_goes c (after r c (entry.Stop f)) cuts refl refl refl (λ lines due. due) (λ none due. due) gone
 
   all_go : (es : List Entry) (c n : Core) (cuts : Cuts) → Runs r c es n → (closing ≡ false → list_any brings_due es ≡ false) → HasGone c cuts → HasGone n (cuts_all r cuts c es)
@@ -219,6 +225,11 @@ not_of_epoch r c cause.DiskFault has own = true≢false (sym own)
 not_of_epoch r c cause.Full has own = true≢false (sym own)
 not_of_epoch r c cause.NoMemory has own = true≢false (sym own)
 
+-- what came back in place of a snapshot is no cause of an epoch
+unmade_open : {A : Type 0} (o : Option Cause) (g : Cause) → is_of_epoch g ≡ false → (f : Cause) → or_stop o (Some g) ≡ Some f → is_of_epoch f ≡ true → (o ≡ Some f → A) → A
+unmade_open None g outside f stops own was = absurd (true≢false (sym own ∙ ap is_of_epoch (sym (same_cause g f stops)) ∙ outside))
+unmade_open (Some h) g outside f stops own was = was stops
+
 open_step : (r : Scope) (c : Core) (e : Entry) → May r c e → StopsOpen c → StopsOpen (after r c e)
 open_step r c (entry.Plan k) may so f stops own = absurd (none_some f stops)
 open_step r c (entry.Claim t) may so f stops own = so f stops own
@@ -228,6 +239,12 @@ open_step r c (entry.Missed t) may so f stops own = may.0
 open_step r c (entry.OutFile e) may so f stops own = absurd (none_some f stops)
 open_step r c (entry.Sync clock) may so f stops own = absurd (none_some f stops)
 open_step r c (entry.Commit e due) may so f stops own = absurd (none_some f stops)
+open_step r c (entry.Upkeep p v) may so f stops own = so f stops own
+open_step r c (entry.Snapshot p v) may so f stops own = so f stops own
+open_step r c (entry.Unmade p v g) may so f stops own = unmade_open c.front.stop g may f stops own (λ was. so f was own)
+open_step r c (entry.Untaken p v) may so f stops own = absurd (true≢false (sym own ∙ ap is_of_epoch (sym (same_cause cause.DiskFault f stops))))
+open_step r c (entry.Drop q) may so f stops own = so f stops own
+open_step r c (entry.Undropped q) may so f stops own = absurd (true≢false (sym own ∙ ap is_of_epoch (sym (same_cause cause.DiskFault f stops))))
 open_step r c (entry.Stop g) may so f stops own = absurd (not_of_epoch r c g may.1 (ap is_of_epoch (same_cause g f stops) ∙ own))
 
 pub stops_open : (r : Scope) (es : List Entry) (c n : Core) → Runs r c es n → StopsOpen c → StopsOpen n

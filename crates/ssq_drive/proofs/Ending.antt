@@ -1,5 +1,5 @@
 -- How a driven desk ends.
-use Rattle.std.proofs.Common.{◌≡◌, ◌≢◌, ◌⊎◌, not, true, Option, Some, None, Result, Ok, Err, IfOk, IfErr, refl, ap, ◌∙◌, subst, inl, inr}
+use Rattle.std.proofs.Common.{◌≡◌, ◌≢◌, ◌⊎◌, not, Bool, true, false, true≢false, Option, Some, None, Result, Ok, Err, IfOk, IfErr, refl, sym, ap, ◌∙◌, subst, inl, inr}
 use Rattle.std.specs.Prelude.{IsSome, MatchOption, is_some}
 use Rattle.std.specs.List.{list_all, list_any}
 use Rattle.ssq_board.specs.declared.front.Cause.{Cause}
@@ -35,11 +35,14 @@ stopped_is r c e = elim (chosen (is_stopped c.front.stop) ready.Stopped _ ready.
 ]
 
 -- a desk that gives nothing to go on with is stopped
-pub one_of_both : {N : Type 0} (r : Scope) (c : Core) (Q : N → Type 0) (next : Option N) (stop : Option Cause) → MatchOption next (ready_of r c ≢ ready.Over) Q
-    → (ready_of r c ≡ ready.Over) ⊎ (ready_of r c ≡ ready.Stopped) → stop ≡ c.front.stop → next ≡ None → IsSome stop
-one_of_both {N} r c Q next stop is end same none =
-    let other : ready_of r c ≢ ready.Over = subst (λ (o : Option N). MatchOption o (ready_of r c ≢ ready.Over) Q) none is in
-    elim end [ inl over ↦ absurd (other over) | inr stopped ↦ ap is_some same ∙ stopped_is r c stopped ]
+pub one_of_both : {N : Type 0} (r : Scope) (c : Core) (tidy : Bool) (Q : N → Type 0) (next : Option N) (stop : Option Cause) → MatchOption next ((ready_of r c ≢ ready.Over) ⊎ (tidy ≡ false)) Q
+    → ((ready_of r c ≡ ready.Over) × (tidy ≡ true)) ⊎ (ready_of r c ≡ ready.Stopped) → stop ≡ c.front.stop → next ≡ None → IsSome stop
+one_of_both {N} r c tidy Q next stop is end same none =
+    let other : (ready_of r c ≢ ready.Over) ⊎ (tidy ≡ false) = subst (λ (o : Option N). MatchOption o ((ready_of r c ≢ ready.Over) ⊎ (tidy ≡ false)) Q) none is in
+    elim end [
+      | inl over ↦ absurd (elim other [ inl more ↦ more over.0 | inr untidy ↦ true≢false (sym over.1 ∙ untidy) ])
+      | inr stopped ↦ ap is_some same ∙ stopped_is r c stopped
+    ]
 
 -- what the end of a round says of its desk
 pub end_over : {N E : Type 0} (P : Type 0) (Q : N → Type 0) (next : Option N) (end : Result N E) → MatchOption next P Q → IfOk end (λ own. next ≡ Some own) → (own : N) → end ≡ Ok own → Q own

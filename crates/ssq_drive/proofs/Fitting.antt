@@ -8,6 +8,7 @@ use Rattle.ssq_course.specs.Setting.{Setting}
 use Rattle.ssq_open.specs.declared.wanted.Opened.{Opened}
 use Rattle.ssq_open.specs.Epochs.{cut_of, no_plan}
 use Rattle.ssq_board.specs.Core.{Scope, Core, next_ends, is_behind}
+use Rattle.ssq_board.specs.Shelf.{Shelf}
 use Rattle.ssq_desk.specs.Closing.{IsNext}
 use Rattle.ssq_drive.specs.Rounds.{PlansOn}
 use Rattle.ssq_drive.proofs.Cutting.{AreNextCuts}
@@ -35,8 +36,8 @@ plans_on r closing first old plans to cuts go fits =
     }
 
 -- what the next round opens
-pub next_fits : (owned : Type 0) (s : Setting) (first : Ends) (cuts : Cuts) (available : List ℕ) (c : Core) (opened next : Opened) → IsNext owned s cuts available c opened next → cuts 0 ≡ first → FitsPlans first opened.plans next.plans c.front.planned cuts
-next_fits owned s first cuts available c opened next is begins = record { more = is.plans_on.0; behind = is.plans_on.1; count = is.planned; are = are }
+pub next_fits : (owned : Type 0) (s : Setting) (first : Ends) (cuts : Cuts) (available : List ℕ) (c : Core) (shelf : Shelf) (opened next : Opened) → IsNext owned s cuts available c shelf opened next → cuts 0 ≡ first → FitsPlans first opened.plans next.plans c.front.planned cuts
+next_fits owned s first cuts available c shelf opened next is begins = record { more = is.plans_on.0; behind = is.plans_on.1; count = is.planned; are = are }
   where
     are : (e : ℕ) → e ≤ c.front.planned → cut_of first next.plans e ≡ cuts e
     are zero le = sym begins

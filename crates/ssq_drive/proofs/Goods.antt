@@ -184,6 +184,12 @@ good_entry s r cuts begin c (entry.Missed t) right g = record {
 }
 good_entry s r cuts begin c (entry.OutFile e) right g = record { before = g.before; near = g.near; last = g.last; count = g.count; mapped = g.mapped; told = g.told }
 good_entry s r cuts begin c (entry.Sync clock) right g = record { before = g.before; near = g.near; last = g.last; count = g.count; mapped = g.mapped; told = g.told }
+good_entry s r cuts begin c (entry.Upkeep p v) right g = record { before = g.before; near = g.near; last = g.last; count = g.count; mapped = g.mapped; told = g.told }
+good_entry s r cuts begin c (entry.Snapshot p v) right g = record { before = g.before; near = g.near; last = g.last; count = g.count; mapped = g.mapped; told = g.told }
+good_entry s r cuts begin c (entry.Unmade p v f) right g = record { before = g.before; near = g.near; last = g.last; count = g.count; mapped = g.mapped; told = g.told }
+good_entry s r cuts begin c (entry.Untaken p v) right g = record { before = g.before; near = g.near; last = g.last; count = g.count; mapped = g.mapped; told = g.told }
+good_entry s r cuts begin c (entry.Drop q) right g = record { before = g.before; near = g.near; last = g.last; count = g.count; mapped = g.mapped; told = g.told }
+good_entry s r cuts begin c (entry.Undropped q) right g = record { before = g.before; near = g.near; last = g.last; count = g.count; mapped = g.mapped; told = g.told }
 good_entry s r cuts begin c (entry.Stop f) right g = record { before = g.before; near = g.near; last = g.last; count = g.count; mapped = g.mapped; told = g.told }
 good_entry s r cuts begin c (entry.Commit k due) right g =
     let opened = right.0 in

@@ -6,7 +6,7 @@ use Rattle.std.proofs.lemmas.List.{append-nil}
 use Rattle.std.proofs.lemmas.List.Elements.{All-nil}
 use Rattle.ssq_outside.specs.History.{History, LeavesNow}
 use Rattle.ssq_outside.specs.Logs.{Line}
-use Rattle.ssq_agg.specs.Indexing.{Timed}
+use Rattle.ssq_step.specs.Indexing.{Timed}
 use Rattle.ssq_feed.specs.Causes.{LogWent}
 use Rattle.ssq_core.specs.Course.{Cuts}
 use Rattle.ssq_course.specs.Setting.{Setting, job_of}

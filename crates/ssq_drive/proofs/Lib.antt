@@ -16,3 +16,4 @@ pub mod Idling
 pub mod Ending
 pub mod Goods
 pub mod Dues
+pub mod Settling

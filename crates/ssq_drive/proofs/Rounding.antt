@@ -12,7 +12,7 @@ use Rattle.ssq_plans.specs.declared.plan.Plan.{Plan}
 use Rattle.ssq_plans.specs.declared.meta.Meta.{Meta}
 use Rattle.ssq_plans.specs.declared.seen.SeenBy.{SeenBy}
 use Rattle.ssq_core.specs.Course.{Cuts, Ends, Job, AreSameUpTo}
-use Rattle.ssq_agg.specs.Indexing.{Timed}
+use Rattle.ssq_step.specs.Indexing.{Timed}
 use Rattle.ssq_store.specs.declared.store.Store.{Store}
 use Rattle.ssq_course.specs.Setting.{Setting, parts_in, first_ends, job_of, keeping_of, closes, state_at}
 use Rattle.ssq_course.specs.Setting.{cut_of as offsets_of, cuts_of as offsets}
@@ -29,6 +29,7 @@ use Rattle.ssq_board.specs.declared.front.Cause.TheVariants as cause
 use Rattle.ssq_board.specs.declared.front.Entry.{Entry}
 use Rattle.ssq_board.specs.declared.front.Ready.TheVariants as ready
 use Rattle.ssq_board.specs.Core.{Scope, Core, IsFull, after_all, cuts_all, is_behind, is_of_epoch, is_open, ready_of}
+use Rattle.ssq_board.specs.Shelf.{Shelf, AreListed, acknowledged_in, shelf_all}
 use Rattle.ssq_board.specs.Shown.{IsSound, first}
 use Rattle.ssq_board.specs.Told.{acknowledged_of}
 use Rattle.ssq_board.specs.Follows.{State, Leads}
@@ -42,13 +43,13 @@ use Rattle.ssq_terms.specs.Laws.{PartsAreFound, TasksHaveTerms, HasTerms, Unmark
 use Rattle.ssq_terms.specs.Opening.{DeskOpensAsFound}
 use Rattle.ssq_terms.specs.Partitions.{HoldsStateOf}
 use Rattle.ssq_promise.specs.Run.{Begins, IsLeft, AreFilesOf, RoundGoesOn, RoundIsRun, RoundLeavesFound, RoundLeavesTrue, WasRun, WentOn, as_planned, one_tried}
-use Rattle.ssq_ledger.specs.Shown.{Shown, Opening, IsLegal, IsInOrder, cuts_of, did, first_state, state}
+use Rattle.ssq_ledger.specs.Shown.{Shown, Opening, IsLegal, IsInOrder, cuts_of, did, first_state, shelf_of, state}
 use Rattle.ssq_desk.specs.declared.round.Round.{Round}
 use Rattle.ssq_desk.specs.declared.told.Told.{Told}
 use Rattle.ssq_desk.specs.Round.{Owns, is_due_on, setting_of, start_at}
 use Rattle.ssq_desk.specs.Round.{IsRound as IsDeskRound}
 use Rattle.ssq_desk.specs.Contents.{IsStopOf}
-use Rattle.ssq_desk.specs.Closing.{AreTold as DeskTold, IsNext, acknowledged_in}
+use Rattle.ssq_desk.specs.Closing.{AreTold as DeskTold, IsNext}
 use Rattle.ssq_desk.specs.First.{first_shown}
 use Rattle.ssq_desk.specs.Whole.{opening_in}
 use Rattle.ssq_drive.specs.Driven.{StopsFor, IsDriven, brings_due}
@@ -71,8 +72,8 @@ pub record IsClosed {D L : Type 0} (stores logs : Type 0) (lines : L → List Li
   pub order : IsInOrder desk.scope desk.core
   pub why : IfSome desk.core.front.stop (StopsFor first.scope desk.core (faults first.disk) (faults desk.disk))
   pub telling : DeskTold (Owns stores logs lines desk) (setting_of lines desk.opening) (cuts_of (opening_in lines) desk) desk.opening.opened.committed (acknowledged_in desk.core) told
-  pub over : (next : Opened × Vec (List Timed)) → end ≡ Ok next → (ready_of desk.scope desk.core ≡ ready.Over)
-      × IsNext (Owns stores logs lines desk) (setting_of lines desk.opening) (cuts_of (opening_in lines) desk) desk.scope.available desk.core desk.opening.opened next.0
+  pub over : (next : Opened × Vec (List Timed)) → end ≡ Ok next → (ready_of desk.scope desk.core ≡ ready.Over) × ((shelf_of (opening_in lines) desk).tidy ≡ true)
+      × IsNext (Owns stores logs lines desk) (setting_of lines desk.opening) (cuts_of (opening_in lines) desk) desk.scope.available desk.core (shelf_of (opening_in lines) desk) desk.opening.opened next.0
       × HaveIndexes desk.opening.view.bound.now next.0.stores next.1.items
   pub stopped : (why : Stopped) → end ≡ Err why → (desk.core.front.stop ≡ Some why.cause)
       × IsStopOf (stores × logs) (Owns stores logs lines desk) (setting_of lines desk.opening) (cuts_of (opening_in lines) desk) desk.core.front.committed why.key why.cause
@@ -123,7 +124,7 @@ leads_by : (one other : Type 0) → one → (job : Job) (r : Scope) (due : Cuts 
 leads_by one other t job r due [] s n leads = leads
 leads_by one other t job r due (e ∷ es) s n leads =
     let step = leads.1 in
-    (leads.0, record { may = step.may; moves = λ _. step.moves t; right = λ _. step.right t; core = step.core; cuts = step.cuts }, leads_by one other t job r due es leads.0 n leads.2)
+    (leads.0, record { may = step.may; keeps = step.keeps; moves = λ _. step.moves t; right = λ _. step.right t; core = step.core; shelf = step.shelf; cuts = step.cuts }, leads_by one other t job r due es leads.0 n leads.2)
 
 -- lines that were found so were found so, too
 files_found : (job : Job) (cap : Option ℕ) (due : Cuts → ℕ → Bool) (One Other : List ℕ → Type 0) (Done All : Type 0) (cuts : Cuts) (planned : ℕ) (now : History) → ((found : List ℕ) → One found → Other found) → (Done → All)
@@ -178,11 +179,14 @@ module _ {D L : Type 0} (stores logs : Type 0) (lines : L → List Line) (histor
   abbrev cuts : Cuts
   cuts = cuts_all r o.cuts begun es
 
+  abbrev shelf : Shelf
+  shelf = shelf_all r begun o.shelf es
+
   abbrev owned : Type 0
   owned = Owns stores logs lines (did (first_shown lines round disk r) now es)
 
   runs : Runs r begun es c
-  runs = runs_of owned o.job r o.due es (first_state o r (history disk)) (state closed.legal.0 c cuts) closed.legal.2
+  runs = runs_of owned o.job r o.due es (first_state o r (history disk)) (state closed.legal.0 c shelf cuts) closed.legal.2
 
   planned : begun.front.planned ≡ length found.plans
   planned = planned_found found.committed (length found.plans) can.numbers.before can.numbers.near
@@ -237,10 +241,10 @@ module _ {D L : Type 0} (stores logs : Type 0) (lines : L → List Line) (histor
   is_over own ends =
       let was = closed.over own ends in
       let next = own.0 in
-      let n = was.1 in
+      let n = was.2 in
       let o = over_is r c was.0 in
       let all : acknowledged_in c ≡ c.front.committed = all_settled o.2 in
-      let fits = next_fits owned s (first_of found) cuts r.available c found next n begins_so in
+      let fits = next_fits owned s (first_of found) cuts r.available c shelf found next n begins_so in
       let count = n.planned in
       let up = o.1 in
       let before = sound.before in
@@ -254,7 +258,7 @@ module _ {D L : Type 0} (stores logs : Type 0) (lines : L → List Line) (histor
         all = omega (arith, count, up, before, all, told_all);
         meta_is = n.meta_is;
         covered = ap (λ (ends : Ends). is_behind ends r.available) (ap (cut_of (first_of found) next.plans) count ∙ fits.are c.front.planned (omega arith) ∙ go.last) ∙ o.3;
-        indexes = was.2;
+        indexes = was.3;
         can = record {
           runs = can.runs;
           partitions = can.partitions ∙ ap (λ (m : Meta). m.partitions) same_meta;
@@ -319,14 +323,15 @@ module _ {D L : Type 0} (stores logs : Type 0) (lines : L → List Line) (histor
           (found_due s own.found_is.desk.cuts found can.numbers.before own.found_is.plans laws.unmarked can.runs own.found_is.seen));
       core = refl;
       cuts = ap (λ (ends : Ends). cut_of ends found.plans) begin ∙ sym own.found_is.cuts;
+      shelf = record { names = own.found_is.names; news = refl; claimed = refl; tidy = refl };
     }
 
-    leads_on : Leads (stores × logs) (job_of s) r (due_at s) (first_state o r (history disk)) es (state (history now) c cuts)
-    leads_on = subst (λ (h : History). Leads (stores × logs) (job_of s) r (due_at s) (first_state o r (history disk)) es (state h c cuts)) (closed.legal.1 is_owned)
-        (leads_by owned (stores × logs) is_owned (job_of s) r (due_at s) es (first_state o r (history disk)) (state closed.legal.0 c cuts) closed.legal.2)
+    leads_on : Leads (stores × logs) (job_of s) r (due_at s) (first_state o r (history disk)) es (state (history now) c shelf cuts)
+    leads_on = subst (λ (h : History). Leads (stores × logs) (job_of s) r (due_at s) (first_state o r (history disk)) es (state h c shelf cuts)) (closed.legal.1 is_owned)
+        (leads_by owned (stores × logs) is_owned (job_of s) r (due_at s) es (first_state o r (history disk)) (state closed.legal.0 c shelf cuts) closed.legal.2)
 
-    went_on : WentOn (job_of s) r (due_at s) (first_state o r (history disk)) (state (history now) c cuts)
-    went_on = laws.on t (job_of s) r (due_at s) has_terms.0 o.start es (first_state o r (history disk)) (state (history now) c cuts) begins_on leads_on
+    went_on : WentOn (job_of s) r (due_at s) (first_state o r (history disk)) (state (history now) c shelf cuts)
+    went_on = laws.on t (job_of s) r (due_at s) has_terms.0 o.start es (first_state o r (history disk)) (state (history now) c shelf cuts) begins_on leads_on
 
     is_run : WasRun (stores × logs) (job_of s) (history disk) (history now) (map (λ (x : Told). x.epoch) told)
     is_run =
@@ -335,17 +340,17 @@ module _ {D L : Type 0} (stores logs : Type 0) (lines : L → List Line) (histor
         let length_told = length-map told (λ (x : Told). x.epoch) in
         subst (WasRun (stores × logs) (job_of s) (history disk) (history now))
         (same_from found.committed (acknowledged_of r o.start es) (map (λ (x : Told). x.epoch) told) (tells_all r o.start es c runs).in_order (told_from owned s cuts told found.committed closed.telling.each) (omega (arith, number, here, length_told)))
-        (laws.run t (job_of s) r (due_at s) has_terms.0 o.start es (first_state o r (history disk)) (state (history now) c cuts) begins_on leads_on)
+        (laws.run t (job_of s) r (due_at s) has_terms.0 o.start es (first_state o r (history disk)) (state (history now) c shelf cuts) begins_on leads_on)
 
     -- what it leaves
-    left : (next : Opened × Vec (List Timed)) → end ≡ Ok next → IsLeft (job_of s) (state (history now) c cuts) (cut_of (first_of next.0) next.0.plans)
+    left : (next : Opened × Vec (List Timed)) → end ≡ Ok next → IsLeft (job_of s) (state (history now) c shelf cuts) (cut_of (first_of next.0) next.0.plans)
     left next ends =
         let was = closed.over next ends in
-        let n = was.1 in
+        let n = was.2 in
         let over = over_is r c was.0 in
-        let fits = next_fits owned s (first_of found) cuts r.available c found next.0 n begins_so in
+        let fits = next_fits owned s (first_of found) cuts r.available c shelf found next.0 n begins_so in
         let same : first_of found ≡ first_of next.0 = ap (λ (m : Meta). begins m.parts) (sym n.meta_is) in
-        laws.over t (job_of s) r (due_at s) has_terms.0 o.start es (first_state o r (history disk)) (state (history now) c cuts) begins_on leads_on over.0 over.2
+        laws.over t (job_of s) r (due_at s) has_terms.0 o.start es (first_state o r (history disk)) (state (history now) c shelf cuts) begins_on leads_on over.0 over.2 was.1
         (nat_lt-not c.front.committed c.front.planned over.1) (cut_of (first_of next.0) next.0.plans)
         (subst (λ (ends : Ends). AreSameUpTo (cut_of ends next.0.plans) cuts c.front.planned) same fits.are)
 
@@ -353,9 +358,9 @@ module _ {D L : Type 0} (stores logs : Type 0) (lines : L → List Line) (histor
     found_next own_next ends =
         let was = closed.over own_next ends in
         let next = own_next.0 in
-        let n = was.1 in
+        let n = was.2 in
         let l = left own_next ends in
-        let fits = next_fits owned s (first_of found) cuts r.available c found next n begins_so in
+        let fits = next_fits owned s (first_of found) cuts r.available c shelf found next n begins_so in
         let same : first_of found ≡ first_of next = ap (λ (m : Meta). begins m.parts) (sym n.meta_is) in
         let cut_is : (k : ℕ) → k ≤ c.front.planned → l.desk.cuts k ≡ cuts k = λ k le. ap (λ (x : Cuts). x k) l.are ∙ ap (λ (ends : Ends). cut_of ends next.plans k) (sym same) ∙ fits.are k le in
         let law = says_same s.job.bound (parts_in s) (offsets cuts) (offsets l.desk.cuts) c.front.planned (λ k le. ap offsets_of (sym (cut_is k le))) in
@@ -375,6 +380,7 @@ module _ {D L : Type 0} (stores logs : Type 0) (lines : L → List Line) (histor
           seen = inr (n.seen_is is_owned ∙ (let times = λ (d : Delay). law.same_seen d.0 next.committed (omega (arith, done, before)) in
               λ i. map (λ (d : Delay). (let line : SeenBy = record { stream = d.0; time = times d i } in line)) (delays s.job.bound)));
           states = λ p. holds_by s cuts l.desk.cuts next.committed p (law.same_state s.job.partitions p next.committed (omega (arith, done, before))) (slice_get next.stores p) (n.states is_owned p);
+          names = subst (AreListed (files_now (history now))) (sym n.names_are) l.listed;
         }
 
     -- said of plans of its cuts: that an epoch is to come
@@ -407,7 +413,7 @@ module _ {D L : Type 0} (stores logs : Type 0) (lines : L → List Line) (histor
           (λ lines same. subst (λ (l : List ℕ). AreFound l s.lines) (sym (same ∙ own.scope.available)) own.lines)
           (λ done. (let a = acknowledged in let all = all_settled done.1 in let b = sound.before in let d = done.0 in let count = fits.count in omega (arith, a, all, b, d, count)))
           (subst (λ (n : ℕ). AreFilesOf (job_of s) r.cap (due_at s) (λ lines. lines ≡ r.available) ((c.front.planned ≤ c.front.committed) × (c.front.settled ≡ true)) (cut_of (first_of found) plans) n (history now)) (sym fits.count)
-          (laws.files t (job_of s) r (due_at s) has_terms.0 o.start es (first_state o r (history disk)) (state (history now) c cuts) begins_on leads_on (cut_of (first_of found) plans) fits.are));
+          (laws.files t (job_of s) r (due_at s) has_terms.0 o.start es (first_state o r (history disk)) (state (history now) c shelf cuts) begins_on leads_on (cut_of (first_of found) plans) fits.are));
       due = λ e ge less. (let count = fits.count in let start = planned in more_by plans fits e (omega (arith, less, count)) (went_on.come e (omega (arith, ge, start)) (omega (arith, less, count))));
       meant = told_meant owned s cuts (first_of found) plans c.front.planned fits.are c.front.committed sound.before went_on.faultless is_owned told found.committed closed.telling.each (let a = acknowledged in let b = below in omega (arith, a, b));
       settled = λ next ends. (left next ends).settled;
@@ -474,8 +480,8 @@ round_is : {D L : Type 0} (stores logs : Type 0) (lines : L → List Line) (hist
     → IsClosed stores logs lines history faults (first_shown lines round disk r) log_faults told end (did (first_shown lines round disk r) now es) → HaveLaws (stores × logs)
     → IsRound (stores × logs) (setting_of lines round) (length round.logs.items) r round.opened (history disk) (history now) (faults disk) (faults now) log_faults told end
 round_is stores logs lines history faults round r disk now es can begin is quiet log_faults told (Ok next) closed laws =
-    let n = (closed.over next refl).1 in
-    let fits = next_fits _ (setting_of lines round) (first_of round.opened) _ r.available _ round.opened next.0 n (begins_so stores logs lines history faults round r disk now es can begin is quiet log_faults told (Ok next) closed) in
+    let n = (closed.over next refl).2 in
+    let fits = next_fits _ (setting_of lines round) (first_of round.opened) _ r.available _ _ round.opened next.0 n (begins_so stores logs lines history faults round r disk now es can begin is quiet log_faults told (Ok next) closed) in
     round_by stores logs lines history faults round r disk now es can begin is quiet log_faults told (Ok next) closed laws next.0.plans fits (λ other ends. sym (ap (plans_or next.0.plans) ends))
 round_is stores logs lines history faults round r disk now es can begin is quiet log_faults told (Err why) closed laws =
     let next = next_cuts stores logs lines history faults round r disk now es can begin is quiet log_faults told (Err why) closed in

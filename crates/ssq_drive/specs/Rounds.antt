@@ -10,7 +10,7 @@ use Rattle.ssq_shape.specs.declared.bound.Bound.{Bound}
 use Rattle.ssq_meaning.specs.Meaning.{Line, Values}
 use Rattle.ssq_meaning.specs.Feeding.{LineAt}
 use Rattle.ssq_meaning.specs.Epochs.{out, fault, of_line, of_key}
-use Rattle.ssq_agg.specs.Indexing.{Timed}
+use Rattle.ssq_step.specs.Indexing.{Timed}
 use Rattle.ssq_plans.specs.declared.plan.Plan.{Plan}
 use Rattle.ssq_core.specs.Course.{Ends, Cuts, plan_of}
 use Rattle.ssq_core.specs.Settled.{IsSettledAs}
@@ -28,6 +28,7 @@ use Rattle.ssq_board.specs.declared.front.Cause.{Cause}
 use Rattle.ssq_board.specs.declared.front.Cause.TheVariants as cause
 use Rattle.ssq_board.specs.Core.{Scope, next_ends, is_behind}
 use Rattle.ssq_board.specs.Rounds.{HasCap}
+use Rattle.ssq_board.specs.Shelf.{AreListed}
 use Rattle.ssq_terms.specs.Setting.{CanRun, IsSettingOf, AreFound, found_lines}
 use Rattle.ssq_terms.specs.Laws.{IsScopeOf, due_at}
 use Rattle.ssq_terms.specs.Partitions.{HoldsStateOf}
@@ -69,7 +70,7 @@ pub record CanBegin (bound : Bound) (logs : ℕ) (found : Opened) (r : Scope) : 
   pub long : (i : ℕ) → get_or (offsets_of (last_ends (first_of found) found.plans)) i 0 ≤ get_or r.available i 0
 
 -- The files are the job's, a desk of the machine opens on them, and what was found is what they hold: where its epochs end, the plans, the
--- greatest times over the committed epochs, and what partitions keep after these.
+-- greatest times over the committed epochs, what partitions keep after these, and the names of the state's files.
 pub record IsFoundOf (s : Setting) (files : Files) (found : Opened) : Type 0 where
   pub desk : Desk
   pub is : opened (job_of s) files desk
@@ -79,6 +80,7 @@ pub record IsFoundOf (s : Setting) (files : Files) (found : Opened) : Type 0 whe
   pub plans : (e : ℕ) (default : Plan) → e < length found.plans → get_or found.plans e default ≡ plan_of ((job_of s).course desk.cuts) e
   pub seen : ((found.committed ≡ 0) × (found.seen ≡ [])) ⊎ (found.seen ≡ ((job_of s).course desk.cuts).seen found.committed)
   pub states : (p : ℕ) → HoldsStateOf s desk.cuts found.committed p (slice_get found.stores p)
+  pub names : AreListed files found.names
 
 -- a log is as it was, but that more of its lines may be known to be there, and that it may have failed
 pub record IsReturned {L : Type 0} (tells : Type 0) (lines : L → List Line) (available : L → ℕ) (answers : L → List ℕ) (faults : L → ℕ) (before after : L) : Type 0 where

@@ -5,6 +5,7 @@
 #![tactic(auto)]
 
 mod drive;
+mod keep;
 mod round;
 mod turn;
 

@@ -7,7 +7,6 @@ ghost use lib.ListN.{get_elem?};
 ghost use Rattle.ssq_drive.specs.Rounds.{CanBegin, AreReturned, HaveIndexes, IsRound, setting_for};
 
 use crate::drive::run_desk;
-use ssq_agg::Closing;
 use ssq_board::Cause;
 use ssq_desk::{Closed, Desk, Told};
 use ssq_meaning::View;
@@ -15,6 +14,7 @@ use ssq_open::Opened;
 use ssq_outside::{Disk, Gate, Log};
 use ssq_promise::rounds;
 use ssq_shape::Bound;
+use ssq_step::Closing;
 use ssq_terms::{job_is_wanted, round_begins_as_found, tasks_have_terms, times_are_of_lines};
 use ssq_value::Row;
 use std::alloc::Global;

@@ -7,6 +7,7 @@ pub mod Readying
 pub mod PutLemmas
 pub mod Starting
 pub mod Firsts
+pub mod Listed
 pub mod Owning
 pub mod Promising
 pub mod Sourcing

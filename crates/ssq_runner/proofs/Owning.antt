@@ -6,6 +6,7 @@ use Rattle.std.proofs.lemmas.List.{length-take, length-drop}
 use Rattle.std.proofs.lemmas.Bool.{cases_lt}
 use Rattle.std.proofs.lemmas.List.Elements.{All-nil, All-cons, All-head, All-tail}
 use Rattle.std.proofs.lemmas.List.Sums.{sum_by-cons}
+use Rattle.ssq_outside.specs.declared.name.Name.{Name}
 use Rattle.ssq_outside.specs.declared.name.Name.TheVariants as name
 use Rattle.ssq_outside.specs.Files.{Files, Had, Content, last_or, IsImage, IsEmpty, files_of}
 use Rattle.ssq_outside.specs.History.{History, had_now, files_now, LeavesNow, LeavesOnly}
@@ -25,8 +26,9 @@ use Rattle.ssq_open.specs.Epochs.{starts, cut_of}
 use Rattle.ssq_open.specs.Lens.{CanBeAsked, IsFew, asked, counts_of, found_from}
 use Rattle.ssq_open.specs.Looking.{begins}
 use Rattle.ssq_open.specs.Sought.{Sought}
-use Rattle.ssq_open.specs.Opening.{IsImageOpening, IsOpen, kept, begun, first_meta}
+use Rattle.ssq_open.specs.Opening.{IsImageOpening, IsOpen, kept, begun, first_meta, only_meta}
 use Rattle.ssq_open.specs.Jobs.{IsWantedJob, IsDeskOf, AreStates}
+use Rattle.ssq_board.specs.Shelf.{AreListed}
 use Rattle.ssq_terms.specs.Setting.{CanRun, IsSettingOf, AreFound, found_lines}
 use Rattle.ssq_terms.specs.Laws.{JobIsWanted, StatesAreJobs, FirstRecordIsJobs, PartsAreFound}
 use Rattle.ssq_terms.specs.Opening.{FoundIsJobs, StoresHoldStates}
@@ -36,6 +38,7 @@ use Rattle.ssq_runner.specs.Lens.{lens_of, apart}
 use Rattle.ssq_runner.specs.Ending.{IsOwnRun}
 use Rattle.ssq_runner.specs.Running.{IsOpenedOn}
 use Rattle.ssq_runner.proofs.Firsts.{apart_joined, apart_count, apart_few}
+use Rattle.ssq_runner.proofs.Listed.{all_listed, none_listed}
 
 -- ---- images
 
@@ -220,6 +223,12 @@ module _ {L : Type 0} (tells : Type 0) (lines : L → List Line) (available : L 
         parts_are : opened.meta.parts ≡ counts
         parts_are = ap (λ (m : Meta). m.parts) meta_is ∙ parts
 
+        names_of : IsOpen (asked bound asks (lens_of counts found)) (files_now (history before)) (history after) opened → AreListed (files_now (history after)) opened.names
+        names_of (kept passes settled) = subst (λ (f : Files). AreListed f opened.names) (sym (settled_files_are (history after) (files_now (history before)) settled)) (all_listed (files_now (history before)) opened.names passes.listed)
+        names_of (begun empty begins_as settled) =
+            let first_one = first_meta (asked bound asks (lens_of counts found)) in
+            subst (λ (f : Files). AreListed f opened.names) (sym (settled_files_are (history after) (only_meta first_one) settled)) (subst (λ (l : List Name). AreListed (only_meta first_one) l) (sym begins_as.names) (none_listed first_one))
+
         found_of : IsFoundOf s (files_now (history after)) opened
         found_of =
             let jobs = found_law (asked bound asks (lens_of counts found)) (job_of s) (files_now (history before)) (history after) opened is_wanted is_open desk in
@@ -232,6 +241,7 @@ module _ {L : Type 0} (tells : Type 0) (lines : L → List Line) (available : L 
               plans = jobs.plans;
               seen = jobs.seen;
               states = stores_law s bound asks (lens_of counts found) (files_now (history after)) opened setting (sym (ap (λ (m : Meta). m.partitions) meta_is)) is.stores (is.states t (job_of s) (state_at s) is_wanted are_states stands) desk;
+              names = names_of is_open;
             }
 
         pub owned : (cap : Option ℕ) (rounds disk_faults : ℕ) (written : List ℕ)

@@ -4,8 +4,8 @@ ghost use Rattle.std.specs.Prelude.{take, IfOk, OnOk};
 ghost use Rattle.ssq_shape.specs.Windows.{HasWindows};
 ghost use Rattle.ssq_drive.specs.Rounds.{HaveIndexes};
 
-use ssq_agg::Closing;
 use ssq_shape::Bound;
+use ssq_step::Closing;
 use ssq_store::Store;
 use std::alloc::{AllocError, Global};
 

@@ -10,11 +10,11 @@ ghost use Rattle.ssq_runner.specs.Putting.{IsUntold, OutCause};
 
 use crate::fault::RunFault;
 use crate::line::push_all;
-use ssq_agg::Closing;
 use ssq_desk::Told;
 use ssq_drive::Stopped;
 use ssq_open::Opened;
 use ssq_outside::{OutError, Output};
+use ssq_step::Closing;
 use std::alloc::Global;
 
 /// Writes the text, and empties it. Where the output fails it is emptied too, since a front of it was written. Where memory runs out it

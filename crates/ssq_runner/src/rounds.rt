@@ -17,7 +17,6 @@ use crate::fault::RunFault;
 use crate::index::closings_of;
 use crate::line::push_done;
 use crate::put::tell_round;
-use ssq_agg::Closing;
 use ssq_board::Cause;
 use ssq_drive::{Went, run_round};
 use ssq_logs::{LengthFault, count_lines};
@@ -27,6 +26,7 @@ use ssq_outside::{Disk, Gate, Log, Output};
 use ssq_plans::PartEnd;
 use ssq_promise::rounds;
 use ssq_shape::Bound;
+use ssq_step::Closing;
 use std::alloc::Global;
 
 /// What the rounds of a run go on from, between two of them.

@@ -18,24 +18,27 @@ use Rattle.ssq_meaning.specs.declared.fed_row.FedRow.{FedRow}
 use Rattle.ssq_meaning.specs.Parts.{Part}
 use Rattle.ssq_meaning.specs.Cut.{Cut, AreCuts, AreWithin}
 use Rattle.ssq_meaning.specs.Cut.{Cuts as Offsets}
+use Rattle.ssq_meaning.specs.DedupLaws as deduped
+use Rattle.ssq_meaning.specs.DedupLaws.{IsDedupRow}
 use Rattle.ssq_meaning.specs.Epochs.{accepted, fed, on_time, timely, bucket, watermark, watermark_before}
 use Rattle.ssq_meaning.specs.Fit.{IsFitRow}
 use Rattle.ssq_meaning.specs.Group.{kept}
 use Rattle.ssq_meaning.specs.GroupLaws.{Follows, IsGroupRow, held}
-use Rattle.ssq_meaning.specs.Operator.{operator_for, operator_of}
+use Rattle.ssq_meaning.specs.Operator.{dedup, operator_for, operator_of}
 use Rattle.ssq_agg.specs.Groups.{AreSteady, HasBigints, Held, IsBigint}
 use Rattle.ssq_agg.specs.Steps.{IsKept}
+use Rattle.ssq_dedup.specs.Steps as once
 use Rattle.ssq_core.specs.Course.{Cuts}
 use Rattle.ssq_course.specs.Setting.{Setting, parts_in, cuts_of, watermark_at, keeping_of}
 use Rattle.ssq_course.specs.States.{CoverFewLines}
 use Rattle.ssq_task.specs.declared.partition.State.{State}
 use Rattle.ssq_task.specs.declared.partition.ReduceTask.{ReduceTask}
-use Rattle.ssq_task.specs.Reducing.{IsGiven, IsGivenBy, IsGivenGroups, timely_in}
+use Rattle.ssq_task.specs.Reducing.{IsGiven, IsGivenBy, IsGivenState, timely_in}
 use Rattle.ssq_terms.specs.Setting.{Runs}
 use Rattle.ssq_terms.specs.Partitions.{accepted_by, fed_to, on_time_to, mark_before, HoldsPartition, held_in, IsReduceOf, IsGivenPartition, PartitionsContinue}
 use Rattle.ssq_terms.proofs.Covering.{found_covers}
 
--- what the laws of rows and of groups say
+-- what the laws of rows, of groups and of rows without repeats say
 pub record PartitionLaws : Type 0 where
   pub fit_accepted : (query : Bound) → HasWindows query → (parts : List Part) (cuts : Offsets) (e : ℕ) → All IsFitRow (accepted query parts cuts e)
   pub fit_on_time : (query : Bound) → HasWindows query → (parts : List Part) (cuts : Offsets) (e : ℕ) → All IsFitRow (on_time query parts cuts e)
@@ -50,6 +53,10 @@ pub record PartitionLaws : Type 0 where
       → bucket partitions p (accepted query parts cuts (e + 1)) ≡ bucket partitions p (accepted query parts cuts e) ++ bucket partitions p (on_time query parts cuts e)
   pub grouped_accepted : (query : Bound) (grouping : Grouping) → query.shape ≡ Group grouping → (parts : List Part) (cuts : Offsets) (e : ℕ) → All (IsGroupRow query grouping) (accepted query parts cuts e)
   pub grouped_on_time : (query : Bound) (grouping : Grouping) → query.shape ≡ Group grouping → (parts : List Part) (cuts : Offsets) (e : ℕ) → All (IsGroupRow query grouping) (on_time query parts cuts e)
+  pub repeats_follow : (query : Bound) (columns : List ℕ) → query.shape ≡ Dedup columns → (parts : List Part) (cuts : Offsets) (partitions p e : ℕ)
+      → deduped.Follows query columns (bucket partitions p (on_time query parts cuts e)) (watermark_before query parts cuts e) (watermark query parts cuts e)
+  pub keyed_accepted : (query : Bound) (columns : List ℕ) → query.shape ≡ Dedup columns → (parts : List Part) (cuts : Offsets) (e : ℕ) → All (IsDedupRow query columns) (accepted query parts cuts e)
+  pub keyed_on_time : (query : Bound) (columns : List ℕ) → query.shape ≡ Dedup columns → (parts : List Part) (cuts : Offsets) (e : ℕ) → All (IsDedupRow query columns) (on_time query parts cuts e)
   pub steady : (query : Bound) (grouping : Grouping) (own : Held) (old new : List FedRow) (before : Option ℤ) → ((key : List Value) → own key ≡ held query grouping old before key)
       → length old + length new < 2 ^ 64 → AllByRecursion HasBigints old → AllByRecursion HasBigints new → AreSteady grouping.aggregates own new
 
@@ -97,6 +104,13 @@ lengths_of query grouping partitions p rows all k d less = (All-filter (λ (row 
 kept_rows : (grouping : Grouping) (rows : List FedRow) → All IsFitRow rows → All (λ (row : FedRow). length row.key ≡ length grouping.keys) rows → All (IsKept grouping) rows
 kept_rows grouping rows fit lengths k d less = record { fit = fit k d less; many = lengths k d less }
 
+-- each key of a partition has a value for each column of DEDUPLICATE
+keys_of_columns : (query : Bound) (columns : List ℕ) (partitions p : ℕ) (rows : List FedRow) → All (IsDedupRow query columns) rows → All (λ (row : FedRow). length row.key ≡ length columns) (bucket partitions p rows)
+keys_of_columns query columns partitions p rows all k d less = (All-filter (λ (row : FedRow). place_of (keys_of row.key) partitions == p) (IsDedupRow query columns) rows all k d less).key
+
+kept_repeats : (columns : List ℕ) (rows : List FedRow) → All IsFitRow rows → All (λ (row : FedRow). length row.key ≡ length columns) rows → All (once.IsKept columns) rows
+kept_repeats columns rows fit lengths k d less = record { fit = fit k d less; many = lengths k d less }
+
 sums_rise : (parts : List Part) (froms tos : Cut) → AreWithin parts froms tos → sum froms ≤ sum tos
 sums_rise [] [] [] are = omega arith
 sums_rise [] [] (to ∷ tos) are = absurd are
@@ -110,6 +124,12 @@ sums_rise (part ∷ parts) (from ∷ froms) (to ∷ tos) are = omega (arith, sum
 kept_is : (query : Bound) (grouping : Grouping) → query.shape ≡ Group grouping → (rows : List FedRow) (now : Option ℤ) → (operator_of query).state rows now ≡ kept query grouping rows now
 unfolding operator_of
 kept_is query grouping is rows now = ap (λ (shape : Shape). (operator_for shape query).state rows now) is
+
+-- ---- and that of rows without repeats
+
+repeats_kept_is : (query : Bound) (columns : List ℕ) → query.shape ≡ Dedup columns → (rows : List FedRow) (now : Option ℤ) → (operator_of query).state rows now ≡ (dedup query columns).state rows now
+unfolding operator_of
+repeats_kept_is query columns is rows now = ap (λ (shape : Shape). (operator_for shape query).state rows now) is
 
 module _ (laws : PartitionLaws) (s : Setting) (cuts : Cuts) (e p : ℕ) (windows : HasWindows s.job.bound) (covers : CoverFewLines s cuts (e + 1)) where
   few_rows : length (accepted_by s cuts e p) + length (on_time_to s cuts e p) < 2 ^ 64
@@ -131,7 +151,7 @@ module _ (laws : PartitionLaws) (s : Setting) (cuts : Cuts) (e p : ℕ) (windows
 
 module _ {S : Type 0} (laws : PartitionLaws) (s : Setting) (cuts : Cuts) (e p : ℕ) (below : p < s.job.partitions) (windows : HasWindows s.job.bound) (covers : CoverFewLines s cuts (e + 1)) where
   given_groups : (grouping : Grouping) → s.job.bound.shape ≡ Group grouping → (state : Option (State S)) → HoldsPartition s cuts e p (held_in state)
-      → IsSomeAnd state (IsGivenGroups s.job.bound grouping p (accepted_by s cuts e p) (on_time_to s cuts e p) (mark_before s cuts e) (watermark_at s cuts e))
+      → IsSomeAnd state (IsGivenState (Group grouping) s.job.bound p (accepted_by s cuts e p) (on_time_to s cuts e p) (mark_before s cuts e) (watermark_at s cuts e))
   given_groups grouping is None there =
       let keeping : keeping_of s.job.bound.shape s.job.partitions ≡ s.job.partitions = ap (λ (shape : Shape). keeping_of shape s.job.partitions) is in
       absurd (omega (arith, there.store, keeping, below))
@@ -158,6 +178,32 @@ module _ {S : Type 0} (laws : PartitionLaws) (s : Setting) (cuts : Cuts) (e p : 
         };
       }
 
+  given_repeats : (columns : List ℕ) → s.job.bound.shape ≡ Dedup columns → (state : Option (State S)) → HoldsPartition s cuts e p (held_in state)
+      → IsSomeAnd state (IsGivenState (Dedup columns) s.job.bound p (accepted_by s cuts e p) (on_time_to s cuts e p) (mark_before s cuts e) (watermark_at s cuts e))
+  given_repeats columns is None there =
+      let keeping : keeping_of s.job.bound.shape s.job.partitions ≡ s.job.partitions = ap (λ (shape : Shape). keeping_of shape s.job.partitions) is in
+      absurd (omega (arith, there.store, keeping, below))
+  given_repeats columns is (Some state) there =
+      let query = s.job.bound in
+      let parts = parts_in s in
+      let offsets = cuts_of cuts in
+      let old = accepted_by s cuts e p in
+      let new = on_time_to s cuts e p in
+      let fit_old : All IsFitRow old = laws.fit_bucket (accepted query parts offsets e) s.job.partitions p (laws.fit_accepted query windows parts offsets e) in
+      let fit_new : All IsFitRow new = laws.fit_bucket (on_time query parts offsets e) s.job.partitions p (laws.fit_on_time query windows parts offsets e) in
+      record {
+        own = there.store.1;
+        given = record {
+          repeats = is;
+          kept = there.store.2 ∙ repeats_kept_is query columns is old (mark_before s cuts e);
+          indexed = there.indexed;
+          follows = laws.repeats_follow query columns is parts offsets s.job.partitions p e;
+          rows = All-append (once.IsKept columns) old new
+              (kept_repeats columns old fit_old (keys_of_columns query columns s.job.partitions p (accepted query parts offsets e) (laws.keyed_accepted query columns is parts offsets e)))
+              (kept_repeats columns new fit_new (keys_of_columns query columns s.job.partitions p (on_time query parts offsets e) (laws.keyed_on_time query columns is parts offsets e)));
+        };
+      }
+
   given_nothing : (state : Option (State S)) → HoldsPartition s cuts e p (held_in state) → keeping_of s.job.bound.shape s.job.partitions ≡ 0 → state ≡ None
   given_nothing None there none = refl
   given_nothing (Some state) there none = absurd (omega (arith, there.store.0, none))
@@ -166,7 +212,7 @@ module _ {S : Type 0} (laws : PartitionLaws) (s : Setting) (cuts : Cuts) (e p : 
       → IsGivenBy shape s.job.bound p (accepted_by s cuts e p) (on_time_to s cuts e p) (mark_before s cuts e) (watermark_at s cuts e) state
   given_by Plain is runs state there = given_nothing state there (ap (λ (shape : Shape). keeping_of shape s.job.partitions) is)
   given_by (Group grouping) is runs state there = given_groups grouping is state there
-  given_by (Dedup columns) is runs state there = absurd runs
+  given_by (Dedup columns) is runs state there = given_repeats columns is state there
   given_by (Join joining) is runs state there = absurd runs
 
 -- ---- the task

@@ -108,7 +108,7 @@ module _ (s : Setting) (bound : Bound) (partitions : Option ℕ) (lens : Lens) (
   can_hold : (shape : Shape) (cuts : Cuts) (n : ℕ) → Runs shape → HasWindowsBy shape → CoverFewLines s cuts n → CanHoldBy shape s cuts n
   can_hold Plain cuts n runs windows few = tt
   can_hold (Group grouping) cuts n runs windows few = (record { keys = runs.keys; aggregates = runs.aggregates; windows = windows }, few)
-  can_hold (Dedup columns) cuts n runs windows few = absurd runs
+  can_hold (Dedup columns) cuts n runs windows few = (runs, few)
   can_hold (Join joining) cuts n runs windows few = absurd runs
 
 -- with the laws of the states' files

@@ -12,6 +12,7 @@ use Rattle.ssq_meaning.specs.Epochs.{watermark, watermark_before}
 use Rattle.ssq_meaning.specs.Laws.{SaysSame}
 use Rattle.ssq_core.specs.Course.{Ends, Cuts}
 use Rattle.ssq_core.specs.Sound.{AreProper}
+use Rattle.ssq_core.proofs.Holding.{lt_true}
 use Rattle.ssq_course.specs.Setting.{Setting, parts_in, cut_of, cuts_of, watermark_at, has_lines, is_end_of, is_start, is_within, closes, is_next_of, job_of}
 use Rattle.ssq_course.specs.Setting.{has_line as is_longer}
 use Rattle.ssq_course.specs.Laws.{AreCausal}
@@ -250,6 +251,8 @@ have_terms causal says quiet s bound partitions lens r is lines of =
         maps = λ cuts e i. lines_at (cuts e) (cuts (e + 1)) i;
         reduces = λ cuts e p. ap (nat_lt p) (sym of.partitions);
         outs = λ cuts e. refl;
+        upkeeps = λ cuts p v less. lt_true p ((job_of s).course cuts).keeping less;
+        upkeep_good = λ cuts p v. refl;
         next = λ cuts e start proper next more. next_comes s cuts found r.cap e (parts_are s bound partitions lens is lines) of.cap start proper (next ∙ ap (next_ends r.cap (cuts e)) numbers)
             (subst (λ (available : List ℕ). (is_behind (cuts e) available ≡ true) ⊎ (due_at s cuts e ≡ true)) numbers more);
         dues = λ cuts other n same. due_same says s cuts other n same;

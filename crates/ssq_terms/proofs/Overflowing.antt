@@ -1,5 +1,5 @@
 -- The least key on which an epoch overflows.
-use Rattle.std.proofs.Common.{◌≡◌, ◌≤◌, ◌+◌, [], ℕ, zero, suc, ℤ, List, Option, None, refl, ap, sym, ◌∙◌}
+use Rattle.std.proofs.Common.{◌≡◌, ◌≤◌, ◌+◌, [], ℕ, zero, suc, ℤ, List, Option, None, refl, ap, sym}
 use Rattle.std.specs.Prelude.{filter_map}
 use Rattle.std.specs.List.{range_with_len}
 use Rattle.ssq_shape.specs.declared.bound.Bound.{Bound}
@@ -7,7 +7,7 @@ use Rattle.ssq_shape.specs.declared.bound.Grouping.{Grouping}
 use Rattle.ssq_shape.specs.declared.bound.Shape.{Shape}
 use Rattle.ssq_shape.specs.declared.bound.Shape.TheVariants.{Plain, Group, Dedup, Join}
 use Rattle.ssq_meaning.specs.declared.fed_row.FedRow.{FedRow}
-use Rattle.ssq_meaning.specs.Epochs.{accepted, on_time, watermark, watermark_before, bucket}
+use Rattle.ssq_meaning.specs.Epochs.{accepted, on_time, bucket}
 use Rattle.ssq_meaning.specs.Group.{least_key}
 use Rattle.ssq_meaning.specs.Meaning.{Values}
 use Rattle.ssq_meaning.specs.Operator.{group, operator_for, operator_of}

@@ -36,11 +36,11 @@ pub record IsLimited (grouping : Grouping) : Type 0 where
   pub keys : length grouping.keys ≤ 64
   pub aggregates : length grouping.aggregates ≤ 64
 
--- The shapes of query that run: those that keep nothing, and groups within the limits.
+-- The shapes of query that run: those that keep nothing, groups within the limits, and rows without repeats by at most 64 columns.
 abbrev pub Runs : Shape → Type 0
 Runs Plain = Unit {0}
 Runs (Group grouping) = IsLimited grouping
-Runs (Dedup columns) = ⊥
+Runs (Dedup columns) = length columns ≤ 64
 Runs (Join joining) = ⊥
 
 -- A query that can be run: it reads one stream or two, its text is UTF-8 of a length of 64 bits, its delays and windows are ones that the

@@ -4,8 +4,8 @@ ghost use Rattle.ssq_terms.specs.Partitions.{KeysAreLeast, PartitionsAreBrought,
 
 use ssq_agg::few_rows_are_steady;
 use ssq_meaning::{
-    epochs_of_groups_follow, fed_rows_are_few, fed_rows_are_fit, groups_are_fed_by_their_keys,
-    groups_fall_into_partitions,
+    epochs_of_groups_follow, epochs_without_repeats_follow, fed_rows_are_few, fed_rows_are_fit,
+    groups_are_fed_by_their_keys, groups_fall_into_partitions, repeats_are_fed_by_their_keys,
 };
 use ssq_outside::Stage;
 
@@ -19,6 +19,8 @@ pub fn partitions_continue<S: Stage>()
     fed_rows_are_few();
     epochs_of_groups_follow();
     groups_are_fed_by_their_keys();
+    epochs_without_repeats_follow();
+    repeats_are_fed_by_their_keys();
     few_rows_are_steady();
 }
 

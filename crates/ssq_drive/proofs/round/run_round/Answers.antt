@@ -49,7 +49,7 @@ pub end_of-requires : goal.end_of-requires
 end_of-requires g c none =
     let desk = c.run_desk.new.desk in
     let done = c.closed-disk in
-    one_of_both desk.scope desk.core _ done.result.next done.result.stop done.ensures.next c.run_desk.ensures.end done.ensures.stop none
+    one_of_both desk.scope desk.core _ _ done.result.next done.result.stop done.ensures.next c.run_desk.ensures.end done.ensures.stop none
 
 pub returns-clause-round : goal.returns-clause-round
 returns-clause-round g c =

@@ -1,6 +1,6 @@
 use Rattle.std.proofs.Common.{◌+◌, List, take, sym, subst}
 use Rattle.ssq_store.specs.declared.store.Store.{Store}
-use Rattle.ssq_agg.specs.Indexing.{IsIndex, Timed}
+use Rattle.ssq_step.specs.Indexing.{IsIndex, Timed}
 use Rattle.ssq_runner.proofs.Indexing.{AreIndexed, indexed_all, indexed_next}
 use Rattle.ssq_runner.proofs.index.closings_of.Goals as goal
 

@@ -15,6 +15,9 @@ laws g c = record {
   joins = c.epochs_of_groups_follow.ensures.joins;
   grouped_accepted = c.groups_are_fed_by_their_keys.ensures.accepted;
   grouped_on_time = c.groups_are_fed_by_their_keys.ensures.on_time;
+  repeats_follow = c.epochs_without_repeats_follow.ensures;
+  keyed_accepted = c.repeats_are_fed_by_their_keys.ensures.accepted;
+  keyed_on_time = c.repeats_are_fed_by_their_keys.ensures.on_time;
   steady = c.few_rows_are_steady.ensures;
 }
 

@@ -1,4 +1,4 @@
-use Rattle.std.proofs.Common.{◌≡◌, ◌<◌, ◌||◌, true, false, nat_lt, List, Some, None, sym, ap, ◌∙◌, subst}
+use Rattle.std.proofs.Common.{◌≡◌, ◌⊎◌, ◌<◌, ◌||◌, inl, inr, true, false, nat_lt, List, Some, None, sym, ap, ◌∙◌, subst}
 use Rattle.std.specs.Prelude.{◌≢◌, All, MatchOption}
 use Rattle.std.specs.List.{list_any, AllZip, sum_by}
 use Rattle.ssq_outside.specs.declared.gate.Kind.TheVariants as kind
@@ -11,14 +11,15 @@ use Rattle.ssq_board.specs.declared.front.Front.{Front}
 use Rattle.ssq_board.specs.declared.front.Ready.TheVariants as ready
 use Rattle.ssq_board.specs.Core.{ready_of}
 use Rattle.ssq_board.specs.Rounds.{is_away}
-use Rattle.ssq_ledger.specs.Shown.{Shown, cuts_of}
+use Rattle.ssq_board.specs.Shelf.{acknowledged_in}
+use Rattle.ssq_ledger.specs.Shown.{Shown, cuts_of, shelf_of}
 use Rattle.ssq_desk.specs.declared.round.Round.{Round}
 use Rattle.ssq_desk.specs.Round.{Owns, setting_of}
 use Rattle.ssq_desk.specs.Contents.{IsStopOf, key_in}
 use Rattle.ssq_desk.specs.declared.desk.Share.{Share}
 use Rattle.ssq_desk.specs.First.{AreIndexes}
 use Rattle.ssq_desk.specs.Whole.{opening_in}
-use Rattle.ssq_desk.specs.Closing.{AreTold, IsNext, acknowledged_in, closings_in, stores_in}
+use Rattle.ssq_desk.specs.Closing.{AreTold, IsNext, closings_in, stores_in}
 use Rattle.ssq_desk.proofs.Closings.{logs_there, logs_back, faulty_back, told_back, next_back, seen_each}
 use Rattle.ssq_desk.proofs.Leaving.{stopped_for}
 use Rattle.ssq_desk.proofs.desk.Desk.closed.Goals as goal
@@ -26,7 +27,7 @@ use Rattle.ssq_desk.proofs.desk.Desk.closed.Goals as goal
 pub next_if-next-requires-clause-each : goal.next_if-next-requires-clause-each
 next_if-next-requires-clause-each g c over =
     let s = c.self.inside in
-    seen_each g.D.Disk.tells g.L.Log.tells g.L.Log.lines g.L.Log.available g.L.Log.answers g.L.Log.faults g.D.Disk.history g.D.Stage.Stage.written g.D.Stage.Stage.sealed s.ledger s.load c.self.invariant c.is_legal.ensures.legal c.is_in_order.ensures (sym c.ready.ensures ∙ c.is_over-is_over.ensures.over over)
+    seen_each g.D.Disk.tells g.L.Log.tells g.L.Log.lines g.L.Log.available g.L.Log.answers g.L.Log.faults g.D.Disk.history g.D.Stage.Stage.written g.D.Stage.Stage.sealed s.ledger s.load c.self.invariant c.is_legal.ensures.legal c.is_in_order.ensures (sym c.ready.ensures ∙ (c.is_over-is_over.ensures.over over).0)
 
 pub logs_of-requires-clause-there : goal.logs_of-requires-clause-there
 logs_of-requires-clause-there g c =
@@ -71,9 +72,10 @@ pub returns-clause-next : goal.returns-clause-next
 returns-clause-next g c =
     let s = c.self.inside in
     let is = subst (λ (f : Front). MatchOption c.next_if-next.result.0 (c.is_over-is_over.result ≡ false) (λ next. (c.is_over-is_over.result ≡ true)
-    × (next.0 ≡ record { meta = s.load.kept.meta; plans = s.load.plans.items; committed = f.committed; seen = lines_of s.load.view.bound.now s.load.seen; stores = stores_in s.load.held.items; names = s.load.kept.names }) × All HasLineTime next.0.seen × (next.1.items ≡ closings_in s.load.held.items))) c.front-front.ensures c.next_if-next.ensures.next in
-    subst (λ (x : Shown g.row.D.Denot (Round g.row.L.Denot)). MatchOption c.next_if-next.result.0 (ready_of x.scope x.core ≢ ready.Over) (λ next. (ready_of x.scope x.core ≡ ready.Over)
-    × IsNext (Owns g.D.Disk.tells g.L.Log.tells g.L.Log.lines x) (setting_of g.L.Log.lines x.opening) (cuts_of (opening_in g.L.Log.lines) x) x.scope.available x.core x.opening.opened next.0
+    × (next.0 ≡ record { meta = s.load.kept.meta; plans = s.load.plans.items; committed = f.committed; seen = lines_of s.load.view.bound.now s.load.seen; stores = stores_in s.load.held.items; names = c.closed-disk.result.2.items }) × All HasLineTime next.0.seen × (next.1.items ≡ closings_in s.load.held.items))) c.front-front.ensures c.next_if-next.ensures.next in
+    subst (λ (x : Shown g.row.D.Denot (Round g.row.L.Denot)). MatchOption c.next_if-next.result.0 ((ready_of x.scope x.core ≢ ready.Over) ⊎ ((shelf_of (opening_in g.L.Log.lines) x).tidy ≡ false)) (λ next. (ready_of x.scope x.core ≡ ready.Over) × ((shelf_of (opening_in g.L.Log.lines) x).tidy ≡ true)
+    × IsNext (Owns g.D.Disk.tells g.L.Log.tells g.L.Log.lines x) (setting_of g.L.Log.lines x.opening) (cuts_of (opening_in g.L.Log.lines) x) x.scope.available x.core (shelf_of (opening_in g.L.Log.lines) x) x.opening.opened next.0
     × AreIndexes (Unit {0}) x.opening.view.bound.now next.0.stores next.1.items)) c.self.view_is
-    (next_back g.D.Disk.tells g.L.Log.tells g.L.Log.lines g.L.Log.available g.L.Log.answers g.L.Log.faults g.D.Disk.history g.D.Stage.Stage.written g.D.Stage.Stage.sealed s.ledger s.load c.self.invariant c.is_legal.ensures.legal c.is_in_order.ensures c.next_if-next.result.0 c.is_over-is_over.result is
-    (λ over. sym c.ready.ensures ∙ c.is_over-is_over.ensures.over over) (λ other is_over. c.is_over-is_over.ensures.other other (c.ready.ensures ∙ is_over)))
+    (next_back g.D.Disk.tells g.L.Log.tells g.L.Log.lines g.L.Log.available g.L.Log.answers g.L.Log.faults g.D.Disk.history g.D.Stage.Stage.written g.D.Stage.Stage.sealed s.ledger s.load c.self.invariant c.is_legal.ensures.legal c.is_in_order.ensures c.next_if-next.result.0 c.is_over-is_over.result c.closed-disk.result.2.items c.closed-disk.ensures.names is
+    (λ over. (let both = c.is_over-is_over.ensures.over over in (sym c.ready.ensures ∙ both.0, sym c.is_tidy.ensures ∙ both.1)))
+    (λ other. elim (c.is_over-is_over.ensures.other other) [ inl not_over ↦ inl (λ over. not_over (c.ready.ensures ∙ over)) | inr untidy ↦ inr (sym c.is_tidy.ensures ∙ untidy) ]))

@@ -8,7 +8,7 @@ use Rattle.ssq_board.specs.declared.front.Ready.TheVariants as ready
 use Rattle.ssq_board.specs.declared.front.Front.{Front}
 use Rattle.ssq_board.specs.Core.{ready_of, next_ends}
 use Rattle.ssq_board.proofs.Lists.{next_length}
-use Rattle.ssq_ledger.specs.Shown.{Shown, IsLegal, first_state, state, cuts_of, did}
+use Rattle.ssq_ledger.specs.Shown.{Shown, IsLegal, first_state, state, cuts_of, shelf_of, did}
 use Rattle.ssq_desk.specs.declared.desk.Load.{Load}
 use Rattle.ssq_desk.specs.declared.round.Round.{Round}
 use Rattle.ssq_desk.specs.Round.{setting_of, Owns}
@@ -92,7 +92,7 @@ invariant_of-self-in-Err-plan g c =
     let stopped = c.in-Err-plan.ensures.stopped.0 ∙ ap (λ (x : Shown g.row.D.Denot (Round g.row.L.Denot)). did x c.plan.new.self.disk es) c.make.ensures.did ∙ did_then old c.make.new.ledger.disk c.plan.new.self.disk [] es in
     let legal = subst (λ (x : Shown g.row.D.Denot (Round g.row.L.Denot)). IsLegal (Owns g.D.Disk.tells g.L.Log.tells g.L.Log.lines x) g.D.Disk.history (opening_in g.L.Log.lines) x) stopped c.is_legal-in-Err-plan.ensures.legal in
     let o = opening_in g.L.Log.lines old.opening in
-    let may = last_may tells o.job old.scope o.due old.history (entry.Stop c.in-Err-plan.cause) (first_state o old.scope (g.D.Disk.history old.opened)) (state legal.0 (did old c.plan.new.self.disk es).core (cuts_of (opening_in g.L.Log.lines) (did old c.plan.new.self.disk es))) legal.2 in
+    let may = last_may tells o.job old.scope o.due old.history (entry.Stop c.in-Err-plan.cause) (first_state o old.scope (g.D.Disk.history old.opened)) (state legal.0 (did old c.plan.new.self.disk es).core (shelf_of (opening_in g.L.Log.lines) (did old c.plan.new.self.disk es)) (cuts_of (opening_in g.L.Log.lines) (did old c.plan.new.self.disk es))) legal.2 in
     let right = cause_stops (g.D.Disk.tells × g.L.Log.tells) tells (setting_of g.L.Log.lines old.opening) (cuts_of (opening_in g.L.Log.lines) old) old.core.front.committed old.scope may.0 c.in-Err-plan.cause may.1.1 in
     let whole = unplanned_whole g.D.Disk.tells g.L.Log.tells g.L.Log.lines g.L.Log.available g.L.Log.answers g.L.Log.faults g.D.Stage.Stage.written g.D.Stage.Stage.sealed old c.self.inside.load c.self.invariant c.drop_files.new.ledger.disk c.in-Err-plan.cause load c.drop_files.new.load c.in-Ok.ends (cause_no_log old.scope may.0 c.in-Err-plan.cause may.1.1) (plan_runs old.scope old.core next).1 made
     (ap (λ (l : Load _ _ _). l.view) c.drop_files.ensures.kept) (ap (λ (l : Load _ _ _). l.plans.items) c.drop_files.ensures.kept) (ap (λ (l : Load _ _ _). l.sources.items) c.drop_files.ensures.kept) c.drop_files.ensures.count (ap (λ (l : Load _ _ _). l.held) c.drop_files.ensures.kept) (ap (λ (l : Load _ _ _). l.told.items) c.drop_files.ensures.kept) (ap (λ (l : Load _ _ _). l.kept) c.drop_files.ensures.kept) right in

@@ -1,0 +1,46 @@
+-- The names that an opening lists are those of the files of the state.
+use Rattle.std.proofs.Common.{◌≡◌, ◌<◌, ◌||◌, ℕ, zero, suc, Bool, true, false, true≢false, List, [], ◌∷◌, length, Contains, IsSome, is_some, sym, refl, ap, ◌∙◌, subst, arith}
+use Rattle.ssq_outside.specs.declared.name.Name.{Name}
+use Rattle.ssq_outside.specs.declared.name.Name.TheVariants as name
+use Rattle.ssq_outside.specs.Files.{Files, AreNames, same_name}
+use Rattle.ssq_outside.proofs.Names.{same_name-true, same_name-same}
+use Rattle.ssq_upkeep.specs.Upkeep.{is_among}
+use Rattle.ssq_plans.specs.declared.meta.Meta.{Meta}
+use Rattle.ssq_core.specs.Sound.{is_state}
+use Rattle.ssq_open.specs.Opening.{only_meta}
+use Rattle.ssq_board.specs.Shelf.{AreListed}
+
+-- a name is among others where they have it
+among_has : (names : List Name) (q : Name) → is_among names q ≡ true → Contains names q
+among_has [] q is = absurd (true≢false (sym is))
+among_has (n ∷ ns) q is = by (same_name n q) refl is (λ there. among_has ns q there)
+  where
+    by : (b : Bool) → same_name n q ≡ b → (b || is_among ns q) ≡ true → (is_among ns q ≡ true → Contains ns q) → Contains (n ∷ ns) q
+    by true same is rest = (0, omega arith, same_name-true n q same)
+    by false other is rest = (let at = rest is in (suc at.0, (let less = at.1 in omega (arith, less)), at.2))
+
+or_true : (a b : Bool) → b ≡ true → (a || b) ≡ true
+or_true true b is = refl
+or_true false b is = is
+
+has_among : (names : List Name) (q : Name) → Contains names q → is_among names q ≡ true
+has_among [] q (k, less, is) = absurd (omega (arith, less))
+has_among (n ∷ ns) q (zero, less, is) = ap (λ (b : Bool). b || is_among ns q) (subst (λ (x : Name). same_name x q ≡ true) (sym is) (same_name-same q))
+has_among (n ∷ ns) q (suc k, less, is) = or_true (same_name n q) (is_among ns q) (has_among ns q (k, omega (arith, less), is))
+
+pub all_listed : (files : Files) (names : List Name) → AreNames files names → AreListed files names
+all_listed files names are q state = by (is_among names q) refl (is_some (files q)) refl
+  where
+    by : (a : Bool) → is_among names q ≡ a → (b : Bool) → is_some (files q) ≡ b → a ≡ b
+    by true in_it b there = sym (are.there q (among_has names q in_it)) ∙ there
+    by false out true there = sym out ∙ has_among names q (are.all q there)
+    by false out false there = refl
+
+-- where there is the record of the job alone, no file of the state is there
+pub none_listed : (m : Meta) → AreListed (only_meta m) (name.Meta ∷ [])
+none_listed m name.Meta state = absurd (true≢false (sym state))
+none_listed m (name.Plan e) state = absurd (true≢false (sym state))
+none_listed m (name.Commit e) state = absurd (true≢false (sym state))
+none_listed m (name.Out e) state = absurd (true≢false (sym state))
+none_listed m (name.Delta p v) state = refl
+none_listed m (name.Snapshot p v) state = refl
