@@ -19,12 +19,12 @@ use Rattle.ssq_open.specs.declared.fault.OpenFault.TheVariants as opening
 use Rattle.ssq_runner.specs.declared.fault.RunFault.{RunFault}
 use Rattle.ssq_runner.specs.declared.fault.RunFault.TheVariants as run
 use Rattle.ssq_runner.specs.Complete.{IsNoRefusal, IsNoLimit, IsNoFault, RunsGoOn, RunsMeetNoLimit, RunsMeetNoFault}
-use Rattle.ssq_words.specs.Asking.{Asked, asks_run, asks_explain, asks_status, asked}
+use Rattle.ssq_words.specs.Asking.{Asked, asks_run, asks_show, asks_explain, asks_status, asked}
 use Rattle.ssq_run.specs.declared.stop.Stop.{Stop}
 use Rattle.ssq_run.specs.declared.stop.Stop.TheVariants.{LogFault, NoMemory}
 use Rattle.ssq_run.specs.Queries.{read_of, IsQueryAt, IsQueryFor, IsRefusedFor}
 use Rattle.ssq_run.specs.Stopping.{stop_of_refusal, stop_of_end, status_in, IsToldAs}
-use Rattle.ssq_run.specs.Program.{Given, Went, IsOutside, ask_of, HasRun, HasObeyed, has_run, has_explained, has_looked, ran_out, ProgramEnd, unread, no_command, no_file, refused, obeyed, IsStatus}
+use Rattle.ssq_run.specs.Program.{Given, Went, IsOutside, ask_of, HasRun, HasObeyed, has_run, has_shown, has_explained, has_looked, ran_out, ProgramEnd, unread, no_command, no_file, refused, obeyed, IsStatus}
 use Rattle.ssq_course.specs.Setting.{Setting}
 use Rattle.ssq_runner.specs.Sources.{IsSettingFor}
 use Rattle.ssq_run.specs.Going.{AsksRun, IsAskedFor, CanGoOn, HasRoom, IsFaultless, NoneFailed, IsDone, IsDoneToAFault}
@@ -84,6 +84,9 @@ one_command words what other is also = cc
 no_command_too : (words : List (List ℕ)) (what : Asked) → asked words ≡ Some what → asked words ≡ None → ⊥
 no_command_too words what is none = cc
 
+no_show : (file other : List ℕ) (partitions most : Option ℕ) (rounds : ℕ) → asks_show other ≡ asks_run file partitions most rounds → ⊥
+no_show file other partitions most rounds e = cc
+
 no_explain : (file other : List ℕ) (partitions most : Option ℕ) (rounds : ℕ) → asks_explain other ≡ asks_run file partitions most rounds → ⊥
 no_explain file other partitions most rounds e = cc
 
@@ -127,6 +130,8 @@ module _ {L : Type 0} (told tells : Type 0) (lines : L → List Line) (available
       let W : Asked → Type 0 = λ a. IsRefusedFor given.held a why in
       let own : IsRefused (read_of given.held asks.file) why = subst W (one_command given.words what (asks_run asks.file asks.partitions asks.most asks.rounds) is asks.asks) cause in
       inl (inr (same ∙ ap (λ r. Some (stop_of_refusal r)) (taken (read_of given.held asks.file) asks.is.query asks.bound why asks.is.accepted own)))
+  ends_of asks taken (obeyed what bound is query (has_shown file still back text end)) =
+      absurd (no_show asks.file file asks.partitions asks.most asks.rounds (one_command given.words (asks_show file) (asks_run asks.file asks.partitions asks.most asks.rounds) is asks.asks))
   ends_of asks taken (obeyed what bound is query (has_explained file same text none)) =
       absurd (no_explain asks.file file asks.partitions asks.most asks.rounds (one_command given.words (asks_explain file) (asks_run asks.file asks.partitions asks.most asks.rounds) is asks.asks))
   ends_of asks taken (obeyed what bound is query (has_looked file same end)) =

@@ -3,6 +3,7 @@ pub mod PartLines
 pub mod Passing
 pub mod Going
 pub mod Looking
+pub mod Showing
 mod Runnable
 mod KeyLemmas
 mod ShownKeys

@@ -19,13 +19,13 @@ use Rattle.ssq_open.specs.Looking.{query_of as looked_query, begins, IsLookedFor
 use Rattle.ssq_open.specs.Opening.{IsOutside as IsOuter}
 use Rattle.ssq_open.specs.Watermarks.{watermarked}
 use Rattle.ssq_terms.specs.Laws.{JobIsWanted, PartsAreFound}
-use Rattle.ssq_words.specs.Asking.{Asked, asks_run, asks_explain, asks_status, asked}
+use Rattle.ssq_words.specs.Asking.{Asked, asks_run, asks_show, asks_explain, asks_status, asked}
 use Rattle.ssq_run.specs.declared.stop.Stop.{Stop}
 use Rattle.ssq_run.specs.declared.stop.Stop.TheVariants.{LogFault, NoMemory}
 use Rattle.ssq_run.specs.Queries.{read_of, IsKnownAt, IsQueryFor, IsRefusedFor}
 use Rattle.ssq_run.specs.Stopping.{stop_of_refusal, stop_of_open, status_in}
 use Rattle.ssq_run.specs.Looked.{LookEnd, nothing_there, shown, denied, starved}
-use Rattle.ssq_run.specs.Program.{Given, Went, IsOutside, HasObeyed, has_run, has_explained, has_looked, ran_out, ProgramEnd, unread, no_command, no_file, refused, obeyed, IsStatus}
+use Rattle.ssq_run.specs.Program.{Given, Went, IsOutside, HasObeyed, has_run, has_shown, has_explained, has_looked, ran_out, ProgramEnd, unread, no_command, no_file, refused, obeyed, IsStatus}
 use Rattle.ssq_run.specs.Going.{CanLook, NoneFailed, IsDone}
 
 ok_same : (found : Result Query Fault) (x y : Query) → found ≡ Ok x → found ≡ Ok y → x ≡ y
@@ -40,6 +40,9 @@ one_command words what other is also = cc
 
 no_command_too : (words : List (List ℕ)) (what : Asked) → asked words ≡ Some what → asked words ≡ None → ⊥
 no_command_too words what is none = cc
+
+no_show : (file other : List ℕ) → asks_show other ≡ asks_status file → ⊥
+no_show file other e = cc
 
 no_explain : (file other : List ℕ) → asks_explain other ≡ asks_status file → ⊥
 no_explain file other e = cc
@@ -96,6 +99,8 @@ module _ {L : Type 0} (told tells : Type 0) (lines : L → List Line) (available
       inr (is ∙ ap status_in (same ∙ ap (λ r. Some (stop_of_refusal r)) (known (read_of given.held can.file) can.is.query can.bound why can.is.known unknown)))
   by_end is (obeyed what bound own query (has_run file partitions most rounds ran)) =
       absurd (no_run can.file file partitions most rounds (one_command given.words (asks_run file partitions most rounds) (asks_status can.file) own can.asks))
+  by_end is (obeyed what bound own query (has_shown file still back text end)) =
+      absurd (no_show can.file file (one_command given.words (asks_show file) (asks_status can.file) own can.asks))
   by_end is (obeyed what bound own query (has_explained file same text done)) =
       absurd (no_explain can.file file (one_command given.words (asks_explain file) (asks_status can.file) own can.asks))
   by_end is (obeyed what bound own query (ran_out same idle memory)) = inr (is ∙ ap status_in memory)

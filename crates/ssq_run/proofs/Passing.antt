@@ -23,7 +23,7 @@ use Rattle.ssq_runner.specs.Sources.{RunOver, unparted, over}
 use Rattle.ssq_bind.specs.Explained.{explained}
 use Rattle.ssq_words.specs.declared.error.AskError.{AskError}
 use Rattle.ssq_words.specs.declared.error.AskError.TheVariants as words
-use Rattle.ssq_words.specs.Asking.{Asked, asks_explain, asked, IsCause}
+use Rattle.ssq_words.specs.Asking.{Asked, asks_show, asks_explain, asked, IsCause}
 use Rattle.ssq_accept.specs.declared.refusal.Refusal.{Refusal}
 use Rattle.ssq_accept.specs.declared.refusal.Refusal.TheVariants as refusal
 use Rattle.ssq_run.specs.declared.stop.Stop.{Stop}
@@ -31,7 +31,7 @@ use Rattle.ssq_run.specs.declared.stop.Stop.TheVariants.{Usage, Refused, LogFaul
 use Rattle.ssq_run.specs.Queries.{IsQueryFor, IsRefusedFor}
 use Rattle.ssq_run.specs.Stopping.{stop_in, stop_of_ask, stop_of_refusal, stop_of_end, IsToldAs, IsUnread, WordsCause, IsPastWords, HasCount}
 use Rattle.ssq_run.specs.Looked.{LookEnd}
-use Rattle.ssq_run.specs.Program.{Given, Went, IsUntouched, IsIdle, went_of, ask_of, HasObeyed, has_run, has_explained, has_looked, ran_out, ProgramEnd, unread, no_command, no_file, refused, obeyed}
+use Rattle.ssq_run.specs.Program.{Given, Went, IsUntouched, IsIdle, went_of, ask_of, HasObeyed, has_run, has_shown, has_explained, has_looked, ran_out, ProgramEnd, unread, no_command, no_file, refused, obeyed}
 
 -- what is not touched leaves what it might have left
 pub still_leaves : (h : History) (P : Files → Type 0) → LeavesNow h P → LeavesOnly h h P
@@ -150,6 +150,14 @@ disk_counts i0 i1 d0 d1 o0 o1 (Some OutFault) is = absurd (omega (arith, is))
 disk_counts i0 i1 d0 d1 o0 o1 None is = tt
 disk_counts i0 i1 d0 d1 o0 o1 (Some _) is = tt
 
+-- and where the disk and the output were
+pub shown_counts : (i0 i1 d0 d1 o0 o1 : ℕ) (stop : Option Stop) → HasCount 0 0 d0 d1 o0 o1 stop → HasCount i0 i1 d0 d1 o0 o1 stop
+shown_counts i0 i1 d0 d1 o0 o1 (Some LogFault) is = absurd (omega (arith, is))
+shown_counts i0 i1 d0 d1 o0 o1 (Some DiskFault) is = is
+shown_counts i0 i1 d0 d1 o0 o1 (Some OutFault) is = is
+shown_counts i0 i1 d0 d1 o0 o1 None is = tt
+shown_counts i0 i1 d0 d1 o0 o1 (Some _) is = tt
+
 -- a refusal is told as such, or memory ran out
 pub refusal_unread : (held : Held) (what : Asked) (why : Refusal) → IsRefusedFor held what why → IsUnread held what (stop_of_refusal why)
 refusal_unread held what (refusal.Parse at own) is = (is, refl)
@@ -197,6 +205,7 @@ module _ {L : Type 0} (told tells : Type 0) (lines : L → List Line) (available
       → HasObeyed told tells lines available answers faults held later bound OutTells went stop what → HasObeyed told tells lines available answers faults held known bound OutTells went stop what
   obeyed_earlier held known later less bound OutTells went stop what (has_run file partitions most rounds ran) =
       has_run file partitions most rounds (record { end = ran.end; over = run_earlier held known later less bound (ask_of partitions most rounds) OutTells went ran.end ran.over; is = ran.is })
+  obeyed_earlier held known later less bound OutTells went stop what (has_shown file still back text end) = has_shown file still back text end
   obeyed_earlier held known later less bound OutTells went stop what (has_explained file same text none) = has_explained file same text none
   obeyed_earlier held known later less bound OutTells went stop what (has_looked file same end) = has_looked file same end
   obeyed_earlier held known later less bound OutTells went stop what (ran_out own idle is) = ran_out own idle is

@@ -17,7 +17,7 @@ use Rattle.ssq_terms.specs.Setting.{Runs, CanRun}
 run_shape : (own : Shape) → IsRunShape own → IsLimitedBy own → Runs own
 run_shape shape.Plain runs limits = tt
 run_shape (shape.Group grouping) runs limits = record { keys = limits.keys; aggregates = limits.aggregates }
-run_shape (shape.Dedup columns) runs limits = absurd runs
+run_shape (shape.Dedup columns) runs limits = limits
 run_shape (shape.Join joining) runs limits = absurd runs
 
 -- a span is a delay

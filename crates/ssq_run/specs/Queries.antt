@@ -5,7 +5,7 @@ use Rattle.ssq_ast.specs.declared.query.Query.{Query}
 use Rattle.ssq_shape.specs.declared.bound.Bound.{Bound}
 use Rattle.ssq_accept.specs.Accepting.{IsAccepted, IsRefused, IsKnown, IsUnknown}
 use Rattle.ssq_terms.specs.Setting.{CanRun}
-use Rattle.ssq_words.specs.Asking.{Asked, asks_run, asks_explain, asks_status}
+use Rattle.ssq_words.specs.Asking.{Asked, asks_run, asks_show, asks_explain, asks_status}
 use Rattle.ssq_accept.specs.declared.refusal.Refusal.{Refusal}
 
 -- what is read of a query's file: a longer one is no query
@@ -25,12 +25,14 @@ pub record IsKnownAt (held : Held) (file : List ℕ) (bound : Bound) : Type 0 wh
 -- what a command is about
 abbrev pub IsQueryFor : Held → Asked → Bound → Type 0
 IsQueryFor held (asks_run file partitions most rounds) bound = IsQueryAt held file bound
+IsQueryFor held (asks_show file) bound = IsKnownAt held file bound
 IsQueryFor held (asks_explain file) bound = IsKnownAt held file bound
 IsQueryFor held (asks_status file) bound = IsKnownAt held file bound
 
 -- its file is refused, and this is why
 abbrev pub IsRefusedFor : Held → Asked → Refusal → Type 0
 IsRefusedFor held (asks_run file partitions most rounds) why = IsRefused (read_of held file) why
+IsRefusedFor held (asks_show file) why = IsUnknown (read_of held file) why
 IsRefusedFor held (asks_explain file) why = IsUnknown (read_of held file) why
 IsRefusedFor held (asks_status file) why = IsUnknown (read_of held file) why
 

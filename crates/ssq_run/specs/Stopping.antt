@@ -16,6 +16,8 @@ use Rattle.ssq_logs.specs.declared.fault.LengthFault.{LengthFault}
 use Rattle.ssq_logs.specs.declared.fault.LengthFault.TheVariants as lengths
 use Rattle.ssq_open.specs.declared.fault.OpenFault.{OpenFault}
 use Rattle.ssq_open.specs.declared.fault.OpenFault.TheVariants as opening
+use Rattle.ssq_sink.specs.declared.fault.SinkFault.{SinkFault}
+use Rattle.ssq_sink.specs.declared.fault.SinkFault.TheVariants as sink
 use Rattle.ssq_runner.specs.declared.fault.RunFault.{RunFault}
 use Rattle.ssq_runner.specs.declared.fault.RunFault.TheVariants as run
 use Rattle.ssq_accept.specs.declared.refusal.Refusal.{Refusal}
@@ -84,6 +86,17 @@ stop_of_cause streams (cause.Damaged name) = Damaged name
 stop_of_cause streams cause.DiskFault = DiskFault
 stop_of_cause streams cause.Full = FullEpochs
 stop_of_cause streams cause.NoMemory = NoMemory
+
+-- why the table is not written, or not all of it
+abbrev pub stop_of_sink : SinkFault → Stop
+stop_of_sink (sink.Damaged at) = Damaged at
+stop_of_sink sink.DiskFault = DiskFault
+stop_of_sink sink.OutFault = OutFault
+stop_of_sink sink.NoMemory = NoMemory
+
+abbrev pub stop_of_table : Option SinkFault → Option Stop
+stop_of_table None = None
+stop_of_table (Some fault) = Some (stop_of_sink fault)
 
 -- a run's fault, told by the names of its streams, which have so many parts each
 abbrev pub stop_of_run : List Stream → List ℕ → RunFault → Stop

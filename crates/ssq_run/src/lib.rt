@@ -8,6 +8,7 @@ mod faults;
 mod key;
 mod obey;
 mod prepare;
+mod show;
 mod status;
 mod stop;
 mod stream;

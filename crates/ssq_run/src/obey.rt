@@ -1,6 +1,6 @@
 //! What a command does, once its query is read.
 
-ghost use Rattle.std.specs.Prelude.{◌≡◌, ◌≤◌, List, ℕ, [], length, Option, Err, IfOk, IfErr};
+ghost use Rattle.std.specs.Prelude.{◌≡◌, ◌≤◌, ◌++◌, List, ℕ, [], length, Option, Err, IfOk, IfErr};
 ghost use Rattle.std.specs.Option.{ForSome};
 ghost use Rattle.ssq_outside.specs.History.{LeavesNow, LeavesOnly, files_now};
 ghost use Rattle.ssq_core.specs.Sound.{StandsOrEmpty};
@@ -14,10 +14,12 @@ ghost use Rattle.ssq_words.specs.Asking.{asked_of, asks_run, IsInRange};
 ghost use Rattle.ssq_run.specs.declared.stop.Stop.TheVariants.{NoMemory};
 ghost use Rattle.ssq_run.specs.Looked.{LookEnd};
 ghost use Rattle.ssq_run.specs.Queries.{CanRunIfAsked};
+ghost use Rattle.ssq_run.specs.Shown.{ShowEnd};
 ghost use Rattle.ssq_run.specs.Program.{HasObeyed, HasRun, went_of};
 ghost use Rattle.ssq_run.specs.Stopping.{HasCount, IsPastWords, stop_in};
 
 use crate::faults::end_of;
+use crate::show::show;
 use crate::status::status;
 use crate::stop::Stop;
 use ssq_bind::explain;
@@ -78,6 +80,24 @@ fn looked<D: Disk>(alloc: Global, bound: &Bound, disk: D) -> Done<D>
             end: Ok(()),
         },
         Err(stop) => stopped(alloc, disk, stop),
+    }
+}
+
+/// Shows the table of a query's checkpoint.
+fn shown<D: Disk, O: Output>(alloc: Global, bound: &Bound, disk: D, out: &mut O) -> Done<D>
+    ensures same { D.tells → D.history result.disk ≡ D.history disk }
+    ensures text { result.text.items ≡ [] }
+    ensures shown { D.tells → O.tells → (shown : List ℕ) × (O.content out.new ≡ O.content out.old ++ shown) × ShowEnd bound.now (files_now (D.history disk)) shown (stop_in result.end) }
+    ensures only { IsPastWords (stop_in result.end) }
+    ensures cause { HasCount 0 0 (D.faults disk) (D.faults result.disk) (O.faults out.old) (O.faults out.new) (stop_in result.end) }
+    ensures counted { O.faults out.old ≤ O.faults out.new }
+{
+    let mut disk = disk;
+    let end = show(alloc, &mut disk, bound, out);
+    Done {
+        disk,
+        text: Vec::new(alloc),
+        end,
     }
 }
 
@@ -155,6 +175,7 @@ pub(crate) fn obey<D: Disk, I: Inputs, O: Output, G: Gate>(
             };
             run(alloc, gate, bound, ask, disk, inputs, out)
         }
+        Command::Show { query: _ } => shown(alloc, bound, disk, out),
         Command::Explain { query: _ } => explained(alloc, bound, disk),
         Command::Status { query: _ } => looked(alloc, bound, disk),
     }

@@ -25,6 +25,7 @@ fn file_of<'a>(command: Command<'a>) -> &'a str
 {
     match command {
         Command::Run { query, .. } => query,
+        Command::Show { query } => query,
         Command::Explain { query } => query,
         Command::Status { query } => query,
     }
@@ -72,6 +73,7 @@ pub(crate) fn read_query<I: Inputs>(
     let bytes = inputs.text(alloc, file_of(command), PAST_QUERY)?;
     let read = match command {
         Command::Run { .. } => run_query(alloc, bytes.as_slice()),
+        Command::Show { .. } => known_query(alloc, bytes.as_slice()),
         Command::Explain { .. } => known_query(alloc, bytes.as_slice()),
         Command::Status { .. } => known_query(alloc, bytes.as_slice()),
     };

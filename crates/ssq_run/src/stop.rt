@@ -6,6 +6,7 @@ ghost use Rattle.ssq_run.specs.Stopping.{status_of};
 use ssq_accept::Refusal;
 use ssq_outside::{InputError, Name};
 use ssq_plans::NameText;
+use ssq_sink::SinkFault;
 use ssq_value::Text;
 use ssq_words::AskError;
 use std::alloc::AllocError;
@@ -246,6 +247,22 @@ impl From<Refusal> for Stop {
         match refusal {
             Refusal::NoMemory => Stop::NoMemory,
             _ => Stop::Refused(refusal),
+        }
+    }
+}
+
+impl From<SinkFault> for Stop {
+    ghost use Rattle.std.specs.Prelude.{◌≡◌};
+    ghost use Rattle.ssq_run.specs.Stopping.{stop_of_sink};
+
+    ghost from_gives = { λ fault stop. stop ≡ stop_of_sink fault };
+
+    fn from(fault: SinkFault) -> Stop {
+        match fault {
+            SinkFault::Damaged { name } => Stop::Damaged { name },
+            SinkFault::DiskFault => Stop::DiskFault,
+            SinkFault::OutFault => Stop::OutFault,
+            SinkFault::NoMemory => Stop::NoMemory,
         }
     }
 }

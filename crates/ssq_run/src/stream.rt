@@ -1,11 +1,12 @@
 //! The top call.
 
-ghost use Rattle.std.specs.Prelude.{◌≡◌, ◌≢◌, ◌<◌, ◌≤◌, ◌⊎◌, ℕ, true, None, All, map, string_bytes};
+ghost use Rattle.std.specs.Prelude.{◌≡◌, ◌≢◌, ◌<◌, ◌≤◌, ◌⊎◌, ℕ, true, List, None, All, map, string_bytes};
 ghost use Rattle.std.specs.List.Sorted.{IsPermutation};
 ghost use Rattle.ssq_shape.specs.declared.bound.Grouping.{Grouping as GroupingOf};
 ghost use Rattle.ssq_shape.specs.declared.bound.Mode.TheVariants as mode;
 ghost use Rattle.ssq_shape.specs.declared.bound.Shape.TheVariants as shape;
 ghost use Rattle.ssq_meaning.specs.Cut.{Cuts as OffsetsOf, AreCuts};
+ghost use Rattle.ssq_meaning.specs.DedupLaws.{IsKnownAt, meaning_at as first_rows_at};
 ghost use Rattle.ssq_meaning.specs.Epochs.{accepted, key_fault, on_time, watermark, watermark_before};
 ghost use Rattle.ssq_meaning.specs.Group.{has_key, is_closed};
 ghost use Rattle.ssq_meaning.specs.GroupLaws.{IsWholeAt, meaning_at, times_considered};
@@ -29,7 +30,8 @@ use crate::stop::Stop;
 use crate::tell::tell;
 use ssq_accept::files_have_one_answer;
 use ssq_meaning::{
-    forgotten_groups_lose_no_row, groups_in_append_add_up, groups_in_complete_are_shown_whole,
+    first_rows_add_up, forgotten_groups_lose_no_row, forgotten_keys_lose_no_row,
+    groups_in_append_add_up, groups_in_complete_are_shown_whole,
     groups_in_update_replace_their_rows, rows_add_up, watermarks_never_fall,
 };
 use ssq_outside::{Disk, Gate, Inputs, Output};
@@ -85,8 +87,8 @@ fn work<D: Disk, I: Inputs, O: Output, G: Gate>(
 ///
 /// `run QUERY [--partitions P] [--max-lines N] [--rounds R]` runs the query of the file QUERY over the parts of its streams, in R rounds, and in
 /// epochs of at most N lines of each part, over a checkpoint that is empty or of this query. As a round ends it writes one line for each of its
-/// epochs, and at the end how many epochs there are. `explain QUERY` tells what the query is. `status QUERY` says how far the checkpoint has
-/// come. Both change nothing.
+/// epochs, and at the end how many epochs there are. `show QUERY` writes the table that the checkpoint's sink files make. `explain QUERY` tells
+/// what the query is. `status QUERY` says how far the checkpoint has come. These change nothing.
 ///
 /// A refusal is one line, and its number is the status: 2, the words are none of these; 3, the file is no query that is run; 4
 /// and 5, the first line of the planned epoch that is bad or overflows, or where none is the least key that overflows; 6, 7 and 8, the inputs, the disk or the output failed; 9, the
@@ -128,6 +130,12 @@ pub fn stream_main<R: Threads + Wait + Sync, D: Disk, I: Inputs, O: Output, G: G
     ensures groups_are_replaced { (s : SettingOf) (grouping : GroupingOf) (cuts : OffsetsOf) (n : ℕ) → IsAskedFor (record { words = map string_bytes words.now; held = I.held inputs; known = I.available inputs }) (D.history disk) s →
         s.job.bound.shape ≡ shape.Group grouping → s.job.bound.mode ≡ mode.Update → ((e : ℕ) → e < n → key_fault s.job.bound (parts_in s) cuts e ≡ None) →
         IsPermutation (table s.job.bound (parts_in s) cuts n) (meaning_at s.job.bound grouping (parts_in s) cuts n) }
+    // What a query that deduplicates its rows shows over so many epochs, one after the other, is the first row of each key among all rows of these
+    // that were not late, in their order. No such row comes after its key was forgotten: the key is kept exactly where a row before has it.
+    ensures first_rows_add_up { (s : SettingOf) (columns : List ℕ) (cuts : OffsetsOf) (n : ℕ) → s.job.bound.shape ≡ shape.Dedup columns →
+        outs s.job.bound (parts_in s) cuts n ≡ first_rows_at s.job.bound (parts_in s) cuts n }
+    ensures repeats_are_known { (s : SettingOf) (columns : List ℕ) (cuts : OffsetsOf) (e : ℕ) → s.job.bound.shape ≡ shape.Dedup columns →
+        All (λ row. IsKnownAt s.job.bound columns (parts_in s) cuts e row.key) (on_time s.job.bound (parts_in s) cuts e) }
     // No row that is not late comes after its group was forgotten: what is kept of the group has each of its rows. And watermarks never fall.
     ensures groups_lose_no_row { (s : SettingOf) (grouping : GroupingOf) (cuts : OffsetsOf) (e : ℕ) → s.job.bound.shape ≡ shape.Group grouping →
         All (λ row. IsWholeAt s.job.bound grouping (parts_in s) cuts e row.key) (on_time s.job.bound (parts_in s) cuts e) }
@@ -173,6 +181,8 @@ pub fn stream_main<R: Threads + Wait + Sync, D: Disk, I: Inputs, O: Output, G: G
     groups_in_complete_are_shown_whole();
     groups_in_update_replace_their_rows();
     forgotten_groups_lose_no_row();
+    first_rows_add_up();
+    forgotten_keys_lose_no_row();
     watermarks_never_fall();
     files_have_one_answer();
     job_is_wanted();

@@ -92,5 +92,11 @@ returns-clause-groups_are_replaced g c = λ s grouping cuts n of is update clean
 pub returns-clause-groups_lose_no_row : goal.returns-clause-groups_lose_no_row
 returns-clause-groups_lose_no_row g c = λ s grouping cuts e is. c.forgotten_groups_lose_no_row.ensures.whole s.job.bound grouping is (parts_in s) cuts e
 
+pub returns-clause-first_rows_add_up : goal.returns-clause-first_rows_add_up
+returns-clause-first_rows_add_up g c = λ s columns cuts n is. c.first_rows_add_up.ensures.rows s.job.bound columns is (parts_in s) cuts n
+
+pub returns-clause-repeats_are_known : goal.returns-clause-repeats_are_known
+returns-clause-repeats_are_known g c = λ s columns cuts e is. c.forgotten_keys_lose_no_row.ensures.known s.job.bound columns is (parts_in s) cuts e
+
 pub returns-clause-watermarks_rise : goal.returns-clause-watermarks_rise
 returns-clause-watermarks_rise g c = λ s cuts e f later. c.watermarks_never_fall.ensures s.job.bound (parts_in s) cuts e f later
