@@ -1,7 +1,7 @@
 #!/usr/bin/env python3
 """Kills runs of the built program at random moments, and judges every file that they leave.
 
-    python3 tests/kill.py [RUNS] [SEED] [--shape plain|group]      (200 killed runs, plain; `make` builds bin/ssq)
+    python3 tests/kill.py [RUNS] [SEED] [--shape plain|group|dedup]      (200 killed runs, plain; `make` builds bin/ssq)
 
 A query with a watermark reads three parts, to which a writer appends while runs of many rounds go over them and between the
 runs. Each run is killed (SIGKILL) after a random time, from the first millisecond on, so that openings are hit too, and the
@@ -11,6 +11,8 @@ next one begins on what is left: one to five killed runs for each checkpoint, th
   says so.
 - group: overlapping windows and a key with NULLs, in Append, Update and Complete in turn, over three partitions. Some rows are late,
   some of them for one of their windows alone.
+- dedup: rows without repeats, in Append by a key and the event time, so that keys are forgotten, and in Update by two other columns, so
+  that none is. Repeats come within an epoch and later, with other values.
 
 After each run the plans are read, to learn the cuts, and nothing else is taken from the program: what each plan, commit, sink
 file and file of the state has to hold, and each line that was printed, is computed from the logs (tests/model.py), and compared
@@ -115,6 +117,22 @@ def group_job(mode):
             "last": lambda group: group[3],
         },
         order=(("n", Direction.DESC), ("k", Direction.DESC)) if order else (),
+        mode=mode,
+    )
+    return Job(mode.name, query, parts=3, partitions=3)
+
+
+def dedup_job(mode):
+    """In Append the keys are by the event time and forgotten; in Update they are not, and kept for good."""
+    columns = ("k", "ts") if mode is Mode.APPEND else ("k", "v")
+    query = Query(
+        text=f"{STREAM}{WATERMARK}; SELECT v, ts, k FROM s WHERE v IS NULL OR v > 3 DEDUPLICATE BY {', '.join(columns)} OUTPUT {mode.name};",
+        columns=COLUMNS,
+        event="ts",
+        delay=10 * SECOND,
+        where=lambda row: disjunction(row["v"] is None, lambda: compare(row["v"], ">", 3)),
+        distinct=columns,
+        items={"v": lambda row: row["v"], "ts": lambda row: row["ts"], "k": lambda row: row["k"]},
         mode=mode,
     )
     return Job(mode.name, query, parts=3, partitions=3)
@@ -286,6 +304,7 @@ def trial(folder, job, kills, chance):
     checkpoint.judge_end(commits)
     found["late"] = sum(len(epochs.fed(e)) - len(epochs.on_time(e)) for e in range(plans))
     found["equal"] = sum(row.time is not None and row.time == epochs.watermark(e) for e in range(plans) for row in epochs.fed(e))
+    found["repeats"] = sum(len(epochs.on_time(e)) - len(epochs.shown(e)) for e in range(plans) if job.query.distinct)
     found["closing"] = sum(epochs.begin(e) == epochs.cuts[e] for e in range(plans))
     return found
 
@@ -302,10 +321,14 @@ def refusal_of(job):
     return output if run.returncode else None
 
 
+MANY = {"group": "groups in each mode", "dedup": "rows without repeats"}  # shapes with several queries, each
+
+
 def jobs_taken(shape):
-    """Plain: three parts with a watermark where the program takes them, else one part without. Group: all three modes."""
-    if shape == "group":
-        jobs = [group_job(mode) for mode in Mode]
+    """Plain: three parts with a watermark where the program takes them, else one part without. Group: all three modes. Dedup: keys that are
+    forgotten, and keys that are not."""
+    if shape in MANY:
+        jobs = [group_job(mode) for mode in Mode] if shape == "group" else [dedup_job(mode) for mode in (Mode.APPEND, Mode.UPDATE)]
         refusal = next(filter(None, map(refusal_of, jobs)), None)
     else:
         jobs = [plain_job(3, True)]
@@ -322,7 +345,7 @@ def asked():
     words = argparse.ArgumentParser(description="Kills runs of bin/ssq at random moments, and judges what they leave.")
     words.add_argument("runs", nargs="?", type=int, default=200)
     words.add_argument("seed", nargs="?", type=int, default=int(time.time()))
-    words.add_argument("--shape", choices=["plain", "group"], default="plain")
+    words.add_argument("--shape", choices=["plain", *MANY], default="plain")
     return words.parse_args()
 
 
@@ -343,11 +366,13 @@ def main():
             sys.exit(f"checkpoint {number} ({job.name}) of seed {ask.seed}: {wrong}; what is left is in {folder}")
         shutil.rmtree(folder)
         killed += kills
-    over = "groups in each mode" if ask.shape == "group" else jobs[0].name
+    over = MANY.get(ask.shape, jobs[0].name)
     print(f"{killed} runs killed over {over}, seed {ask.seed}: {number} checkpoints, {found['early']} epochs told before a kill,")
     print(f"{found['opened']} planned and not committed at a kill, {found['epochs']} epochs in all, each file right")
-    if ask.shape == "group":
+    if ask.shape in MANY:
         print(f"{found['late']} rows late, {found['equal']} of them at the watermark itself, {found['closing']} epochs without lines")
+    if ask.shape == "dedup":
+        print(f"{found['repeats']} rows were repeats")
 
 
 if __name__ == "__main__":

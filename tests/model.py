@@ -5,8 +5,8 @@ cuts of the epochs, what each epoch reads, takes, shows and keeps, and what its 
 cuts a run plans. The rules are those of docs/SEMANTICS.md and docs/FORMATS.md.
 
 Nothing goes from epoch to epoch: the rows of an epoch are computed from all rows that were accepted up to it, and its watermark and its
-state likewise. Queries without state (Plain) and with groups are known. Where a run is stopped by something else than a line or a key
-(a log that is too short, a disk that fails), the model says nothing.
+state likewise. Queries without state (Plain), with groups and with DEDUPLICATE are known. Where a run is stopped by something else than a
+line or a key (a log that is too short, a disk that fails), the model says nothing.
 
 Values are None for NULL, bool, int, datetime (in UTC, without a zone) and str.
 """
@@ -56,7 +56,8 @@ class Query:
 
     Expressions are functions: WHERE and arguments of a row (by the names of columns), HAVING and items of a `Group`; items of a query
     without groups of a row. `group` has the names of columns and windows of GROUP BY; it is empty where there are aggregates and no
-    GROUP BY, and None where there are none. `aggregates` are those of SELECT from the left, then those of HAVING.
+    GROUP BY, and None where there are none. `distinct` has the columns of DEDUPLICATE, or is None. `aggregates` are those of SELECT from the
+    left, then those of HAVING.
     """
 
     text: str
@@ -68,25 +69,27 @@ class Query:
     delay: datetime.timedelta | None = None
     where: typing.Callable | None = None
     group: tuple | None = None
+    distinct: tuple | None = None
     aggregates: tuple = ()
     having: typing.Callable | None = None
     order: tuple = ()
 
     def keeps_state(self):
-        return self.group is not None
+        return self.group is not None or self.distinct is not None
 
     def closes(self):
         """Whether it has rows to show when the watermark rises."""
-        return self.keeps_state() and self.mode is Mode.APPEND
+        return self.group is not None and self.mode is Mode.APPEND
 
     def closing_time(self, key):
         """The time of a key: when it is past, the key is closed. A key without a time stays open."""
         if self.mode is Mode.COMPLETE or self.event is None:
             return None
-        for part, value in zip(self.group, key):
+        parts = self.group or self.distinct or ()
+        for part, value in zip(parts, key):
             if isinstance(part, Window) and part.column == self.event:
                 return value + part.size
-        for part, value in zip(self.group, key):
+        for part, value in zip(parts, key):
             if part == self.event:
                 return value
         return None
@@ -349,8 +352,8 @@ def found_in(query, line):
 # ---- epochs
 
 
-# What is handed on of a row: the key of one of its groups, the time of that key, and the arguments of the aggregates. Without groups
-# there is one key without values, and the values are the row that is shown.
+# What is handed on of a row: the key of one of its groups, the time of that key, and the arguments of the aggregates. With DEDUPLICATE the
+# key has the row's values in the columns, and without groups or DEDUPLICATE no values; the values are then the row that is shown.
 Fed = collections.namedtuple("Fed", "key time values")
 
 
@@ -370,8 +373,9 @@ def fed_by(query, row):
     """What is handed on of a row: WHERE is evaluated, and where it is TRUE the arguments of the aggregates, or else the items."""
     if query.where and query.where(row) is not True:
         return []
-    if not query.keeps_state():
-        return [Fed((), None, tuple(item(row) for item in query.items.values()))]
+    if query.group is None:
+        key = tuple(row[name] for name in query.distinct or ())
+        return [Fed(key, query.closing_time(key), tuple(item(row) for item in query.items.values()))]
     values = tuple(one.argument(row) if one.argument else True for one in query.aggregates)
     return [Fed(key, query.closing_time(key), values) for key in keys_of(query.group, row)]
 
@@ -478,11 +482,18 @@ class Epochs:
         }[self.query.mode]
         return [row for row in self.accepted(e) if is_due(row)]
 
+    def firsts(self, e):
+        """The rows of the epoch that are no repeats: no accepted row before them has their key."""
+        rows, old = self.accepted(e), len(self.accepted(e - 1))
+        first = {row.key: at for at, row in reversed(list(enumerate(rows)))}
+        return [row for at, row in enumerate(rows) if at >= old and at == first[row.key]]
+
     @by_epoch
     def shown(self, e):
-        """The row that each key shows, or Overflow; of a query without groups the epoch's rows."""
-        if not self.query.keeps_state():
-            return [(row.key, row.values) for row in self.fed(e)]
+        """The row that each key shows, or Overflow; of a query without groups the epoch's rows, with DEDUPLICATE those that are no
+        repeats."""
+        if self.query.group is None:
+            return [(row.key, row.values) for row in (self.fed(e) if self.query.distinct is None else self.firsts(e))]
         shown = []
         for key, rows in grouped(self.considered(e)).items():
             group = Group(self.query, key, rows)
@@ -516,8 +527,8 @@ class Epochs:
 
     @by_epoch
     def state(self, e):
-        """For each partition the keys that are kept after the epoch, with the totals of all their rows, as bytes. Before epoch 0
-        there are none."""
+        """For each partition the keys that are kept after the epoch, with the totals of all their rows, as bytes; with DEDUPLICATE there are
+        no totals. Before epoch 0 there are none."""
         states = [{} for _ in range(self.partitions if self.query.keeps_state() else 0)]
         kept = [row for row in self.accepted(e) if not is_past(row.time, self.watermark(e))] if states else []
         for key, rows in grouped(kept).items():

@@ -1,11 +1,11 @@
 #!/usr/bin/env python3
-"""Runs random queries with groups over random logs, and judges every file that they leave.
+"""Runs random queries with groups or DEDUPLICATE over random logs, and judges every file that they leave.
 
-    python3 tests/queries.py [QUERIES] [SEED]      (100; `make` builds bin/ssq)
+    python3 tests/queries.py [QUERIES] [SEED] [--shape group|dedup]      (100, of groups; `make` builds bin/ssq)
 
-Each query has other keys, windows, aggregates, HAVING, ORDER BY, mode and watermark. It runs up to three times, over logs of one to
-three parts that grow in between, in one to five partitions, with a cap or none. Some rows are late, some lines bad, and some results
-overflow. What each run has to print, its status, and each file of the checkpoint are computed from the logs (tests/model.py), and
+Each query with groups has other keys, windows, aggregates, HAVING, ORDER BY, mode and watermark; each with DEDUPLICATE other columns, items,
+mode and watermark. It runs up to three times, over logs of one to three parts that grow in between, in one to five partitions, with a cap or
+none. Some rows are late, some lines bad, and some results overflow. What each run has to print, its status, and each file of the checkpoint are computed from the logs (tests/model.py), and
 compared byte for byte.
 
 It is not part of the gate, since it takes minutes.
@@ -136,10 +136,15 @@ def group_text(part):
     return f"WINDOW({part.column}, '{part.size // SECOND} seconds', '{part.slide // SECOND} seconds')" if isinstance(part, Window) else part
 
 
-def made_query(chance):
+def stream_text(delay):
+    watermark = f" WATERMARK FOR ts DELAY '{delay} seconds'" if delay else ""
+    return f"CREATE STREAM s ({', '.join(f'{name} {kind.name}' for name, kind in COLUMNS.items())}) FROM 's'{watermark}; "
+
+
+def made_grouped(chance):
     mode, delay, group = chance.choice(list(Mode)), chance.choice([None, 1, 5, 10, 30]), made_group(chance)
     if mode is Mode.APPEND and not (delay and has_time(group)):
-        return made_query(chance)
+        return made_grouped(chance)
     draft = Draft(chance)
     for part in group:
         if mode is Mode.UPDATE or chance.random() < 0.8:
@@ -151,9 +156,7 @@ def made_query(chance):
     order = [(name, chance.choice(list(Direction))) for name in chance.sample(list(draft.items), min(2, len(draft.items)))]
     order = order if mode is Mode.COMPLETE and chance.random() < 0.7 else []
     text = [
-        f"CREATE STREAM s ({', '.join(f'{name} {kind.name}' for name, kind in COLUMNS.items())}) FROM 's'",
-        f" WATERMARK FOR ts DELAY '{delay} seconds'" if delay else "",
-        f"; SELECT {', '.join(draft.texts)} FROM s",
+        f"{stream_text(delay)}SELECT {', '.join(draft.texts)} FROM s",
         "" if least is None else f" WHERE v IS NULL OR v > {least}",
         f" GROUP BY {', '.join(map(group_text, group))}" if group else "",
         having.text if having else "",
@@ -173,6 +176,34 @@ def made_query(chance):
         having=having.value if having else None,
         order=tuple(order),
     )
+
+
+def made_distinct(chance):
+    """The first row of each key. An item may overflow, also on a row that is late or a repeat."""
+    mode, delay = chance.choice([Mode.APPEND, Mode.UPDATE]), chance.choice([None, 1, 5, 10, 30])
+    columns = chance.sample(list(COLUMNS), chance.randrange(1, 4))
+    draft = Draft(chance)
+    for at in range(chance.randrange(1, 5)):
+        draft.add(f"a{at}", chance.choice([number, column])(chance))
+    least = chance.choice([None, chance.randrange(8)])
+    text = [
+        f"{stream_text(delay)}SELECT {', '.join(draft.texts)} FROM s",
+        "" if least is None else f" WHERE v IS NULL OR v > {least}",
+        f" DEDUPLICATE BY {', '.join(columns)} OUTPUT {mode.name};",
+    ]
+    return Query(
+        text="".join(text),
+        columns=COLUMNS,
+        items=draft.items,
+        mode=mode,
+        event="ts" if delay else None,
+        delay=delay * SECOND if delay else None,
+        where=None if least is None else lambda row: disjunction(row["v"] is None, lambda: compare(row["v"], ">", least)),
+        distinct=tuple(columns),
+    )
+
+
+MAKERS = {"group": made_grouped, "dedup": made_distinct}
 
 
 # ---- logs
@@ -226,9 +257,10 @@ class Trial:
 
     folder: pathlib.Path
     chance: random.Random
+    shape: str
 
     def __post_init__(self):
-        self.query = made_query(self.chance)
+        self.query = MAKERS[self.shape](self.chance)
         self.logs = [[] for _ in range(self.chance.randrange(1, 4))]
         self.partitions = self.chance.choice([1, 1, 2, 3, 5])
         self.wild = self.chance.random() < 0.4
@@ -258,9 +290,9 @@ class Trial:
         return epochs
 
 
-def trial(folder, chance):
+def trial(folder, chance, shape):
     """What came of a query, in numbers."""
-    own = Trial(folder, chance)
+    own = Trial(folder, chance, shape)
     for _ in range(chance.randrange(1, 4)):
         own.grow()
         epochs = own.run()
@@ -271,15 +303,16 @@ def trial(folder, chance):
 
 
 def main():
-    words = argparse.ArgumentParser(description="Runs random queries with groups, and judges what they leave.")
+    words = argparse.ArgumentParser(description="Runs random queries, and judges what they leave.")
     words.add_argument("queries", nargs="?", type=int, default=100)
     words.add_argument("seed", nargs="?", type=int, default=int(time.time()))
+    words.add_argument("--shape", choices=list(MAKERS), default="group")
     ask = words.parse_args()
     found = collections.Counter()
     for seed in range(ask.seed, ask.seed + ask.queries):
         folder = pathlib.Path(tempfile.mkdtemp(prefix="ssq-queries-"))
         try:
-            found += trial(folder, random.Random(seed))
+            found += trial(folder, random.Random(seed), ask.shape)
         except AssertionError as wrong:
             sys.exit(f"seed {seed}: {wrong}; what is left is in {folder}")
         shutil.rmtree(folder)

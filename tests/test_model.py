@@ -4,7 +4,7 @@
     python3 tests/test_model.py
 
 The values that are expected were worked by hand from the rules, or come from elsewhere (FNV-1a's own test values); none of them was
-computed by the model. So were the sink files of the examples with groups, which are compared too.
+computed by the model. So were the sink files of the examples, which are compared too.
 """
 import dataclasses
 import datetime
@@ -117,6 +117,21 @@ def ordered(name, direction):
     )
 
 
+def distinct(*columns, **more):
+    """The rows without repeats in these columns, in Append."""
+    return Query(
+        text="CREATE STREAM s (id BIGINT, ts TIMESTAMP, src STRING) FROM 's' WATERMARK FOR ts DELAY '10 minutes'; "
+        f"SELECT id, src FROM s DEDUPLICATE BY {', '.join(columns)} OUTPUT APPEND;",
+        columns={"id": Kind.BIGINT, "ts": Kind.TIMESTAMP, "src": Kind.STRING},
+        event="ts",
+        delay=minutes(10),
+        distinct=columns,
+        items={"id": lambda row: row["id"], "src": lambda row: row["src"]},
+        mode=Mode.APPEND,
+        **more,
+    )
+
+
 VISITS = Query(
     text="CREATE STREAM visits (ts TIMESTAMP, page STRING) FROM 'visits' WATERMARK FOR ts DELAY '5 minutes'; "
     "SELECT window_start, window_end, page, COUNT(*) AS n FROM visits GROUP BY WINDOW(ts, '10 minutes'), page OUTPUT APPEND;",
@@ -154,6 +169,19 @@ GAMES = Query(
     items={"player": lambda group: group["player"], "total": lambda group: group[0], "best": lambda group: group[1]},
     order=(("total", Direction.DESC), ("best", Direction.DESC)),
     mode=Mode.COMPLETE,
+)
+
+
+PAYMENTS = Query(
+    text="CREATE STREAM payments (ts TIMESTAMP, id BIGINT, cents BIGINT) FROM 'payments' WATERMARK FOR ts DELAY '5 minutes'; "
+    "SELECT id, ts, cents FROM payments WHERE cents > 0 DEDUPLICATE BY id, ts OUTPUT APPEND;",
+    columns={"ts": Kind.TIMESTAMP, "id": Kind.BIGINT, "cents": Kind.BIGINT},
+    event="ts",
+    delay=minutes(5),
+    where=lambda row: compare(row["cents"], ">", 0),
+    distinct=("id", "ts"),
+    items={"id": lambda row: row["id"], "ts": lambda row: row["ts"], "cents": lambda row: row["cents"]},
+    mode=Mode.APPEND,
 )
 
 
@@ -392,6 +420,51 @@ class Complete(unittest.TestCase):
         self.assertEqual(epochs.plan(2), b"v1\nplan 2\nwatermark 2024-01-01T12:50:00Z\npart 0 0 3\nend\n")
 
 
+class Distinct(unittest.TestCase):
+    FIRST = [at("12:00", id=1, src='"a"'), at("12:00", id=1, src='"c"'), at("12:20", id=2, src='"d"'), at("12:00", id=1, src='"f"')]
+    SECOND = [at("12:00", id=1, src='"b"')]
+    SINKS = [b'{"id":1,"src":"a"}\n', b"", b'{"id":2,"src":"d"}\n', b""]
+
+    def test_repeats_and_late_rows_are_left_out(self):
+        for partitions in 1, 3:
+            epochs = run(distinct("id", "ts"), self.FIRST, self.SECOND, most=1, partitions=partitions)
+            self.assertEqual(
+                epochs.output(),
+                [
+                    "epoch 0 lines 2 watermark none rows 1",
+                    "epoch 1 lines 1 watermark 2024-01-01T11:50:00Z rows 0",
+                    "epoch 2 lines 1 watermark 2024-01-01T11:50:00Z rows 1",
+                    "epoch 3 lines 1 watermark 2024-01-01T12:10:00Z rows 0",
+                    "done epochs 4",
+                ],
+            )
+            self.assertEqual([epochs.sink(e) for e in range(4)], self.SINKS)
+
+    def test_keys_are_kept_until_their_time_is_past(self):
+        epochs = run(distinct("id", "ts"), self.FIRST, self.SECOND, most=1)
+        one = "02" + (2**63 + 1).to_bytes(8, "big").hex() + "03" + (2**63 + 1704110400 * 10**6).to_bytes(8, "big").hex()  # 1, 12:00
+        two = "02" + (2**63 + 2).to_bytes(8, "big").hex() + "03" + (2**63 + 1704111600 * 10**6).to_bytes(8, "big").hex()  # 2, 12:20
+        entries = ["01" + "00000012" + one + "00000000"], [], ["01" + "00000012" + two + "00000000"], ["00" + "00000012" + one]
+        for e, changed in enumerate(entries):
+            head = "53535144454c5431" + "00000000" + f"{e:08x}" + f"{len(changed):016x}"
+            self.assertEqual(next(epochs.deltas(e)).hex(), head + "".join(changed))
+
+    def test_a_key_without_the_event_time_is_kept_for_good(self):
+        epochs = run(distinct("id"), self.FIRST, self.SECOND, most=1)
+        self.assertEqual([epochs.sink(e) for e in range(4)], self.SINKS)
+        self.assertEqual([len(epochs.state(e)[0]) for e in range(4)], [1, 1, 2, 2])
+
+    def test_a_row_at_the_watermark_is_late(self):
+        late = [at("12:20", id=1, src='"a"'), at("12:10", id=2, src='"b"'), at("12:11", id=3, src='"c"')]
+        epochs = run(distinct("id", "ts"), late, most=1)
+        self.assertEqual([epochs.sink(e) for e in range(3)], [b'{"id":1,"src":"a"}\n', b"", b'{"id":3,"src":"c"}\n'])
+
+    def test_nulls_are_equal_and_a_row_that_where_drops_is_no_first(self):
+        log = [at("12:00", src='"a"'), at("12:00", src='"b"'), at("12:00", id=7, src='"c"'), at("12:00", id=7, src='"d"')]
+        epochs = run(distinct("id", where=lambda row: compare(row["src"], "<>", "c")), log)
+        self.assertEqual(epochs.sink(0), b'{"id":null,"src":"a"}\n{"id":7,"src":"d"}\n')
+
+
 class Examples(unittest.TestCase):
     def judge(self, name, query, most):
         folder = ROOT / "examples" / name
@@ -410,6 +483,9 @@ class Examples(unittest.TestCase):
 
     def test_leaders(self):
         self.judge("leaders", GAMES, 6)
+
+    def test_dedup(self):
+        self.judge("dedup", PAYMENTS, 4)
 
     def test_the_first(self):
         self.judge("first", FILTER, 2)

@@ -1,6 +1,7 @@
-//! Runs of queries with groups, and of one of them with faults and crashes.
+//! Runs of queries that keep state, and of one of them with faults and crashes.
 
 use crate::grouped::{CLOSED, IN_FOUR, SHOWN, Shown, WHOLE};
+use crate::repeated::REPEATED;
 use crate::rows::{Files, Row};
 use crate::tests::{disk_of, ends_so, has, holds, run_on};
 use ssq_fakes::{FailAt, MemDisk};
@@ -27,6 +28,14 @@ fn groups_leave_these_files(rt: HostRuntime) -> Result<(), Fail> {
         let disk = disk_of(alloc, row.before).expect(&rt, "memory");
         assert!(rt; ends_so(&rt, alloc, row, disk)?);
     }
+    Ok(())
+}
+
+#[test]
+fn repeats_are_left_out(rt: HostRuntime) -> Result<(), Fail> {
+    let alloc = rt.alloc();
+    let disk = disk_of(alloc, REPEATED.before).expect(&rt, "memory");
+    assert!(rt; shows_so(&rt, alloc, &REPEATED, disk)?);
     Ok(())
 }
 

@@ -160,11 +160,11 @@ const CLOSED_FILES: Files = &[
     ),
 ];
 
-const SUMMED: &[u8] =
+pub(crate) const SUMMED: &[u8] =
     b"CREATE STREAM s (k STRING, v BIGINT) FROM 's'; SELECT k, SUM(v) AS t FROM s WHERE v > 0 GROUP BY k OUTPUT UPDATE;";
 
 /// A row that WHERE drops changes nothing, and the delta of its epoch is empty.
-const SUMMED_FILES: Files = &[
+pub(crate) const SUMMED_FILES: Files = &[
     (
         Name::Meta,
         b"v1\npartitions 1\nparts 0 1\nquery 113\nCREATE STREAM s (k STRING, v BIGINT) FROM 's'; SELECT k, SUM(v) AS t FROM s WHERE v > 0 GROUP BY k OUTPUT UPDATE;\nend\n",

@@ -7,6 +7,12 @@ mod group_tests;
 #[cfg(test)]
 mod grouped;
 #[cfg(test)]
+mod repeated;
+#[cfg(test)]
 mod rows;
+#[cfg(test)]
+mod table_tests;
+#[cfg(test)]
+mod tables;
 #[cfg(test)]
 mod tests;
