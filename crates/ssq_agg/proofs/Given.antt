@@ -32,7 +32,7 @@ use Rattle.ssq_meaning.specs.Totals.{column_of, greater, lesser, total_of, total
 use Rattle.ssq_meaning.proofs.Keys.{All-by, All-distinct}
 use Rattle.ssq_agg.specs.Fits.{AllFit, Fits}
 use Rattle.ssq_agg.specs.Groups.{AreSteady, started}
-use Rattle.ssq_step.specs.Indexing.{Indexes, Timed}
+use Rattle.ssq_step.specs.Indexing.{Indexes, IsIndexBy, Timed}
 use Rattle.ssq_agg.specs.Readable.{AreTotalsOf, IsKey, IsReadableGroup, IsReadableKey, IsTotalOf}
 use Rattle.ssq_agg.specs.Steps.{Given, GivenGroups, IsKept}
 use Rattle.ssq_agg.proofs.Found.{key_of_readable}
@@ -165,7 +165,7 @@ given_groups found query grouping state closing old new before now given =
         found = λ key is. ap (λ (s : State). value_at s (keys_of key)) given.kept ∙ kept_at found query grouping old before (spelled_rows grouping old olds) key is;
         readable = group_readable query grouping old new before olds given.steady;
       };
-      indexes = subst (λ (shape : Shape). Indexes (key_length_by shape) (key_time_by shape query) state closing) given.groups given.indexed;
+      indexes = subst (λ (shape : Shape). Indexes (key_length_by shape) (key_time_by shape query) state closing) given.groups (subst (λ (shape : Shape). IsIndexBy shape query state closing) given.groups given.indexed);
       keys = spelled_rows grouping new (new_rows grouping old new all);
       follows = given.follows;
       steady = given.steady;

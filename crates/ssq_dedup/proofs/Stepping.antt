@@ -26,7 +26,7 @@ use Rattle.ssq_meaning.specs.Operator.{dedup}
 use Rattle.ssq_meaning.proofs.FitRows.{spelled}
 use Rattle.ssq_meaning.proofs.Keys.{same_is}
 use Rattle.ssq_step.specs.declared.stepped.Stepped.{Stepped}
-use Rattle.ssq_step.specs.Indexing.{AreDueKeys, Indexes, IsReadableKey, Timed, stands}
+use Rattle.ssq_step.specs.Indexing.{AreDueKeys, Indexes, IsIndexBy, IsReadableKey, Timed, stands}
 use Rattle.ssq_step.specs.Steps.{IsStep}
 use Rattle.ssq_dedup.specs.Firsts.{HoldsKeys, IsGone, IsKeyed, SaysFirsts, first_among, said_if}
 use Rattle.ssq_dedup.specs.Steps.{Given, IsKept}
@@ -134,7 +134,7 @@ module _ (query : Bound) (columns : List ℕ) (state : State) (closing : List Ti
   holds key is = ap (λ (s : State). value_at s (keys_of key)) given.kept ∙ kept_at columns found query old before olds key is
 
   pub indexes : Indexes (length columns) (closing_time query columns) state closing
-  indexes = subst (λ (shape : Shape). Indexes (key_length_by shape) (key_time_by shape query) state closing) given.repeats given.indexed
+  indexes = subst (λ (shape : Shape). Indexes (key_length_by shape) (key_time_by shape query) state closing) given.repeats (subst (λ (shape : Shape). IsIndexBy shape query state closing) given.repeats given.indexed)
 
   module _ (next : AreNext) (ended : AreEnded) (first change : Change) (keys : List (List ℕ)) (says : SaysFirsts (length columns) (is_held query columns old before) new first)
       (due : AreDueKeys (length columns) (closing_time query columns) state now keys) (gone : IsGone keys first change) where

@@ -83,18 +83,18 @@ read_at-take query stream line =
 
 -- Up to an offset: the rows so far and those of the lines that are left are the rows of the range, the greatest time is that of what was read
 -- and what is left, and the first fault is not before the offset.
-pub record SoFar (tells : Type 0) (query : Bound) (part : Part) (from at to partitions : ℕ) (time : Option ℤ) (buckets : List (List FedRow)) : Type 0 where
+pub record SoFar (tells : Type 0) (query : Bound) (epoch : ℕ) (part : Part) (from at to partitions : ℕ) (time : Option ℤ) (buckets : List (List FedRow)) : Type 0 where
   pub rows : List FedRow
   pub apart : buckets ≡ dealt partitions rows
   pub fit : All IsFitRow rows
   pub years : IfSome time IsLineTime
-  pub left : tells → rows ++ fed_in query part at to ≡ fed_in query part from to
+  pub left : tells → rows ++ fed_in query epoch part at to ≡ fed_in query epoch part from to
   pub greatest : tells → later time (time_in query part at to) ≡ time_in query part from to
   pub good : tells → fault_in query part at to ≡ fault_in query part from to
 
-pub begun : (tells : Type 0) (query : Bound) (part : Part) (from to partitions : ℕ) (buckets : List (List FedRow)) → buckets ≡ buckets_of partitions []
-    → SoFar tells query part from from to partitions None buckets
-begun tells query part from to partitions buckets none = record {
+pub begun : (tells : Type 0) (query : Bound) (epoch : ℕ) (part : Part) (from to partitions : ℕ) (buckets : List (List FedRow)) → buckets ≡ buckets_of partitions []
+    → SoFar tells query epoch part from from to partitions None buckets
+begun tells query epoch part from to partitions buckets none = record {
   rows = [];
   apart = none;
   fit = All-nil IsFitRow;
@@ -122,18 +122,18 @@ lines_between-front at to lines line inside there =
     rw (e, d) refl
 
 -- what holds of the line there
-record Front (query : Bound) (part : Part) (at to : ℕ) (bytes : Line) : Type 0 where
-  fed : fed_in query part at to ≡ fed_if part at (line_handed query part.stream bytes) ++ fed_in query part (at + 1) to
+record Front (query : Bound) (epoch : ℕ) (part : Part) (at to : ℕ) (bytes : Line) : Type 0 where
+  fed : fed_in query epoch part at to ≡ fed_if epoch part at (line_handed query part.stream bytes) ++ fed_in query epoch part (at + 1) to
   time : time_in query part at to ≡ later (time_at query part.stream bytes) (time_in query part (at + 1) to)
   fault : fault_in query part at to ≡ or_else (fault_if part at (line_handed query part.stream bytes)) (fault_in query part (at + 1) to)
 
-in_front : (query : Bound) (part : Part) (at to : ℕ) (bytes : Line) → at < to → IsRead part.lines at bytes → Front query part at to bytes
-in_front query part at to bytes inside is =
+in_front : (query : Bound) (epoch : ℕ) (part : Part) (at to : ℕ) (bytes : Line) → at < to → IsRead part.lines at bytes → Front query epoch part at to bytes
+in_front query epoch part at to bytes inside is =
     let front : lines_between at to part.lines ≡ is.line ∷ lines_between (at + 1) to part.lines = lines_between-front at to part.lines is.line inside is.there in
     let same : read_at query part.stream is.line ≡ read_at query part.stream bytes = sym (ap (read_at query part.stream) is.cut ∙ read_at-take query part.stream is.line) in
     record {
-      fed = ap (λ (ls : List Line). flat_map (λ (l : ℕ × Line). fed_at query part l.0 l.1) (enumerate_from at ls)) front
-          ∙ ap (λ r. fed_if part at (line_read query part.stream r) ++ fed_in query part (at + 1) to) same;
+      fed = ap (λ (ls : List Line). flat_map (λ (l : ℕ × Line). fed_at query epoch part l.0 l.1) (enumerate_from at ls)) front
+          ∙ ap (λ r. fed_if epoch part at (line_read query part.stream r) ++ fed_in query epoch part (at + 1) to) same;
       time = ap (λ (ls : List Line). greatest (map (λ (l : Line). time_at query part.stream l) ls)) front
           ∙ ap (λ r. later (time_if (layout_at query part.stream) r) (time_in query part (at + 1) to)) same;
       fault = ap (λ (ls : List Line). first_of_all (map (λ (l : ℕ × Line). fault_at query part l.0 l.1) (enumerate_from at ls))) front
@@ -141,12 +141,12 @@ in_front query part at to bytes inside is =
     }
 
 -- one line more
-pub goes_on : (tells : Type 0) (query : Bound) (part : Part) (from at to partitions : ℕ) (time own more : Option ℤ) (rows : List Handed) (bytes : Line) (old new : List (List FedRow))
-    → SoFar tells query part from at to partitions time old → at < to → (tells → IsRead part.lines at bytes) → GivesOf query part.stream bytes own rows
-    → more ≡ later time own → IfSome more IsLineTime → length old ≡ partitions → Deals old new (map (placed part at) rows)
-    → SoFar tells query part from (at + 1) to partitions more new
-goes_on tells query part from at to partitions time own more rows bytes old new so_far inside read given more_is years len deals =
-    let own_rows = map (placed part at) rows in
+pub goes_on : (tells : Type 0) (query : Bound) (epoch : ℕ) (part : Part) (from at to partitions : ℕ) (time own more : Option ℤ) (rows : List Handed) (bytes : Line) (old new : List (List FedRow))
+    → SoFar tells query epoch part from at to partitions time old → at < to → (tells → IsRead part.lines at bytes) → GivesOf query part.stream bytes own rows
+    → more ≡ later time own → IfSome more IsLineTime → length old ≡ partitions → Deals old new (map (placed epoch part at) rows)
+    → SoFar tells query epoch part from (at + 1) to partitions more new
+goes_on tells query epoch part from at to partitions time own more rows bytes old new so_far inside read given more_is years len deals =
+    let own_rows = map (placed epoch part at) rows in
     let P : ℕ → Type 0 = λ n. (before : List FedRow) → old ≡ dealt n before → new ≡ dealt n (before ++ own_rows) in
     let behind : P partitions = subst P len deals.behind in
     record {
@@ -155,15 +155,15 @@ goes_on tells query part from at to partitions time own more rows bytes old new 
       fit = All-append IsFitRow so_far.rows own_rows so_far.fit deals.fit;
       years = years;
       left = λ is.
-          let front = in_front query part at to bytes inside (read is) in
-          let fed : fed_in query part at to ≡ own_rows ++ fed_in query part (at + 1) to = front.fed ∙ ap (λ r. fed_if part at r ++ fed_in query part (at + 1) to) given.handed in
-          append_assoc so_far.rows own_rows (fed_in query part (at + 1) to) ∙ ap (λ r. so_far.rows ++ r) (sym fed) ∙ so_far.left is;
+          let front = in_front query epoch part at to bytes inside (read is) in
+          let fed : fed_in query epoch part at to ≡ own_rows ++ fed_in query epoch part (at + 1) to = front.fed ∙ ap (λ r. fed_if epoch part at r ++ fed_in query epoch part (at + 1) to) given.handed in
+          append_assoc so_far.rows own_rows (fed_in query epoch part (at + 1) to) ∙ ap (λ r. so_far.rows ++ r) (sym fed) ∙ so_far.left is;
       greatest = λ is.
-          let front = in_front query part at to bytes inside (read is) in
+          let front = in_front query epoch part at to bytes inside (read is) in
           let rest = time_in query part (at + 1) to in
           ap (λ t. later t rest) more_is ∙ later_assoc time own rest ∙ ap (λ t. later time (later t rest)) (sym given.timed) ∙ ap (later time) (sym front.time) ∙ so_far.greatest is;
       good = λ is.
-          let front = in_front query part at to bytes inside (read is) in
+          let front = in_front query epoch part at to bytes inside (read is) in
           sym (front.fault ∙ ap (λ r. or_else (fault_if part at r) (fault_in query part (at + 1) to)) given.handed) ∙ so_far.good is;
     }
 
@@ -175,9 +175,9 @@ later_none None = refl
 later_none (Some t) = refl
 
 -- the last line is read
-pub ended : (tells : Type 0) (query : Bound) (part : Part) (from at to partitions : ℕ) (time : Option ℤ) (buckets : List (List FedRow))
-    → SoFar tells query part from at to partitions time buckets → to ≤ at → IsFedFrom tells query part from to partitions time buckets
-ended tells query part from at to partitions time buckets so_far le =
+pub ended : (tells : Type 0) (query : Bound) (epoch : ℕ) (part : Part) (from at to partitions : ℕ) (time : Option ℤ) (buckets : List (List FedRow))
+    → SoFar tells query epoch part from at to partitions time buckets → to ≤ at → IsFedFrom tells query epoch part from to partitions time buckets
+ended tells query epoch part from at to partitions time buckets so_far le =
     let over : lines_between at to part.lines ≡ [] = none_left at to part.lines le in
     record {
       rows = so_far.rows;
@@ -185,7 +185,7 @@ ended tells query part from at to partitions time buckets so_far le =
       fit = so_far.fit;
       years = so_far.years;
       are = λ is. sym (append-nil so_far.rows)
-          ∙ ap (λ (ls : List Line). so_far.rows ++ flat_map (λ (l : ℕ × Line). fed_at query part l.0 l.1) (enumerate_from at ls)) (sym over) ∙ so_far.left is;
+          ∙ ap (λ (ls : List Line). so_far.rows ++ flat_map (λ (l : ℕ × Line). fed_at query epoch part l.0 l.1) (enumerate_from at ls)) (sym over) ∙ so_far.left is;
       greatest = λ is. sym (later_none time)
           ∙ ap (λ (ls : List Line). later time (greatest (map (λ (l : Line). time_at query part.stream l) ls))) (sym over) ∙ so_far.greatest is;
       good = λ is. sym (so_far.good is)
@@ -194,11 +194,11 @@ ended tells query part from at to partitions time buckets so_far le =
 
 -- ---- the causes on their way up
 
-first_here : (tells : Type 0) (query : Bound) (part : Part) (from at to partitions : ℕ) (time : Option ℤ) (buckets : List (List FedRow)) (bytes : Line) (what : LineFault)
-    → SoFar tells query part from at to partitions time buckets → at < to → (tells → IsRead part.lines at bytes) → line_handed query part.stream bytes ≡ Err what
+first_here : (tells : Type 0) (query : Bound) (epoch : ℕ) (part : Part) (from at to partitions : ℕ) (time : Option ℤ) (buckets : List (List FedRow)) (bytes : Line) (what : LineFault)
+    → SoFar tells query epoch part from at to partitions time buckets → at < to → (tells → IsRead part.lines at bytes) → line_handed query part.stream bytes ≡ Err what
     → tells → IsFirst query part from to at what
-first_here tells query part from at to partitions time buckets bytes what so_far inside read wrong is =
-    let front = in_front query part at to bytes inside (read is) in
+first_here tells query epoch part from at to partitions time buckets bytes what so_far inside read wrong is =
+    let front = in_front query epoch part at to bytes inside (read is) in
     sym (so_far.good is) ∙ front.fault ∙ ap (λ r. or_else (fault_if part at r) (fault_in query part (at + 1) to)) wrong
 
 module _ {L : Type 0} (tells : Type 0) (lines : L → List Line) (available : L → ℕ) (answers : L → List ℕ) (faults : L → ℕ) where
@@ -224,17 +224,17 @@ module _ {L : Type 0} (tells : Type 0) (lines : L → List Line) (available : L 
   read_stops query stream part from at to first before after NoMemory went inside is = tt
 
   -- a line that is a fault
-  pub line_stops : (query : Bound) (stream part from at to partitions : ℕ) (time : Option ℤ) (buckets : List (List FedRow)) (bytes : Line) (first after : L) (fault : FeedFault)
-      → SoFar tells query (record { stream = stream; part = part; lines = lines first }) from at to partitions time buckets → at < to → (tells → IsRead (lines first) at bytes)
+  pub line_stops : (query : Bound) (epoch stream part from at to partitions : ℕ) (time : Option ℤ) (buckets : List (List FedRow)) (bytes : Line) (first after : L) (fault : FeedFault)
+      → SoFar tells query epoch (record { stream = stream; part = part; lines = lines first }) from at to partitions time buckets → at < to → (tells → IsRead (lines first) at bytes)
       → LineCause query stream bytes at fault → FeedCause tells lines available answers faults query stream part from to first after fault
-  line_stops query stream part from at to partitions time buckets bytes first after (BadLine offset cause) so_far inside read is =
+  line_stops query epoch stream part from at to partitions time buckets bytes first after (BadLine offset cause) so_far inside read is =
       let of : Part = record { stream = stream; part = part; lines = lines first } in
       let P : ℕ → Type 0 = λ o. IsFirst query of from to o (line.Bad cause) in
-      (λ t. subst P (sym is.0) (first_here tells query of from at to partitions time buckets bytes (line.Bad cause) so_far inside read is.1 t), is.2)
-  line_stops query stream part from at to partitions time buckets bytes first after (Overflow offset) so_far inside read is =
+      (λ t. subst P (sym is.0) (first_here tells query epoch of from at to partitions time buckets bytes (line.Bad cause) so_far inside read is.1 t), is.2)
+  line_stops query epoch stream part from at to partitions time buckets bytes first after (Overflow offset) so_far inside read is =
       let of : Part = record { stream = stream; part = part; lines = lines first } in
       let P : ℕ → Type 0 = λ o. IsFirst query of from to o line.Overflow in
-      λ t. subst P (sym is.0) (first_here tells query of from at to partitions time buckets bytes line.Overflow so_far inside read is.1 t)
-  line_stops query stream part from at to partitions time buckets bytes first after LogFault so_far inside read is = absurd is
-  line_stops query stream part from at to partitions time buckets bytes first after (LogShort logged found) so_far inside read is = absurd is
-  line_stops query stream part from at to partitions time buckets bytes first after NoMemory so_far inside read is = tt
+      λ t. subst P (sym is.0) (first_here tells query epoch of from at to partitions time buckets bytes line.Overflow so_far inside read is.1 t)
+  line_stops query epoch stream part from at to partitions time buckets bytes first after LogFault so_far inside read is = absurd is
+  line_stops query epoch stream part from at to partitions time buckets bytes first after (LogShort logged found) so_far inside read is = absurd is
+  line_stops query epoch stream part from at to partitions time buckets bytes first after NoMemory so_far inside read is = tt

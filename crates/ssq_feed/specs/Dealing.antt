@@ -13,7 +13,7 @@ use Rattle.ssq_feed.specs.Rows.{dealt}
 -- a row that is handed on, with the line that it is from
 abbrev pub from_origin : Origin → Handed → FedRow
 from_origin origin row =
-    record { stream = origin.stream; part = origin.part; offset = origin.offset; key = row.key; time = row.time; values = row.values }
+    record { epoch = origin.epoch; stream = origin.stream; part = origin.part; offset = origin.offset; key = row.key; time = row.time; values = row.values }
 
 -- the row that goes to the group of a key, and those that go to the groups of these keys
 abbrev pub member_row : Origin → Bound → Grouping → Values → Values → FedRow

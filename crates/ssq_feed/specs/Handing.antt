@@ -18,6 +18,7 @@ abbrev pub handed_rows : Bound → HandedOn → List Handed
 handed_rows query handed.Nothing = []
 handed_rows query (handed.Shown values) = shown_once (Some values)
 handed_rows query (handed.Distinguished columns key values) = distinguished query columns.now key values ∷ []
+handed_rows query (handed.Paired key time row) = record { key = key; time = time; values = row } ∷ []
 handed_rows query (handed.Grouped grouping row arguments) = map (member query grouping.now arguments) (row_keys grouping.now.keys row)
 
 -- the row as SELECT shows it, where it shows one
@@ -29,4 +30,5 @@ abbrev pub IsFitHanded : HandedOn → Type 0
 IsFitHanded handed.Nothing = Unit {0}
 IsFitHanded (handed.Shown values) = All IsFit values
 IsFitHanded (handed.Distinguished columns key values) = All IsFit key × All IsFit values
+IsFitHanded (handed.Paired key time row) = All IsFit key × All IsFit row
 IsFitHanded (handed.Grouped grouping row arguments) = HasGroupWindows grouping.now × IsReadRow row × All IsFit arguments

@@ -18,6 +18,6 @@ module _ {L : Type 0} (tells : Type 0) (lines : L → List Line) (available : L 
     pub from : done.from ≡ task.from
     pub to : done.to ≡ task.to
     pub log : LogWent tells lines available answers faults task.log done.log
-    pub rows : IfOk done.outcome (λ fed. IsFedFrom tells task.view.bound.now (record { stream = task.stream; part = task.part; lines = lines task.log }) task.from task.to
+    pub rows : IfOk done.outcome (λ fed. IsFedFrom tells task.view.bound.now task.epoch (record { stream = task.stream; part = task.part; lines = lines task.log }) task.from task.to
         task.view.partitions fed.time fed.buckets)
     pub fault : IfErr done.outcome (FeedCause tells lines available answers faults task.view.bound.now task.stream task.part task.from task.to task.log done.log)

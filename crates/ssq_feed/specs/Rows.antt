@@ -23,14 +23,14 @@ keyed row = (keys_of row.key, row)
 abbrev pub dealt : ℕ → List FedRow → List (List FedRow)
 dealt partitions rows = buckets_of partitions (map keyed rows)
 
--- What a map task brings of the lines of a part from one offset up to another, as its greatest event time and its buckets: that of
+-- What a map task of an epoch brings of the lines of a part from one offset up to another, as its greatest event time and its buckets: that of
 -- these lines, none of which has a fault, and their rows, each of which a state can hold.
-pub record IsFedFrom (tells : Type 0) (query : Bound) (part : Part) (from to partitions : ℕ) (time : Option ℤ) (buckets : List (List FedRow)) : Type 0 where
+pub record IsFedFrom (tells : Type 0) (query : Bound) (epoch : ℕ) (part : Part) (from to partitions : ℕ) (time : Option ℤ) (buckets : List (List FedRow)) : Type 0 where
   pub rows : List FedRow
   pub apart : buckets ≡ dealt partitions rows
   pub fit : All IsFitRow rows
   pub years : IfSome time IsLineTime
-  pub are : tells → rows ≡ fed_in query part from to
+  pub are : tells → rows ≡ fed_in query epoch part from to
   pub greatest : tells → time ≡ time_in query part from to
   pub good : tells → fault_in query part from to ≡ None
 

@@ -23,6 +23,7 @@ use std::alloc::{AllocError, Global};
 /// The line that a fed row is from.
 #[derive(Clone, Copy)]
 pub(crate) struct Origin {
+    pub(crate) epoch: u32,
     pub(crate) stream: u32,
     pub(crate) part: u32,
     pub(crate) offset: u64,
@@ -94,6 +95,7 @@ impl Dealer {
         ensures { OnOk result (Deals self.old.buckets self.new.buckets (map (from_origin origin) (shown_once (Some values)))) }
     {
         let Origin {
+            epoch,
             stream,
             part,
             offset,
@@ -101,6 +103,7 @@ impl Dealer {
         self.buckets.add(
             &[],
             FedRow {
+                epoch,
                 stream,
                 part,
                 offset,
@@ -136,18 +139,49 @@ impl Dealer {
         ensures { OnOk result (Deals self.old.buckets self.new.buckets (from_origin origin (distinguished bound.now columns.now key values) ∷ [])) }
     {
         let Origin {
+            epoch,
             stream,
             part,
             offset,
         } = origin;
         let time = repeat_time(bound, columns, key.as_slice());
         self.deal(FedRow {
+            epoch,
             stream,
             part,
             offset,
             key,
             time,
             values,
+        })
+    }
+
+    /// Deals a row of a join as it is, by its join key.
+    fn deal_paired(
+        &mut self,
+        origin: Origin,
+        key: Row,
+        time: Option<i64>,
+        row: Row,
+    ) -> Result<(), AllocError>
+        requires key { All IsFit key }
+        requires row { All IsFit row }
+        ensures { OnOk result (Deals self.old.buckets self.new.buckets (from_origin origin (record { key = key; time = time; values = row }) ∷ [])) }
+    {
+        let Origin {
+            epoch,
+            stream,
+            part,
+            offset,
+        } = origin;
+        self.deal(FedRow {
+            epoch,
+            stream,
+            part,
+            offset,
+            key,
+            time,
+            values: row,
         })
     }
 
@@ -160,12 +194,14 @@ impl Dealer {
             (member_row from.now.origin from.now.bound.now from.now.grouping.now arguments key ∷ [])) }
     {
         let Origin {
+            epoch,
             stream,
             part,
             offset,
         } = from.origin;
         let time = closing_time(from.bound, from.grouping, key.as_slice());
         self.deal(FedRow {
+            epoch,
             stream,
             part,
             offset,
@@ -228,6 +264,7 @@ impl Dealer {
                 key,
                 values,
             } => self.deal_distinguished(bound, origin, columns, key, values),
+            HandedOn::Paired { key, time, row } => self.deal_paired(origin, key, time, row),
             HandedOn::Grouped {
                 grouping,
                 row,

@@ -1,18 +1,21 @@
 //! What a row hands on, by the shape of the query.
 
-ghost use Rattle.std.specs.Prelude.{◌≡◌, ℕ, All, IfOk};
+ghost use Rattle.std.specs.Prelude.{◌≡◌, ◌∷◌, [], All, IfOk};
+ghost use Rattle.ssq_shape.specs.declared.bound.Bound.{Bound as Query};
 ghost use Rattle.ssq_shape.specs.Evaluation.{cell_at};
 ghost use Rattle.ssq_expr.specs.Answers.{Answers, itself};
 ghost use Rattle.ssq_meaning.specs.Dedup.{handed_to_dedup, key_in};
 ghost use Rattle.ssq_meaning.specs.Feeding.{handed};
 ghost use Rattle.ssq_meaning.specs.Fit.{IsFit};
 ghost use Rattle.ssq_meaning.specs.Group.{argument_of, arguments_of, handed_to_groups};
+ghost use Rattle.ssq_meaning.specs.Join.{handed_to_join, join_key, key_column};
 ghost use Rattle.ssq_meaning.specs.Windows.{HasGroupWindows, HasWindows};
 ghost use Rattle.ssq_feed.specs.Keys.{IsReadRow};
 ghost use Rattle.ssq_feed.specs.Handing.{IsFitHanded, handed_rows, handed_shown};
 
 use ssq_expr::{EvalFault, eval, passes, show};
-use ssq_shape::{Aggregate, Bound, Grouping, Shape, Typed};
+use ssq_meaning::join_time;
+use ssq_shape::{Aggregate, Bound, Grouping, Joining, KeyPair, Shape, Typed};
 use ssq_value::{Row, Value};
 use std::alloc::{AllocError, Global};
 
@@ -28,6 +31,12 @@ pub(crate) enum HandedOn<'a> {
         columns: &'a [usize],
         key: Row,
         values: Row,
+    },
+    /// The row of a join as it was read, by its join key, with its event time where the join has a bound.
+    Paired {
+        key: Row,
+        time: Option<i64>,
+        row: Row,
     },
     /// The arguments of the aggregates, to each group of the row.
     Grouped {
@@ -151,21 +160,57 @@ fn grouped<'a>(
     })
 }
 
-/// What a row that was read hands on. WHERE is evaluated first, and where it is TRUE the items of SELECT or the arguments of the
-/// aggregates, from the left.
+fn key_column(left: bool, pair: &KeyPair) -> usize
+    ensures { result ≡ key_column left pair.now }
+{
+    if left { pair.left } else { pair.right }
+}
+
+/// The join key of a row of a stream: its values in the columns of the key equalities.
+fn join_key(alloc: Global, pairs: &[KeyPair], stream: u32, row: &[Value]) -> Result<Row, AllocError>
+    requires { All IsFit row.now }
+    ensures key { IfOk result (λ key. key ≡ join_key pairs.now stream row.now) }
+    ensures fit { IfOk result (All IsFit) }
+{
+    let mut key = Vec::with_capacity(alloc, pairs.len())?;
+    for pair in pairs {
+        key.push(cell_at(row, key_column(stream == 0, pair))?)?;
+    }
+    Ok(Row::from_vec(key))
+}
+
+fn paired<'a>(
+    alloc: Global,
+    joining: &Joining,
+    stream: u32,
+    row: Row,
+) -> Result<HandedOn<'a>, AllocError>
+    requires read { IsReadRow row }
+    ensures handed { (query : Query) → IfOk result (λ handed. handed_rows query handed ≡ handed_to_join joining.now stream row ∷ []) }
+    ensures fit { IfOk result IsFitHanded }
+{
+    let key = join_key(alloc, joining.keys.as_slice(), stream, row.as_slice())?;
+    let time = join_time(joining.bound, stream, row.as_slice());
+    Ok(HandedOn::Paired { key, time, row })
+}
+
+/// What a row of a stream hands on. WHERE is evaluated first, and where it is TRUE the items of SELECT or the arguments of the aggregates, from
+/// the left; for a join nothing is.
 pub(crate) fn handed_on<'a>(
     alloc: Global,
     bound: &'a Bound,
+    stream: u32,
     row: Row,
 ) -> Result<HandedOn<'a>, EvalFault>
     requires windows { HasWindows bound.now }
     requires read { IsReadRow row }
-    ensures handed { (stream : ℕ) → Answers (handed_rows bound.now) result (handed bound.now stream row) }
+    ensures handed { Answers (handed_rows bound.now) result (handed bound.now stream row) }
     ensures fit { IfOk result IsFitHanded }
 {
     match &bound.shape {
         Shape::Group(grouping) => grouped(alloc, bound, grouping, row),
         Shape::Dedup(columns) => distinguished(alloc, bound, columns.as_slice(), row.as_slice()),
-        Shape::Plain | Shape::Join(_) => shown(alloc, bound, row.as_slice()),
+        Shape::Join(joining) => Ok(paired(alloc, joining, stream, row)?),
+        Shape::Plain => shown(alloc, bound, row.as_slice()),
     }
 }

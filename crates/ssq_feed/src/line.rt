@@ -74,7 +74,7 @@ pub(crate) fn take_line<'a>(
         }),
         Ok(Some(row)) => {
             let time = event_time(schema, row.as_slice());
-            match handed_on(alloc, bound, row) {
+            match handed_on(alloc, bound, stream, row) {
                 Ok(handed) => Ok(LineGift { time, handed }),
                 Err(EvalFault::Overflow) => Err(FeedFault::Overflow { offset: at }),
                 Err(EvalFault::NoMemory) => Err(FeedFault::NoMemory),

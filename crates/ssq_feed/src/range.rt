@@ -29,12 +29,13 @@ fn later(greatest: Option<i64>, time: Option<i64>) -> Option<i64>
     }
 }
 
-/// What the lines of a part bring from one offset up to another.
+/// What the lines of a part bring from one offset up to another, for an epoch.
 fn feed_lines<L: Log>(
     alloc: Global,
     log: &mut L,
     view: View<'_>,
     schema: &Schema,
+    epoch: u32,
     stream: u32,
     part: u32,
     from: u64,
@@ -43,7 +44,7 @@ fn feed_lines<L: Log>(
     requires partitions { 1 ≤ view.partitions }
     requires windows { HasWindows view.bound.now }
     requires schema { schema.now ≡ layout_at view.bound.now stream }
-    ensures rows { IfOk result (λ fed. IsFedFrom L.tells view.entry.bound.now (record { stream = stream; part = part; lines = L.lines log.old }) from to
+    ensures rows { IfOk result (λ fed. IsFedFrom L.tells view.entry.bound.now epoch (record { stream = stream; part = part; lines = L.lines log.old }) from to
         view.entry.partitions fed.time fed.buckets) }
     ensures fault { IfErr result (FeedCause L.tells L.lines L.available L.answers L.faults view.entry.bound.now stream part from to log.old log.new) }
     ensures log { LogWent L.tells L.lines L.available L.answers L.faults log.old log.new }
@@ -56,6 +57,7 @@ fn feed_lines<L: Log>(
         let gift = take_line(alloc, view.bound, stream, schema, at, line.as_slice())?;
         time = later(time, gift.time);
         let origin = Origin {
+            epoch,
             stream,
             part,
             offset: at,
@@ -73,6 +75,7 @@ pub(crate) fn feed_range<L: Log>(
     alloc: Global,
     log: &mut L,
     view: View<'_>,
+    epoch: u32,
     stream: u32,
     part: u32,
     from: u64,
@@ -80,7 +83,7 @@ pub(crate) fn feed_range<L: Log>(
 ) -> Result<FedRows, FeedFault>
     requires partitions { 1 ≤ view.partitions }
     requires windows { HasWindows view.bound.now }
-    ensures rows { IfOk result (λ fed. IsFedFrom L.tells view.entry.bound.now (record { stream = stream; part = part; lines = L.lines log.old }) from to
+    ensures rows { IfOk result (λ fed. IsFedFrom L.tells view.entry.bound.now epoch (record { stream = stream; part = part; lines = L.lines log.old }) from to
         view.entry.partitions fed.time fed.buckets) }
     ensures fault { IfErr result (FeedCause L.tells L.lines L.available L.answers L.faults view.entry.bound.now stream part from to log.old log.new) }
     ensures log { LogWent L.tells L.lines L.available L.answers L.faults log.old log.new }
@@ -90,5 +93,5 @@ pub(crate) fn feed_range<L: Log>(
         Some(stream) => &stream.schema,
         None => &none,
     };
-    feed_lines(alloc, log, view, schema, stream, part, from, to)
+    feed_lines(alloc, log, view, schema, epoch, stream, part, from, to)
 }

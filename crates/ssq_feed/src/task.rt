@@ -50,8 +50,8 @@ pub struct Fed<'a, L: Log> {
     pub outcome: Result<FedRows, FeedFault>,
 }
 
-/// Reads the lines of the task's range one by one, and hands on their rows: of a grouped query once for each group of a row, of any other
-/// the row as SELECT shows it.
+/// Reads the lines of the task's range one by one, and hands on their rows: of a grouped query once for each group of a row, of a join the row
+/// as it is, of any other the row as SELECT shows it.
 ///
 /// There is at least one partition. A grouped query has at most one window, which is of 1 second to 366 days and as long as one to 64 of
 /// its slides.
@@ -73,7 +73,7 @@ pub fn feed<'a, L: Log>(alloc: Global, task: MapTask<'a, L>) -> Fed<'a, L>
         to,
         mut log,
     } = task;
-    let outcome = feed_range(alloc, &mut log, view, stream, part, from, to);
+    let outcome = feed_range(alloc, &mut log, view, epoch, stream, part, from, to);
     Fed {
         view,
         epoch,

@@ -1,12 +1,12 @@
 -- The rows of the epochs of a query that keeps nothing are those of the batch query.
-use Rattle.std.proofs.Common.{◌≡◌, ◌≤◌, ◌+◌, ◌++◌, [], ◌∷◌, ℕ, zero, suc, List, Option, Some, None, Bool, true, false, Result, Ok, Err, refl, ap, sym, ◌∙◌, subst, arith, take, filter, map, append_assoc, add-one}
+use Rattle.std.proofs.Common.{◌≡◌, ◌≤◌, ◌+◌, ◌++◌, [], ◌∷◌, ℕ, zero, suc, List, Option, Some, None, Bool, true, false, Result, Ok, Err, refl, ap, sym, ◌∙◌, subst, arith, take, filter, map, add-one}
 use Rattle.std.specs.Prelude.{not, if◌then◌else◌, option_and_then}
 use Rattle.std.specs.List.{filter_map, flat_map, enumerate_from, cons_option}
 use Rattle.std.specs.List.Sorted.{IsPermutation}
 use Rattle.std.specs.Result.{result_ok}
 use Rattle.std.proofs.lemmas.List.{append-nil, map-append}
 use Rattle.std.proofs.lemmas.List.Elements.{filter_map-append, filter-append}
-use Rattle.std.proofs.lemmas.List.Sorted.{IsPermutation-refl, IsPermutation-trans, IsPermutation-append_left, IsPermutation-append_right, IsPermutation-append_comm}
+use Rattle.std.proofs.lemmas.List.Sorted.{IsPermutation-refl, IsPermutation-trans, IsPermutation-append_left, IsPermutation-append_right}
 use Rattle.ssq_json.specs.declared.bad_row.BadRow.{BadRow}
 use Rattle.ssq_shape.specs.declared.bound.Bound.{Bound}
 use Rattle.ssq_shape.specs.declared.bound.Shape.{Shape}
@@ -22,6 +22,7 @@ use Rattle.ssq_meaning.specs.Operator.{plain, operator_for, operator_of}
 use Rattle.ssq_meaning.specs.Epochs.{fed_between, fed, watermark, watermark_before, accepted, out}
 use Rattle.ssq_meaning.specs.Laws.{outs, batch_of, batch}
 use Rattle.ssq_meaning.proofs.Between.{take-more}
+use Rattle.ssq_meaning.proofs.Shuffled.{middle}
 
 -- the rows as they are shown
 abbrev pub values_of : List FedRow → List Values
@@ -29,28 +30,28 @@ values_of rows = map (λ row. row.values) rows
 
 -- ---- one line
 
-by_shown : (part : Part) (at : ℕ) (row : Result Values Excess)
-    → values_of (fed_if part at (line_evaluated (and_then (and_then row (λ values. Ok (Some values))) (λ values. Ok (shown_once values))))) ≡ cons_option (result_ok row) []
-by_shown part at (Ok values) = refl
-by_shown part at (Err excess) = refl
+by_shown : (epoch : ℕ) (part : Part) (at : ℕ) (row : Result Values Excess)
+    → values_of (fed_if epoch part at (line_evaluated (and_then (and_then row (λ values. Ok (Some values))) (λ values. Ok (shown_once values))))) ≡ cons_option (result_ok row) []
+by_shown epoch part at (Ok values) = refl
+by_shown epoch part at (Err excess) = refl
 
-by_pass : (query : Bound) (part : Part) (at : ℕ) (row : Values) (passing : Result Bool Excess)
-    → values_of (fed_if part at (line_evaluated (and_then (and_then passing (λ passing. if passing then and_then (projected query.outputs row) (λ values. Ok (Some values)) else Ok None)) (λ values. Ok (shown_once values)))))
+by_pass : (query : Bound) (epoch : ℕ) (part : Part) (at : ℕ) (row : Values) (passing : Result Bool Excess)
+    → values_of (fed_if epoch part at (line_evaluated (and_then (and_then passing (λ passing. if passing then and_then (projected query.outputs row) (λ values. Ok (Some values)) else Ok None)) (λ values. Ok (shown_once values)))))
     ≡ shown query (if is_true_answer passing then row ∷ [] else [])
-by_pass query part at row (Err excess) = refl
-by_pass query part at row (Ok false) = refl
-by_pass query part at row (Ok true) = by_shown part at (projected query.outputs row)
+by_pass query epoch part at row (Err excess) = refl
+by_pass query epoch part at row (Ok false) = refl
+by_pass query epoch part at row (Ok true) = by_shown epoch part at (projected query.outputs row)
 
-by_read : (query : Bound) (part : Part) (at : ℕ) (read : Result (Option Values) BadRow) → query.shape ≡ Plain
-    → values_of (fed_if part at (line_read query part.stream read)) ≡ shown query (filter (is_fed query) (cons_option (option_and_then (λ row. row) (result_ok read)) []))
-by_read query part at (Err cause) is = refl
-by_read query part at (Ok None) is = refl
-by_read query part at (Ok (Some row)) is =
-    ap (λ (shape : Shape). values_of (fed_if part at (line_evaluated (handed_by shape query part.stream row)))) is
-    ∙ by_pass query part at row (passes query.filter row)
+by_read : (query : Bound) (epoch : ℕ) (part : Part) (at : ℕ) (read : Result (Option Values) BadRow) → query.shape ≡ Plain
+    → values_of (fed_if epoch part at (line_read query part.stream read)) ≡ shown query (filter (is_fed query) (cons_option (option_and_then (λ row. row) (result_ok read)) []))
+by_read query epoch part at (Err cause) is = refl
+by_read query epoch part at (Ok None) is = refl
+by_read query epoch part at (Ok (Some row)) is =
+    ap (λ (shape : Shape). values_of (fed_if epoch part at (line_evaluated (handed_by shape query part.stream row)))) is
+    ∙ by_pass query epoch part at row (passes query.filter row)
 
-line_values : (query : Bound) (part : Part) (at : ℕ) (line : Line) → query.shape ≡ Plain → values_of (fed_at query part at line) ≡ batch_of query part.stream (line ∷ [])
-line_values query part at line is = by_read query part at (read_at query part.stream line) is
+line_values : (query : Bound) (epoch : ℕ) (part : Part) (at : ℕ) (line : Line) → query.shape ≡ Plain → values_of (fed_at query epoch part at line) ≡ batch_of query part.stream (line ∷ [])
+line_values query epoch part at line is = by_read query epoch part at (read_at query part.stream line) is
 
 -- ---- the lines of a part
 
@@ -62,64 +63,56 @@ batch_of-append query stream xs ys =
     ∙ ap (shown query) (filter-append (is_fed query) (filter_map read xs) (filter_map read ys))
     ∙ filter_map-append (λ row. result_ok (projected query.outputs row)) (filter (is_fed query) (filter_map read xs)) (filter (is_fed query) (filter_map read ys))
 
-feeding : Bound → Part → ℕ → List Line → List FedRow
-feeding query part at lines = flat_map (λ line. fed_at query part line.0 line.1) (enumerate_from at lines)
+feeding : Bound → ℕ → Part → ℕ → List Line → List FedRow
+feeding query epoch part at lines = flat_map (λ line. fed_at query epoch part line.0 line.1) (enumerate_from at lines)
 
-lines_values : (query : Bound) (part : Part) → query.shape ≡ Plain → (at : ℕ) (lines : List Line) → values_of (feeding query part at lines) ≡ batch_of query part.stream lines
+lines_values : (query : Bound) (epoch : ℕ) (part : Part) → query.shape ≡ Plain → (at : ℕ) (lines : List Line) → values_of (feeding query epoch part at lines) ≡ batch_of query part.stream lines
 unfolding feeding
-lines_values query part is at [] = refl
-lines_values query part is at (line ∷ lines) =
-    map-append (λ (row : FedRow). row.values) (fed_at query part at line) (feeding query part (at + 1) lines)
-    ∙ (λ i. line_values query part at line is i ++ lines_values query part is (at + 1) lines i)
+lines_values query epoch part is at [] = refl
+lines_values query epoch part is at (line ∷ lines) =
+    map-append (λ (row : FedRow). row.values) (fed_at query epoch part at line) (feeding query epoch part (at + 1) lines)
+    ∙ (λ i. line_values query epoch part at line is i ++ lines_values query epoch part is (at + 1) lines i)
     ∙ sym (batch_of-append query part.stream (line ∷ []) lines)
 
-fed_values : (query : Bound) (part : Part) (from to : ℕ) → query.shape ≡ Plain → values_of (fed_in query part from to) ≡ batch_of query part.stream (lines_between from to part.lines)
+fed_values : (query : Bound) (epoch : ℕ) (part : Part) (from to : ℕ) → query.shape ≡ Plain → values_of (fed_in query epoch part from to) ≡ batch_of query part.stream (lines_between from to part.lines)
 unfolding feeding
-fed_values query part from to is = lines_values query part is from (lines_between from to part.lines)
+fed_values query epoch part from to is = lines_values query epoch part is from (lines_between from to part.lines)
 
 -- the rows of a longer front are those of the front and those of the lines between
-more_lines : (query : Bound) (part : Part) (from to : ℕ) → query.shape ≡ Plain → from ≤ to
-    → batch_of query part.stream (take to part.lines) ≡ batch_of query part.stream (take from part.lines) ++ values_of (fed_in query part from to)
-more_lines query part from to is le =
+more_lines : (query : Bound) (epoch : ℕ) (part : Part) (from to : ℕ) → query.shape ≡ Plain → from ≤ to
+    → batch_of query part.stream (take to part.lines) ≡ batch_of query part.stream (take from part.lines) ++ values_of (fed_in query epoch part from to)
+more_lines query epoch part from to is le =
     ap (batch_of query part.stream) (take-more from to part.lines le)
     ∙ batch_of-append query part.stream (take from part.lines) (lines_between from to part.lines)
-    ∙ ap (λ rows. batch_of query part.stream (take from part.lines) ++ rows) (sym (fed_values query part from to is))
+    ∙ ap (λ rows. batch_of query part.stream (take from part.lines) ++ rows) (sym (fed_values query epoch part from to is))
 
 -- ---- all parts
 
-middle : (a b c d : List Values) → IsPermutation ((a ++ b) ++ (c ++ d)) ((a ++ c) ++ (b ++ d))
-middle a b c d =
-    let before : a ++ ((b ++ c) ++ d) ≡ (a ++ b) ++ (c ++ d) = ap (λ l. a ++ l) (append_assoc b c d) ∙ sym (append_assoc a b (c ++ d)) in
-    let after : a ++ ((c ++ b) ++ d) ≡ (a ++ c) ++ (b ++ d) = ap (λ l. a ++ l) (append_assoc c b d) ∙ sym (append_assoc a c (b ++ d)) in
-    let turned : IsPermutation (a ++ ((b ++ c) ++ d)) (a ++ ((c ++ b) ++ d)) =
-    IsPermutation-append_right a ((b ++ c) ++ d) ((c ++ b) ++ d) (IsPermutation-append_left d (b ++ c) (c ++ b) (IsPermutation-append_comm b c)) in
-    subst (λ l. IsPermutation l ((a ++ c) ++ (b ++ d))) before (subst (IsPermutation (a ++ ((b ++ c) ++ d))) after turned)
-
-between_values : (query : Bound) (part : Part) (parts : List Part) (from to : ℕ) (froms tos : Cut)
-    → values_of (fed_between query (part ∷ parts) (from ∷ froms) (to ∷ tos)) ≡ values_of (fed_in query part from to) ++ values_of (fed_between query parts froms tos)
+between_values : (query : Bound) (epoch : ℕ) (part : Part) (parts : List Part) (from to : ℕ) (froms tos : Cut)
+    → values_of (fed_between query epoch (part ∷ parts) (from ∷ froms) (to ∷ tos)) ≡ values_of (fed_in query epoch part from to) ++ values_of (fed_between query epoch parts froms tos)
 unfolding of_parts
-between_values query part parts from to froms tos = map-append (λ (row : FedRow). row.values) (fed_in query part from to) (fed_between query parts froms tos)
+between_values query epoch part parts from to froms tos = map-append (λ (row : FedRow). row.values) (fed_in query epoch part from to) (fed_between query epoch parts froms tos)
 
-grows : (query : Bound) → query.shape ≡ Plain → (parts : List Part) (froms tos : Cut) → AreWithin parts froms tos
-    → IsPermutation (batch query parts froms ++ values_of (fed_between query parts froms tos)) (batch query parts tos)
+grows : (query : Bound) (epoch : ℕ) → query.shape ≡ Plain → (parts : List Part) (froms tos : Cut) → AreWithin parts froms tos
+    → IsPermutation (batch query parts froms ++ values_of (fed_between query epoch parts froms tos)) (batch query parts tos)
 unfolding of_parts
-grows query is [] [] [] within = IsPermutation-refl []
-grows query is [] [] (to ∷ tos) within = absurd within
-grows query is [] (from ∷ froms) tos within = absurd within
-grows query is (part ∷ parts) [] tos within = absurd within
-grows query is (part ∷ parts) (from ∷ froms) [] within = absurd within
-grows query is (part ∷ parts) (from ∷ froms) (to ∷ tos) within =
+grows query epoch is [] [] [] within = IsPermutation-refl []
+grows query epoch is [] [] (to ∷ tos) within = absurd within
+grows query epoch is [] (from ∷ froms) tos within = absurd within
+grows query epoch is (part ∷ parts) [] tos within = absurd within
+grows query epoch is (part ∷ parts) (from ∷ froms) [] within = absurd within
+grows query epoch is (part ∷ parts) (from ∷ froms) (to ∷ tos) within =
     let old = batch_of query part.stream (take from part.lines) in
-    let new = values_of (fed_in query part from to) in
+    let new = values_of (fed_in query epoch part from to) in
     let rest = batch query parts froms in
-    let more = values_of (fed_between query parts froms tos) in
+    let more = values_of (fed_between query epoch parts froms tos) in
     let turned : IsPermutation ((old ++ rest) ++ (new ++ more)) ((old ++ new) ++ (rest ++ more)) = middle old rest new more in
     let grown : IsPermutation ((old ++ new) ++ (rest ++ more)) ((old ++ new) ++ batch query parts tos) =
-    IsPermutation-append_right (old ++ new) (rest ++ more) (batch query parts tos) (grows query is parts froms tos within.1) in
+    IsPermutation-append_right (old ++ new) (rest ++ more) (batch query parts tos) (grows query epoch is parts froms tos within.1) in
     let all : IsPermutation ((old ++ rest) ++ (new ++ more)) ((old ++ new) ++ batch query parts tos) = IsPermutation-trans _ _ _ turned grown in
     let front : IsPermutation ((old ++ rest) ++ (new ++ more)) (batch_of query part.stream (take to part.lines) ++ batch query parts tos) =
-    subst (λ l. IsPermutation ((old ++ rest) ++ (new ++ more)) (l ++ batch query parts tos)) (sym (more_lines query part from to is within.0)) all in
-    subst (λ l. IsPermutation ((old ++ rest) ++ l) (batch_of query part.stream (take to part.lines) ++ batch query parts tos)) (sym (between_values query part parts from to froms tos)) front
+    subst (λ l. IsPermutation ((old ++ rest) ++ (new ++ more)) (l ++ batch query parts tos)) (sym (more_lines query epoch part from to is within.0)) all in
+    subst (λ l. IsPermutation ((old ++ rest) ++ l) (batch_of query part.stream (take to part.lines) ++ batch query parts tos)) (sym (between_values query epoch part parts from to froms tos)) front
 
 nothing_yet : (query : Bound) (parts : List Part) → batch query parts (start_of parts) ≡ []
 nothing_yet query [] = refl
@@ -158,25 +151,25 @@ rows_are_batch query parts cuts (suc n) is are =
     let shows = out_is query is parts cuts n in
     let rows = values_of (fed query parts cuts n) in
     let so_far : IsPermutation (outs query parts cuts n ++ rows) (batch query parts (cuts n) ++ rows) = IsPermutation-append_left rows (outs query parts cuts n) (batch query parts (cuts n)) before in
-    let last : IsPermutation (batch query parts (cuts n) ++ rows) (batch query parts (cuts (n + 1))) = grows query is parts (cuts n) (cuts (n + 1)) (are.follow n (omega arith)) in
+    let last : IsPermutation (batch query parts (cuts n) ++ rows) (batch query parts (cuts (n + 1))) = grows query n is parts (cuts n) (cuts (n + 1)) (are.follow n (omega arith)) in
     let all : IsPermutation (outs query parts cuts n ++ rows) (batch query parts (cuts (n + 1))) = IsPermutation-trans _ _ _ so_far last in
     let end : IsPermutation (outs query parts cuts n ++ rows) (batch query parts (cuts (suc n))) = subst (λ m. IsPermutation (outs query parts cuts n ++ rows) (batch query parts (cuts m))) (add-one n) all in
     subst (λ l. IsPermutation (outs query parts cuts n ++ l) (batch query parts (cuts (suc n)))) (sym shows) end
 
 -- ---- one part
 
-grows_one : (query : Bound) (part : Part) → query.shape ≡ Plain → (froms tos : Cut) → AreWithin (part ∷ []) froms tos
-    → batch query (part ∷ []) froms ++ values_of (fed_between query (part ∷ []) froms tos) ≡ batch query (part ∷ []) tos
+grows_one : (query : Bound) (epoch : ℕ) (part : Part) → query.shape ≡ Plain → (froms tos : Cut) → AreWithin (part ∷ []) froms tos
+    → batch query (part ∷ []) froms ++ values_of (fed_between query epoch (part ∷ []) froms tos) ≡ batch query (part ∷ []) tos
 unfolding of_parts
-grows_one query part is [] tos within = absurd within
-grows_one query part is (from ∷ froms) [] within = absurd within
-grows_one query part is (from ∷ a ∷ froms) (to ∷ tos) within = absurd within.1
-grows_one query part is (from ∷ []) (to ∷ b ∷ tos) within = absurd within.1
-grows_one query part is (from ∷ []) (to ∷ []) within =
+grows_one query epoch part is [] tos within = absurd within
+grows_one query epoch part is (from ∷ froms) [] within = absurd within
+grows_one query epoch part is (from ∷ a ∷ froms) (to ∷ tos) within = absurd within.1
+grows_one query epoch part is (from ∷ []) (to ∷ b ∷ tos) within = absurd within.1
+grows_one query epoch part is (from ∷ []) (to ∷ []) within =
     let old = batch_of query part.stream (take from part.lines) in
-    let new = values_of (fed_in query part from to) in
-    (λ i. append-nil old i ++ (between_values query part [] from to [] [] ∙ append-nil new) i)
-    ∙ sym (more_lines query part from to is within.0)
+    let new = values_of (fed_in query epoch part from to) in
+    (λ i. append-nil old i ++ (between_values query epoch part [] from to [] [] ∙ append-nil new) i)
+    ∙ sym (more_lines query epoch part from to is within.0)
     ∙ sym (append-nil (batch_of query part.stream (take to part.lines)))
 
 pub rows_in_order : (query : Bound) (part : Part) (cuts : Cuts) (n : ℕ) → query.shape ≡ Plain → AreCuts (part ∷ []) cuts n
@@ -187,5 +180,5 @@ rows_in_order query part cuts (suc n) is are =
     let before = rows_in_order query part cuts n is (fewer (part ∷ []) cuts n are) in
     let shows = out_is query is (part ∷ []) cuts n in
     (λ i. before i ++ shows i)
-    ∙ grows_one query part is (cuts n) (cuts (n + 1)) (are.follow n (omega arith))
+    ∙ grows_one query n part is (cuts n) (cuts (n + 1)) (are.follow n (omega arith))
     ∙ ap (λ m. batch query (part ∷ []) (cuts m)) (add-one n)

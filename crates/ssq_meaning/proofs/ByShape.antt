@@ -11,8 +11,9 @@ use Rattle.ssq_shape.specs.declared.bound.Shape.TheVariants.{Plain, Group, Dedup
 use Rattle.ssq_meaning.specs.declared.fed_row.FedRow.{FedRow}
 use Rattle.ssq_meaning.specs.Epochs.{bucket}
 use Rattle.ssq_meaning.specs.Operator.{operator_for, operator_of}
-use Rattle.ssq_meaning.proofs.Coding.{kept_ascends, repeats_ascend}
+use Rattle.ssq_meaning.proofs.Coding.{kept_ascends, repeats_ascend, rows_ascend}
 use Rattle.ssq_meaning.proofs.Firsts.{repeats_parted}
+use Rattle.ssq_meaning.proofs.PairsParted.{pairs_parted}
 use Rattle.ssq_meaning.proofs.Parted.{all_parted}
 use Rattle.ssq_meaning.proofs.Together.{shown_together}
 
@@ -21,7 +22,7 @@ shown_by : (shape : Shape) (query : Bound) (partitions : ℕ) → 1 ≤ partitio
 shown_by Plain query partitions some old new before now = shown_together partitions some new
 shown_by (Group grouping) query partitions some old new before now = all_parted partitions some query grouping old new before now
 shown_by (Dedup columns) query partitions some old new before now = repeats_parted partitions some query columns old new before now
-shown_by (Join joining) query partitions some old new before now = shown_together partitions some new
+shown_by (Join joining) query partitions some old new before now = pairs_parted partitions some query joining old new before now
 
 pub all_shown : (query : Bound) (partitions : ℕ) → 1 ≤ partitions → (old new : List FedRow) (before now : Option ℤ)
     → IsPermutation (flat_map (λ p. (operator_of query).added (bucket partitions p old) (bucket partitions p new) before now) (range_with_len 0 partitions)) ((operator_of query).added old new before now)
@@ -33,7 +34,7 @@ unfolding IsStrictlySortedBy
 ascends_by Plain query rows now = tt
 ascends_by (Group grouping) query rows now = kept_ascends query grouping rows now
 ascends_by (Dedup columns) query rows now = repeats_ascend query columns rows now
-ascends_by (Join joining) query rows now = tt
+ascends_by (Join joining) query rows now = rows_ascend joining rows now
 
 pub all_ascend : (query : Bound) (rows : List FedRow) (now : Option ℤ) → IsStrictlySortedBy (slice_cmp nat_cmp) (map (λ (entry : List ℕ × List ℕ). entry.0) ((operator_of query).state rows now))
 unfolding operator_of

@@ -18,7 +18,7 @@ module _ (query : Bound) (parts : List Part) (one other : Cuts) where
   fed_same e same =
       let from = same e (omega arith) in
       let to = same (e + 1) (omega arith) in
-      λ i. fed_between query parts (from i) (to i)
+      λ i. fed_between query e parts (from i) (to i)
 
   seen_same : (stream e : ℕ) → AreSameTo one other e → seen query parts one stream e ≡ seen query parts other stream e
   unfolding seen

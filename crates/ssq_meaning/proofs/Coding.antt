@@ -15,12 +15,14 @@ use Rattle.std.proofs.lemmas.Cmp.{tied_itself}
 use Rattle.ssq_value.specs.Key.{keys_of, IsSpelled}
 use Rattle.ssq_shape.specs.declared.bound.Bound.{Bound}
 use Rattle.ssq_shape.specs.declared.bound.Grouping.{Grouping}
+use Rattle.ssq_shape.specs.declared.bound.Joining.{Joining}
 use Rattle.ssq_meaning.specs.declared.fed_row.FedRow.{FedRow}
 use Rattle.ssq_meaning.specs.declared.total.Total.{Total}
 use Rattle.ssq_meaning.specs.Dedup as repeats
 use Rattle.ssq_meaning.specs.DedupLaws.{is_held, entry_if}
 use Rattle.ssq_meaning.specs.Group.{is_same, keys_in, has_key, totals_in, is_closed, kept}
 use Rattle.ssq_meaning.specs.GroupLaws.{times, held_if, held, IsKeySpelled}
+use Rattle.ssq_meaning.specs.Join as pairs
 use Rattle.ssq_meaning.specs.Meaning.{Values}
 use Rattle.ssq_meaning.specs.Totals.{totals_bytes}
 use Rattle.ssq_meaning.proofs.Counted.{times_in}
@@ -30,7 +32,7 @@ use Rattle.ssq_meaning.proofs.Keys.{same_is, same_itself, All-by, All-distinct, 
 abbrev by_bytes : List ℕ → List ℕ → Ordering
 by_bytes = slice_cmp nat_cmp
 
-is_equal : (r : Ordering) → is_eq r ≡ true → r ≡ Equal
+pub is_equal : (r : Ordering) → is_eq r ≡ true → r ≡ Equal
 is_equal Less is = absurd cc
 is_equal Equal is = refl
 is_equal Greater is = absurd cc
@@ -195,6 +197,10 @@ ascends_by is_open value rows = sorted_is (kept_by is_open value rows) (entries_
 
 pub kept_ascends : (query : Bound) (grouping : Grouping) (rows : List FedRow) (now : Option ℤ) → IsStrictlySortedBy by_bytes (map (λ (entry : List ℕ × List ℕ). entry.0) (kept query grouping rows now))
 kept_ascends query grouping rows now = ascends_by (λ key. not (is_closed query grouping now key)) (λ key. totals_bytes (totals_in grouping rows key)) rows
+
+pub rows_ascend : (joining : Joining) (rows : List FedRow) (now : Option ℤ) → IsStrictlySortedBy by_bytes (map (λ (entry : List ℕ × List ℕ). entry.0) (pairs.kept joining rows now))
+rows_ascend joining rows now =
+    sorted_is (pairs.kept joining rows now) (entries_sorted (from_entries {R = by_bytes} (map (pairs.entry_of joining rows) (pairs.open_rows joining rows now))))
 
 pub repeats_ascend : (query : Bound) (columns : List ℕ) (rows : List FedRow) (now : Option ℤ) → IsStrictlySortedBy by_bytes (map (λ (entry : List ℕ × List ℕ). entry.0) (repeats.kept query columns rows now))
 repeats_ascend query columns rows now = ascends_by (λ key. not (repeats.is_closed query columns now key)) (λ key. []) rows

@@ -96,22 +96,22 @@ lengths_agree (key.Window column size slide ∷ keys) (value.Text n ∷ own) are
 lengths_agree (key.Window column size slide ∷ keys) (value.Truth n ∷ own) are = absurd are
 
 module _ (query : Bound) (grouping : Grouping) where
-  abbrev IsMade : (key : Values) → (time : Option ℤ) → (values : Values) → Type 0
-  IsMade key time values = (time ≡ closing_time query grouping key) × IsKeyOf grouping.keys key × (length values ≡ length grouping.aggregates)
+  abbrev IsMade : (stream : ℕ) → (key : Values) → (time : Option ℤ) → (values : Values) → Type 0
+  IsMade stream key time values = (time ≡ closing_time query grouping key) × IsKeyOf grouping.keys key × (length values ≡ length grouping.aggregates)
 
   abbrev AreMade : List Handed → Type 0
-  AreMade rows = AllByRecursion (IsGiven query IsMade) rows
+  AreMade rows = AllByRecursion (IsGiven query IsMade 0) rows
 
   members_made : (arguments : Values) (keys : List Values) → length arguments ≡ length grouping.aggregates → AllByRecursion (IsKeyOf grouping.keys) keys → AreMade (map (member query grouping arguments) keys)
   members_made arguments [] long are = tt
   members_made arguments (own ∷ keys) long are = ((refl, are.0, long), members_made arguments keys long are.1)
 
-  row_made : (row : Values) → Gives query AreMade (Group grouping) row
-  row_made row =
+  row_made : (stream : ℕ) (row : Values) → Gives query AreMade stream (Group grouping) row
+  row_made stream row =
       IfOk-weaker (arguments_of grouping.aggregates row) (λ arguments. length arguments ≡ length grouping.aggregates) (λ arguments. AreMade (map (member query grouping arguments) (row_keys grouping.keys row)))
       (λ arguments long. members_made arguments (row_keys grouping.keys row) long (row_keys_are grouping.keys row)) (arguments_length grouping.aggregates row)
 
-  is_group_row : (row : FedRow) → IsMade row.key row.time row.values → IsGroupRow query grouping row
+  is_group_row : (row : FedRow) → IsMade row.stream row.key row.time row.values → IsGroupRow query grouping row
   is_group_row row made = record { time = made.0; key = lengths_agree grouping.keys row.key made.1; values = made.2 }
 
   group_rows : (rows : List FedRow) → AllByRecursion (IsFed query IsMade) rows → All (IsGroupRow query grouping) rows
@@ -132,10 +132,10 @@ module _ (query : Bound) (grouping : Grouping) where
     line_made : (stream : ℕ) (line : Line) → IfOk (line_handed query stream line) AreMade
     line_made stream line =
         line_has query AreMade tt stream line
-        (subst (λ (of : Shape). IfOk (read_at query stream line) (λ row. IfSome row (Gives query AreMade of))) (sym is) (any_read (Gives query AreMade (Group grouping)) row_made (read_at query stream line)))
+        (subst (λ (of : Shape). IfOk (read_at query stream line) (λ row. IfSome row (Gives query AreMade stream of))) (sym is) (any_read (Gives query AreMade stream (Group grouping)) (row_made stream) (read_at query stream line)))
 
-    pub part_grouped : (part : Part) (from to : ℕ) → All (IsGroupRow query grouping) (fed_in query part from to)
-    part_grouped part from to = group_rows (fed_in query part from to) (part_all query IsMade line_made part from to)
+    pub part_grouped : (epoch : ℕ) (part : Part) (from to : ℕ) → All (IsGroupRow query grouping) (fed_in query epoch part from to)
+    part_grouped epoch part from to = group_rows (fed_in query epoch part from to) (part_all query IsMade line_made epoch part from to)
 
     module _ (parts : List Part) (cuts : Cuts) (e : ℕ) where
       pub fed_grouped : All (IsGroupRow query grouping) (fed query parts cuts e)

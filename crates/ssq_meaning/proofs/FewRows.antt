@@ -93,51 +93,51 @@ module _ (few : AreFew) (query : Bound) (windows : HasWindows query) where
   once_few hand (Ok values) = omega arith
   once_few hand (Err excess) = tt
 
-  shown_few : (row : Values) → Gives query HasFew shape.Plain row
-  shown_few row = once_few (λ values. record { key = []; time = None; values = values }) (projected query.outputs row)
+  shown_few : (stream : ℕ) (row : Values) → Gives query HasFew stream shape.Plain row
+  shown_few stream row = once_few (λ values. record { key = []; time = None; values = values }) (projected query.outputs row)
 
   members_few : (grouping : Grouping) (keys : List Values) → length keys ≤ 64 → (arguments : Result Values Excess) → IfOk arguments (λ arguments. HasFew (map (member query grouping arguments) keys))
   members_few grouping keys few_of (Ok arguments) = omega (arith, length-map keys (member query grouping arguments), few_of)
   members_few grouping keys few_of (Err excess) = tt
 
-  gives_few : (of : Shape) → HasWindowsBy of → (row : Values) → Gives query HasFew of row
-  gives_few shape.Plain own row = shown_few row
-  gives_few (shape.Group grouping) own row =
+  gives_few : (stream : ℕ) (of : Shape) → HasWindowsBy of → (row : Values) → Gives query HasFew stream of row
+  gives_few stream shape.Plain own row = shown_few stream row
+  gives_few stream (shape.Group grouping) own row =
       members_few grouping (row_keys grouping.keys row) (few_keys few grouping.keys row own.each own.one) (arguments_of grouping.aggregates row)
-  gives_few (shape.Dedup columns) own row = once_few (distinguished query columns (key_in columns row)) (projected query.outputs row)
-  gives_few (shape.Join joining) own row = shown_few row
+  gives_few stream (shape.Dedup columns) own row = once_few (distinguished query columns (key_in columns row)) (projected query.outputs row)
+  gives_few stream (shape.Join joining) own row = omega arith
 
-  if_few : (part : Part) (at : ℕ) (rows : Result (List Handed) LineFault) → IfOk rows HasFew → length (fed_if part at rows) ≤ 64
-  if_few part at (Ok rows) few_of = omega (arith, length-map rows (placed part at), few_of)
-  if_few part at (Err fault) few_of = omega arith
+  if_few : (epoch : ℕ) (part : Part) (at : ℕ) (rows : Result (List Handed) LineFault) → IfOk rows HasFew → length (fed_if epoch part at rows) ≤ 64
+  if_few epoch part at (Ok rows) few_of = omega (arith, length-map rows (placed epoch part at), few_of)
+  if_few epoch part at (Err fault) few_of = omega arith
 
-  line_few : (part : Part) (line : ℕ × Line) → length (fed_at query part line.0 line.1) ≤ 64
-  line_few part line =
-      if_few part line.0 (line_handed query part.stream line.1)
-      (line_has query HasFew (omega arith) part.stream line.1 (any_read (Gives query HasFew query.shape) (gives_few query.shape windows) (read_at query part.stream line.1)))
+  line_few : (epoch : ℕ) (part : Part) (line : ℕ × Line) → length (fed_at query epoch part line.0 line.1) ≤ 64
+  line_few epoch part line =
+      if_few epoch part line.0 (line_handed query part.stream line.1)
+      (line_has query HasFew (omega arith) part.stream line.1 (any_read (Gives query HasFew part.stream query.shape) (gives_few part.stream query.shape windows) (read_at query part.stream line.1)))
 
-  pub part_few : (part : Part) (from to : ℕ) → length (fed_in query part from to) ≤ 64 * (to - from)
-  part_few part from to =
+  pub part_few : (epoch : ℕ) (part : Part) (from to : ℕ) → length (fed_in query epoch part from to) ≤ 64 * (to - from)
+  part_few epoch part from to =
       omega (
         arith,
-        few_flat (λ line. fed_at query part line.0 line.1) (line_few part) (offset_lines part from to),
+        few_flat (λ line. fed_at query epoch part line.0 line.1) (line_few epoch part) (offset_lines part from to),
         length-enumerate_from from (lines_between from to part.lines),
         length-take (to - from) (drop from part.lines),
       )
 
-  between_few : (parts : List Part) (froms tos : Cut) → AreWithin parts froms tos → length (fed_between query parts froms tos) + 64 * sum froms ≤ 64 * sum tos
+  between_few : (epoch : ℕ) (parts : List Part) (froms tos : Cut) → AreWithin parts froms tos → length (fed_between query epoch parts froms tos) + 64 * sum froms ≤ 64 * sum tos
   unfolding of_parts
-  between_few [] [] [] within = omega arith
-  between_few [] [] (to ∷ tos) within = absurd within
-  between_few [] (from ∷ froms) tos within = absurd within
-  between_few (part ∷ parts) [] tos within = absurd within
-  between_few (part ∷ parts) (from ∷ froms) [] within = absurd within
-  between_few (part ∷ parts) (from ∷ froms) (to ∷ tos) within =
+  between_few epoch [] [] [] within = omega arith
+  between_few epoch [] [] (to ∷ tos) within = absurd within
+  between_few epoch [] (from ∷ froms) tos within = absurd within
+  between_few epoch (part ∷ parts) [] tos within = absurd within
+  between_few epoch (part ∷ parts) (from ∷ froms) [] within = absurd within
+  between_few epoch (part ∷ parts) (from ∷ froms) (to ∷ tos) within =
       omega (
         arith,
-        length-append (fed_in query part from to) (fed_between query parts froms tos),
-        part_few part from to,
-        between_few parts froms tos within.1,
+        length-append (fed_in query epoch part from to) (fed_between query epoch parts froms tos),
+        part_few epoch part from to,
+        between_few epoch parts froms tos within.1,
         within.0,
         sum_by-cons (λ (n : ℕ). n) from froms,
         sum_by-cons (λ (n : ℕ). n) to tos,
@@ -145,7 +145,7 @@ module _ (few : AreFew) (query : Bound) (windows : HasWindows query) where
 
   module _ (parts : List Part) (cuts : Cuts) where
     more_few : (e : ℕ) → AreWithin parts (cuts e) (cuts (e + 1)) → length (fed query parts cuts e) + 64 * sum (cuts e) ≤ 64 * sum (cuts (e + 1))
-    more_few e within = between_few parts (cuts e) (cuts (e + 1)) within
+    more_few e within = between_few e parts (cuts e) (cuts (e + 1)) within
 
     timely_few : (e : ℕ) → length (on_time query parts cuts e) ≤ length (fed query parts cuts e)
     timely_few e = passing_few (λ row. not ((operator_of query).is_late (watermark query parts cuts e) row)) (fed query parts cuts e)

@@ -21,6 +21,7 @@ use Rattle.ssq_shape.specs.declared.bound.Bound.{Bound}
 use Rattle.ssq_shape.specs.declared.bound.GroupKey.{GroupKey}
 use Rattle.ssq_shape.specs.declared.bound.GroupKey.TheVariants as key
 use Rattle.ssq_shape.specs.declared.bound.Grouping.{Grouping}
+use Rattle.ssq_shape.specs.declared.bound.KeyPair.{KeyPair}
 use Rattle.ssq_shape.specs.declared.bound.Output.{Output}
 use Rattle.ssq_shape.specs.declared.bound.Shape.{Shape}
 use Rattle.ssq_shape.specs.declared.bound.Shape.TheVariants as shape
@@ -36,6 +37,7 @@ use Rattle.ssq_meaning.specs.Epochs.{fed, on_time, accepted}
 use Rattle.ssq_meaning.specs.Feeding.{layout_at, line_handed, fed_in}
 use Rattle.ssq_meaning.specs.Fit.{IsFitRow}
 use Rattle.ssq_meaning.specs.Group.{argument_of, arguments_of, key_values, member, row_keys, starts_if}
+use Rattle.ssq_meaning.specs.Join.{is_left, join_key, key_column}
 use Rattle.ssq_meaning.specs.Meaning.{Line, Values}
 use Rattle.ssq_meaning.specs.Parts.{Part}
 use Rattle.ssq_meaning.proofs.Handing.{Gives, IsGiven, all_append, cons_ok, line_has, part_all, fed_all, on_time_all, accepted_all}
@@ -175,7 +177,7 @@ abbrev AreFit : (key : Values) → (time : Option ℤ) → (values : Values) →
 AreFit key time values = AllByRecursion IsFit key × AllByRecursion IsFit values
 
 members_fit : (query : Bound) (grouping : Grouping) (arguments : Values) (keys : List Values) → AllByRecursion IsFit arguments → AllByRecursion (AllByRecursion IsFit) keys
-    → AllByRecursion (IsGiven query AreFit) (map (member query grouping arguments) keys)
+    → AllByRecursion (IsGiven query (λ stream. AreFit) 0) (map (member query grouping arguments) keys)
 members_fit query grouping arguments [] fit all = tt
 members_fit query grouping arguments (own ∷ keys) fit all = ((all.0, fit), members_fit query grouping arguments keys fit all.1)
 
@@ -187,44 +189,48 @@ fit_rows rows all = All-from_recursion IsFitRow rows (by rows all)
     by (row ∷ rows) all = (record { key = All-from_recursion IsFit row.key all.0.0; values = All-from_recursion IsFit row.values all.0.1 }, by rows all.1)
 
 module _ (rows_fit : RowsFit) (stays : StaysFit) (held : AreHeld) (query : Bound) (windows : HasWindows query) where
-  once_fit : (row : Values) → AllByRecursion IsRead row → IfOk (projected query.outputs row) (λ values. AllByRecursion (IsGiven query AreFit) (record { key = []; time = None; values = values } ∷ []))
+  once_fit : (row : Values) → AllByRecursion IsRead row → IfOk (projected query.outputs row) (λ values. AllByRecursion (IsGiven query (λ stream. AreFit) 0) (record { key = []; time = None; values = values } ∷ []))
   once_fit row all =
-      IfOk-weaker (projected query.outputs row) (AllByRecursion IsFit) (λ values. AllByRecursion (IsGiven query AreFit) (record { key = []; time = None; values = values } ∷ []))
+      IfOk-weaker (projected query.outputs row) (AllByRecursion IsFit) (λ values. AllByRecursion (IsGiven query (λ stream. AreFit) 0) (record { key = []; time = None; values = values } ∷ []))
       (λ values fit. ((tt, fit), tt)) (items_fit stays row (row_fits row all) query.outputs)
 
   cells_fit : (columns : List ℕ) (row : Values) → AllByRecursion IsRead row → AllByRecursion IsFit (key_in columns row)
   cells_fit [] row all = tt
   cells_fit (column ∷ columns) row all = ((cell_read row column all).0, cells_fit columns row all)
 
-  dedup_fit : (columns : List ℕ) (row : Values) → AllByRecursion IsRead row → Gives query (AllByRecursion (IsGiven query AreFit)) (shape.Dedup columns) row
-  dedup_fit columns row all =
-      IfOk-weaker (projected query.outputs row) (AllByRecursion IsFit) (λ values. AllByRecursion (IsGiven query AreFit) (distinguished query columns (key_in columns row) values ∷ []))
+  pairs_fit : (pairs : List KeyPair) (stream : ℕ) (row : Values) → AllByRecursion IsRead row → AllByRecursion IsFit (join_key pairs stream row)
+  pairs_fit [] stream row all = tt
+  pairs_fit (pair ∷ pairs) stream row all = ((cell_read row (key_column (is_left stream) pair) all).0, pairs_fit pairs stream row all)
+
+  dedup_fit : (stream : ℕ) (columns : List ℕ) (row : Values) → AllByRecursion IsRead row → Gives query (AllByRecursion (IsGiven query (λ stream. AreFit) 0)) stream (shape.Dedup columns) row
+  dedup_fit stream columns row all =
+      IfOk-weaker (projected query.outputs row) (AllByRecursion IsFit) (λ values. AllByRecursion (IsGiven query (λ stream. AreFit) 0) (distinguished query columns (key_in columns row) values ∷ []))
       (λ values fit. ((cells_fit columns row all, fit), tt)) (items_fit stays row (row_fits row all) query.outputs)
 
-  gives_fit : (of : Shape) → HasWindowsBy of → (row : Values) → AllByRecursion IsRead row → Gives query (AllByRecursion (IsGiven query AreFit)) of row
-  gives_fit shape.Plain own row all = once_fit row all
-  gives_fit (shape.Group grouping) own row all =
-      IfOk-weaker (arguments_of grouping.aggregates row) (AllByRecursion IsFit) (λ arguments. AllByRecursion (IsGiven query AreFit) (map (member query grouping arguments) (row_keys grouping.keys row)))
+  gives_fit : (stream : ℕ) (of : Shape) → HasWindowsBy of → (row : Values) → AllByRecursion IsRead row → Gives query (AllByRecursion (IsGiven query (λ stream. AreFit) 0)) stream of row
+  gives_fit stream shape.Plain own row all = once_fit row all
+  gives_fit stream (shape.Group grouping) own row all =
+      IfOk-weaker (arguments_of grouping.aggregates row) (AllByRecursion IsFit) (λ arguments. AllByRecursion (IsGiven query (λ stream. AreFit) 0) (map (member query grouping arguments) (row_keys grouping.keys row)))
       (λ arguments fit. members_fit query grouping arguments (row_keys grouping.keys row) fit (keys_fit held grouping.keys row own.each all))
       (arguments_fit stays row (row_fits row all) grouping.aggregates)
-  gives_fit (shape.Dedup columns) own row all = dedup_fit columns row all
-  gives_fit (shape.Join joining) own row all = once_fit row all
+  gives_fit stream (shape.Dedup columns) own row all = dedup_fit stream columns row all
+  gives_fit stream (shape.Join joining) own row all = ((pairs_fit joining.keys stream row all, row_fits row all), tt)
 
-  line_fit : (stream : ℕ) (line : Line) → IfOk (line_handed query stream line) (AllByRecursion (IsGiven query AreFit))
+  line_fit : (stream : ℕ) (line : Line) → IfOk (line_handed query stream line) (AllByRecursion (IsGiven query (λ stream. AreFit) 0))
   line_fit stream line =
       let schema = layout_at query stream in
-      line_has query (AllByRecursion (IsGiven query AreFit)) tt stream line
-      (IfOk-weaker (row_of schema line) (λ row. IfSome row (FitsSchema schema)) (λ row. IfSome row (Gives query (AllByRecursion (IsGiven query AreFit)) query.shape))
-      (λ row fits. IfSome_then row fits (λ own own_fits. gives_fit query.shape windows own (schema_read schema own own_fits))) (rows_fit schema line))
+      line_has query (AllByRecursion (IsGiven query (λ stream. AreFit) 0)) tt stream line
+      (IfOk-weaker (row_of schema line) (λ row. IfSome row (FitsSchema schema)) (λ row. IfSome row (Gives query (AllByRecursion (IsGiven query (λ stream. AreFit) 0)) stream query.shape))
+      (λ row fits. IfSome_then row fits (λ own own_fits. gives_fit stream query.shape windows own (schema_read schema own own_fits))) (rows_fit schema line))
 
-  pub part_fit : (part : Part) (from to : ℕ) → All IsFitRow (fed_in query part from to)
-  part_fit part from to = fit_rows (fed_in query part from to) (part_all query AreFit line_fit part from to)
+  pub part_fit : (epoch : ℕ) (part : Part) (from to : ℕ) → All IsFitRow (fed_in query epoch part from to)
+  part_fit epoch part from to = fit_rows (fed_in query epoch part from to) (part_all query (λ stream. AreFit) line_fit epoch part from to)
 
   pub fed_fit : (parts : List Part) (cuts : Cuts) (e : ℕ) → All IsFitRow (fed query parts cuts e)
-  fed_fit parts cuts e = fit_rows (fed query parts cuts e) (fed_all query AreFit line_fit parts cuts e)
+  fed_fit parts cuts e = fit_rows (fed query parts cuts e) (fed_all query (λ stream. AreFit) line_fit parts cuts e)
 
   pub on_time_fit : (parts : List Part) (cuts : Cuts) (e : ℕ) → All IsFitRow (on_time query parts cuts e)
-  on_time_fit parts cuts e = fit_rows (on_time query parts cuts e) (on_time_all query AreFit line_fit parts cuts e)
+  on_time_fit parts cuts e = fit_rows (on_time query parts cuts e) (on_time_all query (λ stream. AreFit) line_fit parts cuts e)
 
   pub accepted_fit : (parts : List Part) (cuts : Cuts) (e : ℕ) → All IsFitRow (accepted query parts cuts e)
-  accepted_fit parts cuts e = fit_rows (accepted query parts cuts e) (accepted_all query AreFit line_fit parts cuts e)
+  accepted_fit parts cuts e = fit_rows (accepted query parts cuts e) (accepted_all query (λ stream. AreFit) line_fit parts cuts e)

@@ -18,6 +18,7 @@ use Rattle.ssq_meaning.specs.Epochs.{fed_between, fed, on_time, accepted, waterm
 use Rattle.ssq_meaning.specs.Feeding.{shown_once, handed_by, line_evaluated, line_read, line_handed, read_at, placed, fed_if, fed_at, offset_lines, fed_in}
 use Rattle.ssq_meaning.specs.Group.{member, row_keys, arguments_of, handed_to_groups}
 use Rattle.ssq_meaning.specs.Handed.{Handed}
+use Rattle.ssq_meaning.specs.Join.{handed_to_join}
 use Rattle.ssq_meaning.specs.Meaning.{Line, Values}
 use Rattle.ssq_meaning.specs.Operator.{operator_of}
 use Rattle.ssq_meaning.specs.Parts.{Part}
@@ -54,13 +55,13 @@ cons_ok P Q R make (Err excess) rest p q = tt
 -- ---- what is handed on of a line
 
 module _ (query : Bound) (Q : List Handed → Type 0) where
-  -- Q of what is handed on of a row on which WHERE is TRUE
-  abbrev pub Gives : Shape → Values → Type 0
-  Gives shape.Plain row = IfOk (projected query.outputs row) (λ values. Q (shown_once (Some values)))
-  Gives (shape.Group grouping) row =
+  -- Q of what is handed on of a row, but for joins of one on which WHERE is TRUE
+  abbrev pub Gives : (stream : ℕ) → Shape → Values → Type 0
+  Gives stream shape.Plain row = IfOk (projected query.outputs row) (λ values. Q (shown_once (Some values)))
+  Gives stream (shape.Group grouping) row =
       IfOk (arguments_of grouping.aggregates row) (λ arguments. Q (map (member query grouping arguments) (row_keys grouping.keys row)))
-  Gives (shape.Dedup columns) row = IfOk (projected query.outputs row) (λ values. Q (distinguished query columns (key_in columns row) values ∷ []))
-  Gives (shape.Join joining) row = IfOk (projected query.outputs row) (λ values. Q (shown_once (Some values)))
+  Gives stream (shape.Dedup columns) row = IfOk (projected query.outputs row) (λ values. Q (distinguished query columns (key_in columns row) values ∷ []))
+  Gives stream (shape.Join joining) row = Q (handed_to_join joining stream row ∷ [])
 
   module _ (none : Q []) where
     if_passing : (passing : Result Bool Excess) (rows : Result (List Handed) Excess) → IfOk rows Q → IfOk (and_then passing (λ passing. if passing then rows else Ok [])) Q
@@ -68,9 +69,9 @@ module _ (query : Bound) (Q : List Handed → Type 0) where
     if_passing (Ok false) rows has = none
     if_passing (Err excess) rows has = tt
 
-    to_groups : (grouping : Grouping) (row : Values) → Gives (shape.Group grouping) row → IfOk (handed_to_groups query grouping row) Q
+    to_groups : (stream : ℕ) (grouping : Grouping) (row : Values) → Gives stream (shape.Group grouping) row → IfOk (handed_to_groups query grouping row) Q
     unfolding handed_to_groups
-    to_groups grouping row has =
+    to_groups stream grouping row has =
         if_passing (passes query.filter row) (and_then (arguments_of grouping.aggregates row) (λ arguments. Ok (map (member query grouping arguments) (row_keys grouping.keys row))))
         (then_ok Q (λ arguments. map (member query grouping arguments) (row_keys grouping.keys row)) (arguments_of grouping.aggregates row) has)
 
@@ -81,27 +82,27 @@ module _ (query : Bound) (Q : List Handed → Type 0) where
     once_if hand nothing (Ok false) row has = nothing
     once_if hand nothing (Err excess) row has = tt
 
-    to_dedup : (columns : List ℕ) (row : Values) → Gives (shape.Dedup columns) row → IfOk (handed_to_dedup query columns row) Q
+    to_dedup : (stream : ℕ) (columns : List ℕ) (row : Values) → Gives stream (shape.Dedup columns) row → IfOk (handed_to_dedup query columns row) Q
     unfolding handed_to_dedup
-    to_dedup columns row has = once_if (distinguished_if query columns (key_in columns row)) none (passes query.filter row) (projected query.outputs row) has
+    to_dedup stream columns row has = once_if (distinguished_if query columns (key_in columns row)) none (passes query.filter row) (projected query.outputs row) has
 
-    row_has : (of : Shape) (stream : ℕ) (row : Values) → Gives of row → IfOk (handed_by of query stream row) Q
+    row_has : (of : Shape) (stream : ℕ) (row : Values) → Gives stream of row → IfOk (handed_by of query stream row) Q
     row_has shape.Plain stream row has = once_if shown_once none (passes query.filter row) (projected query.outputs row) has
-    row_has (shape.Group grouping) stream row has = to_groups grouping row has
-    row_has (shape.Dedup columns) stream row has = to_dedup columns row has
-    row_has (shape.Join joining) stream row has = once_if shown_once none (passes query.filter row) (projected query.outputs row) has
+    row_has (shape.Group grouping) stream row has = to_groups stream grouping row has
+    row_has (shape.Dedup columns) stream row has = to_dedup stream columns row has
+    row_has (shape.Join joining) stream row has = has
 
     evaluated_has : (rows : Result (List Handed) Excess) → IfOk rows Q → IfOk (line_evaluated rows) Q
     evaluated_has (Ok rows) has = has
     evaluated_has (Err excess) has = tt
 
-    read_has : (stream : ℕ) (read : Result (Option Values) BadRow) → IfOk read (λ row. IfSome row (Gives query.shape)) → IfOk (line_read query stream read) Q
+    read_has : (stream : ℕ) (read : Result (Option Values) BadRow) → IfOk read (λ row. IfSome row (Gives stream query.shape)) → IfOk (line_read query stream read) Q
     read_has stream (Err cause) has = tt
     read_has stream (Ok None) has = none
     read_has stream (Ok (Some row)) has = evaluated_has (handed_by query.shape query stream row) (row_has query.shape stream row has)
 
     -- Q of what is handed on of a line, by the row that the line is
-    pub line_has : (stream : ℕ) (line : Line) → IfOk (read_at query stream line) (λ row. IfSome row (Gives query.shape)) → IfOk (line_handed query stream line) Q
+    pub line_has : (stream : ℕ) (line : Line) → IfOk (read_at query stream line) (λ row. IfSome row (Gives stream query.shape)) → IfOk (line_handed query stream line) Q
     line_has stream line has = read_has stream (read_at query stream line) has
 
 -- what holds of each row holds of the one that is read
@@ -112,39 +113,39 @@ any_read P each (Ok (Some row)) = each row
 
 -- ---- each row that is fed
 
-module _ (query : Bound) (P : (key : Values) → (time : Option ℤ) → (values : Values) → Type 0) where
-  abbrev pub IsGiven : Handed → Type 0
-  IsGiven row = P row.key row.time row.values
+module _ (query : Bound) (P : (stream : ℕ) → (key : Values) → (time : Option ℤ) → (values : Values) → Type 0) where
+  abbrev pub IsGiven : (stream : ℕ) → Handed → Type 0
+  IsGiven stream row = P stream row.key row.time row.values
 
   abbrev pub IsFed : FedRow → Type 0
-  IsFed row = P row.key row.time row.values
+  IsFed row = P row.stream row.key row.time row.values
 
-  placed_all : (part : Part) (at : ℕ) (rows : List Handed) → AllByRecursion IsGiven rows → AllByRecursion IsFed (map (placed part at) rows)
-  placed_all part at [] all = tt
-  placed_all part at (row ∷ rows) all = (all.0, placed_all part at rows all.1)
+  placed_all : (epoch : ℕ) (part : Part) (at : ℕ) (rows : List Handed) → AllByRecursion (IsGiven part.stream) rows → AllByRecursion IsFed (map (placed epoch part at) rows)
+  placed_all epoch part at [] all = tt
+  placed_all epoch part at (row ∷ rows) all = (all.0, placed_all epoch part at rows all.1)
 
-  if_all : (part : Part) (at : ℕ) (rows : Result (List Handed) LineFault) → IfOk rows (AllByRecursion IsGiven) → AllByRecursion IsFed (fed_if part at rows)
-  if_all part at (Ok rows) all = placed_all part at rows all
-  if_all part at (Err fault) all = tt
+  if_all : (epoch : ℕ) (part : Part) (at : ℕ) (rows : Result (List Handed) LineFault) → IfOk rows (AllByRecursion (IsGiven part.stream)) → AllByRecursion IsFed (fed_if epoch part at rows)
+  if_all epoch part at (Ok rows) all = placed_all epoch part at rows all
+  if_all epoch part at (Err fault) all = tt
 
-  module _ (each : (stream : ℕ) (line : Line) → IfOk (line_handed query stream line) (AllByRecursion IsGiven)) where
-    line_all : (part : Part) (line : ℕ × Line) → AllByRecursion IsFed (fed_at query part line.0 line.1)
-    line_all part line = if_all part line.0 (line_handed query part.stream line.1) (each part.stream line.1)
+  module _ (each : (stream : ℕ) (line : Line) → IfOk (line_handed query stream line) (AllByRecursion (IsGiven stream))) where
+    line_all : (epoch : ℕ) (part : Part) (line : ℕ × Line) → AllByRecursion IsFed (fed_at query epoch part line.0 line.1)
+    line_all epoch part line = if_all epoch part line.0 (line_handed query part.stream line.1) (each part.stream line.1)
 
-    pub part_all : (part : Part) (from to : ℕ) → AllByRecursion IsFed (fed_in query part from to)
-    part_all part from to = all_flat IsFed (λ line. fed_at query part line.0 line.1) (line_all part) (offset_lines part from to)
+    pub part_all : (epoch : ℕ) (part : Part) (from to : ℕ) → AllByRecursion IsFed (fed_in query epoch part from to)
+    part_all epoch part from to = all_flat IsFed (λ line. fed_at query epoch part line.0 line.1) (line_all epoch part) (offset_lines part from to)
 
-    between_all : (parts : List Part) (froms tos : Cut) → AllByRecursion IsFed (fed_between query parts froms tos)
+    between_all : (epoch : ℕ) (parts : List Part) (froms tos : Cut) → AllByRecursion IsFed (fed_between query epoch parts froms tos)
     unfolding of_parts
-    between_all [] froms tos = tt
-    between_all (part ∷ parts) [] tos = tt
-    between_all (part ∷ parts) (from ∷ froms) [] = tt
-    between_all (part ∷ parts) (from ∷ froms) (to ∷ tos) =
-        all_append IsFed (fed_in query part from to) (fed_between query parts froms tos) (part_all part from to) (between_all parts froms tos)
+    between_all epoch [] froms tos = tt
+    between_all epoch (part ∷ parts) [] tos = tt
+    between_all epoch (part ∷ parts) (from ∷ froms) [] = tt
+    between_all epoch (part ∷ parts) (from ∷ froms) (to ∷ tos) =
+        all_append IsFed (fed_in query epoch part from to) (fed_between query epoch parts froms tos) (part_all epoch part from to) (between_all epoch parts froms tos)
 
     module _ (parts : List Part) (cuts : Cuts) where
       pub fed_all : (e : ℕ) → AllByRecursion IsFed (fed query parts cuts e)
-      fed_all e = between_all parts (cuts e) (cuts (e + 1))
+      fed_all e = between_all e parts (cuts e) (cuts (e + 1))
 
       pub on_time_all : (e : ℕ) → AllByRecursion IsFed (on_time query parts cuts e)
       on_time_all e = All-by IsFed (λ row. not ((operator_of query).is_late (watermark query parts cuts e) row)) (fed query parts cuts e) (fed_all e)

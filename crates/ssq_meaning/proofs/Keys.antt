@@ -55,7 +55,7 @@ module _ {A : Type 0} where
       both rest false false = rest
 
   -- a test that nothing passes
-  none_pass : (p : A → Bool) (xs : List A) → AllByRecursion (λ x. p x ≡ false) xs → filter p xs ≡ []
+  pub none_pass : (p : A → Bool) (xs : List A) → AllByRecursion (λ x. p x ≡ false) xs → filter p xs ≡ []
   none_pass p [] none = refl
   none_pass p (x ∷ xs) none = ap (λ b. if b then x ∷ filter p xs else filter p xs) none.0 ∙ none_pass p xs none.1
 

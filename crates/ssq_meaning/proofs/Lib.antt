@@ -17,6 +17,15 @@ pub mod Leasts
 pub mod Dues
 pub mod Parted
 pub mod Together
+pub mod Shuffled
+pub mod Nearby
+pub mod Pairing
+pub mod PairsParted
+pub mod JoinEpochs
+pub mod Reordered
+pub mod InTurn
+pub mod KeptRows
+pub mod Placing
 pub mod Firsts
 pub mod Repeats
 pub mod ByShape

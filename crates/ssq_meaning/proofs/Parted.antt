@@ -227,7 +227,7 @@ both_least xs ys k (Some y) left right = by (is_gt (values_cmp k y)) refl
     by false below = (left.0 + times k ys, times-append k xs ys ∙ ap (λ n. n + times k ys) left.1 ∙ omega arith, either k (itself k) below)
 
 -- the least of the least of each is the least of all
-least_of_leasts : (f : ℕ → List Values) (ps : List ℕ) → IsLeastOf (flat_map f ps) (least_key (filter_map (λ p. least_key (f p)) ps))
+pub least_of_leasts : (f : ℕ → List Values) (ps : List ℕ) → IsLeastOf (flat_map f ps) (least_key (filter_map (λ p. least_key (f p)) ps))
 least_of_leasts f [] = λ x. refl
 least_of_leasts f (p ∷ ps) = by (least_key (f p)) (is_least (f p)) (least_of_leasts f ps)
   where

@@ -34,20 +34,20 @@ use Rattle.ssq_meaning.proofs.Water.{water_rose, water_stays}
 module _ (query : Bound) (columns : List ℕ) where
   -- ---- how rows are fed
 
-  abbrev IsMade : (key : Values) → (time : Option ℤ) → (values : Values) → Type 0
-  IsMade key time values = (time ≡ closing_time query columns key) × (length key ≡ length columns)
+  abbrev IsMade : (stream : ℕ) → (key : Values) → (time : Option ℤ) → (values : Values) → Type 0
+  IsMade stream key time values = (time ≡ closing_time query columns key) × (length key ≡ length columns)
 
   abbrev AreMade : List Handed → Type 0
-  AreMade rows = AllByRecursion (IsGiven query IsMade) rows
+  AreMade rows = AllByRecursion (IsGiven query IsMade 0) rows
 
   made : (key : Values) → length key ≡ length columns → (values : Result Values Excess) → IfOk values (λ values. AreMade (distinguished query columns key values ∷ []))
   made key many (Ok values) = ((refl, many), tt)
   made key many (Err excess) = tt
 
-  row_made : (row : Values) → Gives query AreMade (Dedup columns) row
-  row_made row = made (key_in columns row) (length-map columns (λ column. cell_at row column)) (projected query.outputs row)
+  row_made : (stream : ℕ) (row : Values) → Gives query AreMade stream (Dedup columns) row
+  row_made stream row = made (key_in columns row) (length-map columns (λ column. cell_at row column)) (projected query.outputs row)
 
-  is_dedup_row : (row : FedRow) → IsMade row.key row.time row.values → IsDedupRow query columns row
+  is_dedup_row : (row : FedRow) → IsMade row.stream row.key row.time row.values → IsDedupRow query columns row
   is_dedup_row row made = record { time = made.0; key = made.1 }
 
   dedup_rows : (rows : List FedRow) → AllByRecursion (IsFed query IsMade) rows → All (IsDedupRow query columns) rows
@@ -121,10 +121,10 @@ module _ (query : Bound) (columns : List ℕ) where
     line_made : (stream : ℕ) (line : Line) → IfOk (line_handed query stream line) AreMade
     line_made stream line =
         line_has query AreMade tt stream line
-        (subst (λ (of : Shape). IfOk (read_at query stream line) (λ row. IfSome row (Gives query AreMade of))) (sym is) (any_read (Gives query AreMade (Dedup columns)) row_made (read_at query stream line)))
+        (subst (λ (of : Shape). IfOk (read_at query stream line) (λ row. IfSome row (Gives query AreMade stream of))) (sym is) (any_read (Gives query AreMade stream (Dedup columns)) (row_made stream) (read_at query stream line)))
 
-    pub part_keyed : (part : Part) (from to : ℕ) → All (IsDedupRow query columns) (fed_in query part from to)
-    part_keyed part from to = dedup_rows (fed_in query part from to) (part_all query IsMade line_made part from to)
+    pub part_keyed : (epoch : ℕ) (part : Part) (from to : ℕ) → All (IsDedupRow query columns) (fed_in query epoch part from to)
+    part_keyed epoch part from to = dedup_rows (fed_in query epoch part from to) (part_all query IsMade line_made epoch part from to)
 
     module _ (parts : List Part) (cuts : Cuts) where
       pub fed_keyed : (e : ℕ) → All (IsDedupRow query columns) (fed query parts cuts e)

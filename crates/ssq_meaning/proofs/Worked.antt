@@ -61,6 +61,7 @@ module _ (query : Bound) (good over bad : Line) (what : LineFault)
 -- Where the watermark is at a row's time, the row is late, and its key is forgotten.
 abbrev timed_row : ℕ → ℕ → ℕ → FedRow
 timed_row offset id minute = record {
+  epoch = 0;
   stream = 0;
   part = 0;
   offset = offset;

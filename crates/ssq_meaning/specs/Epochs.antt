@@ -16,9 +16,9 @@ use Rattle.ssq_meaning.specs.Operator.{operator_of}
 abbrev pub joined : {A : Type 0} → List (List A) → List A
 joined lists = flat_map (λ list. list) lists
 
--- what the lines between two cuts feed, part by part in order
-abbrev pub fed_between : Bound → List Part → Cut → Cut → List FedRow
-fed_between query parts from to = joined (of_parts (fed_in query) parts from to)
+-- what the lines between two cuts feed, part by part in order, as lines of an epoch
+abbrev pub fed_between : Bound → (epoch : ℕ) → List Part → Cut → Cut → List FedRow
+fed_between query epoch parts from to = joined (of_parts (fed_in query epoch) parts from to)
 
 -- the first of these lines that is bad or overflows
 abbrev pub fault_between : Bound → List Part → Cut → Cut → Option LineAt
@@ -34,7 +34,7 @@ time_between query parts from to stream = greatest (of_parts (time_of_stream que
 
 -- the rows fed by epoch e
 abbrev pub fed : Bound → List Part → Cuts → ℕ → List FedRow
-fed query parts cuts e = fed_between query parts (cuts e) (cuts (e + 1))
+fed query parts cuts e = fed_between query e parts (cuts e) (cuts (e + 1))
 
 -- the greatest event time of a stream over the first e epochs
 unfoldable pub seen : Bound → List Part → Cuts → (stream : ℕ) → ℕ → Option ℤ

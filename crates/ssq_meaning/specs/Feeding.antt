@@ -5,7 +5,6 @@ use Rattle.ssq_value.specs.Layout.{Layout}
 use Rattle.ssq_json.specs.Line.{row_of}
 use Rattle.ssq_json.specs.declared.bad_row.BadRow.{BadRow}
 use Rattle.ssq_shape.specs.declared.bound.Bound.{Bound}
-use Rattle.ssq_shape.specs.declared.bound.Stream.{Stream}
 use Rattle.ssq_shape.specs.declared.bound.Shape.{Shape}
 use Rattle.ssq_shape.specs.declared.bound.Shape.TheVariants.{Plain, Group, Dedup, Join}
 use Rattle.ssq_shape.specs.Evaluation.{Overflow as Excess, and_then, time_in as time_of_value}
@@ -13,20 +12,14 @@ use Rattle.ssq_shape.specs.Plain.{shown as shown_row}
 use Rattle.ssq_meaning.specs.declared.line.LineFault.{LineFault}
 use Rattle.ssq_meaning.specs.declared.line.LineFault.TheVariants.{Bad, Overflow}
 use Rattle.ssq_meaning.specs.declared.fed_row.FedRow.{FedRow}
+pub use Rattle.ssq_meaning.specs.Meaning.{layout_at}
 use Rattle.ssq_meaning.specs.Meaning.{Line, Values, lines_between}
 use Rattle.ssq_meaning.specs.Dedup.{handed_to_dedup}
 use Rattle.ssq_meaning.specs.Group.{handed_to_groups}
+use Rattle.ssq_meaning.specs.Join.{handed_to_join}
 pub use Rattle.ssq_meaning.specs.Handed.{Handed}
 use Rattle.ssq_meaning.specs.Parts.{Part}
 use Rattle.ssq_meaning.specs.Times.{greatest}
-
--- the columns of a stream; there are none where there is no such stream
-abbrev pub layout_in : Option Stream → Layout
-layout_in None = record { columns = []; event = None }
-layout_in (Some stream) = stream.schema
-
-abbrev pub layout_at : Bound → ℕ → Layout
-layout_at query stream = layout_in (slice_get query.streams stream)
 
 -- a query that keeps nothing has one key, which has no values, and no time key
 abbrev pub shown_once : Option Values → List Handed
@@ -35,13 +28,13 @@ shown_once (Some values) = record { key = []; time = None; values = values } ∷
 
 -- What is handed on of a row of a stream, or that evaluating it overflows. Plain: the row as SELECT shows it, where WHERE is TRUE;
 -- WHERE and then the items of SELECT are evaluated. Groups: the arguments of the aggregates, once for each window, where WHERE is TRUE.
--- DEDUPLICATE: the row as SELECT shows it, by its values in the columns, where WHERE is TRUE. What Join hands on is to come: nothing is said
--- of it yet.
+-- DEDUPLICATE: the row as SELECT shows it, by its values in the columns, where WHERE is TRUE. Join: each row as it is, by its join key;
+-- nothing is evaluated.
 abbrev pub handed_by : Shape → Bound → ℕ → Values → Result (List Handed) Excess
 handed_by Plain query stream row = and_then (shown_row query row) (λ values. Ok (shown_once values))
 handed_by (Group grouping) query stream row = handed_to_groups query grouping row
 handed_by (Dedup columns) query stream row = handed_to_dedup query columns row
-handed_by (Join joining) query stream row = and_then (shown_row query row) (λ values. Ok (shown_once values))
+handed_by (Join joining) query stream row = Ok (handed_to_join joining stream row ∷ [])
 
 abbrev pub handed : Bound → ℕ → Values → Result (List Handed) Excess
 handed query stream row = handed_by query.shape query stream row
@@ -63,18 +56,18 @@ line_read query stream (Ok (Some row)) = line_evaluated (handed query stream row
 abbrev pub line_handed : Bound → ℕ → Line → Result (List Handed) LineFault
 line_handed query stream line = line_read query stream (read_at query stream line)
 
--- a row handed on, with its place
-abbrev pub placed : Part → ℕ → Handed → FedRow
-placed part offset row =
-    record { stream = part.stream; part = part.part; offset = offset; key = row.key; time = row.time; values = row.values }
+-- a row handed on, with its place: its epoch, its part and its line
+abbrev pub placed : ℕ → Part → ℕ → Handed → FedRow
+placed epoch part offset row =
+    record { epoch = epoch; stream = part.stream; part = part.part; offset = offset; key = row.key; time = row.time; values = row.values }
 
--- what a line feeds: nothing where it has a fault
-abbrev pub fed_if : Part → ℕ → Result (List Handed) LineFault → List FedRow
-fed_if part offset (Ok rows) = map (placed part offset) rows
-fed_if part offset (Err fault) = []
+-- what a line of an epoch feeds: nothing where it has a fault
+abbrev pub fed_if : ℕ → Part → ℕ → Result (List Handed) LineFault → List FedRow
+fed_if epoch part offset (Ok rows) = map (placed epoch part offset) rows
+fed_if epoch part offset (Err fault) = []
 
-abbrev pub fed_at : Bound → Part → ℕ → Line → List FedRow
-fed_at query part offset line = fed_if part offset (line_handed query part.stream line)
+abbrev pub fed_at : Bound → ℕ → Part → ℕ → Line → List FedRow
+fed_at query epoch part offset line = fed_if epoch part offset (line_handed query part.stream line)
 
 -- the event time of a row: its value in the event column, where its stream has one
 abbrev pub time_of_row : Layout → Values → Option ℤ
@@ -116,9 +109,9 @@ first_of_all (x ∷ xs) = or_else x (first_of_all xs)
 abbrev pub offset_lines : Part → ℕ → ℕ → List (ℕ × Line)
 offset_lines part from to = enumerate_from from (lines_between from to part.lines)
 
--- what these lines feed, in order
-abbrev pub fed_in : Bound → Part → ℕ → ℕ → List FedRow
-fed_in query part from to = flat_map (λ line. fed_at query part line.0 line.1) (offset_lines part from to)
+-- what these lines feed, in order, as lines of an epoch
+abbrev pub fed_in : Bound → (epoch : ℕ) → Part → ℕ → ℕ → List FedRow
+fed_in query epoch part from to = flat_map (λ line. fed_at query epoch part line.0 line.1) (offset_lines part from to)
 
 -- the greatest event time of the rows among these lines, late rows and rows that WHERE drops included
 abbrev pub time_in : Bound → Part → ℕ → ℕ → Option ℤ

@@ -6,6 +6,7 @@ pub mod Handed
 pub mod Totals
 pub mod Group
 pub mod Dedup
+pub mod Join
 pub mod Keyed
 pub mod Windows
 pub mod Fit
@@ -15,4 +16,5 @@ pub mod Epochs
 pub mod Laws
 pub mod GroupLaws
 pub mod DedupLaws
+pub mod JoinLaws
 pub mod Table

@@ -3,10 +3,12 @@ use Rattle.std.specs.Prelude.{ℕ, ℤ, Bool, false, List, [], ◌++◌, map, fi
 use Rattle.ssq_shape.specs.declared.bound.Bound.{Bound}
 use Rattle.ssq_shape.specs.declared.bound.Shape.{Shape}
 use Rattle.ssq_shape.specs.declared.bound.Grouping.{Grouping}
+use Rattle.ssq_shape.specs.declared.bound.Joining.{Joining}
 use Rattle.ssq_shape.specs.declared.bound.Shape.TheVariants.{Plain, Group, Dedup, Join}
 use Rattle.ssq_meaning.specs.declared.fed_row.FedRow.{FedRow}
 use Rattle.ssq_meaning.specs.Dedup as repeats
 use Rattle.ssq_meaning.specs.Group.{row_of_key, key_overflows, due_keys, least_key, kept}
+use Rattle.ssq_meaning.specs.Join as pairs
 use Rattle.ssq_meaning.specs.Meaning.{Values}
 use Rattle.ssq_meaning.specs.Times.{is_past}
 
@@ -51,12 +53,22 @@ dedup query columns = record {
   state = repeats.kept query columns;
 }
 
--- The operator of a shape, for a query of that shape. That of Join is to come: nothing is said of it yet.
+-- Pairs of rows of two streams: a row is late where its event time is past; an epoch shows the rows of what it considers, over all rows that
+-- were accepted, and its fault is the least key of what overflows; rows that are not over are kept.
+abbrev pub join : Bound → Joining → Operator
+join query joining = record {
+  is_late = λ now row. is_past now row.time;
+  added = λ old new before now. pairs.shown_among (pairs.considered query joining old new before now);
+  fault = λ old new before now. least_key (pairs.faulty_among (pairs.considered query joining old new before now));
+  state = pairs.kept joining;
+}
+
+-- The operator of a shape, for a query of that shape.
 abbrev pub operator_for : Shape → Bound → Operator
 operator_for Plain query = plain
 operator_for (Group grouping) query = group query grouping
 operator_for (Dedup columns) query = dedup query columns
-operator_for (Join joining) query = plain
+operator_for (Join joining) query = join query joining
 
 unfoldable pub operator_of : Bound → Operator
 operator_of query = operator_for query.shape query

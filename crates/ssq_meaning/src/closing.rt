@@ -4,14 +4,15 @@ ghost use Rattle.std.specs.Prelude.{◌≡◌, ◌+ℤ◌};
 ghost use Rattle.std.specs.List.{AllByRecursion};
 ghost use Rattle.ssq_time.specs.Time.{IsSpan, IsStampTime};
 ghost use Rattle.ssq_value.specs.Kind.{IfTime};
-ghost use Rattle.ssq_shape.specs.Evaluation.{time_in};
+ghost use Rattle.ssq_shape.specs.Evaluation.{cell_at, time_in};
 ghost use Rattle.ssq_shape.specs.Late.{event_of, is_column_of, is_event, is_window_of};
 ghost use Rattle.ssq_meaning.specs.Dedup as repeats;
 ghost use Rattle.ssq_meaning.specs.Group.{closing_time, end_of, event_time, time_by, window_end};
+ghost use Rattle.ssq_meaning.specs.Join.{event_column, join_time};
 ghost use Rattle.ssq_meaning.specs.Keyed.{key_length, key_time};
 ghost use Rattle.ssq_meaning.specs.Windows.{HasWindow, HasWindows};
 
-use ssq_shape::{Bound, GroupKey, Grouping, Mode, Shape, Stream, TimeKey, time_key};
+use ssq_shape::{Bound, GroupKey, Grouping, Mode, Shape, Stream, TimeBound, TimeKey, time_key};
 use ssq_value::Value;
 
 fn event_of(streams: &[Stream]) -> Option<usize>
@@ -174,6 +175,33 @@ pub fn repeat_time(bound: &Bound, columns: &[usize], key: &[Value]) -> Option<i6
         Mode::Append | Mode::Update => {
             event_time_in(event_of(bound.streams.as_slice()), columns, key)
         }
+    }
+}
+
+/// The time in a column of a row, where there is one.
+fn time_at(row: &[Value], column: usize) -> Option<i64>
+    ensures { result ≡ time_in (cell_at row.now column) }
+{
+    match row.get(column) {
+        Some(Value::Time(time)) => Some(*time),
+        _ => None,
+    }
+}
+
+fn event_column(left: bool, bound: TimeBound) -> usize
+    ensures { result ≡ event_column left bound }
+{
+    if left { bound.left } else { bound.right }
+}
+
+/// The time of a row of a join, in microseconds since 1970: its event time, where the join has a bound. The stream's place in the order of FROM
+/// says its side.
+pub fn join_time(bound: Option<TimeBound>, stream: u32, row: &[Value]) -> Option<i64>
+    ensures { result ≡ join_time bound stream row.now }
+{
+    match bound {
+        Some(bound) => time_at(row, event_column(stream == 0, bound)),
+        None => None,
     }
 }
 

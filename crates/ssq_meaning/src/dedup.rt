@@ -83,8 +83,8 @@ pub fn epochs_without_repeats_follow()
 
 /// The law of rows that are fed to DEDUPLICATE: the time of each is the closing time of its key, which has a value for each of the columns.
 pub fn repeats_are_fed_by_their_keys()
-    ensures part { (query : Query) (columns : List ℕ) → query.shape ≡ shape.Dedup columns → (part : Part) (from to : ℕ) →
-        All (IsDedupRow query columns) (fed_in query part from to) }
+    ensures part { (query : Query) (columns : List ℕ) → query.shape ≡ shape.Dedup columns → (epoch : ℕ) (part : Part) (from to : ℕ) →
+        All (IsDedupRow query columns) (fed_in query epoch part from to) }
     ensures fed { (query : Query) (columns : List ℕ) → query.shape ≡ shape.Dedup columns → (parts : List Part) (cuts : Cuts) (e : ℕ) →
         All (IsDedupRow query columns) (fed query parts cuts e) }
     ensures on_time { (query : Query) (columns : List ℕ) → query.shape ≡ shape.Dedup columns → (parts : List Part) (cuts : Cuts) (e : ℕ) →

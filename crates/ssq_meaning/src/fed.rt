@@ -20,7 +20,7 @@ use ssq_window::windows_hold_their_time;
 /// The law of what a state can hold: each row that is fed is one, of a query of any shape whose windows it can have; so is each row of
 /// those that are on time, that were accepted, and of a bucket of such rows.
 pub fn fed_rows_are_fit()
-    ensures part { (query : Query) → HasWindows query → (part : Part) (from to : ℕ) → All IsFitRow (fed_in query part from to) }
+    ensures part { (query : Query) → HasWindows query → (epoch : ℕ) (part : Part) (from to : ℕ) → All IsFitRow (fed_in query epoch part from to) }
     ensures fed { (query : Query) → HasWindows query → (parts : List Part) (cuts : Cuts) (e : ℕ) → All IsFitRow (fed query parts cuts e) }
     ensures on_time { (query : Query) → HasWindows query → (parts : List Part) (cuts : Cuts) (e : ℕ) → All IsFitRow (on_time query parts cuts e) }
     ensures accepted { (query : Query) → HasWindows query → (parts : List Part) (cuts : Cuts) (e : ℕ) → All IsFitRow (accepted query parts cuts e) }
@@ -35,7 +35,7 @@ pub fn fed_rows_are_fit()
 /// most 64 for each of its lines, and the first epochs leave at most 64 for each of the lines that they cover; a bucket has no more rows
 /// than there are.
 pub fn fed_rows_are_few()
-    ensures part { (query : Query) → HasWindows query → (part : Part) (from to : ℕ) → length (fed_in query part from to) ≤ 64 * (to - from) }
+    ensures part { (query : Query) → HasWindows query → (epoch : ℕ) (part : Part) (from to : ℕ) → length (fed_in query epoch part from to) ≤ 64 * (to - from) }
     ensures fed { (query : Query) → HasWindows query → (parts : List Part) (cuts : Cuts) (e : ℕ) → AreWithin parts (cuts e) (cuts (e + 1)) →
         length (fed query parts cuts e) ≤ 64 * (sum (cuts (e + 1)) - sum (cuts e)) }
     ensures on_time { (query : Query) → HasWindows query → (parts : List Part) (cuts : Cuts) (e : ℕ) → AreWithin parts (cuts e) (cuts (e + 1)) →

@@ -137,8 +137,8 @@ pub fn epochs_of_groups_follow()
 /// The law of rows that are fed to groups: the time of each is the closing time of its key, its key has a value for each part of GROUP BY,
 /// and it has a value for each aggregate.
 pub fn groups_are_fed_by_their_keys()
-    ensures part { (query : Query) (grouping : Groups) → query.shape ≡ shape.Group grouping → (part : Part) (from to : ℕ) →
-        All (IsGroupRow query grouping) (fed_in query part from to) }
+    ensures part { (query : Query) (grouping : Groups) → query.shape ≡ shape.Group grouping → (epoch : ℕ) (part : Part) (from to : ℕ) →
+        All (IsGroupRow query grouping) (fed_in query epoch part from to) }
     ensures fed { (query : Query) (grouping : Groups) → query.shape ≡ shape.Group grouping → (parts : List Part) (cuts : Cuts) (e : ℕ) →
         All (IsGroupRow query grouping) (fed query parts cuts e) }
     ensures on_time { (query : Query) (grouping : Groups) → query.shape ≡ shape.Group grouping → (parts : List Part) (cuts : Cuts) (e : ℕ) →

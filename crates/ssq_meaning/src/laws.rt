@@ -1,6 +1,6 @@
 //! Laws of epochs, of each query.
 
-ghost use Rattle.std.specs.Prelude.{◌≡◌, ◌+◌, ◌<◌, ◌≤◌, ℕ, ℤ, List, [], ◌∷◌, Option, None, flat_map, map};
+ghost use Rattle.std.specs.Prelude.{◌≡◌, ◌+◌, ◌<◌, ◌≤◌, ℕ, ℤ, List, [], ◌∷◌, Option, None, filter_map, flat_map, map};
 ghost use Rattle.std.specs.Cmp.Lexicographic.{slice_cmp};
 ghost use Rattle.std.specs.List.{range_with_len};
 ghost use Rattle.std.specs.List.Sorted.{IsPermutation, IsStrictlySortedBy};
@@ -12,6 +12,7 @@ ghost use Rattle.ssq_meaning.specs.Parts.{Part};
 ghost use Rattle.ssq_meaning.specs.Cut.{Cuts, AreCuts, AreSameTo};
 ghost use Rattle.ssq_meaning.specs.Times.{AtMost};
 ghost use Rattle.ssq_meaning.specs.Epochs.{accepted, bucket, key_fault, on_time, seen, watermark, watermark_before};
+ghost use Rattle.ssq_meaning.specs.Group.{least_key};
 ghost use Rattle.ssq_meaning.specs.Operator.{operator_of};
 ghost use Rattle.ssq_meaning.specs.Laws.{SaysSame, outs, batch};
 
@@ -51,6 +52,13 @@ pub fn keys_overflow_in_their_partitions()
         ((p : ℕ) → p < partitions → (operator_of query).fault (bucket partitions p (accepted query parts cuts e)) (bucket partitions p (on_time query parts cuts e))
         (watermark_before query parts cuts e) (watermark query parts cuts e) ≡ None) →
         key_fault query parts cuts e ≡ None }
+{}
+
+/// The law of the least key that overflows, of a query of any shape: it is the least of those of the partitions.
+pub fn partitions_overflow_on_the_least_key()
+    ensures { (query : Query) (partitions : ℕ) → 1 ≤ partitions → (old new : List Fed) (before now : Option ℤ) →
+        least_key (filter_map (λ p. (operator_of query).fault (bucket partitions p old) (bucket partitions p new) before now) (range_with_len 0 partitions)) ≡
+        (operator_of query).fault old new before now }
 {}
 
 /// The law of partitions, of a query of any shape: what these show together, each of its own rows, is what the epoch shows, as a bag.

@@ -9,11 +9,12 @@ mod dedup;
 mod fed;
 mod fed_row;
 mod groups;
+mod join;
 mod laws;
 mod line;
 mod total;
 
-pub use closing::{closing_time, key_length, key_time, repeat_time};
+pub use closing::{closing_time, join_time, key_length, key_time, repeat_time};
 pub use dedup::{
     epochs_without_repeats_follow, first_rows_add_up, first_rows_are_told_by_what_is_kept,
     first_rows_fall_into_partitions, forgotten_keys_lose_no_row, kept_keys_are_found,
@@ -28,10 +29,16 @@ pub use groups::{
     groups_in_append_add_up, groups_in_complete_are_shown_whole,
     groups_in_update_replace_their_rows, kept_groups_are_found,
 };
+pub use join::{
+    epochs_of_joins_follow, forgotten_rows_lose_no_partner, joined_rows_add_up,
+    joined_rows_are_kept_apart, joined_rows_are_told_by_what_is_kept,
+    joined_rows_fall_into_partitions, kept_rows_are_listed, rows_alone_are_considered_once,
+    rows_are_fed_to_joins,
+};
 pub use laws::{
     epochs_hang_on_their_cuts, epochs_without_lines_are_quiet, kept_keys_ascend,
-    keys_overflow_in_their_partitions, partitions_show_all_rows, rows_add_up,
-    watermarks_never_fall,
+    keys_overflow_in_their_partitions, partitions_overflow_on_the_least_key,
+    partitions_show_all_rows, rows_add_up, watermarks_never_fall,
 };
 pub use line::LineFault;
 pub use total::Total;

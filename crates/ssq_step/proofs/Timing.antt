@@ -27,7 +27,7 @@ then_is Less p = refl
 then_is Equal p = refl
 then_is Greater p = refl
 
-at_time : (s t : Timed) → is_at (by_time s) t ≡ (is_eq (int_cmp s.0 t.0) && is_at (by_bytes s.1) t.1)
+pub at_time : (s t : Timed) → is_at (by_time s) t ≡ (is_eq (int_cmp s.0 t.0) && is_at (by_bytes s.1) t.1)
 at_time s t = then_is (int_cmp s.0 t.0) (by_bytes s.1 t.1)
 
 same_time : (a b : ℤ) → is_eq (int_cmp a b) ≡ true → a ≡ b
@@ -48,11 +48,11 @@ other_time a b other = by (is_eq (int_cmp b a)) refl
     by false is = is
     by true is = let no : true ≡ false = sym (time_itself a) ∙ ap (λ t. is_eq (int_cmp a t)) (sym (same_time b a is)) ∙ other in absurd cc
 
-and_false : (a b : Bool) → b ≡ false → (a && b) ≡ false
+pub and_false : (a b : Bool) → b ≡ false → (a && b) ≡ false
 and_false true b is = is
 and_false false b is = refl
 
-and_true : (a b : Bool) → b ≡ true → (a && b) ≡ a
+pub and_true : (a b : Bool) → b ≡ true → (a && b) ≡ a
 and_true true b is = is
 and_true false b is = refl
 
@@ -361,6 +361,11 @@ pub due_are : (size : ℕ) (time_of : Values → Option ℤ) (state : State) (no
     → ((q : List ℕ) → stands q keys ≡ past_of now q all) → AreDueKeys size time_of state now keys
 due_are size time_of state now all keys sorted indexes stand key readable =
     stand (keys_of key) ∙ once_past now (keys_of key) (time_of key) (is_some (value_at state (keys_of key))) all sorted (indexes key readable)
+
+-- the same of one key, by what stands at it
+pub due_at : (now : Option ℤ) (all : List Timed) (keys : List (List ℕ)) → IsStrictlySortedBy by_time all → ((q : List ℕ) → stands q keys ≡ past_of now q all)
+    → (key : List ℕ) (time : Option ℤ) → ((t : ℤ) → has all (t, key) ≡ is_time t time) → stands key keys ≡ (if is_past now time then 1 else 0)
+due_at now all keys sorted stand key time stands_at = stand key ∙ once_past now key time true all sorted stands_at
 
 pub some_key : (bytes : List ℕ) (found : Option Timed) (entry : Timed) → found ≡ Some entry → IfSome found (λ entry. entry.1 ≡ bytes) → entry.1 ≡ bytes
 some_key bytes found entry is has = subst (λ (o : Option Timed). IfSome o (λ entry. entry.1 ≡ bytes)) is has

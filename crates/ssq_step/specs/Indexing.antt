@@ -1,46 +1,38 @@
 -- The keys of a state by their times.
-use Rattle.std.specs.Prelude.{◌≡◌, ◌&&◌, ℕ, ℤ, Bool, true, false, if◌then◌else◌, List, All, length, map, filter, Option, Some, None, is_some}
-use Rattle.std.specs.declared.cmp.Ordering.{Ordering}
+use Rattle.std.specs.Prelude.{◌≡◌, ◌&&◌, ℕ, ℤ, Bool, true, false, if◌then◌else◌, List, All, length, map, filter, Option, is_some}
 use Rattle.std.specs.Borrow.{Bor}
 use Rattle.std.specs.BTreeMap.{is_at}
-use Rattle.std.specs.List.{list_any}
-use Rattle.std.specs.Ordering.{int_cmp, is_eq, ordering_then}
 use Rattle.ssq_value.specs.Key.{keys_of}
 use Rattle.ssq_version.specs.State.{State, by_bytes, value_at}
 use Rattle.ssq_shape.specs.declared.bound.Bound.{Bound}
+use Rattle.ssq_shape.specs.declared.bound.Shape.{Shape}
+use Rattle.ssq_shape.specs.declared.bound.Shape.TheVariants.{Plain, Group, Dedup, Join}
 use Rattle.ssq_meaning.specs.Fit.{IsFit}
 use Rattle.ssq_meaning.specs.Keyed.{key_length, key_time}
 use Rattle.ssq_meaning.specs.Meaning.{Values}
 use Rattle.ssq_meaning.specs.Times.{is_past}
+use Rattle.ssq_step.specs.Rows.{IndexesRows}
+pub use Rattle.ssq_step.specs.Timed.{Timed, by_time, has, is_time}
 
 -- a key of so many values that is read back from its bytes
 pub record IsReadableKey (count : ℕ) (key : Values) : Type 0 where
   pub values : All IsFit key
   pub many : length key ≡ count
 
--- a time, with the bytes of a key
-abbrev pub Timed : Type 0
-Timed = ℤ × List ℕ
-
--- the lesser time first
-abbrev pub by_time : Timed → Timed → Ordering
-by_time left right = ordering_then (int_cmp left.0 right.0) (by_bytes left.1 right.1)
-
-abbrev pub has : List Timed → Timed → Bool
-has entries entry = list_any (is_at (by_time entry)) entries
-
-abbrev pub is_time : ℤ → Option ℤ → Bool
-is_time t None = false
-is_time t (Some time) = is_eq (int_cmp time t)
-
 -- Of the keys that can be read back those that the state has stand under their times, where they have one.
 abbrev pub Indexes : ℕ → (Values → Option ℤ) → State → List Timed → Type 0
 Indexes count time state entries = (key : Values) → IsReadableKey count key → (t : ℤ) →
     has entries (t, keys_of key) ≡ (is_some (value_at state (keys_of key)) && is_time t (time key))
 
--- the index of the state of a query
+-- the index of the state of a query: of a join by the times of its rows, of any other by those of its keys
+abbrev pub IsIndexBy : Shape → Bound → State → List Timed → Type 0
+IsIndexBy Plain query state entries = Indexes (key_length query) (key_time query) state entries
+IsIndexBy (Group grouping) query state entries = Indexes (key_length query) (key_time query) state entries
+IsIndexBy (Dedup columns) query state entries = Indexes (key_length query) (key_time query) state entries
+IsIndexBy (Join joining) query state entries = IndexesRows query joining state entries
+
 abbrev pub IsIndex : Bound → State → List Timed → Type 0
-IsIndex query state entries = Indexes (key_length query) (key_time query) state entries
+IsIndex query state entries = IsIndexBy query.shape query state entries
 
 -- the key with these bytes is there or not, as is said, where it has a time, and each other key is there as before
 abbrev pub Turns : ℕ → (Values → Option ℤ) → List ℕ → Bool → (before after : List Timed) → Type 0

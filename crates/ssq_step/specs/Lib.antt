@@ -1,2 +1,4 @@
+pub mod Timed
+pub mod Rows
 pub mod Indexing
 pub mod Steps

@@ -1,25 +1,27 @@
 //! The keys of a state by their times.
 
-ghost use Rattle.std.specs.Prelude.{◌≡◌, Some, true, false, ℕ, ℤ, List, Option, option_map, IfOk, IfSome, OnOk};
+ghost use Rattle.std.specs.Prelude.{◌≡◌, Some, true, false, if◌then◌else◌, ℕ, ℤ, List, Option, option_map, IfOk, IfSome, OnOk};
 ghost use Rattle.ssq_value.specs.declared.value.Value.{Value as Cell};
 ghost use Rattle.ssq_value.specs.Key.{keys_of};
 ghost use Rattle.ssq_version.specs.State.{IsAfter, State as Kept};
 ghost use Rattle.ssq_meaning.specs.Keyed.{key_length, key_time};
 ghost use Rattle.ssq_meaning.specs.Times.{is_past};
 ghost use Rattle.ssq_meaning.specs.Windows.{HasWindows};
-ghost use Rattle.ssq_step.specs.Indexing.{AreDueKeys, Indexes, IsIndex, IsReadableKey, Turns, TurnsIf, seen};
+ghost use Rattle.ssq_step.specs.Indexing.{AreDueKeys, Indexes, IsIndex, IsReadableKey, Turns, TurnsIf, seen, stands};
+ghost use Rattle.ssq_step.specs.Rows.{StandsAt};
 
+use crate::row_index::{follow_rows, row_entries};
 use ssq_field::Bytes;
 use ssq_keys::read_key;
 use ssq_meaning::{key_length, key_time};
-use ssq_shape::Bound;
+use ssq_shape::{Bound, Shape};
 use ssq_version::{Change, StateMap, changes_are_kept, states_are_kept};
 use std::alloc::{AllocError, Global};
 use std::collections::BTreeSet;
 use std::marker::Model;
 
-/// The keys of a partition's state by their times, kept beside its state: those that a watermark closes are found without a walk over the
-/// others. Contracts see the times, in microseconds since 1970, each with the bytes of a key, in order.
+/// The keys of a partition's state by their times, of a join by those of its rows, kept beside its state: those that a watermark closes are found
+/// without a walk over the others. Contracts see the times, in microseconds since 1970, each with the bytes of a key, in order.
 #[derive(Debug, Drop)]
 pub struct Closing(BTreeSet<(i64, Bytes)>);
 
@@ -38,7 +40,12 @@ impl Closing {
         requires { HasWindows bound.now }
         ensures { IfOk result (IsIndex bound.now state.now) }
     {
-        Ok(Closing(entries_of(alloc, bound, state)?))
+        match &bound.shape {
+            Shape::Join(joining) => Ok(Closing(row_entries(alloc, bound, joining, state)?)),
+            Shape::Plain | Shape::Group(_) | Shape::Dedup(_) => {
+                Ok(Closing(entries_of(alloc, bound, state)?))
+            },
+        }
     }
 
     /// Follows the state through a change, by the state before it. After an `Err` the index is of no use.
@@ -52,13 +59,20 @@ impl Closing {
         requires { HasWindows bound.now }
         ensures { (new : Kept) → IsAfter change.now state.now new → IsIndex bound.now state.now self.old → OnOk result (IsIndex bound.now new self.new) }
     {
-        follow_change(alloc, bound, &mut self.0, state, change)
+        match &bound.shape {
+            Shape::Join(joining) => follow_rows(alloc, bound, joining, &mut self.0, state, change),
+            Shape::Plain | Shape::Group(_) | Shape::Dedup(_) => {
+                follow_change(alloc, bound, &mut self.0, state, change)
+            },
+        }
     }
 
     /// The keys whose time is at or below the watermark, in microseconds since 1970. There is none without a watermark.
     pub fn past(&self, alloc: Global, now: Option<i64>) -> Result<Vec<&Bytes>, AllocError>
-        ensures { (count : ℕ) (time : List Cell → Option ℤ) (state : Kept) → Indexes count time state self.now →
+        ensures keys { (count : ℕ) (time : List Cell → Option ℤ) (state : Kept) → Indexes count time state self.now →
             IfOk result (λ keys. AreDueKeys count time state now (seen keys.items)) }
+        ensures rows { (key : List ℕ) (time : Option ℤ) → StandsAt self.now key time →
+            IfOk result (λ keys. stands key (seen keys.items) ≡ (if is_past now time then 1 else 0)) }
     {
         let mut keys = Vec::new(alloc);
         for entry in self.0.iter() {
@@ -135,7 +149,7 @@ fn entries_of(
     state: &StateMap,
 ) -> Result<BTreeSet<(i64, Bytes)>, AllocError>
     requires { HasWindows bound.now }
-    ensures { IfOk result (λ entries. IsIndex bound.now state.now entries.keys) }
+    ensures { IfOk result (λ entries. Indexes (key_length bound.now) (key_time bound.now) state.now entries.keys) }
 {
     states_are_kept(state);
     let mut entries = BTreeSet::new(alloc);
@@ -172,8 +186,8 @@ fn follow_change(
     change: &Change,
 ) -> Result<(), AllocError>
     requires { HasWindows bound.now }
-    ensures { (new : Kept) → IsAfter change.now state.now new → IsIndex bound.now state.now entries.old.keys →
-        OnOk result (IsIndex bound.now new entries.new.keys) }
+    ensures { (new : Kept) → IsAfter change.now state.now new → Indexes (key_length bound.now) (key_time bound.now) state.now entries.old.keys →
+        OnOk result (Indexes (key_length bound.now) (key_time bound.now) new entries.new.keys) }
 {
     changes_are_kept(change);
     for (key, value) in change.iter() {

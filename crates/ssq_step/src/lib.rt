@@ -1,12 +1,16 @@
-//! What the steps of all operators that keep state share: the index of keys by time, what a step gives, and why it gives nothing.
+//! What the steps of all operators that keep state share: the index of keys by time, or of a join's rows, what a step gives, and why it gives
+//! nothing.
 #![tactic(auto)]
 
 mod bytes;
 mod closing;
 mod fault;
+mod row_index;
+mod rows;
 mod stepped;
 
 pub use bytes::{bytes_of_key, short};
 pub use closing::Closing;
 pub use fault::StepFault;
+pub use rows::{KeptRow, read_row, width_of};
 pub use stepped::Stepped;

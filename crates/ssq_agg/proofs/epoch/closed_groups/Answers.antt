@@ -9,7 +9,7 @@ use Rattle.ssq_agg.proofs.epoch.closed_groups.Goals as goal
 pub returns-clause-closed : goal.returns-clause-closed
 returns-clause-closed c query own holds indexes =
     if_ok c.groups_at.result c.groups_at.ensures (λ groups read.
-    closed_are query c.args.grouping.now c.args.state.now own c.args.now (seen c.in_ok-keys.keys.items) groups.items holds (c.in_ok-keys.ensures (length c.args.grouping.now.keys) (closing_time query c.args.grouping.now) c.args.state.now indexes)
+    closed_are query c.args.grouping.now c.args.state.now own c.args.now (seen c.in_ok-keys.keys.items) groups.items holds (c.in_ok-keys.ensures.keys (length c.args.grouping.now.keys) (closing_time query c.args.grouping.now) c.args.state.now indexes)
     (subst (λ keys. AreRead c.args.grouping.now (entries_at c.args.state.now (seen keys)) groups.items) c.as_slice.ensures.value read))
 
 pub returns-clause-fit : goal.returns-clause-fit

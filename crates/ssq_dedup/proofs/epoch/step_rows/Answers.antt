@@ -19,7 +19,7 @@ returns-clause-stepped c query columns old before given =
     is_step query columns state c.args.closing.now old new before now given found own c.first_rows_are_told_by_what_is_kept.ensures.next c.first_rows_are_told_by_what_is_kept.ensures.ended
     c.in_ok-first.first.change c.forget.new.change (seen c.in_ok-keys.keys.items)
     (c.in_ok-first.ensures.change (length columns) (is_held query columns old before) held all)
-    (c.in_ok-keys.ensures (length columns) (closing_time query columns) state index)
+    (c.in_ok-keys.ensures.keys (length columns) (closing_time query columns) state index)
     (subst (λ keys. IsGone (seen keys) c.in_ok-first.first.change c.forget.new.change) c.as_slice.ensures.value c.in_ok-forget.ensures)
     c.first_rows_are_told_by_what_is_kept.ensures.known (record { change = c.forget.new.change; rows = c.in_ok-first.first.rows }) refl
     (c.in_ok-first.ensures.rows (length columns) (is_held query columns old before) held all)

@@ -9,7 +9,7 @@ use Rattle.ssq_feed.proofs.range.feed_lines.Goals as goal
 
 pub loop-at-init : goal.loop-at-init
 loop-at-init g c = record {
-  so_far = begun _ _ _ _ _ _ _ c.in_ok-dealer.ensures.empty;
+  so_far = begun _ _ _ _ _ _ _ _ c.in_ok-dealer.ensures.empty;
   len = c.in_ok-dealer.ensures.len;
   log = record { same = λ is. refl; grown = λ is. omega arith; unasked = λ is. refl; counted = omega arith };
 }
@@ -27,7 +27,7 @@ returns-in_err-gift-clause-fault g c =
     let read : g.L.Log.tells → IsRead (g.L.Log.lines c.args.log.now) c.loop-at.at c.as_slice.result.now = λ tells.
     subst Q (c.read_line.ensures.log.same tells ∙ c.loop-at.invariant.log.same tells) (subst P (sym c.as_slice.ensures.value) (c.in_ok-read_line.ensures.read tells)) in
     let p = err_from_is_err_and c.from_residual-in_err-gift.result c.from_residual-in_err-gift.ensures.1 in
-    rw (p.1, p.2) (line_stops g.L.Log.tells g.L.Log.lines g.L.Log.available g.L.Log.answers g.L.Log.faults c.args.view.bound.now c.args.stream c.args.part c.args.from c.loop-at.at c.args.to c.args.view.partitions
+    rw (p.1, p.2) (line_stops g.L.Log.tells g.L.Log.lines g.L.Log.available g.L.Log.answers g.L.Log.faults c.args.view.bound.now c.args.epoch c.args.stream c.args.part c.args.from c.loop-at.at c.args.to c.args.view.partitions
     c.loop-at.time c.loop-at.dealer.buckets c.as_slice.result.now c.args.log.now c.read_line.new.log _ c.loop-at.invariant.so_far c.loop-at-test.true read c.in_err-gift.ensures.fault)
 
 pub loop-at-preserved : goal.loop-at-preserved
@@ -39,7 +39,7 @@ loop-at-preserved g c =
     let given = c.in_ok-gift.ensures.gives in
     let of : Part = record { stream = c.args.stream; part = c.args.part; lines = g.L.Log.lines c.args.log.now } in
     record {
-      so_far = goes_on g.L.Log.tells c.args.view.bound.now of c.args.from c.loop-at.at c.args.to c.args.view.partitions c.loop-at.time c.in_ok-gift.gift.time c.later-time.result
+      so_far = goes_on g.L.Log.tells c.args.view.bound.now c.args.epoch of c.args.from c.loop-at.at c.args.to c.args.view.partitions c.loop-at.time c.in_ok-gift.gift.time c.later-time.result
           (handed_rows c.args.view.bound.now c.in_ok-gift.gift.handed) c.as_slice.result.now c.loop-at.dealer.buckets c.hand_on.new.self.buckets
           c.loop-at.invariant.so_far c.loop-at-test.true read given c.later-time.ensures.later (c.later-time.ensures.years c.loop-at.invariant.so_far.years given.years)
           c.loop-at.invariant.len c.in_ok-hand_on.ensures;
