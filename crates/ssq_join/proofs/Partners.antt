@@ -1,0 +1,150 @@
+-- What is judged of a new row and one of the other side.
+use Rattle.std.proofs.Common.{◌≡◌, ◌++◌, ℕ, [], ◌∷◌, List, Option, Some, None, Bool, true, false, Result, Ok, Err, IfOk, refl, ap, sym, ◌∙◌, subst}
+use Rattle.std.specs.Prelude.{◌&&◌, ◌||◌, IsSomeAnd, not, if◌then◌else◌}
+use Rattle.std.specs.BTreeMap.{is_at}
+use Rattle.std.specs.List.{list_any}
+use Rattle.ssq_version.specs.State.{by_bytes}
+use Rattle.ssq_shape.specs.declared.bound.Bound.{Bound}
+use Rattle.ssq_shape.specs.declared.bound.Joining.{Joining}
+use Rattle.ssq_shape.specs.Evaluation.{is_null}
+use Rattle.ssq_step.specs.Rows.{IsKeptRow, stream_of}
+use Rattle.ssq_meaning.specs.declared.fed_row.FedRow.{FedRow}
+use Rattle.ssq_meaning.specs.Group.{is_same}
+use Rattle.ssq_meaning.specs.Join.{Considered, is_candidate, is_left, is_near, is_partner, join_time, row_key}
+use Rattle.ssq_meaning.specs.JoinLaws.{are_candidates, pair_by}
+use Rattle.ssq_meaning.proofs.Keys.{same_itself}
+use Rattle.ssq_join.specs.declared.found.Found.{Found}
+use Rattle.ssq_join.specs.declared.judge.Judged.{Judged}
+use Rattle.ssq_join.specs.Judging.{is_met, judged_row, shown_by}
+use Rattle.ssq_join.specs.Meeting.{IsOther, JudgedAs, with_candidate}
+use Rattle.ssq_join.specs.Telling.{Meets, Pair, Tells, among, considered_of}
+use Rattle.ssq_join.proofs.Meeting.{meets_more}
+
+or_false : (b : Bool) → (b || false) ≡ b
+or_false true = refl
+or_false false = refl
+
+-- a left row and a right one with the same key, which has no NULL
+record Faces (joining : Joining) (left right : FedRow) : Type 0 where
+  pub is_left_row : is_left left.stream ≡ true
+  pub is_right_row : is_left right.stream ≡ false
+  pub same : is_same left.key right.key ≡ true
+  pub none : list_any is_null left.key ≡ false
+
+one_way : (joining : Joining) (left right : FedRow) → Faces joining left right → is_candidate joining left right ≡ is_near joining.bound left.time right.time
+one_way joining left right faces = λ i. (faces.is_left_row i && not (faces.is_right_row i)) && ((faces.same i && not (faces.none i)) && is_near joining.bound left.time right.time)
+
+other_way : (joining : Joining) (left right : FedRow) → Faces joining left right → is_candidate joining right left ≡ false
+other_way joining left right faces = λ i. (faces.is_right_row i && not (faces.is_left_row i)) && ((is_same right.key left.key && not (list_any is_null right.key)) && is_near joining.bound right.time left.time)
+
+-- what is judged of them is what they are
+from_left : (query : Bound) (joining : Joining) (left right : FedRow) → Faces joining left right → (judged : Judged) → is_near joining.bound left.time right.time ≡ true
+    → judged.met ≡ is_met joining (left.values ++ right.values) → shown_by judged.shown ≡ judged_row query joining (left.values ++ right.values)
+    → (are_candidates joining left right ≡ true) × (record { key = left.key; row = shown_by judged.shown } ≡ considered_of query joining (left, right)) × (is_partner joining left right ≡ judged.met)
+from_left query joining left right faces judged near met shown =
+    let here : is_candidate joining left right ≡ true = one_way joining left right faces ∙ near in
+    let not_there : is_candidate joining right left ≡ false = other_way joining left right faces in
+    let own : record { key = left.key; row = shown_by judged.shown } ≡ pair_by query joining true left right = λ i. record { key = left.key; row = shown i } in (
+      (λ i. here i || not_there i),
+      own ∙ ap (λ b. pair_by query joining b left right) (sym faces.is_left_row),
+      (λ i. (here i && is_met joining (left.values ++ right.values)) || (not_there i && is_met joining (right.values ++ left.values))) ∙ or_false (is_met joining (left.values ++ right.values)) ∙ sym met,
+    )
+
+from_right : (query : Bound) (joining : Joining) (left right : FedRow) → Faces joining left right → right.key ≡ left.key → (judged : Judged) → is_near joining.bound left.time right.time ≡ true
+    → judged.met ≡ is_met joining (left.values ++ right.values) → shown_by judged.shown ≡ judged_row query joining (left.values ++ right.values)
+    → (are_candidates joining right left ≡ true) × (record { key = right.key; row = shown_by judged.shown } ≡ considered_of query joining (right, left)) × (is_partner joining right left ≡ judged.met)
+from_right query joining left right faces equal judged near met shown =
+    let there : is_candidate joining left right ≡ true = one_way joining left right faces ∙ near in
+    let not_here : is_candidate joining right left ≡ false = other_way joining left right faces in
+    let own : record { key = right.key; row = shown_by judged.shown } ≡ pair_by query joining false right left = λ i. record { key = equal i; row = shown i } in (
+      (λ i. not_here i || there i),
+      own ∙ ap (λ b. pair_by query joining b right left) (sym faces.is_right_row),
+      (λ i. (not_here i && is_met joining (right.values ++ left.values)) || (there i && is_met joining (left.values ++ right.values))) ∙ sym met,
+    )
+
+-- ---- a new row, and one of the other side that is kept
+
+module _ (query : Bound) (joining : Joining) (row other : FedRow) (was : Bool) (key value : List ℕ) (is : IsOther query joining row other was key value) where
+  same_keys : is_same row.key other.key ≡ true
+  same_keys = ap (is_same row.key) (sym is.same) ∙ same_itself row.key
+
+  back_keys : is_same other.key row.key ≡ true
+  back_keys = ap (λ k. is_same k row.key) (sym is.same) ∙ same_itself row.key
+
+  faces_from_left : is_left other.stream ≡ false → Faces joining row other
+  faces_from_left right = record { is_left_row = own (is_left row.stream) (sym is.side ∙ right); is_right_row = right; same = same_keys; none = is.none }
+    where
+      own : (b : Bool) → not b ≡ false → b ≡ true
+      own true not_b = refl
+      own false not_b = absurd cc
+
+  faces_from_right : is_left other.stream ≡ true → Faces joining other row
+  faces_from_right left = record { is_left_row = left; is_right_row = own (is_left row.stream) (sym is.side ∙ left); same = back_keys; none = ap (list_any is_null) (sym is.same) ∙ is.none }
+    where
+      own : (b : Bool) → not b ≡ true → b ≡ false
+      own true not_b = absurd cc
+      own false not_b = refl
+
+  -- the time of the other row is that of its values
+  time_on_left : is_left other.stream ≡ true → other.time ≡ join_time joining.bound 0 other.values
+  time_on_left left = is.own.own.time ∙ ap (λ s. join_time joining.bound s other.values) (is.own.stream ∙ ap stream_of left)
+
+  time_on_right : is_left other.stream ≡ false → other.time ≡ join_time joining.bound 1 other.values
+  time_on_right right = is.own.own.time ∙ ap (λ s. join_time joining.bound s other.values) (is.own.stream ∙ ap stream_of right)
+
+  -- it is a row that is kept so
+  pub is_kept_row : IsKeptRow query (is_left other.stream) other.values was key value
+  is_kept_row = record {
+    rest = rest_of (row_key other);
+    side = is.at;
+    fit = is.own.fit.values;
+    many = is.own.many;
+    spelled = is.kept;
+  } where
+    rest_of : List ℕ → List ℕ
+    rest_of [] = []
+    rest_of (x ∷ xs) = xs
+
+  -- it is no candidate where the two do not meet the bound
+  pub none_judged : (left : Bool) → left ≡ is_left other.stream → JudgedAs query joining row left other.values None → are_candidates joining row other ≡ false
+  none_judged true left far =
+      let faces = faces_from_right (sym left) in
+      λ i. other_way joining other row faces i || (one_way joining other row faces ∙ ap (λ t. is_near joining.bound t row.time) (time_on_left (sym left)) ∙ far) i
+  none_judged false right far =
+      let faces = faces_from_left (sym right) in
+      λ i. (one_way joining row other faces ∙ ap (is_near joining.bound row.time) (time_on_right (sym right)) ∙ far) i || other_way joining row other faces i
+
+  judged_pair : (left : Bool) → left ≡ is_left other.stream → (judged : Judged) → JudgedAs query joining row left other.values (Some judged)
+      → (are_candidates joining row other ≡ true) × (record { key = row.key; row = shown_by judged.shown } ≡ considered_of query joining (row, other)) × (is_partner joining row other ≡ judged.met)
+  judged_pair true left judged is_so =
+      from_right query joining other row (faces_from_right (sym left)) is.same judged (ap (λ t. is_near joining.bound t row.time) (time_on_left (sym left)) ∙ is_so.0) is_so.1 is_so.2
+  judged_pair false right judged is_so =
+      from_left query joining row other (faces_from_left (sym right)) judged (ap (is_near joining.bound row.time) (time_on_right (sym right)) ∙ is_so.0) is_so.1 is_so.2
+
+  pub none_met : (pairs : List Pair) (found : Found) (met : List (List ℕ)) → are_candidates joining row other ≡ false → Meets query joining pairs found met → Meets query joining (with_candidate joining row other pairs) found met
+  none_met pairs found met far meets = subst (λ b. Meets query joining (if b then (row, other) ∷ pairs else pairs) found met) (sym far) meets
+
+  pub one_met : (left : Bool) → left ≡ is_left other.stream → (judged : Judged) → JudgedAs query joining row left other.values (Some judged) → (pairs : List Pair) (found now : Found) (before after : List (List ℕ))
+      → ((all : List Considered) → Tells found all → Tells now (record { key = row.key; row = shown_by judged.shown } ∷ all))
+      → ((bytes : List ℕ) → among after bytes ≡ (if judged.met then (is_at (by_bytes bytes) (row_key row) || (is_at (by_bytes bytes) key || among before bytes)) else among before bytes))
+      → Meets query joining pairs found before → Meets query joining (with_candidate joining row other pairs) now after
+  one_met left on judged is_so pairs found now before after told knows meets =
+      let all = judged_pair left on judged is_so in
+      subst (λ b. Meets query joining (if b then (row, other) ∷ pairs else pairs) now after) (sym all.0)
+      (meets_more query joining row other pairs found now before after (shown_by judged.shown) judged.met told all.1 all.2
+      (subst (λ (k : List ℕ). (bytes : List ℕ) → among after bytes ≡ (if judged.met then (is_at (by_bytes bytes) (row_key row) || (is_at (by_bytes bytes) k || among before bytes)) else among before bytes)) is.at knows)
+      meets)
+
+-- ---- what came
+
+pub some_has : {X : Type 0} (P : X → Type 0) (o : Option X) (x : X) → o ≡ Some x → IsSomeAnd o P → P x
+some_has P o x is has = subst (λ o. IsSomeAnd o P) is has
+
+pub of_none : {X : Type 0} (P : Option X → Type 0) (o : Option X) → ((x : X) → o ≡ Some x → ⊥) → P o → P None
+of_none P None none has = has
+of_none P (Some x) none has = absurd (none x refl)
+
+-- what holds of each thing that holds of what came
+pub each_ok : {A E X : Type 0} (r : Result A E) (Q : X → Type 0) (P : X → A → Type 0) → ((x : X) → Q x → IfOk r (P x)) → IfOk r (λ a. (x : X) → Q x → P x a)
+each_ok (Ok a) Q P all = all
+each_ok (Err e) Q P all = tt

@@ -1,0 +1,137 @@
+//! What an epoch changes in the rows that a partition keeps.
+
+ghost use Rattle.std.specs.Prelude.{◌≡◌, IfOk, IfSome, OnOk, option_copied};
+ghost use Rattle.ssq_version.specs.State.{IsShort, value_at};
+ghost use Rattle.ssq_step.specs.Indexing.{seen};
+ghost use Rattle.ssq_join.specs.Changing.{IsGone, SaysBytes, SaysFlags, SaysFresh, SaysIf, flag_of, flagged, flagged_if, is_flagged};
+
+use ssq_field::Bytes;
+use ssq_step::short;
+use ssq_version::{Change, StateMap};
+use std::alloc::{AllocError, Global};
+use std::collections::{BTreeMap, BTreeSet};
+
+fn copied(bytes: &Bytes) -> Result<Bytes, AllocError>
+    ensures bytes { IfOk result (λ copy. copy ≡ bytes.now) }
+    ensures short { IfOk result IsShort }
+{
+    short(bytes.clone()?.into_vec())
+}
+
+/// The bytes with 1, which says that a partner was met, as the last.
+fn with_flag(bytes: Bytes) -> Result<Bytes, AllocError>
+    ensures { IfOk result (λ own. own ≡ flagged bytes) }
+{
+    let mut bytes = bytes;
+    let Some(len) = bytes.len().checked_sub(1) else {
+        return Ok(bytes);
+    };
+    bytes.truncate(len);
+    bytes.extend(&[1])?;
+    Ok(bytes)
+}
+
+/// What is kept of a row that met a partner, by what was kept of it.
+fn flagged(value: &Bytes) -> Result<Bytes, AllocError>
+    ensures bytes { IfOk result (λ bytes. bytes ≡ flagged value.now) }
+    ensures short { IfOk result IsShort }
+{
+    let bytes = with_flag(value.clone()?)?;
+    short(bytes.into_vec())
+}
+
+fn is_flagged(value: &Bytes) -> bool
+    ensures { result ≡ is_flagged value.now }
+{
+    match value.as_slice().split_last() {
+        Some((last, _)) => *last == 1,
+        None => false,
+    }
+}
+
+/// What is kept of a new row, by whether it met a partner.
+fn flagged_if(met: bool, value: &Bytes) -> Result<Bytes, AllocError>
+    ensures bytes { IfOk result (λ bytes. bytes ≡ flagged_if met value.now) }
+    ensures short { IfOk result IsShort }
+{
+    if met { flagged(value) } else { copied(value) }
+}
+
+/// Says that each new row is kept.
+fn put_fresh(
+    change: &mut Change,
+    fresh: &BTreeMap<Bytes, Bytes>,
+    met: &BTreeSet<Bytes>,
+) -> Result<(), AllocError>
+    ensures { OnOk result (SaysFresh fresh.now.entries met.now.keys change.old change.new) }
+{
+    for (key, value) in fresh.iter() {
+        let value = flagged_if(met.contains(key), value)?;
+        change.put(copied(key)?, value)?;
+    }
+    Ok(())
+}
+
+/// What is kept from now on of a row that met a partner, where it met its first.
+fn flag_of(value: Option<&Bytes>) -> Result<Option<Bytes>, AllocError>
+    ensures bytes { IfOk result (λ flag. flag ≡ flag_of (option_copied value.entry)) }
+    ensures short { IfOk result (λ flag. IfSome flag IsShort) }
+{
+    match value {
+        Some(value) => {
+            if is_flagged(value) {
+                Ok(None)
+            } else {
+                Ok(Some(flagged(value)?))
+            }
+        },
+        None => Ok(None),
+    }
+}
+
+/// Says of a row that met a partner that it did, where it met its first.
+fn put_flag(change: &mut Change, state: &StateMap, key: &Bytes) -> Result<(), AllocError>
+    ensures { OnOk result (SaysIf key.now (flag_of (value_at state.now key.now)) change.old change.new) }
+{
+    if let Some(value) = flag_of(state.get(key))? {
+        change.put(copied(key)?, value)?;
+    }
+    Ok(())
+}
+
+/// Says of the kept rows that met a partner first that they did.
+fn put_flags(change: &mut Change, state: &StateMap, met: &BTreeSet<Bytes>) -> Result<(), AllocError>
+    ensures { OnOk result (SaysFlags state.now met.now.keys change.old change.new) }
+{
+    for key in met.iter() {
+        put_flag(change, state, key)?;
+    }
+    Ok(())
+}
+
+/// Says that these keys are kept no more.
+fn forget(change: &mut Change, keys: &[&Bytes]) -> Result<(), AllocError>
+    ensures { OnOk result (IsGone (seen keys.now) change.old change.new) }
+{
+    for key in keys {
+        change.remove(copied(key)?)?;
+    }
+    Ok(())
+}
+
+/// What changes: each new row is kept, rows that met a partner first are kept as such, and rows that are over go.
+pub(crate) fn changed(
+    alloc: Global,
+    state: &StateMap,
+    fresh: &BTreeMap<Bytes, Bytes>,
+    met: &BTreeSet<Bytes>,
+    over: &[&Bytes],
+) -> Result<Change, AllocError>
+    ensures { IfOk result (SaysBytes state.now fresh.now.entries met.now.keys (seen over.now)) }
+{
+    let mut change = Change::new(alloc);
+    put_fresh(&mut change, fresh, met)?;
+    put_flags(&mut change, state, met)?;
+    forget(&mut change, over)?;
+    Ok(change)
+}

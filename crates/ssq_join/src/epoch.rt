@@ -1,0 +1,135 @@
+//! The step of an epoch.
+
+ghost use Rattle.std.specs.Prelude.{◌≡◌, [], ℤ, List, Option, All, FitsSigned, IfOk, IfErr, IfSome};
+ghost use Rattle.std.specs.Int.{w64};
+ghost use Rattle.ssq_meaning.specs.declared.fed_row.FedRow.{FedRow as Fed};
+ghost use Rattle.ssq_meaning.specs.Fit.{IsFitRow};
+ghost use Rattle.ssq_meaning.specs.Operator.{join};
+ghost use Rattle.ssq_shape.specs.declared.bound.Joining.{Joining as Joins};
+ghost use Rattle.ssq_step.specs.Steps.{IsCause, IsStep};
+ghost use Rattle.ssq_join.specs.Judging.{ArePrintable};
+ghost use Rattle.ssq_join.specs.Moves.{IsMove};
+ghost use Rattle.ssq_join.specs.Steps.{Given, KeepsStreams};
+
+use crate::changed::changed;
+use crate::found::Found;
+use crate::over::take_all_over;
+use crate::taking::{Taken, take_rows};
+use ssq_meaning::{FedRow, joined_rows_are_told_by_what_is_kept, kept_rows_are_listed};
+use ssq_shape::{Bound, Joining, Shape};
+use ssq_step::{Closing, StepFault, Stepped};
+use ssq_value::keys_are_apart;
+use ssq_version::{Change, StateMap};
+use std::alloc::{AllocError, Global};
+
+/// What an epoch comes to.
+#[derive(Debug, Drop)]
+struct Moved {
+    change: Change,
+    found: Found,
+}
+
+fn time_fits(time: i64)
+    ensures { FitsSigned w64 time }
+{}
+
+/// Each watermark is a number of 64 bits.
+fn watermark_fits(now: Option<i64>)
+    ensures { IfSome now (FitsSigned w64) }
+{
+    if let Some(now) = now {
+        time_fits(now);
+    }
+}
+
+/// What an epoch changes, what it shows, and on which key it overflows.
+fn move_rows(
+    alloc: Global,
+    bound: &Bound,
+    joining: &Joining,
+    state: &StateMap,
+    closing: &Closing,
+    rows: &[FedRow],
+    now: Option<i64>,
+) -> Result<Moved, AllocError>
+    requires { All IsFitRow rows.now }
+    ensures moved { (old : List Fed) (before : Option ℤ) → Given bound.now joining.now state.now closing.now old rows.now before now →
+        IfOk result (IsMove bound.now joining.now state.now old rows.now before now) }
+    ensures printable { IfOk result (λ moved. ArePrintable moved.found.rows.items) }
+{
+    keys_are_apart();
+    watermark_fits(now);
+    kept_rows_are_listed();
+    joined_rows_are_told_by_what_is_kept();
+    let taken = take_rows(alloc, bound, joining, state, rows)?;
+    let Taken { found, met, fresh } = taken;
+    let over = closing.past(alloc, now)?;
+    let found = take_all_over(alloc, bound, joining, state, over.as_slice(), found)?;
+    let change = changed(alloc, state, &fresh, &met, over.as_slice())?;
+    Ok(Moved { change, found })
+}
+
+/// The step of a join.
+fn step_rows(
+    alloc: Global,
+    bound: &Bound,
+    joining: &Joining,
+    state: &StateMap,
+    closing: &Closing,
+    rows: &[FedRow],
+    now: Option<i64>,
+) -> Result<Stepped, StepFault>
+    requires { All IsFitRow rows.now }
+    ensures stepped { (old : List Fed) (before : Option ℤ) → Given bound.now joining.now state.now closing.now old rows.now before now →
+        IfOk result (IsStep (join bound.now joining.now) state.now old rows.now before now) }
+    ensures cause { (old : List Fed) (before : Option ℤ) → Given bound.now joining.now state.now closing.now old rows.now before now →
+        IfErr result (IsCause (join bound.now joining.now) old rows.now before now) }
+    ensures printable { IfOk result (λ stepped. ArePrintable stepped.rows.items) }
+{
+    let moved = move_rows(alloc, bound, joining, state, closing, rows, now)?;
+    let Moved { change, found } = moved;
+    let Found { rows: shown, fault } = found;
+    match fault {
+        Some(key) => Err(StepFault::Overflow { key }),
+        None => Ok(Stepped {
+            change,
+            rows: shown,
+        }),
+    }
+}
+
+/// The step of an epoch over the rows that a partition of a join keeps and their index by time: by the epoch's rows that are not late, and its
+/// watermark, in microseconds since 1970, what changes in what is kept, and which rows are shown. Of a query that does not join nothing changes,
+/// and nothing is shown.
+///
+/// Each new row is paired with the rows of the other side that have its join key, those that are kept and those of the epoch before it; no
+/// other row is read but those that are over.
+pub fn step(
+    alloc: Global,
+    bound: &Bound,
+    state: &StateMap,
+    closing: &Closing,
+    rows: &[FedRow],
+    _epoch: u32,
+    watermark: Option<i64>,
+) -> Result<Stepped, StepFault>
+    requires { All IsFitRow rows.now }
+    // The change leads from the state over the rows before to that over these rows too, the rows that are shown are the epoch's, and no key
+    // overflows.
+    ensures stepped { (joining : Joins) (old : List Fed) (before : Option ℤ) → Given bound.now joining state.now closing.now old rows.now before watermark →
+        IfOk result (IsStep (join bound.now joining) state.now old rows.now before watermark) }
+    // The least key on which the epoch overflows, or want of memory, is against it.
+    ensures cause { (joining : Joins) (old : List Fed) (before : Option ℤ) → Given bound.now joining state.now closing.now old rows.now before watermark →
+        IfErr result (IsCause (join bound.now joining) old rows.now before watermark) }
+    // Whatever the state holds, each time that is shown can be printed.
+    ensures printable { IfOk result (λ stepped. ArePrintable stepped.rows.items) }
+    ensures separate { KeepsStreams bound.now.shape → IfOk result (λ stepped. (stepped.change ≡ []) × (stepped.rows.items ≡ [])) }
+{
+    match &bound.shape {
+        Shape::Join(joining) => step_rows(alloc, bound, joining, state, closing, rows, watermark),
+        _ => Ok(Stepped {
+            change: Change::new(alloc),
+            rows: Vec::new(alloc),
+        }),
+    }
+}

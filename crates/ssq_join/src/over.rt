@@ -1,0 +1,167 @@
+//! Rows that are over without a partner.
+
+ghost use Rattle.std.specs.Prelude.{◌≡◌, ◌∷◌, Bool, List, All, Some, IfOk, IfSome, IsSomeAnd};
+ghost use Rattle.ssq_value.specs.Key.{keys_of};
+ghost use Rattle.ssq_shape.specs.declared.bound.Bound.{Bound as Query};
+ghost use Rattle.ssq_shape.specs.declared.bound.Joining.{Joining as Joins};
+ghost use Rattle.ssq_meaning.specs.declared.fed_row.FedRow.{FedRow as Fed};
+ghost use Rattle.ssq_meaning.specs.Fit.{IsFit};
+ghost use Rattle.ssq_meaning.specs.Join.{Considered as Told, alone_of, is_outer_side, joined_alone, nulls, row_key, row_value};
+ghost use Rattle.ssq_step.specs.Indexing.{seen};
+ghost use Rattle.ssq_step.specs.Rows.{stream_of};
+ghost use Rattle.ssq_version.specs.State.{value_at};
+ghost use Rattle.ssq_join.specs.Judging.{ArePrintable};
+ghost use Rattle.ssq_join.specs.Overs.{AreOver, IsHeld, IsRead, TellsAlone, with_alone};
+ghost use Rattle.ssq_join.specs.Steps.{IsKept};
+ghost use Rattle.ssq_join.specs.Telling.{Tells};
+
+use crate::found::{Found, with_shown};
+use crate::judge::show_row;
+use ssq_field::Bytes;
+use ssq_keys::read_key;
+use ssq_shape::{Bound, JoinKind, Joining};
+use ssq_step::{KeptRow, read_row, width_of};
+use ssq_value::{Row, Value};
+use ssq_version::StateMap;
+use std::alloc::{AllocError, Global};
+
+/// A NULL for each column of the stream of a side.
+fn nulls(alloc: Global, bound: &Bound, left: bool) -> Result<Vec<Value>, AllocError>
+    ensures { IfOk result (λ values. values.items ≡ nulls bound.now (stream_of left)) }
+{
+    let mut values = Vec::new(alloc);
+    for _ in 0..width_of(bound, left) {
+        values.push(Value::Null)?;
+    }
+    Ok(values)
+}
+
+/// A row by itself, with NULLs in place of the other row.
+fn joined_alone(alloc: Global, bound: &Bound, row: &KeptRow) -> Result<Vec<Value>, AllocError>
+    ensures { IfOk result (λ values. values.items ≡ joined_alone bound.now row.now.left row.now.values) }
+{
+    let mut others = nulls(alloc, bound, !row.left)?;
+    if row.left {
+        let mut values = Vec::new(alloc);
+        values.extend_with_clones(row.values.as_slice())?;
+        values.append(&mut others)?;
+        Ok(values)
+    } else {
+        others.extend_with_clones(row.values.as_slice())?;
+        Ok(others)
+    }
+}
+
+fn is_outer_side(kind: JoinKind, left: bool) -> bool
+    ensures { result ≡ is_outer_side kind left }
+{
+    match kind {
+        JoinKind::Inner => false,
+        JoinKind::Left => left,
+        JoinKind::Right => !left,
+    }
+}
+
+/// The bytes of the join key among those under which a row is kept: those between its side and its place.
+fn key_part(key: &[u8]) -> Option<&[u8]>
+    ensures { (row : Fed) → key.now ≡ row_key row → IsSomeAnd result (λ own. own.now ≡ keys_of row.key) }
+{
+    let (_, rest) = key.split_first()?;
+    let end = rest.len().checked_sub(16)?;
+    Some(&rest[..end])
+}
+
+/// The join key in the bytes under which a row is kept.
+fn join_key(alloc: Global, joining: &Joining, key: &Bytes) -> Result<Option<Row>, AllocError>
+    ensures { (bound : Query) (row : Fed) → IsKept bound joining.now row → key.now ≡ row_key row → IfOk result (λ own. own ≡ Some row.key) }
+{
+    match key_part(key.as_slice()) {
+        Some(own) => read_key(alloc, own, joining.keys.len()),
+        None => Ok(None),
+    }
+}
+
+/// The row that is kept under these bytes.
+fn row_at(
+    alloc: Global,
+    bound: &Bound,
+    state: &StateMap,
+    key: &Bytes,
+) -> Result<Option<KeptRow>, AllocError>
+    ensures read { (joining : Joins) (row : Fed) (met : Bool) → IsKept bound.now joining row → key.now ≡ row_key row → value_at state.now key.now ≡ Some (row_value met row) →
+        IfOk result (λ read. IsSomeAnd read (IsRead row met)) }
+    ensures fit { IfOk result (λ read. IfSome read (λ row. All IsFit row.values)) }
+{
+    match state.get(key) {
+        Some(value) => read_row(alloc, bound, key, value),
+        None => Ok(None),
+    }
+}
+
+/// Shows a row without a partner.
+fn show_alone(
+    alloc: Global,
+    bound: &Bound,
+    own: &Row,
+    row: &KeptRow,
+    found: Found,
+) -> Result<Found, AllocError>
+    requires fit { All IsFit row.now.values }
+    requires printable { ArePrintable found.rows.items }
+    ensures told { (fed : Fed) (met : Bool) (all : List Told) → IsRead fed met row.now → own.now ≡ fed.key → Tells found all →
+        IfOk result (λ now. Tells now (alone_of bound.now fed ∷ all)) }
+    ensures printable { IfOk result (λ now. ArePrintable now.rows.items) }
+{
+    let values = joined_alone(alloc, bound, row)?;
+    let shown = show_row(alloc, bound, values.as_slice())?;
+    with_shown(found, own, shown)
+}
+
+/// Takes in a row that is over, where it met no partner and is shown without one.
+fn take_over(
+    alloc: Global,
+    bound: &Bound,
+    joining: &Joining,
+    state: &StateMap,
+    key: &Bytes,
+    found: Found,
+) -> Result<Found, AllocError>
+    requires printable { ArePrintable found.rows.items }
+    ensures told { (met : Fed → Bool) (row : Fed) (all : List Told) → IsHeld bound.now joining.now state.now met row → key.now ≡ row_key row → Tells found all →
+        IfOk result (λ now. Tells now (with_alone bound.now joining.now met row all)) }
+    ensures printable { IfOk result (λ now. ArePrintable now.rows.items) }
+{
+    let read = row_at(alloc, bound, state, key)?;
+    let Some(row) = read else {
+        return Ok(found);
+    };
+    if row.met || !is_outer_side(joining.kind, row.left) {
+        return Ok(found);
+    }
+    let own = join_key(alloc, joining, key)?;
+    let Some(own) = own else {
+        return Ok(found);
+    };
+    show_alone(alloc, bound, &own, &row, found)
+}
+
+/// Takes in the rows that are over, each by the bytes under which it is kept.
+pub(crate) fn take_all_over(
+    alloc: Global,
+    bound: &Bound,
+    joining: &Joining,
+    state: &StateMap,
+    keys: &[&Bytes],
+    found: Found,
+) -> Result<Found, AllocError>
+    requires printable { ArePrintable found.rows.items }
+    ensures told { (met : Fed → Bool) (over : List Fed) (all : List Told) → AreOver bound.now joining.now state.now met over (seen keys.now) → Tells found all →
+        IfOk result (TellsAlone bound.now joining.now met over all) }
+    ensures printable { IfOk result (λ now. ArePrintable now.rows.items) }
+{
+    let mut found = found;
+    for key in keys {
+        found = take_over(alloc, bound, joining, state, key, found)?;
+    }
+    Ok(found)
+}

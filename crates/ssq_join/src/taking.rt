@@ -1,0 +1,153 @@
+//! The rows of an epoch, taken in turn.
+
+ghost use Rattle.std.specs.Prelude.{◌≡◌, ◌++◌, ◌∷◌, [], Bool, List, None, All, IfOk};
+ghost use Rattle.ssq_version.specs.State.{Ascends, from_key};
+ghost use Rattle.ssq_meaning.specs.declared.fed_row.FedRow.{FedRow as Fed};
+ghost use Rattle.ssq_meaning.specs.Fit.{IsFitRow};
+ghost use Rattle.ssq_meaning.specs.Join.{row_key};
+ghost use Rattle.ssq_meaning.specs.JoinLaws.{AreApart};
+ghost use Rattle.ssq_join.specs.Changing.{find_row};
+ghost use Rattle.ssq_join.specs.Judging.{ArePrintable};
+ghost use Rattle.ssq_join.specs.Meeting.{AreKept};
+ghost use Rattle.ssq_join.specs.Steps.{IsKept};
+ghost use Rattle.ssq_join.specs.Turning.{AreFresh, AreTaken, MeetsEarlier};
+
+use crate::bytes::{prefix_of, row_key, row_value};
+use crate::found::{Found, nothing_found};
+use crate::meet::{Comer, meet};
+use crate::near::has_null;
+use ssq_field::Bytes;
+use ssq_meaning::FedRow;
+use ssq_shape::{Bound, Joining};
+use ssq_value::keys_are_apart;
+use ssq_version::{StateMap, beginnings_stand_together, states_are_kept};
+use std::alloc::{AllocError, Global};
+use std::collections::btree_map::Range;
+use std::collections::{BTreeMap, BTreeSet};
+use std::ops::Bound as End;
+
+/// What the rows of an epoch come to.
+#[derive(Debug, Drop)]
+pub(crate) struct Taken {
+    pub(crate) found: Found,
+    /// The bytes of the rows, kept ones and new ones, that met a partner.
+    pub(crate) met: BTreeSet<Bytes>,
+    /// What would be kept of each row if it met none, by its bytes.
+    pub(crate) fresh: BTreeMap<Bytes, Bytes>,
+}
+
+/// The rows from a key on that an epoch has brought so far.
+fn from_key<'a>(fresh: &'a BTreeMap<Bytes, Bytes>, key: &Bytes) -> Range<'a, Bytes, Bytes>
+    ensures entries { result ≡ from_key key.now fresh.now.entries }
+    ensures ascend { Ascends fresh.now.entries }
+{
+    fresh.range((End::Included(key), End::Unbounded))
+}
+
+/// Takes in a new row with each row of the other side that has its join key, among those that are kept and those of the epoch before it.
+fn take_row(
+    alloc: Global,
+    bound: &Bound,
+    joining: &Joining,
+    state: &StateMap,
+    fresh: &BTreeMap<Bytes, Bytes>,
+    comer: Comer<'_>,
+    found: Found,
+    met: &mut BTreeSet<Bytes>,
+) -> Result<Found, AllocError>
+    requires row { IsFitRow comer.row.now }
+    requires bytes { comer.bytes.now ≡ row_key comer.row.now }
+    requires printable { ArePrintable found.rows.items }
+    ensures meets { IfOk result (λ now. MeetsEarlier bound.now joining.now comer.entry.row.now state.now fresh.now.entries found now met.old.keys met.new.keys) }
+    ensures printable { IfOk result (λ now. ArePrintable now.rows.items) }
+{
+    keys_are_apart();
+    beginnings_stand_together();
+    states_are_kept(state);
+    if has_null(comer.row.key.as_slice()) {
+        return Ok(found);
+    }
+    let prefix = prefix_of(alloc, comer.row.stream != 0, comer.row.key.as_slice())?;
+    let between = meet(
+        alloc,
+        bound,
+        joining,
+        comer,
+        &prefix,
+        state.iter_from(&prefix),
+        found,
+        met,
+    )?;
+    meet(
+        alloc,
+        bound,
+        joining,
+        comer,
+        &prefix,
+        from_key(fresh, &prefix),
+        between,
+        met,
+    )
+}
+
+fn nothing_taken(alloc: Global) -> Taken
+    ensures rows { result.found.rows.items ≡ [] }
+    ensures fault { result.found.fault ≡ None }
+    ensures met { result.met.keys ≡ [] }
+    ensures fresh { result.fresh.entries ≡ [] }
+{
+    Taken {
+        found: nothing_found(alloc),
+        met: BTreeSet::new(alloc),
+        fresh: BTreeMap::new(alloc),
+    }
+}
+
+/// Takes in one row more: its candidates among the rows before it are considered, and it stands before those behind it.
+fn take_next(
+    alloc: Global,
+    bound: &Bound,
+    joining: &Joining,
+    state: &StateMap,
+    row: &FedRow,
+    taken: Taken,
+) -> Result<Taken, AllocError>
+    requires row { IsFitRow row.now }
+    requires printable { ArePrintable taken.found.rows.items }
+    ensures taken { (held rows : List Fed) (was_met : Fed → Bool) → AreKept bound.now joining.now was_met held state.now → IsKept bound.now joining.now row.now →
+        find_row (row_key row.now) rows ≡ None → AreTaken bound.now joining.now held rows taken.found taken.met.keys → AreFresh bound.now joining.now rows taken.fresh.entries →
+        IfOk result (λ now. AreTaken bound.now joining.now held (rows ++ row.now ∷ []) now.found now.met.keys × AreFresh bound.now joining.now (rows ++ row.now ∷ []) now.fresh.entries) }
+    ensures printable { IfOk result (λ now. ArePrintable now.found.rows.items) }
+{
+    let bytes = row_key(alloc, row)?;
+    let value = row_value(alloc, false, row)?;
+    let Taken {
+        found,
+        mut met,
+        mut fresh,
+    } = taken;
+    let comer = Comer { row, bytes: &bytes };
+    let found = take_row(alloc, bound, joining, state, &fresh, comer, found, &mut met)?;
+    fresh.insert(bytes, value)?;
+    Ok(Taken { found, met, fresh })
+}
+
+/// Takes the rows of an epoch in turn, each with the rows before it, those that are kept and those of the epoch.
+pub(crate) fn take_rows(
+    alloc: Global,
+    bound: &Bound,
+    joining: &Joining,
+    state: &StateMap,
+    rows: &[FedRow],
+) -> Result<Taken, AllocError>
+    requires { All IsFitRow rows.now }
+    ensures taken { (held : List Fed) (was_met : Fed → Bool) → AreKept bound.now joining.now was_met held state.now → All (IsKept bound.now joining.now) rows.now → AreApart (held ++ rows.now) →
+        IfOk result (λ taken. AreTaken bound.now joining.now held rows.now taken.found taken.met.keys × AreFresh bound.now joining.now rows.now taken.fresh.entries) }
+    ensures printable { IfOk result (λ taken. ArePrintable taken.found.rows.items) }
+{
+    let mut taken = nothing_taken(alloc);
+    for row in rows {
+        taken = take_next(alloc, bound, joining, state, row, taken)?;
+    }
+    Ok(taken)
+}
