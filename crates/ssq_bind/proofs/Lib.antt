@@ -18,3 +18,5 @@ pub mod SpanLemmas
 pub mod WindowLemmas
 pub mod SoundLemmas
 pub mod LimitLemmas
+pub mod OnLemmas
+pub mod TimeBoundLemmas

@@ -1,4 +1,4 @@
--- Groups keep their limits.
+-- Groups, repeats and joins keep their limits.
 use Rattle.std.proofs.Common.{◌≡◌, sym, subst, arith, ℕ, ◌≤◌, Bool, true, false, List, [], ◌∷◌, ◌++◌, map, length, Option, Some, None}
 use Rattle.std.specs.Prelude.{if◌then◌else◌, IfSome}
 use Rattle.std.specs.List.{flat_map}
@@ -24,7 +24,7 @@ use Rattle.ssq_check.specs.Fault.{AreNone}
 use Rattle.ssq_check.specs.Names.{row_scope}
 use Rattle.ssq_check.specs.Shown as places
 use Rattle.ssq_check.specs.Shown.{is_group, shown_within}
-use Rattle.ssq_check.specs.Sound.{IsSoundDeduplicate, IsSoundGroup, IsSound}
+use Rattle.ssq_check.specs.Sound.{IsSoundJoin, IsSoundDeduplicate, IsSoundGroup, IsSound}
 use Rattle.ssq_check.specs.Whole.{QueryFaults}
 use Rattle.ssq_check.proofs.SoundLemmas.{sound_where_none}
 use Rattle.ssq_bind.specs.declared.context.Context.{Context}
@@ -32,6 +32,7 @@ use Rattle.ssq_bind.specs.Bound.{context_of, select_aggregates, shown_of, groupi
 use Rattle.ssq_bind.specs.Limits.{IsLimitedBy, HasLimits, GroupsAreLimited}
 use Rattle.ssq_bind.specs.Shapes.{bare_index, item_aggregates, having_aggregates, group_items, key_of}
 use Rattle.ssq_bind.specs.Value.{aggregates_of}
+use Rattle.ssq_bind.proofs.OnLemmas.{few_pairs}
 
 -- ---- the keys are the parts of GROUP BY
 
@@ -97,10 +98,11 @@ few_aggregates query few =
 
 -- ---- the whole
 
-kept_has : (context : Context) (rows : Scope) (join : Option Join) (deduplicate : Option Deduplicate) → IfSome deduplicate (IsSoundDeduplicate rows) → IsLimitedBy (kept_by context join deduplicate)
-kept_has context rows (Some join) deduplicate sound = tt
-kept_has context rows None (Some deduplicate) sound = subst (λ (n : ℕ). n ≤ 64) (sym (length-map deduplicate.columns (bare_index context.scope))) sound.few
-kept_has context rows None None sound = tt
+kept_has : (query : Query) (from : List ℕ) (join : Option Join) (deduplicate : Option Deduplicate) → IfSome join (IsSoundJoin (row_scope query) from) → IfSome deduplicate (IsSoundDeduplicate (row_scope query))
+    → IsLimitedBy (kept_by (context_of query) join deduplicate)
+kept_has query from (Some join) deduplicate joins sound = few_pairs query join.on.at join.on.value joins.few_keys
+kept_has query from None (Some deduplicate) joins sound = subst (λ (n : ℕ). n ≤ 64) (sym (length-map deduplicate.columns (bare_index (context_of query).scope))) sound.few
+kept_has query from None None joins sound = tt
 
 either_has : (b : Bool) (grouping : Grouping) (kept : Shape) → IsLimitedBy (shape.Group grouping) → IsLimitedBy kept → IsLimitedBy (if b then shape.Group grouping else kept)
 either_has true grouping kept grouped else_kept = grouped
@@ -111,7 +113,7 @@ unfolding bound_of shape_of
 query_has query sound =
     either_has (is_group query) (grouping_of query) (kept_by (context_of query) query.select.join query.select.deduplicate)
     (record { keys = few_keys (context_of query).scope (row_scope query) query.select.group sound.group; aggregates = few_aggregates query sound.few_aggregates })
-    (kept_has (context_of query) (row_scope query) query.select.join query.select.deduplicate sound.deduplicate)
+    (kept_has query query.select.from.text query.select.join query.select.deduplicate sound.join sound.deduplicate)
 
 pub groups_are_limited : GroupsAreLimited
 groups_are_limited query none = query_has query (sound_where_none query none)

@@ -9,6 +9,7 @@ pub mod Typed
 pub mod Timed
 pub mod Delays
 pub mod Windows
+pub mod TimeBounds
 pub mod Places
 pub mod Sound
 pub mod Limits

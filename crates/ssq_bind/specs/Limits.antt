@@ -1,4 +1,4 @@
--- How much a query groups or deduplicates by.
+-- How much a query groups, deduplicates or joins by.
 use Rattle.std.specs.Prelude.{◌≤◌, length}
 use Rattle.ssq_shape.specs.declared.bound.Bound.{Bound}
 use Rattle.ssq_shape.specs.declared.bound.Grouping.{Grouping}
@@ -14,14 +14,14 @@ pub record IsLimited (grouping : Grouping) : Type 0 where
   pub keys : length grouping.keys ≤ 64
   pub aggregates : length grouping.aggregates ≤ 64
 
--- and DEDUPLICATE has at most 64 columns
+-- DEDUPLICATE has at most 64 columns, and ON at most 64 key equalities
 abbrev pub IsLimitedBy : Shape → Type 0
 IsLimitedBy shape.Plain = Unit {0}
 IsLimitedBy (shape.Group grouping) = IsLimited grouping
 IsLimitedBy (shape.Dedup columns) = length columns ≤ 64
-IsLimitedBy (shape.Join joining) = Unit {0}
+IsLimitedBy (shape.Join joining) = length joining.keys ≤ 64
 
--- if the query groups its rows or deduplicates them, it keeps the limits of that
+-- if the query groups its rows, deduplicates or joins them, it keeps the limits of that
 abbrev pub HasLimits : Bound → Type 0
 HasLimits bound = IsLimitedBy bound.shape
 

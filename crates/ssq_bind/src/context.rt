@@ -1,14 +1,13 @@
 //! What names mean where expressions are built.
 
 ghost use Rattle.std.specs.Prelude.{◌≡◌, ◌<◌, ◌^◌, position};
-ghost use Rattle.std.specs.Str.{bytes_eq};
-ghost use Rattle.ssq_check.specs.Scope.{spot_at, in_columns, in_source, bare_spot, source_named, named_spot, is_window_key, has_window, is_key_of, is_window_name};
+ghost use Rattle.ssq_check.specs.Scope.{in_source, bare_spot, source_named, named_spot, is_window_key, has_window, is_key_of, is_window_name};
 ghost use Rattle.ssq_check.specs.Joined.{spot_in, spot_of};
 ghost use Rattle.ssq_bind.specs.Value.{width, behind, row_index, is_window_column, key_spot, key_index};
 
 use ssq_ast::{ColumnRef, Ident};
 use ssq_check::{Key, Scope, Side, Source, Spot};
-use ssq_value::Column;
+use ssq_value::Text;
 
 /// What expressions rest on: the names that they may use, and the size of the query's window in microseconds.
 #[derive(Debug, Drop)]
@@ -18,41 +17,11 @@ pub struct Context {
     pub size: i64,
 }
 
-fn position_of(columns: &[Column], name: &str) -> Option<usize>
-    ensures { result ≡ position (λ column. bytes_eq column.name name.now) columns.now }
-{
-    columns
-        .iter()
-        .position(|column| column.name.as_str() == name)
-}
-
-fn spot_at(side: Side, columns: &[Column], at: usize) -> Option<Spot>
-    ensures { result ≡ spot_at side columns.now at }
-{
-    match columns.get(at) {
-        Some(column) => Some(Spot {
-            side,
-            index: at,
-            kind: column.kind,
-        }),
-        None => None,
-    }
-}
-
-pub(crate) fn in_columns(side: Side, columns: &[Column], name: &str) -> Option<Spot>
-    ensures { result ≡ in_columns side columns.now name.now }
-{
-    match position_of(columns, name) {
-        Some(at) => spot_at(side, columns, at),
-        None => None,
-    }
-}
-
-fn in_source(side: Side, source: &Option<Source>, name: &str) -> Option<Spot>
+fn in_source(side: Side, source: &Option<Source>, name: &Text) -> Option<Spot>
     ensures { result ≡ in_source side source.now name.now }
 {
     match source {
-        Some(source) => in_columns(side, source.columns.as_slice(), name),
+        Some(source) => source.columns.spot(side, name),
         None => None,
     }
 }
@@ -61,8 +30,8 @@ fn in_source(side: Side, source: &Option<Source>, name: &str) -> Option<Spot>
 pub(crate) fn bare_spot(scope: &Scope, name: &Ident) -> Option<Spot>
     ensures { result ≡ spot_in (bare_spot scope.now name.now) }
 {
-    let left = in_source(Side::Left, &scope.left, name.text.as_str());
-    let right = in_source(Side::Right, &scope.right, name.text.as_str());
+    let left = in_source(Side::Left, &scope.left, &name.text);
+    let right = in_source(Side::Right, &scope.right, &name.text);
     match (left, right) {
         (Some(_), Some(_)) => None,
         (Some(spot), None) => Some(spot),
@@ -84,9 +53,9 @@ fn named_spot(scope: &Scope, stream: &Ident, column: &Ident) -> Option<Spot>
     ensures { result ≡ spot_in (named_spot scope.now stream.now column.now) }
 {
     if is_named(&scope.left, stream.text.as_str()) {
-        in_source(Side::Left, &scope.left, column.text.as_str())
+        in_source(Side::Left, &scope.left, &column.text)
     } else if is_named(&scope.right, stream.text.as_str()) {
-        in_source(Side::Right, &scope.right, column.text.as_str())
+        in_source(Side::Right, &scope.right, &column.text)
     } else {
         None
     }

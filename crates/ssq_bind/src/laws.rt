@@ -3,6 +3,7 @@
 ghost use Rattle.ssq_bind.specs.Delays.{DelaysAreSpans};
 ghost use Rattle.ssq_bind.specs.Limits.{GroupsAreLimited};
 ghost use Rattle.ssq_bind.specs.Places.{PlacesAreIgnored};
+ghost use Rattle.ssq_bind.specs.TimeBounds.{TimeBoundsLieAround};
 ghost use Rattle.ssq_bind.specs.Timed.{EventsHaveDelays};
 ghost use Rattle.ssq_bind.specs.Typed.{RowsAreTyped, QueriesAreTyped};
 ghost use Rattle.ssq_bind.specs.Windows.{WindowsAreFit};
@@ -35,10 +36,16 @@ pub fn windows_are_fit()
     ensures { WindowsAreFit }
 {}
 
-/// The law of limits: a query that breaks no rule of binding has at most 64 parts in GROUP BY, and SELECT and HAVING have at
-/// most 64 aggregates together.
+/// The law of limits: a query that breaks no rule of binding has at most 64 parts in GROUP BY, 64 columns in DEDUPLICATE and 64
+/// key equalities in ON, and SELECT and HAVING have at most 64 aggregates together.
 pub fn groups_are_limited()
     ensures { GroupsAreLimited }
+{}
+
+/// The law of bounds: a query that was read from tokens and breaks no rule of binding joins rows by a bound, if it has one, whose
+/// lower side is not above the left row's time, and whose upper side is not below it.
+pub fn time_bounds_lie_around()
+    ensures { TimeBoundsLieAround }
 {}
 
 /// The law of places: queries that are the same, places aside, are bound to the same bound query.

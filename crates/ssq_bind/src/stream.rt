@@ -1,14 +1,15 @@
 //! The streams of a query: what is read of them, and what expressions see of them.
 
-ghost use Rattle.std.specs.Prelude.{◌≡◌, ◌≤◌, ◌++◌, length, map, take, IfOk, OnOk};
+ghost use Rattle.std.specs.Prelude.{◌≡◌, ◌≤◌, ◌++◌, length, map, position, take, IfOk, OnOk};
+ghost use Rattle.std.specs.Str.{bytes_eq};
 ghost use Rattle.std.specs.Option.{ForSome, option_copied, option_map};
 ghost use Rattle.ssq_value.specs.Layout.{IsEvent};
+ghost use Rattle.ssq_check.specs.Scope.{spot_at, in_columns};
 ghost use Rattle.ssq_check.specs.Names.{declared, column_of, source_of, watermark_name};
 ghost use Rattle.ssq_bind.specs.Streams.{kept_columns, timed, event_in, delay_of, stream_of, listed};
 
-use crate::context::in_columns;
 use ssq_ast::{ColumnDecl, Watermark};
-use ssq_check::{Side, Source, Spot};
+use ssq_check::{Columns, Side, Source, Spot};
 use ssq_shape::Stream;
 use ssq_value::{ColType, Column, Schema, Sequence, Text};
 use std::alloc::{AllocError, Global};
@@ -64,6 +65,36 @@ fn kept_columns(alloc: Global, decls: &[ColumnDecl]) -> Result<Vec<Column>, Allo
     ensures few { IfOk result (λ columns. length columns.items ≤ 64) }
 {
     columns_of(alloc, first(decls, Schema::MAX_COLUMNS))
+}
+
+fn position_of(columns: &[Column], name: &str) -> Option<usize>
+    ensures { result ≡ position (λ column. bytes_eq column.name name.now) columns.now }
+{
+    columns
+        .iter()
+        .position(|column| column.name.as_str() == name)
+}
+
+fn spot_at(side: Side, columns: &[Column], at: usize) -> Option<Spot>
+    ensures { result ≡ spot_at side columns.now at }
+{
+    match columns.get(at) {
+        Some(column) => Some(Spot {
+            side,
+            index: at,
+            kind: column.kind,
+        }),
+        None => None,
+    }
+}
+
+fn in_columns(side: Side, columns: &[Column], name: &str) -> Option<Spot>
+    ensures { result ≡ in_columns side columns.now name.now }
+{
+    match position_of(columns, name) {
+        Some(at) => spot_at(side, columns, at),
+        None => None,
+    }
 }
 
 fn timed(spot: Option<Spot>) -> Option<usize>
@@ -149,11 +180,12 @@ fn known_source(alloc: Global, stream: &ssq_ast::Stream) -> Result<Source, Alloc
     ensures { IfOk result (λ source. source ≡ source_of stream.now) }
 {
     let name = stream.name.text.clone()?;
-    let columns = columns_of(alloc, stream.columns.as_slice())?;
+    let list = columns_of(alloc, stream.columns.as_slice())?;
+    let columns = Columns::new(alloc, Sequence::from_vec(list))?;
     let watermark = watermark_name(&stream.watermark)?;
     Ok(Source {
         name,
-        columns: Sequence::from_vec(columns),
+        columns,
         watermark,
     })
 }

@@ -1,5 +1,6 @@
 pub mod Opened
 pub mod First
+pub mod FirstNames
 pub mod Nodes
 pub mod Found
 pub mod Lists

@@ -1,5 +1,6 @@
 pub mod Fault
 pub mod Scope
+pub mod Columns
 pub mod Rules
 pub mod Broken
 pub mod Checked

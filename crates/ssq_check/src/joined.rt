@@ -14,9 +14,7 @@ ghost use Rattle.ssq_check.specs.declared.scope.Within.TheVariants as within;
 use crate::clause::check_condition;
 use crate::expr::{check_expr, is_interval};
 use crate::fault::{BindFault, Cause, sooner};
-use crate::scope::{
-    Scope, Side, Source, Spot, Within, bare_spot, in_columns, is_same_side, named_spot,
-};
+use crate::scope::{Scope, Side, Source, Spot, Within, bare_spot, is_same_side, named_spot};
 use ssq_ast::{BinaryOp, ColumnRef, Condition, Expr};
 use ssq_value::{ColType, Text};
 
@@ -181,10 +179,7 @@ fn is_event_of(source: &Source, spot: Spot) -> bool
     ensures { result ≡ on.is_event_by source.now.watermark source.now.columns spot }
 {
     match &source.watermark {
-        Some(name) => is_at(
-            in_columns(spot.side, source.columns.as_slice(), name.as_str()),
-            spot.index,
-        ),
+        Some(name) => is_at(source.columns.spot(spot.side, name), spot.index),
         None => is_time_spot(spot),
     }
 }

@@ -8,6 +8,7 @@
 #![tactic(auto)]
 
 mod clause;
+mod columns;
 mod expr;
 mod fault;
 mod item;
@@ -19,6 +20,7 @@ mod shown;
 mod stream;
 mod whole;
 
+pub use columns::Columns;
 pub use expr::check_expr;
 pub use fault::{BindFault, Cause, Refusal};
 pub use scope::{Key, Scope, Side, Source, Spot, Within};

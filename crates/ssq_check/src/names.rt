@@ -5,6 +5,7 @@ ghost use Rattle.std.specs.List.{flat_map};
 ghost use Rattle.std.specs.Option.{option_map};
 ghost use Rattle.ssq_check.specs.Names.{column_of, watermark_name, source_of, declared, join_stream, row_scope, keys_of, group_keys};
 
+use crate::columns::Columns;
 use crate::scope::{Key, Scope, Source, bare_spot};
 use ssq_ast::{ColumnDecl, Group, GroupBy, Join, Query, Stream, Watermark};
 use ssq_value::{Column, Sequence, Text};
@@ -20,10 +21,7 @@ pub(crate) fn column_of(decl: &ColumnDecl) -> Result<Column, AllocError>
     })
 }
 
-pub(crate) fn columns_of(
-    alloc: Global,
-    decls: &[ColumnDecl],
-) -> Result<Sequence<Column>, AllocError>
+fn list_of(alloc: Global, decls: &[ColumnDecl]) -> Result<Sequence<Column>, AllocError>
     ensures { IfOk result (λ columns. columns ≡ map column_of decls.now) }
 {
     let mut columns = Sequence::new(alloc);
@@ -32,6 +30,13 @@ pub(crate) fn columns_of(
         columns.push(column)?;
     }
     Ok(columns)
+}
+
+pub(crate) fn columns_of(alloc: Global, decls: &[ColumnDecl]) -> Result<Columns, AllocError>
+    ensures { IfOk result (λ columns. columns ≡ map column_of decls.now) }
+{
+    let list = list_of(alloc, decls)?;
+    Columns::new(alloc, list)
 }
 
 fn watermark_name(watermark: &Option<Watermark>) -> Result<Option<Text>, AllocError>

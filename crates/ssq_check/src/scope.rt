@@ -1,18 +1,18 @@
 //! The names that an expression may use.
 
-ghost use Rattle.std.specs.Prelude.{◌≡◌, position};
-ghost use Rattle.std.specs.Str.{bytes_eq};
-ghost use Rattle.ssq_check.specs.Scope.{is_window_key, has_window, is_key_of, is_key, is_same_side, is_window_name, is_window_here, spot_at, in_columns, in_source, bare_spot, source_named, known, named_spot, grouped, column_kind};
+ghost use Rattle.std.specs.Prelude.{◌≡◌};
+ghost use Rattle.ssq_check.specs.Scope.{is_window_key, has_window, is_key_of, is_key, is_same_side, is_window_name, is_window_here, in_source, bare_spot, source_named, known, named_spot, grouped, column_kind};
 
+use crate::columns::Columns;
 use crate::fault::{BindFault, Cause};
 use ssq_ast::{ColumnRef, Ident};
-use ssq_value::{ColType, Column, Sequence, Text};
+use ssq_value::{ColType, Sequence, Text};
 
 /// A stream of FROM or JOIN that is declared.
 #[derive(Debug, Drop)]
 pub struct Source {
     pub name: Text,
-    pub columns: Sequence<Column>,
+    pub columns: Columns,
     /// The name of its event column, where it has a watermark.
     pub watermark: Option<Text>,
 }
@@ -60,41 +60,11 @@ pub enum Within {
     Group,
 }
 
-fn position_of(columns: &[Column], name: &str) -> Option<usize>
-    ensures { result ≡ position (λ column. bytes_eq column.name name.now) columns.now }
-{
-    columns
-        .iter()
-        .position(|column| column.name.as_str() == name)
-}
-
-fn spot_at(side: Side, columns: &[Column], at: usize) -> Option<Spot>
-    ensures { result ≡ spot_at side columns.now at }
-{
-    match columns.get(at) {
-        Some(column) => Some(Spot {
-            side,
-            index: at,
-            kind: column.kind,
-        }),
-        None => None,
-    }
-}
-
-pub(crate) fn in_columns(side: Side, columns: &[Column], name: &str) -> Option<Spot>
-    ensures { result ≡ in_columns side columns.now name.now }
-{
-    match position_of(columns, name) {
-        Some(at) => spot_at(side, columns, at),
-        None => None,
-    }
-}
-
-fn in_source(side: Side, source: &Option<Source>, name: &str) -> Option<Spot>
+fn in_source(side: Side, source: &Option<Source>, name: &Text) -> Option<Spot>
     ensures { result ≡ in_source side source.now name.now }
 {
     match source {
-        Some(source) => in_columns(side, source.columns.as_slice(), name),
+        Some(source) => source.columns.spot(side, name),
         None => None,
     }
 }
@@ -102,8 +72,8 @@ fn in_source(side: Side, source: &Option<Source>, name: &str) -> Option<Spot>
 pub(crate) fn bare_spot(scope: &Scope, name: &Ident) -> Result<Spot, BindFault>
     ensures { result ≡ bare_spot scope.now name.now }
 {
-    let left = in_source(Side::Left, &scope.left, name.text.as_str());
-    let right = in_source(Side::Right, &scope.right, name.text.as_str());
+    let left = in_source(Side::Left, &scope.left, &name.text);
+    let right = in_source(Side::Right, &scope.right, &name.text);
     match (left, right) {
         (Some(_), Some(_)) => Err(BindFault {
             at: name.at,
@@ -143,13 +113,10 @@ pub(crate) fn named_spot(scope: &Scope, stream: &Ident, column: &Ident) -> Resul
     ensures { result ≡ named_spot scope.now stream.now column.now }
 {
     if is_named(&scope.left, stream.text.as_str()) {
-        known(
-            in_source(Side::Left, &scope.left, column.text.as_str()),
-            column.at,
-        )
+        known(in_source(Side::Left, &scope.left, &column.text), column.at)
     } else if is_named(&scope.right, stream.text.as_str()) {
         known(
-            in_source(Side::Right, &scope.right, column.text.as_str()),
+            in_source(Side::Right, &scope.right, &column.text),
             column.at,
         )
     } else {

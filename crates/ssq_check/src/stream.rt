@@ -10,7 +10,7 @@ use crate::clause::is_no_time;
 use crate::fault::{BindFault, Cause, rule, sooner, unless};
 use crate::list::{beyond_fault, first_double, first_double_of, past};
 use crate::names::columns_of;
-use crate::scope::{Side, Spot, in_columns};
+use crate::scope::{Side, Spot};
 use ssq_ast::{Stream, Watermark};
 use std::alloc::{AllocError, Global};
 
@@ -32,8 +32,7 @@ fn watermark_fault(
     match watermark {
         Some(watermark) => {
             let columns = columns_of(alloc, stream.columns.as_slice())?;
-            let name = watermark.column.text.as_str();
-            let spot = in_columns(Side::Left, columns.as_slice(), name);
+            let spot = columns.spot(Side::Left, &watermark.column.text);
             Ok(event_fault(spot, watermark.column.at))
         }
         None => Ok(None),

@@ -3,7 +3,7 @@
 ghost use Rattle.std.specs.Prelude.{◌≡◌, ◌<◌, map};
 ghost use Rattle.ssq_lex.specs.Lexeme.{lexed};
 ghost use Rattle.ssq_parse.specs.Expressions as spec;
-ghost use Rattle.ssq_parse.specs.Nests.{Nests};
+ghost use Rattle.ssq_parse.specs.Nests.{Nests, IsReadBy, IsCallable};
 ghost use Rattle.ssq_parse.specs.Reading.{Reads, Makes};
 ghost use Rattle.ssq_parse.specs.Trees.{wrapped};
 ghost use Rattle.ssq_parse.specs.Written.{EachIsWritten};
@@ -60,6 +60,28 @@ fn wrapped(alloc: Global, op: UnaryOp, tokens: &[Token<'_>], operand: Tree) -> R
         tree = unary(alloc, op, tokens[left].start, tree)?;
     }
     Ok(tree)
+}
+
+/// An operand, and those behind it with an operator of the level in front of each, grouped to the left. No tree is higher than
+/// [`MOST_HEIGHT`], so there are fewer operators.
+fn chain<F: Fn(&mut Reader<'_>) -> Result<Tree, Stop>>(
+    alloc: Global,
+    level: Level,
+    reader: &mut Reader<'_>,
+    operand: F,
+) -> Result<Tree, Stop>
+    requires { IsCallable (F.pre operand) }
+    ensures { (own : spec.Reader) → IsReadBy own (F.post operand) → Reads (spec.chain level own reader.old) result reader.new }
+{
+    let mut left = operand(reader)?;
+    for _turn in 0..MOST_HEIGHT {
+        let Some((op, at)) = reader.eat_operator(level) else {
+            return Ok(left);
+        };
+        let right = operand(reader)?;
+        left = binary(alloc, op, at, left, right)?;
+    }
+    Ok(left)
 }
 
 /// A column behind its name or that of its stream.
@@ -239,34 +261,27 @@ impl<F: Fn(Global, &mut Reader<'_>, usize) -> Result<Tree, Stop>> Grammar<F> {
         wrapped(self.alloc, UnaryOp::Minus, prefixes, operand)
     }
 
+    #[tactic(auto, unfolding(crate::specs::Expressions::product_at))]
     fn product(&self, reader: &mut Reader<'_>) -> Result<Tree, Stop>
         requires { Nests self.now.depth (F.pre self.now.inner) (F.post self.now.inner) }
         ensures { Reads (spec.product_at self.now.depth (spec.expr_at self.now.depth) reader.old) result reader.new }
     {
-        let mut left = self.signed(reader)?;
-        for _turn in 0..MOST_HEIGHT {
-            let Some((op, at)) = reader.eat_operator(Level::Product) else {
-                return Ok(left);
-            };
-            let right = self.signed(reader)?;
-            left = binary(self.alloc, op, at, left, right)?;
-        }
-        Ok(left)
+        chain(
+            self.alloc,
+            Level::Product,
+            reader,
+            |reader: &mut Reader<'_>| { self.signed(reader) },
+        )
     }
 
+    #[tactic(auto, unfolding(crate::specs::Expressions::sum_at))]
     fn sum(&self, reader: &mut Reader<'_>) -> Result<Tree, Stop>
         requires { Nests self.now.depth (F.pre self.now.inner) (F.post self.now.inner) }
         ensures { Reads (spec.sum_at self.now.depth (spec.expr_at self.now.depth) reader.old) result reader.new }
     {
-        let mut left = self.product(reader)?;
-        for _turn in 0..MOST_HEIGHT {
-            let Some((op, at)) = reader.eat_operator(Level::Sum) else {
-                return Ok(left);
-            };
-            let right = self.product(reader)?;
-            left = binary(self.alloc, op, at, left, right)?;
-        }
-        Ok(left)
+        chain(self.alloc, Level::Sum, reader, |reader: &mut Reader<'_>| {
+            self.product(reader)
+        })
     }
 
     #[tactic(auto, unfolding(crate::specs::Expressions::null_test_at))]
@@ -322,34 +337,24 @@ impl<F: Fn(Global, &mut Reader<'_>, usize) -> Result<Tree, Stop>> Grammar<F> {
         wrapped(self.alloc, UnaryOp::Not, prefixes, operand)
     }
 
+    #[tactic(auto, unfolding(crate::specs::Expressions::conjunction_at))]
     fn conjunction(&self, reader: &mut Reader<'_>) -> Result<Tree, Stop>
         requires { Nests self.now.depth (F.pre self.now.inner) (F.post self.now.inner) }
         ensures { Reads (spec.conjunction_at self.now.depth (spec.expr_at self.now.depth) reader.old) result reader.new }
     {
-        let mut left = self.negation(reader)?;
-        for _turn in 0..MOST_HEIGHT {
-            let Some((op, at)) = reader.eat_operator(Level::And) else {
-                return Ok(left);
-            };
-            let right = self.negation(reader)?;
-            left = binary(self.alloc, op, at, left, right)?;
-        }
-        Ok(left)
+        chain(self.alloc, Level::And, reader, |reader: &mut Reader<'_>| {
+            self.negation(reader)
+        })
     }
 
+    #[tactic(auto, unfolding(crate::specs::Expressions::disjunction_at))]
     fn disjunction(&self, reader: &mut Reader<'_>) -> Result<Tree, Stop>
         requires { Nests self.now.depth (F.pre self.now.inner) (F.post self.now.inner) }
         ensures { Reads (spec.disjunction_at self.now.depth (spec.expr_at self.now.depth) reader.old) result reader.new }
     {
-        let mut left = self.conjunction(reader)?;
-        for _turn in 0..MOST_HEIGHT {
-            let Some((op, at)) = reader.eat_operator(Level::Or) else {
-                return Ok(left);
-            };
-            let right = self.conjunction(reader)?;
-            left = binary(self.alloc, op, at, left, right)?;
-        }
-        Ok(left)
+        chain(self.alloc, Level::Or, reader, |reader: &mut Reader<'_>| {
+            self.conjunction(reader)
+        })
     }
 }
 

@@ -1,0 +1,265 @@
+-- The bound of a join lies around the left row's time.
+use Rattle.std.proofs.Common.{◌≡◌, ◌∙◌, refl, sym, ap, subst, inl, inr, arith, ℕ, ℤ, pos, negsuc, Bool, true, false, not, ◌&&◌, ◌||◌, List, [], ◌∷◌, ◌++◌, map, drop, Option, Some, None, IfSome}
+use Rattle.std.specs.Prelude.{◌≤ℤ◌, neg_ℤ, if◌then◌else◌, slice_get, FitsSigned}
+use Rattle.std.specs.Int.{w64, int_wrapping_neg}
+use Rattle.std.specs.List.{AllByRecursion, flat_map}
+use Rattle.std.specs.Option.{option_map}
+use Rattle.std.proofs.lemmas.Int.{ints, int_wrap_fits, wrapping_neg_is}
+use Rattle.ssq_value.specs.declared.column.ColType.{ColType}
+use Rattle.ssq_time.specs.Time.{IsSpan}
+use Rattle.ssq_shape.specs.declared.bound.Bound.{Bound}
+use Rattle.ssq_shape.specs.declared.bound.Grouping.{Grouping}
+use Rattle.ssq_shape.specs.declared.bound.Shape.{Shape}
+use Rattle.ssq_shape.specs.declared.bound.Shape.TheVariants as shape
+use Rattle.ssq_ast.specs.declared.expr.BinaryOp.{BinaryOp}
+use Rattle.ssq_ast.specs.declared.expr.BinaryOp.TheVariants as op
+use Rattle.ssq_ast.specs.declared.expr.ColumnRef.{ColumnRef}
+use Rattle.ssq_ast.specs.declared.expr.Expr.{Expr}
+use Rattle.ssq_ast.specs.declared.expr.Expr.TheVariants as expr
+use Rattle.ssq_ast.specs.declared.query.Deduplicate.{Deduplicate}
+use Rattle.ssq_ast.specs.declared.query.Join.{Join}
+use Rattle.ssq_ast.specs.declared.query.Query.{Query}
+use Rattle.ssq_ast.specs.Expression as written
+use Rattle.ssq_ast.specs.Expression.{Written, IsRegular, only, tree, behind, words}
+use Rattle.ssq_ast.specs.Statement.{WrittenJoin, WrittenSelect, WrittenQuery, IsFit, separated, declared_words, distinct_words, item_words, kind_words, join_tree, query_tree, IsRegularQuery}
+use Rattle.ssq_check.specs.declared.scope.Scope.{Scope}
+use Rattle.ssq_check.specs.declared.scope.Spot.{Spot}
+use Rattle.ssq_check.specs.declared.scope.Within.TheVariants as within
+use Rattle.ssq_check.specs.declared.joined.Edge.TheVariants as edge
+use Rattle.ssq_check.specs.declared.fault.Cause.TheVariants as cause
+use Rattle.ssq_check.specs.Broken.{Rule}
+use Rattle.ssq_check.specs.Fault.{AreNone}
+use Rattle.ssq_check.specs.Joined.{Conjunct, conjuncts, is_and, is_edge, looked, bare_column, if_so, edge_column, low_column, high_column, is_bound, are_bound, are_typed, between_at, is_misplaced, BoundRule, seen_by, BoundFaults}
+use Rattle.ssq_check.specs.Names.{is_there, row_scope}
+use Rattle.ssq_check.specs.Rules.{kind, of_one, together, is_interval, operator_kind, operands_of, between_kind}
+use Rattle.ssq_check.specs.Shown.{is_group}
+use Rattle.ssq_check.specs.Sound.{IsSoundJoin, IsSound}
+use Rattle.ssq_check.specs.Whole.{QueryFaults}
+use Rattle.ssq_check.proofs.SoundLemmas.{sound_where_none}
+use Rattle.ssq_bind.specs.declared.context.Context.{Context}
+use Rattle.ssq_bind.specs.Bound.{context_of, grouping_of, kept_by, shape_of, bound_of}
+use Rattle.ssq_bind.specs.Joins.{or_none, span_of, bound_by, time_bound, bounds_in}
+use Rattle.ssq_bind.specs.TimeBounds.{LiesAround, HasTimeBoundBy, HasTimeBound, HasTimeBoundIfWritten, TimeBoundsLieAround}
+use Rattle.ssq_bind.specs.Value.{shift_of}
+use Rattle.ssq_bind.proofs.OnLemmas.{value_in, values_are}
+use Rattle.ssq_bind.proofs.SpanLemmas.{text_is}
+
+-- ---- what is written
+
+-- each span that stands in it by itself or under an operator of two sides or BETWEEN is one
+abbrev HasSpans : Expr → Type 0
+HasSpans (expr.Interval span at) = IsSpan span.micros
+HasSpans (expr.Binary' left_at p (only a) o at right_at q (only b)) = HasSpans a × HasSpans b
+HasSpans (expr.Between' p (only a) at q (only b) r (only c)) = HasSpans a × HasSpans b × HasSpans c
+HasSpans _ = Unit {0}
+
+tree_has : (value : Written) (places : List ℕ) → IsRegular value → HasSpans (tree value places)
+tree_has (written.of_number n) places is = tt
+tree_has (written.of_text text) places is = tt
+tree_has (written.of_truth truth) places is = tt
+tree_has (written.of_moment moment) places is = tt
+tree_has (written.of_span span) places is = text_is span.text span.micros is
+tree_has (written.of_column column) places is = tt
+tree_has written.of_rows places is = tt
+tree_has (written.of_function f argument) places is = tt
+tree_has (written.bracketed inner) places is = tree_has inner (drop 1 places) is
+tree_has (written.prefixed o operand) places is = tt
+tree_has (written.null_tested operand test) places is = tt
+tree_has (written.infixed o left right) places is = (tree_has left places is.1, tree_has right (drop 1 (behind (words left) places)) is.3)
+tree_has (written.between operand low high) places is =
+    let from_between : List ℕ = behind (words operand) places in
+    let from_and : List ℕ = behind (words low) (drop 1 from_between) in
+    (tree_has operand places is.1, tree_has low (drop 1 from_between) is.3, tree_has high (drop 1 from_and) is.5)
+
+-- ---- the sides
+
+none_there : false ≡ true → ⊥
+none_there is = absurd cc
+
+fits : (z : ℤ) → IsSpan z → FitsSigned w64 z
+fits (pos m) is = record { sfits = grind (arith, ints, is.1) }
+fits (negsuc m) is = absurd (grind (arith, ints, is.0))
+
+fits_below : (z : ℤ) → IsSpan z → FitsSigned w64 (neg_ℤ z)
+fits_below z is = record { sfits = grind (arith, ints, is.0, is.1) }
+
+taken : (span : ℤ) → IsSpan span → int_wrapping_neg w64 span ≤ℤ pos 0
+taken span is =
+    subst (λ (z : ℤ). z ≤ℤ pos 0) (sym (wrapping_neg_is w64 span (fits span is) ∙ int_wrap_fits w64 (neg_ℤ span) (fits_below span is))) (grind (arith, ints, is.0))
+
+put : (span : ℤ) → IsSpan span → pos 0 ≤ℤ span
+put span is = grind (arith, ints, is.0)
+
+no_low : pos 0 ≤ℤ pos 0
+no_low = grind (arith, ints)
+
+subtracted : (b : Expr) → HasSpans b → or_none (shift_of op.Subtract b) ≤ℤ pos 0
+unfolding shift_of
+subtracted (expr.Interval span at) has = taken span.micros has
+subtracted _ has = no_low
+
+added : (b : Expr) → HasSpans b → pos 0 ≤ℤ or_none (shift_of op.Add b)
+unfolding shift_of
+added (expr.Interval span at) has = put span.micros has
+added _ has = no_low
+
+low_by : (a b : Expr) (o : BinaryOp) → HasSpans b → is_there (if_so (is_edge edge.Low o && is_interval b) (bare_column a)) ≡ true → or_none (shift_of o b) ≤ℤ pos 0
+low_by a b op.Subtract has there = subtracted b has
+low_by a b _ has there = absurd (none_there there)
+
+high_by : (a b : Expr) (o : BinaryOp) → HasSpans b → is_there (if_so (is_edge edge.High o && is_interval b) (bare_column a)) ≡ true → pos 0 ≤ℤ or_none (shift_of o b)
+high_by a b op.Add has there = added b has
+high_by a b _ has there = absurd (none_there there)
+
+low_side : (e : Expr) → HasSpans e → is_there (low_column e) ≡ true → span_of e ≤ℤ pos 0
+unfolding edge_column span_of
+low_side (expr.Binary' left_at p (only a) o at right_at q (only b)) has there = low_by a b o has.1 there
+low_side _ has there = no_low
+
+high_side : (e : Expr) → HasSpans e → is_there (high_column e) ≡ true → pos 0 ≤ℤ span_of e
+unfolding edge_column span_of
+high_side (expr.Binary' left_at p (only a) o at right_at q (only b)) has there = high_by a b o has.1 there
+high_side _ has there = no_low
+
+sides_there : (scope : Scope) (r low high : Option Spot) → are_bound scope r low high ≡ true → (is_there low ≡ true) × (is_there high ≡ true)
+sides_there scope (Some r) (Some low) (Some high) is = (refl, refl)
+sides_there scope (Some r) (Some low) None is = absurd cc
+sides_there scope (Some r) None high is = absurd cc
+sides_there scope None low high is = absurd cc
+
+column_there : (scope : Scope) (o : Option ColumnRef) → is_there (looked scope o) ≡ true → is_there o ≡ true
+column_there scope None is = is
+column_there scope (Some column) is = refl
+
+bound_lies : (names rows : Scope) (a b c : Expr) → HasSpans b → HasSpans c → is_bound rows a b c ≡ true → LiesAround (bound_by names a b c)
+bound_lies names rows a b c low high is =
+    let there = sides_there rows (looked rows (bare_column a)) (looked rows (low_column b)) (looked rows (high_column c)) is in
+    record {
+      lo = low_side b low (column_there rows (low_column b) there.0);
+      hi = high_side c high (column_there rows (high_column c) there.1);
+    }
+
+-- ---- the parts of ON
+
+-- each has a type, and its spans are spans
+abbrev IsPart : Scope → Conjunct → Type 0
+IsPart scope part = (is_there (kind scope within.Row part.value) ≡ true) × HasSpans part.value
+
+all_both : {A : Type 0} (P : A → Type 0) (xs ys : List A) → AllByRecursion P xs → AllByRecursion P ys → AllByRecursion P (xs ++ ys)
+all_both P [] ys one two = two
+all_both P (x ∷ xs) ys one two = (one.0, all_both P xs ys one.1 two)
+
+and_kinds : (a b : Option ColType) → is_there (of_one (λ pair. operator_kind (operands_of op.And) pair.0 pair.1) (together a b)) ≡ true → (is_there a ≡ true) × (is_there b ≡ true)
+and_kinds (Some a) (Some b) is = (refl, refl)
+and_kinds (Some a) None is = absurd (none_there is)
+and_kinds None b is = absurd (none_there is)
+
+between_kinds : (a b c : Option ColType) → is_there (of_one (λ triple. between_kind triple.0.0 triple.0.1 triple.1) (together (together a b) c)) ≡ true → (is_there a && is_there b && is_there c) ≡ true
+between_kinds (Some a) (Some b) (Some c) is = refl
+between_kinds (Some a) (Some b) None is = absurd (none_there is)
+between_kinds (Some a) None c is = absurd (none_there is)
+between_kinds None b c is = absurd (none_there is)
+
+module _ (rows : Scope) where
+  both_typed : (a b : Expr) (o : BinaryOp) (left_at at right_at : ℕ) → is_and o ≡ true → is_there (kind rows within.Row (expr.Binary' left_at tt (only a) o at right_at tt (only b))) ≡ true
+      → (is_there (kind rows within.Row a) ≡ true) × (is_there (kind rows within.Row b) ≡ true)
+  unfolding kind
+  both_typed a b op.And left_at at right_at joins is = and_kinds (kind rows within.Row a) (kind rows within.Row b) is
+  both_typed a b _ left_at at right_at joins is = absurd cc
+
+  parts_are : (at : ℕ) (e : Expr) → is_there (kind rows within.Row e) ≡ true → HasSpans e → AllByRecursion (IsPart rows) (conjuncts at e)
+  unfolding conjuncts
+  parts_are at (expr.Binary' left_at p (only a) o own right_at q (only b)) is has =
+      by (is_and o) refl (λ typed. parts_are left_at a typed has.0) (λ typed. parts_are right_at b typed has.1)
+    where
+      whole : Expr
+      whole = expr.Binary' left_at p (only a) o own right_at q (only b)
+
+      by : (joins : Bool) → is_and o ≡ joins
+          → (is_there (kind rows within.Row a) ≡ true → AllByRecursion (IsPart rows) (conjuncts left_at a))
+          → (is_there (kind rows within.Row b) ≡ true → AllByRecursion (IsPart rows) (conjuncts right_at b))
+          → AllByRecursion (IsPart rows) (if joins then conjuncts left_at a ++ conjuncts right_at b else record { at = at; value = whole } ∷ [])
+      by true joins left right =
+          let typed = both_typed a b o left_at own right_at joins is in
+          all_both (IsPart rows) (conjuncts left_at a) (conjuncts right_at b) (left typed.0) (right typed.1)
+      by false joins left right = ((is, has), tt)
+  parts_are at (expr.Number n own) is has = ((is, has), tt)
+  parts_are at (expr.Text text own) is has = ((is, has), tt)
+  parts_are at (expr.Truth truth own) is has = ((is, has), tt)
+  parts_are at (expr.Timestamp moment own) is has = ((is, has), tt)
+  parts_are at (expr.Interval span own) is has = ((is, has), tt)
+  parts_are at (expr.Column column) is has = ((is, has), tt)
+  parts_are at (expr.CountRows own) is has = ((is, has), tt)
+  parts_are at (expr.Aggregate' f own p (only x)) is has = ((is, has), tt)
+  parts_are at (expr.Unary' o own p (only x)) is has = ((is, has), tt)
+  parts_are at (expr.IsNull' p (only x) own test) is has = ((is, has), tt)
+  parts_are at (expr.Between' p (only a) own q (only b) r (only c)) is has = ((is, has), tt)
+
+  unbroken_bound : (at : ℕ) (is_bound is_typed : Bool) → is_typed ≡ true → AreNone (Rule cause.BadBound at (((false || not is_bound) && is_typed) ≡ true)) → is_bound ≡ true
+  unbroken_bound at true is_typed typed none = refl
+  unbroken_bound at false is_typed typed none = absurd (none cause.BadBound at (refl, refl, typed))
+
+  between_typed : (a b c : Expr) (at : ℕ) → is_there (kind rows within.Row (expr.Between' tt (only a) at tt (only b) tt (only c))) ≡ true → are_typed rows a b c ≡ true
+  unfolding kind
+  between_typed a b c at is = between_kinds (kind rows within.Row a) (kind rows within.Row b) (kind rows within.Row c) is
+
+  -- what is bound of a part, and of those behind it
+  abbrev FirstLies : Context → List Expr → Type 0
+  FirstLies context es = IfSome (slice_get (flat_map (bounds_in context) es) 0) LiesAround
+
+  -- a BETWEEN that may stand there is the bound; else the first behind it is
+  value_lies : (context : Context) (value : Expr) (parts : List Conjunct) → is_there (kind rows within.Row value) ≡ true → HasSpans value → AreNone (BoundRule (between_at value) (is_misplaced rows false value))
+      → AreNone (BoundFaults rows (seen_by (between_at value) false) parts) → (AreNone (BoundFaults rows false parts) → FirstLies context (map value_in parts)) → FirstLies context (value ∷ map value_in parts)
+  unfolding time_bound between_at is_misplaced
+  value_lies context (expr.Between' p (only a) at q (only b) r (only c)) parts is has here more behind =
+      bound_lies context.scope rows a b c has.1 has.2 (unbroken_bound at (is_bound rows a b c) (are_typed rows a b c) (between_typed a b c at is) here)
+  value_lies context _ parts is has here more behind = behind more
+
+  first_lies : (context : Context) (parts : List Conjunct) → AllByRecursion (IsPart rows) parts → AreNone (BoundFaults rows false parts) → FirstLies context (map value_in parts)
+  unfolding BoundFaults
+  first_lies context [] all none = tt
+  first_lies context (part ∷ parts) all none =
+      value_lies context part.value parts all.0.0 all.0.1 (λ c at is. none c at (inl is)) (λ c at is. none c at (inr is)) (first_lies context parts all.1)
+
+-- ---- the whole
+
+some_there : (o : Option ColType) (own : ColType) → o ≡ Some own → is_there o ≡ true
+some_there o own is = ap is_there is
+
+kept_has : (query : Query) (join : Option Join) (deduplicate : Option Deduplicate) → IfSome join (IsSoundJoin (row_scope query) query.select.from.text) → IfSome join (λ (own : Join). HasSpans own.on.value)
+    → HasTimeBoundBy (kept_by (context_of query) join deduplicate)
+kept_has query (Some join) deduplicate sound spans =
+    let parts : List Conjunct = conjuncts join.on.at join.on.value in
+    let own = first_lies (row_scope query) (context_of query) parts (parts_are (row_scope query) join.on.at join.on.value (some_there _ _ sound.condition) spans) sound.bound in
+    subst (λ (es : List Expr). IfSome (slice_get (flat_map (bounds_in (context_of query)) es) 0) LiesAround) (values_are join.on.at join.on.value) own
+kept_has query None (Some deduplicate) sound spans = tt
+kept_has query None None sound spans = tt
+
+either_has : (b : Bool) (grouping : Grouping) (kept : Shape) → HasTimeBoundBy kept → HasTimeBoundBy (if b then shape.Group grouping else kept)
+either_has true grouping kept has = tt
+either_has false grouping kept has = has
+
+query_has : (query : Query) → IfSome query.select.join (λ (own : Join). HasSpans own.on.value) → IsSound query → HasTimeBound (bound_of query)
+unfolding bound_of shape_of
+query_has query spans sound =
+    either_has (is_group query) (grouping_of query) (kept_by (context_of query) query.select.join query.select.deduplicate)
+    (kept_has query query.select.join query.select.deduplicate sound.join spans)
+
+written_on : (join : Option WrittenJoin) (places : List ℕ) → IfSome join (λ (own : WrittenJoin). IsFit own.on) → IfSome (option_map (λ own. join_tree own places) join) (λ (own : Join). HasSpans own.on.value)
+written_on None places is = tt
+written_on (Some join) places is = tree_has join.on (drop 1 (drop 2 (behind (kind_words join.kind join.has_word) places))) is.regular
+
+-- the places from JOIN on
+abbrev from_join : WrittenSelect → List ℕ → List ℕ
+from_join select places = drop 2 (behind (separated (map item_words select.items)) (behind (distinct_words select.distinct) (drop 1 places)))
+
+written_query : (query : WrittenQuery) (places : List ℕ) → IsRegularQuery query → IfSome (query_tree query places).select.join (λ (own : Join). HasSpans own.on.value)
+written_query query places is = written_on query.select.join (from_join query.select (behind (flat_map declared_words query.streams) places)) is.select.on
+
+pub time_bounds_lie_around : TimeBoundsLieAround
+time_bounds_lie_around query none tokens is =
+    query_has query (subst (λ (made : Query). IfSome made.select.join (λ (own : Join). HasSpans own.on.value)) is.meant (written_query is.written (map (λ token. token.start) tokens) is.regular)) (sound_where_none query none)
+
+-- the same of an equal bound query
+pub time_bound_if_written : (query : Query) (bound : Bound) → bound ≡ bound_of query → AreNone (QueryFaults query) → HasTimeBoundIfWritten query bound
+time_bound_if_written query bound is none tokens written = subst HasTimeBound (sym is) (time_bounds_lie_around query none tokens written)
