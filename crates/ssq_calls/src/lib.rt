@@ -5,6 +5,8 @@
 #[cfg(test)]
 mod field;
 #[cfg(test)]
+mod generated;
+#[cfg(test)]
 mod lex;
 #[cfg(test)]
 mod parse;

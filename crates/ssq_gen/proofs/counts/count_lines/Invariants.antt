@@ -1,0 +1,10 @@
+use Rattle.std.proofs.Common.{length}
+use Rattle.ssq_gen.proofs.Reading.{AreLeftOf}
+use Rattle.ssq_gen.proofs.counts.count_lines.Given as goal
+
+-- of any rows that the bytes are, some are counted, and what is left is the lines of the others
+abbrev pub invariant-loop-rest : goal.invariant-loop-rest
+invariant-loop-rest l = AreLeftOf l.heads l.kinds l.bytes l.rest l.counts
+
+abbrev pub decreases-loop-rest : goal.decreases-loop-rest
+decreases-loop-rest l = length l.rest
