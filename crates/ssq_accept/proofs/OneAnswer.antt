@@ -2,7 +2,6 @@
 use Rattle.std.proofs.Common.{◌≡◌, ◌∙◌, inl, inr, ⊎_elim, ap, sym, refl, subst, ℕ, ◌<◌, true, false, arith, List, Result, Ok, Err}
 use Rattle.std.specs.Prelude.{nat_eq, if◌then◌else◌}
 use Rattle.std.proofs.lemmas.Bool.{cases_lt}
-use Rattle.ssq_accept.specs.declared.refusal.LaterShape.{LaterShape}
 use Rattle.ssq_accept.specs.declared.refusal.Refusal.TheVariants as refusal
 use Rattle.ssq_ast.specs.declared.query.Query.{Query}
 use Rattle.ssq_bind.specs.Bound.{bound_of}
@@ -18,9 +17,7 @@ use Rattle.ssq_modes.specs.Modes.{applies}
 use Rattle.ssq_parse.specs.declared.fault.ParseCause.{ParseCause}
 use Rattle.ssq_parse.specs.File.{Fault, query_of}
 use Rattle.ssq_shape.specs.declared.bound.Bound.{Bound}
-use Rattle.ssq_shape.specs.declared.bound.Shape.{Shape}
-use Rattle.ssq_shape.specs.declared.bound.Shape.TheVariants as shape
-use Rattle.ssq_accept.specs.Accepting.{IsRead, HasFault, Breaks, Forbids, MayRun, Runs, Keeps, IsBroken, IsForbidden, IsNotYet, AcceptedAreTaken, KnownAreTaken, AreRefusedAlike}
+use Rattle.ssq_accept.specs.Accepting.{IsRead, HasFault, Breaks, Forbids, MayRun, IsBroken, IsForbidden, AcceptedAreTaken, KnownAreTaken, AreRefusedAlike}
 
 ok_same : (found : Result Query Fault) (x y : Query) → found ≡ Ok x → found ≡ Ok y → y ≡ x
 ok_same found x y is also = cc
@@ -44,20 +41,12 @@ no_forbidden bound fault may forbids = apart (sym forbids.stands ∙ may fault)
     apart : true ≡ false → ⊥
     apart same = absurd cc
 
-not_later : (s : Shape) (own : LaterShape) → Runs s → Keeps s own → ⊥
-not_later shape.Plain own runs keeps = keeps
-not_later (shape.Group grouping) own runs keeps = keeps
-not_later (shape.Dedup columns) own runs keeps = keeps
-not_later (shape.Join joining) own runs keeps = runs
-
 pub accepted_are_taken : AcceptedAreTaken
 accepted_are_taken file query bound (refusal.Parse at cause) is why = absurd (no_fault file query at cause is.read why)
 accepted_are_taken file query bound (refusal.Bind fault) is why =
     absurd (no_broken query fault is.names.unbroken (subst (λ (q : Query). Breaks q fault) (one_query file query why.query is.read why.read) why.breaks))
 accepted_are_taken file query bound (refusal.Mode fault) is why =
     absurd (no_forbidden bound fault is.may_run (subst (λ (b : Bound). Forbids b fault) (ap bound_of (one_query file query why.query is.read why.read) ∙ sym is.names.is) why.forbids))
-accepted_are_taken file query bound (refusal.NotYet own) is why =
-    absurd (not_later bound.shape own is.shape (subst (λ (b : Bound). Keeps b.shape own) (ap bound_of (one_query file query why.query is.read why.read) ∙ sym is.names.is) why.keeps))
 accepted_are_taken file query bound refusal.NoMemory is why = refl
 
 pub known_are_taken : KnownAreTaken
@@ -66,7 +55,6 @@ known_are_taken file query bound (refusal.Bind fault) is why =
     absurd (no_broken query fault is.allowed.names.unbroken (subst (λ (q : Query). Breaks q fault) (one_query file query why.query is.read why.read) why.breaks))
 known_are_taken file query bound (refusal.Mode fault) is why =
     absurd (no_forbidden bound fault is.allowed.may_run (subst (λ (b : Bound). Forbids b fault) (ap bound_of (one_query file query why.query is.read why.read) ∙ sym is.allowed.names.is) why.forbids))
-known_are_taken file query bound (refusal.NotYet own) is why = absurd why
 known_are_taken file query bound refusal.NoMemory is why = refl
 
 -- ---- two refusals
@@ -148,12 +136,6 @@ one_forbidden bound f g is also = sym (fault_is f) ∙ ap fault_at ranks ∙ fau
     ranks : modes.rank f ≡ modes.rank g
     ranks = neither (modes.rank f) (modes.rank g) (λ less. apart (sym is.stands ∙ also.first f less)) (λ more. apart (sym also.stands ∙ is.first g more))
 
-one_kept : (s : Shape) (own other : LaterShape) → Keeps s own → Keeps s other → own ≡ other
-one_kept shape.Plain own other is also = absurd is
-one_kept (shape.Group grouping) own other is also = absurd is
-one_kept (shape.Dedup columns) own other is also = absurd is
-one_kept (shape.Join joining) own other is also = is ∙ sym also
-
 fault_same : (found : Result Query Fault) (x y : Fault) → found ≡ Err x → found ≡ Err y → x ≡ y
 fault_same found x y is also = cc
 
@@ -167,20 +149,11 @@ module _ (file : List ℕ) where
   broken_or_forbidden : (f : BindFault) (g : ModeFault) → IsBroken file f → IsForbidden file g → ⊥
   broken_or_forbidden f g is also = no_broken also.query f also.unbroken (subst (λ (q : Query). Breaks q f) (one_query file also.query is.query also.read is.read) is.breaks)
 
-  broken_or_later : (f : BindFault) (own : LaterShape) → IsBroken file f → IsNotYet file own → ⊥
-  broken_or_later f own is also = no_broken also.query f also.unbroken (subst (λ (q : Query). Breaks q f) (one_query file also.query is.query also.read is.read) is.breaks)
-
-  forbidden_or_later : (f : ModeFault) (own : LaterShape) → IsForbidden file f → IsNotYet file own → ⊥
-  forbidden_or_later f own is also = no_forbidden (bound_of also.query) f also.may_run (subst (λ (q : Query). Forbids (bound_of q) f) (one_query file also.query is.query also.read is.read) is.forbids)
-
   alike_broken : (f g : BindFault) → IsBroken file f → IsBroken file g → refusal.Bind f ≡ refusal.Bind g
   alike_broken f g is also = ap refusal.Bind (one_broken also.query f g (subst (λ (q : Query). Breaks q f) (one_query file also.query is.query also.read is.read) is.breaks) also.breaks)
 
   alike_forbidden : (f g : ModeFault) → IsForbidden file f → IsForbidden file g → refusal.Mode f ≡ refusal.Mode g
   alike_forbidden f g is also = ap refusal.Mode (one_forbidden (bound_of also.query) f g (subst (λ (q : Query). Forbids (bound_of q) f) (one_query file also.query is.query also.read is.read) is.forbids) also.forbids)
-
-  alike_later : (own other : LaterShape) → IsNotYet file own → IsNotYet file other → refusal.NotYet own ≡ refusal.NotYet other
-  alike_later own other is also = ap refusal.NotYet (one_kept (bound_of also.query).shape own other (subst (λ (q : Query). Keeps (bound_of q).shape own) (one_query file also.query is.query also.read is.read) is.keeps) also.keeps)
 
 pub are_refused_alike : AreRefusedAlike
 are_refused_alike file refusal.NoMemory other is also = inl refl
@@ -188,19 +161,11 @@ are_refused_alike file (refusal.Parse at c) refusal.NoMemory is also = inr (inl 
 are_refused_alike file (refusal.Parse at c) (refusal.Parse at' c') is also = inr (inr (one_fault file at at' c c' is also))
 are_refused_alike file (refusal.Parse at c) (refusal.Bind g) is also = absurd (fault_or_broken file at c also.query is also.read)
 are_refused_alike file (refusal.Parse at c) (refusal.Mode g) is also = absurd (fault_or_broken file at c also.query is also.read)
-are_refused_alike file (refusal.Parse at c) (refusal.NotYet g) is also = absurd (fault_or_broken file at c also.query is also.read)
 are_refused_alike file (refusal.Bind f) refusal.NoMemory is also = inr (inl refl)
 are_refused_alike file (refusal.Bind f) (refusal.Parse at c) is also = absurd (fault_or_broken file at c is.query also is.read)
 are_refused_alike file (refusal.Bind f) (refusal.Bind g) is also = inr (inr (alike_broken file f g is also))
 are_refused_alike file (refusal.Bind f) (refusal.Mode g) is also = absurd (broken_or_forbidden file f g is also)
-are_refused_alike file (refusal.Bind f) (refusal.NotYet g) is also = absurd (broken_or_later file f g is also)
 are_refused_alike file (refusal.Mode f) refusal.NoMemory is also = inr (inl refl)
 are_refused_alike file (refusal.Mode f) (refusal.Parse at c) is also = absurd (fault_or_broken file at c is.query also is.read)
 are_refused_alike file (refusal.Mode f) (refusal.Bind g) is also = absurd (broken_or_forbidden file g f also is)
 are_refused_alike file (refusal.Mode f) (refusal.Mode g) is also = inr (inr (alike_forbidden file f g is also))
-are_refused_alike file (refusal.Mode f) (refusal.NotYet g) is also = absurd (forbidden_or_later file f g is also)
-are_refused_alike file (refusal.NotYet f) refusal.NoMemory is also = inr (inl refl)
-are_refused_alike file (refusal.NotYet f) (refusal.Parse at c) is also = absurd (fault_or_broken file at c is.query also is.read)
-are_refused_alike file (refusal.NotYet f) (refusal.Bind g) is also = absurd (broken_or_later file g f also is)
-are_refused_alike file (refusal.NotYet f) (refusal.Mode g) is also = absurd (forbidden_or_later file g f also is)
-are_refused_alike file (refusal.NotYet f) (refusal.NotYet g) is also = inr (inr (alike_later file f g is also))

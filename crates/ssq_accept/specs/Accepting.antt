@@ -1,9 +1,7 @@
 -- Which query files are accepted, and why others are refused: a file is a query or not, its query breaks a rule of binding
--- or not, it may run in its mode or not, and its shape is run now or not. The first of these that refuses is told.
+-- or not, and it may run in its mode or not. The first of these that refuses is told.
 use Rattle.std.specs.Prelude.{◌≡◌, ◌⊎◌, ℕ, List, Ok, Err}
 use Rattle.std.specs.List.{All}
-use Rattle.ssq_accept.specs.declared.refusal.LaterShape.{LaterShape}
-use Rattle.ssq_accept.specs.declared.refusal.LaterShape.TheVariants as later
 use Rattle.ssq_accept.specs.declared.refusal.Refusal.{Refusal}
 use Rattle.ssq_accept.specs.declared.refusal.Refusal.TheVariants as refusal
 use Rattle.ssq_ast.specs.declared.query.Query.{Query}
@@ -11,6 +9,7 @@ use Rattle.ssq_bind.specs.Bound.{bound_of}
 use Rattle.ssq_bind.specs.Delays.{HasSpan}
 use Rattle.ssq_bind.specs.Limits.{HasLimits}
 use Rattle.ssq_bind.specs.Sound.{IsSoundBound}
+use Rattle.ssq_bind.specs.TimeBounds.{HasTimeBound}
 use Rattle.ssq_check.specs.declared.fault.BindFault.{BindFault}
 use Rattle.ssq_check.specs.Fault as rule
 use Rattle.ssq_check.specs.Fault.{AreNone}
@@ -21,8 +20,6 @@ use Rattle.ssq_modes.specs.Modes.{AppliesNone}
 use Rattle.ssq_parse.specs.declared.fault.ParseCause.{ParseCause}
 use Rattle.ssq_parse.specs.File.{query_of, IsQuery}
 use Rattle.ssq_shape.specs.declared.bound.Bound.{Bound}
-use Rattle.ssq_shape.specs.declared.bound.Shape.{Shape}
-use Rattle.ssq_shape.specs.declared.bound.Shape.TheVariants as shape
 use Rattle.ssq_shape.specs.Windows.{HasWindows}
 
 -- ---- a file is a query
@@ -40,7 +37,6 @@ abbrev pub IsNoQuery : List ℕ → Refusal → Type 0
 IsNoQuery file (refusal.Parse at cause) = HasFault file at cause
 IsNoQuery file (refusal.Bind fault) = ⊥
 IsNoQuery file (refusal.Mode fault) = ⊥
-IsNoQuery file (refusal.NotYet own) = ⊥
 IsNoQuery file refusal.NoMemory = Unit {0}
 
 -- ---- a query is bound
@@ -60,7 +56,6 @@ abbrev pub IsUnbound : Query → Refusal → Type 0
 IsUnbound query (refusal.Parse at cause) = ⊥
 IsUnbound query (refusal.Bind fault) = Breaks query fault
 IsUnbound query (refusal.Mode fault) = ⊥
-IsUnbound query (refusal.NotYet own) = ⊥
 IsUnbound query refusal.NoMemory = Unit {0}
 
 -- ---- a bound query may run in its mode
@@ -77,61 +72,9 @@ abbrev pub MayNotRun : Bound → Refusal → Type 0
 MayNotRun bound (refusal.Parse at cause) = ⊥
 MayNotRun bound (refusal.Bind fault) = ⊥
 MayNotRun bound (refusal.Mode fault) = Forbids bound fault
-MayNotRun bound (refusal.NotYet own) = ⊥
 MayNotRun bound refusal.NoMemory = ⊥
 
--- ---- a query that joins is not run yet
-
--- the shapes that are run: a query that keeps nothing, one that groups its rows, and one that deduplicates them
-abbrev pub Runs : Shape → Type 0
-Runs shape.Plain = Unit {0}
-Runs (shape.Group grouping) = Unit {0}
-Runs (shape.Dedup columns) = Unit {0}
-Runs (shape.Join joining) = ⊥
-
--- what a query of another shape keeps
-abbrev pub Keeps : Shape → LaterShape → Type 0
-Keeps shape.Plain own = ⊥
-Keeps (shape.Group grouping) own = ⊥
-Keeps (shape.Dedup columns) own = ⊥
-Keeps (shape.Join joining) own = own ≡ later.Join
-
-abbrev pub IsLater : Shape → Refusal → Type 0
-IsLater kept (refusal.Parse at cause) = ⊥
-IsLater kept (refusal.Bind fault) = ⊥
-IsLater kept (refusal.Mode fault) = ⊥
-IsLater kept (refusal.NotYet own) = Keeps kept own
-IsLater kept refusal.NoMemory = ⊥
-
--- ---- a bound query is run
-
--- no rule of modes forbids it, and its shape is one that is run
-pub record IsRun (bound : Bound) : Type 0 where
-  pub may_run : MayRun bound
-  pub shape : Runs bound.shape
-
--- a rule of modes forbids it; or none does, and it keeps what is not run yet
-abbrev pub IsHeld : Bound → Refusal → Type 0
-IsHeld bound (refusal.Parse at cause) = ⊥
-IsHeld bound (refusal.Bind fault) = ⊥
-IsHeld bound (refusal.Mode fault) = Forbids bound fault
-IsHeld bound (refusal.NotYet own) = MayRun bound × Keeps bound.shape own
-IsHeld bound refusal.NoMemory = ⊥
-
--- the query breaks no rule of binding, and what it is bound to is run
-pub record IsTaken (query : Query) (bound : Bound) : Type 0 where
-  pub names : IsBoundAs query bound
-  pub run : IsRun bound
-
--- the query breaks a rule of binding; or it breaks none, and what it is bound to is not run
-abbrev pub IsStopped : Query → Refusal → Type 0
-IsStopped query (refusal.Parse at cause) = ⊥
-IsStopped query (refusal.Bind fault) = Breaks query fault
-IsStopped query (refusal.Mode fault) = AreNone (QueryFaults query) × Forbids (bound_of query) fault
-IsStopped query (refusal.NotYet own) = AreNone (QueryFaults query) × MayRun (bound_of query) × Keeps (bound_of query).shape own
-IsStopped query refusal.NoMemory = Unit {0}
-
--- ---- a query that is known, whether or not what it keeps is run yet
+-- ---- a query is bound, and may run in its mode
 
 -- the query breaks no rule of binding, and no rule of modes forbids what it is bound to
 pub record IsAllowed (query : Query) (bound : Bound) : Type 0 where
@@ -143,7 +86,6 @@ abbrev pub IsNotAllowed : Query → Refusal → Type 0
 IsNotAllowed query (refusal.Parse at cause) = ⊥
 IsNotAllowed query (refusal.Bind fault) = Breaks query fault
 IsNotAllowed query (refusal.Mode fault) = AreNone (QueryFaults query) × Forbids (bound_of query) fault
-IsNotAllowed query (refusal.NotYet own) = ⊥
 IsNotAllowed query refusal.NoMemory = Unit {0}
 
 -- The file is this query, written by the grammar; it breaks no rule of binding, and no rule of modes forbids it. So it
@@ -155,17 +97,17 @@ pub record IsKnown (file : List ℕ) (query : Query) (bound : Bound) : Type 0 wh
 
 -- ---- the whole
 
--- The file is this query, written by the grammar; it breaks no rule of binding, no rule of modes forbids it, and it keeps
--- nothing, or groups its rows by at most 64 keys and with at most 64 aggregates, or deduplicates them by at most 64 columns. So it reads one stream or two, whose delays
--- are 1 second to 366 days long, an event column stands only with a delay, its windows fit as those of a query that is
--- known, and the canonical text is UTF-8 of a length of 64 bits.
+-- The file is this query, written by the grammar; it breaks no rule of binding, and no rule of modes forbids it. So it keeps nothing, or groups its
+-- rows by at most 64 keys and with at most 64 aggregates, or deduplicates them by at most 64 columns, or joins them by at most 64 key equalities and
+-- with a bound, if it has one, that lies around the left row's time. It reads one stream or two, whose delays are 1 second to 366 days long, an
+-- event column stands only with a delay, its windows fit as those of a query that is known, and the canonical text is UTF-8 of a length of 64 bits.
 pub record IsAccepted (file : List ℕ) (query : Query) (bound : Bound) : Type 0 where
   pub read : IsRead file query
   pub names : IsBoundAs query bound
   pub may_run : MayRun bound
-  pub shape : Runs bound.shape
   pub delays : All HasSpan bound.streams
   pub windows : HasWindows bound
+  pub time_bound : HasTimeBound bound
 
 -- the query breaks a rule, and this is the first of them
 pub record IsBroken (file : List ℕ) (fault : BindFault) : Type 0 where
@@ -180,20 +122,11 @@ pub record IsForbidden (file : List ℕ) (fault : ModeFault) : Type 0 where
   pub unbroken : AreNone (QueryFaults query)
   pub forbids : Forbids (bound_of query) fault
 
--- the query breaks no rule and may run in its mode, and keeps what is not run yet
-pub record IsNotYet (file : List ℕ) (own : LaterShape) : Type 0 where
-  pub query : Query
-  pub read : IsRead file query
-  pub unbroken : AreNone (QueryFaults query)
-  pub may_run : MayRun (bound_of query)
-  pub keeps : Keeps (bound_of query).shape own
-
 -- the first step that refuses the file, where all steps before it take it; or want of memory
 abbrev pub IsRefused : List ℕ → Refusal → Type 0
 IsRefused file (refusal.Parse at cause) = HasFault file at cause
 IsRefused file (refusal.Bind fault) = IsBroken file fault
 IsRefused file (refusal.Mode fault) = IsForbidden file fault
-IsRefused file (refusal.NotYet own) = IsNotYet file own
 IsRefused file refusal.NoMemory = Unit {0}
 
 -- the same of a file that is only to be known
@@ -201,7 +134,6 @@ abbrev pub IsUnknown : List ℕ → Refusal → Type 0
 IsUnknown file (refusal.Parse at cause) = HasFault file at cause
 IsUnknown file (refusal.Bind fault) = IsBroken file fault
 IsUnknown file (refusal.Mode fault) = IsForbidden file fault
-IsUnknown file (refusal.NotYet own) = ⊥
 IsUnknown file refusal.NoMemory = Unit {0}
 
 -- ---- a file has one answer

@@ -1,7 +1,5 @@
 -- How refusals are told.
 use Rattle.std.specs.Prelude.{ℕ, ◌++◌, List, codes, decimal}
-use Rattle.ssq_accept.specs.declared.refusal.LaterShape.{LaterShape}
-use Rattle.ssq_accept.specs.declared.refusal.LaterShape.TheVariants as later
 use Rattle.ssq_accept.specs.declared.refusal.Refusal.{Refusal}
 use Rattle.ssq_accept.specs.declared.refusal.Refusal.TheVariants as refusal
 use Rattle.ssq_check.specs.declared.fault.Cause.{Cause}
@@ -45,13 +43,9 @@ mode_name mode.SortNeedsComplete = codes "SortNeedsComplete"
 mode_name mode.HavingInUpdate = codes "HavingInUpdate"
 mode_name mode.KeyNotShown = codes "KeyNotShown"
 
-abbrev pub shape_name : LaterShape → List ℕ
-shape_name later.Join = codes "Join"
-
 -- a cause and its place, in bytes; of modes the cause alone
 abbrev pub refusal_text : Refusal → List ℕ
 refusal_text (refusal.Parse at own) = parse_name own ++ (codes " at " ++ decimal at)
 refusal_text (refusal.Bind fault) = rule_name fault.cause ++ (codes " at " ++ decimal fault.at)
 refusal_text (refusal.Mode fault) = mode_name fault
-refusal_text (refusal.NotYet shape) = codes "NotYet " ++ shape_name shape
 refusal_text refusal.NoMemory = codes "NoMemory"

@@ -7,5 +7,5 @@
 mod refusal;
 mod steps;
 
-pub use refusal::{LaterShape, Refusal};
+pub use refusal::Refusal;
 pub use steps::{Accepted, accept, files_have_one_answer, recognise};

@@ -1,18 +1,12 @@
 //! Why a query file is not run.
 
 ghost use Rattle.std.specs.Prelude.{◌≡◌};
-ghost use Rattle.ssq_accept.specs.Refusals.{parse_name, rule_name, mode_name, shape_name};
+ghost use Rattle.ssq_accept.specs.Refusals.{parse_name, rule_name, mode_name};
 
 use ssq_check::{BindFault, Cause};
 use ssq_modes::ModeFault;
 use ssq_parse::ParseCause;
 use std::fmt;
-
-/// What a query keeps, where that is not run yet.
-#[derive(Clone, Copy, Debug, PartialEq, Eq)]
-pub enum LaterShape {
-    Join,
-}
 
 /// Why a query file is not run: the first of the steps that refuses it. Shown as what is told of it.
 #[derive(Clone, Copy, Debug, PartialEq, Eq)]
@@ -23,8 +17,6 @@ pub enum Refusal {
     Bind(BindFault),
     /// The query may not run in its mode: the first rule of modes that forbids it.
     Mode(ModeFault),
-    /// What the query keeps is not run yet.
-    NotYet(LaterShape),
     NoMemory,
 }
 
@@ -77,15 +69,7 @@ fn mode_name(fault: ModeFault) -> &'static str
     }
 }
 
-fn shape_name(shape: LaterShape) -> &'static str
-    ensures { result.now ≡ shape_name shape }
-{
-    match shape {
-        LaterShape::Join => "Join",
-    }
-}
-
-/// A cause with its place, a rule of modes, or what is not run yet.
+/// A cause with its place, or a rule of modes.
 impl fmt::Display for Refusal {
     ghost use Rattle.std.specs.Prelude.{Some};
     ghost use Rattle.ssq_accept.specs.Refusals.{refusal_text};
@@ -97,7 +81,6 @@ impl fmt::Display for Refusal {
             Refusal::Parse { at, cause } => write!(f, "{} at {at}", parse_name(*cause)),
             Refusal::Bind(fault) => write!(f, "{} at {}", rule_name(fault.cause), fault.at),
             Refusal::Mode(fault) => write!(f, "{}", mode_name(*fault)),
-            Refusal::NotYet(shape) => write!(f, "NotYet {}", shape_name(*shape)),
             Refusal::NoMemory => write!(f, "NoMemory"),
         }
     }

@@ -1,16 +1,16 @@
 //! The steps from the bytes of a query file to the query as it is run.
 
 ghost use Rattle.std.specs.Prelude.{IfOk, IfErr, OnOk};
-ghost use Rattle.ssq_accept.specs.Accepting.{IsRead, IsNoQuery, IsBoundAs, IsUnbound, MayRun, MayNotRun, Runs, IsLater, IsRun, IsHeld, IsTaken, IsStopped, IsAccepted, IsRefused, IsAllowed, IsNotAllowed, IsKnown, IsUnknown, AcceptedAreTaken, KnownAreTaken, AreRefusedAlike};
+ghost use Rattle.ssq_accept.specs.Accepting.{IsRead, IsNoQuery, IsBoundAs, IsUnbound, MayRun, MayNotRun, IsAccepted, IsRefused, IsAllowed, IsNotAllowed, IsKnown, IsUnknown, AcceptedAreTaken, KnownAreTaken, AreRefusedAlike};
 
-use crate::refusal::{LaterShape, Refusal};
+use crate::refusal::Refusal;
 use ssq_ast::Query;
 use ssq_bind::bind;
 use ssq_parse::{ParseFault, parse};
-use ssq_shape::{Bound, Shape};
+use ssq_shape::Bound;
 use std::alloc::Global;
 
-/// A query file that is known, or run.
+/// A query file that is known, or can be run.
 #[derive(Debug, Drop)]
 pub struct Accepted {
     /// The query that the file is.
@@ -51,62 +51,6 @@ fn may_run(bound: &Bound) -> Result<(), Refusal>
     }
 }
 
-fn has_shape(bound: &Bound) -> Result<(), Refusal>
-    ensures taken { OnOk result (Runs bound.now.shape) }
-    ensures refused { IfErr result (IsLater bound.now.shape) }
-{
-    match &bound.shape {
-        Shape::Plain => Ok(()),
-        Shape::Group(_) => Ok(()),
-        Shape::Dedup(_) => Ok(()),
-        Shape::Join(_) => Err(Refusal::NotYet(LaterShape::Join)),
-    }
-}
-
-#[tactic(auto, using(crate::proofs::Refused::mode_holds, crate::proofs::Refused::shape_holds))]
-fn is_run(bound: &Bound) -> Result<(), Refusal>
-    ensures taken { OnOk result (IsRun bound.now) }
-    ensures refused { IfErr result (IsHeld bound.now) }
-{
-    match may_run(bound) {
-        Ok(()) => has_shape(bound),
-        Err(refusal) => Err(refusal),
-    }
-}
-
-#[tactic(auto, using(crate::proofs::Refused::names_stop, crate::proofs::Refused::held_stops))]
-fn taken(alloc: Global, query: &Query) -> Result<Bound, Refusal>
-    ensures taken { IfOk result (IsTaken query.now) }
-    ensures refused { IfErr result (IsStopped query.now) }
-{
-    let bound = bound(alloc, query)?;
-    match is_run(&bound) {
-        Ok(()) => Ok(bound),
-        Err(refusal) => Err(refusal),
-    }
-}
-
-/// The query that a file is, bound, where it is run: it is written by the grammar, breaks no rule of binding, may run in
-/// its mode, and keeps nothing or groups its rows.
-///
-/// # Errors
-///
-/// The first of these steps that refuses it, where all steps before it take it: [`Refusal::Parse`] where the file is no
-/// query, [`Refusal::Bind`] where the query breaks a rule of binding, [`Refusal::Mode`] where it may not run in its mode,
-/// [`Refusal::NotYet`] where it deduplicates or joins, which is not run yet. [`Refusal::NoMemory`] is want of
-/// memory alone.
-#[tactic(auto, using(crate::proofs::Refused::no_query, crate::proofs::Refused::query_stops, crate::proofs::Refused::is_accepted))]
-pub fn accept(alloc: Global, bytes: &[u8]) -> Result<Accepted, Refusal>
-    ensures accepted { IfOk result (λ accepted. IsAccepted bytes.now accepted.query accepted.bound) }
-    ensures refused { IfErr result (IsRefused bytes.now) }
-{
-    let query = read(alloc, bytes)?;
-    match taken(alloc, &query) {
-        Ok(bound) => Ok(Accepted { query, bound }),
-        Err(refusal) => Err(refusal),
-    }
-}
-
 #[tactic(auto, using(crate::proofs::Refused::names_forbid, crate::proofs::Refused::mode_forbids))]
 fn allowed(alloc: Global, query: &Query) -> Result<Bound, Refusal>
     ensures allowed { IfOk result (IsAllowed query.now) }
@@ -119,12 +63,31 @@ fn allowed(alloc: Global, query: &Query) -> Result<Bound, Refusal>
     }
 }
 
-/// The query that a file is, bound, whether or not what it keeps is run yet: it is written by the grammar, breaks no rule of
-/// binding, and may run in its mode.
+/// The query that a file is, bound, where it can be run: it is written by the grammar, breaks no rule of binding, and may run
+/// in its mode.
 ///
 /// # Errors
 ///
-/// As [`accept`], but never [`Refusal::NotYet`].
+/// The first of these steps that refuses it, where all steps before it take it: [`Refusal::Parse`] where the file is no
+/// query, [`Refusal::Bind`] where the query breaks a rule of binding, [`Refusal::Mode`] where it may not run in its mode.
+/// [`Refusal::NoMemory`] is want of memory alone.
+#[tactic(auto, using(crate::proofs::Refused::no_query, crate::proofs::Refused::query_refused, crate::proofs::Refused::is_accepted))]
+pub fn accept(alloc: Global, bytes: &[u8]) -> Result<Accepted, Refusal>
+    ensures accepted { IfOk result (λ accepted. IsAccepted bytes.now accepted.query accepted.bound) }
+    ensures refused { IfErr result (IsRefused bytes.now) }
+{
+    let query = read(alloc, bytes)?;
+    match allowed(alloc, &query) {
+        Ok(bound) => Ok(Accepted { query, bound }),
+        Err(refusal) => Err(refusal),
+    }
+}
+
+/// The query that a file is, bound, where it is only to be told of.
+///
+/// # Errors
+///
+/// As [`accept`].
 #[tactic(auto, using(crate::proofs::Refused::none_known, crate::proofs::Refused::query_unknown, crate::proofs::Refused::is_known))]
 pub fn recognise(alloc: Global, bytes: &[u8]) -> Result<Accepted, Refusal>
     ensures known { IfOk result (λ known. IsKnown bytes.now known.query known.bound) }

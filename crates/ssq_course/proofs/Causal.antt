@@ -129,7 +129,7 @@ kept_is_one : (shape : Shape) (partitions p : ℕ) → p < keeping_of shape part
 kept_is_one Plain partitions p less = absurd (omega (arith, less))
 kept_is_one (Group grouping) partitions p less = lt_true p partitions less
 kept_is_one (Dedup columns) partitions p less = lt_true p partitions less
-kept_is_one (Join joining) partitions p less = absurd (omega (arith, less))
+kept_is_one (Join joining) partitions p less = lt_true p partitions less
 
 pub are_causal : AreCausal
 are_causal s some = record {

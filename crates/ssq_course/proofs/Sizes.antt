@@ -1,11 +1,12 @@
 -- How many bytes and entries the states of a query have.
-use Rattle.std.proofs.Common.{◌≡◌, ◌≤◌, ◌+◌, ◌*◌, [], ◌∷◌, ℕ, zero, suc, ℤ, List, Option, Bool, true, false, refl, sym, ◌∙◌, subst, map, filter, length, arith}
+use Rattle.std.proofs.Common.{◌≡◌, ◌≤◌, ◌+◌, ◌*◌, ◌++◌, [], ◌∷◌, ℕ, zero, suc, ℤ, List, Option, Bool, true, false, refl, sym, ◌∙◌, subst, map, filter, length, arith}
 use Rattle.std.specs.Prelude.{if◌then◌else◌, fold, not, All}
 use Rattle.std.specs.declared.cmp.Ordering.{Ordering}
 use Rattle.std.specs.declared.cmp.Ordering.TheVariants.{Less, Equal, Greater}
 use Rattle.std.specs.Cmp.Lexicographic.{nat_list_cmp_total}
 use Rattle.std.specs.FinMap.{empty, entries, entries-insert, from_entries, len-empty, len-entries, put}
 use Rattle.std.specs.FinMap.Entries.{by_order}
+use Rattle.std.specs.Int.{w32, w64, to_be_bytes}
 use Rattle.std.specs.List.{AllByRecursion}
 use Rattle.std.specs.Map.{keys_of as keys_in_entries, values_of}
 use Rattle.std.proofs.lemmas.List.{length-append, length-map}
@@ -18,6 +19,7 @@ use Rattle.ssq_shape.specs.declared.bound.Bound.{Bound}
 use Rattle.ssq_shape.specs.declared.bound.Function.{Function}
 use Rattle.ssq_shape.specs.declared.bound.Function.TheVariants as function
 use Rattle.ssq_shape.specs.declared.bound.Grouping.{Grouping}
+use Rattle.ssq_shape.specs.declared.bound.Joining.{Joining}
 use Rattle.std.specs.Ordering.{is_gt}
 use Rattle.ssq_value.specs.Order.{value_cmp}
 use Rattle.ssq_shape.specs.Evaluation.{cell_at, is_null}
@@ -26,6 +28,7 @@ use Rattle.ssq_meaning.specs.declared.fed_row.FedRow.{FedRow}
 use Rattle.ssq_meaning.specs.Fit.{IsFitRow}
 use Rattle.ssq_meaning.specs.Dedup as repeats
 use Rattle.ssq_meaning.specs.Group.{distinct, is_closed, is_same, keys_in, kept, members, totals_in}
+use Rattle.ssq_meaning.specs.Join as pairs
 use Rattle.ssq_meaning.specs.Meaning.{Values}
 use Rattle.ssq_meaning.specs.Totals.{column_of, greater, greatest_of, least_of, lesser, total_bytes, total_of, totals_bytes, totals_from}
 use Rattle.ssq_meaning.proofs.Grouped.{keys_of_rows}
@@ -240,3 +243,44 @@ module _ (query : Bound) (columns : List ℕ) (rows : List FedRow) (now : Option
       → IsState (repeats.kept query columns rows now)
   repeats_are_state limit fit lengths ascend =
       state_by (λ key. not (repeats.is_closed query columns now key)) (λ key. []) rows (length columns) limit fit lengths (λ key. omega arith) ascend
+
+-- ---- joined rows
+
+-- a row has at most 64 values, and so has its key
+pub record IsNarrow (row : FedRow) : Type 0 where
+  pub key : length row.key ≤ 64
+  pub values : length row.values ≤ 64
+
+module _ (joining : Joining) (rows : List FedRow) (now : Option ℤ) where
+  pub joined_few : length (pairs.kept joining rows now) ≤ length rows
+  joined_few =
+      omega (
+        arith,
+        entries_few (map (pairs.entry_of joining rows) (pairs.open_rows joining rows now)),
+        length-map (pairs.open_rows joining rows now) (pairs.entry_of joining rows),
+        filter_few (λ row. not (pairs.is_over joining now row)) rows,
+      )
+
+  row_short : (row : FedRow) → IsFitRow row → IsNarrow row → IsShortEntry (pairs.entry_of joining rows row)
+  row_short row fit narrow =
+      let key = keys_bytes row.key (recursion_from_All IsFit row.key fit.key) in
+      let values = keys_bytes row.values (recursion_from_All IsFit row.values fit.values) in
+      let place = to_be_bytes w32 row.epoch ++ (to_be_bytes w32 row.part ++ to_be_bytes w64 row.offset) in (
+        omega (arith, length-append (keys_of row.key) place, key, narrow.key),
+        omega (arith, length-append (keys_of row.values) (pairs.met_byte (pairs.has_partner joining rows row) ∷ []), values, narrow.values),
+      )
+
+  each_row_short : (own : List FedRow) → AllByRecursion IsFitRow own → AllByRecursion IsNarrow own → AllByRecursion IsShortEntry (map (pairs.entry_of joining rows) own)
+  each_row_short [] fit narrow = tt
+  each_row_short (row ∷ own) fit narrow = (row_short row fit.0 narrow.0, each_row_short own fit.1 narrow.1)
+
+  pub joined_are_state : All IsFitRow rows → All IsNarrow rows → Ascends (pairs.kept joining rows now) → IsState (pairs.kept joining rows now)
+  joined_are_state fit narrow ascend =
+      let stays = λ (row : FedRow). not (pairs.is_over joining now row) in
+      let short = entries_short (map (pairs.entry_of joining rows) (pairs.open_rows joining rows now))
+      (each_row_short (pairs.open_rows joining rows now) (All-by IsFitRow stays rows (recursion_from_All IsFitRow rows fit)) (All-by IsNarrow stays rows (recursion_from_All IsNarrow rows narrow))) in
+      record {
+        ascend = ascend;
+        keys = All-from_recursion IsShort _ (keys_are_short (pairs.kept joining rows now) short);
+        values = All-from_recursion IsShort _ (values_are_short (pairs.kept joining rows now) short);
+      }

@@ -1,19 +1,23 @@
 -- The states of a query are states, and what epochs change are changes.
 use Rattle.std.proofs.Common.{◌≡◌, ◌≤◌, ◌<◌, ◌+◌, ◌-◌, ◌*◌, ◌^◌, [], ◌∷◌, ℕ, zero, suc, ℤ, List, Option, None, Bool, true, false, refl, ap, sym, subst, length, arith, inl, inr}
-use Rattle.std.specs.Prelude.{◌==◌, if◌then◌else◌, is_some, All, sum}
+use Rattle.std.specs.Prelude.{◌==◌, if◌then◌else◌, get_or, is_some, All, slice_get, sum}
 use Rattle.std.specs.declared.cmp.Ordering.{Ordering}
 use Rattle.std.specs.declared.cmp.Ordering.TheVariants.{Less, Equal, Greater}
 use Rattle.std.specs.BTreeMap.{insert_entry}
 use Rattle.std.specs.Ordering.{match_ordering}
 use Rattle.std.proofs.lemmas.Bool.{cases_lt}
-use Rattle.std.proofs.lemmas.List.{length-append}
-use Rattle.std.proofs.lemmas.List.Elements.{All-filter, All-nil, All-weaker}
+use Rattle.std.proofs.lemmas.List.{length-append, length-map}
+use Rattle.std.proofs.lemmas.List.Elements.{All-filter, All-head, All-nil, All-tail, All-weaker}
+use Rattle.ssq_value.specs.declared.value.Value.{Value}
 use Rattle.ssq_value.specs.Key.{keys_of}
 use Rattle.ssq_route.specs.Place.{place_of}
 use Rattle.ssq_shape.specs.declared.bound.Bound.{Bound}
 use Rattle.ssq_shape.specs.declared.bound.Grouping.{Grouping}
+use Rattle.ssq_shape.specs.declared.bound.Joining.{Joining}
 use Rattle.ssq_shape.specs.declared.bound.Shape.{Shape}
 use Rattle.ssq_shape.specs.declared.bound.Shape.TheVariants.{Plain, Group, Dedup, Join}
+use Rattle.ssq_shape.specs.declared.bound.Stream.{Stream}
+use Rattle.ssq_shape.specs.Evaluation.{cell_at}
 use Rattle.ssq_shape.specs.Windows.{HasWindows, HasWindowsBy}
 use Rattle.ssq_meaning.specs.declared.fed_row.FedRow.{FedRow}
 use Rattle.ssq_meaning.specs.Cut.{AreCuts, Cuts as Offsets}
@@ -22,6 +26,10 @@ use Rattle.ssq_meaning.specs.DedupLaws.{IsDedupRow}
 use Rattle.ssq_meaning.specs.Epochs.{accepted, bucket, on_time, state, watermark_before}
 use Rattle.ssq_meaning.specs.Fit.{IsFitRow}
 use Rattle.ssq_meaning.specs.Group.{distinct, kept}
+use Rattle.ssq_meaning.specs.Join as pairs
+use Rattle.ssq_meaning.specs.Join.{is_left, key_column}
+use Rattle.ssq_meaning.specs.JoinLaws.{IsJoinRow}
+use Rattle.ssq_meaning.specs.Meaning.{layout_in}
 use Rattle.ssq_meaning.specs.Operator.{operator_for, operator_of}
 use Rattle.ssq_meaning.specs.Parts.{Part}
 use Rattle.ssq_version.specs.State.{Ascends, Change, IsShort, IsState, State, between, by_bytes, said_of, value_at, with_gone}
@@ -29,8 +37,9 @@ use Rattle.ssq_version.specs.Text.{snapshot_text}
 use Rattle.ssq_version.proofs.Leading.{between_kept, news_few}
 use Rattle.ssq_core.specs.Course.{Cuts}
 use Rattle.ssq_course.specs.Setting.{Setting, cuts_of, parts_in, state_at}
-use Rattle.ssq_course.specs.States.{AreOfStates, AreWithinLimits, CanHold, CanHoldBy, CoverFewLines, StatesCanBeHeld}
-use Rattle.ssq_course.proofs.Sizes.{HasKeyOf, kept_few, kept_is_state, none_kept, repeats_are_state, repeats_few}
+use Rattle.ssq_course.specs.States.{AreOfStates, AreWithinLimits, CanHold, CanHoldBy, CoverFewLines, HasFewCells, HasFewColumns, StatesCanBeHeld}
+use Rattle.ssq_course.specs.Wide.{IsWide}
+use Rattle.ssq_course.proofs.Sizes.{HasKeyOf, IsNarrow, joined_are_state, joined_few, kept_few, kept_is_state, none_kept, repeats_are_state, repeats_few}
 
 -- ---- how many keys a change has
 
@@ -80,6 +89,8 @@ pub record RowLaws : Type 0 where
   pub own_few : (rows : List FedRow) (partitions p : ℕ) → length (bucket partitions p rows) ≤ length rows
   pub lengths : (query : Bound) (grouping : Grouping) → query.shape ≡ Group grouping → (parts : List Part) (cuts : Offsets) (e : ℕ) → All (HasKeyOf grouping) (accepted query parts cuts e)
   pub repeats_lengths : (query : Bound) (columns : List ℕ) → query.shape ≡ Dedup columns → (parts : List Part) (cuts : Offsets) (e : ℕ) → All (IsDedupRow query columns) (accepted query parts cuts e)
+  pub joined : (query : Bound) (joining : Joining) → query.shape ≡ Join joining → (parts : List Part) (cuts : Offsets) (e : ℕ) → All (IsJoinRow joining) (accepted query parts cuts e)
+  pub joined_wide : (query : Bound) (joining : Joining) → query.shape ≡ Join joining → (parts : List Part) (cuts : Offsets) (e : ℕ) → All (IsWide query) (accepted query parts cuts e)
   pub ascend : (query : Bound) (rows : List FedRow) (now : Option ℤ) → Ascends ((operator_of query).state rows now)
 
 -- what a state is, with fewer than 2^63 entries
@@ -90,12 +101,25 @@ none_is_small : IsSmall []
 unfolding Rattle.std.specs.List.Sorted.IsStrictlySortedBy
 none_is_small = (record { ascend = tt; keys = All-nil IsShort; values = All-nil IsShort }, omega arith)
 
+-- a stream has few columns, and where there is none, no column
+few_columns : (streams : List Stream) → All HasFewColumns streams → (at : ℕ) → length (layout_in (slice_get streams at)).columns ≤ 64
+few_columns [] few at = omega arith
+few_columns (stream ∷ streams) few zero = All-head HasFewColumns stream streams few
+few_columns (stream ∷ streams) few (suc at) = few_columns streams (All-tail HasFewColumns stream streams few) at
+
 starts_by : (shape : Shape) (query : Bound) → (operator_for shape query).state [] None ≡ []
 unfolding distinct
 starts_by Plain query = refl
 starts_by (Group grouping) query = none_kept
 starts_by (Dedup columns) query = none_kept
-starts_by (Join joining) query = refl
+starts_by (Join joining) query = none_kept
+
+-- a row of a join within the limits
+narrow_row : (query : Bound) (joining : Joining) → HasFewCells query joining → (row : FedRow) → IsJoinRow joining row → IsWide query row → IsNarrow row
+narrow_row query joining few row own wide = record {
+  key = let keys = few.keys in omega (arith, ap (λ (key : List Value). length key) own.key, length-map joining.keys (λ pair. cell_at row.values (key_column (is_left row.stream) pair)), keys);
+  values = omega (arith, wide, few_columns query.streams few.columns row.stream);
+}
 
 module _ (laws : RowLaws) where
   pub are_of_states : (s : Setting) (cuts : Cuts) → AreOfStates s cuts
@@ -142,12 +166,29 @@ module _ (laws : RowLaws) where
         omega (arith, repeats_few query columns own now, laws.own_few rows s.job.partitions p, accepted_grow query parts (cuts_of cuts) e n le, laws.few query windows parts (cuts_of cuts) n lines.are_cuts, lines.few),
       )
 
+  joins_are_small : (s : Setting) (cuts : Cuts) (n : ℕ) (joining : Joining) → s.job.bound.shape ≡ Join joining → HasFewCells s.job.bound joining → CoverFewLines s cuts n → (p e : ℕ) → e ≤ n
+      → IsSmall (pairs.kept joining (bucket s.job.partitions p (accepted s.job.bound (parts_in s) (cuts_of cuts) e)) (watermark_before s.job.bound (parts_in s) (cuts_of cuts) e))
+  joins_are_small s cuts n joining is few lines p e le =
+      let query = s.job.bound in
+      let parts = parts_in s in
+      let windows : HasWindows query = subst HasWindowsBy (sym is) tt in
+      let rows = accepted query parts (cuts_of cuts) e in
+      let own = bucket s.job.partitions p rows in
+      let now = watermark_before query parts (cuts_of cuts) e in
+      let joined = laws.joined query joining is parts (cuts_of cuts) e in
+      let wide = laws.joined_wide query joining is parts (cuts_of cuts) e in
+      let narrow : All IsNarrow rows = λ k d less. narrow_row query joining few (get_or rows k d) (joined k d less) (wide k d less) in (
+        joined_are_state joining own now (laws.own_fit rows s.job.partitions p (laws.fit query windows parts (cuts_of cuts) e))
+            (All-filter (λ (row : FedRow). place_of (keys_of row.key) s.job.partitions == p) IsNarrow rows narrow) (ascends s (Join joining) is own now),
+        omega (arith, joined_few joining own now, laws.own_few rows s.job.partitions p, accepted_grow query parts (cuts_of cuts) e n le, laws.few query windows parts (cuts_of cuts) n lines.are_cuts, lines.few),
+      )
+
   small_by : (s : Setting) (cuts : Cuts) (n : ℕ) (shape : Shape) → s.job.bound.shape ≡ shape → CanHoldBy shape s cuts n → (p e : ℕ) → e ≤ n
       → IsSmall ((operator_for shape s.job.bound).state (bucket s.job.partitions p (accepted s.job.bound (parts_in s) (cuts_of cuts) e)) (watermark_before s.job.bound (parts_in s) (cuts_of cuts) e))
   small_by s cuts n Plain is can p e le = none_is_small
   small_by s cuts n (Group grouping) is can p e le = groups_are_small s cuts n grouping is can.0 can.1 p e le
   small_by s cuts n (Dedup columns) is can p e le = repeats_are_small s cuts n columns is can.0 can.1 p e le
-  small_by s cuts n (Join joining) is can p e le = none_is_small
+  small_by s cuts n (Join joining) is can p e le = joins_are_small s cuts n joining is can.0 can.1 p e le
 
   is_small : (s : Setting) (cuts : Cuts) (n : ℕ) → CanHold s cuts n → (p e : ℕ) → e ≤ n → IsSmall (state_at s cuts p e)
   unfolding operator_of

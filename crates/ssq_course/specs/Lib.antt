@@ -1,3 +1,4 @@
 pub mod Setting
 pub mod Laws
 pub mod States
+pub mod Wide

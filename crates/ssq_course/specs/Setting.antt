@@ -68,13 +68,12 @@ rows_at s cuts e = sink_text s.job.bound (out s.job.bound (parts_in s) (cuts_of 
 abbrev pub is_faulty_at : Setting → Cuts → ℕ → Bool
 is_faulty_at s cuts e = is_some (fault s.job.bound (parts_in s) (cuts_of cuts) e)
 
--- How many partitions keep state: of a query that keeps nothing none, of groups and of rows without repeats each. Of Join nothing is said
--- yet.
+-- How many partitions keep state: of a query that keeps nothing none, of any other each.
 abbrev pub keeping_of : Shape → ℕ → ℕ
 keeping_of Plain partitions = 0
 keeping_of (Group grouping) partitions = partitions
 keeping_of (Dedup columns) partitions = partitions
-keeping_of (Join joining) partitions = 0
+keeping_of (Join joining) partitions = partitions
 
 -- the state of a partition after the first e epochs
 abbrev pub state_at : Setting → Cuts → (p e : ℕ) → State

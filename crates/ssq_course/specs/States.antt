@@ -1,8 +1,11 @@
 -- The states of a query, as its files hold them.
-use Rattle.std.specs.Prelude.{◌≡◌, ◌<◌, ◌≤◌, ◌+◌, ◌^◌, ℕ, [], length, sum}
+use Rattle.std.specs.Prelude.{◌≡◌, ◌<◌, ◌≤◌, ◌+◌, ◌^◌, ℕ, [], All, length, sum}
+use Rattle.ssq_shape.specs.declared.bound.Bound.{Bound}
 use Rattle.ssq_shape.specs.declared.bound.Grouping.{Grouping}
+use Rattle.ssq_shape.specs.declared.bound.Joining.{Joining}
 use Rattle.ssq_shape.specs.declared.bound.Shape.{Shape}
 use Rattle.ssq_shape.specs.declared.bound.Shape.TheVariants.{Plain, Group, Dedup, Join}
+use Rattle.ssq_shape.specs.declared.bound.Stream.{Stream}
 use Rattle.ssq_shape.specs.Windows.{HasGroupWindows}
 use Rattle.ssq_meaning.specs.Cut.{AreCuts}
 use Rattle.ssq_version.specs.State.{Ascends, IsState, IsChange, between}
@@ -30,6 +33,15 @@ pub record AreWithinLimits (grouping : Grouping) : Type 0 where
   pub aggregates : length grouping.aggregates ≤ 64
   pub windows : HasGroupWindows grouping
 
+-- A join within the limits of the language: ON has at most 64 key equalities, and each stream at most 64 columns. So the bytes of a row's key,
+-- and of its values, are fewer than 2^32, whatever the lines are.
+abbrev pub HasFewColumns : Stream → Type 0
+HasFewColumns stream = length stream.schema.columns ≤ 64
+
+pub record HasFewCells (query : Bound) (joining : Joining) : Type 0 where
+  pub keys : length joining.keys ≤ 64
+  pub columns : All HasFewColumns query.streams
+
 -- The cuts of the first n epochs begin with no line and never fall, and they cover fewer than 2^57 lines of all parts. A line feeds at most
 -- 64 rows, so that fewer than 2^63 are accepted.
 pub record CoverFewLines (s : Setting) (cuts : Cuts) (n : ℕ) : Type 0 where
@@ -37,13 +49,13 @@ pub record CoverFewLines (s : Setting) (cuts : Cuts) (n : ℕ) : Type 0 where
   pub few : sum (cut_of (cuts n)) < 2 ^ 57
 
 -- Whether the states of the first n epochs can be held, by the query's shape: those of groups where these are within the limits and the
--- lines are few, and those of rows without repeats where DEDUPLICATE has at most 64 columns and the lines are few. Of Join nothing is said
--- yet.
+-- lines are few, those of rows without repeats where DEDUPLICATE has at most 64 columns and the lines are few, and those of joined rows where the
+-- join is within the limits and the lines are few.
 abbrev pub CanHoldBy : Shape → Setting → Cuts → ℕ → Type 0
 CanHoldBy Plain s cuts n = Unit {0}
 CanHoldBy (Group grouping) s cuts n = AreWithinLimits grouping × CoverFewLines s cuts n
 CanHoldBy (Dedup columns) s cuts n = (length columns ≤ 64) × CoverFewLines s cuts n
-CanHoldBy (Join joining) s cuts n = Unit {0}
+CanHoldBy (Join joining) s cuts n = HasFewCells s.job.bound joining × CoverFewLines s cuts n
 
 abbrev pub CanHold : Setting → Cuts → ℕ → Type 0
 CanHold s cuts n = CanHoldBy s.job.bound.shape s cuts n

@@ -1,13 +1,16 @@
 //! What holds of the job of each query.
 
+ghost use Rattle.ssq_meaning.specs.Epochs.{accepted, on_time};
 ghost use Rattle.ssq_core.specs.Course.{Cuts};
 ghost use Rattle.ssq_course.specs.Setting.{Setting};
 ghost use Rattle.ssq_course.specs.States.{AreOfStates, StatesCanBeHeld};
+ghost use Rattle.ssq_course.specs.Wide.{JoinedRowsAreWide};
 ghost use Rattle.ssq_course.specs.Laws.{AreCausal, FilesSayTheirCourse, PartitionsShowRows, PlansCanBeWritten};
 
+use ssq_json::rows_fit_their_schema;
 use ssq_meaning::{
     epochs_of_groups_follow, fed_rows_are_few, fed_rows_are_fit, kept_keys_ascend,
-    partitions_show_all_rows, repeats_are_fed_by_their_keys,
+    partitions_show_all_rows, repeats_are_fed_by_their_keys, rows_are_fed_to_joins,
 };
 
 /// The law of jobs: what the files of a query's checkpoint hold of its first epochs hangs on where these end, and on nothing that comes
@@ -35,9 +38,18 @@ pub fn partitions_show_rows()
     partitions_show_all_rows();
 }
 
+/// The law of a join's rows: each of those that are accepted, and of those that are not late in an epoch, has a value for each column of its
+/// stream, and is of one of the streams.
+pub fn joined_rows_are_wide()
+    ensures accepted { JoinedRowsAreWide (λ query parts cuts e. accepted query parts cuts e) }
+    ensures on_time { JoinedRowsAreWide (λ query parts cuts e. on_time query parts cuts e) }
+{
+    rows_fit_their_schema();
+}
+
 /// The law of the state's files: they are those of the states after each epoch and of what each epoch changes. These have a spelling where
-/// the query's groups, or the columns of DEDUPLICATE, are within the limits of the language and its epochs cover fewer than 2^57 lines, whatever
-/// these are.
+/// the query's groups, the columns of DEDUPLICATE or its join are within the limits of the language and its epochs cover fewer than 2^57 lines,
+/// whatever these are.
 pub fn files_hold_states()
     ensures files { (s : Setting) (cuts : Cuts) → AreOfStates s cuts }
     ensures held { StatesCanBeHeld }
@@ -46,5 +58,7 @@ pub fn files_hold_states()
     fed_rows_are_few();
     epochs_of_groups_follow();
     repeats_are_fed_by_their_keys();
+    rows_are_fed_to_joins();
+    joined_rows_are_wide();
     kept_keys_ascend();
 }

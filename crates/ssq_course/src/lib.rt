@@ -8,6 +8,6 @@
 mod law;
 
 pub use law::{
-    files_hold_states, files_say_their_course, jobs_are_causal, partitions_show_rows,
-    plans_can_be_written,
+    files_hold_states, files_say_their_course, jobs_are_causal, joined_rows_are_wide,
+    partitions_show_rows, plans_can_be_written,
 };

@@ -22,22 +22,22 @@ use Rattle.ssq_desk.specs.Handing.{HasBucket, HasLineTime, CanRaise, bucket_in_f
 use Rattle.ssq_desk.specs.Contents.{IsMapped, IsBrought}
 
 -- what a part that was read, or had no new lines, has for a partition whose task waits
-pub bucket_is : {L : Type 0} (tells : Type 0) (query : Bound) (part : Part) (from to partitions p : ℕ) (reduces : List Place) (at : Place) (source : Source L) → tells → is_fine at ≡ true → get_elem? reduces p ≡ some place.Waits
-    → IsMapped tells query part from to partitions reduces at source → bucket_in_fed p source.fed ≡ bucket_in query partitions p part from to
-bucket_is tells query part from to partitions p reduces place.Rests source t fine waits m =
-    ap (bucket_in_fed p) (m.none refl) ∙ sym (ap (bucket partitions p) (are_quiet query part from to (m.quiet refl)).rows)
-bucket_is tells query part from to partitions p reduces (place.Back None) source t fine waits m = (let b = m.brought refl in ap (bucket_in_fed p) b.1 ∙ b.2.rows t p waits)
-bucket_is tells query part from to partitions p reduces (place.Back (Some f)) source t fine waits m = absurd (true≢false (sym fine))
-bucket_is tells query part from to partitions p reduces place.Waits source t fine waits m = absurd (true≢false (sym fine))
-bucket_is tells query part from to partitions p reduces place.Away source t fine waits m = absurd (true≢false (sym fine))
+pub bucket_is : {L : Type 0} (tells : Type 0) (query : Bound) (epoch : ℕ) (part : Part) (from to partitions p : ℕ) (reduces : List Place) (at : Place) (source : Source L) → tells → is_fine at ≡ true → get_elem? reduces p ≡ some place.Waits
+    → IsMapped tells query epoch part from to partitions reduces at source → bucket_in_fed p source.fed ≡ bucket_in query epoch partitions p part from to
+bucket_is tells query epoch part from to partitions p reduces place.Rests source t fine waits m =
+    ap (bucket_in_fed p) (m.none refl) ∙ sym (ap (bucket partitions p) ((are_quiet query part from to (m.quiet refl)).rows epoch))
+bucket_is tells query epoch part from to partitions p reduces (place.Back None) source t fine waits m = (let b = m.brought refl in ap (bucket_in_fed p) b.1 ∙ b.2.rows t p waits)
+bucket_is tells query epoch part from to partitions p reduces (place.Back (Some f)) source t fine waits m = absurd (true≢false (sym fine))
+bucket_is tells query epoch part from to partitions p reduces place.Waits source t fine waits m = absurd (true≢false (sym fine))
+bucket_is tells query epoch part from to partitions p reduces place.Away source t fine waits m = absurd (true≢false (sym fine))
 
-pub time_is : {L : Type 0} (tells : Type 0) (query : Bound) (part : Part) (from to partitions : ℕ) (reduces : List Place) (at : Place) (source : Source L) → tells → is_fine at ≡ true
-    → IsMapped tells query part from to partitions reduces at source → time_of source.fed ≡ time_in query part from to
-time_is tells query part from to partitions reduces place.Rests source t fine m = ap time_of (m.none refl) ∙ sym (are_quiet query part from to (m.quiet refl)).time
-time_is tells query part from to partitions reduces (place.Back None) source t fine m = (let b = m.brought refl in ap time_of b.1 ∙ b.2.time t)
-time_is tells query part from to partitions reduces (place.Back (Some f)) source t fine m = absurd (true≢false (sym fine))
-time_is tells query part from to partitions reduces place.Waits source t fine m = absurd (true≢false (sym fine))
-time_is tells query part from to partitions reduces place.Away source t fine m = absurd (true≢false (sym fine))
+pub time_is : {L : Type 0} (tells : Type 0) (query : Bound) (epoch : ℕ) (part : Part) (from to partitions : ℕ) (reduces : List Place) (at : Place) (source : Source L) → tells → is_fine at ≡ true
+    → IsMapped tells query epoch part from to partitions reduces at source → time_of source.fed ≡ time_in query part from to
+time_is tells query epoch part from to partitions reduces place.Rests source t fine m = ap time_of (m.none refl) ∙ sym (are_quiet query part from to (m.quiet refl)).time
+time_is tells query epoch part from to partitions reduces (place.Back None) source t fine m = (let b = m.brought refl in ap time_of b.1 ∙ b.2.time t)
+time_is tells query epoch part from to partitions reduces (place.Back (Some f)) source t fine m = absurd (true≢false (sym fine))
+time_is tells query epoch part from to partitions reduces place.Waits source t fine m = absurd (true≢false (sym fine))
+time_is tells query epoch part from to partitions reduces place.Away source t fine m = absurd (true≢false (sym fine))
 
 -- it has so many buckets, a time of a line, and rows that can be printed
 pub record IsSafe {L : Type 0} (partitions : ℕ) (source : Source L) : Type 0 where
@@ -55,19 +55,19 @@ safe_none partitions source is = record {
   fit = λ p less. subst (λ (o : Option FedRows). All IsFitRow (bucket_in_fed p o)) (sym is) none_fit;
 }
 
-safe_some : {L : Type 0} (tells : Type 0) (query : Bound) (part : Part) (from to partitions : ℕ) (reduces : List Place) (source : Source L) (fed : FedRows) → source.fed ≡ Some fed → IsBrought tells query part from to partitions reduces fed → IsSafe partitions source
-safe_some tells query part from to partitions reduces source fed is b = record {
+safe_some : {L : Type 0} (tells : Type 0) (query : Bound) (epoch : ℕ) (part : Part) (from to partitions : ℕ) (reduces : List Place) (source : Source L) (fed : FedRows) → source.fed ≡ Some fed → IsBrought tells query epoch part from to partitions reduces fed → IsSafe partitions source
+safe_some tells query epoch part from to partitions reduces source fed is b = record {
   buckets = λ p less. subst (λ (o : Option FedRows). IfSome o (λ fed. p < length fed.buckets)) (sym is) (omega (arith, less, b.count));
   years = subst (λ (o : Option FedRows). IfSome (time_of o) IsLineTime) (sym is) b.years;
   fit = λ p less. subst (λ (o : Option FedRows). All IsFitRow (bucket_in_fed p o)) (sym is) (b.fit p [] (omega (arith, less, b.count)));
 }
 
-pub source_safe : {L : Type 0} (tells : Type 0) (query : Bound) (part : Part) (from to partitions : ℕ) (reduces : List Place) (at : Place) (source : Source L) → is_fine at ≡ true → IsMapped tells query part from to partitions reduces at source → IsSafe partitions source
-source_safe tells query part from to partitions reduces place.Rests source fine m = safe_none partitions source (m.none refl)
-source_safe tells query part from to partitions reduces (place.Back None) source fine m = (let b = m.brought refl in safe_some tells query part from to partitions reduces source b.0 b.1 b.2)
-source_safe tells query part from to partitions reduces (place.Back (Some f)) source fine m = absurd (true≢false (sym fine))
-source_safe tells query part from to partitions reduces place.Waits source fine m = absurd (true≢false (sym fine))
-source_safe tells query part from to partitions reduces place.Away source fine m = absurd (true≢false (sym fine))
+pub source_safe : {L : Type 0} (tells : Type 0) (query : Bound) (epoch : ℕ) (part : Part) (from to partitions : ℕ) (reduces : List Place) (at : Place) (source : Source L) → is_fine at ≡ true → IsMapped tells query epoch part from to partitions reduces at source → IsSafe partitions source
+source_safe tells query epoch part from to partitions reduces place.Rests source fine m = safe_none partitions source (m.none refl)
+source_safe tells query epoch part from to partitions reduces (place.Back None) source fine m = (let b = m.brought refl in safe_some tells query epoch part from to partitions reduces source b.0 b.1 b.2)
+source_safe tells query epoch part from to partitions reduces (place.Back (Some f)) source fine m = absurd (true≢false (sym fine))
+source_safe tells query epoch part from to partitions reduces place.Waits source fine m = absurd (true≢false (sym fine))
+source_safe tells query epoch part from to partitions reduces place.Away source fine m = absurd (true≢false (sym fine))
 
 -- What is said of each part is said of its source: so it is of all, one after the other.
 pub all_parts : {L A : Type 0} (say : Part → ℕ → ℕ → List A) (of : Source L → List A) (parts : List Part) (sources : List (Source L)) (froms tos : Cut) → length sources ≡ length parts → length froms ≡ length parts → length tos ≡ length parts

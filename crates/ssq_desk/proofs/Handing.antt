@@ -196,7 +196,7 @@ module _ {D L S F : Type 0} (stores logs : Type 0) (lines : L → List Line) (av
       pub source : Source L
       pub here : get_elem? load.sources.items i ≡ some source
       pub is : IsSourceOf (stores × logs) lines available (LogWent logs lines available answers faults) shown.opening.logs.items i part (get_or shown.scope.available i 0) place.Waits source
-      pub mapped : IsMapped (stores × logs) (setting_of lines shown.opening).job.bound part (get_or (cut_of (cuts_of (opening_in lines) shown shown.core.front.committed)) i 0) (get_or (cut_of (cuts_of (opening_in lines) shown (shown.core.front.committed + 1))) i 0)
+      pub mapped : IsMapped (stores × logs) (setting_of lines shown.opening).job.bound shown.core.front.committed part (get_or (cut_of (cuts_of (opening_in lines) shown shown.core.front.committed)) i 0) (get_or (cut_of (cuts_of (opening_in lines) shown (shown.core.front.committed + 1))) i 0)
           (setting_of lines shown.opening).job.partitions shown.core.reduces place.Waits source
 
     pub map_here : (t : TaskId) → t.kind ≡ kind.Map → May shown.scope shown.core (entry.Claim t) → IsMapHere t.number
@@ -312,7 +312,7 @@ module _ {D L S F : Type 0} (stores logs : Type 0) (lines : L → List Line) (av
 
     -- each source is fine, where all map tasks are
     pub source_here : shown.core.front.stop ≡ None → (opened : is_open shown.core ≡ true) → list_all is_fine shown.core.maps ≡ true → (i : ℕ) (part : Part) (source : Source L) → slice_get (parts_in (setting_of lines shown.opening)) i ≡ Some part → get_elem? load.sources.items i ≡ some source
-        → (at : Place) × (get_elem? shown.core.maps i ≡ some at) × (is_fine at ≡ true) × IsMapped (stores × logs) (setting_of lines shown.opening).job.bound part (get_or (cut_of (cuts_of (opening_in lines) shown shown.core.front.committed)) i 0) (get_or (cut_of (cuts_of (opening_in lines) shown (shown.core.front.committed + 1))) i 0)
+        → (at : Place) × (get_elem? shown.core.maps i ≡ some at) × (is_fine at ≡ true) × IsMapped (stores × logs) (setting_of lines shown.opening).job.bound shown.core.front.committed part (get_or (cut_of (cuts_of (opening_in lines) shown shown.core.front.committed)) i 0) (get_or (cut_of (cuts_of (opening_in lines) shown (shown.core.front.committed + 1))) i 0)
         (setting_of lines shown.opening).job.partitions shown.core.reduces at source
     source_here runs opened fine i part source there here =
         let at = there_at shown.core.maps i (let less = at_length load.sources.items i source here in let maps = order.sound.maps in omega (arith, less, maps, sources_count)) in
@@ -346,13 +346,13 @@ module _ {D L S F : Type 0} (stores logs : Type 0) (lines : L → List Line) (av
           room = (let parts = whole.holds.parts in let room = fresh.1 in omega (arith, parts, room));
           safe = λ i source here. (let part = part_there (parts_in s) i (let l = at_length load.sources.items i source here in let parts = whole.holds.parts in omega (arith, l, parts)) in
               let m = source_here may.0 may.1 fine i part.0 source part.1 here in
-              source_safe (stores × logs) s.job.bound part.0 _ _ s.job.partitions shown.core.reduces m.0 source m.2 m.3);
-          rows = λ y. all_parts (bucket_in s.job.bound s.job.partitions t.number) (λ source. bucket_in_fed t.number source.fed) (parts_in s) load.sources.items
+              source_safe (stores × logs) s.job.bound shown.core.front.committed part.0 _ _ s.job.partitions shown.core.reduces m.0 source m.2 m.3);
+          rows = λ y. all_parts (bucket_in s.job.bound shown.core.front.committed s.job.partitions t.number) (λ source. bucket_in_fed t.number source.fed) (parts_in s) load.sources.items
               (cut_of (cuts_of (opening_in lines) shown shown.core.front.committed)) (cut_of (cuts_of (opening_in lines) shown (shown.core.front.committed + 1))) whole.holds.parts
               (length-map (cuts_of (opening_in lines) shown shown.core.front.committed) (λ (e : PartEnd). e.end) ∙ e.froms) (tos_count may.1)
               (λ i part source there here. (let m = source_here may.0 may.1 fine i part source there here in
-              bucket_is (stores × logs) s.job.bound part _ _ s.job.partitions t.number shown.core.reduces m.0 source (y.0, y.1.0) m.2 waits m.3))
-              ∙ parts_feed s.job.bound (parts_in s) (cut_of (cuts_of (opening_in lines) shown shown.core.front.committed)) (cut_of (cuts_of (opening_in lines) shown (shown.core.front.committed + 1))) s.job.partitions t.number;
+              bucket_is (stores × logs) s.job.bound shown.core.front.committed part _ _ s.job.partitions t.number shown.core.reduces m.0 source (y.0, y.1.0) m.2 waits m.3))
+              ∙ parts_feed s.job.bound shown.core.front.committed (parts_in s) (cut_of (cuts_of (opening_in lines) shown shown.core.front.committed)) (cut_of (cuts_of (opening_in lines) shown (shown.core.front.committed + 1))) s.job.partitions t.number;
         }
 
     -- once it is handed out
@@ -418,11 +418,11 @@ module _ {D L S F : Type 0} (stores logs : Type 0) (lines : L → List Line) (av
               let m = source_here may.0 may.1 maps_fine i part.0 source part.1 here in
               let own = whole.holds.logs i part.0 m.0 source part.1 m.1 here in
               let below = streams_below i part.0 part.1 in
-              (omega (arith, below, own.stream, streams), (source_safe (stores × logs) s.job.bound part.0 _ _ s.job.partitions shown.core.reduces m.0 source m.2 m.3).years)));
+              (omega (arith, below, own.stream, streams), (source_safe (stores × logs) s.job.bound shown.core.front.committed part.0 _ _ s.job.partitions shown.core.reduces m.0 source m.2 m.3).years)));
           times = λ y stream. all_times s.job.bound (parts_in s) load.sources.items (cut_of (cuts_of (opening_in lines) shown shown.core.front.committed)) (cut_of (cuts_of (opening_in lines) shown (shown.core.front.committed + 1))) (seen_at w.0.seen)
               whole.holds.parts (length-map (cuts_of (opening_in lines) shown shown.core.front.committed) (λ (e : PartEnd). e.end) ∙ e.froms) (tos_count may.1)
               (λ i part source there here. (let m = source_here may.0 may.1 maps_fine i part source there here in
-              ((whole.holds.logs i part m.0 source there m.1 here).stream, time_is (stores × logs) s.job.bound part _ _ s.job.partitions shown.core.reduces m.0 source (y.0, y.1.0) m.2 m.3))) stream
+              ((whole.holds.logs i part m.0 source there m.1 here).stream, time_is (stores × logs) s.job.bound shown.core.front.committed part _ _ s.job.partitions shown.core.reduces m.0 source (y.0, y.1.0) m.2 m.3))) stream
               ∙ raise_times s.job.bound (parts_in s) (offsets (cuts_of (opening_in lines) shown)) shown.core.front.committed (seen_at w.0.seen) (λ other. w.2.times.are y other) stream;
           rows = λ y. record {
             count = length-map load.shares.items (λ (share : Share S). share.rows.items) ∙ count;

@@ -86,9 +86,9 @@ no_rows : All IsFitRow []
 no_rows = λ k d less. absurd (omega (arith, less))
 
 -- what was brought, less the bucket of a partition that was handed out
-brought_less : (tells : Type 0) (query : Bound) (part : Part) (from to partitions : ℕ) (reduces : List Place) (p : ℕ) (fed left : FedRows) → left.time ≡ fed.time → left.buckets ≡ set fed.buckets p []
-    → IsBrought tells query part from to partitions reduces fed → IsBrought tells query part from to partitions (set reduces p place.Away) left
-brought_less tells query part from to partitions reduces p fed left time buckets b = record {
+brought_less : (tells : Type 0) (query : Bound) (epoch : ℕ) (part : Part) (from to partitions : ℕ) (reduces : List Place) (p : ℕ) (fed left : FedRows) → left.time ≡ fed.time → left.buckets ≡ set fed.buckets p []
+    → IsBrought tells query epoch part from to partitions reduces fed → IsBrought tells query epoch part from to partitions (set reduces p place.Away) left
+brought_less tells query epoch part from to partitions reduces p fed left time buckets b = record {
   count = ap length buckets ∙ set_length fed.buckets p [] ∙ b.count;
   years = subst (λ (t : Option ℤ). IfSome t IsLineTime) (sym time) b.years;
   fit = subst (λ l. All (All IsFitRow) l) (sym buckets) (All-set (All IsFitRow) fed.buckets p [] no_rows b.fit);
@@ -97,17 +97,17 @@ brought_less tells query part from to partitions reduces p fed left time buckets
   rows = λ t q waits. by t q waits (same_or_not p q);
 }
   where
-    by : tells → (q : ℕ) → get_elem? (set reduces p place.Away) q ≡ some place.Waits → (p ≡ q) ⊎ (q ≡ p → ⊥) → bucket_at left.buckets q ≡ bucket_in query partitions q part from to
+    by : tells → (q : ℕ) → get_elem? (set reduces p place.Away) q ≡ some place.Waits → (p ≡ q) ⊎ (q ≡ p → ⊥) → bucket_at left.buckets q ≡ bucket_in query epoch partitions q part from to
     by t q waits (inl same) = absurd (away_not_waits (put_is reduces p place.Away place.Waits (subst (λ (k : ℕ). get_elem? (set reduces p place.Away) k ≡ some place.Waits) (sym same) waits)))
     by t q waits (inr other) = ap (λ l. bucket_at l q) buckets ∙ bucket_else fed.buckets p q other ∙ b.rows t q (sym (put_else reduces p q place.Away other) ∙ waits)
 
-mapped_less : {L : Type 0} (tells : Type 0) (query : Bound) (part : Part) (from to partitions : ℕ) (reduces : List Place) (p : ℕ) (at : Place) (old new : Source L) → IsTaken p old new
-    → IsMapped tells query part from to partitions reduces at old → IsMapped tells query part from to partitions (set reduces p place.Away) at new
-mapped_less tells query part from to partitions reduces p at old new taken m = record {
+mapped_less : {L : Type 0} (tells : Type 0) (query : Bound) (epoch : ℕ) (part : Part) (from to partitions : ℕ) (reduces : List Place) (p : ℕ) (at : Place) (old new : Source L) → IsTaken p old new
+    → IsMapped tells query epoch part from to partitions reduces at old → IsMapped tells query epoch part from to partitions (set reduces p place.Away) at new
+mapped_less tells query epoch part from to partitions reduces p at old new taken m = record {
   begins = taken.from_is ∙ m.begins;
   quiet = m.quiet;
   none = λ rests. taken.none (m.none rests);
-  brought = λ back. (let b = m.brought back in let l = taken.taken b.0 b.1 in (l.0, l.1, brought_less tells query part from to partitions reduces p b.0 l.0 l.2 l.3 b.2));
+  brought = λ back. (let b = m.brought back in let l = taken.taken b.0 b.1 in (l.0, l.1, brought_less tells query epoch part from to partitions reduces p b.0 l.0 l.2 l.3 b.2));
   fault = m.fault;
 }
 
@@ -166,7 +166,7 @@ module _ {L S F : Type 0} (reads owned : Type 0) (lines : L → List Line) (avai
       → (stop ≡ None → c.front.stop ≡ None) → Holds reads owned lines available went opened written sealed s cuts found c sources shares held out times pending
       → ((part : Part) → slice_get (parts_in s) i ≡ Some part → IsSourceOf reads lines available went opened i part (get_or found i 0) p x)
       → (c.front.stop ≡ None → is_open c ≡ true → (part : Part) → slice_get (parts_in s) i ≡ Some part
-      → IsMapped reads s.job.bound part (get_or (cut_of (cuts c.front.committed)) i 0) (get_or (cut_of (cuts (c.front.committed + 1))) i 0) s.job.partitions c.reduces p x)
+      → IsMapped reads s.job.bound c.front.committed part (get_or (cut_of (cuts c.front.committed)) i 0) (get_or (cut_of (cuts (c.front.committed + 1))) i 0) s.job.partitions c.reduces p x)
       → (stop ≡ Some cause.KeyOverflow → list_all is_here c.reduces ≡ true)
       → ((f : Cause) → stop ≡ Some f → IsStopOf reads owned s cuts c.front.committed (key_in shares) f)
       → Holds reads owned lines available went opened written sealed s cuts found (with_map c stop i p) (set sources i x) shares held out times pending
@@ -187,7 +187,7 @@ module _ {L S F : Type 0} (reads owned : Type 0) (lines : L → List Line) (avai
       froms = e.froms;
       mapped = λ j part at own there place_is own_is.
           put_both (λ j at own. (part : Part) → slice_get (parts_in s) j ≡ Some part
-          → IsMapped reads s.job.bound part (get_or (cut_of (cuts c.front.committed)) j 0) (get_or (cut_of (cuts (c.front.committed + 1))) j 0) s.job.partitions c.reduces at own) c.maps sources i p x
+          → IsMapped reads s.job.bound c.front.committed part (get_or (cut_of (cuts c.front.committed)) j 0) (get_or (cut_of (cuts (c.front.committed + 1))) j 0) s.job.partitions c.reduces at own) c.maps sources i p x
           (λ j at own place_is own_is part there. e.mapped j part at own there place_is own_is) (mapped (runs run) is_opened) j at own place_is own_is part there;
       shared = e.shared;
       last = e.last;
@@ -217,7 +217,7 @@ module _ {L S F : Type 0} (reads owned : Type 0) (lines : L → List Line) (avai
     epoch = λ run is_opened. (let e = h.epoch run is_opened in record {
       froms = e.froms;
       mapped = λ j part at own there place_is own_is. (let old = there_in sources left j own (sym count) own_is in
-          mapped_less reads s.job.bound part _ _ s.job.partitions c.reduces i at old.0 own (taken j old.0 own old.1 own_is) (e.mapped j part at old.0 there place_is old.1));
+          mapped_less reads s.job.bound c.front.committed part _ _ s.job.partitions c.reduces i at old.0 own (taken j old.0 own old.1 own_is) (e.mapped j part at old.0 there place_is old.1));
       shared = λ waits. put_both (λ p at share. IsShare owned written s cuts c.front.committed p at share) c.reduces shares i place.Away x (λ j at share. e.shared waits j at share)
           (record { there = λ r. absurd (away_not_rests r); empty = λ w. absurd (away_not_waits w); stage = λ w. absurd (away_not_waits w); shown = λ b. absurd (away_not_back b); printable = λ b. absurd (away_not_back b) });
       last = elim e.last [ inl w ↦ inl w | inr fine ↦ absurd (true≢false (sym (all_fine is_fine c.reduces i place.Waits fine waits_there))) ];

@@ -30,12 +30,12 @@ use Rattle.ssq_desk.proofs.Planned.{slice_below}
 -- ---- lines without a fault
 
 -- a map task that is back without a fault, or was not there, has met none
-good_part : {L : Type 0} (tells : Type 0) (query : Bound) (part : Part) (from to partitions : ℕ) (reduces : List Place) (own : Place) (source : Source L) → tells → is_fine own ≡ true → IsMapped tells query part from to partitions reduces own source → fault_in query part from to ≡ None
-good_part tells query part from to partitions reduces place.Rests source t fine m = (are_quiet query part from to (m.quiet refl)).fault
-good_part tells query part from to partitions reduces (place.Back None) source t fine m = (m.brought refl).2.good t
-good_part tells query part from to partitions reduces (place.Back (Some f)) source t fine m = absurd (true≢false (sym fine))
-good_part tells query part from to partitions reduces place.Waits source t fine m = absurd (true≢false (sym fine))
-good_part tells query part from to partitions reduces place.Away source t fine m = absurd (true≢false (sym fine))
+good_part : {L : Type 0} (tells : Type 0) (query : Bound) (epoch : ℕ) (part : Part) (from to partitions : ℕ) (reduces : List Place) (own : Place) (source : Source L) → tells → is_fine own ≡ true → IsMapped tells query epoch part from to partitions reduces own source → fault_in query part from to ≡ None
+good_part tells query epoch part from to partitions reduces place.Rests source t fine m = (are_quiet query part from to (m.quiet refl)).fault
+good_part tells query epoch part from to partitions reduces (place.Back None) source t fine m = (m.brought refl).2.good t
+good_part tells query epoch part from to partitions reduces (place.Back (Some f)) source t fine m = absurd (true≢false (sym fine))
+good_part tells query epoch part from to partitions reduces place.Waits source t fine m = absurd (true≢false (sym fine))
+good_part tells query epoch part from to partitions reduces place.Away source t fine m = absurd (true≢false (sym fine))
 
 -- where no part has one between two cuts, there is none
 good_between : (query : Bound) (parts : List Part) (froms tos : Cut) → ((i : ℕ) (part : Part) → slice_get parts i ≡ Some part → fault_in query part (get_or froms i 0) (get_or tos i 0) ≡ None) → fault_between query parts froms tos ≡ None
@@ -49,7 +49,7 @@ good_between query (part ∷ parts) (from ∷ froms) (to ∷ tos) good =
 -- all map tasks of an epoch are done
 pub lines_good : {L : Type 0} (tells : Type 0) (s : Setting) (cuts : Cuts) (e : ℕ) (reduces places : List Place) (sources : List (Source L))
     → ((i : ℕ) (part : Part) (own : Place) (source : Source L) → slice_get (parts_in s) i ≡ Some part → get_elem? places i ≡ some own → get_elem? sources i ≡ some source
-    → IsMapped tells s.job.bound part (get_or (cut_of (cuts e)) i 0) (get_or (cut_of (cuts (e + 1))) i 0) s.job.partitions reduces own source)
+    → IsMapped tells s.job.bound e part (get_or (cut_of (cuts e)) i 0) (get_or (cut_of (cuts (e + 1))) i 0) s.job.partitions reduces own source)
     → length places ≡ length (parts_in s) → length sources ≡ length (parts_in s) → list_all is_fine places ≡ true → tells → fault_between s.job.bound (parts_in s) (cut_of (cuts e)) (cut_of (cuts (e + 1))) ≡ None
 lines_good tells s cuts e reduces places sources mapped each_place each_source fine t =
     good_between s.job.bound (parts_in s) (cut_of (cuts e)) (cut_of (cuts (e + 1)))
@@ -57,7 +57,7 @@ lines_good tells s cuts e reduces places sources mapped each_place each_source f
     let less = slice_below (parts_in s) i part here in
     let own = there_at places i (omega (arith, less, each_place)) in
     let source = there_at sources i (omega (arith, less, each_source)) in
-    good_part tells s.job.bound part _ _ s.job.partitions reduces own.0 source.0 t (all_fine is_fine places i own.0 fine own.1) (mapped i part own.0 source.0 here own.1 source.1)))
+    good_part tells s.job.bound e part _ _ s.job.partitions reduces own.0 source.0 t (all_fine is_fine places i own.0 fine own.1) (mapped i part own.0 source.0 here own.1 source.1)))
 
 -- ---- keys
 

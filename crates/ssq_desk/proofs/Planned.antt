@@ -159,7 +159,7 @@ module _ {L S F : Type 0} (reads owned : Type 0) (lines : L → List Line) (avai
   begun_of i source here = omega (arith, at_length news i source here, made.begun.0)
 
   mapped : (reduces : List Place) (i : ℕ) (part : Part) (at : Place) (source : Source L) → slice_get (parts_in s) i ≡ Some part → get_elem? (dealt c.ends next) i ≡ some at → get_elem? news i ≡ some source
-      → IsMapped reads s.job.bound part (get_or (cut_of (then_cuts c.front.committed)) i 0) (get_or (cut_of (then_cuts (c.front.committed + 1))) i 0) s.job.partitions reduces at source
+      → IsMapped reads s.job.bound c.front.committed part (get_or (cut_of (then_cuts c.front.committed)) i 0) (get_or (cut_of (then_cuts (c.front.committed + 1))) i 0) s.job.partitions reduces at source
   mapped reduces i part at source there here mine =
       let below : i < length c.ends = omega (arith, slice_below (parts_in s) i part there, between.each_end) in
       let before : i < length olds = begun_of i source mine in

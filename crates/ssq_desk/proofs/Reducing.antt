@@ -178,6 +178,7 @@ pub partition_task : {S F : Type 0} (owned : Type 0) (written : S → List ℕ) 
 partition_task owned written s cuts e task of t = record {
   query = of.view.bound;
   epoch = of.epoch;
+  few = of.few;
   below = of.below;
   watermark = of.watermark t;
   rows = of.rows t;

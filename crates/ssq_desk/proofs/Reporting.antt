@@ -45,9 +45,9 @@ first_own : {L : Type 0} {at : Option LineAt} (tells logs : Type 0) (lines : L �
 first_own tells logs lines query part from to before t so own is = ap (λ l. fault_in query (record { stream = part.stream; part = part.part; lines = l }) from to) (sym (own t)) ∙ is
 
 -- what a map task brought of its lines is what a desk keeps of it
-pub brought_of : (tells : Type 0) (query : Bound) (part : Part) (from to partitions : ℕ) (reduces : List Place) (brought : FedRows) → ((p : ℕ) → get_elem? reduces p ≡ some place.Waits → p < partitions)
-    → IsFedFrom tells query part from to partitions brought.time brought.buckets → IsBrought tells query part from to partitions reduces brought
-brought_of tells query part from to partitions reduces brought below f = record {
+pub brought_of : (tells : Type 0) (query : Bound) (epoch : ℕ) (part : Part) (from to partitions : ℕ) (reduces : List Place) (brought : FedRows) → ((p : ℕ) → get_elem? reduces p ≡ some place.Waits → p < partitions)
+    → IsFedFrom tells query epoch part from to partitions brought.time brought.buckets → IsBrought tells query epoch part from to partitions reduces brought
+brought_of tells query epoch part from to partitions reduces brought below f = record {
   count = ap length f.apart ∙ buckets_count partitions f.rows;
   years = f.years;
   fit = λ p d less. (let in_range : p < partitions = (let n = ap length f.apart ∙ buckets_count partitions f.rows in omega (arith, less, n)) in
@@ -94,19 +94,19 @@ first_between query (x ∷ parts) (from ∷ froms) (to ∷ tos) (suc p) part at 
     ∙ first_between query parts froms tos p part at (omega (arith, a)) (omega (arith, b)) there is (λ i q less here. before (suc i) q (omega (arith, less)) here)
 
 -- a part without a fault: it was read, or has no new lines
-good_of : {L : Type 0} (tells : Type 0) (query : Bound) (part : Part) (from to partitions : ℕ) (reduces : List Place) (at : Place) (source : Source L) → tells → is_here at ≡ true → ((f : Cause) → at ≡ place.Back (Some f) → ⊥)
-    → IsMapped tells query part from to partitions reduces at source → fault_in query part from to ≡ None
-good_of tells query part from to partitions reduces place.Rests source t here no_fault m = (are_quiet query part from to (m.quiet refl)).fault
-good_of tells query part from to partitions reduces (place.Back None) source t here no_fault m = (m.brought refl).2.good t
-good_of tells query part from to partitions reduces (place.Back (Some f)) source t here no_fault m = absurd (no_fault f refl)
-good_of tells query part from to partitions reduces place.Waits source t here no_fault m = absurd (true≢false (sym here))
-good_of tells query part from to partitions reduces place.Away source t here no_fault m = absurd (true≢false (sym here))
+good_of : {L : Type 0} (tells : Type 0) (query : Bound) (epoch : ℕ) (part : Part) (from to partitions : ℕ) (reduces : List Place) (at : Place) (source : Source L) → tells → is_here at ≡ true → ((f : Cause) → at ≡ place.Back (Some f) → ⊥)
+    → IsMapped tells query epoch part from to partitions reduces at source → fault_in query part from to ≡ None
+good_of tells query epoch part from to partitions reduces place.Rests source t here no_fault m = (are_quiet query part from to (m.quiet refl)).fault
+good_of tells query epoch part from to partitions reduces (place.Back None) source t here no_fault m = (m.brought refl).2.good t
+good_of tells query epoch part from to partitions reduces (place.Back (Some f)) source t here no_fault m = absurd (no_fault f refl)
+good_of tells query epoch part from to partitions reduces place.Waits source t here no_fault m = absurd (true≢false (sym here))
+good_of tells query epoch part from to partitions reduces place.Away source t here no_fault m = absurd (true≢false (sym here))
 
 module _ {L : Type 0} (tells : Type 0) (s : Setting) (cuts : Cuts) (e : ℕ) (reduces places : List Place) (sources : List (Source L)) where
   -- all map tasks of an epoch
   abbrev pub AllMapped : Type 0
   AllMapped = (i : ℕ) (part : Part) (at : Place) (source : Source L) → slice_get (parts_in s) i ≡ Some part → get_elem? places i ≡ some at → get_elem? sources i ≡ some source
-      → IsMapped tells s.job.bound part (get_or (cut_of (cuts e)) i 0) (get_or (cut_of (cuts (e + 1))) i 0) s.job.partitions reduces at source
+      → IsMapped tells s.job.bound e part (get_or (cut_of (cuts e)) i 0) (get_or (cut_of (cuts (e + 1))) i 0) s.job.partitions reduces at source
 
   module _ (mapped : AllMapped) (each_place : length places ≡ length (parts_in s)) (each_source : length sources ≡ length (parts_in s)) (froms : length (cut_of (cuts e)) ≡ length (parts_in s)) (tos : length (cut_of (cuts (e + 1))) ≡ length (parts_in s)) where
     -- what a task of the phase met is its own cause
@@ -126,7 +126,7 @@ module _ {L : Type 0} (tells : Type 0) (s : Setting) (cuts : Cuts) (e : ℕ) (re
         (λ i q less here. (
         let placed = there_at places i (let b = slice_below (parts_in s) i q here in omega (arith, b, each_place)) in
         let source = there_at sources i (let b = slice_below (parts_in s) i q here in omega (arith, b, each_source)) in
-        good_of tells s.job.bound q _ _ s.job.partitions reduces placed.0 source.0 t (all_fine is_here places i placed.0 all placed.1)
+        good_of tells s.job.bound e q _ _ s.job.partitions reduces placed.0 source.0 t (all_fine is_here places i placed.0 all placed.1)
         (λ g back. (let later = ((c.first line).1 i g (placed.1 ∙ ap some back)).1 in omega (arith, less, later))) (mapped i q placed.0 source.0 here placed.1 source.1))) in
         ap (λ o. or_else (option_map of_line o) (option_map of_key (key_fault s.job.bound (parts_in s) (cuts_of cuts) e))) between
 

@@ -53,14 +53,14 @@ use Rattle.ssq_desk.proofs.Handing.{parts_count, tos_count, tos_within}
 use Rattle.ssq_desk.proofs.Reporting.{brought_of, cause_of_fed, map_stops}
 
 -- the rows of a task's lines are those of its part, where the logs tell
-fed_own : (tells logs : Type 0) (query : Bound) (part : Part) (st pt : ℕ) (ls : List Line) (from to partitions : ℕ) (fed : FedRows) → (tells → logs) → part.stream ≡ st → part.part ≡ pt → (tells → ls ≡ part.lines)
-    → IsFedFrom logs query (record { stream = st; part = pt; lines = ls }) from to partitions fed.time fed.buckets → IsFedFrom tells query part from to partitions fed.time fed.buckets
-fed_own tells logs query part st pt ls from to partitions fed so stream number own f = record {
+fed_own : (tells logs : Type 0) (query : Bound) (epoch : ℕ) (part : Part) (st pt : ℕ) (ls : List Line) (from to partitions : ℕ) (fed : FedRows) → (tells → logs) → part.stream ≡ st → part.part ≡ pt → (tells → ls ≡ part.lines)
+    → IsFedFrom logs query epoch (record { stream = st; part = pt; lines = ls }) from to partitions fed.time fed.buckets → IsFedFrom tells query epoch part from to partitions fed.time fed.buckets
+fed_own tells logs query epoch part st pt ls from to partitions fed so stream number own f = record {
   rows = f.rows;
   apart = f.apart;
   fit = f.fit;
   years = f.years;
-  are = λ t. f.are (so t) ∙ ap (λ q. fed_in query q from to) (same t);
+  are = λ t. f.are (so t) ∙ ap (λ q. fed_in query epoch q from to) (same t);
   greatest = λ t. f.greatest (so t) ∙ ap (λ q. time_in query q from to) (same t);
   good = λ t. sym (ap (λ q. fault_in query q from to) (same t)) ∙ f.good (so t);
 }
@@ -98,20 +98,20 @@ back_rests f e = cc
 
 module _ {L : Type 0} (tells logs : Type 0) (lines : L → List Line) (available : L → ℕ) (answers : L → List ℕ) (faults : L → ℕ) (so : tells → logs) where
   -- what a desk keeps of a map task that is back
-  pub back_mapped : (query : Bound) (part : Part) (from to partitions : ℕ) (reduces : List Place) (before after : L) (outcome : Result FedRows FeedFault) (f : Option Cause) (x : Source L)
+  pub back_mapped : (query : Bound) (epoch : ℕ) (part : Part) (from to partitions : ℕ) (reduces : List Place) (before after : L) (outcome : Result FedRows FeedFault) (f : Option Cause) (x : Source L)
       → ((p : ℕ) → get_elem? reduces p ≡ some place.Waits → p < partitions) → (tells → lines before ≡ part.lines) → (tells → to ≤ available after)
       → x.from ≡ from → f ≡ fault_of (cause_of_feed part.stream part.part) outcome → IfOk outcome (λ fed. x.fed ≡ Some fed)
-      → IfOk outcome (λ fed. IsFedFrom logs query (record { stream = part.stream; part = part.part; lines = lines before }) from to partitions fed.time fed.buckets)
+      → IfOk outcome (λ fed. IsFedFrom logs query epoch (record { stream = part.stream; part = part.part; lines = lines before }) from to partitions fed.time fed.buckets)
       → IfErr outcome (FeedCause logs lines available answers faults query part.stream part.part from to before after)
-      → IsMapped tells query part from to partitions reduces (place.Back f) x
-  back_mapped query part from to partitions reduces before after (Ok fed) f x below own enough begins is has rows why = record {
+      → IsMapped tells query epoch part from to partitions reduces (place.Back f) x
+  back_mapped query epoch part from to partitions reduces before after (Ok fed) f x below own enough begins is has rows why = record {
     begins = begins;
     quiet = λ e. absurd (back_rests f e);
     none = λ e. absurd (back_rests f e);
-    brought = λ e. (fed, has, brought_of tells query part from to partitions reduces fed below (fed_own tells logs query part part.stream part.part (lines before) from to partitions fed so refl refl own rows));
+    brought = λ e. (fed, has, brought_of tells query epoch part from to partitions reduces fed below (fed_own tells logs query epoch part part.stream part.part (lines before) from to partitions fed so refl refl own rows));
     fault = λ g e. absurd (no_fault f g is e);
   }
-  back_mapped query part from to partitions reduces before after (Err w) f x below own enough begins is has rows why = record {
+  back_mapped query epoch part from to partitions reduces before after (Err w) f x below own enough begins is has rows why = record {
     begins = begins;
     quiet = λ e. absurd (back_rests f e);
     none = λ e. absurd (back_rests f e);
@@ -124,12 +124,12 @@ module _ {L : Type 0} (tells logs : Type 0) (lines : L → List Line) (available
   back_own : (s : Setting) (cuts : Cuts) (e i : ℕ) (part : Part) (before after : L) (outcome : Result FedRows FeedFault) (f : Option Cause) → FaultsAreOfTasks → slice_get (parts_in s) i ≡ Some part → (tells → lines before ≡ part.lines)
       → (tells → get_or (cut_of (cuts (e + 1))) i 0 ≤ available after)
       → f ≡ fault_of (cause_of_feed part.stream part.part) outcome
-      → IfOk outcome (λ fed. IsFedFrom logs s.job.bound (record { stream = part.stream; part = part.part; lines = lines before }) (get_or (cut_of (cuts e)) i 0) (get_or (cut_of (cuts (e + 1))) i 0) s.job.partitions fed.time fed.buckets)
+      → IfOk outcome (λ fed. IsFedFrom logs s.job.bound e (record { stream = part.stream; part = part.part; lines = lines before }) (get_or (cut_of (cuts e)) i 0) (get_or (cut_of (cuts (e + 1))) i 0) s.job.partitions fed.time fed.buckets)
       → IfErr outcome (FeedCause logs lines available answers faults s.job.bound part.stream part.part (get_or (cut_of (cuts e)) i 0) (get_or (cut_of (cuts (e + 1))) i 0) before after)
       → tells → IsOwn (course_of s cuts) (map_id e i) f
   back_own s cuts e i part before after (Ok fed) f faulty there own enough is rows why t =
       subst (IsOwn (course_of s cuts) (map_id e i)) (sym is)
-      ((faulty s cuts e).maps i part there ∙ ap is_some ((fed_own tells logs s.job.bound part part.stream part.part (lines before) _ _ s.job.partitions fed so refl refl own rows).good t))
+      ((faulty s cuts e).maps i part there ∙ ap is_some ((fed_own tells logs s.job.bound e part part.stream part.part (lines before) _ _ s.job.partitions fed so refl refl own rows).good t))
   back_own s cuts e i part before after (Err w) f faulty there own enough is rows why t =
       subst (IsOwn (course_of s cuts) (map_id e i)) (sym is)
       (own_cause (cause_of_feed part.stream part.part w) (cause_of_fed tells logs lines available answers faults s.job.bound part _ _ before after w so own enough why))
@@ -209,7 +209,7 @@ module _ {D L S F : Type 0} (stores logs : Type 0) (lines : L → List Line) (av
   pub record IsBackHere : Type 0 where
     pub there : slice_get (parts_in (setting_of lines shown.opening)) done.number ≡ Some of.part
     pub lines_are : stores × logs → lines task.log ≡ of.part.lines
-    pub rows : IfOk done.outcome (λ fed. IsFedFrom logs (setting_of lines shown.opening).job.bound (record { stream = of.part.stream; part = of.part.part; lines = lines task.log })
+    pub rows : IfOk done.outcome (λ fed. IsFedFrom logs (setting_of lines shown.opening).job.bound shown.core.front.committed (record { stream = of.part.stream; part = of.part.part; lines = lines task.log })
         (get_or (cut_of (cuts_of (opening_in lines) shown shown.core.front.committed)) done.number 0) (get_or (cut_of (cuts_of (opening_in lines) shown (shown.core.front.committed + 1))) done.number 0) (setting_of lines shown.opening).job.partitions fed.time fed.buckets)
     pub why : IfErr done.outcome (FeedCause logs lines available answers faults (setting_of lines shown.opening).job.bound of.part.stream of.part.part
         (get_or (cut_of (cuts_of (opening_in lines) shown shown.core.front.committed)) done.number 0) (get_or (cut_of (cuts_of (opening_in lines) shown (shown.core.front.committed + 1))) done.number 0) task.log done.log)
@@ -222,6 +222,7 @@ module _ {D L S F : Type 0} (stores logs : Type 0) (lines : L → List Line) (av
       let cuts : Cuts = cuts_of (opening_in lines) shown in
       let e : ℕ = shown.core.front.committed in
       let query = of.view.bound in
+      let epoch = of.epoch in
       let stream = sym of.stream in
       let part = sym of.number in
       let from = of.from ∙ ap (λ n. get_or (cut_of (cuts e)) n 0) (sym is.number) in
@@ -229,8 +230,8 @@ module _ {D L S F : Type 0} (stores logs : Type 0) (lines : L → List Line) (av
       let partitions = of.view.partitions in record {
         there = ap (λ n. slice_get (parts_in (setting_of lines shown.opening)) n) is.number ∙ of.there;
         lines_are = of.log.lines_are;
-        rows = subst (λ (z : Bound × ℕ × ℕ × ℕ × ℕ × ℕ). IfOk done.outcome (λ fed. IsFedFrom logs z.0 (record { stream = z.1; part = z.2; lines = lines task.log }) z.3 z.4 z.5 fed.time fed.buckets))
-            (λ i. (query i, stream i, part i, from i, to i, partitions i)) is.rows;
+        rows = subst (λ (z : Bound × ℕ × ℕ × ℕ × ℕ × ℕ × ℕ). IfOk done.outcome (λ fed. IsFedFrom logs z.0 z.1 (record { stream = z.2; part = z.3; lines = lines task.log }) z.4 z.5 z.6 fed.time fed.buckets))
+            (λ i. (query i, epoch i, stream i, part i, from i, to i, partitions i)) is.rows;
         why = subst (λ (z : Bound × ℕ × ℕ × ℕ × ℕ). IfErr done.outcome (FeedCause logs lines available answers faults z.0 z.1 z.2 z.3 z.4 task.log done.log)) (λ i. (query i, stream i, part i, from i, to i)) is.fault;
         enough = λ opened t. (let within = tos_within stores logs lines available answers faults written sealed shown load whole history legal order opened task.number in
             let long = of.log.long t in
@@ -274,11 +275,11 @@ module _ {D L S F : Type 0} (stores logs : Type 0) (lines : L → List Line) (av
         );
       }) in
       let mapped : c.front.stop ≡ None → is_open c ≡ true → (q : Part) → slice_get (parts_in s) done.number ≡ Some q
-      → IsMapped (stores × logs) s.job.bound q (get_or (cut_of (cuts c.front.committed)) done.number 0) (get_or (cut_of (cuts (c.front.committed + 1))) done.number 0) s.job.partitions c.reduces (place.Back f) x = λ run opened q there.
+      → IsMapped (stores × logs) s.job.bound c.front.committed q (get_or (cut_of (cuts c.front.committed)) done.number 0) (get_or (cut_of (cuts (c.front.committed + 1))) done.number 0) s.job.partitions c.reduces (place.Back f) x = λ run opened q there.
       (let same = part_same of.part q (sym h.there ∙ there) in
       let was = (whole.holds.epoch run opened).mapped done.number of.part place.Away old h.there away here in
-      subst (λ (z : Part). IsMapped (stores × logs) s.job.bound z (get_or (cut_of (cuts c.front.committed)) done.number 0) (get_or (cut_of (cuts (c.front.committed + 1))) done.number 0) s.job.partitions c.reduces (place.Back f) x) same
-      (back_mapped (stores × logs) logs lines available answers faults (λ both. both.1) s.job.bound of.part _ _ s.job.partitions c.reduces task.log done.log done.outcome f x
+      subst (λ (z : Part). IsMapped (stores × logs) s.job.bound c.front.committed z (get_or (cut_of (cuts c.front.committed)) done.number 0) (get_or (cut_of (cuts (c.front.committed + 1))) done.number 0) s.job.partitions c.reduces (place.Back f) x) same
+      (back_mapped (stores × logs) logs lines available answers faults (λ both. both.1) s.job.bound c.front.committed of.part _ _ s.job.partitions c.reduces task.log done.log done.outcome f x
       (λ p waits. (let l = at_length c.reduces p place.Waits waits in let reduces = order.sound.reduces in let scoped = whole.round.partitions in omega (arith, l, reduces, scoped)))
       h.lines_are (h.enough opened) (from ∙ was.begins) h.fault fed h.rows h.why)) in
       holds_map (stores × logs) (Owns stores logs lines shown) lines available (LogWent logs lines available answers faults) shown.opening.logs.items written sealed s cuts shown.scope.available c (or_stop c.front.stop (due c (map_id done.epoch done.number) f)) done.number (place.Back f) x load.sources.items load.shares.items load.held.items load.out load.seen load.pending
@@ -288,7 +289,7 @@ module _ {D L S F : Type 0} (stores logs : Type 0) (lines : L → List Line) (av
       f = fault_of (cause_of_feed done.stream done.part) done.outcome
 
       due_stops : (shown.core.front.stop ≡ None → is_open shown.core ≡ true → (q : Part) → slice_get (parts_in (setting_of lines shown.opening)) done.number ≡ Some q
-          → IsMapped (stores × logs) (setting_of lines shown.opening).job.bound q (get_or (cut_of (cuts_of (opening_in lines) shown shown.core.front.committed)) done.number 0) (get_or (cut_of (cuts_of (opening_in lines) shown (shown.core.front.committed + 1))) done.number 0) (setting_of lines shown.opening).job.partitions shown.core.reduces (place.Back f) x)
+          → IsMapped (stores × logs) (setting_of lines shown.opening).job.bound shown.core.front.committed q (get_or (cut_of (cuts_of (opening_in lines) shown shown.core.front.committed)) done.number 0) (get_or (cut_of (cuts_of (opening_in lines) shown (shown.core.front.committed + 1))) done.number 0) (setting_of lines shown.opening).job.partitions shown.core.reduces (place.Back f) x)
           → shown.core.front.stop ≡ None → (g : Cause) → or_stop shown.core.front.stop (due shown.core (map_id done.epoch done.number) f) ≡ Some g → (key : Option Values) → IsStopOf (stores × logs) (Owns stores logs lines shown) (setting_of lines shown.opening) (cuts_of (opening_in lines) shown) shown.core.front.committed key g
       due_stops mapped run g e =
           let c : Core = shown.core in
@@ -299,7 +300,7 @@ module _ {D L S F : Type 0} (stores logs : Type 0) (lines : L → List Line) (av
           map_stops (stores × logs) s cuts c.front.committed c.reduces (set c.maps done.number (place.Back f)) (set load.sources.items done.number x)
           (λ j part at own there place_is own_is.
           put_both (λ j at own. (part : Part) → slice_get (parts_in s) j ≡ Some part
-          → IsMapped (stores × logs) s.job.bound part (get_or (cut_of (cuts c.front.committed)) j 0) (get_or (cut_of (cuts (c.front.committed + 1))) j 0) s.job.partitions c.reduces at own) c.maps load.sources.items done.number (place.Back f) x
+          → IsMapped (stores × logs) s.job.bound c.front.committed part (get_or (cut_of (cuts c.front.committed)) j 0) (get_or (cut_of (cuts (c.front.committed + 1))) j 0) s.job.partitions c.reduces at own) c.maps load.sources.items done.number (place.Back f) x
           (λ j at own p o part there. epoch.mapped j part at own there p o) (mapped run may.0) j at own place_is own_is part there)
           (set_length c.maps done.number (place.Back f) ∙ order.sound.maps ∙ sym (parts_count stores logs lines available answers faults written sealed shown load whole history legal order))
           (set_length load.sources.items done.number x ∙ whole.holds.parts)
@@ -307,7 +308,7 @@ module _ {D L S F : Type 0} (stores logs : Type 0) (lines : L → List Line) (av
           (tos_count stores logs lines available answers faults written sealed shown load whole history legal order may.0) (Owns stores logs lines shown) g due_is
 
       stops : (shown.core.front.stop ≡ None → is_open shown.core ≡ true → (q : Part) → slice_get (parts_in (setting_of lines shown.opening)) done.number ≡ Some q
-          → IsMapped (stores × logs) (setting_of lines shown.opening).job.bound q (get_or (cut_of (cuts_of (opening_in lines) shown shown.core.front.committed)) done.number 0) (get_or (cut_of (cuts_of (opening_in lines) shown (shown.core.front.committed + 1))) done.number 0) (setting_of lines shown.opening).job.partitions shown.core.reduces (place.Back f) x)
+          → IsMapped (stores × logs) (setting_of lines shown.opening).job.bound shown.core.front.committed q (get_or (cut_of (cuts_of (opening_in lines) shown shown.core.front.committed)) done.number 0) (get_or (cut_of (cuts_of (opening_in lines) shown (shown.core.front.committed + 1))) done.number 0) (setting_of lines shown.opening).job.partitions shown.core.reduces (place.Back f) x)
           → (o : Option Cause) → shown.core.front.stop ≡ o → (g : Cause) → or_stop shown.core.front.stop (due shown.core (map_id done.epoch done.number) f) ≡ Some g
           → IsStopOf (stores × logs) (Owns stores logs lines shown) (setting_of lines shown.opening) (cuts_of (opening_in lines) shown) shown.core.front.committed (key_in load.shares.items) g
       stops mapped (Some w) stopped g e = whole.holds.stop g (stopped ∙ sym (ap (λ o. or_stop o (due shown.core (map_id done.epoch done.number) f)) stopped) ∙ e)
@@ -315,7 +316,7 @@ module _ {D L S F : Type 0} (stores logs : Type 0) (lines : L → List Line) (av
 
       -- no map task meets a key's overflow
       stills : (shown.core.front.stop ≡ None → is_open shown.core ≡ true → (q : Part) → slice_get (parts_in (setting_of lines shown.opening)) done.number ≡ Some q
-          → IsMapped (stores × logs) (setting_of lines shown.opening).job.bound q (get_or (cut_of (cuts_of (opening_in lines) shown shown.core.front.committed)) done.number 0) (get_or (cut_of (cuts_of (opening_in lines) shown (shown.core.front.committed + 1))) done.number 0) (setting_of lines shown.opening).job.partitions shown.core.reduces (place.Back f) x)
+          → IsMapped (stores × logs) (setting_of lines shown.opening).job.bound shown.core.front.committed q (get_or (cut_of (cuts_of (opening_in lines) shown shown.core.front.committed)) done.number 0) (get_or (cut_of (cuts_of (opening_in lines) shown (shown.core.front.committed + 1))) done.number 0) (setting_of lines shown.opening).job.partitions shown.core.reduces (place.Back f) x)
           → (o : Option Cause) → shown.core.front.stop ≡ o → or_stop shown.core.front.stop (due shown.core (map_id done.epoch done.number) f) ≡ Some cause.KeyOverflow → list_all is_here shown.core.reduces ≡ true
       stills mapped (Some w) stopped e = whole.holds.still (stopped ∙ sym (ap (λ o. or_stop o (due shown.core (map_id done.epoch done.number) f)) stopped) ∙ e)
       stills mapped None run e = absurd (due_stops mapped run cause.KeyOverflow e None)

@@ -98,22 +98,22 @@ module _ {L : Type 0} (reads : Type 0) (lines : L → List Line) (available : L 
     pub number : part.part ≡ source.part
     pub log : (is_away at → ⊥) → (own : L) × (source.log ≡ Some own) × IsLogOf i part found own
 
--- What a map task brought of the lines from one offset up to another: for each partition whose reduce task still waits the rows of its
+-- What a map task of an epoch brought of the lines from one offset up to another: for each partition whose reduce task still waits the rows of its
 -- bucket, each of which a state can hold, and the greatest time; and none of the lines has a fault.
-pub record IsBrought (reads : Type 0) (query : Bound) (part : Part) (from to partitions : ℕ) (reduces : List Place) (fed : FedRows) : Type 0 where
+pub record IsBrought (reads : Type 0) (query : Bound) (epoch : ℕ) (part : Part) (from to partitions : ℕ) (reduces : List Place) (fed : FedRows) : Type 0 where
   pub count : length fed.buckets ≡ partitions
   pub years : IfSome fed.time IsLineTime
   pub fit : All (All IsFitRow) fed.buckets
   pub time : reads → fed.time ≡ time_in query part from to
   pub good : reads → fault_in query part from to ≡ None
-  pub rows : reads → (p : ℕ) → get_elem? reduces p ≡ some place.Waits → bucket_at fed.buckets p ≡ bucket_in query partitions p part from to
+  pub rows : reads → (p : ℕ) → get_elem? reduces p ≡ some place.Waits → bucket_at fed.buckets p ≡ bucket_in query epoch partitions p part from to
 
 -- what a source has of the epoch that runs, by the place of its map task
-pub record IsMapped {L : Type 0} (reads : Type 0) (query : Bound) (part : Part) (from to partitions : ℕ) (reduces : List Place) (at : Place) (source : Source L) : Type 0 where
+pub record IsMapped {L : Type 0} (reads : Type 0) (query : Bound) (epoch : ℕ) (part : Part) (from to partitions : ℕ) (reduces : List Place) (at : Place) (source : Source L) : Type 0 where
   pub begins : source.from ≡ from
   pub quiet : at ≡ place.Rests → to ≤ from
   pub none : at ≡ place.Rests → source.fed ≡ None
-  pub brought : at ≡ place.Back None → (fed : FedRows) × (source.fed ≡ Some fed) × IsBrought reads query part from to partitions reduces fed
+  pub brought : at ≡ place.Back None → (fed : FedRows) × (source.fed ≡ Some fed) × IsBrought reads query epoch part from to partitions reduces fed
   pub fault : (f : Cause) → at ≡ place.Back (Some f) → IsCauseIn reads query part from to f
 
 -- Why a reduce task brought nothing: a key overflows, the disk failed, or memory ran out.
@@ -198,7 +198,7 @@ module _ {L S F : Type 0} (reads owned : Type 0) (written : S → List ℕ) wher
   pub record IsEpoch (s : Setting) (cuts : Cuts) (c : Core) (sources : List (Source L)) (shares : List (Share S)) (out : Option (OutWork S F)) : Type 0 where
     pub froms : length (cuts c.front.committed) ≡ length (parts_in s)
     pub mapped : (i : ℕ) (part : Part) (at : Place) (source : Source L) → slice_get (parts_in s) i ≡ Some part → get_elem? c.maps i ≡ some at → get_elem? sources i ≡ some source
-        → IsMapped reads s.job.bound part (get_or (cut_of (cuts c.front.committed)) i 0) (get_or (cut_of (cuts (c.front.committed + 1))) i 0) s.job.partitions c.reduces at source
+        → IsMapped reads s.job.bound c.front.committed part (get_or (cut_of (cuts c.front.committed)) i 0) (get_or (cut_of (cuts (c.front.committed + 1))) i 0) s.job.partitions c.reduces at source
     pub shared : get_elem? c.outs 0 ≡ some place.Waits → (p : ℕ) (at : Place) (share : Share S) → get_elem? c.reduces p ≡ some at → get_elem? shares p ≡ some share → IsShare owned written s cuts c.front.committed p at share
     -- the out task is the last: once it is claimed all reduce tasks are back
     pub last : (get_elem? c.outs 0 ≡ some place.Waits) ⊎ (list_all is_fine c.reduces ≡ true)

@@ -1,5 +1,5 @@
 -- The tasks that a desk hands out.
-use Rattle.std.specs.Prelude.{◌≡◌, ◌<◌, ◌≤◌, ◌+◌, ℕ, List, [], map, get_or, slice_get, All, Option, Some, None}
+use Rattle.std.specs.Prelude.{◌≡◌, ◌<◌, ◌≤◌, ◌+◌, ◌^◌, ℕ, List, [], map, get_or, slice_get, All, Option, Some, None}
 use Rattle.ssq_time.specs.Time.{IsStampTime}
 use Rattle.ssq_value.specs.Kind.{IfTime}
 use Rattle.ssq_outside.specs.declared.gate.TaskId.{TaskId}
@@ -62,6 +62,7 @@ pub record IsReduceTask {S F : Type 0} (owned : Type 0) (written : S → List �
   pub below : task.partition < s.job.partitions
   pub view : IsViewOf s task.view
   pub epoch : task.epoch ≡ e
+  pub few : task.epoch < 2 ^ 32
   pub watermark : owned → task.watermark ≡ watermark_at s cuts e
   pub fit : All IsFitRow (joined_vecs task.rows.items)
   pub rows : owned → joined_vecs task.rows.items ≡ bucket s.job.partitions task.partition (fed s.job.bound (parts_in s) (cuts_of cuts) e)

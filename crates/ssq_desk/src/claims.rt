@@ -1,6 +1,6 @@
 //! What is next, and how tasks are handed out.
 
-ghost use Rattle.std.specs.Prelude.{◌≡◌, ◌≢◌, [], ◌∷◌, Option, Some, None, IfSome, MatchOption};
+ghost use Rattle.std.specs.Prelude.{◌≡◌, ◌≢◌, ◌<◌, ◌^◌, [], ◌∷◌, Option, Some, None, IfSome, MatchOption};
 ghost use Rattle.ssq_outside.specs.declared.gate.Kind.TheVariants as kind;
 ghost use Rattle.ssq_board.specs.declared.front.Cause.{Cause as CauseOf};
 ghost use Rattle.ssq_board.specs.declared.front.Entry.TheVariants as entry;
@@ -21,6 +21,14 @@ use ssq_outside::{Disk, Kind, Log, TaskId};
 use ssq_task::{OutTask, ReduceTask};
 use ssq_water::watermark;
 use std::mem;
+
+/// The epoch of a task: its number has 32 bits.
+fn epoch_of(id: TaskId) -> u32
+    ensures number { result ≡ id.epoch }
+    ensures few { result < 2 ^ 32 }
+{
+    id.epoch
+}
 
 impl<'a, D: Disk, L: Log> Desk<'a, D, L> {
     /// What is next.
@@ -68,6 +76,7 @@ impl<'a, D: Disk, L: Log> Desk<'a, D, L> {
     {
         self.ledger.is_legal();
         self.ledger.is_in_order();
+        let epoch = epoch_of(id);
         let watermark = watermark(&self.load.seen, self.load.view.bound);
         let number = id.number as usize;
         let held = take_held(&mut self.load.held, number);
@@ -78,7 +87,7 @@ impl<'a, D: Disk, L: Log> Desk<'a, D, L> {
         self.ledger.claim(id);
         ReduceTask {
             view: self.load.view,
-            epoch: id.epoch,
+            epoch,
             partition: id.number,
             watermark,
             rows,

@@ -366,7 +366,7 @@ module _ {D L : Type 0} (lines : L → List Line) where
       cuts = cuts_of (opening_in lines) mid
 
       by : (outcome : Result FedRows FeedFault) → fault_of (cause_of_feed done.stream done.part) outcome ≡ None
-          → IfOk outcome (λ fed. IsFedFrom logs task.view.bound.now (record { stream = task.stream; part = task.part; lines = lines task.log }) task.from task.to task.view.partitions fed.time fed.buckets)
+          → IfOk outcome (λ fed. IsFedFrom logs task.view.bound.now task.epoch (record { stream = task.stream; part = task.part; lines = lines task.log }) task.from task.to task.view.partitions fed.time fed.buckets)
           → (part : Part) → slice_get (parts_in s) task.number ≡ Some part
           → fault_in s.job.bound part (get_or (offsets_of (cuts mid.core.front.committed)) done.number 0) (get_or (offsets_of (cuts (mid.core.front.committed + 1))) done.number 0) ≡ None
       by (Err f) none fed part there = absurd (some_none_at (cause_of_feed done.stream done.part f) none)

@@ -19,8 +19,8 @@ pub(crate) fn keeps_state(shape: &Shape) -> Keeps
     ensures { result ≡ keeps_state shape.now }
 {
     match shape {
-        Shape::Group(_) | Shape::Dedup(_) => Keeps::EachPartition,
-        Shape::Plain | Shape::Join(_) => Keeps::Nothing,
+        Shape::Group(_) | Shape::Dedup(_) | Shape::Join(_) => Keeps::EachPartition,
+        Shape::Plain => Keeps::Nothing,
     }
 }
 

@@ -163,7 +163,6 @@ pub refusal_unread : (held : Held) (what : Asked) (why : Refusal) → IsRefusedF
 refusal_unread held what (refusal.Parse at own) is = (is, refl)
 refusal_unread held what (refusal.Bind fault) is = (is, refl)
 refusal_unread held what (refusal.Mode fault) is = (is, refl)
-refusal_unread held what (refusal.NotYet shape) is = (is, refl)
 refusal_unread held what refusal.NoMemory is = tt
 
 some_asked : (words : List (List ℕ)) (what : Asked) → asked words ≡ Some what → IsSome (asked words)

@@ -17,7 +17,7 @@ pub record IsQueryAt (held : Held) (file : List ℕ) (bound : Bound) : Type 0 wh
   pub query : Query
   pub accepted : IsAccepted (read_of held file) query bound
 
--- it is this bound query, whether or not that is run yet
+-- it is this bound query, which is only told of
 pub record IsKnownAt (held : Held) (file : List ℕ) (bound : Bound) : Type 0 where
   pub query : Query
   pub known : IsKnown (read_of held file) query bound

@@ -45,7 +45,6 @@ abbrev pub stop_of_refusal : Refusal → Stop
 stop_of_refusal (refusal.Parse at own) = Refused (refusal.Parse at own)
 stop_of_refusal (refusal.Bind fault) = Refused (refusal.Bind fault)
 stop_of_refusal (refusal.Mode fault) = Refused (refusal.Mode fault)
-stop_of_refusal (refusal.NotYet shape) = Refused (refusal.NotYet shape)
 stop_of_refusal refusal.NoMemory = NoMemory
 
 -- what is wrong with a line of a stream that has these columns

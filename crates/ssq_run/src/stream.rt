@@ -3,6 +3,7 @@
 ghost use Rattle.std.specs.Prelude.{◌≡◌, ◌≢◌, ◌<◌, ◌≤◌, ◌⊎◌, ℕ, true, List, None, All, map, string_bytes};
 ghost use Rattle.std.specs.List.Sorted.{IsPermutation};
 ghost use Rattle.ssq_shape.specs.declared.bound.Grouping.{Grouping as GroupingOf};
+ghost use Rattle.ssq_shape.specs.declared.bound.Joining.{Joining as JoiningOf};
 ghost use Rattle.ssq_shape.specs.declared.bound.Mode.TheVariants as mode;
 ghost use Rattle.ssq_shape.specs.declared.bound.Shape.TheVariants as shape;
 ghost use Rattle.ssq_meaning.specs.Cut.{Cuts as OffsetsOf, AreCuts};
@@ -10,6 +11,7 @@ ghost use Rattle.ssq_meaning.specs.DedupLaws.{IsKnownAt, meaning_at as first_row
 ghost use Rattle.ssq_meaning.specs.Epochs.{accepted, key_fault, on_time, watermark, watermark_before};
 ghost use Rattle.ssq_meaning.specs.Group.{has_key, is_closed};
 ghost use Rattle.ssq_meaning.specs.GroupLaws.{IsWholeAt, meaning_at, times_considered};
+ghost use Rattle.ssq_meaning.specs.JoinLaws.{FindsAll, meaning_at as joined_rows_at};
 ghost use Rattle.ssq_meaning.specs.Laws.{outs, batch};
 ghost use Rattle.ssq_meaning.specs.Meaning.{Values as ValuesOf};
 ghost use Rattle.ssq_meaning.specs.Table.{table};
@@ -31,8 +33,8 @@ use crate::tell::tell;
 use ssq_accept::files_have_one_answer;
 use ssq_meaning::{
     first_rows_add_up, forgotten_groups_lose_no_row, forgotten_keys_lose_no_row,
-    groups_in_append_add_up, groups_in_complete_are_shown_whole,
-    groups_in_update_replace_their_rows, rows_add_up, watermarks_never_fall,
+    forgotten_rows_lose_no_partner, groups_in_append_add_up, groups_in_complete_are_shown_whole,
+    groups_in_update_replace_their_rows, joined_rows_add_up, rows_add_up, watermarks_never_fall,
 };
 use ssq_outside::{Disk, Gate, Inputs, Output};
 use ssq_runner::runs_go_on;
@@ -90,7 +92,7 @@ fn work<D: Disk, I: Inputs, O: Output, G: Gate>(
 /// epochs, and at the end how many epochs there are. `show QUERY` writes the table that the checkpoint's sink files make. `explain QUERY` tells
 /// what the query is. `status QUERY` says how far the checkpoint has come. These change nothing.
 ///
-/// A refusal is one line, and its number is the status: 2, the words are none of these; 3, the file is no query that is run; 4
+/// A refusal is one line, and its number is the status: 2, the words are none of these; 3, the file is no query that can be run; 4
 /// and 5, the first line of the planned epoch that is bad or overflows, or where none is the least key that overflows; 6, 7 and 8, the inputs, the disk or the output failed; 9, the
 /// checkpoint is not of this query, these partitions and these parts, is damaged, or a log has lost lines; 10, memory ran out; 11, a limit is
 /// met.
@@ -136,6 +138,14 @@ pub fn stream_main<R: Threads + Wait + Sync, D: Disk, I: Inputs, O: Output, G: G
         outs s.job.bound (parts_in s) cuts n ≡ first_rows_at s.job.bound (parts_in s) cuts n }
     ensures repeats_are_known { (s : SettingOf) (columns : List ℕ) (cuts : OffsetsOf) (e : ℕ) → s.job.bound.shape ≡ shape.Dedup columns →
         All (λ row. IsKnownAt s.job.bound columns (parts_in s) cuts e row.key) (on_time s.job.bound (parts_in s) cuts e) }
+    // What the query that is to be run, where it joins two streams, shows over so many epochs, one after the other, is what it means on all rows of
+    // these that were not late, at the last watermark, each row as often: the pairs, and the rows without a partner whose last partner would be late.
+    // No such row comes after a row was forgotten that meets the key equalities and the bound with it: what is kept has each such row that came before.
+    ensures joined_rows_add_up { (s : SettingOf) (joining : JoiningOf) (cuts : OffsetsOf) (n : ℕ) → IsAskedFor (record { words = map string_bytes words.now; held = I.held inputs; known = I.available inputs }) (D.history disk) s →
+        s.job.bound.shape ≡ shape.Join joining →
+        IsPermutation (outs s.job.bound (parts_in s) cuts n) (joined_rows_at s.job.bound joining (parts_in s) cuts n) }
+    ensures partners_are_kept { (s : SettingOf) (joining : JoiningOf) (cuts : OffsetsOf) (e : ℕ) → s.job.bound.shape ≡ shape.Join joining →
+        All (FindsAll s.job.bound joining (parts_in s) cuts e) (on_time s.job.bound (parts_in s) cuts e) }
     // No row that is not late comes after its group was forgotten: what is kept of the group has each of its rows. And watermarks never fall.
     ensures groups_lose_no_row { (s : SettingOf) (grouping : GroupingOf) (cuts : OffsetsOf) (e : ℕ) → s.job.bound.shape ≡ shape.Group grouping →
         All (λ row. IsWholeAt s.job.bound grouping (parts_in s) cuts e row.key) (on_time s.job.bound (parts_in s) cuts e) }
@@ -183,6 +193,8 @@ pub fn stream_main<R: Threads + Wait + Sync, D: Disk, I: Inputs, O: Output, G: G
     forgotten_groups_lose_no_row();
     first_rows_add_up();
     forgotten_keys_lose_no_row();
+    joined_rows_add_up();
+    forgotten_rows_lose_no_partner();
     watermarks_never_fall();
     files_have_one_answer();
     job_is_wanted();

@@ -6,11 +6,12 @@ use Rattle.ssq_time.specs.Time.{IsStampTime}
 use Rattle.ssq_value.specs.Kind.{IfTime}
 use Rattle.ssq_shape.specs.declared.bound.Bound.{Bound}
 use Rattle.ssq_shape.specs.declared.bound.Grouping.{Grouping}
+use Rattle.ssq_shape.specs.declared.bound.Joining.{Joining}
 use Rattle.ssq_shape.specs.declared.bound.Shape.{Shape}
 use Rattle.ssq_shape.specs.declared.bound.Shape.TheVariants.{Plain, Group, Dedup, Join}
 use Rattle.ssq_meaning.specs.declared.fed_row.FedRow.{FedRow}
 use Rattle.ssq_meaning.specs.Epochs.{timely}
-use Rattle.ssq_meaning.specs.Operator.{dedup, group, operator_for, operator_of}
+use Rattle.ssq_meaning.specs.Operator.{dedup, group, join, operator_for, operator_of}
 use Rattle.ssq_step.specs.declared.fault.StepFault.{StepFault}
 use Rattle.ssq_step.specs.declared.fault.StepFault.TheVariants as step
 use Rattle.ssq_step.specs.declared.stepped.Stepped.{Stepped}
@@ -19,6 +20,7 @@ use Rattle.ssq_step.specs.Steps as steps
 use Rattle.ssq_step.specs.Steps.{IsStep}
 use Rattle.ssq_agg.specs.Steps as groups
 use Rattle.ssq_dedup.specs.Steps as repeats
+use Rattle.ssq_join.specs.Steps as pairs
 use Rattle.ssq_version.specs.State.{Ascends, IsAfter, between}
 use Rattle.ssq_version.specs.State as version
 use Rattle.ssq_version.specs.Text.{delta_text}
@@ -38,7 +40,7 @@ module _ (query : Bound) (state : version.State) (closing : List Timed) (old new
   timely_by Plain can rows = absurd can
   timely_by (Group grouping) can rows = refl
   timely_by (Dedup columns) can rows = refl
-  timely_by (Join joining) can rows = absurd can
+  timely_by (Join joining) can rows = refl
 
   pub timely_is : CanStep query state closing old new before now → (rows : List FedRow) → not_past now rows ≡ timely query now rows
   unfolding operator_of
@@ -48,7 +50,7 @@ module _ (query : Bound) (state : version.State) (closing : List Timed) (old new
   was_by Plain can = absurd can
   was_by (Group grouping) can = can.kept
   was_by (Dedup columns) can = can.kept
-  was_by (Join joining) can = absurd can
+  was_by (Join joining) can = can.kept
 
   -- the state is what the operator keeps over the rows before
   pub was_kept : CanStep query state closing old new before now → state ≡ (operator_of query).state old before
@@ -84,6 +86,20 @@ module _ (query : Bound) (state : version.State) (closing : List Timed) (old new
     pub repeats_cause : IfErr result (λ fault. fault ≡ step.NoMemory) → IfErr result (steps.IsCause (operator_of query) old new before now)
     repeats_cause none = IfErr-weaker result (λ fault. fault ≡ step.NoMemory) (steps.IsCause (operator_of query) old new before now) no_memory none
 
+    pub pairs_step : (joining : Joining) → query.shape ≡ Join joining → (pairs.Given query joining state closing old new before now → IfOk result (IsStep (join query joining) state old new before now))
+        → IfOk result (IsStep (operator_of query) state old new before now)
+    unfolding operator_of
+    pairs_step joining is gives =
+        subst (λ (shape : Shape). IfOk result (IsStep (operator_for shape query) state old new before now)) (sym is)
+        (gives (subst (λ (shape : Shape). CanStepBy shape query state closing old new before now) is can))
+
+    pub pairs_cause : (joining : Joining) → query.shape ≡ Join joining → (pairs.Given query joining state closing old new before now → IfErr result (steps.IsCause (join query joining) old new before now))
+        → IfErr result (steps.IsCause (operator_of query) old new before now)
+    unfolding operator_of
+    pairs_cause joining is gives =
+        subst (λ (shape : Shape). IfErr result (steps.IsCause (operator_for shape query) old new before now)) (sym is)
+        (gives (subst (λ (shape : Shape). CanStepBy shape query state closing old new before now) is can))
+
 -- ---- the task
 
 -- a state is given to a query that keeps one alone
@@ -92,7 +108,7 @@ given_by : {S : Type 0} (shape : Shape) (query : Bound) (partition : ℕ) (old n
 given_by Plain query partition old new before now state given = absurd (true≢false (ap is_some given))
 given_by (Group grouping) query partition old new before now state given = given
 given_by (Dedup columns) query partition old new before now state given = given
-given_by (Join joining) query partition old new before now state given = absurd (true≢false (ap is_some given))
+given_by (Join joining) query partition old new before now state given = given
 
 module _ {S F : Type 0} (tells : Type 0) (written : S → List ℕ) (sealed : F → List ℕ) (query : Bound) (epoch partition : ℕ) (now : Option ℤ) (new : List FedRow) (state : State S)
     (ascend : (rows : List FedRow) (at : Option ℤ) → Ascends ((operator_of query).state rows at)) (stepped : Stepped) (held : Held) (file : F)

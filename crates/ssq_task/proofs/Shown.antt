@@ -37,7 +37,7 @@ plain_by : (S : Type 0) (shape : Shape) (query : Bound) (partition : ℕ) (old n
 plain_by S Plain query partition old new before now given = refl
 plain_by S (Group grouping) query partition old new before now given = absurd given
 plain_by S (Dedup columns) query partition old new before now given = absurd given
-plain_by S (Join joining) query partition old new before now given = refl
+plain_by S (Join joining) query partition old new before now given = absurd given
 
 plain_of : (S : Type 0) (query : Bound) (partition : ℕ) (old new : List FedRow) (before now : Option ℤ) → IsGiven {S = S} query partition old new before now None → operator_of query ≡ plain
 unfolding operator_of

@@ -92,13 +92,12 @@ pub record IsGivenState {S : Type 0} (shape : Shape) (query : Bound) (partition 
   pub own : state.held.store.partition ≡ partition
   pub given : CanStepBy shape query state.held.store.state state.held.closing old new before now
 
--- What the operator of a shape needs: a query that keeps nothing has no state, one that groups or deduplicates has such a one. The operator
--- of Join is to come, and keeps nothing yet.
+-- What the operator of a shape needs: a query that keeps nothing has no state, any other has such a one.
 abbrev pub IsGivenBy : {S : Type 0} → Shape → Bound → (partition : ℕ) → (old new : List FedRow) → (before now : Option ℤ) → Option (State S) → Type 0
 IsGivenBy Plain query partition old new before now state = state ≡ None
 IsGivenBy (Group grouping) query partition old new before now state = IsSomeAnd state (IsGivenState (Group grouping) query partition old new before now)
 IsGivenBy (Dedup columns) query partition old new before now state = IsSomeAnd state (IsGivenState (Dedup columns) query partition old new before now)
-IsGivenBy (Join joining) query partition old new before now state = state ≡ None
+IsGivenBy (Join joining) query partition old new before now state = IsSomeAnd state (IsGivenState (Join joining) query partition old new before now)
 
 -- what the operator of a query needs
 abbrev pub IsGiven : {S : Type 0} → Bound → (partition : ℕ) → (old new : List FedRow) → (before now : Option ℤ) → Option (State S) → Type 0

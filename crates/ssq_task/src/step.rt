@@ -51,7 +51,16 @@ pub(crate) fn step_operator(
             epoch,
             watermark,
         ),
-        Shape::Plain | Shape::Join(_) => Ok(Stepped {
+        Shape::Join(_) => ssq_join::step(
+            alloc,
+            bound,
+            &held.store.state,
+            &held.closing,
+            rows,
+            epoch,
+            watermark,
+        ),
+        Shape::Plain => Ok(Stepped {
             change: Change::new(alloc),
             rows: Vec::new(alloc),
         }),

@@ -17,7 +17,7 @@ use Rattle.ssq_core.specs.Course.{Ends, Cuts}
 use Rattle.ssq_core.specs.Sound.{AreProper}
 use Rattle.ssq_logs.specs.Asked.{most_lines}
 use Rattle.ssq_course.specs.Setting.{Setting, parts_in, cut_of, cuts_of, is_end_of, is_start, is_within, job_of}
-use Rattle.ssq_course.specs.States.{AreOfStates, CanHoldBy, CoverFewLines, StatesCanBeHeld}
+use Rattle.ssq_course.specs.States.{AreOfStates, CanHoldBy, CoverFewLines, HasFewColumns, StatesCanBeHeld}
 use Rattle.ssq_open.specs.declared.wanted.Lens.{Lens}
 use Rattle.ssq_open.specs.Lens.{found_from, IsFew}
 use Rattle.ssq_terms.specs.Setting.{Runs, IsSettingOf, AreFound, found_lines}
@@ -109,7 +109,7 @@ module _ (s : Setting) (bound : Bound) (partitions : Option ℕ) (lens : Lens) (
   can_hold Plain cuts n runs windows few = tt
   can_hold (Group grouping) cuts n runs windows few = (record { keys = runs.keys; aggregates = runs.aggregates; windows = windows }, few)
   can_hold (Dedup columns) cuts n runs windows few = (runs, few)
-  can_hold (Join joining) cuts n runs windows few = absurd runs
+  can_hold (Join joining) cuts n runs windows few = (record { keys = runs.0; columns = subst (λ (b : Bound). All HasFewColumns b.streams) (sym is.query) is.runs.columns }, few)
 
 -- with the laws of the states' files
 pub states_are : ((s : Setting) (cuts : Cuts) → AreOfStates s cuts) → StatesCanBeHeld → StatesAreJobs

@@ -6,6 +6,7 @@ pub mod Dealing
 pub mod Faults
 pub mod Marks
 pub mod Overflowing
+pub mod Placed
 pub mod Printing
 pub mod Raising
 pub mod Rounds

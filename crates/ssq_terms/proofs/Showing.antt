@@ -17,12 +17,12 @@ use Rattle.ssq_terms.specs.Rows.{bucket_in, PartsFeedPartitions, PartsWithoutLin
 
 pub parts_feed : PartsFeedPartitions
 unfolding of_parts
-parts_feed query [] froms tos partitions p = refl
-parts_feed query (part ∷ parts) [] tos partitions p = refl
-parts_feed query (part ∷ parts) (from ∷ froms) [] partitions p = refl
-parts_feed query (part ∷ parts) (from ∷ froms) (to ∷ tos) partitions p =
-    ap (λ (rows : List FedRow). bucket_in query partitions p part from to ++ rows) (parts_feed query parts froms tos partitions p)
-    ∙ sym (filter-append (λ (row : FedRow). place_of (keys_of row.key) partitions == p) (fed_in query part from to) (fed_between query parts froms tos))
+parts_feed query epoch [] froms tos partitions p = refl
+parts_feed query epoch (part ∷ parts) [] tos partitions p = refl
+parts_feed query epoch (part ∷ parts) (from ∷ froms) [] partitions p = refl
+parts_feed query epoch (part ∷ parts) (from ∷ froms) (to ∷ tos) partitions p =
+    ap (λ (rows : List FedRow). bucket_in query epoch partitions p part from to ++ rows) (parts_feed query epoch parts froms tos partitions p)
+    ∙ sym (filter-append (λ (row : FedRow). place_of (keys_of row.key) partitions == p) (fed_in query epoch part from to) (fed_between query epoch parts froms tos))
 
 no_lines : (from to : ℕ) (lines : List Line) → to ≤ from → lines_between from to lines ≡ []
 no_lines from to lines le = ap (λ (m : ℕ). take m (drop from lines)) (let none : to - from ≡ 0 = omega (arith, le) in none)
@@ -31,7 +31,7 @@ pub are_quiet : PartsWithoutLinesAreQuiet
 are_quiet query part from to le =
     let none = no_lines from to part.lines le in
     record {
-      rows = ap (λ (lines : List Line). flat_map (λ line. fed_at query part line.0 line.1) (enumerate_from from lines)) none;
+      rows = λ epoch. ap (λ (lines : List Line). flat_map (λ line. fed_at query epoch part line.0 line.1) (enumerate_from from lines)) none;
       time = ap (λ (lines : List Line). greatest (map (λ line. time_at query part.stream line) lines)) none;
       fault = ap (λ (lines : List Line). first_of_all (map (λ line. fault_at query part line.0 line.1) (enumerate_from from lines))) none;
     }

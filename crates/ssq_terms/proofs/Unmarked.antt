@@ -8,12 +8,12 @@ use Rattle.ssq_json.specs.declared.bad_row.BadRow.{BadRow}
 use Rattle.ssq_shape.specs.declared.bound.Bound.{Bound}
 use Rattle.ssq_shape.specs.declared.bound.Stream.{Stream}
 use Rattle.ssq_shape.specs.Evaluation.{time_in as time_of_value}
-use Rattle.ssq_meaning.specs.Meaning.{Line, Values, lines_between}
+use Rattle.ssq_meaning.specs.Meaning.{Line, Values, layout_in, lines_between}
 use Rattle.ssq_meaning.specs.Parts.{Part}
 use Rattle.ssq_meaning.specs.Cut.{Cut, of_parts}
 use Rattle.ssq_meaning.specs.Cut.{Cuts as Offsets}
 use Rattle.ssq_meaning.specs.Times.{later, greatest}
-use Rattle.ssq_meaning.specs.Feeding.{layout_in, layout_at, read_at, time_if, time_at, time_in}
+use Rattle.ssq_meaning.specs.Feeding.{layout_at, read_at, time_if, time_at, time_in}
 use Rattle.ssq_meaning.specs.Epochs.{seen, time_between}
 use Rattle.ssq_terms.specs.Setting.{HasEventIfDelayed}
 use Rattle.ssq_terms.specs.Laws.{UnmarkedHaveNoTimes}

@@ -1,5 +1,5 @@
 -- What a partition goes on from, epoch after epoch: what its reduce task is given, and what the task brings.
-use Rattle.std.specs.Prelude.{◌≡◌, ◌<◌, ◌≤◌, ◌+◌, ◌++◌, ℕ, ℤ, List, false, filter_map, get_or, Option, Some, None, option_map, IfOk, IfErr, IfSome}
+use Rattle.std.specs.Prelude.{◌≡◌, ◌<◌, ◌≤◌, ◌+◌, ◌^◌, ◌++◌, ℕ, ℤ, List, false, filter_map, get_or, Option, Some, None, option_map, IfOk, IfErr, IfSome}
 use Rattle.std.specs.List.{range_with_len}
 use Rattle.ssq_shape.specs.declared.bound.Bound.{Bound}
 use Rattle.ssq_meaning.specs.declared.fed_row.FedRow.{FedRow}
@@ -83,11 +83,12 @@ pub record CoverFound (s : Setting) (lens : Lens) (cuts : Cuts) (n : ℕ) : Type
 
 -- ---- a reduce task
 
--- A reduce task is that of its partition in epoch e: with the epoch's watermark, the rows that the epoch feeds to the partition, and what the
+-- A reduce task is that of its partition in epoch e, whose number has 32 bits: with the epoch's watermark, the rows that the epoch feeds to the partition, and what the
 -- partition holds after the epochs before.
 pub record IsReduceOf {S F : Type 0} (s : Setting) (cuts : Cuts) (e : ℕ) (task : ReduceTask S F) : Type 0 where
   pub query : task.view.bound.now ≡ s.job.bound
   pub epoch : task.epoch ≡ e
+  pub few : task.epoch < 2 ^ 32
   pub below : task.partition < s.job.partitions
   pub watermark : task.watermark ≡ watermark_at s cuts e
   pub rows : joined_vecs task.rows.items ≡ fed_to s cuts e task.partition

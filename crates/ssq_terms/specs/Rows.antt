@@ -15,17 +15,17 @@ use Rattle.ssq_core.specs.Course.{Cuts}
 use Rattle.ssq_course.specs.Setting.{Setting, parts_in, cuts_of, rows_at, partition_out}
 use Rattle.ssq_course.specs.Laws.{AreShownApart}
 
--- what the lines of a part feed to a partition
-abbrev pub bucket_in : Bound → (partitions p : ℕ) → Part → (from to : ℕ) → List FedRow
-bucket_in query partitions p part from to = bucket partitions p (fed_in query part from to)
+-- what the lines of a part feed to a partition in an epoch
+abbrev pub bucket_in : Bound → (epoch partitions p : ℕ) → Part → (from to : ℕ) → List FedRow
+bucket_in query epoch partitions p part from to = bucket partitions p (fed_in query epoch part from to)
 
 -- a partition is fed the rows of each part, part by part in order
 abbrev pub PartsFeedPartitions : Type 0
-PartsFeedPartitions = (query : Bound) (parts : List Part) (froms tos : Cut) (partitions p : ℕ) → joined (of_parts (bucket_in query partitions p) parts froms tos) ≡ bucket partitions p (fed_between query parts froms tos)
+PartsFeedPartitions = (query : Bound) (epoch : ℕ) (parts : List Part) (froms tos : Cut) (partitions p : ℕ) → joined (of_parts (bucket_in query epoch partitions p) parts froms tos) ≡ bucket partitions p (fed_between query epoch parts froms tos)
 
 -- a part without lines in an epoch feeds nothing, and has no time and no fault
 pub record IsQuiet (query : Bound) (part : Part) (from to : ℕ) : Type 0 where
-  pub rows : fed_in query part from to ≡ []
+  pub rows : (epoch : ℕ) → fed_in query epoch part from to ≡ []
   pub time : time_in query part from to ≡ None
   pub fault : fault_in query part from to ≡ None
 

@@ -8,6 +8,7 @@ use Rattle.ssq_shape.specs.declared.bound.Stream.{Stream}
 use Rattle.ssq_shape.specs.declared.bound.Shape.{Shape}
 use Rattle.ssq_shape.specs.declared.bound.Shape.TheVariants.{Plain, Group, Dedup, Join}
 use Rattle.ssq_shape.specs.Windows.{HasWindows}
+use Rattle.ssq_meaning.specs.JoinLaws.{IsBounded}
 use Rattle.ssq_meaning.specs.Meaning.{Line}
 use Rattle.ssq_meaning.specs.Epochs.{joined}
 use Rattle.ssq_water.specs.Water.{HasDelays}
@@ -15,6 +16,7 @@ use Rattle.ssq_logs.specs.Asked.{most_lines}
 use Rattle.ssq_open.specs.declared.wanted.Lens.{Lens}
 use Rattle.ssq_open.specs.Lens.{CanBeAsked, counts_of}
 use Rattle.ssq_course.specs.Setting.{Setting}
+use Rattle.ssq_course.specs.States.{HasFewColumns}
 
 -- how many lines were found of each part of the job, in order
 abbrev pub found_lines : Lens → List ℕ
@@ -36,15 +38,16 @@ pub record IsLimited (grouping : Grouping) : Type 0 where
   pub keys : length grouping.keys ≤ 64
   pub aggregates : length grouping.aggregates ≤ 64
 
--- The shapes of query that run: those that keep nothing, groups within the limits, and rows without repeats by at most 64 columns.
+-- The shapes of query that run: those that keep nothing, groups within the limits, rows without repeats by at most 64 columns, and joins with
+-- at most 64 key equalities and, if there is one, a bound around the left row's time.
 abbrev pub Runs : Shape → Type 0
 Runs Plain = Unit {0}
 Runs (Group grouping) = IsLimited grouping
 Runs (Dedup columns) = length columns ≤ 64
-Runs (Join joining) = ⊥
+Runs (Join joining) = (length joining.keys ≤ 64) × IsBounded joining
 
 -- A query that can be run: it reads one stream or two, its text is UTF-8 of a length of 64 bits, its delays and windows are ones that the
--- language has, and a stream has an event column only with a delay.
+-- language has, and a stream has at most 64 columns, and an event column only with a delay.
 pub record CanRun (bound : Bound) : Type 0 where
   pub shape : Runs bound.shape
   pub few_streams : length bound.streams ≤ 2
@@ -52,6 +55,7 @@ pub record CanRun (bound : Bound) : Type 0 where
   pub few : length bound.text < 2 ^ 64
   pub delays : HasDelays bound
   pub windows : HasWindows bound
+  pub columns : All HasFewColumns bound.streams
   pub events : All HasEventIfDelayed bound.streams
 
 -- The setting is of this query, with 1 to 64 partitions, which are those that are asked for, where that is asked; and of the parts of

@@ -3,9 +3,11 @@
 ghost use Rattle.ssq_terms.specs.Partitions.{KeysAreLeast, PartitionsAreBrought, PartitionsContinue};
 
 use ssq_agg::few_rows_are_steady;
+use ssq_course::joined_rows_are_wide;
 use ssq_meaning::{
-    epochs_of_groups_follow, epochs_without_repeats_follow, fed_rows_are_few, fed_rows_are_fit,
-    groups_are_fed_by_their_keys, groups_fall_into_partitions, repeats_are_fed_by_their_keys,
+    epochs_of_groups_follow, epochs_of_joins_follow, epochs_without_repeats_follow,
+    fed_rows_are_few, fed_rows_are_fit, groups_are_fed_by_their_keys, joined_rows_are_kept_apart,
+    partitions_overflow_on_the_least_key, repeats_are_fed_by_their_keys, rows_are_fed_to_joins,
 };
 use ssq_outside::Stage;
 
@@ -21,6 +23,10 @@ pub fn partitions_continue<S: Stage>()
     groups_are_fed_by_their_keys();
     epochs_without_repeats_follow();
     repeats_are_fed_by_their_keys();
+    epochs_of_joins_follow();
+    rows_are_fed_to_joins();
+    joined_rows_are_wide();
+    joined_rows_are_kept_apart();
     few_rows_are_steady();
 }
 
@@ -28,5 +34,5 @@ pub fn partitions_continue<S: Stage>()
 pub fn partitions_overflow()
     ensures { KeysAreLeast }
 {
-    groups_fall_into_partitions();
+    partitions_overflow_on_the_least_key();
 }

@@ -9,6 +9,8 @@ row_laws c = record {
   own_few = c.fed_rows_are_few.ensures.bucket;
   lengths = c.epochs_of_groups_follow.ensures.lengths;
   repeats_lengths = c.repeats_are_fed_by_their_keys.ensures.accepted;
+  joined = c.rows_are_fed_to_joins.ensures.accepted;
+  joined_wide = λ query joining is. (c.joined_rows_are_wide.ensures.accepted query joining is).wide;
   ascend = c.kept_keys_ascend.ensures;
 }
 

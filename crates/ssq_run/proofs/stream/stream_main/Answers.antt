@@ -3,6 +3,7 @@ use Rattle.ssq_run.specs.Program.{Given, went_of}
 use Rattle.ssq_run.specs.Stopping.{stop_in}
 use Rattle.ssq_course.specs.Setting.{parts_in}
 use Rattle.ssq_run.proofs.Going as going
+use Rattle.ssq_run.proofs.Runnable.{asked_is_bounded}
 use Rattle.ssq_run.proofs.ShownKeys.{asked_shows_keys}
 use Rattle.ssq_run.proofs.Looking.{looked_well}
 use Rattle.ssq_run.proofs.Telling.{status_since, wrote_since, usage_told, no_command_told, log_told, disk_told, out_told}
@@ -97,6 +98,13 @@ returns-clause-first_rows_add_up g c = λ s columns cuts n is. c.first_rows_add_
 
 pub returns-clause-repeats_are_known : goal.returns-clause-repeats_are_known
 returns-clause-repeats_are_known g c = λ s columns cuts e is. c.forgotten_keys_lose_no_row.ensures.known s.job.bound columns is (parts_in s) cuts e
+
+pub returns-clause-joined_rows_add_up : goal.returns-clause-joined_rows_add_up
+returns-clause-joined_rows_add_up g c = λ s joining cuts n of is.
+    c.joined_rows_add_up.ensures.rows s.job.bound joining is (asked_is_bounded _ _ s joining of is) (parts_in s) cuts n
+
+pub returns-clause-partners_are_kept : goal.returns-clause-partners_are_kept
+returns-clause-partners_are_kept g c = λ s joining cuts e is. c.forgotten_rows_lose_no_partner.ensures.found s.job.bound joining is (parts_in s) cuts e
 
 pub returns-clause-watermarks_rise : goal.returns-clause-watermarks_rise
 returns-clause-watermarks_rise g c = λ s cuts e f later. c.watermarks_never_fall.ensures s.job.bound (parts_in s) cuts e f later

@@ -18,6 +18,14 @@ laws g c = record {
   repeats_follow = c.epochs_without_repeats_follow.ensures;
   keyed_accepted = c.repeats_are_fed_by_their_keys.ensures.accepted;
   keyed_on_time = c.repeats_are_fed_by_their_keys.ensures.on_time;
+  joins_follow = c.epochs_of_joins_follow.ensures;
+  joined_accepted = c.rows_are_fed_to_joins.ensures.accepted;
+  joined_on_time = c.rows_are_fed_to_joins.ensures.on_time;
+  wide_accepted = c.joined_rows_are_wide.ensures.accepted;
+  wide_on_time = c.joined_rows_are_wide.ensures.on_time;
+  apart = c.joined_rows_are_kept_apart.ensures.rows;
+  apart_bucket = c.joined_rows_are_kept_apart.ensures.bucket;
+  apart_parts = c.joined_rows_are_kept_apart.ensures.parts;
   steady = c.few_rows_are_steady.ensures;
 }
 

@@ -1,4 +1,4 @@
-use Rattle.std.proofs.Common.{List, Option, None, get_or, ◌≡◌, ◌++◌, [], length, set, refl, sym, ap, ◌∙◌, subst, arith}
+use Rattle.std.proofs.Common.{ℕ, List, Option, None, get_or, ◌≡◌, ◌++◌, [], length, set, refl, sym, ap, ◌∙◌, subst, arith}
 use Rattle.std.specs.Prelude.{All, vec_capacity}
 use Rattle.std.specs.Vec.{with_item, with_items}
 use Rattle.std.proofs.lemmas.List.{with_items_is}
@@ -92,13 +92,14 @@ returns-clause-task g c =
     let own : c.take_held-held.result ≡ get_or s.load.held.items c.args.id.number None = c.take_held-held.ensures.held ∙ ap (λ (l : List (Option Held)). get_or l c.args.id.number None) c.deref_mut.ensures.value in
     let stage = c.take_stage-stage.ensures.stage ∙ ap (λ (x : Share g.row.D-Stage.Denot). x.stage) same in
     let state = c.state_with.ensures ∙ (λ i. state_with (own i) (stage i)) in
-    let handed : ReduceTask g.row.D-Stage.Denot g.row.D-Stage-Sealed.Denot = (record { view = s.load.view; epoch = c.args.id.epoch; partition = c.args.id.number; watermark = c.watermark-watermark.result; rows = c.take_buckets.new.into; state = c.state_with.result }) in
+    let handed : ReduceTask g.row.D-Stage.Denot g.row.D-Stage-Sealed.Denot = (record { view = s.load.view; epoch = c.epoch_of-epoch.result; partition = c.args.id.number; watermark = c.watermark-watermark.result; rows = c.take_buckets.new.into; state = c.state_with.result }) in
     subst (λ (x : Shown g.row.D.Denot (Round g.row.L.Denot)). IsReduceOf g.D.Disk.tells g.L.Log.tells g.L.Log.lines g.D.Stage.Stage.written x handed) (sym c.claim.ensures)
     (after_claim g.L.Log.lines s.ledger s.ledger.disk c.args.id (λ (cuts : Cuts). IsReduceTask (Owns g.D.Disk.tells g.L.Log.tells g.L.Log.lines s.ledger) g.D.Stage.Stage.written (setting_of g.L.Log.lines s.ledger.opening) cuts s.ledger.core.front.committed handed)
     (record {
       below = h.less;
       view = c.self.invariant.view;
-      epoch = m.2;
+      epoch = c.epoch_of-epoch.ensures.number ∙ m.2;
+      few = c.epoch_of-epoch.ensures.few;
       watermark = watermark_here _ _ _ _ _ _ _ _ _ _ c.self.invariant g.D.Disk.history c.is_legal.ensures.legal c.is_in_order.ensures m.0 c.watermark-watermark.result c.watermark-watermark.ensures.watermark;
       fit = subst (λ (l : List FedRow). All IsFitRow l) (sym rows) (rows_fit _ _ _ _ _ _ _ _ _ _ c.self.invariant g.D.Disk.history c.is_legal.ensures.legal c.is_in_order.ensures c.args.id.number h);
       rows = λ y. rows ∙ h.rows y;
@@ -109,4 +110,6 @@ pub returns-clause-back : goal.returns-clause-back
 returns-clause-back g c fault =
     let s = c.self.inside in
     let m = subst (λ (x : Shown g.row.D.Denot (Round g.row.L.Denot)). May x.scope x.core (entry.Claim c.args.id)) (sym c.self.view_is) c.requires.may in
-    subst (λ (x : Shown g.row.D.Denot (Round g.row.L.Denot)). May x.scope x.core (entry.Report (reduce_id c.args.id.epoch c.args.id.number) fault)) (sym c.claim.ensures) (may_report s.ledger.scope s.ledger.core c.args.id kind.Reduce fault c.requires.reduce m)
+    subst (λ (x : Shown g.row.D.Denot (Round g.row.L.Denot)). May x.scope x.core (entry.Report (reduce_id c.epoch_of-epoch.result c.args.id.number) fault)) (sym c.claim.ensures)
+    (subst (λ (epoch : ℕ). May s.ledger.scope (after s.ledger.scope s.ledger.core (entry.Claim c.args.id)) (entry.Report (reduce_id epoch c.args.id.number) fault)) (sym c.epoch_of-epoch.ensures.number)
+    (may_report s.ledger.scope s.ledger.core c.args.id kind.Reduce fault c.requires.reduce m))
