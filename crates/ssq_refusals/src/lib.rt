@@ -4,6 +4,8 @@
 #[cfg(test)]
 mod groups;
 #[cfg(test)]
+mod limits;
+#[cfg(test)]
 mod modes;
 #[cfg(test)]
 mod names;

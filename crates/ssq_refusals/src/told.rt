@@ -6,7 +6,7 @@ use std::process::Abort;
 use std::test::Fail;
 
 /// `accepted`, or the refusal of a file.
-fn told(alloc: Global, file: &[u8]) -> Result<String, Fail> {
+pub(crate) fn told(alloc: Global, file: &[u8]) -> Result<String, Fail> {
     match accept(alloc, file) {
         Ok(_accepted) => Ok(String::from_str(alloc, "accepted")?),
         Err(refusal) => Ok(format!(in alloc; "{refusal}")?),

@@ -40,7 +40,7 @@ fn repeats_are_left_out(rt: HostRuntime) -> Result<(), Fail> {
 }
 
 /// Whether the disk has these files.
-fn has_all<D: Disk>(alloc: Global, disk: &mut D, files: Files) -> bool {
+pub(crate) fn has_all<D: Disk>(alloc: Global, disk: &mut D, files: Files) -> bool {
     let mut all = true;
     for file in files {
         all = all && has(alloc, disk, *file);

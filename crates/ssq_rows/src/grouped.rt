@@ -16,7 +16,7 @@ pub(crate) struct Shown {
     pub(crate) files: Files,
 }
 
-const IN_THREE: &[&str] = &[
+pub(crate) const IN_THREE: &[&str] = &[
     "ssq",
     "run",
     "q.sql",

@@ -7,6 +7,10 @@ mod group_tests;
 #[cfg(test)]
 mod grouped;
 #[cfg(test)]
+mod join_tests;
+#[cfg(test)]
+mod joined;
+#[cfg(test)]
 mod repeated;
 #[cfg(test)]
 mod rows;
