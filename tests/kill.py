@@ -1,7 +1,7 @@
 #!/usr/bin/env python3
 """Kills runs of the built program at random moments, and judges every file that they leave.
 
-    python3 tests/kill.py [RUNS] [SEED] [--shape plain|group|dedup]      (200 killed runs, plain; `make` builds bin/ssq)
+    python3 tests/kill.py [RUNS] [SEED] [--shape plain|group|dedup|join]      (200 killed runs, plain; `make` builds bin/ssq)
 
 A query with a watermark reads three parts, to which a writer appends while runs of many rounds go over them and between the
 runs. Each run is killed (SIGKILL) after a random time, from the first millisecond on, so that openings are hit too, and the
@@ -13,6 +13,8 @@ next one begins on what is left: one to five killed runs for each checkpoint, th
   some of them for one of their windows alone.
 - dedup: rows without repeats, in Append by a key and the event time, so that keys are forgotten, and in Update by two other columns, so
   that none is. Repeats come within an epoch and later, with other values.
+- join: two parts of a left stream and one of a right, over three partitions: left, right and inner joins within a bound, and an inner join
+  without one, whose rows are kept for good. Keys are NULL now and then, and some rows are late.
 
 After each run the plans are read, to learn the cuts, and nothing else is taken from the program: what each plan, commit, sink
 file and file of the state has to hold, and each line that was printed, is computed from the logs (tests/model.py), and compared
@@ -42,7 +44,7 @@ import threading
 import time
 
 import model
-from model import Aggregate, Direction, Function, Kind, Mode, Query, Window, compare, compute, disjunction
+from model import Aggregate, Direction, Function, Join, Kind, Mode, Outer, Query, Window, compare, compute, disjunction
 
 SSQ = pathlib.Path(__file__).resolve().parent.parent / "bin" / "ssq"
 COLUMNS = {"ts": Kind.TIMESTAMP, "k": Kind.STRING, "v": Kind.BIGINT}
@@ -62,15 +64,19 @@ class Job:
     query: Query
     parts: int
     partitions: int = 1
+    rights: int = 0  # parts of the second stream, which are among `parts`
+    lines: int = LINES  # of each part
 
     def logs(self, folder):
-        return [folder / f"s.{part}.jsonl" for part in range(self.parts)]
+        sources, lefts = [source.stream for source in self.query.sources()], self.parts - self.rights
+        parts = [(0, part) for part in range(lefts)] + [(1, part) for part in range(self.rights)]
+        return [folder / f"{sources[stream]}.{part}.jsonl" for stream, part in parts]
 
     def words(self):
         return ["--partitions", str(self.partitions)] if self.partitions > 1 else []
 
     def epochs(self, logs, cuts):
-        return model.Epochs(self.query, logs, cuts, self.partitions)
+        return model.Epochs(self.query, logs, cuts, self.partitions, self.parts - self.rights)
 
 
 def plain_job(parts, watched):
@@ -138,6 +144,32 @@ def dedup_job(mode):
     return Job(mode.name, query, parts=3, partitions=3)
 
 
+def join_job(outer, bound=(-10 * SECOND, 20 * SECOND)):
+    """Rows of `l` and `r` of one key, and within the bound where there is one."""
+    words = {Outer.NEITHER: "JOIN", Outer.LEFT: "LEFT JOIN", Outer.RIGHT: "RIGHT JOIN"}[outer]
+    near = " AND r.ts BETWEEN l.ts - INTERVAL '10 seconds' AND l.ts + INTERVAL '20 seconds'" if bound else ""
+    streams = "; ".join(STREAM.replace("STREAM s", f"STREAM {name}").replace("'s'", f"'{name}'") + WATERMARK for name in "lr")
+    query = Query(
+        text=f"{streams}; SELECT l.k AS key, l.v AS a, r.v + 1 AS b, l.ts AS t, r.ts AS u FROM l {words} r ON l.k = r.k{near} AND l.v < r.v "
+        "WHERE l.v IS NULL OR r.v IS NULL OR l.v > 3 OUTPUT APPEND;",
+        columns=COLUMNS,
+        stream="l",
+        event="ts",
+        delay=10 * SECOND,
+        join=Join("r", COLUMNS, (("k", "k"),), outer, "ts", 10 * SECOND, bound, (lambda row: compare(row["l.v"], "<", row["r.v"]),)),
+        where=lambda row: disjunction(disjunction(row["l.v"] is None, lambda: row["r.v"] is None), lambda: compare(row["l.v"], ">", 3)),
+        items={
+            "key": lambda row: row["l.k"],
+            "a": lambda row: row["l.v"],
+            "b": lambda row: compute(row["r.v"], "+", 1),
+            "t": lambda row: row["l.ts"],
+            "u": lambda row: row["r.ts"],
+        },
+        mode=Mode.APPEND,
+    )
+    return Job(f"{words} {'within a bound' if bound else 'without a bound'}", query, parts=3, partitions=3, rights=1, lines=LINES // 5)
+
+
 def made_line(chance, number):
     """A line whose time is up to 20 seconds from its neighbours', and lacks its columns now and then."""
     if chance.random() < 0.05:
@@ -150,10 +182,10 @@ def made_line(chance, number):
 class Writer(threading.Thread):
     """Appends its text to each log, in pieces, some of which end within a line."""
 
-    def __init__(self, logs, chance):
+    def __init__(self, logs, lines, chance):
         super().__init__(daemon=True)
         self.chance, self.done = random.Random(chance.random()), threading.Event()
-        self.left = {log: "".join(made_line(chance, n) for n in range(LINES)).encode() for log in logs}
+        self.left = {log: "".join(made_line(chance, n) for n in range(lines)).encode() for log in logs}
         for log in logs:
             log.touch()
 
@@ -195,7 +227,7 @@ class Checkpoint:
         assert plans - 1 <= commits <= plans and commits <= sinks <= plans, f"{counts}"
 
         texts = [files[f"offsets/{e}"].decode() for e in range(plans)]
-        cuts = [tuple(map(int, re.findall(r"^part 0 \d+ (\d+)$", text, re.M))) for text in texts]
+        cuts = [tuple(map(int, re.findall(r"^part \d+ \d+ (\d+)$", text, re.M))) for text in texts]
         assert cuts[: len(self.cuts)] == self.cuts, "a cut that was planned has changed"
 
         logs = [log.read_bytes().split(b"\n")[:-1] for log in self.job.logs(self.folder)]
@@ -287,7 +319,7 @@ def whole_run(folder, job):
 def trial(folder, job, kills, chance):
     """One checkpoint: runs that are killed, and a last one. What came of it, in numbers."""
     checkpoint = Checkpoint(folder, job)
-    writer = Writer(job.logs(folder), chance)
+    writer = Writer(job.logs(folder), job.lines, chance)
     writer.start()
     found = collections.Counter()
     for _ in range(kills):
@@ -305,6 +337,9 @@ def trial(folder, job, kills, chance):
     found["late"] = sum(len(epochs.fed(e)) - len(epochs.on_time(e)) for e in range(plans))
     found["equal"] = sum(row.time is not None and row.time == epochs.watermark(e) for e in range(plans) for row in epochs.fed(e))
     found["repeats"] = sum(len(epochs.on_time(e)) - len(epochs.shown(e)) for e in range(plans) if job.query.distinct)
+    if job.query.join:
+        found["alone"] = sum(len(epochs.alone(e)) for e in range(plans))
+        found["pairs"] = sum(on is True for *_, on in epochs.candidates(plans - 1))
     found["closing"] = sum(epochs.begin(e) == epochs.cuts[e] for e in range(plans))
     return found
 
@@ -321,19 +356,23 @@ def refusal_of(job):
     return output if run.returncode else None
 
 
-MANY = {"group": "groups in each mode", "dedup": "rows without repeats"}  # shapes with several queries, each
+JOBS = {  # shapes with several queries, each
+    "group": [group_job(mode) for mode in Mode],
+    "dedup": [dedup_job(mode) for mode in (Mode.APPEND, Mode.UPDATE)],
+    "join": [*map(join_job, (Outer.LEFT, Outer.RIGHT, Outer.NEITHER)), join_job(Outer.NEITHER, None)],
+}
+MANY = {"group": "groups in each mode", "dedup": "rows without repeats", "join": "joins of each kind"}
 
 
 def jobs_taken(shape):
-    """Plain: three parts with a watermark where the program takes them, else one part without. Group: all three modes. Dedup: keys that are
-    forgotten, and keys that are not."""
-    if shape in MANY:
-        jobs = [group_job(mode) for mode in Mode] if shape == "group" else [dedup_job(mode) for mode in (Mode.APPEND, Mode.UPDATE)]
+    """Plain: three parts with a watermark where the program takes them, else one part without. Else the queries of the shape."""
+    if shape in JOBS:
+        jobs = JOBS[shape]
         refusal = next(filter(None, map(refusal_of, jobs)), None)
     else:
         jobs = [plain_job(3, True)]
         refusal = refusal_of(jobs[0])
-        if refusal and refusal.startswith(("stopped 3 NotYet", "stopped 9 OtherParts")):
+        if refusal and refusal.startswith("stopped 9 OtherParts"):
             jobs = [plain_job(1, False)]
             refusal = refusal_of(jobs[0])
     if refusal:
@@ -373,6 +412,8 @@ def main():
         print(f"{found['late']} rows late, {found['equal']} of them at the watermark itself, {found['closing']} epochs without lines")
     if ask.shape == "dedup":
         print(f"{found['repeats']} rows were repeats")
+    if ask.shape == "join":
+        print(f"{found['pairs']} pairs, and {found['alone']} rows over without a partner")
 
 
 if __name__ == "__main__":

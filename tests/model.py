@@ -5,7 +5,7 @@ cuts of the epochs, what each epoch reads, takes, shows and keeps, and what its 
 cuts a run plans. The rules are those of docs/SEMANTICS.md and docs/FORMATS.md.
 
 Nothing goes from epoch to epoch: the rows of an epoch are computed from all rows that were accepted up to it, and its watermark and its
-state likewise. Queries without state (Plain), with groups and with DEDUPLICATE are known. Where a run is stopped by something else than a
+state likewise. Queries without state (Plain), with groups, with DEDUPLICATE and with JOIN are known. Where a run is stopped by something else than a
 line or a key (a log that is too short, a disk that fails), the model says nothing.
 
 Values are None for NULL, bool, int, datetime (in UTC, without a zone) and str.
@@ -25,6 +25,7 @@ Kind = enum.Enum("Kind", "BIGINT STRING TIMESTAMP BOOLEAN")
 Mode = enum.Enum("Mode", "APPEND UPDATE COMPLETE")
 Function = enum.Enum("Function", "COUNT SUM MIN MAX")
 Direction = enum.Enum("Direction", "ASC DESC")
+Outer = enum.Enum("Outer", "NEITHER LEFT RIGHT")
 
 ORIGIN = datetime.datetime(1970, 1, 1)
 MICROSECOND = datetime.timedelta(microseconds=1)
@@ -51,13 +52,28 @@ class Aggregate:
 
 
 @dataclasses.dataclass(frozen=True)
-class Query:
-    """A query over one stream.
+class Join:
+    """JOIN of a second stream. `keys` has the pairs of columns that are equal, the left one first; `bound` the spans of a right row's time behind
+    the left row's, from the least to the greatest; and `rest` the other conditions of ON, from the left."""
 
-    Expressions are functions: WHERE and arguments of a row (by the names of columns), HAVING and items of a `Group`; items of a query
-    without groups of a row. `group` has the names of columns and windows of GROUP BY; it is empty where there are aggregates and no
-    GROUP BY, and None where there are none. `distinct` has the columns of DEDUPLICATE, or is None. `aggregates` are those of SELECT from the
-    left, then those of HAVING.
+    stream: str
+    columns: dict
+    keys: tuple
+    outer: Outer = Outer.NEITHER
+    event: str | None = None
+    delay: datetime.timedelta | None = None
+    bound: tuple | None = None
+    rest: tuple = ()
+
+
+@dataclasses.dataclass(frozen=True)
+class Query:
+    """A query over one stream, or over two that are joined.
+
+    Expressions are functions: WHERE and arguments of a row (by the names of columns; of a joined row, with its stream's name and a point before
+    each), HAVING and items of a `Group`; items of a query without groups of a row. `group` has the names of columns and windows of GROUP BY;
+    it is empty where there are aggregates and no GROUP BY, and None where there are none. `distinct` has the columns of DEDUPLICATE, or is None.
+    `aggregates` are those of SELECT from the left, then those of HAVING.
     """
 
     text: str
@@ -73,12 +89,19 @@ class Query:
     aggregates: tuple = ()
     having: typing.Callable | None = None
     order: tuple = ()
+    join: Join | None = None
+
+    def sources(self):
+        """What is known of its streams."""
+        return [self] if self.join is None else [self, self.join]
 
     def keeps_state(self):
-        return self.group is not None or self.distinct is not None
+        return self.group is not None or self.distinct is not None or self.join is not None
 
     def closes(self):
         """Whether it has rows to show when the watermark rises."""
+        if self.join is not None:
+            return self.join.outer is not Outer.NEITHER
         return self.group is not None and self.mode is Mode.APPEND
 
     def closing_time(self, key):
@@ -322,8 +345,8 @@ def value_of(kind, found):
     return found if type(found) is {Kind.BIGINT: int, Kind.STRING: str, Kind.BOOLEAN: bool}[kind] else None
 
 
-def read_line(query, line):
-    """The row of a line (without its end), by the names of columns; None where it is of blanks alone."""
+def read_line(source, line):
+    """The row of a line (without its end) of a stream, by the names of columns; None where it is of blanks alone."""
     if len(line) > LONGEST:
         raise BadLine("TooLong")
     if not line.strip(b" \t\r"):
@@ -332,19 +355,19 @@ def read_line(query, line):
     if not isinstance(found, dict):
         raise BadLine("NotObject")
     row = {}
-    for name, kind in query.columns.items():
+    for name, kind in source.columns.items():
         row[name] = None if found.get(name) is None else value_of(kind, found[name])
         if row[name] is None and found.get(name) is not None:
             raise BadLine(f"WrongType {name}")
-    if query.event is not None and row[query.event] is None:
+    if source.event is not None and row[source.event] is None:
         raise BadLine("NoEventTime")
     return row
 
 
-def found_in(query, line):
+def found_in(source, line):
     """The row of a line, None, or what is wrong with it."""
     try:
-        return read_line(query, line)
+        return read_line(source, line)
     except BadLine as bad:
         return bad
 
@@ -355,6 +378,9 @@ def found_in(query, line):
 # What is handed on of a row: the key of one of its groups, the time of that key, and the arguments of the aggregates. With DEDUPLICATE the
 # key has the row's values in the columns, and without groups or DEDUPLICATE no values; the values are then the row that is shown.
 Fed = collections.namedtuple("Fed", "key time values")
+
+# What is handed on of a row to a join: its stream, its join key, its event time where the join has a bound, its row and its place.
+Paired = collections.namedtuple("Paired", "stream key time row epoch part offset")
 
 
 def keys_of(group, row):
@@ -378,6 +404,38 @@ def fed_by(query, row):
         return [Fed(key, query.closing_time(key), tuple(item(row) for item in query.items.values()))]
     values = tuple(one.argument(row) if one.argument else True for one in query.aggregates)
     return [Fed(key, query.closing_time(key), values) for key in keys_of(query.group, row)]
+
+
+def paired_by(query, stream, row, *place):
+    """What is handed on of a row to a join."""
+    source = query.sources()[stream]
+    key = tuple(row[pair[stream]] for pair in query.join.keys)
+    return Paired(stream, key, row[source.event] if query.join.bound else None, row, *place)
+
+
+def joined(query, left, right):
+    """A row of both streams; NULLs stand in place of a row that is not there."""
+    rows = [row.row if row else dict.fromkeys(source.columns) for source, row in zip(query.sources(), (left, right))]
+    return {f"{source.stream}.{name}": value for source, row in zip(query.sources(), rows) for name, value in row.items()}
+
+
+def are_candidates(query, left, right):
+    """Whether a left and a right row have the same keys, none of them NULL, and meet the bound."""
+    if left.key != right.key or None in left.key:
+        return False
+    return query.join.bound is None or left.time + query.join.bound[0] <= right.time <= left.time + query.join.bound[1]
+
+
+def is_on(query, row):
+    """The rest of ON, of a joined row."""
+    return functools.reduce(conjunction, [functools.partial(one, row) for one in query.join.rest], True) is True
+
+
+def last_time(query, row):
+    """The last time that a partner may have, if there is one."""
+    if query.join.bound is None:
+        return None
+    return row.time + query.join.bound[1] if row.stream == 0 else row.time - query.join.bound[0]
 
 
 def is_past(time, watermark):
@@ -411,12 +469,21 @@ def by_epoch(method):
 
 
 class Epochs:
-    """The epochs of a query: `parts` has the lines of each part, and `cuts` for each epoch one end for each part."""
+    """The epochs of a query: `parts` has the lines of each part, and `cuts` for each epoch one end for each part. Of a join the parts of the
+    left stream come first; `lefts` says how many they are."""
 
-    def __init__(self, query, parts, cuts, partitions=1):
+    def __init__(self, query, parts, cuts, partitions=1, lefts=None):
         self.query, self.parts, self.cuts, self.partitions = query, parts, cuts, partitions
         self.known = {}
-        self.found = [[found_in(query, line) for line in part[:end]] for part, end in zip(parts, self.begin(len(cuts)))]
+        self.lefts = len(parts) if lefts is None else lefts
+        self.found = [
+            [found_in(query.sources()[self.place(at)[0]], line) for line in part[:end]]
+            for at, (part, end) in enumerate(zip(parts, self.begin(len(cuts))))
+        ]
+
+    def place(self, at):
+        """The stream of a part, and which of its parts it is."""
+        return (0, at) if at < self.lefts else (1, at - self.lefts)
 
     def begin(self, e):
         """How many lines of each part the epochs before this one cover."""
@@ -425,40 +492,50 @@ class Epochs:
     # -- what an epoch reads
 
     def read(self, e):
-        """The lines of an epoch, in order: part, offset, and what is found there."""
-        for part, (begin, end) in enumerate(zip(self.begin(e), self.cuts[e])):
+        """The lines of an epoch, in order: stream, part, offset, and what is found there."""
+        for at, (begin, end) in enumerate(zip(self.begin(e), self.cuts[e])):
             for offset in range(begin, end):
-                yield part, offset, self.found[part][offset]
+                yield *self.place(at), offset, self.found[at][offset]
 
     @by_epoch
-    def seen(self, e):
-        """The greatest event time of all rows before the epoch, those that WHERE drops and late ones too."""
-        if self.query.event is None:
+    def seen(self, e, stream=0):
+        """The greatest event time of all rows of a stream before the epoch, those that WHERE drops and late ones too."""
+        event = self.query.sources()[stream].event
+        if event is None:
             return None
-        rows = [row for part, end in zip(self.found, self.begin(e)) for row in part[:end] if isinstance(row, dict)]
-        return max((row[self.query.event] for row in rows), default=None)
+        rows = [
+            row
+            for at, (part, end) in enumerate(zip(self.found, self.begin(e)))
+            for row in part[:end]
+            if self.place(at)[0] == stream and isinstance(row, dict)
+        ]
+        return max((row[event] for row in rows), default=None)
 
     def watermark(self, e):
-        """By the epochs before this one. Before epoch 0 there is none."""
-        seen = self.seen(e)
-        return None if seen is None else seen - self.query.delay
+        """By the epochs before this one: the least of the streams that have one. Before epoch 0 there is none."""
+        delays = {stream: source.delay for stream, source in enumerate(self.query.sources()) if source.event is not None}
+        seen = {stream: self.seen(e, stream) for stream in delays}
+        return None if not delays or None in seen.values() else min(seen[stream] - delays[stream] for stream in delays)
 
     @by_epoch
     def line_fault(self, e):
         """The first line that is bad or overflows."""
-        for part, offset, found in self.read(e):
+        for stream, part, offset, found in self.read(e):
+            name = self.query.sources()[stream].stream
             try:
                 if isinstance(found, BadLine):
-                    return f"stopped 4 BadLine {self.query.stream} {part} {offset} {found}"
-                if found is not None:
+                    return f"stopped 4 BadLine {name} {part} {offset} {found}"
+                if found is not None and self.query.join is None:
                     fed_by(self.query, found)
             except Overflow:
-                return f"stopped 5 Overflow {self.query.stream} {part} {offset}"
+                return f"stopped 5 Overflow {name} {part} {offset}"
         return None
 
     @by_epoch
     def fed(self, e):
-        return [fed for _, _, row in self.read(e) if row is not None for fed in fed_by(self.query, row)]
+        if self.query.join is not None:
+            return [paired_by(self.query, stream, row, e, *place) for stream, *place, row in self.read(e) if row is not None]
+        return [fed for *_, row in self.read(e) if row is not None for fed in fed_by(self.query, row)]
 
     @by_epoch
     def on_time(self, e):
@@ -489,9 +566,56 @@ class Epochs:
         return [row for at, row in enumerate(rows) if at >= old and at == first[row.key]]
 
     @by_epoch
+    def candidates(self, e):
+        """The left and right rows of the epochs up to this one that may be partners, with what ON says of each pair: TRUE or not, or Overflow."""
+        rights = collections.defaultdict(list)
+        for row in self.accepted(e):
+            if row.stream == 1:
+                rights[row.key].append(row)
+        found = []
+        for left, right in ((left, right) for left in self.accepted(e) if left.stream == 0 for right in rights[left.key]):
+            if are_candidates(self.query, left, right):
+                try:
+                    found.append((left, right, is_on(self.query, joined(self.query, left, right))))
+                except Overflow as excess:
+                    found.append((left, right, excess))
+        return found
+
+    def partnered(self, e):
+        """The rows that have a partner."""
+        return {place_of(row) for *pair, on in self.candidates(e) if on is True for row in pair}
+
+    def is_over(self, row, e):
+        return e >= 0 and is_past(last_time(self.query, row), self.watermark(e))
+
+    def alone(self, e):
+        """The rows of an outer side without a partner that are over in this epoch first."""
+        outer = {Outer.NEITHER: None, Outer.LEFT: 0, Outer.RIGHT: 1}[self.query.join.outer]
+        partnered = self.partnered(e)
+        rows = [row for row in self.accepted(e) if row.stream == outer and place_of(row) not in partnered]
+        return [row for row in rows if self.is_over(row, e) and not self.is_over(row, e - 1)]
+
+    def joined_rows(self, e):
+        """What the epoch considers: the pairs whose later row is its own, and the rows without a partner. Of each its key, and the row that is
+        shown or Overflow."""
+        own = [(left, right, on) for left, right, on in self.candidates(e) if e in (left.epoch, right.epoch)]
+        shown = [(left.key, on) for left, _, on in own if isinstance(on, Overflow)]
+        pairs = [(left.key, joined(self.query, left, right)) for left, right, on in own if on is True]
+        alone = [(row.key, joined(self.query, *((row, None) if row.stream == 0 else (None, row)))) for row in self.alone(e)]
+        for key, row in pairs + alone:
+            try:
+                if self.query.where is None or self.query.where(row) is True:
+                    shown.append((key, tuple(item(row) for item in self.query.items.values())))
+            except Overflow as excess:
+                shown.append((key, excess))
+        return shown
+
+    @by_epoch
     def shown(self, e):
         """The row that each key shows, or Overflow; of a query without groups the epoch's rows, with DEDUPLICATE those that are no
         repeats."""
+        if self.query.join is not None:
+            return self.joined_rows(e)
         if self.query.group is None:
             return [(row.key, row.values) for row in (self.fed(e) if self.query.distinct is None else self.firsts(e))]
         shown = []
@@ -530,6 +654,13 @@ class Epochs:
         """For each partition the keys that are kept after the epoch, with the totals of all their rows, as bytes; with DEDUPLICATE there are
         no totals. Before epoch 0 there are none."""
         states = [{} for _ in range(self.partitions if self.query.keeps_state() else 0)]
+        if self.query.join is not None:
+            partnered = self.partnered(e)
+            for row in self.accepted(e):
+                if not self.is_over(row, e):
+                    value = key_bytes(row.row.values()) + bytes([place_of(row) in partnered])
+                    states[partition_of(key_bytes(row.key), self.partitions)][place_bytes(row)] = value
+            return states
         kept = [row for row in self.accepted(e) if not is_past(row.time, self.watermark(e))] if states else []
         for key, rows in grouped(kept).items():
             name = key_bytes(key)
@@ -556,15 +687,17 @@ class Epochs:
 
     def meta(self):
         text = self.query.text
-        lines = f"partitions {self.partitions}", f"parts 0 {len(self.parts)}", f"query {len(text.encode())}", text
-        return record(*lines)
+        counts = [self.lefts, len(self.parts) - self.lefts][: len(self.query.sources())]
+        parts = [f"parts {stream} {count}" for stream, count in enumerate(counts)]
+        return record(f"partitions {self.partitions}", *parts, f"query {len(text.encode())}", text)
 
     def plan(self, e):
-        ends = [f"part 0 {part} {end}" for part, end in enumerate(self.cuts[e])]
+        ends = [f"part {' '.join(map(str, self.place(at)))} {end}" for at, end in enumerate(self.cuts[e])]
         return record(f"plan {e}", f"watermark {stamp(self.watermark(e))}", *ends)
 
     def commit(self, e):
-        seen = [f"seen 0 {stamp(self.seen(e + 1))}"] if self.query.event is not None else []
+        sources = enumerate(self.query.sources())
+        seen = [f"seen {stream} {stamp(self.seen(e + 1, stream))}" for stream, source in sources if source.event is not None]
         return record(f"commit {e}", *seen)
 
     def sink(self, e):
@@ -608,6 +741,17 @@ class Epochs:
         return self.query.closes() and is_above(self.watermark(e), self.watermark(e - 1))
 
 
+def place_of(row):
+    """Which row it is."""
+    return row.stream, row.part, row.offset
+
+
+def place_bytes(row):
+    """The bytes under which a row of a join is kept."""
+    place = row.epoch.to_bytes(4, "big") + row.part.to_bytes(4, "big") + row.offset.to_bytes(8, "big")
+    return bytes([row.stream]) + key_bytes(row.key) + place
+
+
 def total_bytes(function, values):
     """What is kept of an aggregate."""
     total = aggregated(function, values)
@@ -624,12 +768,12 @@ def state_file(head, partition, version, entries):
     return head + sizes + b"".join(entries)
 
 
-def cuts_of_run(query, rounds, most=None, cuts=()):
+def cuts_of_run(query, rounds, most=None, cuts=(), lefts=None):
     """The cuts of all epochs after a run of these rounds, before which those of `cuts` were planned. A round is the lines of each part as
     they were when it began."""
     cuts = list(cuts)
     for parts in rounds:
-        while cut := Epochs(query, parts, cuts).next_cut(most):
+        while cut := Epochs(query, parts, cuts, lefts=lefts).next_cut(most):
             cuts.append(cut)
     return cuts
 

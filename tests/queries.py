@@ -1,10 +1,10 @@
 #!/usr/bin/env python3
-"""Runs random queries with groups or DEDUPLICATE over random logs, and judges every file that they leave.
+"""Runs random queries with groups, DEDUPLICATE or JOIN over random logs, and judges every file that they leave.
 
-    python3 tests/queries.py [QUERIES] [SEED] [--shape group|dedup]      (100, of groups; `make` builds bin/ssq)
+    python3 tests/queries.py [QUERIES] [SEED] [--shape group|dedup|join]      (100, of groups; `make` builds bin/ssq)
 
 Each query with groups has other keys, windows, aggregates, HAVING, ORDER BY, mode and watermark; each with DEDUPLICATE other columns, items,
-mode and watermark. It runs up to three times, over logs of one to three parts that grow in between, in one to five partitions, with a cap or
+mode and watermark; each join another kind, key, bound, rest of ON and WHERE. It runs up to three times, over logs of one to three parts that grow in between, in one to five partitions, with a cap or
 none. Some rows are late, some lines bad, and some results overflow. What each run has to print, its status, and each file of the checkpoint are computed from the logs (tests/model.py), and
 compared byte for byte.
 
@@ -25,7 +25,7 @@ import time
 import typing
 
 import model
-from model import Aggregate, Direction, Epochs, Function, Kind, Mode, Overflow, Query, Window, compare, compute, disjunction
+from model import Aggregate, Direction, Epochs, Function, Join, Kind, Mode, Outer, Overflow, Query, Window, compare, compute, disjunction
 
 SSQ = pathlib.Path(__file__).resolve().parent.parent / "bin" / "ssq"
 COLUMNS = {"ts": Kind.TIMESTAMP, "k": Kind.STRING, "v": Kind.BIGINT, "b": Kind.BOOLEAN, "u": Kind.TIMESTAMP}
@@ -48,19 +48,19 @@ class Term:
     kind: Kind = Kind.BIGINT
 
 
-def number(chance):
+def number(chance, v="v"):
     """An argument that is a number."""
     return chance.choice([
-        Term("v", lambda row: row["v"]),
-        Term("v * 3", lambda row: compute(row["v"], "*", 3)),
-        Term("v % 7", lambda row: compute(row["v"], "%", 7)),
-        Term("v DIV 2 - 1", lambda row: compute(compute(row["v"], "DIV", 2), "-", 1)),
+        Term(v, lambda row: row[v]),
+        Term(f"{v} * 3", lambda row: compute(row[v], "*", 3)),
+        Term(f"{v} % 7", lambda row: compute(row[v], "%", 7)),
+        Term(f"{v} DIV 2 - 1", lambda row: compute(compute(row[v], "DIV", 2), "-", 1)),
     ])
 
 
-def column(chance):
+def column(chance, stream=""):
     name = chance.choice(list(COLUMNS))
-    return Term(name, lambda row: row[name], COLUMNS[name])
+    return Term(stream + name, lambda row: row[stream + name], COLUMNS[name])
 
 
 @dataclasses.dataclass
@@ -136,9 +136,10 @@ def group_text(part):
     return f"WINDOW({part.column}, '{part.size // SECOND} seconds', '{part.slide // SECOND} seconds')" if isinstance(part, Window) else part
 
 
-def stream_text(delay):
+def stream_text(delay, stream="s"):
     watermark = f" WATERMARK FOR ts DELAY '{delay} seconds'" if delay else ""
-    return f"CREATE STREAM s ({', '.join(f'{name} {kind.name}' for name, kind in COLUMNS.items())}) FROM 's'{watermark}; "
+    columns = ", ".join(f"{name} {kind.name}" for name, kind in COLUMNS.items())
+    return f"CREATE STREAM {stream} ({columns}) FROM '{stream}'{watermark}; "
 
 
 def made_grouped(chance):
@@ -203,7 +204,57 @@ def made_distinct(chance):
     )
 
 
-MAKERS = {"group": made_grouped, "dedup": made_distinct}
+def shifted_text(by):
+    """The left row's time, and a span behind it or before."""
+    return f"l.ts {'-' if by < 0 else '+'} INTERVAL '{abs(by)} seconds'" if by else "l.ts"
+
+
+def made_joined(chance):
+    """Rows of two streams. ON has up to two equalities, a bound or none, and up to two conditions more, which may overflow."""
+    outer, delays = chance.choice(list(Outer)), [chance.choice([None, 5, 10, 30]) for _ in "lr"]
+    bound = (-chance.choice([0, 0, 5, 20]), chance.choice([0, 5, 10, 40])) if None not in delays and chance.random() < 0.8 else None
+    if outer is not Outer.NEITHER and not bound:
+        return made_joined(chance)
+    keys = chance.sample(["k", "b", "v", "u"], chance.choice([0, 1, 1, 2]))
+    rest = []
+    for _ in range(chance.choice([0, 0, 1, 2])):
+        left, right, sign = number(chance, "l.v"), number(chance, "r.v"), chance.choice(["<", "<=", "<>"])
+        rest.append(Term(f"{left.text} {sign} {right.text}", lambda row, a=left, s=sign, b=right: compare(a.value(row), s, b.value(row))))
+    conditions = [f"l.{name} = r.{name}" for name in keys] + [term.text for term in rest]
+    if bound:
+        conditions.insert(len(keys), f"r.ts BETWEEN {shifted_text(bound[0])} AND {shifted_text(bound[1])}")
+    if not conditions:
+        return made_joined(chance)
+    draft, side = Draft(chance), chance.choice("lr")
+    for at in range(chance.randrange(1, 5)):
+        own = chance.choice("lr") + "."
+        draft.add(f"a{at}", chance.choice([number(chance, f"{own}v"), column(chance, own)]))
+    least = chance.choice([None, chance.randrange(8)])
+    words = {Outer.NEITHER: "JOIN", Outer.LEFT: "LEFT JOIN", Outer.RIGHT: "RIGHT JOIN"}[outer]
+    text = [
+        *map(stream_text, delays, "lr"),
+        f"SELECT {', '.join(draft.texts)} FROM l {words} r ON {' AND '.join(conditions)}",
+        "" if least is None else f" WHERE {side}.v IS NULL OR {side}.v > {least}",
+        " OUTPUT APPEND;",
+    ]
+    events = ["ts" if delay else None for delay in delays]
+    spans = [delay * SECOND if delay else None for delay in delays]
+    near = bound and tuple(by * SECOND for by in bound)
+    pairs = tuple((name, name) for name in keys)
+    return Query(
+        text="".join(text),
+        columns=COLUMNS,
+        items=draft.items,
+        mode=Mode.APPEND,
+        stream="l",
+        event=events[0],
+        delay=spans[0],
+        join=Join("r", COLUMNS, pairs, outer, events[1], spans[1], near, tuple(term.value for term in rest)),
+        where=None if least is None else lambda row: disjunction(row[f"{side}.v"] is None, lambda: compare(row[f"{side}.v"], ">", least)),
+    )
+
+
+MAKERS = {"group": made_grouped, "dedup": made_distinct, "join": made_joined}
 
 
 # ---- logs
@@ -261,7 +312,8 @@ class Trial:
 
     def __post_init__(self):
         self.query = MAKERS[self.shape](self.chance)
-        self.logs = [[] for _ in range(self.chance.randrange(1, 4))]
+        self.logs = [[] for _ in range(self.chance.randrange(1, 4) if self.query.join is None else self.chance.randrange(2, 5))]
+        self.lefts = len(self.logs) if self.query.join is None else self.chance.randrange(1, len(self.logs))
         self.partitions = self.chance.choice([1, 1, 2, 3, 5])
         self.wild = self.chance.random() < 0.4
         self.cuts, self.commits = [], 0
@@ -270,13 +322,15 @@ class Trial:
     def grow(self):
         for part, log in enumerate(self.logs):
             log += [made_line(self.chance, len(log) + more, self.wild) for more in range(self.chance.randrange(40))]
-            (self.folder / f"s.{part}.jsonl").write_bytes(b"".join(line + b"\n" for line in log))
+            stream, number = (0, part) if part < self.lefts else (1, part - self.lefts)
+            name = self.query.sources()[stream].stream
+            (self.folder / f"{name}.{number}.jsonl").write_bytes(b"".join(line + b"\n" for line in log))
 
     def run(self):
         """One run, judged. Its epochs."""
         most = self.chance.choice([None, 1, 3, 7, 20])
-        self.cuts = model.cuts_of_run(self.query, [self.logs], most, self.cuts)
-        epochs = Epochs(self.query, self.logs, self.cuts, self.partitions)
+        self.cuts = model.cuts_of_run(self.query, [self.logs], most, self.cuts, self.lefts)
+        epochs = Epochs(self.query, self.logs, self.cuts, self.partitions, self.lefts)
         words = [SSQ, "run", "q.sql", "--partitions", str(self.partitions), "--rounds", self.chance.choice("12")]
         done = subprocess.run(words + (["--max-lines", str(most)] if most else []), cwd=self.folder, stdout=subprocess.PIPE)
         output = epochs.output(self.commits)

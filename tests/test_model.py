@@ -17,8 +17,10 @@ from model import (
     Direction,
     Epochs,
     Function,
+    Join,
     Kind,
     Mode,
+    Outer,
     Overflow,
     Query,
     Window,
@@ -59,9 +61,9 @@ def lines(*texts):
     return [text.encode() for text in texts]
 
 
-def run(query, *parts, most=None, partitions=1):
+def run(query, *parts, most=None, partitions=1, lefts=None):
     """The epochs after one round over these parts."""
-    return Epochs(query, parts, cuts_of_run(query, [parts], most), partitions)
+    return Epochs(query, parts, cuts_of_run(query, [parts], most, lefts=lefts), partitions, lefts)
 
 
 FILTER = Query(
@@ -463,6 +465,90 @@ class Distinct(unittest.TestCase):
         log = [at("12:00", src='"a"'), at("12:00", src='"b"'), at("12:00", id=7, src='"c"'), at("12:00", id=7, src='"d"')]
         epochs = run(distinct("id", where=lambda row: compare(row["src"], "<>", "c")), log)
         self.assertEqual(epochs.sink(0), b'{"id":null,"src":"a"}\n{"id":7,"src":"d"}\n')
+
+
+def paired(outer=Outer.NEITHER, rest=(), where=None):
+    """The ids of impressions `l`, with those of clicks `r` of one id within an hour behind each."""
+    columns = {"ts": Kind.TIMESTAMP, "id": Kind.BIGINT, "v": Kind.BIGINT}
+    return Query(
+        text="",
+        columns=columns,
+        stream="l",
+        event="ts",
+        delay=minutes(10),
+        join=Join("r", columns, (("id", "id"),), outer, "ts", minutes(10), (minutes(0), minutes(60)), rest),
+        where=where,
+        items={"l": lambda row: row["l.id"], "r": lambda row: row["r.id"]},
+        mode=Mode.APPEND,
+    )
+
+
+def row_bytes(side, number, epoch, offset):
+    """The bytes of a row of part 0 that is kept, with their length."""
+    return "0000001a" + side + "02" + (2**63 + number).to_bytes(8, "big").hex() + f"{epoch:08x}" + "00000000" + f"{offset:016x}"
+
+
+def kept_bytes(seconds, number, met):
+    """What is kept of a row: its time, so many seconds behind 1970, its id, NULL, and whether it met a partner."""
+    return "00000014" + "03" + (2**63 + seconds * 10**6).to_bytes(8, "big").hex() + "02" + (2**63 + number).to_bytes(8, "big").hex() + "00" + met
+
+
+class Joined(unittest.TestCase):
+    LEFT = [at("12:00", id=1), at("12:40", id=2), at("12:45", id=3)]
+    RIGHT = [at("12:50", id=9), at("12:55", id=9), at("12:56", id=9), at("13:00", id=1)]
+
+    def test_a_pair_is_shown_with_its_later_row(self):
+        for partitions in 1, 3:
+            epochs = run(paired(), self.LEFT, self.RIGHT, most=1, partitions=partitions, lefts=1)
+            self.assertEqual(
+                epochs.output(),
+                [
+                    "epoch 0 lines 2 watermark none rows 0",
+                    "epoch 1 lines 2 watermark 2024-01-01T11:50:00Z rows 0",
+                    "epoch 2 lines 2 watermark 2024-01-01T12:30:00Z rows 0",
+                    "epoch 3 lines 1 watermark 2024-01-01T12:35:00Z rows 1",
+                    "done epochs 4",
+                ],
+            )
+            self.assertEqual(epochs.sink(3), b'{"l":1,"r":1}\n')
+
+    def test_the_records_name_both_streams(self):
+        epochs = run(paired(), self.LEFT, self.RIGHT, most=1, lefts=1)
+        self.assertEqual(epochs.meta(), b"v1\npartitions 1\nparts 0 1\nparts 1 1\nquery 0\n\nend\n")
+        self.assertEqual(epochs.plan(3), b"v1\nplan 3\nwatermark 2024-01-01T12:35:00Z\npart 0 0 3\npart 1 0 4\nend\n")
+        self.assertEqual(epochs.commit(3), b"v1\ncommit 3\nseen 0 2024-01-01T12:45:00Z\nseen 1 2024-01-01T13:00:00Z\nend\n")
+
+    def test_rows_are_kept_with_whether_they_met_a_partner(self):
+        epochs = run(paired(), self.LEFT, self.RIGHT, most=1, lefts=1)
+        first = ["01" + row_bytes("00", 1, 0, 0) + kept_bytes(1704110400, 1, "00"), "01" + row_bytes("01", 9, 0, 0) + kept_bytes(1704113400, 9, "00")]
+        last = ["01" + row_bytes("00", 1, 0, 0) + kept_bytes(1704110400, 1, "01"), "01" + row_bytes("01", 1, 3, 3) + kept_bytes(1704114000, 1, "01")]
+        for e, changed in (0, first), (3, last):
+            self.assertEqual(next(epochs.deltas(e)).hex(), "53535144454c5431" + "00000000" + f"{e:08x}" + f"{2:016x}" + "".join(changed))
+
+    def test_a_left_row_without_a_partner_is_shown_when_its_bound_is_past(self):
+        epochs = run(paired(Outer.LEFT), [at("12:00", id=1), at("13:30", id=2)], [at("13:30", id=9)], most=1, lefts=1)
+        self.assertEqual([epochs.sink(e) for e in range(3)], [b"", b"", b'{"l":1,"r":null}\n'])
+        self.assertEqual(epochs.output(2), ["epoch 2 lines 0 watermark 2024-01-01T13:20:00Z rows 1", "done epochs 3"])
+        self.assertEqual([[key[0] for key in sorted(epochs.state(e)[0])] for e in range(3)], [[0, 1], [0, 0, 1], [0, 1]])
+
+    def test_a_right_row_without_a_partner_is_shown_when_its_bound_is_past(self):
+        epochs = run(paired(Outer.RIGHT), [at("12:00", id=9), at("13:30", id=9)], [at("12:00", id=1), at("13:30", id=2)], most=1, lefts=1)
+        self.assertEqual([epochs.sink(e) for e in range(3)], [b"", b"", b'{"l":null,"r":1}\n'])
+
+    def test_null_is_no_key(self):
+        epochs = run(paired(), [at("12:00", id="null")], [at("12:00", id="null")], lefts=1)
+        self.assertEqual(epochs.sink(0), b"")
+
+    def test_a_partner_that_where_drops_is_a_partner(self):
+        query = paired(Outer.LEFT, where=lambda row: compare(row["r.v"], ">", 1))
+        epochs = run(query, [at("12:00", id=1), at("14:00", id=2)], [at("12:30", id=1, v=1), at("14:00", id=3)], most=1, lefts=1)
+        self.assertEqual([epochs.sink(e) for e in range(3)], [b"", b"", b""])
+
+    def test_a_pair_whose_on_overflows_is_a_fault(self):
+        query = paired(rest=(lambda row: compare(compute(row["l.v"], "+", row["r.v"]), ">", 0),))
+        left = [at("12:00", id=2, v=MOST), at("12:00", id=1, v=MOST)]
+        self.assertEqual(run(query, left, [at("12:00", id=1, v=1), at("12:00", id=2, v=1)], lefts=1).fault(0), "stopped 5 Overflow key [1]")
+        self.assertEqual(run(query, left, [at("12:00", id=1, v=-1)], lefts=1).sink(0), b'{"l":1,"r":1}\n')
 
 
 class Examples(unittest.TestCase):
