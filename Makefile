@@ -1,11 +1,12 @@
-# make         proves and builds the program, and leaves it at bin/ssq
-# make demo    runs it on a fresh copy of examples/first, in demo/
+# make           proves every crate with all processors (JOBS=2: with two), a line for each, and leaves the program at bin/ssq
+# make demo      runs a filter and a windowed count on fresh copies of their examples, in demo/
 # make examples  runs each folder of examples/ in a fresh copy, and compares its sink files with those that it keeps
-# make test    the whole gate (make check is the same)
-# make clean   removes what was built
+# make check     proves every crate, and no more
+# make test      the whole gate: every proof, must-fail edit, test and program
+# make clean     removes what was built
 #
-# It needs GNU make, a POSIX shell and the Rattle toolchain (`rt`). What is proved stays in crates/*/out, so that a
-# later make proves only what changed.
+# It needs GNU make, Python 3, a POSIX shell and the Rattle toolchain (`rt`). What is proved stays in crates/*/out, so
+# that a later make proves only what changed.
 
 # Files and folders, so that one which went counts as a change too.
 SOURCES := $(shell find crates/*/src crates/*/specs crates/*/proofs) crates.txt HANDLES
@@ -18,6 +19,7 @@ all: bin/ssq
 # stops. So that line, and not the status, tells that the program is built. Until then the old one stays.
 bin/ssq: $(SOURCES)
 	@mkdir -p bin
+	@tools/prove.py $(JOBS)
 	@cd crates/ssq_main && rt run 2>&1 | { \
 		while IFS= read -r line; do \
 			case $$line in "rt: running "*) cat > /dev/null; exit 0;; esac; \
@@ -29,14 +31,15 @@ bin/ssq: $(SOURCES)
 	@mv -f bin/ssq.new bin/ssq
 
 demo: bin/ssq
-	@rm -rf demo
-	@cp -R examples/first demo
-	@cat demo/query.sql demo/s.0.jsonl
-	@echo '$$ ssq run query.sql --max-lines 2'
-	@cd demo && ../bin/ssq run query.sql --max-lines 2
-	@cd demo/checkpoint && for file in sink/*; do echo "\$$ cat checkpoint/$$file"; cat "$$file"; done
-	@echo '$$ ssq status query.sql'
-	@cd demo && ../bin/ssq status query.sql
+	@rm -rf demo && mkdir demo && for example in first windows; do \
+		cp -R examples/$$example demo/ && cd demo/$$example && rm -rf sink && \
+		cat query.sql *.jsonl && \
+		echo "\$$ ssq $$(cat words)" && ../../bin/ssq $$(cat words) && \
+		for file in checkpoint/sink/*; do echo "\$$ cat $$file"; cat "$$file"; done && \
+		echo '$$ ssq show query.sql' && ../../bin/ssq show query.sql && \
+		echo '$$ ssq status query.sql' && ../../bin/ssq status query.sql && \
+		cd ../.. || exit 1; \
+	done
 
 # Each folder has a query, its logs, the words behind `ssq` and the sink files that these give.
 examples: bin/ssq
@@ -45,7 +48,10 @@ examples: bin/ssq
 		(cd demo && ../bin/ssq $$(cat words) > told && diff -r wanted/sink checkpoint/sink) && echo "$$example gives what it keeps" || exit 1; \
 	done; rm -rf demo
 
-test check:
+check:
+	@tools/prove.py $(JOBS)
+
+test:
 	@rt ci
 
 clean:
