@@ -88,7 +88,7 @@ number_sound_by t ts (quoted text) is = tt
 number_sound_by t ts (name text) is = tt
 number_sound_by t ts (symbol s) is = tt
 
-number_sound : (tokens : Ahead) → IfRead (number_at tokens) (λ found. Took tokens found.1 (number found.0 ∷ []))
+pub number_sound : (tokens : Ahead) → IfRead (number_at tokens) (λ found. Took tokens found.1 (number found.0 ∷ []))
 unfolding number_at
 number_sound [] = tt
 number_sound (t ∷ ts) = number_sound_by t ts t.said refl

@@ -1,4 +1,4 @@
--- A token that is missing, and a text that is no span or no time, is the first that no query has there.
+-- A token that is missing, and a text that is no span or no time, is the first that no query has there; what is too deep is so.
 use Rattle.std.proofs.Common.{◌≡◌, ℕ, Bool, true, false, ap, ◌∙◌, sym, subst, List, [], ◌∷◌, ◌++◌, length, refl, Option, Some, None, Result, Ok, Err}
 use Rattle.std.specs.Prelude.{IfErr, nat_lt, if◌then◌else◌}
 use Rattle.std.specs.Str.{is_utf8}
@@ -15,11 +15,14 @@ use Rattle.ssq_parse.specs.declared.fault.ParseCause.{ParseCause}
 use Rattle.ssq_parse.specs.declared.fault.ParseCause.TheVariants as cause
 use Rattle.ssq_parse.specs.declared.fault.ParseFault.{ParseFault}
 use Rattle.ssq_parse.specs.declared.fault.ParseFault.TheVariants.{Refused, NoMemory}
-use Rattle.ssq_parse.specs.Faults.{next_word, or_end, IsFirst, IsMisread, FaultAt, StandsAt}
+use Rattle.ssq_parse.specs.Faults.{next_word, or_end, IsFirst, FaultAt, StandsAt}
 use Rattle.ssq_parse.specs.File.{Fault, as_cause, ended, placed, judged, judged_cut, query_of, Answers}
 use Rattle.ssq_parse.specs.Queries.{query_at}
 use Rattle.ssq_parse.specs.Reading.{Ahead, Made, Refusal}
 use Rattle.ssq_parse.specs.Written.{says, starts}
+use Rattle.ssq_parse.specs.Deep.{DeepBy}
+use Rattle.ssq_parse.proofs.DeepLemmas.{IfDeep}
+use Rattle.ssq_parse.proofs.DeepQueries.{IsDeep, query_deep}
 use Rattle.ssq_parse.proofs.Laid.{Where, laid}
 use Rattle.ssq_parse.proofs.Laid as laying
 use Rattle.ssq_parse.proofs.Local.{IfMissing, next}
@@ -83,23 +86,25 @@ ended_first file None c s = first_of_file file (record { at = None; cause = c })
 ended_first file (Some refusal) c s = lexical file refusal.at refusal.cause
 
 placed_first : (file : List ℕ) (fault : Option LexRefusal) (c : ParseCause) (at : Option ℕ) → IfMissing c at (Stands (cut_of file).tokens (record { at = at; cause = c }))
-    → IfFirst file (Err (placed (ended (length file) fault) at c))
-placed_first file fault cause.Expected (Some at) s = first_of_file file (record { at = Some at; cause = cause.Expected }) s
-placed_first file fault cause.BadText (Some at) s = record { first = first_of_file file (record { at = Some at; cause = cause.BadText }) s; bad = s.bad }
-placed_first file fault c None s = ended_first file fault c (at_end c s)
-placed_first file fault c (Some at) s = tt
+    → IfDeep c at (DeepBy 0 (cut_of file).tokens) → IfFirst file (Err (placed (ended (length file) fault) at c))
+placed_first file fault cause.Expected (Some at) s d = first_of_file file (record { at = Some at; cause = cause.Expected }) s
+placed_first file fault cause.BadText (Some at) s d = record { first = first_of_file file (record { at = Some at; cause = cause.BadText }) s; bad = s.bad }
+placed_first file fault cause.TooDeep (Some at) s d = d
+placed_first file fault c None s d = ended_first file fault c (at_end c s)
+placed_first file fault c (Some at) s d = tt
 
-judged_first : (file : List ℕ) (fault : Option LexRefusal) (made : Made Query) → IfStands (cut_of file).tokens made → IfFirst file (judged (length file) fault made)
-judged_first file fault (Err refusal) s = placed_first file fault refusal.cause refusal.at s
-judged_first file None (Ok query) s = tt
-judged_first file (Some refusal) (Ok query) s = lexical file refusal.at refusal.cause
+judged_first : (file : List ℕ) (fault : Option LexRefusal) (made : Made Query) → IfStands (cut_of file).tokens made → IsDeep (cut_of file).tokens made
+    → IfFirst file (judged (length file) fault made)
+judged_first file fault (Err refusal) s d = placed_first file fault refusal.cause refusal.at s d
+judged_first file None (Ok query) s d = tt
+judged_first file (Some refusal) (Ok query) s d = lexical file refusal.at refusal.cause
 
 file_by : (file : List ℕ) (long utf8 : Bool)
     → IfFirst file (if long then Err (record { at = 65536; cause = cause.TooLong })
     else (if utf8 then judged_cut (length file) (cut_of file) else Err (record { at = utf8_valid_len file; cause = cause.NotUtf8 })))
 file_by file true utf8 = tt
 file_by file false false = tt
-file_by file false true = judged_first file (cut_of file).fault (query_at (cut_of file).tokens) (query_stands (cut_of file).tokens)
+file_by file false true = judged_first file (cut_of file).fault (query_at (cut_of file).tokens) (query_stands (cut_of file).tokens) (query_deep (cut_of file).tokens)
 
 file_first : (file : List ℕ) → IfFirst file (query_of file)
 unfolding query_of

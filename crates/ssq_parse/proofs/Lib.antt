@@ -1,4 +1,10 @@
 pub mod Clauses
+pub mod DeepExpressions
+pub mod DeepLemmas
+pub mod DeepParts
+pub mod DeepQueries
+pub mod DeepRises
+pub mod DeepWords
 pub mod Files
 pub mod FirstFault
 pub mod Found

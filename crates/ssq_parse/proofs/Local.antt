@@ -1,11 +1,11 @@
 -- A reader looks no further than one token behind what it takes.
-use Rattle.std.proofs.Common.{◌≡◌, ℕ, sym, ap, subst, ◌∙◌, List, [], ◌∷◌, ◌++◌, drop, refl, Option, Some, None, Ok, Err, append_assoc}
+use Rattle.std.proofs.Common.{◌≡◌, ℕ, sym, ap, subst, ◌∙◌, [], ◌∷◌, ◌++◌, drop, refl, Option, Some, None, Ok, Err, append_assoc}
 use Rattle.std.proofs.lemmas.List.{map-append}
 use Rattle.ssq_ast.specs.Expression.{Words}
 use Rattle.ssq_lex.specs.Lexeme.{Lexeme, Lexed, quoted}
 use Rattle.ssq_parse.specs.declared.fault.ParseCause.{ParseCause}
 use Rattle.ssq_parse.specs.declared.fault.ParseCause.TheVariants as cause
-use Rattle.ssq_parse.specs.Faults.{next_word, last_word, IsBadBehind, IsBadNext}
+use Rattle.ssq_parse.specs.Faults.{next_word, last_word, IsBadNext}
 use Rattle.ssq_parse.specs.Reading.{Ahead, Made, Read, Refusal, ◌>>=◌, before, place, expected, first, needed}
 use Rattle.ssq_parse.specs.Written.{says}
 

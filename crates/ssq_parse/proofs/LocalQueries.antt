@@ -209,7 +209,7 @@ mode_local =
 -- ---- queries
 
 -- behind SELECT and DISTINCT
-abbrev select_from : Option ℕ → Ahead → Read Select
+abbrev pub select_from : Option ℕ → Ahead → Read Select
 select_from distinct tokens = do
   items ← list_at item_at tokens
   from ← keyword_at key.From items.1
@@ -260,7 +260,7 @@ unfolding select_at
 select_local = followed (keyword_local key.Select) (λ word.
     if_seen (is_keyword key.Distinct) (λ o tokens. select_from o (behind o tokens)) (select_from_local None) (λ at. skip (select_from_local (Some at))))
 
-abbrev query_from : Ahead → Read Query
+abbrev pub query_from : Ahead → Read Query
 query_from tokens = do
   streams ← streams_at tokens
   select ← select_at streams.1

@@ -63,7 +63,7 @@ again P Q (Err refusal) f g holds more = tt
 
 module _ (o : UnaryOp) (depth : ℕ) (operand : Reader) (sound : Sound (unary_level o) depth operand) where
   -- with so many operators
-  abbrev Goal : ℕ → Ahead → Type 0
+  abbrev pub Goal : ℕ → Ahead → Type 0
   Goal k tokens = IfRead (operand (drop k tokens) >>= (λ found. before (wrapped o (take k tokens) found.0) found.1)) (λ found. Spelled (unary_level o) depth tokens found.0 found.1)
 
   none_sound : (tokens : Ahead) → Goal 0 tokens
@@ -80,7 +80,7 @@ module _ (o : UnaryOp) (depth : ℕ) (operand : Reader) (sound : Sound (unary_le
   by_first true k t ts word holds = let next : suc k ≡ 1 + k = omega arith in rw (sym next) (one_more k t ts word holds)
   by_first false k t ts word holds = none_sound (t ∷ ts)
 
-  all_sound : (tokens : Ahead) → Goal (prefix_len (prefixes o) tokens) tokens
+  pub all_sound : (tokens : Ahead) → Goal (prefix_len (prefixes o) tokens) tokens
   all_sound [] = none_sound []
   all_sound (t ∷ ts) = by_first (is_prefix o t.said) (prefix_len (prefixes o) ts) t ts (is_prefix_word o t.said) (all_sound ts)
 

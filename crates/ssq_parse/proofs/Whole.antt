@@ -127,15 +127,15 @@ ranged_so depth start ts t left sl word low sm us and high sh below =
     }
 
 module _ (depth : ℕ) (inner : Reader) (sound : (k : ℕ) → depth ≡ suc k → Sound 0 k inner) where
-  signed_sound : Sound 6 depth (signed_at depth inner)
+  pub signed_sound : Sound 6 depth (signed_at depth inner)
   unfolding signed_at
   signed_sound = prefixed_sound prefix.Minus depth (primary_at depth inner) (looser_reader 6 7 depth (primary_at depth inner) (omega arith) (primary_sound depth inner sound))
 
-  product_sound : Sound 5 depth (product_at depth inner)
+  pub product_sound : Sound 5 depth (product_at depth inner)
   unfolding product_at
   product_sound = chain_sound levels.Product 5 depth (signed_at depth inner) signed_sound (omega arith) (omega arith)
 
-  sum_sound : Sound 4 depth (sum_at depth inner)
+  pub sum_sound : Sound 4 depth (sum_at depth inner)
   unfolding sum_at
   sum_sound = chain_sound levels.Sum 4 depth (product_at depth inner) product_sound (omega arith) (omega arith)
 
@@ -176,18 +176,18 @@ module _ (depth : ℕ) (inner : Reader) (sound : (k : ℕ) → depth ≡ suc k �
   compared_sound start left [] sl = looser (omega arith) sl
   compared_sound start left (t ∷ ts) sl = by_operator start ts t left sl (operator_of levels.Comparison t.said) (is_found levels.Comparison t.said)
 
-  comparison_sound : Sound 3 depth (comparison_at depth inner)
+  pub comparison_sound : Sound 3 depth (comparison_at depth inner)
   unfolding comparison_at
   comparison_sound tokens =
       then_holds (λ left. Spelled 4 depth tokens left.0 left.1) (λ found. Spelled 3 depth tokens found.0 found.1)
       (sum_at depth inner tokens) (λ left. compared depth inner (first_operator levels.Comparison left.1) left.0 left.1) (sum_sound tokens)
       (λ left sl. compared_sound tokens left.0 left.1 sl)
 
-  negation_sound : Sound 2 depth (negation_at depth inner)
+  pub negation_sound : Sound 2 depth (negation_at depth inner)
   unfolding negation_at
   negation_sound = prefixed_sound prefix.Not depth (comparison_at depth inner) (looser_reader 2 3 depth (comparison_at depth inner) (omega arith) comparison_sound)
 
-  conjunction_sound : Sound 1 depth (conjunction_at depth inner)
+  pub conjunction_sound : Sound 1 depth (conjunction_at depth inner)
   unfolding conjunction_at
   conjunction_sound = chain_sound levels.And 1 depth (negation_at depth inner) negation_sound (omega arith) (omega arith)
 

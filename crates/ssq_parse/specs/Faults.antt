@@ -1,5 +1,5 @@
--- What stands at the place of a fault: a token that the grammar has no place for, or a text that it has one for and that says
--- none of the spans or times that it has there.
+-- What stands at the place of a fault: a token that the grammar has no place for, a text that it has one for and that says
+-- none of the spans or times that it has there, or a bracket or an operator with which the query is too deep.
 use Rattle.std.specs.Prelude.{◌≡◌, ℕ, List, [], ◌∷◌, ◌++◌, length, Option, Some, None}
 use Rattle.ssq_ast.specs.declared.query.Query.{Query}
 use Rattle.ssq_ast.specs.Expression.{Words}
@@ -12,6 +12,7 @@ use Rattle.ssq_parse.specs.declared.fault.ParseCause.{ParseCause}
 use Rattle.ssq_parse.specs.declared.fault.ParseCause.TheVariants as cause
 use Rattle.ssq_parse.specs.declared.fault.ParseFault.{ParseFault}
 use Rattle.ssq_parse.specs.declared.fault.ParseFault.TheVariants.{Refused, NoMemory}
+use Rattle.ssq_parse.specs.Deep.{DeepBy}
 use Rattle.ssq_parse.specs.File.{IsQuery}
 use Rattle.ssq_parse.specs.Reading.{Ahead, place}
 use Rattle.ssq_parse.specs.Written.{says}
@@ -62,10 +63,15 @@ pub record IsMisread (file : List ℕ) (at : ℕ) : Type 0 where
   pub first : IsFirst file at
   pub bad : IsBadNext (last_word (says first.taken)) (next_word (says first.rest))
 
+-- The token at this place is a bracket with which more than 64 stand open, or an operator with which a tree grows higher than 64.
+abbrev pub IsTooDeep : List ℕ → ℕ → Type 0
+IsTooDeep file at = DeepBy 0 (cut_of file).tokens at
+
 -- what holds of the place of a fault, by its cause
 abbrev pub FaultAt : List ℕ → ParseCause → ℕ → Type 0
 FaultAt file cause.Expected at = IsFirst file at
 FaultAt file cause.BadText at = IsMisread file at
+FaultAt file cause.TooDeep at = IsTooDeep file at
 FaultAt file other at = Unit {0}
 
 abbrev pub StandsAt : List ℕ → ParseFault → Type 0

@@ -94,7 +94,7 @@ pub fn parse(alloc: Global, file: &[u8]) -> Result<Query, ParseFault>
     // and each query that is written so is found: a file that is refused is written as none
     ensures each { (query : Query) → spec.IsQuery file.now query → spec.Finds query result }
     // where something else is expected, no query goes on like this; nor with a text that is no span or no time where one has to
-    // stand
+    // stand; what is too deep is the 65th bracket that stands open, or an operator with which a tree is 65 high
     ensures first { IfErr result (StandsAt file.now) }
     // the text of the query is read as that query, places aside
     ensures again { IfOk result HasFile }
