@@ -19,4 +19,6 @@ pub mod WindowLemmas
 pub mod SoundLemmas
 pub mod LimitLemmas
 pub mod OnLemmas
+pub mod OnTyped
 pub mod TimeBoundLemmas
+pub mod ReadLemmas

@@ -62,7 +62,7 @@ one_more false xs ys at places one more = omega (arith, one, more, length-append
 
 module _ (query : Query) where
   -- names of columns mean the same where groups have names too
-  same_spot : (o : Option ColumnRef) → looked (scope_of query) o ≡ looked (row_scope query) o
+  pub same_spot : (o : Option ColumnRef) → looked (scope_of query) o ≡ looked (row_scope query) o
   same_spot None = refl
   same_spot (Some column) = by column.stream
     where

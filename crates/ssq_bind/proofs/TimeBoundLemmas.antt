@@ -195,11 +195,11 @@ module _ (rows : Scope) where
   parts_are at (expr.IsNull' p (only x) own test) is has = ((is, has), tt)
   parts_are at (expr.Between' p (only a) own q (only b) r (only c)) is has = ((is, has), tt)
 
-  unbroken_bound : (at : ℕ) (is_bound is_typed : Bool) → is_typed ≡ true → AreNone (Rule cause.BadBound at (((false || not is_bound) && is_typed) ≡ true)) → is_bound ≡ true
+  pub unbroken_bound : (at : ℕ) (is_bound is_typed : Bool) → is_typed ≡ true → AreNone (Rule cause.BadBound at (((false || not is_bound) && is_typed) ≡ true)) → is_bound ≡ true
   unbroken_bound at true is_typed typed none = refl
   unbroken_bound at false is_typed typed none = absurd (none cause.BadBound at (refl, refl, typed))
 
-  between_typed : (a b c : Expr) (at : ℕ) → is_there (kind rows within.Row (expr.Between' tt (only a) at tt (only b) tt (only c))) ≡ true → are_typed rows a b c ≡ true
+  pub between_typed : (a b c : Expr) (at : ℕ) → is_there (kind rows within.Row (expr.Between' tt (only a) at tt (only b) tt (only c))) ≡ true → are_typed rows a b c ≡ true
   unfolding kind
   between_typed a b c at is = between_kinds (kind rows within.Row a) (kind rows within.Row b) (kind rows within.Row c) is
 

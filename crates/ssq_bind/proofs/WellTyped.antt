@@ -1,8 +1,8 @@
 -- Bound queries are well typed.
 use Rattle.std.proofs.Common.{◌≡◌, ◌∙◌, ap, sym, subst, refl, arith, ℕ, zero, suc, ◌+◌, ◌<◌, ◌≤◌, Bool, true, false, List, [], ◌∷◌, ◌++◌, map, take, length, Option, Some, None, Result, Ok, Err}
-use Rattle.std.specs.Prelude.{slice_get, position, if◌then◌else◌, All, IfSome}
+use Rattle.std.specs.Prelude.{slice_get, if◌then◌else◌, All, IfSome}
 use Rattle.std.specs.List.{AllByRecursion, flat_map}
-use Rattle.std.specs.Option.{option_map}
+use Rattle.std.specs.Option.{option_map, IsSomeAnd}
 use Rattle.std.specs.Str.{bytes_eq}
 use Rattle.std.proofs.lemmas.List.{append-nil}
 use Rattle.std.proofs.lemmas.List.Concat.{flat_map-append}
@@ -17,7 +17,6 @@ use Rattle.ssq_shape.specs.declared.bound.Output.{Output}
 use Rattle.ssq_shape.specs.declared.bound.Shape.TheVariants as shape
 use Rattle.ssq_shape.specs.declared.bound.SortKey.{SortKey}
 use Rattle.ssq_shape.specs.declared.typed.Typed.{Typed}
-use Rattle.ssq_ast.specs.declared.expr.ColumnRef.{ColumnRef}
 use Rattle.ssq_ast.specs.declared.expr.Ident.{Ident}
 use Rattle.ssq_ast.specs.declared.query.Condition.{Condition}
 use Rattle.ssq_ast.specs.declared.query.Deduplicate.{Deduplicate}
@@ -28,32 +27,36 @@ use Rattle.ssq_ast.specs.declared.query.Join.{Join}
 use Rattle.ssq_ast.specs.declared.query.OrderBy.{OrderBy}
 use Rattle.ssq_ast.specs.declared.query.Query.{Query}
 use Rattle.ssq_ast.specs.declared.query.Stream.{Stream as Declared}
+use Rattle.ssq_ast.specs.declared.query.Watermark.{Watermark}
 use Rattle.ssq_check.specs.declared.fault.BindFault.{BindFault}
 use Rattle.ssq_check.specs.declared.fault.Cause.TheVariants as cause
 use Rattle.ssq_check.specs.declared.scope.Key.{Key}
 use Rattle.ssq_check.specs.declared.scope.Scope.{Scope}
+use Rattle.ssq_check.specs.declared.scope.Side.TheVariants as side
 use Rattle.ssq_check.specs.declared.scope.Spot.{Spot}
 use Rattle.ssq_check.specs.declared.scope.Within.{Within}
 use Rattle.ssq_check.specs.declared.scope.Within.TheVariants as within
 use Rattle.ssq_check.specs.Fault.{AreNone}
-use Rattle.ssq_check.specs.Joined.{spot_in, spot_by}
+use Rattle.ssq_check.specs.Joined.{spot_in}
 use Rattle.ssq_check.specs.Lists.{item_name}
-use Rattle.ssq_check.specs.Names.{is_there, declared, column_of, source_of, left_stream, join_stream, right_stream, row_scope, group_keys, scope_of}
+use Rattle.ssq_check.specs.Names.{is_there, declared, column_of, columns_of, watermark_name, source_of, left_stream, join_stream, right_stream, row_scope, group_keys, scope_of}
 use Rattle.ssq_check.specs.Rules.{type_of, kind}
-use Rattle.ssq_check.specs.Scope.{bare_spot, named_spot, is_key, is_window_here, grouped, column_kind_by, column_kind}
+use Rattle.ssq_check.specs.Scope.{in_columns, bare_spot, named_spot, is_key, is_window_here, grouped, column_kind_by, column_kind}
 use Rattle.ssq_check.specs.Shown.{is_group, within_by, shown_within}
 use Rattle.ssq_check.specs.Sound as sound
-use Rattle.ssq_check.specs.Sound.{IsSoundStream, IsCondition, IsSoundGroup, IsOrdered, IsHaving, IsSound}
+use Rattle.ssq_check.specs.Sound.{IsSoundStream, IsCondition, IsSoundGroup, IsOrdered, IsHaving, IsSoundJoin, HasEvent, IsTimeSpot, IsSound}
 use Rattle.ssq_check.specs.Whole.{QueryFaults}
 use Rattle.ssq_check.proofs.SoundLemmas.{sound_where_none}
 use Rattle.ssq_bind.specs.declared.context.Context.{Context}
 use Rattle.ssq_bind.specs.Bound.{context_of, select_aggregates, shown_of, grouping_of, kept_by, shape_of, filter_value, bound_of}
 use Rattle.ssq_bind.specs.Shapes.{item_aggregates, kind_or_bigint, spot_kind, column_type, output_of, outputs_of, sort_key, group_items, key_of, having_value, having_aggregates}
 use Rattle.ssq_bind.specs.Streams.{kept_columns, listed}
-use Rattle.ssq_bind.specs.Typed.{column_kinds, source_kinds, row_kinds, stream_kinds, read_kinds, key_kind, HasItsKind, IsTypedGroup, AreTypedBy, IsTyped, QueriesAreTyped}
+use Rattle.ssq_bind.specs.Typed.{column_kinds, source_kinds, row_kinds, stream_kinds, read_kinds, key_kind, HasItsKind, IsTypedGroup, AreTypedBy, IsTypedJoin, first_kinds, second_kinds, IsJoinedBy, IsTyped, QueriesAreTyped}
 use Rattle.ssq_bind.specs.Value.{or_zero, row_value}
 use Rattle.ssq_bind.proofs.GroupLemmas.{own_kind, IsCounted, StandIn, front_in, back_in, spot_key, key_kinds, KeyStands, KeysStand, groups_have, all_both, are_counted, counted_all, items_keys, items_stand, at_each}
 use Rattle.ssq_bind.proofs.Kept.{Has, HaveTypes, typed_at, AnyStand, rows_have, own_rows_have, column_has}
+use Rattle.ssq_bind.specs.Joins.{joining_of}
+use Rattle.ssq_bind.proofs.OnTyped.{HasTimes, on_typed}
 use Rattle.ssq_bind.proofs.Placed.{IsFound, found, found_is}
 
 -- ---- an output has the type that its item has
@@ -279,6 +282,61 @@ rows_are query is =
     ∙ (λ i. side_kinds (left_stream query) (declared_sound query.streams query.select.from.text is.streams) i
     ++ side_kinds (right_stream query) (joined_sound query.streams query.select.join is.streams) i)
 
+-- ---- ON
+
+-- the event column of a stream is a TIMESTAMP
+times_of : (o : Option Declared) → IfSome o IsSoundStream → IfSome (option_map source_of o) HasTimes
+times_of None is = tt
+times_of (Some stream) is = by stream.watermark is.event
+  where
+    by : (watermark : Option Watermark) → IfSome watermark (HasEvent stream) → IfSome (option_map watermark_name watermark) (λ name. IsSomeAnd (in_columns side.Left (columns_of stream) name) IsTimeSpot)
+    by None event = tt
+    by (Some watermark) event = event
+
+-- where both streams are declared, the rows of each have the types of its source
+apart_kinds : (l r : Option Declared) → is_there (option_map source_of l) ≡ true → is_there (option_map source_of r) ≡ true → IfSome l IsSoundStream → IfSome r IsSoundStream
+    → (first_kinds (listed l ++ listed r) ≡ source_kinds (option_map source_of l)) × (second_kinds (listed l ++ listed r) ≡ source_kinds (option_map source_of r))
+apart_kinds (Some l) (Some r) here there p q = (side_kinds (Some l) p, side_kinds (Some r) q)
+apart_kinds (Some l) None here there p q = absurd cc
+apart_kinds None r here there p q = absurd cc
+
+join_typed : (query : Query) → IsSound query → (join : Join) → IsSoundJoin (row_scope query) query.select.from.text join
+    → IsTypedJoin (first_kinds (bound_of query).streams) (second_kinds (bound_of query).streams) (joining_of (context_of query) join)
+unfolding bound_of
+join_typed query is join sound =
+    let left = declared_sound query.streams query.select.from.text is.streams in
+    let right = joined_sound query.streams query.select.join is.streams in
+    let kinds = apart_kinds (left_stream query) (right_stream query) is.from sound.declared left right in
+    subst (λ (rows : List ColType). IsTypedJoin rows (second_kinds (bound_of query).streams) (joining_of (context_of query) join)) (sym kinds.0)
+    (subst (λ (rows : List ColType). IsTypedJoin (source_kinds (row_scope query).left) rows (joining_of (context_of query) join)) (sym kinds.1)
+    (on_typed query join sound (times_of (left_stream query) left) (times_of (right_stream query) right)))
+
+if_some_then : {A : Type 0} (P Q : A → Type 0) (o : Option A) → IfSome o P → ((x : A) → P x → Q x) → IfSome o Q
+if_some_then P Q None is more = tt
+if_some_then P Q (Some x) is more = more x is
+
+kept_joined : (left right : List ColType) (context : Context) (join : Option Join) (deduplicate : Option Deduplicate) → IfSome join (λ (own : Join). IsTypedJoin left right (joining_of context own))
+    → IsJoinedBy left right (kept_by context join deduplicate)
+kept_joined left right context (Some join) deduplicate is = is
+kept_joined left right context None (Some deduplicate) is = tt
+kept_joined left right context None None is = tt
+
+shape_joined : (query : Query) → IsSound query → IsJoinedBy (first_kinds (bound_of query).streams) (second_kinds (bound_of query).streams) (shape_of query)
+unfolding shape_of
+shape_joined query is = by (is_group query)
+  where
+    left : List ColType
+    left = first_kinds (bound_of query).streams
+
+    right : List ColType
+    right = second_kinds (bound_of query).streams
+
+    by : (b : Bool) → IsJoinedBy left right (if b then shape.Group (grouping_of query) else kept_by (context_of query) query.select.join query.select.deduplicate)
+    by true = tt
+    by false =
+        kept_joined left right (context_of query) query.select.join query.select.deduplicate
+        (if_some_then (IsSoundJoin (row_scope query) query.select.from.text) (λ (own : Join). IsTypedJoin left right (joining_of (context_of query) own)) query.select.join is.join (join_typed query is))
+
 -- ---- the whole
 
 shown_length : (query : Query) → length (shown_of query).outputs ≡ length query.select.items
@@ -292,6 +350,7 @@ sound_typed query is =
     record {
       filter = subst (λ rows. IfSome (bound_of query).filter (λ x. kind_in rows x ≡ Some type.Bool)) (sym rows) (filter_typed query query.select.filter is.filter);
       shown = subst (λ rows. AreTypedBy rows (bound_of query).outputs (bound_of query).shape) (sym rows) (shape_typed query is);
+      joined = shape_joined query is;
       order = All-from_recursion (λ (key : SortKey). key.output < length (bound_of query).outputs) _
           (subst (λ (n : ℕ). AllByRecursion (λ (key : SortKey). key.output < n) (map (sort_key query.select.items) query.select.order)) (sym (shown_length query))
           (keys_within query.select.items query.select.order is.order));

@@ -13,3 +13,4 @@ pub mod TimeBounds
 pub mod Places
 pub mod Sound
 pub mod Limits
+pub mod Read

@@ -1,5 +1,5 @@
 -- What is bound has the type that it has where it is written.
-use Rattle.std.specs.Prelude.{◌≡◌, ◌<◌, List, [], ◌++◌, map, length, slice_get, Option, Some, None, IfSome}
+use Rattle.std.specs.Prelude.{◌≡◌, ◌<◌, List, [], ◌++◌, map, take, drop, length, slice_get, Option, Some, None, IfSome}
 use Rattle.std.specs.List.{All, flat_map}
 use Rattle.ssq_value.specs.declared.column.ColType.{ColType}
 use Rattle.ssq_value.specs.declared.column.ColType.TheVariants as type
@@ -12,11 +12,14 @@ use Rattle.ssq_shape.specs.declared.bound.Function.TheVariants as function
 use Rattle.ssq_shape.specs.declared.bound.GroupKey.{GroupKey}
 use Rattle.ssq_shape.specs.declared.bound.GroupKey.TheVariants as group_key
 use Rattle.ssq_shape.specs.declared.bound.Grouping.{Grouping}
+use Rattle.ssq_shape.specs.declared.bound.Joining.{Joining}
+use Rattle.ssq_shape.specs.declared.bound.KeyPair.{KeyPair}
 use Rattle.ssq_shape.specs.declared.bound.Output.{Output}
 use Rattle.ssq_shape.specs.declared.bound.Shape.{Shape}
 use Rattle.ssq_shape.specs.declared.bound.Shape.TheVariants as shape
 use Rattle.ssq_shape.specs.declared.bound.SortKey.{SortKey}
 use Rattle.ssq_shape.specs.declared.bound.Stream.{Stream}
+use Rattle.ssq_shape.specs.declared.bound.TimeBound.{TimeBound}
 use Rattle.ssq_shape.specs.declared.typed.Typed.{Typed}
 use Rattle.ssq_ast.specs.declared.expr.Expr.{Expr}
 use Rattle.ssq_ast.specs.declared.query.Query.{Query}
@@ -100,10 +103,39 @@ AreTypedBy rows outputs shape.Plain = All (HasItsKind [] rows) outputs
 AreTypedBy rows outputs (shape.Dedup columns) = All (HasItsKind [] rows) outputs
 AreTypedBy rows outputs (shape.Join joining) = All (HasItsKind [] rows) outputs
 
--- WHERE is BOOLEAN over rows, each output has its type, and ORDER BY names outputs
+-- a key equality pairs columns of one type
+pub record PairsOneType (left right : List ColType) (pair : KeyPair) : Type 0 where
+  pub own : ColType
+  pub of_left : slice_get left pair.left ≡ Some own
+  pub of_right : slice_get right pair.right ≡ Some own
+
+-- a bound is on two columns of times
+pub record BoundsTimes (left right : List ColType) (bound : TimeBound) : Type 0 where
+  pub of_left : slice_get left bound.left ≡ Some type.Timestamp
+  pub of_right : slice_get right bound.right ≡ Some type.Timestamp
+
+-- ON over two streams whose rows have these types: what is neither a key equality nor the bound is BOOLEAN over joined rows
+pub record IsTypedJoin (left right : List ColType) (joining : Joining) : Type 0 where
+  pub keys : All (PairsOneType left right) joining.keys
+  pub bound : IfSome joining.bound (BoundsTimes left right)
+  pub rest : All (λ (x : Typed). kind_in (left ++ right) x ≡ Some type.Bool) joining.rest
+
+-- the types of a row of the first stream, and of the second
+abbrev pub first_kinds : List Stream → List ColType
+first_kinds streams = read_kinds (take 1 streams)
+
+abbrev pub second_kinds : List Stream → List ColType
+second_kinds streams = read_kinds (drop 1 streams)
+
+abbrev pub IsJoinedBy : List ColType → List ColType → Shape → Type 0
+IsJoinedBy left right (shape.Join joining) = IsTypedJoin left right joining
+IsJoinedBy left right other = Unit {0}
+
+-- WHERE is BOOLEAN over rows, each output has its type, ON compares what has one type, and ORDER BY names outputs
 pub record IsTyped (bound : Bound) : Type 0 where
   pub filter : IfSome bound.filter (λ x. kind_in (read_kinds bound.streams) x ≡ Some type.Bool)
   pub shown : AreTypedBy (read_kinds bound.streams) bound.outputs bound.shape
+  pub joined : IsJoinedBy (first_kinds bound.streams) (second_kinds bound.streams) bound.shape
   pub order : All (λ (key : SortKey). key.output < length bound.outputs) bound.order
 
 -- A query that breaks no rule of binding is well typed once it is bound.

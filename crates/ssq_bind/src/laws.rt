@@ -3,6 +3,7 @@
 ghost use Rattle.ssq_bind.specs.Delays.{DelaysAreSpans};
 ghost use Rattle.ssq_bind.specs.Limits.{GroupsAreLimited};
 ghost use Rattle.ssq_bind.specs.Places.{PlacesAreIgnored};
+ghost use Rattle.ssq_bind.specs.Read.{QueriesReadTheirStreams};
 ghost use Rattle.ssq_bind.specs.TimeBounds.{TimeBoundsLieAround};
 ghost use Rattle.ssq_bind.specs.Timed.{EventsHaveDelays};
 ghost use Rattle.ssq_bind.specs.Typed.{RowsAreTyped, QueriesAreTyped};
@@ -18,6 +19,11 @@ pub fn rows_are_typed()
 /// aggregate has a type, and HAVING is BOOLEAN over them.
 pub fn queries_are_typed()
     ensures { QueriesAreTyped }
+{}
+
+/// The law of streams: a query that breaks no rule of binding reads two streams where it joins, and else one.
+pub fn queries_read_their_streams()
+    ensures { QueriesReadTheirStreams }
 {}
 
 /// The law of event columns: a stream without a watermark has no delay and no event column.

@@ -24,7 +24,8 @@ pub use context::Context;
 pub use join::Parts;
 pub use laws::{
     delays_are_spans, events_have_delays, groups_are_limited, places_are_ignored,
-    queries_are_typed, rows_are_typed, time_bounds_lie_around, windows_are_fit,
+    queries_are_typed, queries_read_their_streams, rows_are_typed, time_bounds_lie_around,
+    windows_are_fit,
 };
 pub use told::explain;
 pub use whole::{bind, build};
