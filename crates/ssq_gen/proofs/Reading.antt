@@ -1,12 +1,12 @@
 -- Rows are read line by line, and counted.
-use Rattle.std.proofs.Common.{◌≡◌, ◌≤◌, ℕ, suc, ◌+◌, ◌+ℤ◌, ℤ, pos, Bool, true, false, true≢false, ◌==◌, List, [], ◌∷◌, ◌++◌, length, map, get_or, to_z, of_z, refl, sym, ap, ap₂, subst, ◌∙◌, append_assoc, append-nil, arith}
+use Rattle.std.proofs.Common.{◌≡◌, ◌≤◌, ◌<◌, ◌^◌, ◌*◌, ◌≤ℤ◌, neg_ℤ, ℕ, suc, ◌+◌, ◌+ℤ◌, ℤ, pos, Bool, true, false, true≢false, ◌==◌, List, [], ◌∷◌, ◌++◌, length, map, get_or, to_z, of_z, refl, sym, ap, ap₂, subst, ◌∙◌, append_assoc, append-nil, arith}
 use Rattle.std.specs.Int.{w64, w128}
 use Rattle.std.specs.List.{All}
 use Rattle.std.specs.Prelude.{FitsSigned}
-use Rattle.std.proofs.lemmas.Int.{to_z-of_z}
+use Rattle.std.proofs.lemmas.Int.{ints, to_z-of_z}
 use Rattle.std.proofs.lemmas.Bool.Decides.{nat_tests}
 use Rattle.std.proofs.lemmas.List.{length-append, length-map}
-use Rattle.std.proofs.lemmas.List.Elements.{All-head, All-tail}
+use Rattle.std.proofs.lemmas.List.Elements.{All-head, All-nil, All-push, All-tail}
 use Rattle.std.proofs.lemmas.List.Sums.{fold-append}
 use Rattle.ssq_value.specs.declared.column.ColType.{ColType}
 use Rattle.ssq_value.specs.declared.value.Value.{Value}
@@ -15,7 +15,7 @@ use Rattle.ssq_json.specs.RowText.{heads_from, heads_of, row_text}
 use Rattle.ssq_json.specs.Stored.{AreRows, AreStoredIn, line_of, lines_of}
 use Rattle.ssq_gen.specs.declared.counts.Counts.{Counts}
 use Rattle.ssq_shape.specs.declared.bound.Output.{Output}
-use Rattle.ssq_gen.specs.Counts.{AreCountsOf, number_in, sum_of}
+use Rattle.ssq_gen.specs.Counts.{AreCountsOf, AreWithin, IsRows, IsWithin, number_in, sum_of}
 
 -- of these rows some are counted, and what is left is the lines of the others
 pub record AreLeft (names : List (List ℕ)) (kinds : List ColType) (rows : List (List Value)) (left : List ℕ) (counts : Counts) : Type 0 where
@@ -32,6 +32,31 @@ AreLeftOf heads kinds bytes left counts = (names : List (List ℕ)) → heads �
 
 pub none_counted : (names : List (List ℕ)) (kinds : List ColType) (bytes : List ℕ) (counts : Counts) (rows : List (List Value)) → AreCountsOf [] counts → AreRows names kinds bytes rows → AreLeft names kinds rows bytes counts
 none_counted names kinds bytes counts rows none are = record { done = []; more = rows; is = refl; stored = are.stored; text = are.text; counted = none }
+
+-- what was read of the bytes is rows
+pub record IsReadOf (names : List (List ℕ)) (kinds : List ColType) (bytes left : List ℕ) : Type 0 where
+  pub rows : List (List Value)
+  pub stored : All (AreStoredIn kinds) rows
+  pub text : bytes ≡ lines_of names rows ++ left
+
+abbrev pub AreReadOf : (heads : List (List ℕ)) (kinds : List ColType) (bytes left : List ℕ) → Type 0
+AreReadOf heads kinds bytes left = (names : List (List ℕ)) → heads ≡ heads_of names → IsReadOf names kinds bytes left
+
+pub none_read : (names : List (List ℕ)) (kinds : List ColType) (bytes : List ℕ) → IsReadOf names kinds bytes bytes
+none_read names kinds bytes = record { rows = []; stored = All-nil (AreStoredIn kinds); text = refl }
+
+lines-append : (names : List (List ℕ)) (xs ys : List (List Value)) → lines_of names (xs ++ ys) ≡ lines_of names xs ++ lines_of names ys
+lines-append names [] ys = refl
+lines-append names (x ∷ xs) ys = ap (λ l. line_of names x ++ l) (lines-append names xs ys) ∙ sym (append_assoc (line_of names x) (lines_of names xs) (lines_of names ys))
+
+-- and one more
+pub one_read : (names : List (List ℕ)) (kinds : List ColType) (bytes left after : List ℕ) (row : List Value) → left ≡ line_of names row ++ after → AreStoredIn kinds row → IsReadOf names kinds bytes left → IsReadOf names kinds bytes after
+one_read names kinds bytes left after row is stored so = record {
+  rows = so.rows ++ row ∷ [];
+  stored = All-push (AreStoredIn kinds) so.rows row so.stored stored;
+  text = so.text ∙ ap (λ l. lines_of names so.rows ++ l) is ∙ sym (append_assoc (lines_of names so.rows) (line_of names row) after)
+      ∙ ap (λ l. l ++ after) (ap (λ l. lines_of names so.rows ++ l) (sym (append-nil (line_of names row))) ∙ sym (lines-append names so.rows (row ∷ [])));
+}
 
 -- what a reader of one line finds
 abbrev pub FindsLine : List (List ℕ) → List ColType → (left after : List ℕ) → List Value → Type 0
@@ -67,6 +92,13 @@ one_counted names kinds rows left after row old new some finds counts so = go so
 line_long : (names : List (List ℕ)) (one : List Value) → 1 ≤ length (line_of names one)
 line_long names one = let len = length-append (row_text names one) (10 ∷ []) in omega (arith, len)
 
+-- nothing is left, so all are rows
+pub all_read : (names : List (List ℕ)) (kinds : List ColType) (bytes left : List ℕ) → (length left == 0) ≡ true → IsReadOf names kinds bytes left → IsRows names kinds bytes
+all_read names kinds bytes left none so = record {
+  rows = so.rows;
+  are = record { stored = so.stored; text = so.text ∙ ap (λ l. lines_of names so.rows ++ l) (is_none left none) ∙ append-nil (lines_of names so.rows) };
+}
+
 -- nothing is left, so all are counted
 pub all_counted : (names : List (List ℕ)) (kinds : List ColType) (rows : List (List Value)) (left : List ℕ) (counts : Counts) → (length left == 0) ≡ true → AreLeft names kinds rows left counts → AreCountsOf rows counts
 all_counted names kinds rows left counts none so = go so.more so.is so.text
@@ -94,6 +126,28 @@ sum_more : (at : ℕ) (own : List (List Value)) (row : List Value) (old new numb
 sum_more at own row old new number is of more =
     more ∙ ap (λ z. z +ℤ number) is ∙ ap (λ z. sum_of at own +ℤ z) of ∙ sym (fold-append (λ (sum : ℤ) (one : List Value). sum +ℤ number_in (get_or one at Null)) (pos 0) own (row ∷ []))
 
+-- one number more is no further from 0 than one row more may be
+pub one_within : (rows : ℕ) (sum new number : ℤ) → FitsSigned w64 number → IsWithin rows sum → new ≡ sum +ℤ number → IsWithin (rows + 1) new
+one_within rows sum new number fits within is = (grind (arith, ints, fits.sfits, within.0, is), grind (arith, ints, fits.sfits, within.1, is))
+
+-- and has room in 128 bits
+pub within_fits : (rows : ℕ) (sum : ℤ) → rows < 2 ^ 64 → IsWithin rows sum → FitsSigned w128 sum
+within_fits rows sum few within = record { sfits = grind (arith, ints, few, within.0, within.1) }
+
+-- what a sum is that was read from memory, with the number that was
+pub added_to : (rows : ℕ) (sum new number : ℤ) → rows < 2 ^ 64 → IsWithin rows sum → FitsSigned w64 number → FitsSigned w128 new → new ≡ to_z w128 (of_z w128 sum) +ℤ to_z w64 (of_z w64 number) → to_z w128 (of_z w128 new) ≡ sum +ℤ number
+added_to rows sum new number few within one fits is = to_z-of_z w128 new fits ∙ (is ∙ ap₂ (λ s n. s +ℤ n) (to_z-of_z w128 sum (within_fits rows sum few within)) (to_z-of_z w64 number one))
+
+pub still_fits : (new : ℤ) → FitsSigned w128 new → FitsSigned w128 (to_z w128 (of_z w128 new))
+still_fits new fits = subst (FitsSigned w128) (sym (to_z-of_z w128 new fits)) fits
+
+-- it is no further from 0
+pub still_within : (rows : ℕ) (new : ℤ) → FitsSigned w128 new → IsWithin rows new → IsWithin rows (to_z w128 (of_z w128 new))
+still_within rows new fits within = subst (IsWithin rows) (sym (to_z-of_z w128 new fits)) within
+
+pub read_within : (rows : ℕ) (sum : ℤ) → rows < 2 ^ 64 → IsWithin rows sum → IsWithin rows (to_z w128 (of_z w128 sum))
+read_within rows sum few within = still_within rows sum (within_fits rows sum few within) within
+
 -- counts with one row more
 pub counts_more : (own : List (List Value)) (row : List Value) (old new : Counts) (third fourth : ℤ) → new.rows ≡ old.rows + 1 → third ≡ number_in (get_or row 2 Null) → new.count ≡ old.count +ℤ third
     → fourth ≡ number_in (get_or row 3 Null) → new.sum ≡ old.sum +ℤ fourth → FitsSigned w128 new.count → FitsSigned w128 new.sum → AreCountsOf own old → AreCountsOf (own ++ row ∷ []) new
@@ -104,13 +158,6 @@ counts_more own row old new third fourth rows is count of sum count_fits sum_fit
   count_fits = count_fits;
   sum_fits = sum_fits;
 }
-
--- what a sum is that was read from memory, with the number that was
-pub added_to : (sum new number : ℤ) → FitsSigned w128 sum → FitsSigned w64 number → FitsSigned w128 new → new ≡ to_z w128 (of_z w128 sum) +ℤ to_z w64 (of_z w64 number) → to_z w128 (of_z w128 new) ≡ sum +ℤ number
-added_to sum new number one two three is = to_z-of_z w128 new three ∙ (is ∙ ap₂ (λ s n. s +ℤ n) (to_z-of_z w128 sum one) (to_z-of_z w64 number two))
-
-pub still_fits : (new : ℤ) → FitsSigned w128 new → FitsSigned w128 (to_z w128 (of_z w128 new))
-still_fits new fits = subst (FitsSigned w128) (sym (to_z-of_z w128 new fits)) fits
 
 heads_length : (later : Bool) (names : List (List ℕ)) → length (heads_from later names) ≡ length names
 unfolding heads_from

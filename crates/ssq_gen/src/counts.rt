@@ -1,13 +1,13 @@
 //! What comes of generated input: counts of rows, and sums over them.
 
-ghost use Rattle.std.specs.Prelude.{◌≡◌, ◌+◌, ◌+ℤ◌, ◌++◌, ◌∷◌, [], List, ℕ, FitsSigned, get_or, length, map, string_bytes, IfOk};
-ghost use Rattle.std.specs.Int.{w128};
+ghost use Rattle.std.specs.Prelude.{◌≡◌, ◌<◌, ◌+◌, ◌^◌, ◌+ℤ◌, ◌++◌, ◌∷◌, [], List, ℕ, get_or, length, map, string_bytes, IfOk, IfErr};
 ghost use Rattle.ssq_value.specs.declared.value.Value.{Value as Cell};
 ghost use Rattle.ssq_value.specs.declared.value.Value.TheVariants.{Null};
 ghost use Rattle.ssq_json.specs.RowText.{heads_of};
 ghost use Rattle.ssq_json.specs.Stored.{AreRows};
-ghost use Rattle.ssq_gen.specs.Counts.{AreCountsOf, counts_line, number_in};
+ghost use Rattle.ssq_gen.specs.Counts.{AreCountsOf, AreWithin, IsCause, IsRows, IsWithin, counts_line, number_in};
 
+use crate::fault::CountsFault;
 use ssq_json::{Heads, take_line};
 use ssq_shape::Output;
 use ssq_value::{ColType, Value};
@@ -32,25 +32,22 @@ fn number_in(row: &[Value], at: usize) -> i64
     }
 }
 
-/// One row more.
-fn counted(rows: u64) -> Result<u64, AllocError>
-    ensures { IfOk result (λ more. more ≡ rows + 1) }
+/// The sum of so many numbers with one more: it has room, since so many numbers of 64 bits and one more have.
+fn added(rows: u64, sum: i128, number: i64) -> i128
+    requires rows { rows + 1 < 2 ^ 64 }
+    requires within { IsWithin rows sum }
+    ensures value { result ≡ sum +ℤ number }
+    ensures within { IsWithin (rows + 1) result }
 {
-    rows.checked_add(1).ok_or(AllocError)
-}
-
-/// The sum with one number more.
-fn added(sum: i128, number: i64) -> Result<i128, AllocError>
-    ensures value { IfOk result (λ all. all ≡ sum +ℤ number) }
-    ensures fits { IfOk result (FitsSigned w128) }
-{
-    sum.checked_add(i128::from(number)).ok_or(AllocError)
+    sum + i128::from(number)
 }
 
 impl Counts {
     /// Of no rows.
     fn none() -> Counts
-        ensures { AreCountsOf [] result }
+        ensures none { AreCountsOf [] result }
+        ensures within { AreWithin result }
+        ensures rows { result.rows ≡ 0 }
     {
         Counts {
             rows: 0,
@@ -59,36 +56,43 @@ impl Counts {
         }
     }
 
-    /// With one row more. A number that has no room is want of memory, since it takes more rows than a memory holds.
-    fn with_row(self, row: &[Value]) -> Result<Counts, AllocError>
-        ensures { (rows : List (List Cell)) → AreCountsOf rows self → IfOk result (AreCountsOf (rows ++ row.now ∷ [])) }
+    /// With one row more.
+    fn with_row(self, row: &[Value]) -> Counts
+        requires few { self.rows + 1 < 2 ^ 64 }
+        requires within { AreWithin self }
+        ensures counted { (rows : List (List Cell)) → AreCountsOf rows self → AreCountsOf (rows ++ row.now ∷ []) result }
+        ensures within { AreWithin result }
+        ensures rows { result.rows ≡ self.rows + 1 }
     {
-        let rows = counted(self.rows)?;
-        let count = added(self.count, number_in(row, 2))?;
-        let sum = added(self.sum, number_in(row, 3))?;
-        Ok(Counts { rows, count, sum })
+        Counts {
+            rows: self.rows + 1,
+            count: added(self.rows, self.count, number_in(row, 2)),
+            sum: added(self.rows, self.sum, number_in(row, 3)),
+        }
     }
 }
 
-/// Counts the rows that stand in front of the bytes, one line each, of columns with these heads and types.
+/// Counts the rows that the bytes are, one line each, of columns with these heads and types.
 fn count_lines(
     alloc: Global,
     heads: &Heads,
     kinds: &[ColType],
     bytes: &[u8],
-) -> Result<Counts, AllocError>
+) -> Result<Counts, CountsFault>
     requires { length heads.now ≡ length kinds.now }
-    ensures { (names : List (List ℕ)) → heads.now ≡ heads_of names → (rows : List (List Cell)) → AreRows names kinds.now bytes.now rows → IfOk result (AreCountsOf rows) }
+    ensures each { (names : List (List ℕ)) → heads.now ≡ heads_of names → (rows : List (List Cell)) → AreRows names kinds.now bytes.now rows → IfOk result (AreCountsOf rows) }
+    ensures rows { (names : List (List ℕ)) → heads.now ≡ heads_of names → IfOk result (λ counts. IsRows names kinds.now bytes.now) }
+    ensures cause { (names : List (List ℕ)) → heads.now ≡ heads_of names → IfErr result (IsCause names kinds.now bytes.now) }
 {
     let mut counts = Counts::none();
     let mut rest = bytes;
     while !rest.is_empty() {
         match take_line(alloc, heads, kinds, rest)? {
             Some((row, after)) => {
-                counts = counts.with_row(row.as_slice())?;
+                counts = counts.with_row(row.as_slice());
                 rest = after;
             }
-            None => return Ok(counts),
+            None => return Err(CountsFault::NotRows),
         }
     }
     Ok(counts)
@@ -116,9 +120,11 @@ fn output_kinds(alloc: Global, outputs: &[Output]) -> Result<Vec<ColType>, Alloc
     Ok(kinds)
 }
 
-/// Counts the rows of a table, one line each, of these columns of SELECT.
-fn count_rows(alloc: Global, outputs: &[Output], table: &[u8]) -> Result<Counts, AllocError>
-    ensures { (rows : List (List Cell)) → AreRows (map (λ output. output.name) outputs.now) (map (λ output. output.kind) outputs.now) table.now rows → IfOk result (AreCountsOf rows) }
+/// Counts the rows that a table is, one line each, of these columns of SELECT.
+fn count_rows(alloc: Global, outputs: &[Output], table: &[u8]) -> Result<Counts, CountsFault>
+    ensures each { (rows : List (List Cell)) → AreRows (map (λ output. output.name) outputs.now) (map (λ output. output.kind) outputs.now) table.now rows → IfOk result (AreCountsOf rows) }
+    ensures rows { IfOk result (λ counts. IsRows (map (λ output. output.name) outputs.now) (map (λ output. output.kind) outputs.now) table.now) }
+    ensures cause { IfErr result (IsCause (map (λ output. output.name) outputs.now) (map (λ output. output.kind) outputs.now) table.now) }
 {
     let heads = output_heads(alloc, outputs)?;
     let kinds = output_kinds(alloc, outputs)?;
@@ -135,16 +141,23 @@ fn told(alloc: Global, lines: u32, epochs: u64, counts: Counts) -> Result<String
 
 /// The line that tells what came of so many lines in so many epochs: how many rows the table has, and the sums of their third and fourth columns. The
 /// table has one line for each row, of these columns of SELECT.
+///
+/// # Errors
+///
+/// [`CountsFault::NotRows`] where the table is not rows of these columns, [`CountsFault::NoMemory`] for want of memory alone: sums of as many numbers
+/// of 64 bits as a table may have rows always have room.
 pub fn counts_line(
     alloc: Global,
     lines: u32,
     epochs: u64,
     outputs: &[Output],
     table: &[u8],
-) -> Result<String, AllocError>
-    ensures { (rows : List (List Cell)) → AreRows (map (λ output. output.name) outputs.now) (map (λ output. output.kind) outputs.now) table.now rows →
+) -> Result<String, CountsFault>
+    ensures each { (rows : List (List Cell)) → AreRows (map (λ output. output.name) outputs.now) (map (λ output. output.kind) outputs.now) table.now rows →
         IfOk result (λ line. string_bytes line ≡ counts_line lines epochs rows) }
+    ensures rows { IfOk result (λ line. IsRows (map (λ output. output.name) outputs.now) (map (λ output. output.kind) outputs.now) table.now) }
+    ensures cause { IfErr result (IsCause (map (λ output. output.name) outputs.now) (map (λ output. output.kind) outputs.now) table.now) }
 {
     let counts = count_rows(alloc, outputs, table)?;
-    told(alloc, lines, epochs, counts)
+    Ok(told(alloc, lines, epochs, counts)?)
 }

@@ -2,8 +2,10 @@
 #![tactic(auto)]
 
 mod counts;
+mod fault;
 mod generated;
 mod lines;
 
 pub use counts::counts_line;
+pub use fault::CountsFault;
 pub use generated::{QUERY, QUERY_NAME, made};
