@@ -114,11 +114,24 @@ impl Dealer {
         )
     }
 
+    /// Puts a row into the only bucket, which is that of each key.
+    fn deal_alone(&mut self, row: FedRow) -> Result<(), AllocError>
+        requires fit { IsFitRow row }
+        requires alone { length self.old.buckets ≡ 1 }
+        ensures { OnOk result (Deals self.old.buckets self.new.buckets (row ∷ [])) }
+    {
+        self.buckets.add(&[], row)?;
+        Ok(())
+    }
+
     /// Puts a row into the bucket of its key's partition, behind those that are there.
     fn deal(&mut self, row: FedRow) -> Result<(), AllocError>
         requires { IsFitRow row }
         ensures { OnOk result (Deals self.old.buckets self.new.buckets (row ∷ [])) }
     {
+        if self.buckets.partitions() == 1 {
+            return self.deal_alone(row);
+        }
         fit_values_are_spelled();
         self.key.clear();
         put_key(&mut self.key, row.key.as_slice())?;

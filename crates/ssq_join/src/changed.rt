@@ -1,7 +1,7 @@
 //! What an epoch changes in the rows that a partition keeps.
 
 ghost use Rattle.std.specs.Prelude.{◌≡◌, IfOk, IfSome, OnOk, option_copied};
-ghost use Rattle.ssq_version.specs.State.{IsShort, value_at};
+ghost use Rattle.ssq_version.specs.State.{Ascends, IsShort, value_at};
 ghost use Rattle.ssq_step.specs.Indexing.{seen};
 ghost use Rattle.ssq_join.specs.Changing.{IsGone, SaysBytes, SaysFlags, SaysFresh, SaysIf, flag_of, flagged, flagged_if, is_flagged};
 
@@ -50,24 +50,41 @@ fn is_flagged(value: &Bytes) -> bool
 }
 
 /// What is kept of a new row, by whether it met a partner.
-fn flagged_if(met: bool, value: &Bytes) -> Result<Bytes, AllocError>
-    ensures bytes { IfOk result (λ bytes. bytes ≡ flagged_if met value.now) }
+fn flagged_if(met: bool, value: Bytes) -> Result<Bytes, AllocError>
+    ensures bytes { IfOk result (λ bytes. bytes ≡ flagged_if met value) }
     ensures short { IfOk result IsShort }
 {
-    if met { flagged(value) } else { copied(value) }
+    let value = if met { with_flag(value)? } else { value };
+    short(value.into_vec())
 }
 
-/// Says that each new row is kept.
+/// The bytes themselves, where they are short enough to be kept.
+fn kept(bytes: Bytes) -> Result<Bytes, AllocError>
+    ensures bytes { IfOk result (λ kept. kept ≡ bytes) }
+    ensures short { IfOk result IsShort }
+{
+    short(bytes.into_vec())
+}
+
+/// The law of maps: their keys ascend.
+fn keys_ascend(fresh: &BTreeMap<Bytes, Bytes>)
+    ensures { Ascends fresh.now.entries }
+{
+    let _count = fresh.len();
+}
+
+/// Says that each new row is kept. The change takes over what is kept of the rows.
 fn put_fresh(
     change: &mut Change,
-    fresh: &BTreeMap<Bytes, Bytes>,
+    fresh: BTreeMap<Bytes, Bytes>,
     met: &BTreeSet<Bytes>,
 ) -> Result<(), AllocError>
-    ensures { OnOk result (SaysFresh fresh.now.entries met.now.keys change.old change.new) }
+    ensures { OnOk result (SaysFresh fresh.entries met.now.keys change.old change.new) }
 {
-    for (key, value) in fresh.iter() {
-        let value = flagged_if(met.contains(key), value)?;
-        change.put(copied(key)?, value)?;
+    keys_ascend(&fresh);
+    for (key, value) in fresh {
+        let value = flagged_if(met.contains(&key), value)?;
+        change.put(kept(key)?, value)?;
     }
     Ok(())
 }
@@ -123,11 +140,11 @@ fn forget(change: &mut Change, keys: &[&Bytes]) -> Result<(), AllocError>
 pub(crate) fn changed(
     alloc: Global,
     state: &StateMap,
-    fresh: &BTreeMap<Bytes, Bytes>,
+    fresh: BTreeMap<Bytes, Bytes>,
     met: &BTreeSet<Bytes>,
     over: &[&Bytes],
 ) -> Result<Change, AllocError>
-    ensures { IfOk result (SaysBytes state.now fresh.now.entries met.now.keys (seen over.now)) }
+    ensures { IfOk result (SaysBytes state.now fresh.entries met.now.keys (seen over.now)) }
 {
     let mut change = Change::new(alloc);
     put_fresh(&mut change, fresh, met)?;

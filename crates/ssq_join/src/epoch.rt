@@ -65,7 +65,7 @@ fn move_rows(
     let Taken { found, met, fresh } = taken;
     let over = closing.past(alloc, now)?;
     let found = take_all_over(alloc, bound, joining, state, over.as_slice(), found)?;
-    let change = changed(alloc, state, &fresh, &met, over.as_slice())?;
+    let change = changed(alloc, state, fresh, &met, over.as_slice())?;
     Ok(Moved { change, found })
 }
 

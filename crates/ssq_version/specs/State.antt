@@ -62,6 +62,16 @@ IsState state = IsKept IsShort state
 abbrev pub IsChange : Change → Type 0
 IsChange change = IsKept IsShortOrNone change
 
+-- an entry of a change in front of a state: with its value, where it gives one
+abbrev pub given_first : List ℕ → Option (List ℕ) → State → State
+given_first key None state = state
+given_first key (Some value) state = (key, value) ∷ state
+
+-- the entries of a change that give a value, as a state has them
+abbrev pub given_by : Change → State
+given_by [] = []
+given_by (entry ∷ change) = given_first entry.0 entry.1 (given_by change)
+
 -- The state has this at one key (none: the key goes), and at each other key what it had.
 abbrev pub IsChangedAt : List ℕ → Option (List ℕ) → State → State → Type 0
 IsChangedAt key value old new = (other : List ℕ) → value_at new other ≡ (if is_at (by_bytes key) other then value else value_at old other)

@@ -1,10 +1,11 @@
 //! The state after a change.
 
-ghost use Rattle.std.specs.Prelude.{◌≡◌, [], List, ℕ, Some, None, IfSome, IsSome, OnOk, OnErr, false};
+ghost use Rattle.std.specs.Prelude.{◌≡◌, [], ◌++◌, List, ℕ, Some, None, IfOk, IfSome, IsSome, OnOk, OnErr, false};
 ghost use Rattle.std.specs.BTreeMap.{is_at};
-ghost use Rattle.ssq_version.specs.State.{State as Kept, by_bytes, value_at, IsShort, IsShortOrNone, Ascends, IsAfter, IsChangedAt, HasRoom, SaysSame, IsWithout};
+ghost use Rattle.ssq_version.specs.State.{State as Kept, by_bytes, value_at, given_by, given_first, IsShort, IsShortOrNone, Ascends, IsAfter, IsChangedAt, HasRoom, SaysSame, IsWithout};
 
-use crate::change::Change;
+use crate::change::{Change, changes_are_kept};
+use crate::entries::map_of;
 use crate::state::{StateMap, states_are_kept};
 use ssq_field::Bytes;
 use std::alloc::{AllocError, Global};
@@ -128,11 +129,53 @@ fn make_room(alloc: Global, state: &mut StateMap, change: &Change) -> Result<(),
     }
 }
 
+/// Puts an entry behind those that are there, where it gives a value.
+fn push_given(
+    given: &mut Vec<(Bytes, Bytes)>,
+    key: Bytes,
+    value: Option<Bytes>,
+) -> Result<(), AllocError>
+    ensures { OnOk result (given.new.items ≡ given.old.items ++ given_first key value []) }
+{
+    match value {
+        Some(value) => Ok(given.push((key, value))?),
+        None => Ok(()),
+    }
+}
+
+/// The entries of a change that give a value.
+fn given(alloc: Global, change: Change) -> Result<Vec<(Bytes, Bytes)>, AllocError>
+    ensures { IfOk result (λ given. given.items ≡ given_by change) }
+{
+    let Change(entries) = change;
+    let mut given = Vec::with_capacity(alloc, entries.len())?;
+    for (key, value) in entries {
+        push_given(&mut given, key, value)?;
+    }
+    Ok(given)
+}
+
+/// Makes a state that keeps nothing yet of what the change gives: its keys ascend, so that none is looked for. After an `Err` the state
+/// still keeps nothing.
+fn fill(alloc: Global, state: &mut StateMap, change: Change) -> Result<(), AllocError>
+    requires { state.old ≡ [] }
+    ensures ok { OnOk result (IsAfter change state.old state.new) }
+    ensures err { OnErr result (state.new ≡ state.old) }
+{
+    changes_are_kept(&change);
+    let entries = given(alloc, change)?;
+    state.0 = map_of(alloc, entries)?;
+    Ok(())
+}
+
 /// Changes the state, and takes the change's keys and values over. After an `Err` the state is as before.
 pub fn apply_owned(alloc: Global, state: &mut StateMap, change: Change) -> Result<(), AllocError>
     ensures ok { OnOk result (IsAfter change state.old state.new) }
     ensures err { OnErr result (state.new ≡ state.old) }
 {
+    if state.is_empty() {
+        return fill(alloc, state, change);
+    }
     make_room(alloc, state, &change)?;
     settle(state, change);
     Ok(())

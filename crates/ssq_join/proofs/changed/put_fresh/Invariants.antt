@@ -3,4 +3,8 @@ use Rattle.ssq_join.proofs.Saying.{FreshTo}
 use Rattle.ssq_join.proofs.changed.put_fresh.Given as goal
 
 abbrev pub invariant-loop-key : goal.invariant-loop-key
-invariant-loop-key l = Ascends l.key-iterator × FreshTo l.fresh.entries l.met.keys l.fn.change l.key-iterator l.change
+invariant-loop-key l =
+    (goal.iterator-loop-key).can_next l.key-iterator
+    × (goal.iterator-loop-key).is_finite l.key-iterator
+    × Ascends l.key-iterator
+    × FreshTo l.fn.fresh.entries l.met.keys l.fn.change l.key-iterator l.change
