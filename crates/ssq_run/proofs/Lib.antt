@@ -4,6 +4,7 @@ pub mod Passing
 pub mod Going
 pub mod Looking
 pub mod Showing
+pub mod Tabling
 mod Runnable
 mod KeyLemmas
 mod ShownKeys

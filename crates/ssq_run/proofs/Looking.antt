@@ -2,7 +2,7 @@
 use Rattle.std.proofs.Common.{◌≡◌, ◌⊎◌, ◌∙◌, ℕ, List, Option, Some, None, Result, Ok, refl, sym, ap, subst, inl, inr, arith, length, map}
 use Rattle.std.proofs.lemmas.List.{length-map}
 use Rattle.ssq_outside.specs.Faults.{Rises}
-use Rattle.ssq_outside.specs.History.{files_now}
+use Rattle.ssq_outside.specs.History.{History, files_now}
 use Rattle.ssq_outside.specs.Logs.{Held, Line}
 use Rattle.ssq_accept.specs.declared.refusal.Refusal.{Refusal}
 use Rattle.ssq_accept.specs.Accepting.{IsUnknown, KnownAreTaken}
@@ -26,19 +26,19 @@ use Rattle.ssq_run.specs.Queries.{read_of, IsKnownAt, IsQueryFor, IsRefusedFor}
 use Rattle.ssq_run.specs.Stopping.{stop_of_refusal, stop_of_open, status_in}
 use Rattle.ssq_run.specs.Looked.{LookEnd, nothing_there, shown, denied, starved}
 use Rattle.ssq_run.specs.Program.{Given, Went, IsOutside, HasObeyed, has_run, has_shown, has_explained, has_looked, ran_out, ProgramEnd, unread, no_command, no_file, refused, obeyed, IsStatus}
-use Rattle.ssq_run.specs.Going.{CanLook, NoneFailed, IsDone}
+use Rattle.ssq_run.specs.Going.{LooksAt, CanLook, NoneFailed, IsDone}
 
 ok_same : (found : Result Query Fault) (x y : Query) → found ≡ Ok x → found ≡ Ok y → x ≡ y
 ok_same found x y is also = cc
 
-one_known : (held : Held) (file : List ℕ) (bound other : Bound) → IsKnownAt held file bound → IsKnownAt held file other → bound ≡ other
+pub one_known : (held : Held) (file : List ℕ) (bound other : Bound) → IsKnownAt held file bound → IsKnownAt held file other → bound ≡ other
 one_known held file bound other is also =
     is.known.allowed.names.is ∙ ap bound_of (ok_same (query_of (read_of held file)) is.query also.query is.known.read.read also.known.read.read) ∙ sym also.known.allowed.names.is
 
-one_command : (words : List (List ℕ)) (what other : Asked) → asked words ≡ Some what → asked words ≡ Some other → what ≡ other
+pub one_command : (words : List (List ℕ)) (what other : Asked) → asked words ≡ Some what → asked words ≡ Some other → what ≡ other
 one_command words what other is also = cc
 
-no_command_too : (words : List (List ℕ)) (what : Asked) → asked words ≡ Some what → asked words ≡ None → ⊥
+pub no_command_too : (words : List (List ℕ)) (what : Asked) → asked words ≡ Some what → asked words ≡ None → ⊥
 no_command_too words what is none = cc
 
 no_show : (file other : List ℕ) → asks_show other ≡ asks_status file → ⊥
@@ -54,7 +54,7 @@ same_file : (file other : List ℕ) → asks_status other ≡ asks_status file �
 same_file file other e = cc
 
 -- a denial of the outside is a fault of the disk, or want of memory
-outer_status : (streams : List Stream) (why : OpenFault) → IsOuter why → (status_in (Some (stop_of_open streams why)) ≡ 7) ⊎ (status_in (Some (stop_of_open streams why)) ≡ 10)
+pub outer_status : (streams : List Stream) (why : OpenFault) → IsOuter why → (status_in (Some (stop_of_open streams why)) ≡ 7) ⊎ (status_in (Some (stop_of_open streams why)) ≡ 10)
 outer_status streams (opening.OtherQuery kept) outer = absurd outer
 outer_status streams (opening.OtherPartitions kept partitions) outer = absurd outer
 outer_status streams (opening.OtherParts stream kept found) outer = absurd outer
@@ -63,26 +63,27 @@ outer_status streams (opening.Damaged name) outer = absurd outer
 outer_status streams opening.DiskFault outer = inl refl
 outer_status streams opening.NoMemory outer = inr refl
 
+-- what is looked at is what is wanted
+pub looked_for : (given : Given) (start : History) (what : List ℕ → Asked) (are_found : PartsAreFound) (can : LooksAt given start what) → IsLookedFor (looked_query can.bound) (wanted can.bound can.partitions can.lens)
+looked_for given start what are_found can =
+    let parts = are_found can.setting can.bound can.partitions can.lens can.of in
+    record {
+      text = refl;
+      marked = refl;
+      each = length-map can.lens.streams length ∙ can.of.asked.each_stream;
+      begin = sym parts.1 ∙ parts.3 ∙ ap begins can.of.parts;
+    }
+
 module _ {L : Type 0} (told tells : Type 0) (lines : L → List Line) (available : L → ℕ) (answers : L → List ℕ) (faults : L → ℕ) (given : Given) (OutTells : Type 0) (went : Went) (stop : Option Stop)
     (known : KnownAreTaken) (is_wanted : JobIsWanted) (are_found : PartsAreFound) (can : CanLook given went.start) (before after status : ℕ) (answer : IsStatus stop before after status)
     (i0 i1 d0 d1 o0 o1 : ℕ) (none : NoneFailed i0 i1 d0 d1 o0 o1) (log : status ≡ 6 → Rises i0 i1) (disk : status ≡ 7 → Rises d0 d1) (out : status ≡ 8 → Rises o0 o1) where
-  looked_for : IsLookedFor (looked_query can.bound) (wanted can.bound can.partitions can.lens)
-  looked_for =
-      let parts = are_found can.setting can.bound can.partitions can.lens can.of in
-      record {
-        text = refl;
-        marked = refl;
-        each = length-map can.lens.streams length ∙ can.of.asked.each_stream;
-        begin = sym parts.1 ∙ parts.3 ∙ ap begins can.of.parts;
-      }
-
   by_look : status ≡ status_in stop → (bound : Bound) → bound ≡ can.bound → LookEnd bound (files_now went.start) went.text stop → IsDone status
   by_look is bound same (nothing_there empty text done) = inl (is ∙ ap status_in done)
   by_look is bound same (shown found holds text done) = inl (is ∙ ap status_in done)
   by_look is bound same (starved text memory) = inr (is ∙ ap status_in memory)
   by_look is bound same (denied why denial outer text stops) =
       let Q : Bound → Type 0 = λ b. IsLookedFor (looked_query b) (wanted can.bound can.partitions can.lens) in
-      let is_outer = outer (wanted can.bound can.partitions can.lens) (job_of can.setting) (subst Q (sym same) looked_for) (is_wanted can.setting can.bound can.partitions can.lens can.of can.found) can.stands in
+      let is_outer = outer (wanted can.bound can.partitions can.lens) (job_of can.setting) (subst Q (sym same) (looked_for given went.start asks_status are_found can)) (is_wanted can.setting can.bound can.partitions can.lens can.of can.found) can.stands in
       elim (outer_status bound.streams why is_outer) [
         | inl seven ↦ absurd (none.disk_whole (disk (is ∙ ap status_in stops ∙ seven)))
         | inr ten ↦ inr (is ∙ ap status_in stops ∙ ten)

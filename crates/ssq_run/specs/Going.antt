@@ -9,7 +9,7 @@ use Rattle.ssq_open.specs.declared.wanted.Lens.{Lens}
 use Rattle.ssq_terms.specs.Setting.{IsSettingOf, AreFound, found_lines}
 use Rattle.ssq_runner.specs.Sources.{IsSettingFor}
 use Rattle.ssq_runner.specs.Complete as run
-use Rattle.ssq_words.specs.Asking.{asks_run, asks_status, asked}
+use Rattle.ssq_words.specs.Asking.{Asked, asks_run, asks_show, asks_status, asked}
 use Rattle.ssq_run.specs.Program.{Given}
 use Rattle.ssq_run.specs.Queries.{IsQueryAt, IsKnownAt}
 
@@ -46,19 +46,27 @@ pub record IsFaultless (given : Given) (start : History) : Type 0 where
   pub setting : Setting
   pub faultless : run.IsFaultless given.held given.known asks.bound asks.partitions start setting
 
--- The words ask how far the checkpoint of a query has come, and it is empty, or stands for a job of that query, of whatever partitions, parts and
+-- The words ask this of the checkpoint of a query, and it is empty, or stands for a job of that query, of whatever partitions, parts and
 -- lines.
-pub record CanLook (given : Given) (start : History) : Type 0 where
+pub record LooksAt (given : Given) (start : History) (what : List ℕ → Asked) : Type 0 where
   pub file : List ℕ
   pub bound : Bound
   pub partitions : Option ℕ
   pub lens : Lens
   pub setting : Setting
-  pub asks : asked given.words ≡ Some (asks_status file)
+  pub asks : asked given.words ≡ Some (what file)
   pub is : IsKnownAt given.held file bound
   pub of : IsSettingOf setting bound partitions lens
   pub found : AreFound (found_lines lens) setting.lines
   pub stands : StandsOrEmpty (job_of setting) (files_now start)
+
+-- they ask how far it has come
+abbrev pub CanLook : Given → History → Type 0
+CanLook given start = LooksAt given start asks_status
+
+-- they ask for its table
+abbrev pub CanShow : Given → History → Type 0
+CanShow given start = LooksAt given start asks_show
 
 -- no fault of the inputs, the disk or the output was counted
 pub record NoneFailed (inputs inputs_now disk disk_now out out_now : ℕ) : Type 0 where

@@ -22,7 +22,7 @@ ghost use Rattle.ssq_core.specs.Sound.{StandsOrEmpty};
 ghost use Rattle.ssq_core.specs.Standing.{Stands};
 ghost use Rattle.ssq_course.specs.Setting.{Setting as SettingOf, parts_in, job_of};
 ghost use Rattle.ssq_words.specs.Asking.{asked};
-ghost use Rattle.ssq_run.specs.Going.{IsAskedFor, CanGoOn, HasRoom, IsFaultless, CanLook, NoneFailed, IsDone, IsDoneToAFault};
+ghost use Rattle.ssq_run.specs.Going.{IsAskedFor, CanGoOn, HasRoom, IsFaultless, CanLook, CanShow, NoneFailed, IsDone, IsDoneToAFault};
 ghost use Rattle.ssq_run.specs.Program.{went_of, ProgramEnd, ProgramWrote};
 ghost use Rattle.ssq_run.specs.Stopping.{stop_in, HasCount, WordsCause};
 
@@ -31,6 +31,7 @@ use crate::prepare::read_query;
 use crate::stop::Stop;
 use crate::tell::tell;
 use ssq_accept::files_have_one_answer;
+use ssq_bind::{queries_are_typed, queries_read_their_streams};
 use ssq_meaning::{
     first_rows_add_up, forgotten_groups_lose_no_row, forgotten_keys_lose_no_row,
     forgotten_rows_lose_no_partner, groups_in_append_add_up, groups_in_complete_are_shown_whole,
@@ -38,6 +39,7 @@ use ssq_meaning::{
 };
 use ssq_outside::{Disk, Gate, Inputs, Output};
 use ssq_runner::runs_go_on;
+use ssq_tables::checkpoints_hold_tables;
 use ssq_terms::job_is_wanted;
 use ssq_words::ask;
 use std::alloc::Global;
@@ -175,6 +177,11 @@ pub fn stream_main<R: Threads + Wait + Sync, D: Disk, I: Inputs, O: Output, G: G
         (record { words = map string_bytes words.now; held = I.held inputs; known = I.available inputs }) (D.history disk) →
         NoneFailed (I.faults inputs) (I.faults result.inputs) (D.faults disk) (D.faults result.disk) (O.faults out) (O.faults result.out) →
         IsDone result.status }
+    // So it is for the table of such a checkpoint: no sink file is ever refused.
+    ensures is_shown { D.tells → I.tells → O.tells → CanShow
+        (record { words = map string_bytes words.now; held = I.held inputs; known = I.available inputs }) (D.history disk) →
+        NoneFailed (I.faults inputs) (I.faults result.inputs) (D.faults disk) (D.faults result.disk) (O.faults out) (O.faults result.out) →
+        IsDone result.status }
 
     // The words are refused exactly where they are no command, unless memory runs out.
     ensures usage { result.status ≡ 2 → asked (map string_bytes words.now) ≡ None }
@@ -198,6 +205,9 @@ pub fn stream_main<R: Threads + Wait + Sync, D: Disk, I: Inputs, O: Output, G: G
     watermarks_never_fall();
     files_have_one_answer();
     job_is_wanted();
+    queries_are_typed();
+    queries_read_their_streams();
+    checkpoints_hold_tables();
     let mut inputs = inputs;
     let mut out = out;
     let Done { disk, text, end } = work(alloc, gate, words, disk, &mut inputs, &mut out);
