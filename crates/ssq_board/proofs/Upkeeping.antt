@@ -192,7 +192,7 @@ swapped true false = refl
 swapped false true = refl
 swapped false false = refl
 
-without_is : (q r : Name) (names : List Name) → is_among (without q names) r ≡ (is_among names r && not (same_name r q))
+pub without_is : (q r : Name) (names : List Name) → is_among (without q names) r ≡ (is_among names r && not (same_name r q))
 without_is q r [] = refl
 without_is q r (n ∷ ns) = by (same_name n q) refl (same_name n r) refl (without_is q r ns)
   where

@@ -2,3 +2,4 @@ pub mod Joining
 pub mod Leaving
 pub mod Truths
 pub mod Coming
+pub mod Knowing

@@ -1,6 +1,7 @@
 -- A run as a list of events of the machine, and what that promises.
-use Rattle.std.specs.Prelude.{◌≡◌, ◌⊎◌, ◌<◌, ◌≤◌, ◌+◌, ◌++◌, ℕ, Bool, true, false, List, [], Option, None, Contains}
+use Rattle.std.specs.Prelude.{◌≡◌, ◌⊎◌, ◌<◌, ◌≤◌, ◌+◌, ◌++◌, ℕ, Bool, true, false, List, [], Option, None, Contains, is_some}
 use Rattle.ssq_outside.specs.declared.name.Name.{Name}
+use Rattle.ssq_outside.specs.declared.name.Name.TheVariants as name
 use Rattle.ssq_outside.specs.Files.{Files}
 use Rattle.ssq_outside.specs.History.{History, files_now, LeavesNow, LeavesOnly}
 use Rattle.ssq_core.specs.declared.event.Event.{Event}
@@ -10,12 +11,13 @@ use Rattle.ssq_core.specs.Staying.{IsNoOther}
 use Rattle.ssq_core.specs.Settled.{IsSettledAs}
 use Rattle.ssq_core.specs.Machine as machine
 use Rattle.ssq_core.specs.Machine.{Desk, running, opened}
-use Rattle.ssq_core.specs.Sound.{StandsOrEmpty, is_state}
+use Rattle.ssq_core.specs.Sound.{AreProper, StandsOrEmpty, is_state}
+use Rattle.ssq_upkeep.specs.Upkeep.{IsDue, is_among}
 use Rattle.ssq_core.specs.Laws.{acknowledged, HasEpoch}
 use Rattle.ssq_board.specs.declared.front.Entry.{Entry}
 use Rattle.ssq_board.specs.Core.{Scope, is_open, is_behind, next_ends, extended}
 use Rattle.ssq_board.specs.Shown.{Start, first}
-use Rattle.ssq_board.specs.Shelf.{IsFirstShelf, AreListed}
+use Rattle.ssq_board.specs.Shelf.{IsFirstShelf, AreListed, there_in, asked_in, last_of}
 use Rattle.ssq_board.specs.Follows.{Terms, State, Leads}
 use Rattle.ssq_board.specs.Laws.{IsOpenedAt}
 use Rattle.ssq_board.specs.Told.{acknowledged_of}
@@ -91,6 +93,21 @@ abbrev pub RoundLeavesTrue : Type 0 → Type 0
 RoundLeavesTrue tells = tells → (job : Job) (r : Scope) (due : Cuts → ℕ → Bool) (terms : Terms job r due) (st : Start) (es : List Entry) (s n : State) → Begins job r due terms st s
     → Leads tells job r due s es n
     → (cuts : Cuts) → AreSameUpTo cuts n.cuts n.core.front.planned → AreFilesOf job r.cap due (λ found. found ≡ r.available) ((n.core.front.planned ≤ n.core.front.committed) × (n.core.front.settled ≡ true)) cuts n.core.front.planned n.disk
+
+-- Where the snapshot of a version is due, its partition's state can be made of files: each file is the true one of its name; which of the state are
+-- there is known; and each delta up to the version is there, or a snapshot below the version that stands for it.
+pub record KnowsState (job : Job) (n : State) (p v : ℕ) : Type 0 where
+  pub planned : v < n.core.front.planned
+  pub proper : AreProper job n.cuts n.core.front.planned
+  pub few : n.core.front.planned ≤ 4294967295
+  pub are_true : (q : Name) → IsNoOther (files_now n.disk) q (truth (job.course n.cuts) q)
+  pub there : (q : Name) → is_state q ≡ true → is_some (files_now n.disk q) ≡ is_among (there_in n.shelf) q
+  pub deltas : (w : ℕ) → w ≤ v → (is_among (there_in n.shelf) (name.Delta p w) ≡ true) ⊎ ((s : ℕ) × (w ≤ s) × (s < v) × (is_among (there_in n.shelf) (name.Snapshot p s) ≡ true))
+
+abbrev pub RoundKnowsState : Type 0 → Type 0
+RoundKnowsState tells = tells → (job : Job) (r : Scope) (due : Cuts → ℕ → Bool) (terms : Terms job r due) (st : Start) (es : List Entry) (s n : State) → Begins job r due terms st s
+    → Leads tells job r due s es n → n.core.front.stop ≡ None → (keeping : ℕ) → ((cuts : Cuts) → (job.course cuts).keeping ≡ keeping)
+    → (p v : ℕ) → p < keeping → IsDue (asked_in n.shelf) n.shelf.settled p (last_of n.core) v → KnowsState job n p v
 
 -- How a round went on: each epoch that it planned was to come, since some part had lines that no plan covered, or one without lines was due;
 -- none that is committed has a fault; and where no epoch is open, it is known whether one without lines is due.

@@ -1,6 +1,6 @@
 //! What holds of every run.
 
-ghost use Rattle.ssq_promise.specs.Run.{NothingIsRun, OpenedIsTrue, RoundIsRun, RoundGoesOn, RunsAreJoined, RoundLeavesFound, RoundLeavesTrue, RunIsKept};
+ghost use Rattle.ssq_promise.specs.Run.{NothingIsRun, OpenedIsTrue, RoundIsRun, RoundGoesOn, RunsAreJoined, RoundLeavesFound, RoundLeavesTrue, RoundKnowsState, RunIsKept};
 
 use ssq_outside::{Disk, Log};
 
@@ -21,4 +21,9 @@ pub fn rounds<D: Disk, L: Log>()
 /// was, but for files of the state; and each epoch that was told is in each image from when it was acknowledged.
 pub fn run<D: Disk, L: Log>()
     ensures { RunIsKept (D.tells × L.tells) }
+{}
+
+/// The law of a state's files: as long as a round runs, what makes the state of a partition at a version whose snapshot is due is there and true.
+pub fn states<D: Disk, L: Log>()
+    ensures { RoundKnowsState (D.tells × L.tells) }
 {}

@@ -6,4 +6,4 @@
 
 mod law;
 
-pub use law::{rounds, run};
+pub use law::{rounds, run, states};

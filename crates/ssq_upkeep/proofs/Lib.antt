@@ -1,4 +1,5 @@
 mod Among
 mod Floors
+pub mod Lasting
 mod Leasts
 mod Order

@@ -17,7 +17,7 @@ pub(crate) fn is_among(names: &[Name], name: Name) -> bool
 }
 
 /// The newest of a partition's snapshots up to a version, of those in a list.
-fn newest_to(names: &[Name], partition: u32, highest: u32) -> Option<u32>
+pub fn newest_to(names: &[Name], partition: u32, highest: u32) -> Option<u32>
     ensures { MatchOption result (HasNone names.now partition highest) (IsNewest names.now partition highest) }
 {
     let mut newest = None;
