@@ -29,6 +29,29 @@ pub(crate) struct Origin {
     pub(crate) offset: u64,
 }
 
+impl Origin {
+    /// The row that is fed from this line with a key, the time when it is past, and values.
+    fn row(self, key: Row, time: Option<i64>, values: Row) -> FedRow
+        ensures { result ≡ from_origin self (record { key = key; time = time; values = values }) }
+    {
+        let Origin {
+            epoch,
+            stream,
+            part,
+            offset,
+        } = self;
+        FedRow {
+            epoch,
+            stream,
+            part,
+            offset,
+            key,
+            time,
+            values,
+        }
+    }
+}
+
 /// A row that goes to its groups.
 #[derive(Clone, Copy)]
 struct Source<'a> {
@@ -88,140 +111,19 @@ impl Dealer {
         buckets
     }
 
-    /// Deals a row as SELECT shows it, whose key has no values.
-    #[tactic(auto, unfolding(ssq_value::specs::Key::keys_of))]
-    fn deal_shown(&mut self, alloc: Global, origin: Origin, values: Row) -> Result<(), AllocError>
-        requires { All IsFit values }
-        ensures { OnOk result (Deals self.old.buckets self.new.buckets (map (from_origin origin) (shown_once (Some values)))) }
-    {
-        let Origin {
-            epoch,
-            stream,
-            part,
-            offset,
-        } = origin;
-        self.buckets.add(
-            &[],
-            FedRow {
-                epoch,
-                stream,
-                part,
-                offset,
-                key: Row::new(alloc),
-                time: None,
-                values,
-            },
-        )
-    }
-
-    /// Puts a row into the only bucket, which is that of each key.
-    fn deal_alone(&mut self, row: FedRow) -> Result<(), AllocError>
-        requires fit { IsFitRow row }
-        requires alone { length self.old.buckets ≡ 1 }
-        ensures { OnOk result (Deals self.old.buckets self.new.buckets (row ∷ [])) }
-    {
-        self.buckets.add(&[], row)?;
-        Ok(())
-    }
-
-    /// Puts a row into the bucket of its key's partition, behind those that are there.
+    /// Puts a row into the bucket of its key's partition, behind those that are there. The only bucket is that of each key.
     fn deal(&mut self, row: FedRow) -> Result<(), AllocError>
         requires { IsFitRow row }
         ensures { OnOk result (Deals self.old.buckets self.new.buckets (row ∷ [])) }
     {
         if self.buckets.partitions() == 1 {
-            return self.deal_alone(row);
+            self.buckets.add(&[], row)?;
+            return Ok(());
         }
         fit_values_are_spelled();
         self.key.clear();
         put_key(&mut self.key, row.key.as_slice())?;
         self.buckets.add(self.key.as_slice(), row)
-    }
-
-    /// Deals a row by its values in the columns of DEDUPLICATE.
-    fn deal_distinguished(
-        &mut self,
-        bound: &Bound,
-        origin: Origin,
-        columns: &[usize],
-        key: Row,
-        values: Row,
-    ) -> Result<(), AllocError>
-        requires key { All IsFit key }
-        requires values { All IsFit values }
-        ensures { OnOk result (Deals self.old.buckets self.new.buckets (from_origin origin (distinguished bound.now columns.now key values) ∷ [])) }
-    {
-        let Origin {
-            epoch,
-            stream,
-            part,
-            offset,
-        } = origin;
-        let time = repeat_time(bound, columns, key.as_slice());
-        self.deal(FedRow {
-            epoch,
-            stream,
-            part,
-            offset,
-            key,
-            time,
-            values,
-        })
-    }
-
-    /// Deals a row of a join as it is, by its join key.
-    fn deal_paired(
-        &mut self,
-        origin: Origin,
-        key: Row,
-        time: Option<i64>,
-        row: Row,
-    ) -> Result<(), AllocError>
-        requires key { All IsFit key }
-        requires row { All IsFit row }
-        ensures { OnOk result (Deals self.old.buckets self.new.buckets (from_origin origin (record { key = key; time = time; values = row }) ∷ [])) }
-    {
-        let Origin {
-            epoch,
-            stream,
-            part,
-            offset,
-        } = origin;
-        self.deal(FedRow {
-            epoch,
-            stream,
-            part,
-            offset,
-            key,
-            time,
-            values: row,
-        })
-    }
-
-    /// Deals a row to one group.
-    fn deal_member(&mut self, from: &Source<'_>, key: Row, arguments: Row) -> Result<(), AllocError>
-        requires windows { HasGroupWindows from.now.grouping.now }
-        requires key { All IsFit key }
-        requires arguments { All IsFit arguments }
-        ensures { OnOk result (Deals self.old.buckets self.new.buckets
-            (member_row from.now.origin from.now.bound.now from.now.grouping.now arguments key ∷ [])) }
-    {
-        let Origin {
-            epoch,
-            stream,
-            part,
-            offset,
-        } = from.origin;
-        let time = closing_time(from.bound, from.grouping, key.as_slice());
-        self.deal(FedRow {
-            epoch,
-            stream,
-            part,
-            offset,
-            key,
-            time,
-            values: arguments,
-        })
     }
 
     /// Deals a row to each of its groups whose keys begin like this, by the parts of a key that are left. The arguments are cloned for each
@@ -243,7 +145,9 @@ impl Dealer {
             (member_rows from.now.origin from.now.bound.now from.now.grouping.now arguments (begun_with key.items (row_keys parts.now from.now.row.now)))) }
     {
         let Some((part, parts)) = parts.split_first() else {
-            return self.deal_member(from, Row::from_vec(key), arguments);
+            let key = Row::from_vec(key);
+            let time = closing_time(from.bound, from.grouping, key.as_slice());
+            return self.deal(from.origin.row(key, time, arguments));
         };
         let values = KeyValues::of(part, from.row);
         let Some(last) = values.count().checked_sub(1) else {
@@ -258,7 +162,8 @@ impl Dealer {
         self.deal_groups(alloc, from, parts, key, arguments)
     }
 
-    /// Deals what a row hands on.
+    /// Deals what a row hands on. A row as SELECT shows it has a key without values.
+    #[tactic(auto, unfolding(ssq_value::specs::Key::keys_of))]
     pub(crate) fn hand_on(
         &mut self,
         alloc: Global,
@@ -271,13 +176,19 @@ impl Dealer {
     {
         match handed {
             HandedOn::Nothing => Ok(()),
-            HandedOn::Shown(values) => self.deal_shown(alloc, origin, values),
+            HandedOn::Shown(values) => {
+                let row = origin.row(Row::new(alloc), None, values);
+                self.buckets.add(&[], row)
+            },
             HandedOn::Distinguished {
                 columns,
                 key,
                 values,
-            } => self.deal_distinguished(bound, origin, columns, key, values),
-            HandedOn::Paired { key, time, row } => self.deal_paired(origin, key, time, row),
+            } => {
+                let time = repeat_time(bound, columns, key.as_slice());
+                self.deal(origin.row(key, time, values))
+            },
+            HandedOn::Paired { key, time, row } => self.deal(origin.row(key, time, row)),
             HandedOn::Grouped {
                 grouping,
                 row,

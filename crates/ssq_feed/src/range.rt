@@ -30,7 +30,7 @@ fn later(greatest: Option<i64>, time: Option<i64>) -> Option<i64>
 }
 
 /// What the lines of a part bring from one offset up to another, for an epoch.
-fn feed_lines<L: Log>(
+pub(crate) fn feed_lines<L: Log>(
     alloc: Global,
     log: &mut L,
     view: View<'_>,
@@ -68,30 +68,4 @@ fn feed_lines<L: Log>(
         time,
         buckets: dealer.into_buckets(),
     })
-}
-
-/// What the lines of a part of a stream bring from one offset up to another.
-pub(crate) fn feed_range<L: Log>(
-    alloc: Global,
-    log: &mut L,
-    view: View<'_>,
-    epoch: u32,
-    stream: u32,
-    part: u32,
-    from: u64,
-    to: u64,
-) -> Result<FedRows, FeedFault>
-    requires partitions { 1 ≤ view.partitions }
-    requires windows { HasWindows view.bound.now }
-    ensures rows { IfOk result (λ fed. IsFedFrom L.tells view.entry.bound.now epoch (record { stream = stream; part = part; lines = L.lines log.old }) from to
-        view.entry.partitions fed.time fed.buckets) }
-    ensures fault { IfErr result (FeedCause L.tells L.lines L.available L.answers L.faults view.entry.bound.now stream part from to log.old log.new) }
-    ensures log { LogWent L.tells L.lines L.available L.answers L.faults log.old log.new }
-{
-    let none = Schema::new(Vec::new(alloc), None);
-    let schema = match view.bound.streams.as_slice().get(stream as usize) {
-        Some(stream) => &stream.schema,
-        None => &none,
-    };
-    feed_lines(alloc, log, view, schema, epoch, stream, part, from, to)
 }

@@ -5,10 +5,11 @@ ghost use Rattle.ssq_meaning.specs.Windows.{HasWindows};
 ghost use Rattle.ssq_feed.specs.Outcome.{IsFed};
 
 use crate::fault::FeedFault;
-use crate::range::feed_range;
+use crate::range::feed_lines;
 use ssq_meaning::{FedRow, View};
 use ssq_outside::Log;
 use ssq_route::Buckets;
+use ssq_value::Schema;
 use std::alloc::Global;
 
 /// Reads the new lines of a part, for an epoch.
@@ -73,7 +74,12 @@ pub fn feed<'a, L: Log>(alloc: Global, task: MapTask<'a, L>) -> Fed<'a, L>
         to,
         mut log,
     } = task;
-    let outcome = feed_range(alloc, &mut log, view, epoch, stream, part, from, to);
+    let none = Schema::new(Vec::new(alloc), None);
+    let schema = match view.bound.streams.as_slice().get(stream as usize) {
+        Some(stream) => &stream.schema,
+        None => &none,
+    };
+    let outcome = feed_lines(alloc, &mut log, view, schema, epoch, stream, part, from, to);
     Fed {
         view,
         epoch,
