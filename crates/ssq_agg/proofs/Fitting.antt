@@ -20,7 +20,7 @@ use Rattle.ssq_meaning.specs.Totals.{totals_bytes}
 use Rattle.ssq_agg.specs.declared.kept.Group.{Group}
 use Rattle.ssq_agg.specs.Groups.{Held}
 use Rattle.ssq_agg.specs.Holding.{Entry, AreRead, Holds, IsGroupOf, IsReadAt}
-use Rattle.ssq_agg.specs.Readable.{AreFit, AreFitGroups, AreTotalsOf, IsFitGroup, IsFitTotal, IsKey, IsReadableGroup, IsTotalOf}
+use Rattle.ssq_agg.specs.Readable.{AreFit, AreFitAt, AreFitGroups, AreTotalsOf, IsFitGroup, IsFitTotal, IsKey, IsReadableGroup, IsTotalOf}
 use Rattle.ssq_agg.proofs.Taking.{same_is}
 
 -- ---- what can be read back fits
@@ -66,13 +66,13 @@ found_is grouping state own key found holds is_key is = by (own key) refl (holds
     by None held there = none found there is.some
     by (Some totals) held there = is.each totals (holds.readable key totals held).totals_are there
 
--- ---- a map of groups through a change of one
+-- ---- groups through a change of one
 
-pub fit_after : (before after : BTreeMap Values (List Total)) (key : Values) (totals : List Total) → ((q : Values) → get values_cmp after q ≡ (if is_same key q then Some totals else get values_cmp before q))
-    → All IsFit key → All IsFitTotal totals → AreFitGroups before → AreFitGroups after
+pub fit_after : (before after : Held) (key : Values) (totals : List Total) → ((q : Values) → after q ≡ (if is_same key q then Some totals else before q))
+    → All IsFit key → All IsFitTotal totals → AreFitAt before → AreFitAt after
 fit_after before after key totals is key_is totals_are was q own there = by (is_same key q) refl (sym (is q) ∙ there)
   where
-    by : (b : Bool) → is_same key q ≡ b → (if b then Some totals else get values_cmp before q) ≡ Some own → IsFitGroup q own
+    by : (b : Bool) → is_same key q ≡ b → (if b then Some totals else before q) ≡ Some own → IsFitGroup q own
     by true same has =
         let one : totals ≡ own = cc in
         record { key_fits = subst (All IsFit) (same_is key q same) key_is; totals_fit = subst (All IsFitTotal) one totals_are }

@@ -1,5 +1,5 @@
 -- Groups that can be kept as bytes, and read back from them.
-use Rattle.std.specs.Prelude.{◌≡◌, ◌<◌, ◌^◌, List, [], ◌∷◌, All, length, Some, FitsSigned}
+use Rattle.std.specs.Prelude.{◌≡◌, ◌<◌, ◌^◌, List, [], ◌∷◌, All, length, Option, Some, FitsSigned}
 use Rattle.std.specs.BTreeMap.{BTreeMap, get}
 use Rattle.std.specs.Int.{w128}
 use Rattle.ssq_value.specs.Order.{values_cmp}
@@ -30,8 +30,11 @@ pub record IsFitGroup (key : Values) (totals : List Total) : Type 0 where
 abbrev pub AreFit : List Group → Type 0
 AreFit groups = All (λ (group : Group). IsFitGroup group.key group.totals) groups
 
+abbrev pub AreFitAt : (Values → Option (List Total)) → Type 0
+AreFitAt found = (key : Values) (totals : List Total) → found key ≡ Some totals → IsFitGroup key totals
+
 abbrev pub AreFitGroups : BTreeMap Values (List Total) → Type 0
-AreFitGroups groups = (key : Values) (totals : List Total) → get values_cmp groups key ≡ Some totals → IsFitGroup key totals
+AreFitGroups groups = AreFitAt (get values_cmp groups)
 
 -- a total of this function, which is read back from its bytes
 abbrev pub IsTotalOf : Function → Total → Type 0

@@ -2,6 +2,7 @@
 
 ghost use Rattle.std.specs.Prelude.{◌≡◌, Some, List, if◌then◌else◌, All, IfOk, OnOk};
 ghost use Rattle.std.specs.BTreeMap.{get};
+ghost use Rattle.std.specs.HashMap.{get as found};
 ghost use Rattle.std.specs.List.{AllByRecursion};
 ghost use Rattle.ssq_value.specs.declared.value.Value.{Value as Cell};
 ghost use Rattle.ssq_value.specs.Order.{values_cmp};
@@ -11,16 +12,17 @@ ghost use Rattle.ssq_meaning.specs.Totals.{with_row};
 ghost use Rattle.ssq_agg.specs.Fits.{AllFit};
 ghost use Rattle.ssq_agg.specs.Groups.{AreSteady, Held as Own, goes_on, started, touched};
 ghost use Rattle.ssq_agg.specs.Holding.{Holds};
-ghost use Rattle.ssq_agg.specs.Readable.{AreFitGroups, IsFitTotal, IsKey};
+ghost use Rattle.ssq_agg.specs.Readable.{AreFitAt, AreFitGroups, IsFitTotal, IsKey};
 
 use crate::kept::totals_of;
+use crate::key::Key;
 use crate::totals::Totals;
 use ssq_meaning::FedRow;
 use ssq_shape::Grouping;
 use ssq_value::{Row, Value};
 use ssq_version::StateMap;
 use std::alloc::{AllocError, Global};
-use std::collections::BTreeMap;
+use std::collections::{BTreeMap, HashMap};
 
 /// The totals from which a key goes on.
 fn started(
@@ -41,27 +43,42 @@ fn started(
 }
 
 /// Takes one more row into its group, which is looked up where no row before had its key.
-fn take_row(
+fn take_row<'a>(
     alloc: Global,
     grouping: &Grouping,
     state: &StateMap,
-    groups: &mut BTreeMap<Row, Totals>,
-    row: &FedRow,
+    groups: &mut HashMap<Key<'a>, Totals>,
+    row: &'a FedRow,
 ) -> Result<(), AllocError>
     requires { IsFitRow row.now }
     ensures taken { (own : Own) → Holds grouping.now state.now own → IsKey grouping.now row.now.key →
-        AllFit (with_row (goes_on grouping.now.aggregates (own row.now.key) (get values_cmp groups.old row.now.key)) row.now.values) →
-        OnOk result ((key : List Cell) → get values_cmp groups.new key ≡
-        (if is_same row.now.key key then Some (with_row (goes_on grouping.now.aggregates (own row.now.key) (get values_cmp groups.old row.now.key)) row.now.values) else get values_cmp groups.old key)) }
-    ensures fit { AreFitGroups groups.old → OnOk result (AreFitGroups groups.new) }
+        AllFit (with_row (goes_on grouping.now.aggregates (own row.now.key) (found is_same groups.old row.now.key)) row.now.values) →
+        OnOk result ((key : List Cell) → found is_same groups.new key ≡
+        (if is_same row.now.key key then Some (with_row (goes_on grouping.now.aggregates (own row.now.key) (found is_same groups.old row.now.key)) row.now.values) else found is_same groups.old key)) }
+    ensures fit { AreFitAt (found is_same groups.old) → OnOk result (AreFitAt (found is_same groups.new)) }
 {
-    if let Some(totals) = groups.get_mut(&row.key) {
+    let key = Key::of(&row.key);
+    if let Some(totals) = groups.get_mut(&key) {
         return totals.add_row(row.values.as_slice());
     }
     let mut totals = started(alloc, grouping, state, row.key.as_slice())?;
     totals.add_row(row.values.as_slice())?;
-    groups.insert(row.key.clone()?, totals)?;
+    groups.insert(key, totals)?;
     Ok(())
+}
+
+/// The groups in the order of their keys.
+fn in_order(
+    alloc: Global,
+    groups: HashMap<Key<'_>, Totals>,
+) -> Result<BTreeMap<Row, Totals>, AllocError>
+    ensures { IfOk result (λ ordered. (key : List Cell) → get values_cmp ordered key ≡ found is_same groups.entry key) }
+{
+    let mut entries = Vec::new(alloc);
+    for (key, totals) in groups {
+        entries.push((key.to_row()?, totals))?;
+    }
+    entries.into_iter().collect(alloc)
 }
 
 /// The groups that the rows touch, each with its totals after them, by the order of keys. A group that was touched is looked up once.
@@ -77,9 +94,9 @@ pub(crate) fn touched(
         IfOk result (λ groups. (key : List Cell) → get values_cmp groups key ≡ touched grouping.now.aggregates (own key) (members rows.now key)) }
     ensures fit { IfOk result AreFitGroups }
 {
-    let mut groups = BTreeMap::new(alloc);
+    let mut groups = HashMap::new(alloc);
     for row in rows {
         take_row(alloc, grouping, state, &mut groups, row)?;
     }
-    Ok(groups)
+    in_order(alloc, groups)
 }

@@ -5,6 +5,7 @@ mod changed;
 mod epoch;
 mod groups;
 mod kept;
+mod key;
 mod laws;
 mod show;
 mod shown;
