@@ -1,12 +1,12 @@
 //! What names mean where expressions are built.
 
-ghost use Rattle.std.specs.Prelude.{◌≡◌, ◌<◌, ◌^◌, position};
-ghost use Rattle.ssq_check.specs.Scope.{in_source, bare_spot, source_named, named_spot, is_window_key, has_window, is_key_of, is_window_name};
+ghost use Rattle.std.specs.Prelude.{◌≡◌, ◌<◌, ◌^◌};
+ghost use Rattle.ssq_check.specs.Scope.{in_source, bare_spot, source_named, named_spot, is_window_name};
 ghost use Rattle.ssq_check.specs.Joined.{spot_in, spot_of};
 ghost use Rattle.ssq_bind.specs.Value.{width, behind, row_index, is_window_column, key_spot, key_index};
 
 use ssq_ast::{ColumnRef, Ident};
-use ssq_check::{Key, Scope, Side, Source, Spot};
+use ssq_check::{Scope, Side, Source, Spot};
 use ssq_value::Text;
 
 /// What expressions rest on: the names that they may use, and the size of the query's window in microseconds.
@@ -108,49 +108,13 @@ fn is_window_name(name: &str) -> bool
     name == "window_start" || name == "window_end"
 }
 
-fn is_window_key(key: &Key) -> bool
-    ensures { result ≡ is_window_key key.now }
-{
-    match key {
-        Key::Window => true,
-        Key::Column(_) => false,
-    }
-}
-
-fn window_index(keys: &[Key]) -> Option<usize>
-    ensures { result ≡ position is_window_key keys.now }
-{
-    keys.iter().position(|key| is_window_key(key))
-}
-
-fn is_key_of(spot: Spot, key: &Key) -> bool
-    ensures { result ≡ is_key_of spot key.now }
-{
-    match key {
-        Key::Window => false,
-        Key::Column(own) => own.side == spot.side && own.index == spot.index,
-    }
-}
-
-fn spot_index(keys: &[Key], spot: Spot) -> Option<usize>
-    ensures { result ≡ position (is_key_of spot) keys.now }
-{
-    keys.iter().position(|key| is_key_of(spot, key))
-}
-
 fn key_spot(scope: &Scope, spot: Option<Spot>) -> Option<usize>
     ensures { result ≡ key_spot scope.now spot }
 {
     match spot {
-        Some(spot) => spot_index(scope.keys.as_slice(), spot),
+        Some(spot) => scope.keys.place(spot),
         None => None,
     }
-}
-
-fn has_window(keys: &[Key]) -> bool
-    ensures { result ≡ has_window keys.now }
-{
-    keys.iter().any(|key| is_window_key(key))
 }
 
 /// Whether a column is `window_start` or `window_end`, where rows are grouped by a window.
@@ -159,7 +123,7 @@ pub(crate) fn is_window_column(scope: &Scope, column: &ColumnRef) -> bool
 {
     match &column.stream {
         Some(_) => false,
-        None => has_window(scope.keys.as_slice()) && is_window_name(column.column.text.as_str()),
+        None => scope.keys.has_window() && is_window_name(column.column.text.as_str()),
     }
 }
 
@@ -168,7 +132,7 @@ pub(crate) fn key_index(scope: &Scope, column: &ColumnRef) -> Option<usize>
     ensures { result ≡ key_index scope.now column.now }
 {
     if is_window_column(scope, column) {
-        window_index(scope.keys.as_slice())
+        scope.keys.window()
     } else {
         key_spot(scope, spot_of(scope, column))
     }

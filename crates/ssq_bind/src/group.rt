@@ -14,7 +14,7 @@ use crate::list::push_some;
 use crate::output::item_name;
 use crate::value::or_zero;
 use ssq_ast::{Group, GroupBy, Ident, Item, OrderBy, Window};
-use ssq_check::{Key, Scope};
+use ssq_check::{Key, Keys, Scope};
 use ssq_shape::{Direction, GroupKey, SortKey};
 use ssq_value::Sequence;
 use std::alloc::{AllocError, Global};
@@ -48,13 +48,14 @@ pub(crate) fn group_keys(
     alloc: Global,
     scope: &Scope,
     group: &Option<GroupBy>,
-) -> Result<Sequence<Key>, AllocError>
+) -> Result<Keys, AllocError>
     ensures { IfOk result (λ keys. keys ≡ group_keys scope.now group.now) }
 {
-    match group {
-        Some(by) => keys_in(alloc, scope, by.items.as_slice()),
-        None => Ok(Sequence::new(alloc)),
-    }
+    let list = match group {
+        Some(by) => keys_in(alloc, scope, by.items.as_slice())?,
+        None => Sequence::new(alloc),
+    };
+    Keys::new(alloc, list)
 }
 
 fn size_in(groups: &[Group]) -> i64

@@ -21,7 +21,7 @@ use crate::shown::{is_group, shown_within};
 use crate::stream::{declared, list, source_of};
 use crate::value::row_value;
 use ssq_ast::{Condition, Deduplicate, Join, Query, text};
-use ssq_check::{Refusal, Scope, check};
+use ssq_check::{Keys, Refusal, Scope, check};
 use ssq_shape::{Aggregate, Bound, Grouping, Mode, Output, Shape, Stream, Typed};
 use ssq_value::{Sequence, texts_are_utf8};
 use std::alloc::{AllocError, Global};
@@ -55,11 +55,8 @@ fn row_scope(alloc: Global, query: &Query) -> Result<Scope, AllocError>
 {
     let left = source_of(alloc, left_stream(query))?;
     let right = source_of(alloc, right_stream(query))?;
-    Ok(Scope {
-        left,
-        right,
-        keys: Sequence::new(alloc),
-    })
+    let keys = Keys::new(alloc, Sequence::new(alloc))?;
+    Ok(Scope { left, right, keys })
 }
 
 fn scope_of(alloc: Global, query: &Query) -> Result<Scope, AllocError>

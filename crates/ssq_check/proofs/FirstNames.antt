@@ -10,7 +10,7 @@ use Rattle.indexmap.specs.IndexMap.{IndexMap, get, Updates}
 use Rattle.ssq_value.specs.declared.column.Column.{Column}
 use Rattle.ssq_check.specs.Columns.{FindsFirsts}
 
-abbrev or_else : Option ℕ → Option ℕ → Option ℕ
+abbrev pub or_else : Option ℕ → Option ℕ → Option ℕ
 or_else None other = other
 or_else (Some at) other = Some at
 
@@ -22,20 +22,20 @@ few p (x ∷ xs) = by (p x) (few p xs)
     by true rest = omega arith
     by false rest = omega arith
 
-position_push : {X : Type 0} (p : X → Bool) (xs : List X) (y : X) → position p (xs ++ y ∷ []) ≡ or_else (position p xs) (cond (p y) (Some (length xs)) None)
+pub position_push : {X : Type 0} (p : X → Bool) (xs : List X) (y : X) → position p (xs ++ y ∷ []) ≡ or_else (position p xs) (cond (p y) (Some (length xs)) None)
 position_push p xs y =
     let e = position_or_len_push p xs y in
     let most = few p xs in
     grind (arith, nat_tests, common_steps)
 
 -- a name that is new
-added : (b : Bool) (n : ℕ) (own found : Option ℕ) → own ≡ found → (b ≡ true → own ≡ None) → cond b (Some n) own ≡ or_else found (cond b (Some n) None)
+pub added : (b : Bool) (n : ℕ) (own found : Option ℕ) → own ≡ found → (b ≡ true → own ≡ None) → cond b (Some n) own ≡ or_else found (cond b (Some n) None)
 added true n own found same absent = ap (λ o. or_else o (Some n)) (sym (absent refl) ∙ same)
 added false n own None same absent = same
 added false n own (Some at) same absent = same
 
 -- a name that is there
-kept : (b : Bool) (n at : ℕ) (own found : Option ℕ) → own ≡ found → (b ≡ true → own ≡ Some at) → own ≡ or_else found (cond b (Some n) None)
+pub kept : (b : Bool) (n at : ℕ) (own found : Option ℕ) → own ≡ found → (b ≡ true → own ≡ Some at) → own ≡ or_else found (cond b (Some n) None)
 kept true n at own found same there = there refl ∙ ap (λ o. or_else o (Some n)) (sym (there refl) ∙ same)
 kept false n at own None same there = same
 kept false n at own (Some k) same there = same

@@ -1,6 +1,5 @@
 -- What names mean.
-use Rattle.std.specs.Prelude.{ℕ, Bool, true, false, ◌&&◌, ◌||◌, nat_eq, if◌then◌else◌, List, [], ◌∷◌, slice_get, position, Option, Some, None, Result, Ok, Err}
-use Rattle.std.specs.List.{list_any}
+use Rattle.std.specs.Prelude.{ℕ, Bool, false, ◌&&◌, ◌||◌, if◌then◌else◌, List, [], ◌∷◌, slice_get, position, Option, Some, None, Result, Ok, Err}
 use Rattle.std.specs.Str.{bytes_eq}
 use Rattle.ssq_value.specs.declared.column.ColType.{ColType}
 use Rattle.ssq_value.specs.declared.column.ColType.TheVariants as kind
@@ -10,7 +9,6 @@ use Rattle.ssq_ast.specs.declared.expr.Ident.{Ident}
 use Rattle.ssq_check.specs.declared.fault.Cause.TheVariants as cause
 use Rattle.ssq_check.specs.declared.fault.BindFault.{BindFault}
 use Rattle.ssq_check.specs.declared.scope.Key.{Key}
-use Rattle.ssq_check.specs.declared.scope.Key.TheVariants as key
 use Rattle.ssq_check.specs.declared.scope.Scope.{Scope}
 use Rattle.ssq_check.specs.declared.scope.Side.{Side}
 use Rattle.ssq_check.specs.declared.scope.Side.TheVariants as side
@@ -18,6 +16,7 @@ use Rattle.ssq_check.specs.declared.scope.Source.{Source}
 use Rattle.ssq_check.specs.declared.scope.Spot.{Spot}
 use Rattle.ssq_check.specs.declared.scope.Within.{Within}
 use Rattle.ssq_check.specs.declared.scope.Within.TheVariants as within
+pub use Rattle.ssq_check.specs.Keys.{is_window_key, has_window, is_same_side, is_key_of, is_key}
 
 abbrev pub spot_from : Side → ℕ → Option Column → Option Spot
 spot_from own at None = None
@@ -62,27 +61,6 @@ named_spot scope stream column =
     if source_named scope.left stream.text then known (in_source side.Left scope.left column.text) column.at
     else if source_named scope.right stream.text then known (in_source side.Right scope.right column.text) column.at
     else Err (record { at = stream.at; cause = cause.UnknownName })
-
-abbrev pub is_window_key : Key → Bool
-is_window_key key.Window = true
-is_window_key (key.Column spot) = false
-
-abbrev pub has_window : List Key → Bool
-has_window keys = list_any is_window_key keys
-
-abbrev pub is_same_side : Side → Side → Bool
-is_same_side side.Left side.Left = true
-is_same_side side.Left side.Right = false
-is_same_side side.Right side.Left = false
-is_same_side side.Right side.Right = true
-
-abbrev pub is_key_of : Spot → Key → Bool
-is_key_of spot key.Window = false
-is_key_of spot (key.Column own) = is_same_side own.side spot.side && nat_eq own.index spot.index
-
--- rows are grouped by the column
-abbrev pub is_key : List Key → Spot → Bool
-is_key keys spot = list_any (is_key_of spot) keys
 
 -- `window_start` and `window_end`
 abbrev pub is_window_name : List ℕ → Bool

@@ -6,6 +6,7 @@ ghost use Rattle.std.specs.Option.{option_map};
 ghost use Rattle.ssq_check.specs.Names.{column_of, watermark_name, source_of, declared, join_stream, row_scope, keys_of, group_keys};
 
 use crate::columns::Columns;
+use crate::keys::Keys;
 use crate::scope::{Key, Scope, Source, bare_spot};
 use ssq_ast::{ColumnDecl, Group, GroupBy, Join, Query, Stream, Watermark};
 use ssq_value::{Column, Sequence, Text};
@@ -98,11 +99,8 @@ pub(crate) fn row_scope(alloc: Global, query: &Query) -> Result<Scope, AllocErro
     let streams = query.streams.as_slice();
     let left = declared(alloc, streams, query.select.from.text.as_str())?;
     let right = joined(alloc, streams, &query.select.join)?;
-    Ok(Scope {
-        left,
-        right,
-        keys: Sequence::new(alloc),
-    })
+    let keys = Keys::new(alloc, Sequence::new(alloc))?;
+    Ok(Scope { left, right, keys })
 }
 
 fn push_key(scope: &Scope, item: &Group, keys: &mut Sequence<Key>) -> Result<(), AllocError>
@@ -132,11 +130,12 @@ pub(crate) fn group_keys(
     alloc: Global,
     scope: &Scope,
     group: &Option<GroupBy>,
-) -> Result<Sequence<Key>, AllocError>
+) -> Result<Keys, AllocError>
     ensures { IfOk result (λ keys. keys ≡ group_keys scope.now group.now) }
 {
-    match group {
-        Some(by) => keys_in(alloc, scope, by.items.as_slice()),
-        None => Ok(Sequence::new(alloc)),
-    }
+    let list = match group {
+        Some(by) => keys_in(alloc, scope, by.items.as_slice())?,
+        None => Sequence::new(alloc),
+    };
+    Keys::new(alloc, list)
 }

@@ -1,12 +1,13 @@
 //! The names that an expression may use.
 
 ghost use Rattle.std.specs.Prelude.{◌≡◌};
-ghost use Rattle.ssq_check.specs.Scope.{is_window_key, has_window, is_key_of, is_key, is_same_side, is_window_name, is_window_here, in_source, bare_spot, source_named, known, named_spot, grouped, column_kind};
+ghost use Rattle.ssq_check.specs.Scope.{is_same_side, is_window_name, is_window_here, in_source, bare_spot, source_named, known, named_spot, grouped, column_kind};
 
 use crate::columns::Columns;
 use crate::fault::{BindFault, Cause};
+use crate::keys::Keys;
 use ssq_ast::{ColumnRef, Ident};
-use ssq_value::{ColType, Sequence, Text};
+use ssq_value::{ColType, Text};
 
 /// A stream of FROM or JOIN that is declared.
 #[derive(Debug, Drop)]
@@ -48,7 +49,7 @@ pub struct Scope {
     /// The stream of JOIN, where it is declared.
     pub right: Option<Source>,
     /// What GROUP BY lists, as far as its names are known.
-    pub keys: Sequence<Key>,
+    pub keys: Keys,
 }
 
 /// Where an expression stands.
@@ -127,40 +128,10 @@ pub(crate) fn named_spot(scope: &Scope, stream: &Ident, column: &Ident) -> Resul
     }
 }
 
-fn is_window_key(key: &Key) -> bool
-    ensures { result ≡ is_window_key key.now }
-{
-    match key {
-        Key::Window => true,
-        Key::Column(_) => false,
-    }
-}
-
-fn has_window(keys: &[Key]) -> bool
-    ensures { result ≡ has_window keys.now }
-{
-    keys.iter().any(|key| is_window_key(key))
-}
-
 pub(crate) fn is_same_side(left: Side, right: Side) -> bool
     ensures { result ≡ is_same_side left right }
 {
     left == right
-}
-
-fn is_key_of(spot: Spot, key: &Key) -> bool
-    ensures { result ≡ is_key_of spot key.now }
-{
-    match key {
-        Key::Window => false,
-        Key::Column(own) => is_same_side(own.side, spot.side) && own.index == spot.index,
-    }
-}
-
-fn is_key(keys: &[Key], spot: Spot) -> bool
-    ensures { result ≡ is_key keys.now spot }
-{
-    keys.iter().any(|key| is_key_of(spot, key))
 }
 
 pub(crate) fn is_window_name(name: &str) -> bool
@@ -170,7 +141,7 @@ pub(crate) fn is_window_name(name: &str) -> bool
 }
 
 fn grouped(
-    keys: &[Key],
+    keys: &Keys,
     within: Within,
     at: usize,
     spot: Result<Spot, BindFault>,
@@ -182,7 +153,7 @@ fn grouped(
         Ok(spot) => match within {
             Within::Row => Ok(spot.kind),
             Within::Group => {
-                if is_key(keys, spot) {
+                if keys.has(spot) {
                     Ok(spot.kind)
                 } else {
                     Err(BindFault {
@@ -200,7 +171,7 @@ fn is_window_here(scope: &Scope, within: Within, name: &str) -> bool
 {
     match within {
         Within::Row => false,
-        Within::Group => has_window(scope.keys.as_slice()) && is_window_name(name),
+        Within::Group => scope.keys.has_window() && is_window_name(name),
     }
 }
 
@@ -215,14 +186,14 @@ pub(crate) fn column_kind(
     match &column.stream {
         Some(stream) => {
             let spot = named_spot(scope, stream, &column.column);
-            grouped(scope.keys.as_slice(), within, stream.at, spot)
+            grouped(&scope.keys, within, stream.at, spot)
         }
         None => {
             if is_window_here(scope, within, column.column.text.as_str()) {
                 Ok(ColType::Timestamp)
             } else {
                 let spot = bare_spot(scope, &column.column);
-                grouped(scope.keys.as_slice(), within, column.column.at, spot)
+                grouped(&scope.keys, within, column.column.at, spot)
             }
         }
     }

@@ -14,16 +14,16 @@ use crate::clause::{
 };
 use crate::fault::{BindFault, Cause, Refusal, rule, sooner, unless};
 use crate::item::check_items;
+use crate::keys::Keys;
 use crate::list::{beyond, past_places, standing};
 use crate::names::{group_keys, row_scope};
-use crate::scope::{Key, Scope};
+use crate::scope::Scope;
 use crate::shown::{group_place, shown_aggregates, within};
 use crate::stream::check_streams;
 use ssq_ast::{Deduplicate, Limit, Query, Select};
-use ssq_value::Sequence;
 use std::alloc::{AllocError, Global};
 
-fn with_keys(scope: Scope, keys: Sequence<Key>) -> Scope
+fn with_keys(scope: Scope, keys: Keys) -> Scope
     ensures { result ≡ record { left = scope.left; right = scope.right; keys = keys } }
 {
     Scope {
