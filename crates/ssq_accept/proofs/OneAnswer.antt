@@ -17,7 +17,7 @@ use Rattle.ssq_modes.specs.Modes.{applies}
 use Rattle.ssq_parse.specs.declared.fault.ParseCause.{ParseCause}
 use Rattle.ssq_parse.specs.File.{Fault, query_of}
 use Rattle.ssq_shape.specs.declared.bound.Bound.{Bound}
-use Rattle.ssq_accept.specs.Accepting.{IsRead, HasFault, Breaks, Forbids, MayRun, IsBroken, IsForbidden, AcceptedAreTaken, KnownAreTaken, AreRefusedAlike}
+use Rattle.ssq_accept.specs.Accepting.{IsRead, HasFault, Breaks, Forbids, MayRun, IsBroken, IsForbidden, AcceptedAreTaken, AreRefusedAlike}
 
 ok_same : (found : Result Query Fault) (x y : Query) → found ≡ Ok x → found ≡ Ok y → y ≡ x
 ok_same found x y is also = cc
@@ -48,14 +48,6 @@ accepted_are_taken file query bound (refusal.Bind fault) is why =
 accepted_are_taken file query bound (refusal.Mode fault) is why =
     absurd (no_forbidden bound fault is.may_run (subst (λ (b : Bound). Forbids b fault) (ap bound_of (one_query file query why.query is.read why.read) ∙ sym is.names.is) why.forbids))
 accepted_are_taken file query bound refusal.NoMemory is why = refl
-
-pub known_are_taken : KnownAreTaken
-known_are_taken file query bound (refusal.Parse at cause) is why = absurd (no_fault file query at cause is.read why)
-known_are_taken file query bound (refusal.Bind fault) is why =
-    absurd (no_broken query fault is.allowed.names.unbroken (subst (λ (q : Query). Breaks q fault) (one_query file query why.query is.read why.read) why.breaks))
-known_are_taken file query bound (refusal.Mode fault) is why =
-    absurd (no_forbidden bound fault is.allowed.may_run (subst (λ (b : Bound). Forbids b fault) (ap bound_of (one_query file query why.query is.read why.read) ∙ sym is.allowed.names.is) why.forbids))
-known_are_taken file query bound refusal.NoMemory is why = refl
 
 -- ---- two refusals
 

@@ -11,7 +11,7 @@ use Rattle.ssq_bind.specs.Delays.{HasSpan}
 use Rattle.ssq_lex.specs.Cut.{cut_of}
 use Rattle.ssq_shape.specs.declared.bound.Bound.{Bound}
 use Rattle.ssq_shape.specs.Windows.{HasWindows}
-use Rattle.ssq_accept.specs.Accepting.{IsRead, IsNoQuery, IsBoundAs, IsUnbound, MayNotRun, Forbids, IsAccepted, IsRefused, IsAllowed, IsNotAllowed, IsKnown, IsUnknown}
+use Rattle.ssq_accept.specs.Accepting.{IsRead, IsNoQuery, IsBoundAs, IsUnbound, MayNotRun, Forbids, IsAccepted, IsRefused, IsAllowed, IsNotAllowed}
 
 pub no_query : (file : List ℕ) (why : Refusal) → IsNoQuery file why → IsRefused file why
 no_query file (refusal.Parse at cause) is = is
@@ -39,11 +39,6 @@ query_refused file query (refusal.Bind fault) read is = record { query = query; 
 query_refused file query (refusal.Mode fault) read is = record { query = query; read = read; unbroken = is.0; forbids = is.1 }
 query_refused file query refusal.NoMemory read is = is
 
--- ---- a file that is only to be known
-
-pub is_known : (file : List ℕ) (query : Query) (bound : Bound) → IsRead file query → IsAllowed query bound → IsKnown file query bound
-is_known file query bound read allowed = record { read = read; allowed = allowed; windows = windows_of file query bound read allowed.names }
-
 pub names_forbid : (query : Query) (why : Refusal) → IsUnbound query why → IsNotAllowed query why
 names_forbid query (refusal.Parse at cause) is = is
 names_forbid query (refusal.Bind fault) is = is
@@ -55,15 +50,3 @@ mode_forbids query bound (refusal.Parse at cause) names is = is
 mode_forbids query bound (refusal.Bind fault) names is = absurd is
 mode_forbids query bound (refusal.Mode fault) names is = (names.unbroken, subst (λ (b : Bound). Forbids b fault) names.is is)
 mode_forbids query bound refusal.NoMemory names is = absurd is
-
-pub none_known : (file : List ℕ) (why : Refusal) → IsNoQuery file why → IsUnknown file why
-none_known file (refusal.Parse at cause) is = is
-none_known file (refusal.Bind fault) is = absurd is
-none_known file (refusal.Mode fault) is = absurd is
-none_known file refusal.NoMemory is = is
-
-pub query_unknown : (file : List ℕ) (query : Query) (why : Refusal) → IsRead file query → IsNotAllowed query why → IsUnknown file why
-query_unknown file query (refusal.Parse at cause) read is = absurd is
-query_unknown file query (refusal.Bind fault) read is = record { query = query; read = read; breaks = is }
-query_unknown file query (refusal.Mode fault) read is = record { query = query; read = read; unbroken = is.0; forbids = is.1 }
-query_unknown file query refusal.NoMemory read is = is

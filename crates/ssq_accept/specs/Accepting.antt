@@ -88,19 +88,13 @@ IsNotAllowed query (refusal.Bind fault) = Breaks query fault
 IsNotAllowed query (refusal.Mode fault) = AreNone (QueryFaults query) × Forbids (bound_of query) fault
 IsNotAllowed query refusal.NoMemory = Unit {0}
 
--- The file is this query, written by the grammar; it breaks no rule of binding, and no rule of modes forbids it. So it
--- groups rows by at most one window, whose size and slide are spans, and whose size is one to 64 slides.
-pub record IsKnown (file : List ℕ) (query : Query) (bound : Bound) : Type 0 where
-  pub read : IsRead file query
-  pub allowed : IsAllowed query bound
-  pub windows : HasWindows bound
-
 -- ---- the whole
 
 -- The file is this query, written by the grammar; it breaks no rule of binding, and no rule of modes forbids it. So it keeps nothing, or groups its
 -- rows by at most 64 keys and with at most 64 aggregates, or deduplicates them by at most 64 columns, or joins them by at most 64 key equalities and
 -- with a bound, if it has one, that lies around the left row's time. It reads one stream or two, whose delays are 1 second to 366 days long, an
--- event column stands only with a delay, its windows fit as those of a query that is known, and the canonical text is UTF-8 of a length of 64 bits.
+-- event column stands only with a delay; there is at most one window, whose size and slide are spans, and whose size is one to 64 slides; and the
+-- canonical text is UTF-8 of a length of 64 bits.
 pub record IsAccepted (file : List ℕ) (query : Query) (bound : Bound) : Type 0 where
   pub read : IsRead file query
   pub names : IsBoundAs query bound
@@ -129,13 +123,6 @@ IsRefused file (refusal.Bind fault) = IsBroken file fault
 IsRefused file (refusal.Mode fault) = IsForbidden file fault
 IsRefused file refusal.NoMemory = Unit {0}
 
--- the same of a file that is only to be known
-abbrev pub IsUnknown : List ℕ → Refusal → Type 0
-IsUnknown file (refusal.Parse at cause) = HasFault file at cause
-IsUnknown file (refusal.Bind fault) = IsBroken file fault
-IsUnknown file (refusal.Mode fault) = IsForbidden file fault
-IsUnknown file refusal.NoMemory = Unit {0}
-
 -- ---- a file has one answer
 
 -- a file that is accepted is refused for want of memory alone
@@ -145,7 +132,3 @@ AcceptedAreTaken = (file : List ℕ) (query : Query) (bound : Bound) (why : Refu
 -- two refusals of a file are one, or memory ran out
 abbrev pub AreRefusedAlike : Type 0
 AreRefusedAlike = (file : List ℕ) (one other : Refusal) → IsRefused file one → IsRefused file other → (one ≡ refusal.NoMemory) ⊎ (other ≡ refusal.NoMemory) ⊎ (one ≡ other)
-
--- and so is one that is known
-abbrev pub KnownAreTaken : Type 0
-KnownAreTaken = (file : List ℕ) (query : Query) (bound : Bound) (why : Refusal) → IsKnown file query bound → IsUnknown file why → why ≡ refusal.NoMemory

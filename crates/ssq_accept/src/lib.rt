@@ -8,4 +8,4 @@ mod refusal;
 mod steps;
 
 pub use refusal::Refusal;
-pub use steps::{Accepted, accept, files_have_one_answer, recognise};
+pub use steps::{Accepted, accept, files_have_one_answer};

@@ -1,7 +1,7 @@
 //! The steps from the bytes of a query file to the query as it is run.
 
 ghost use Rattle.std.specs.Prelude.{IfOk, IfErr, OnOk};
-ghost use Rattle.ssq_accept.specs.Accepting.{IsRead, IsNoQuery, IsBoundAs, IsUnbound, MayRun, MayNotRun, IsAccepted, IsRefused, IsAllowed, IsNotAllowed, IsKnown, IsUnknown, AcceptedAreTaken, KnownAreTaken, AreRefusedAlike};
+ghost use Rattle.ssq_accept.specs.Accepting.{IsRead, IsNoQuery, IsBoundAs, IsUnbound, MayRun, MayNotRun, IsAccepted, IsRefused, IsAllowed, IsNotAllowed, AcceptedAreTaken, AreRefusedAlike};
 
 use crate::refusal::Refusal;
 use ssq_ast::Query;
@@ -10,7 +10,7 @@ use ssq_parse::{ParseFault, parse};
 use ssq_shape::Bound;
 use std::alloc::Global;
 
-/// A query file that is known, or can be run.
+/// A query file that can be run.
 #[derive(Debug, Drop)]
 pub struct Accepted {
     /// The query that the file is.
@@ -83,26 +83,8 @@ pub fn accept(alloc: Global, bytes: &[u8]) -> Result<Accepted, Refusal>
     }
 }
 
-/// The query that a file is, bound, where it is only to be told of.
-///
-/// # Errors
-///
-/// As [`accept`].
-#[tactic(auto, using(crate::proofs::Refused::none_known, crate::proofs::Refused::query_unknown, crate::proofs::Refused::is_known))]
-pub fn recognise(alloc: Global, bytes: &[u8]) -> Result<Accepted, Refusal>
-    ensures known { IfOk result (λ known. IsKnown bytes.now known.query known.bound) }
-    ensures refused { IfErr result (IsUnknown bytes.now) }
-{
-    let query = read(alloc, bytes)?;
-    match allowed(alloc, &query) {
-        Ok(bound) => Ok(Accepted { query, bound }),
-        Err(refusal) => Err(refusal),
-    }
-}
-
-/// The law of answers: a file that is accepted, or known, is refused for want of memory alone, and each file is refused in one way.
+/// The law of answers: a file that is accepted is refused for want of memory alone, and each file is refused in one way.
 pub fn files_have_one_answer()
     ensures accepted { AcceptedAreTaken }
-    ensures known { KnownAreTaken }
     ensures refused { AreRefusedAlike }
 {}

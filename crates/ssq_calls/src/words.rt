@@ -71,7 +71,16 @@ static STATUSES: [(&str, &str); 2] = [
     ("ssq status -- --rounds", "--rounds"),
 ];
 
-static REFUSED: [&str; 52] = [
+/// Generated input: the line, the number of its first line and how many lines it has.
+static GENERATED: [(&str, u32, u32); 5] = [
+    ("ssq gen 1 4", 1, 4),
+    ("ssq gen 0 1", 0, 1),
+    ("ssq gen 65536 10000000", 65536, 10_000_000),
+    ("ssq gen +7 007", 7, 7),
+    ("ssq gen -- 1 4", 1, 4),
+];
+
+static REFUSED: [&str; 62] = [
     "",
     "ssq",
     "ssq run",
@@ -86,7 +95,17 @@ static REFUSED: [&str; 52] = [
     "ssq explain",
     "ssq explain a b",
     "ssq explain q.sql --partitions 2",
-    "ssq gen 1 2",
+    "ssq gen",
+    "ssq gen 1",
+    "ssq gen 1 2 3",
+    "ssq gen 65537 4",
+    "ssq gen -1 4",
+    "ssq gen 1 0",
+    "ssq gen 1 10000001",
+    "ssq gen one 4",
+    "ssq gen 1 4.0",
+    "ssq gen 1 4 --partitions 2",
+    "ssq generate 1 4",
     "ssq run a b",
     "ssq status a b",
     "ssq run -q.sql",
@@ -164,6 +183,15 @@ fn lines_are_taken_or_refused(rt: HostRuntime) -> Result<(), Fail> {
         assert_eq!(rt;
             ask(alloc, words.as_slice()),
             Ok(Command::Status { query }),
+            "{line}"
+        );
+    }
+    for (line, number, lines) in &GENERATED {
+        let words = words(alloc, line)?;
+        let (number, lines) = (*number, *lines);
+        assert_eq!(rt;
+            ask(alloc, words.as_slice()),
+            Ok(Command::Gen { number, lines }),
             "{line}"
         );
     }

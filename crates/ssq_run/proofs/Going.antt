@@ -19,12 +19,12 @@ use Rattle.ssq_open.specs.declared.fault.OpenFault.TheVariants as opening
 use Rattle.ssq_runner.specs.declared.fault.RunFault.{RunFault}
 use Rattle.ssq_runner.specs.declared.fault.RunFault.TheVariants as run
 use Rattle.ssq_runner.specs.Complete.{IsNoRefusal, IsNoLimit, IsNoFault, RunsGoOn, RunsMeetNoLimit, RunsMeetNoFault}
-use Rattle.ssq_words.specs.Asking.{Asked, asks_run, asks_show, asks_explain, asks_status, asked}
+use Rattle.ssq_words.specs.Asking.{Asked, asks_run, asks_show, asks_explain, asks_status, asks_gen, asked}
 use Rattle.ssq_run.specs.declared.stop.Stop.{Stop}
 use Rattle.ssq_run.specs.declared.stop.Stop.TheVariants.{LogFault, NoMemory}
 use Rattle.ssq_run.specs.Queries.{read_of, IsQueryAt, IsQueryFor, IsRefusedFor}
 use Rattle.ssq_run.specs.Stopping.{stop_of_refusal, stop_of_end, status_in, IsToldAs}
-use Rattle.ssq_run.specs.Program.{Given, Went, IsOutside, ask_of, HasRun, HasObeyed, has_run, has_shown, has_explained, has_looked, ran_out, ProgramEnd, unread, no_command, no_file, refused, obeyed, IsStatus}
+use Rattle.ssq_run.specs.Program.{Given, Went, IsOutside, ask_of, HasRun, HasObeyed, has_run, has_shown, has_explained, has_looked, has_generated, ran_out, ProgramEnd, unread, no_command, no_file, refused, obeyed, IsStatus}
 use Rattle.ssq_course.specs.Setting.{Setting}
 use Rattle.ssq_runner.specs.Sources.{IsSettingFor}
 use Rattle.ssq_run.specs.Going.{AsksRun, IsAskedFor, CanGoOn, HasRoom, IsFaultless, NoneFailed, IsDone, IsDoneToAFault}
@@ -74,7 +74,7 @@ end_status streams counts (Err run.NoMemory) = memory refl
 ok_same : (found : Result Query Fault) (x y : Query) → found ≡ Ok x → found ≡ Ok y → x ≡ y
 ok_same found x y is also = cc
 
-one_query : (held : Held) (file : List ℕ) (bound other : Bound) → IsQueryAt held file bound → IsQueryAt held file other → bound ≡ other
+pub one_query : (held : Held) (file : List ℕ) (bound other : Bound) → IsQueryAt held file bound → IsQueryAt held file other → bound ≡ other
 one_query held file bound other is also =
     is.accepted.names.is ∙ ap bound_of (ok_same (query_of (read_of held file)) is.query also.query is.accepted.read.read also.accepted.read.read) ∙ sym also.accepted.names.is
 
@@ -92,6 +92,9 @@ no_explain file other partitions most rounds e = cc
 
 no_status : (file other : List ℕ) (partitions most : Option ℕ) (rounds : ℕ) → asks_status other ≡ asks_run file partitions most rounds → ⊥
 no_status file other partitions most rounds e = cc
+
+no_gen : (file : List ℕ) (number count : ℕ) (partitions most : Option ℕ) (rounds : ℕ) → asks_gen number count ≡ asks_run file partitions most rounds → ⊥
+no_gen file number count partitions most rounds e = cc
 
 record SameRun (file other : List ℕ) (partitions many most more : Option ℕ) (rounds again : ℕ) : Type 0 where
   file_is : file ≡ other
@@ -136,6 +139,8 @@ module _ {L : Type 0} (told tells : Type 0) (lines : L → List Line) (available
       absurd (no_explain asks.file file asks.partitions asks.most asks.rounds (one_command given.words (asks_explain file) (asks_run asks.file asks.partitions asks.most asks.rounds) is asks.asks))
   ends_of asks taken (obeyed what bound is query (has_looked file same end)) =
       absurd (no_status asks.file file asks.partitions asks.most asks.rounds (one_command given.words (asks_status file) (asks_run asks.file asks.partitions asks.most asks.rounds) is asks.asks))
+  ends_of asks taken (obeyed what bound is query (has_generated number count same end)) =
+      absurd (no_gen asks.file number count asks.partitions asks.most asks.rounds (one_command given.words (asks_gen number count) (asks_run asks.file asks.partitions asks.most asks.rounds) is asks.asks))
   ends_of asks taken (obeyed what bound is query (ran_out own idle none)) = inl (inr none)
   ends_of asks taken (obeyed what bound is query (has_run file partitions most rounds ran)) =
       let same = same_run file asks.file partitions asks.partitions most asks.most rounds asks.rounds (one_command given.words (asks_run file partitions most rounds) (asks_run asks.file asks.partitions asks.most asks.rounds) is asks.asks) in

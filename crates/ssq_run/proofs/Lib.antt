@@ -5,6 +5,9 @@ pub mod Going
 pub mod Looking
 pub mod Showing
 pub mod Tabling
+pub mod TableRows
+pub mod Generating
+pub mod Making
 mod Runnable
 mod KeyLemmas
 mod ShownKeys

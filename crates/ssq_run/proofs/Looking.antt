@@ -5,10 +5,7 @@ use Rattle.ssq_outside.specs.Faults.{Rises}
 use Rattle.ssq_outside.specs.History.{History, files_now}
 use Rattle.ssq_outside.specs.Logs.{Held, Line}
 use Rattle.ssq_accept.specs.declared.refusal.Refusal.{Refusal}
-use Rattle.ssq_accept.specs.Accepting.{IsUnknown, KnownAreTaken}
-use Rattle.ssq_ast.specs.declared.query.Query.{Query}
-use Rattle.ssq_parse.specs.File.{Fault, query_of}
-use Rattle.ssq_bind.specs.Bound.{bound_of}
+use Rattle.ssq_accept.specs.Accepting.{IsRefused, AcceptedAreTaken}
 use Rattle.ssq_shape.specs.declared.bound.Bound.{Bound}
 use Rattle.ssq_shape.specs.declared.bound.Stream.{Stream}
 use Rattle.ssq_course.specs.Setting.{job_of}
@@ -19,21 +16,15 @@ use Rattle.ssq_open.specs.Looking.{query_of as looked_query, begins, IsLookedFor
 use Rattle.ssq_open.specs.Opening.{IsOutside as IsOuter}
 use Rattle.ssq_open.specs.Watermarks.{watermarked}
 use Rattle.ssq_terms.specs.Laws.{JobIsWanted, PartsAreFound}
-use Rattle.ssq_words.specs.Asking.{Asked, asks_run, asks_show, asks_explain, asks_status, asked}
+use Rattle.ssq_words.specs.Asking.{Asked, asks_run, asks_show, asks_explain, asks_status, asks_gen, asked}
 use Rattle.ssq_run.specs.declared.stop.Stop.{Stop}
 use Rattle.ssq_run.specs.declared.stop.Stop.TheVariants.{LogFault, NoMemory}
-use Rattle.ssq_run.specs.Queries.{read_of, IsKnownAt, IsQueryFor, IsRefusedFor}
+use Rattle.ssq_run.specs.Queries.{read_of, IsQueryAt, IsQueryFor, IsRefusedFor}
 use Rattle.ssq_run.specs.Stopping.{stop_of_refusal, stop_of_open, status_in}
 use Rattle.ssq_run.specs.Looked.{LookEnd, nothing_there, shown, denied, starved}
-use Rattle.ssq_run.specs.Program.{Given, Went, IsOutside, HasObeyed, has_run, has_shown, has_explained, has_looked, ran_out, ProgramEnd, unread, no_command, no_file, refused, obeyed, IsStatus}
+use Rattle.ssq_run.specs.Program.{Given, Went, IsOutside, HasObeyed, has_run, has_shown, has_explained, has_looked, has_generated, ran_out, ProgramEnd, unread, no_command, no_file, refused, obeyed, IsStatus}
 use Rattle.ssq_run.specs.Going.{LooksAt, CanLook, NoneFailed, IsDone}
-
-ok_same : (found : Result Query Fault) (x y : Query) → found ≡ Ok x → found ≡ Ok y → x ≡ y
-ok_same found x y is also = cc
-
-pub one_known : (held : Held) (file : List ℕ) (bound other : Bound) → IsKnownAt held file bound → IsKnownAt held file other → bound ≡ other
-one_known held file bound other is also =
-    is.known.allowed.names.is ∙ ap bound_of (ok_same (query_of (read_of held file)) is.query also.query is.known.read.read also.known.read.read) ∙ sym also.known.allowed.names.is
+use Rattle.ssq_run.proofs.Going.{one_query}
 
 pub one_command : (words : List (List ℕ)) (what other : Asked) → asked words ≡ Some what → asked words ≡ Some other → what ≡ other
 one_command words what other is also = cc
@@ -49,6 +40,9 @@ no_explain file other e = cc
 
 no_run : (file other : List ℕ) (partitions most : Option ℕ) (rounds : ℕ) → asks_run other partitions most rounds ≡ asks_status file → ⊥
 no_run file other partitions most rounds e = cc
+
+no_gen : (file : List ℕ) (number count : ℕ) → asks_gen number count ≡ asks_status file → ⊥
+no_gen file number count e = cc
 
 same_file : (file other : List ℕ) → asks_status other ≡ asks_status file → other ≡ file
 same_file file other e = cc
@@ -75,7 +69,7 @@ looked_for given start what are_found can =
     }
 
 module _ {L : Type 0} (told tells : Type 0) (lines : L → List Line) (available : L → ℕ) (answers : L → List ℕ) (faults : L → ℕ) (given : Given) (OutTells : Type 0) (went : Went) (stop : Option Stop)
-    (known : KnownAreTaken) (is_wanted : JobIsWanted) (are_found : PartsAreFound) (can : CanLook given went.start) (before after status : ℕ) (answer : IsStatus stop before after status)
+    (taken : AcceptedAreTaken) (is_wanted : JobIsWanted) (are_found : PartsAreFound) (can : CanLook given went.start) (before after status : ℕ) (answer : IsStatus stop before after status)
     (i0 i1 d0 d1 o0 o1 : ℕ) (none : NoneFailed i0 i1 d0 d1 o0 o1) (log : status ≡ 6 → Rises i0 i1) (disk : status ≡ 7 → Rises d0 d1) (out : status ≡ 8 → Rises o0 o1) where
   by_look : status ≡ status_in stop → (bound : Bound) → bound ≡ can.bound → LookEnd bound (files_now went.start) went.text stop → IsDone status
   by_look is bound same (nothing_there empty text done) = inl (is ∙ ap status_in done)
@@ -96,19 +90,21 @@ module _ {L : Type 0} (told tells : Type 0) (lines : L → List Line) (available
   by_end is (no_file what own (inr memory) idle) = inr (is ∙ ap status_in memory)
   by_end is (refused what own why cause same idle) =
       let W : Asked → Type 0 = λ a. IsRefusedFor given.held a why in
-      let unknown : IsUnknown (read_of given.held can.file) why = subst W (one_command given.words what (asks_status can.file) own can.asks) cause in
-      inr (is ∙ ap status_in (same ∙ ap (λ r. Some (stop_of_refusal r)) (known (read_of given.held can.file) can.is.query can.bound why can.is.known unknown)))
+      let denial : IsRefused (read_of given.held can.file) why = subst W (one_command given.words what (asks_status can.file) own can.asks) cause in
+      inr (is ∙ ap status_in (same ∙ ap (λ r. Some (stop_of_refusal r)) (taken (read_of given.held can.file) can.is.query can.bound why can.is.accepted denial)))
   by_end is (obeyed what bound own query (has_run file partitions most rounds ran)) =
       absurd (no_run can.file file partitions most rounds (one_command given.words (asks_run file partitions most rounds) (asks_status can.file) own can.asks))
   by_end is (obeyed what bound own query (has_shown file still back text end)) =
       absurd (no_show can.file file (one_command given.words (asks_show file) (asks_status can.file) own can.asks))
   by_end is (obeyed what bound own query (has_explained file same text done)) =
       absurd (no_explain can.file file (one_command given.words (asks_explain file) (asks_status can.file) own can.asks))
+  by_end is (obeyed what bound own query (has_generated number count same end)) =
+      absurd (no_gen can.file number count (one_command given.words (asks_gen number count) (asks_status can.file) own can.asks))
   by_end is (obeyed what bound own query (ran_out same idle memory)) = inr (is ∙ ap status_in memory)
   by_end is (obeyed what bound own query (has_looked file same end)) =
-      let K : List ℕ → Type 0 = λ f. IsKnownAt given.held f bound in
+      let K : List ℕ → Type 0 = λ f. IsQueryAt given.held f bound in
       let here = subst K (same_file can.file file (one_command given.words (asks_status file) (asks_status can.file) own can.asks)) query in
-      by_look is bound (one_known given.held can.file bound can.bound here can.is) end
+      by_look is bound (one_query given.held can.file bound can.bound here can.is) end
 
   pub looked_well : ProgramEnd told tells lines available answers faults given OutTells went stop → IsDone status
   looked_well end = by_answer answer

@@ -31,7 +31,7 @@ use Rattle.ssq_run.specs.declared.stop.Stop.TheVariants.{Usage, Refused, LogFaul
 use Rattle.ssq_run.specs.Queries.{IsQueryFor, IsRefusedFor}
 use Rattle.ssq_run.specs.Stopping.{stop_in, stop_of_ask, stop_of_refusal, stop_of_end, IsToldAs, IsUnread, WordsCause, IsPastWords, HasCount}
 use Rattle.ssq_run.specs.Looked.{LookEnd}
-use Rattle.ssq_run.specs.Program.{Given, Went, IsUntouched, IsIdle, went_of, ask_of, HasObeyed, has_run, has_shown, has_explained, has_looked, ran_out, ProgramEnd, unread, no_command, no_file, refused, obeyed}
+use Rattle.ssq_run.specs.Program.{Given, Went, IsUntouched, IsIdle, went_of, ask_of, HasObeyed, has_run, has_shown, has_explained, has_looked, has_generated, ran_out, ProgramEnd, unread, no_command, no_file, refused, obeyed}
 
 -- what is not touched leaves what it might have left
 pub still_leaves : (h : History) (P : Files → Type 0) → LeavesNow h P → LeavesOnly h h P
@@ -207,6 +207,7 @@ module _ {L : Type 0} (told tells : Type 0) (lines : L → List Line) (available
   obeyed_earlier held known later less bound OutTells went stop what (has_shown file still back text end) = has_shown file still back text end
   obeyed_earlier held known later less bound OutTells went stop what (has_explained file same text none) = has_explained file same text none
   obeyed_earlier held known later less bound OutTells went stop what (has_looked file same end) = has_looked file same end
+  obeyed_earlier held known later less bound OutTells went stop what (has_generated number count same end) = has_generated number count same end
   obeyed_earlier held known later less bound OutTells went stop what (ran_out own idle is) = ran_out own idle is
 
   -- a command of another name

@@ -9,7 +9,7 @@ use Rattle.ssq_outside.specs.Files.{Files, IsEmpty}
 use Rattle.ssq_outside.specs.History.{files_now}
 use Rattle.ssq_outside.specs.Logs.{Held, Line}
 use Rattle.ssq_accept.specs.declared.refusal.Refusal.{Refusal}
-use Rattle.ssq_accept.specs.Accepting.{IsUnknown, KnownAreTaken}
+use Rattle.ssq_accept.specs.Accepting.{IsRefused, AcceptedAreTaken}
 use Rattle.ssq_bind.specs.Bound.{bound_of}
 use Rattle.ssq_bind.specs.Read.{QueriesReadTheirStreams, ReadsItsStreams}
 use Rattle.ssq_bind.specs.Typed.{IsTyped, QueriesAreTyped}
@@ -28,21 +28,25 @@ use Rattle.ssq_open.specs.Looking.{query_of as looked_query, IsLookedFor}
 use Rattle.ssq_tables.specs.Checkpoint.{CheckpointsHoldTables, rows_in_order}
 use Rattle.ssq_tables.specs.Shown.{CanShow as IsShowable}
 use Rattle.ssq_terms.specs.Laws.{JobIsWanted, PartsAreFound}
-use Rattle.ssq_words.specs.Asking.{Asked, asks_run, asks_show, asks_explain, asks_status, asked}
+use Rattle.ssq_words.specs.Asking.{Asked, asks_run, asks_show, asks_explain, asks_status, asks_gen, asked}
 use Rattle.ssq_run.specs.declared.stop.Stop.{Stop}
 use Rattle.ssq_run.specs.declared.stop.Stop.TheVariants.{LogFault, NoMemory}
-use Rattle.ssq_run.specs.Queries.{read_of, IsKnownAt, IsRefusedFor}
+use Rattle.ssq_run.specs.Queries.{read_of, IsQueryAt, IsRefusedFor}
 use Rattle.ssq_run.specs.Shown.{ShowEnd, denied, nothing_there, of_table, starved}
 use Rattle.ssq_run.specs.Stopping.{stop_of_refusal, stop_of_sink, stop_of_table, status_in}
-use Rattle.ssq_run.specs.Program.{Given, Went, HasObeyed, has_run, has_shown, has_explained, has_looked, ran_out, ProgramEnd, unread, no_command, no_file, refused, obeyed, IsStatus}
+use Rattle.ssq_run.specs.Program.{Given, Went, HasObeyed, has_run, has_shown, has_explained, has_looked, has_generated, ran_out, ProgramEnd, unread, no_command, no_file, refused, obeyed, IsStatus}
 use Rattle.ssq_run.specs.Going.{CanShow, NoneFailed, IsDone}
-use Rattle.ssq_run.proofs.Looking.{looked_for, no_command_too, one_command, one_known, outer_status}
+use Rattle.ssq_run.proofs.Going.{one_query}
+use Rattle.ssq_run.proofs.Looking.{looked_for, no_command_too, one_command, outer_status}
 
 no_look : (file other : List ℕ) → asks_status other ≡ asks_show file → ⊥
 no_look file other e = cc
 
 no_explain : (file other : List ℕ) → asks_explain other ≡ asks_show file → ⊥
 no_explain file other e = cc
+
+no_gen : (file : List ℕ) (number count : ℕ) → asks_gen number count ≡ asks_show file → ⊥
+no_gen file number count e = cc
 
 no_run : (file other : List ℕ) (partitions most : Option ℕ) (rounds : ℕ) → asks_run other partitions most rounds ≡ asks_show file → ⊥
 no_run file other partitions most rounds e = cc
@@ -67,16 +71,16 @@ empty_below files (suc last) e empty counted below = nothing (files (name.Out la
     nothing (Some bytes) is there = absurd cc
 
 module _ {L : Type 0} (told tells : Type 0) (lines : L → List Line) (available : L → ℕ) (answers : L → List ℕ) (faults : L → ℕ) (given : Given) (OutTells : Type 0) (went : Went) (stop : Option Stop)
-    (known : KnownAreTaken) (is_wanted : JobIsWanted) (are_found : PartsAreFound) (typed : QueriesAreTyped) (read : QueriesReadTheirStreams) (hold : CheckpointsHoldTables)
+    (taken : AcceptedAreTaken) (is_wanted : JobIsWanted) (are_found : PartsAreFound) (typed : QueriesAreTyped) (read : QueriesReadTheirStreams) (hold : CheckpointsHoldTables)
     (can : CanShow given went.start) (before after status : ℕ) (answer : IsStatus stop before after status)
     (i0 i1 d0 d1 o0 o1 : ℕ) (none : NoneFailed i0 i1 d0 d1 o0 o1) (log : status ≡ 6 → Rises i0 i1) (disk : status ≡ 7 → Rises d0 d1) (out : status ≡ 8 → Rises o0 o1) (out_tells : OutTells) where
   showable : IsShowable can.setting.job.bound
   showable =
-      let allowed = can.is.known.allowed.names in
+      let allowed = can.is.accepted.names in
       let same : can.setting.job.bound ≡ bound_of can.is.query = can.of.query ∙ allowed.is in
       record {
         typed = subst IsTyped (sym same) (typed can.is.query allowed.unbroken);
-        windows = subst HasWindows (sym can.of.query) can.is.known.windows;
+        windows = subst HasWindows (sym can.of.query) can.is.accepted.windows;
         streams = subst ReadsItsStreams (sym same) (read can.is.query allowed.unbroken);
       }
 
@@ -125,19 +129,21 @@ module _ {L : Type 0} (told tells : Type 0) (lines : L → List Line) (available
   by_end is (no_file what own (inr memory) idle) = inr (is ∙ ap status_in memory)
   by_end is (refused what own why cause same idle) =
       let W : Asked → Type 0 = λ a. IsRefusedFor given.held a why in
-      let unknown : IsUnknown (read_of given.held can.file) why = subst W (one_command given.words what (asks_show can.file) own can.asks) cause in
-      inr (is ∙ ap status_in (same ∙ ap (λ r. Some (stop_of_refusal r)) (known (read_of given.held can.file) can.is.query can.bound why can.is.known unknown)))
+      let denial : IsRefused (read_of given.held can.file) why = subst W (one_command given.words what (asks_show can.file) own can.asks) cause in
+      inr (is ∙ ap status_in (same ∙ ap (λ r. Some (stop_of_refusal r)) (taken (read_of given.held can.file) can.is.query can.bound why can.is.accepted denial)))
   by_end is (obeyed what bound own query (has_run file partitions most rounds ran)) =
       absurd (no_run can.file file partitions most rounds (one_command given.words (asks_run file partitions most rounds) (asks_show can.file) own can.asks))
   by_end is (obeyed what bound own query (has_explained file same text done)) =
       absurd (no_explain can.file file (one_command given.words (asks_explain file) (asks_show can.file) own can.asks))
   by_end is (obeyed what bound own query (has_looked file same end)) =
       absurd (no_look can.file file (one_command given.words (asks_status file) (asks_show can.file) own can.asks))
+  by_end is (obeyed what bound own query (has_generated number count same end)) =
+      absurd (no_gen can.file number count (one_command given.words (asks_gen number count) (asks_show can.file) own can.asks))
   by_end is (obeyed what bound own query (ran_out same idle memory)) = inr (is ∙ ap status_in memory)
   by_end is (obeyed what bound own query (has_shown file still back text end)) =
-      let K : List ℕ → Type 0 = λ f. IsKnownAt given.held f bound in
+      let K : List ℕ → Type 0 = λ f. IsQueryAt given.held f bound in
       let here = subst K (same_file can.file file (one_command given.words (asks_show file) (asks_show can.file) own can.asks)) query in
-      let same : bound ≡ can.setting.job.bound = one_known given.held can.file bound can.bound here can.is ∙ sym can.of.query in
+      let same : bound ≡ can.setting.job.bound = one_query given.held can.file bound can.bound here can.is ∙ sym can.of.query in
       let ended = end out_tells in
       by_show is ended.0 (subst (λ b. ShowEnd b (files_now went.start) ended.0 stop) same ended.2)
 

@@ -11,7 +11,7 @@ use Rattle.ssq_runner.specs.Sources.{IsSettingFor}
 use Rattle.ssq_runner.specs.Complete as run
 use Rattle.ssq_words.specs.Asking.{Asked, asks_run, asks_show, asks_status, asked}
 use Rattle.ssq_run.specs.Program.{Given}
-use Rattle.ssq_run.specs.Queries.{IsQueryAt, IsKnownAt}
+use Rattle.ssq_run.specs.Queries.{IsQueryAt}
 
 -- the words ask for the run of a file that is this query
 pub record AsksRun (given : Given) : Type 0 where
@@ -55,7 +55,7 @@ pub record LooksAt (given : Given) (start : History) (what : List ℕ → Asked)
   pub lens : Lens
   pub setting : Setting
   pub asks : asked given.words ≡ Some (what file)
-  pub is : IsKnownAt given.held file bound
+  pub is : IsQueryAt given.held file bound
   pub of : IsSettingOf setting bound partitions lens
   pub found : AreFound (found_lines lens) setting.lines
   pub stands : StandsOrEmpty (job_of setting) (files_now start)

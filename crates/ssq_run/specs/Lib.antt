@@ -1,6 +1,7 @@
 pub mod Keys
 pub mod Places
 pub mod Queries
+pub mod Generated
 pub mod Shown
 pub mod Stopping
 pub mod Lines

@@ -10,13 +10,14 @@ use Rattle.ssq_logs.specs.Parts.{counts_in}
 use Rattle.ssq_runner.specs.declared.ask.Ask.{Ask}
 use Rattle.ssq_runner.specs.declared.fault.RunFault.{RunFault}
 use Rattle.ssq_runner.specs.Sources.{RunOver}
-use Rattle.ssq_words.specs.Asking.{Asked, asks_run, asks_show, asks_explain, asks_status, asked}
+use Rattle.ssq_words.specs.Asking.{Asked, asks_run, asks_show, asks_explain, asks_status, asks_gen, asked}
 use Rattle.ssq_run.specs.declared.stop.Stop.{Stop}
 use Rattle.ssq_run.specs.declared.stop.Stop.TheVariants.{Usage, LogFault, OutFault, NoMemory}
 use Rattle.ssq_run.specs.Queries.{IsQueryFor, IsRefusedFor}
 use Rattle.ssq_run.specs.Stopping.{stop_of_refusal, stop_of_end, status_in, IsToldAs}
 use Rattle.ssq_run.specs.Lines.{stop_line}
 use Rattle.ssq_run.specs.Looked.{LookEnd}
+use Rattle.ssq_run.specs.Generated.{GenEnd}
 use Rattle.ssq_run.specs.Shown.{ShowEnd}
 
 -- What the program was given: its words, what its inputs hold, and how many lines of each part were known to be there.
@@ -28,13 +29,6 @@ pub record Given : Type 0 where
 -- what is asked of a run
 abbrev pub ask_of : Option ℕ → Option ℕ → ℕ → Ask
 ask_of partitions most rounds = record { partitions = partitions; cap = most; rounds = rounds }
-
--- the query's file
-abbrev pub file_of : Asked → List ℕ
-file_of (asks_run file partitions most rounds) = file
-file_of (asks_show file) = file
-file_of (asks_explain file) = file
-file_of (asks_status file) = file
 
 -- What the outside was as the program began and is as it ends: the disk at each moment, the logs that came back, and what was written;
 -- and what is left to be written.
@@ -72,13 +66,14 @@ module _ {L : Type 0} (told tells : Type 0) (lines : L → List Line) (available
     pub is : told → IsToldAs stop (stop_of_end bound.streams (counts_in held bound.streams) end)
 
   -- How a command goes whose file is a query: the query was run; or its table was shown, for which the disk is only read; or it was explained, or its checkpoint was looked at, which changes nothing;
-  -- or memory ran out.
+  -- or generated input was run in memory, and told of; or memory ran out.
   pub data HasObeyed (held : Held) (known : List ℕ → ℕ → ℕ) (bound : Bound) (OutTells : Type 0) (went : Went) (stop : Option Stop) : Asked → Type 0 where
     has_run : (file : List ℕ) (partitions most : Option ℕ) (rounds : ℕ) → HasRun held known bound (ask_of partitions most rounds) OutTells went stop → HasObeyed held known bound OutTells went stop (asks_run file partitions most rounds)
     has_shown : (file : List ℕ) → went.now ≡ went.start → went.returned_now ≡ went.returned → went.text ≡ [] → (OutTells → (shown : List ℕ) × (went.written ≡ went.old ++ shown) × ShowEnd bound (files_now went.start) shown stop)
         → HasObeyed held known bound OutTells went stop (asks_show file)
     has_explained : (file : List ℕ) → IsUntouched went → went.text ≡ explained bound → stop ≡ None → HasObeyed held known bound OutTells went stop (asks_explain file)
     has_looked : (file : List ℕ) → IsUntouched went → LookEnd bound (files_now went.start) went.text stop → HasObeyed held known bound OutTells went stop (asks_status file)
+    has_generated : (number lines : ℕ) → IsUntouched went → GenEnd bound number lines went.text stop → HasObeyed held known bound OutTells went stop (asks_gen number lines)
     ran_out : (what : Asked) → IsIdle went → stop ≡ Some NoMemory → HasObeyed held known bound OutTells went stop what
 
   -- How the program ends, in the order of its work: memory ran out for its words; they are no command; the query's file could not be read;

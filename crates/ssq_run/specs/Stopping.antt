@@ -6,6 +6,11 @@ use Rattle.ssq_outside.specs.declared.inputs.InputError.{InputError}
 use Rattle.ssq_outside.specs.declared.inputs.InputError.TheVariants as input
 use Rattle.ssq_value.specs.declared.column.Column.{Column}
 use Rattle.ssq_shape.specs.declared.bound.Stream.{Stream}
+use Rattle.ssq_json.specs.declared.bad_row.BadRow.{BadRow}
+use Rattle.ssq_json.specs.declared.bad_row.BadRow.TheVariants as bad
+use Rattle.ssq_meaning.specs.declared.line.LineFault.{LineFault}
+use Rattle.ssq_meaning.specs.declared.line.LineFault.TheVariants as line
+use Rattle.ssq_meaning.specs.Epochs.{EpochFault, of_line, of_key}
 use Rattle.ssq_board.specs.declared.front.RowFault.{RowFault}
 use Rattle.ssq_board.specs.declared.front.RowFault.TheVariants as row
 use Rattle.ssq_board.specs.declared.front.Cause.{Cause}
@@ -86,6 +91,25 @@ stop_of_cause streams cause.DiskFault = DiskFault
 stop_of_cause streams cause.Full = FullEpochs
 stop_of_cause streams cause.NoMemory = NoMemory
 
+-- what is wrong with a line, by the meaning of the query
+abbrev pub wrong_row : List Column → BadRow → Wrong
+wrong_row columns bad.TooLong = TooLong
+wrong_row columns bad.NotJson = NotJson
+wrong_row columns bad.NotObject = NotObject
+wrong_row columns (bad.WrongType column) = WrongType (column_of columns column)
+wrong_row columns bad.NoEventTime = NoEventTime
+-- (a line is never bad for want of memory)
+wrong_row columns bad.NoMemory = NotJson
+
+abbrev pub stop_of_line : List Stream → (stream part offset : ℕ) → LineFault → Stop
+stop_of_line streams stream part offset (line.Bad why) = BadLine (name_of streams stream) part offset (wrong_row (columns_of streams stream) why)
+stop_of_line streams stream part offset line.Overflow = Overflow (name_of streams stream) part offset
+
+-- the fault of an epoch, told by the names of its query
+abbrev pub stop_of_fault : List Stream → EpochFault → Stop
+stop_of_fault streams (of_line at) = stop_of_line streams at.stream at.part at.offset at.what
+stop_of_fault streams (of_key key) = KeyOverflow (key_text key)
+
 -- why the table is not written, or not all of it
 abbrev pub stop_of_sink : SinkFault → Stop
 stop_of_sink (sink.Damaged at) = Damaged at
@@ -157,7 +181,13 @@ abbrev pub IsPastWords : Option Stop → Type 0
 IsPastWords (Some Usage) = ⊥
 IsPastWords _ = Unit {0}
 
--- why a command's query was not had: its file is refused, the inputs failed, or memory ran out
+-- why the text of a query was not had: the inputs failed, or memory ran out
+abbrev pub IsNoFile : Stop → Type 0
+IsNoFile LogFault = Unit {0}
+IsNoFile NoMemory = Unit {0}
+IsNoFile _ = ⊥
+
+-- why a command's query was not had: it is refused, the inputs failed, or memory ran out
 abbrev pub IsUnread : Held → Asked → Stop → Type 0
 IsUnread held what (Refused why) = IsRefusedFor held what why × (stop_of_refusal why ≡ Refused why)
 IsUnread held what LogFault = Unit {0}

@@ -5,6 +5,7 @@
 #![tactic(auto)]
 
 mod faults;
+mod generate;
 mod key;
 mod obey;
 mod prepare;

@@ -12,13 +12,15 @@ ghost use Rattle.ssq_terms.specs.Setting.{CanRun};
 ghost use Rattle.ssq_runner.specs.Sources.{IsSettingFor};
 ghost use Rattle.ssq_words.specs.Asking.{asked_of, asks_run, IsInRange};
 ghost use Rattle.ssq_run.specs.declared.stop.Stop.TheVariants.{NoMemory};
+ghost use Rattle.ssq_run.specs.Generated.{GenEnd};
 ghost use Rattle.ssq_run.specs.Looked.{LookEnd};
-ghost use Rattle.ssq_run.specs.Queries.{CanRunIfAsked};
+ghost use Rattle.ssq_run.specs.Queries.{IsSomeQuery};
 ghost use Rattle.ssq_run.specs.Shown.{ShowEnd};
 ghost use Rattle.ssq_run.specs.Program.{HasObeyed, HasRun, went_of};
 ghost use Rattle.ssq_run.specs.Stopping.{HasCount, IsPastWords, stop_in};
 
 use crate::faults::end_of;
+use crate::generate::generate;
 use crate::show::show;
 use crate::status::status;
 use crate::stop::Stop;
@@ -102,7 +104,7 @@ fn shown<D: Disk, O: Output>(alloc: Global, bound: &Bound, disk: D, out: &mut O)
 }
 
 /// Runs a query over the parts of its streams.
-fn run<D: Disk, I: Inputs, O: Output, G: Gate>(
+pub(crate) fn run<D: Disk, I: Inputs, O: Output, G: Gate>(
     alloc: Global,
     gate: &G,
     bound: &Bound,
@@ -137,7 +139,35 @@ fn run<D: Disk, I: Inputs, O: Output, G: Gate>(
     }
 }
 
-/// Does what a command asks for, whose file is this query.
+/// Runs generated input in memory, and tells what came of it. The disk is as it was.
+fn generated<D: Disk, G: Gate>(
+    alloc: Global,
+    gate: &G,
+    bound: &Bound,
+    number: u32,
+    lines: u32,
+    disk: D,
+) -> Done<D>
+    requires number { number ≤ 65536 }
+    requires lines { (1 ≤ lines) × (lines ≤ 10000000) }
+    requires can { CanRun bound.now }
+    requires known { IsSomeQuery bound.now }
+    ensures same { result.disk ≡ disk }
+    ensures ended { GenEnd bound.now number lines result.text.items (stop_in result.end) }
+    ensures only { IsPastWords (stop_in result.end) }
+    ensures cause { HasCount 0 0 0 0 0 0 (stop_in result.end) }
+{
+    match generate(alloc, gate, bound, number, lines) {
+        Ok(line) => Done {
+            disk,
+            text: line.into_bytes(),
+            end: Ok(()),
+        },
+        Err(stop) => stopped(alloc, disk, stop),
+    }
+}
+
+/// Does what a command asks for, of this query.
 pub(crate) fn obey<D: Disk, I: Inputs, O: Output, G: Gate>(
     alloc: Global,
     gate: &G,
@@ -147,8 +177,8 @@ pub(crate) fn obey<D: Disk, I: Inputs, O: Output, G: Gate>(
     inputs: &mut I,
     out: &mut O,
 ) -> Done<D>
-    requires can { CanRunIfAsked (asked_of command) bound.now }
-    requires few { length bound.now.streams ≤ 2 }
+    requires can { CanRun bound.now }
+    requires known { IsSomeQuery bound.now }
     requires in_range { IsInRange command }
     ensures obeyed { D.tells → I.tells → HasObeyed I.tells (D.tells × I.Log.tells) I.Log.lines I.Log.available I.Log.answers I.Log.faults (I.held inputs.old) (I.available inputs.old) bound.now O.tells
         (went_of (D.history disk) (D.history result.disk) (D.faults disk) (D.faults result.disk) (I.returned inputs.old) (I.returned inputs.new) (O.content out.old) (O.content out.new) result.text.items) (stop_in result.end) (asked_of command.entry) }
@@ -178,5 +208,6 @@ pub(crate) fn obey<D: Disk, I: Inputs, O: Output, G: Gate>(
         Command::Show { query: _ } => shown(alloc, bound, disk, out),
         Command::Explain { query: _ } => explained(alloc, bound, disk),
         Command::Status { query: _ } => looked(alloc, bound, disk),
+        Command::Gen { number, lines } => generated(alloc, gate, bound, number, lines, disk),
     }
 }

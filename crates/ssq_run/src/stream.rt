@@ -92,7 +92,8 @@ fn work<D: Disk, I: Inputs, O: Output, G: Gate>(
 /// `run QUERY [--partitions P] [--max-lines N] [--rounds R]` runs the query of the file QUERY over the parts of its streams, in R rounds, and in
 /// epochs of at most N lines of each part, over a checkpoint that is empty or of this query. As a round ends it writes one line for each of its
 /// epochs, and at the end how many epochs there are. `show QUERY` writes the table that the checkpoint's sink files make. `explain QUERY` tells
-/// what the query is. `status QUERY` says how far the checkpoint has come. These change nothing.
+/// what the query is. `status QUERY` says how far the checkpoint has come. `gen NUMBER LINES` runs a query
+/// over generated lines, in memory alone, and tells counts of its rows. These change nothing.
 ///
 /// A refusal is one line, and its number is the status: 2, the words are none of these; 3, the file is no query that can be run; 4
 /// and 5, the first line of the planned epoch that is bad or overflows, or where none is the least key that overflows; 6, 7 and 8, the inputs, the disk or the output failed; 9, the

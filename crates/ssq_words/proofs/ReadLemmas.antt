@@ -1,5 +1,5 @@
 -- What the typed getters give of matches that are whole.
-use Rattle.std.proofs.Common.{◌≡◌, ◌∙◌, ◌<◌, ◌≤◌, ◌^◌, ℕ, List, ap, refl, arith, Option, Some, None, Result, Ok, Err}
+use Rattle.std.proofs.Common.{◌≡◌, ◌∙◌, ◌<◌, ◌≤◌, ◌^◌, ℕ, List, ap, refl, sym, arith, true, true≢false, is_some, Option, Some, None, Result, Ok, Err}
 use Rattle.std.specs.Prelude.{option_map, unwrap_or, IfSome}
 use Rattle.std.specs.Option.{ForSome}
 use Rattle.std.specs.Str.Parse.{ParsesUnsigned}
@@ -9,7 +9,7 @@ use Rattle.clap.specs.Words.{Row, Text, ReadsOne, first_of, one_text}
 use Rattle.clap.specs.declared.parser.matches.Found.{Found}
 use Rattle.clap.proofs.WalkLemmas.{one_text-rows}
 use Rattle.ssq_words.specs.Asking.{number_given, number_of}
-use Rattle.ssq_words.specs.Reading.{HasNumberIn}
+use Rattle.ssq_words.specs.Reading.{HasNumberIn, IsNumberIn}
 
 -- a text with a number in bounds that fit the type is read as that number
 number_in : {E : Type 0} (G : Text → Result ℕ E → Type 0) (k low high : ℕ) → high < 2 ^ k → ((u : Text) (x : Result ℕ E) → G u x → ParsesUnsigned k 10 u x)
@@ -44,3 +44,13 @@ number_bounded low high id rows has = go (first_of id rows) has.number
 pub bounded_or_one : (o : Option ℕ) (high : ℕ) → 1 ≤ high → ForSome o (λ n. (1 ≤ n) × (n ≤ high)) → (1 ≤ unwrap_or o 1) × (unwrap_or o 1 ≤ high)
 bounded_or_one None high some bounded = (omega arith, some)
 bounded_or_one (Some n) high some bounded = bounded n refl
+
+-- a positional that is there was given a number
+pub number_there : (low high : ℕ) (id : Text) (rows : List Row) (o : Option ℕ) (r d : ℕ) → IsNumberIn low high id rows → o ≡ number_given id rows → r ≡ unwrap_or o d → (number_given id rows ≡ Some r) × (low ≤ r) × (r ≤ high)
+number_there low high id rows o r d is same read = go (first_of id rows) is.there is.number.number same
+  where
+    go : (f : Option Text) → is_some f ≡ true → IfSome f (IsUnsignedIn low high) → o ≡ option_map number_of f → (option_map number_of f ≡ Some r) × (low ≤ r) × (r ≤ high)
+    go None there bounds same = absurd (true≢false (sym there))
+    go (Some t) there bounds same =
+        let value : number_of t ≡ r = sym (read ∙ ap (λ p. unwrap_or p d) same) in
+        (ap Some value, omega (arith, bounds.2, value), omega (arith, bounds.3, value))

@@ -9,15 +9,16 @@ use Rattle.ssq_words.specs.Program.{program}
 use Rattle.ssq_words.specs.declared.Command.{Command}
 use Rattle.ssq_words.specs.declared.error.AskError.{AskError}
 use Rattle.ssq_words.specs.declared.error.AskError.TheVariants.{Usage, NoMemory}
-use Rattle.ssq_words.specs.declared.Command.TheVariants.{Run, Show, Explain, Status}
+use Rattle.ssq_words.specs.declared.Command.TheVariants.{Run, Show, Explain, Status, Gen}
 
 -- a command: the query's file, for a run the number of partitions, if it is asked for, the most lines of an epoch, if there is a
--- cap, and the number of rounds
+-- cap, and the number of rounds; for generated input the number of its first line, and how many lines it has
 pub data Asked : Type 0 where
   asks_run : Text → Option ℕ → Option ℕ → ℕ → Asked
   asks_show : Text → Asked
   asks_explain : Text → Asked
   asks_status : Text → Asked
+  asks_gen : ℕ → ℕ → Asked
 
 -- the command that a value of the program's type holds
 abbrev pub asked_of : Command → Asked
@@ -25,6 +26,7 @@ asked_of (Run query partitions most_lines rounds) = asks_run query.now partition
 asked_of (Show query) = asks_show query.now
 asked_of (Explain query) = asks_explain query.now
 asked_of (Status query) = asks_status query.now
+asked_of (Gen number lines) = asks_gen number lines
 
 -- the number that digits spell; a first `+` and leading zeros say nothing
 abbrev pub number_of : Text → ℕ
@@ -50,13 +52,18 @@ explain_asked rows = option_map asks_explain (first_of (codes "query") rows)
 unfoldable pub status_asked : List Row → Option Asked
 status_asked rows = option_map asks_status (first_of (codes "query") rows)
 
+unfoldable pub gen_asked : List Row → Option Asked
+gen_asked rows =
+    option_and_then (λ number. option_map (asks_gen number) (number_given (codes "lines") rows)) (number_given (codes "number") rows)
+
 -- what a subcommand asks for with these matches
 unfoldable pub subcommand_asked : Text → List Row → Option Asked
 subcommand_asked name rows =
     if bytes_eq name (codes "run") then run_asked rows
     else (if bytes_eq name (codes "show") then show_asked rows
     else (if bytes_eq name (codes "explain") then explain_asked rows
-    else (if bytes_eq name (codes "status") then status_asked rows else None)))
+    else (if bytes_eq name (codes "status") then status_asked rows
+    else (if bytes_eq name (codes "gen") then gen_asked rows else None))))
 
 -- The words are taken exactly where clap finds no fault in them; then its matches say what they ask for.
 unfoldable pub asked : List Text → Option Asked
@@ -71,6 +78,7 @@ IsInRange (Run query partitions most_lines rounds) =
 IsInRange (Show query) = ⊤
 IsInRange (Explain query) = ⊤
 IsInRange (Status query) = ⊤
+IsInRange (Gen number lines) = (number ≤ 65536) × ((1 ≤ lines) × (lines ≤ 10000000))
 
 -- why words are refused: they are no command; memory may run out at any time
 abbrev pub IsCause : List Text → AskError → Type 0

@@ -21,6 +21,14 @@ max_lines_rule =
 abbrev pub rounds_rule : Rule
 rounds_rule = record (new_rule (codes "rounds")) { long = Some (codes "rounds"); parser = Some (Unsigned 1 1000000) }
 
+-- `NUMBER` of `gen`: the number of the first line
+abbrev pub number_rule : Rule
+number_rule = record (new_rule (codes "number")) { required = true; parser = Some (Unsigned 0 65536) }
+
+-- `LINES` of `gen`: how many lines
+abbrev pub count_rule : Rule
+count_rule = record (new_rule (codes "lines")) { required = true; parser = Some (Unsigned 1 10000000) }
+
 -- `run QUERY [--partitions 1..64] [--max-lines 1..1099511627776] [--rounds 1..1000000]`
 unfoldable pub run_app : App
 run_app = with_rule (with_rule (with_rule (with_rule (new_app (codes "run")) query_rule) partitions_rule) max_lines_rule) rounds_rule
@@ -37,6 +45,10 @@ explain_app = with_rule (new_app (codes "explain")) query_rule
 unfoldable pub status_app : App
 status_app = with_rule (new_app (codes "status")) query_rule
 
+-- `gen NUMBER LINES`
+unfoldable pub gen_app : App
+gen_app = with_rule (with_rule (new_app (codes "gen")) number_rule) count_rule
+
 -- the program itself: it has no help of its own, and needs a subcommand
 unfoldable pub top_app : App
 top_app = on_top (λ s. record s {
@@ -50,4 +62,4 @@ unfoldable pub tables_app : App
 tables_app = with_subcommand (with_subcommand top_app run_app.top) show_app.top
 
 unfoldable pub program : App
-program = with_subcommand (with_subcommand tables_app explain_app.top) status_app.top
+program = with_subcommand (with_subcommand (with_subcommand tables_app explain_app.top) status_app.top) gen_app.top

@@ -18,8 +18,18 @@ pub record IsRun (rows : List Row) : Type 0 where
   pub max_lines : HasNumberIn 1 1099511627776 (codes "max-lines") rows
   pub rounds : HasNumberIn 1 1000000 (codes "rounds") rows
 
+-- the positional is there, with a number in these bounds
+pub record IsNumberIn (low high : ℕ) (id : Text) (rows : List Row) : Type 0 where
+  pub there : is_some (first_of id rows) ≡ true
+  pub number : HasNumberIn low high id rows
+
+pub record IsGen (rows : List Row) : Type 0 where
+  pub number : IsNumberIn 0 65536 (codes "number") rows
+  pub lines : IsNumberIn 1 10000000 (codes "lines") rows
+
 -- a subcommand was met, and has what it needs
 abbrev pub IsWhole : Option (Text × List Row) → Type 0
 IsWhole None = ⊥
 IsWhole (Some p) =
-    ((p.0 ≡ codes "run") × IsRun p.1) ⊎ (((p.0 ≡ codes "show") × HasQuery p.1) ⊎ (((p.0 ≡ codes "explain") × HasQuery p.1) ⊎ ((p.0 ≡ codes "status") × HasQuery p.1)))
+    ((p.0 ≡ codes "run") × IsRun p.1)
+    ⊎ (((p.0 ≡ codes "show") × HasQuery p.1) ⊎ (((p.0 ≡ codes "explain") × HasQuery p.1) ⊎ (((p.0 ≡ codes "status") × HasQuery p.1) ⊎ ((p.0 ≡ codes "gen") × IsGen p.1))))

@@ -50,10 +50,17 @@ pub enum Command<'a> {
         /// The query's file.
         query: &'a str,
     },
+    /// Run a query over generated lines in memory, and tell what came of them.
+    Gen {
+        /// 0 to 65536: the number of the first line.
+        number: u32,
+        /// 1 to 10000000 lines.
+        lines: u32,
+    },
 }
 
 /// What the words ask for. They begin with the program's name, and are `run QUERY [--partitions N] [--max-lines N]
-/// [--rounds N]`, `show QUERY`, `explain QUERY` or `status QUERY`, in the forms that clap takes: a value follows its option as a word or
+/// [--rounds N]`, `show QUERY`, `explain QUERY`, `status QUERY` or `gen NUMBER LINES`, in the forms that clap takes: a value follows its option as a word or
 /// after `=`, numbers may have a `+` and leading zeros, and after `--` a word that begins with `-` is a query too.
 ///
 /// `Usage` comes exactly where clap takes the words for none of these, unless memory runs out, which is `NoMemory`.

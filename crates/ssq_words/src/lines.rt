@@ -1,6 +1,6 @@
 //! Some command lines, as they are read.
 ghost use Rattle.std.specs.Prelude.{◌≡◌, ◌∷◌, [], Some, None, codes};
-ghost use Rattle.ssq_words.specs.Asking.{asked, asks_explain, asks_run, asks_show, asks_status};
+ghost use Rattle.ssq_words.specs.Asking.{asked, asks_explain, asks_gen, asks_run, asks_show, asks_status};
 
 /// The law of some command lines: what they ask for, or that they are refused.
 pub fn lines_are_read()
@@ -14,6 +14,10 @@ pub fn lines_are_read()
     ensures show { asked (codes "ssq" ∷ codes "show" ∷ codes "q.sql" ∷ []) ≡ Some (asks_show (codes "q.sql")) }
     ensures explain { asked (codes "ssq" ∷ codes "explain" ∷ codes "q.sql" ∷ []) ≡ Some (asks_explain (codes "q.sql")) }
     ensures status { asked (codes "ssq" ∷ codes "status" ∷ codes "q.sql" ∷ []) ≡ Some (asks_status (codes "q.sql")) }
+    ensures generated { asked (codes "ssq" ∷ codes "gen" ∷ codes "1" ∷ codes "4" ∷ []) ≡ Some (asks_gen 1 4) }
+    ensures number_past { asked (codes "ssq" ∷ codes "gen" ∷ codes "65537" ∷ codes "4" ∷ []) ≡ None }
+    ensures none_generated { asked (codes "ssq" ∷ codes "gen" ∷ codes "1" ∷ codes "0" ∷ []) ≡ None }
+    ensures no_count { asked (codes "ssq" ∷ codes "gen" ∷ codes "1" ∷ []) ≡ None }
     ensures walk { asked (codes "ssq" ∷ codes "walk" ∷ codes "q.sql" ∷ []) ≡ None }
     ensures no_partitions { asked (codes "ssq" ∷ codes "run" ∷ codes "q.sql" ∷ codes "--partitions" ∷ codes "0" ∷ []) ≡ None }
     ensures partitions_past { asked (codes "ssq" ∷ codes "run" ∷ codes "q.sql" ∷ codes "--partitions" ∷ codes "65" ∷ []) ≡ None }

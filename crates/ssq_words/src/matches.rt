@@ -3,8 +3,8 @@ ghost use Rattle.std.specs.Prelude.{◌≡◌, ◌≤◌, Some, codes, option_an
 ghost use Rattle.std.specs.Option.{ForSome};
 ghost use Rattle.clap.specs.Walk.{rows_of, first_of};
 ghost use Rattle.clap.specs.Words.{found_of, subcommand_rows_of};
-ghost use Rattle.ssq_words.specs.Asking.{number_given, run_asked, asked_of, show_asked, explain_asked, status_asked, subcommand_asked, IsInRange};
-ghost use Rattle.ssq_words.specs.Reading.{HasNumberIn, HasQuery, IsRun, IsWhole};
+ghost use Rattle.ssq_words.specs.Asking.{number_given, run_asked, asked_of, show_asked, explain_asked, status_asked, gen_asked, subcommand_asked, IsInRange};
+ghost use Rattle.ssq_words.specs.Reading.{HasNumberIn, HasQuery, IsGen, IsNumberIn, IsRun, IsWhole};
 
 use crate::Command;
 use clap::ArgMatches;
@@ -91,6 +91,33 @@ fn status_of<'a>(matches: &ArgMatches<'a>) -> Command<'a>
     Command::Status { query }
 }
 
+fn number(matches: &ArgMatches<'_>) -> u32
+    requires { IsNumberIn 0 65536 (codes "number") (rows_of (found_of matches.now)) }
+    ensures given { number_given (codes "number") (rows_of (found_of matches.now)) ≡ Some result }
+    ensures in_range { result ≤ 65536 }
+{
+    matches.get_one::<u32>("number").unwrap_or(0)
+}
+
+fn lines(matches: &ArgMatches<'_>) -> u32
+    requires { IsNumberIn 1 10000000 (codes "lines") (rows_of (found_of matches.now)) }
+    ensures given { number_given (codes "lines") (rows_of (found_of matches.now)) ≡ Some result }
+    ensures in_range { (1 ≤ result) × (result ≤ 10000000) }
+{
+    matches.get_one::<u32>("lines").unwrap_or(1)
+}
+
+#[tactic(auto, unfolding(crate::specs::Asking::gen_asked))]
+fn gen_of<'a>(matches: &ArgMatches<'a>) -> Command<'a>
+    requires { IsGen (rows_of (found_of matches.now)) }
+    ensures asked { gen_asked (rows_of (found_of matches.now)) ≡ Some (asked_of result) }
+    ensures in_range { IsInRange result }
+{
+    let number = number(matches);
+    let lines = lines(matches);
+    Command::Gen { number, lines }
+}
+
 /// The subcommand that was met, with its own matches.
 fn met<'m, 'a>(matches: &'m ArgMatches<'a>) -> (&'a str, &'m ArgMatches<'a>)
     requires { IsWhole (subcommand_rows_of matches.now) }
@@ -111,6 +138,7 @@ pub(crate) fn command_of<'a>(matches: &ArgMatches<'a>) -> Command<'a>
         "run" => run_of(inner),
         "show" => show_of(inner),
         "explain" => explain_of(inner),
-        _ => status_of(inner),
+        "status" => status_of(inner),
+        _ => gen_of(inner),
     }
 }

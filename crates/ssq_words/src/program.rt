@@ -2,7 +2,7 @@
 ghost use Rattle.std.specs.Prelude.{◌≡◌, IfOk, false};
 ghost use Rattle.clap.specs.Words.{app_of, rule_of};
 ghost use Rattle.clap.specs.declared.builder.command.Command.TheViews.{out-Command};
-ghost use Rattle.ssq_words.specs.Program.{explain_app, max_lines_rule, partitions_rule, program, query_rule, rounds_rule, run_app, show_app, status_app, tables_app, top_app};
+ghost use Rattle.ssq_words.specs.Program.{count_rule, explain_app, gen_app, max_lines_rule, number_rule, partitions_rule, program, query_rule, rounds_rule, run_app, show_app, status_app, tables_app, top_app};
 
 use clap::builder::ValueParser;
 use clap::{Arg, Command};
@@ -16,6 +16,12 @@ const MOST_LINES: u64 = 1_099_511_627_776;
 
 /// The most rounds that `--rounds` takes.
 const MOST_ROUNDS: u64 = 1_000_000;
+
+/// The greatest number of a first line of generated input.
+const MOST_NUMBER: u64 = 65_536;
+
+/// The most lines of generated input.
+const MOST_GENERATED: u64 = 10_000_000;
 
 fn query<'a>(alloc: Global) -> Arg<'a>
     ensures rule { rule_of result ≡ query_rule }
@@ -49,6 +55,24 @@ fn rounds<'a>(alloc: Global) -> Arg<'a>
     Arg::new(alloc, "rounds")
         .long("rounds")
         .value_parser(ValueParser::unsigned(1, MOST_ROUNDS))
+}
+
+fn number<'a>(alloc: Global) -> Arg<'a>
+    ensures rule { rule_of result ≡ number_rule }
+    ensures local { result.global ≡ false }
+{
+    Arg::new(alloc, "number")
+        .required(true)
+        .value_parser(ValueParser::unsigned(0, MOST_NUMBER))
+}
+
+fn lines<'a>(alloc: Global) -> Arg<'a>
+    ensures rule { rule_of result ≡ count_rule }
+    ensures local { result.global ≡ false }
+{
+    Arg::new(alloc, "lines")
+        .required(true)
+        .value_parser(ValueParser::unsigned(1, MOST_GENERATED))
 }
 
 #[tactic(auto, unfolding(crate::specs::Program::run_app))]
@@ -87,6 +111,16 @@ fn status<'a>(alloc: Global) -> Result<Command<'a>, AllocError>
     Command::new(alloc, "status").arg(query(alloc))
 }
 
+#[tactic(auto, unfolding(crate::specs::Program::gen_app))]
+fn generate<'a>(alloc: Global) -> Result<Command<'a>, AllocError>
+    ensures app { IfOk result (λ c. app_of c ≡ gen_app) }
+    ensures local { IfOk result (λ c. (out-Command c).has_globals ≡ false) }
+{
+    Command::new(alloc, "gen")
+        .arg(number(alloc))?
+        .arg(lines(alloc))
+}
+
 #[tactic(auto, unfolding(crate::specs::Program::top_app))]
 fn top<'a>(alloc: Global) -> Command<'a>
     ensures { app_of result ≡ top_app }
@@ -112,5 +146,6 @@ pub(crate) fn program<'a>(alloc: Global) -> Result<Command<'a>, AllocError>
 {
     tables(alloc)?
         .subcommand(explain(alloc)?)?
-        .subcommand(status(alloc)?)
+        .subcommand(status(alloc)?)?
+        .subcommand(generate(alloc)?)
 }

@@ -71,7 +71,7 @@ returns-clause-is_told g c = λ tells told can none.
     let given : Given = record { words = map string_bytes c.args.words.now; held = g.I.Inputs.held c.args.inputs; known = g.I.Inputs.available c.args.inputs } in
     looked_well g.I.Inputs.tells (g.D.Disk.tells × g.I.Log.Log.tells) g.I.Log.Log.lines g.I.Log.Log.available g.I.Log.Log.answers g.I.Log.Log.faults given g.O.Output.tells
     (went_of (g.D.Disk.history c.args.disk) (g.D.Disk.history c.work-disk.result.disk) (g.D.Disk.faults c.args.disk) (g.D.Disk.faults c.work-disk.result.disk) (g.I.Inputs.returned c.args.inputs) (g.I.Inputs.returned c.work-disk.new.inputs) (g.O.Output.content c.args.out) (g.O.Output.content c.work-disk.new.out) c.work-disk.result.text.items)
-    (stop_in c.work-disk.result.end) c.files_have_one_answer.ensures.known c.job_is_wanted.ensures.wanted c.job_is_wanted.ensures.parts can _ _ _ c.tell-status.ensures.status
+    (stop_in c.work-disk.result.end) c.files_have_one_answer.ensures.accepted c.job_is_wanted.ensures.wanted c.job_is_wanted.ensures.parts can _ _ _ c.tell-status.ensures.status
     _ _ _ _ _ _ none
     (log_told _ _ _ _ _ _ (stop_in c.work-disk.result.end) _ _ _ c.work-disk.ensures.cause c.tell-status.ensures.status)
     (disk_told _ _ _ _ _ _ (stop_in c.work-disk.result.end) _ _ _ c.work-disk.ensures.cause c.tell-status.ensures.status)
@@ -83,7 +83,7 @@ returns-clause-is_shown g c = λ tells told out_tells can none.
     let given : Given = record { words = map string_bytes c.args.words.now; held = g.I.Inputs.held c.args.inputs; known = g.I.Inputs.available c.args.inputs } in
     shown_well g.I.Inputs.tells (g.D.Disk.tells × g.I.Log.Log.tells) g.I.Log.Log.lines g.I.Log.Log.available g.I.Log.Log.answers g.I.Log.Log.faults given g.O.Output.tells
     (went_of (g.D.Disk.history c.args.disk) (g.D.Disk.history c.work-disk.result.disk) (g.D.Disk.faults c.args.disk) (g.D.Disk.faults c.work-disk.result.disk) (g.I.Inputs.returned c.args.inputs) (g.I.Inputs.returned c.work-disk.new.inputs) (g.O.Output.content c.args.out) (g.O.Output.content c.work-disk.new.out) c.work-disk.result.text.items)
-    (stop_in c.work-disk.result.end) c.files_have_one_answer.ensures.known c.job_is_wanted.ensures.wanted c.job_is_wanted.ensures.parts c.queries_are_typed.ensures c.queries_read_their_streams.ensures c.checkpoints_hold_tables.ensures can _ _ _ c.tell-status.ensures.status
+    (stop_in c.work-disk.result.end) c.files_have_one_answer.ensures.accepted c.job_is_wanted.ensures.wanted c.job_is_wanted.ensures.parts c.queries_are_typed.ensures c.queries_read_their_streams.ensures c.checkpoints_hold_tables.ensures can _ _ _ c.tell-status.ensures.status
     _ _ _ _ _ _ none
     (log_told _ _ _ _ _ _ (stop_in c.work-disk.result.end) _ _ _ c.work-disk.ensures.cause c.tell-status.ensures.status)
     (disk_told _ _ _ _ _ _ (stop_in c.work-disk.result.end) _ _ _ c.work-disk.ensures.cause c.tell-status.ensures.status)
