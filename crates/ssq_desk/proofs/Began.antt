@@ -5,6 +5,7 @@ use Rattle.std.specs.Global.{Vec}
 use Rattle.std.specs.Vec.{with_items}
 use Rattle.std.proofs.lemmas.List.{length-map, get_or-map, with_items_is}
 use Rattle.std.proofs.lemmas.Bool.{ltb-true}
+use Rattle.ssq_outside.specs.History.{History}
 use mathlib.Core.Option.{some, some-ne-none}
 use lib.ListN.{get_elem?}
 use Rattle.ssq_meaning.specs.Meaning.{Line}
@@ -52,7 +53,7 @@ use Rattle.ssq_desk.proofs.Settling.{risen_stops, risen_no_log, some_cause}
 use Rattle.ssq_desk.proofs.Beginnings.{from_count, plans_are, times_are, same_cuts, sources_count, source_at, own_lines, map_at, slice_or, slice_below}
 use Rattle.ssq_desk.proofs.Planned.{at_get}
 
-module _ {D L S F : Type 0} (stores logs : Type 0) (lines : L → List Line) (available : L → ℕ) (answers : L → List ℕ) (faults : L → ℕ) (written : S → List ℕ) (sealed : F → List ℕ) (round : Round L) (disk : D) (r : Scope) (made : Made L S)
+module _ {D L S F : Type 0} (stores logs : Type 0) (history : D → History) (lines : L → List Line) (available : L → ℕ) (answers : L → List ℕ) (faults : L → ℕ) (written : S → List ℕ) (sealed : F → List ℕ) (round : Round L) (disk : D) (r : Scope) (made : Made L S)
     (is : IsRound (setting_of lines round) round.opened r)
     (m : IsMadeOf round.view.bound.now round.view.partitions round.opened (length round.logs.items) made)
     (long : logs → (i : ℕ) (own : L) → get_elem? round.logs.items i ≡ some own → get_or r.available i 0 ≤ available own) where
@@ -60,7 +61,7 @@ module _ {D L S F : Type 0} (stores logs : Type 0) (lines : L → List Line) (av
   reads = stores × logs
 
   abbrev owned : Type 0
-  owned = stores × OwnsRound logs lines round r
+  owned = stores × OwnsRound logs lines round r (history disk)
 
   abbrev went : L → L → Type 0
   went = LogWent logs lines available answers faults
@@ -191,7 +192,7 @@ module _ {D L S F : Type 0} (stores logs : Type 0) (lines : L → List Line) (av
         })
 
     begun_whole : (now : D) (out : Option (OutWork S F)) → (start.is_planned ≡ true → (work : OutWork S F) × (out ≡ Some work) × IsOutWork owned written s cuts start.committed work × AreReady owned written s.job.partitions (length (parts_in s)) (keeping_in s) shares.items)
-        → IsWhole stores logs lines available answers faults written sealed (did (first_shown lines round disk r) now []) (load_of plans sources shares held out)
+        → IsWhole stores logs history lines available answers faults written sealed (did (first_shown lines round disk r) now []) (load_of plans sources shares held out)
     begun_whole now out work = record {
       round = is;
       view = record { bound = refl; partitions = refl; windows = is.runs.windows };
@@ -205,7 +206,7 @@ module _ {D L S F : Type 0} (stores logs : Type 0) (lines : L → List Line) (av
     }
 
     stopped_whole : (now : D) (f : Cause) (before later : ℕ) (out : Option (OutWork S F)) → HasRisen f before later
-        → IsWhole stores logs lines available answers faults written sealed (did (first_shown lines round disk r) now (entry.Stop f ∷ [])) (load_of plans sources shares held out)
+        → IsWhole stores logs history lines available answers faults written sealed (did (first_shown lines round disk r) now (entry.Stop f ∷ [])) (load_of plans sources shares held out)
     stopped_whole now f before later out risen = record {
       round = is;
       view = record { bound = refl; partitions = refl; windows = is.runs.windows };
@@ -253,18 +254,18 @@ module _ {D L S F : Type 0} (stores logs : Type 0) (lines : L → List Line) (av
     -- whatever came of the files of its tasks
     pub began : (fewer : Type 0) (b : Bool) (old new : Shown D (Round L)) (out : Option (OutWork S F)) (before later : ℕ) → (owned → fewer) → start.is_planned ≡ b → old ≡ first_shown lines round disk r
         → BeginsWork fewer written b made.room.rows made.room.seen held.items made.room.shares.items shares.items before later old new out
-        → BeginsAs before later (first_shown lines round disk r) new × IsWhole stores logs lines available answers faults written sealed new (load_of plans sources shares held out)
+        → BeginsAs before later (first_shown lines round disk r) new × IsWhole stores logs history lines available answers faults written sealed new (load_of plans sources shares held out)
     began fewer false old new out before later so planned old_is begun =
         let same : new ≡ did (first_shown lines round disk r) new.disk [] =
         begun.0 ∙ old_is ∙ ap (λ (d : D). did (first_shown lines round disk r) d []) (sym (ap (λ (x : Shown D (Round L)). x.disk) (begun.0 ∙ old_is))) in (
           inl same,
-          subst (λ (x : Shown D (Round L)). IsWhole stores logs lines available answers faults written sealed x (load_of plans sources shares held out)) (sym same)
+          subst (λ (x : Shown D (Round L)). IsWhole stores logs history lines available answers faults written sealed x (load_of plans sources shares held out)) (sym same)
               (begun_whole new.disk out (λ yes. absurd (true≢false (sym yes ∙ planned)))),
         )
     began fewer true old new None before later so planned old_is begun =
         let same = begun.1 ∙ ap (λ (x : Shown D (Round L)). did x new.disk (entry.Stop begun.0 ∷ [])) old_is in (
           inr (begun.0, same, begun.2),
-          subst (λ (x : Shown D (Round L)). IsWhole stores logs lines available answers faults written sealed x (load_of plans sources shares held None)) (sym same) (stopped_whole new.disk begun.0 before later None begun.2),
+          subst (λ (x : Shown D (Round L)). IsWhole stores logs history lines available answers faults written sealed x (load_of plans sources shares held None)) (sym same) (stopped_whole new.disk begun.0 before later None begun.2),
         )
     began fewer true old new (Some work) before later so planned old_is begun =
         let same = begun.0 ∙ ap (λ (x : Shown D (Round L)). did x new.disk []) old_is in
@@ -276,7 +277,7 @@ module _ {D L S F : Type 0} (stores logs : Type 0) (lines : L → List Line) (av
           commit_empty = λ t. (begun.3 (so t)).1;
         } in (
           inl same,
-          subst (λ (x : Shown D (Round L)). IsWhole stores logs lines available answers faults written sealed x (load_of plans sources shares held (Some work))) (sym same)
+          subst (λ (x : Shown D (Round L)). IsWhole stores logs history lines available answers faults written sealed x (load_of plans sources shares held (Some work))) (sym same)
               (begun_whole new.disk (Some work) (λ yes. (work, refl, own, first_ready fewer so begun.4))),
         )
 
@@ -284,7 +285,7 @@ module _ {D L S F : Type 0} (stores logs : Type 0) (lines : L → List Line) (av
   pub opens : (plans : Vec Plan) (sources : Vec (Source L)) (held : Vec (Option Held)) (closings : List (List Timed)) → AreIndexes (Unit {0}) s.job.bound round.opened.stores closings → held.items ≡ held_of round.opened.stores closings → plans.items ≡ round.opened.plans
       → sources.items ≡ sources_of made.parts.items made.ends.items round.logs.items → (news : List (Share S)) (fewer : Type 0) (b : Bool) (old new : Shown D (Round L)) (out : Option (OutWork S F)) (before later : ℕ) → (owned → fewer) → start.is_planned ≡ b → old ≡ first_shown lines round disk r
       → BeginsWork fewer written b made.room.rows made.room.seen held.items made.room.shares.items news before later old new out
-      → BeginsAs before later (first_shown lines round disk r) new × IsWhole stores logs lines available answers faults written sealed new (load_of plans sources (with_items made.room.shares news) held out)
+      → BeginsAs before later (first_shown lines round disk r) new × IsWhole stores logs history lines available answers faults written sealed new (load_of plans sources (with_items made.room.shares news) held out)
   opens plans sources held closings indexes held_is plans_is sources_is news fewer b old new out before later so planned old_is begun =
       let are = shares_are fewer b held.items news old new out before later begun in
       let all : (with_items made.room.shares news).items ≡ news = with_items_is made.room.shares news (are.0 ∙ sym made.room.shares.ok.0) in

@@ -1,10 +1,11 @@
 -- What is so of a desk where its round begins.
-use Rattle.std.proofs.Common.{◌≡◌, ◌<◌, ◌≤◌, ◌+◌, ◌-◌, ◌^◌, ◌==◌, [], ◌∷◌, ℕ, ℤ, zero, suc, true, false, true≢false, List, map, length, get_or, nat_lt, Option, Some, None, inl, inr, refl, sym, ap, ◌∙◌, subst, arith, add-one}
-use Rattle.std.specs.Prelude.{All, IfSome, IsTrue, slice_get, is_some}
+use Rattle.std.proofs.Common.{◌≡◌, ◌<◌, ◌≤◌, ◌+◌, ◌-◌, ◌^◌, ◌==◌, ◌&&◌, not, Bool, [], ◌∷◌, ℕ, ℤ, zero, suc, true, false, true≢false, List, map, length, get_or, nat_lt, Option, Some, None, inl, inr, refl, sym, ap, ◌∙◌, subst, arith, add-one}
+use Rattle.std.specs.Prelude.{All, IfSome, IsTrue, slice_get, is_some, option_and_then}
 use Rattle.std.specs.List.{cons_option, list_all, zip}
 use Rattle.std.proofs.lemmas.Bool.{eq-eqb, eqb-true, ne_eqb, cases_lt, ltb-true}
 use Rattle.std.proofs.lemmas.List.{append-nil, length-map, get_or_default}
 use Rattle.std.proofs.lemmas.List.Elements.{All-nil, All-cons, All-head, All-tail}
+use Rattle.ssq_outside.specs.History.{History, files_now}
 use mathlib.Core.Option.{some, some-injective, some-ne-none}
 use lib.ListN.{get_elem?}
 use Rattle.ssq_shape.specs.declared.bound.Bound.{Bound}
@@ -12,8 +13,8 @@ use Rattle.ssq_shape.specs.declared.bound.Stream.{Stream}
 use Rattle.ssq_meaning.specs.Meaning.{Line}
 use Rattle.ssq_meaning.specs.Parts.{Part, parts_from, parts_of}
 use Rattle.ssq_meaning.specs.Cut.{Cuts as Offsets}
-use Rattle.ssq_meaning.specs.Times.{Delay, delay_of, delays_from, later}
-use Rattle.ssq_meaning.specs.Epochs.{seen}
+use Rattle.ssq_meaning.specs.Times.{Delay, delay_of, delays, delays_from, is_above, later, watermark_by}
+use Rattle.ssq_meaning.specs.Epochs.{seen, watermark_before}
 use Rattle.ssq_meaning.proofs.Causal.{says_same}
 use Rattle.ssq_water.specs.Water.{seen_at}
 use Rattle.ssq_plans.specs.declared.plan.Plan.{Plan}
@@ -21,7 +22,7 @@ use Rattle.ssq_plans.specs.declared.part.PartEnd.{PartEnd}
 use Rattle.ssq_plans.specs.declared.seen.SeenBy.{SeenBy}
 use Rattle.ssq_core.specs.Course.{Cuts, Ends, plan_of}
 use Rattle.ssq_core.proofs.Holding.{both_are}
-use Rattle.ssq_course.specs.Setting.{Setting, parts_in, end_at, first_ends, course_of, job_of, seen_at as lines_at, cuts_of as offsets, cut_of as cut_numbers}
+use Rattle.ssq_course.specs.Setting.{Setting, parts_in, end_at, first_ends, course_of, job_of, closes, watermark_at, seen_at as lines_at, cuts_of as offsets, cut_of as cut_numbers}
 use Rattle.ssq_open.specs.declared.streams.Watermarked.{Watermarked}
 use Rattle.ssq_open.specs.declared.wanted.Opened.{Opened}
 use Rattle.ssq_open.specs.Epochs.{cut_of, no_plan, follows, keeps_up}
@@ -29,14 +30,17 @@ use Rattle.ssq_open.specs.Watermarks.{watermarked, watermarked_from, watermarked
 use Rattle.ssq_task.specs.Committing.{told}
 use Rattle.ssq_task.proofs.Commits.{told_more, none_before, later_none, streams_of, places_of}
 use Rattle.ssq_terms.specs.Laws.{due_at, TasksHaveTerms}
+use Rattle.ssq_terms.specs.Opening.{DeskOpensAsFound}
 use Rattle.ssq_terms.proofs.Wanted.{parts_found}
 use Rattle.ssq_terms.proofs.Unmarked.{unmarked_none}
 use Rattle.ssq_board.specs.Core.{Scope}
 use Rattle.ssq_board.specs.Shown.{IsStart, first, planned_by}
 use Rattle.ssq_board.specs.Follows.{Terms}
-use Rattle.ssq_ledger.specs.Shown.{TellsPlans}
+use Rattle.ssq_board.specs.Laws.{IsOpenedAt}
+use Rattle.ssq_promise.specs.Run.{Begins}
+use Rattle.ssq_ledger.specs.Shown.{TellsPlans, first_state}
 use Rattle.ssq_desk.specs.declared.desk.Source.{Source}
-use Rattle.ssq_desk.specs.Round.{IsRound, IsOwned, start_at}
+use Rattle.ssq_desk.specs.Round.{IsRound, IsOwned, is_due, is_due_on, mark_of, opening_of, start_at}
 use Rattle.ssq_desk.specs.First.{sources_of}
 use Rattle.ssq_desk.specs.Contents.{AreSeen}
 use Rattle.ssq_desk.specs.Whole.{ArePlans}
@@ -246,7 +250,12 @@ module _ (s : Setting) (found : Opened) (r : Scope) (is : IsRound s found r) whe
       subst (λ (n : ℕ). (get_or found.plans e default).ends ≡ cut_of (first_ends s) found.plans n) (sym (add-one e))
       (ap (λ (p : Plan). p.ends) (get_or_default found.plans e default (no_plan (first_ends s)) less))
 
-module _ (owned : Type 0) (s : Setting) (found : Opened) (r : Scope) (is : IsRound s found r) (own : owned → IsOwned s found r) where
+slice_is : {A : Type 0} (l : List A) (i : ℕ) (default : A) → i < length l → slice_get l i ≡ Some (get_or l i default)
+slice_is [] i default less = absurd (omega (arith, less))
+slice_is (x ∷ l) zero default less = refl
+slice_is (x ∷ l) (suc i) default less = slice_is l i default (omega (arith, less))
+
+module _ (owned : Type 0) (s : Setting) (found : Opened) (r : Scope) (is : IsRound s found r) {start : History} (own : owned → IsOwned s found r start) where
   pub terms : TasksHaveTerms → owned → Terms (job_of s) r (due_at s)
   terms have t = (let o = own t in (have s s.job.bound o.asks o.lens r o.setting o.lines o.scope).0)
 
@@ -266,18 +275,56 @@ module _ (owned : Type 0) (s : Setting) (found : Opened) (r : Scope) (is : IsRou
         each = λ t e default less. (own t).jobs.plans e default (subst (λ (n : ℕ). e < n) count less) ∙ ap (λ (cuts : Cuts). plan_of (course_of s cuts) e) (same_cuts t);
       }
 
+  told_is : owned → (stream : ℕ) → told found.seen stream ≡ seen s.job.bound (parts_in s) (offsets (cut_of (first_ends s) found.plans)) stream found.committed
+  told_is t stream = elim (own t).jobs.seen [
+    | inl none ↦ ap (λ (lines : List SeenBy). told lines stream) none.1 ∙ nothing_seen s.job.bound (parts_in s) (offsets (cut_of (first_ends s) found.plans)) stream ∙ ap (seen s.job.bound (parts_in s) (offsets (cut_of (first_ends s) found.plans)) stream) (sym none.0)
+    | inr mine ↦ (
+        let of : ℕ → Option ℤ = λ stream. seen s.job.bound (parts_in s) (offsets (cut_of (first_ends s) found.plans)) stream found.committed in
+        ap (λ (lines : List SeenBy). told lines stream) (mine ∙ ap (λ (cuts : Cuts). lines_at s cuts found.committed) (same_cuts t))
+        ∙ told_from of 0 s.job.bound.streams stream (omega arith)
+        (λ j e unmarked. unmarked_none s.job.bound (parts_in s) (offsets (cut_of (first_ends s) found.plans)) stream found.committed is.runs.events
+        (subst (λ (n : ℕ). IfSome (slice_get s.job.bound.streams n) (λ s. s.delay ≡ None)) (let same : j ≡ stream = omega (arith, e) in same) unmarked))
+        )
+  ]
+
   pub times_are : (times : List (Option ℤ)) → length times ≡ length s.job.bound.streams → ((stream : ℕ) → seen_at times stream ≡ told found.seen stream)
       → AreSeen owned s (cut_of (first_ends s) found.plans) found.committed times
   times_are times count are = record { streams = count; are = λ t stream. are stream ∙ told_is t stream }
-    where
-      told_is : owned → (stream : ℕ) → told found.seen stream ≡ seen s.job.bound (parts_in s) (offsets (cut_of (first_ends s) found.plans)) stream found.committed
-      told_is t stream = elim (own t).jobs.seen [
-        | inl none ↦ ap (λ (lines : List SeenBy). told lines stream) none.1 ∙ nothing_seen s.job.bound (parts_in s) (offsets (cut_of (first_ends s) found.plans)) stream ∙ ap (seen s.job.bound (parts_in s) (offsets (cut_of (first_ends s) found.plans)) stream) (sym none.0)
-        | inr mine ↦ (
-            let of : ℕ → Option ℤ = λ stream. seen s.job.bound (parts_in s) (offsets (cut_of (first_ends s) found.plans)) stream found.committed in
-            ap (λ (lines : List SeenBy). told lines stream) (mine ∙ ap (λ (cuts : Cuts). lines_at s cuts found.committed) (same_cuts t))
-            ∙ told_from of 0 s.job.bound.streams stream (omega arith)
-            (λ j e unmarked. unmarked_none s.job.bound (parts_in s) (offsets (cut_of (first_ends s) found.plans)) stream found.committed is.runs.events
-            (subst (λ (n : ℕ). IfSome (slice_get s.job.bound.streams n) (λ s. s.delay ≡ None)) (let same : j ≡ stream = omega (arith, e) in same) unmarked))
-            )
-      ]
+
+  -- the watermark of the last of the first so many plans is that before the next epoch
+  mark_is : owned → (n : ℕ) → n ≤ length found.plans → mark_of found.plans n ≡ watermark_before s.job.bound (parts_in s) (offsets (cut_of (first_ends s) found.plans)) n
+  mark_is t zero le = refl
+  mark_is t (suc n) le =
+      let plan : Plan = plan_of (course_of s (cut_of (first_ends s) found.plans)) n in
+      ap (option_and_then (λ (plan : Plan). plan.watermark)) (slice_is found.plans n plan (omega (arith, le)))
+      ∙ ap (λ (plan : Plan). plan.watermark) ((own t).jobs.plans n plan (omega (arith, le)) ∙ ap (λ (cuts : Cuts). plan_of (course_of s cuts) n) (same_cuts t))
+
+  -- where no epoch is planned beyond the committed ones, what is due on what was opened is what is due by its cuts
+  found_due : (t : owned) → nat_lt found.committed (length found.plans) ≡ false → is_due_on s.job.bound found ≡ due_at s (own t).desk.desk.cuts found.committed
+  found_due t none =
+      let cuts : Cuts = cut_of (first_ends s) found.plans in
+      let now : watermark_by (delays s.job.bound) (told found.seen) ≡ watermark_at s cuts found.committed = (λ i. watermark_by (delays s.job.bound) (λ stream. told_is t stream i)) in
+      let last = mark_is t found.committed is.numbers.before in
+      ap (λ (b : Bool). not b && is_due s.job.bound (told found.seen) (mark_of found.plans found.committed)) none
+      ∙ (λ i. closes s.job.bound && is_above (now i) (last i))
+      ∙ ap (λ (c : Cuts). due_at s c found.committed) (sym (same_cuts t))
+
+  -- a desk of the machine opens on the disk where the round begins
+  pub begins_on : (have : TasksHaveTerms) → DeskOpensAsFound → (t : owned) → (terms : Terms (job_of s) r (due_at s)) × Begins (job_of s) r (due_at s) terms (start_at (first_ends s) s.job.bound found) (first_state (opening_of s found) r start)
+  begins_on have opens t =
+      let o = own t in
+      let both = have s s.job.bound o.asks o.lens r o.setting o.lines o.scope in
+      let so = (parts_found s s.job.bound o.asks o.lens o.setting).1 in (
+        both.0,
+        record {
+          files = files_now start;
+          settled = o.settled;
+          desk = o.desk.desk;
+          is = o.desk.is;
+          at = subst (λ (ends : Ends). IsOpenedAt (job_of s) r (due_at s) both.0 (start_at ends s.job.bound found) o.desk.desk) (sym so)
+              (opens s s.job.bound o.asks o.lens r (files_now start) found (is_due_on s.job.bound found) o.setting o.lines o.scope both.0 both.1 o.desk (found_due t));
+          core = refl;
+          cuts = sym (same_cuts t);
+          shelf = record { names = o.names; news = refl; claimed = refl; tidy = refl };
+        },
+      )

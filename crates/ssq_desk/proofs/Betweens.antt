@@ -81,19 +81,19 @@ first_ends_are s found r before near =
 closed_is : (c : Core) → is_open c ≡ false → c.front.committed ≤ c.front.planned → c.front.committed ≡ c.front.planned
 closed_is c closed before = let over = ltb-false c.front.committed c.front.planned closed in omega (arith, over, before)
 
-module _ {D L S F : Type 0} (stores logs : Type 0) (lines : L → List Line) (available : L → ℕ) (answers : L → List ℕ) (faults : L → ℕ) (history : D → History) (written : S → List ℕ) (sealed : F → List ℕ) (shown : Shown D (Round L)) (load : Load L S F)
-    (whole : IsWhole stores logs lines available answers faults written sealed shown load) (legal : IsLegal (Owns stores logs lines shown) history (opening_in lines) shown) (order : IsInOrder shown.scope shown.core) where
+module _ {D L S F : Type 0} (stores logs : Type 0) (history : D → History) (lines : L → List Line) (available : L → ℕ) (answers : L → List ℕ) (faults : L → ℕ) (written : S → List ℕ) (sealed : F → List ℕ) (shown : Shown D (Round L)) (load : Load L S F)
+    (whole : IsWhole stores logs history lines available answers faults written sealed shown load) (legal : IsLegal (Owns stores logs history lines shown) history (opening_in lines) shown) (order : IsInOrder shown.scope shown.core) where
   -- the lines of the planned epochs end where the cuts say
   pub ends_are : AreEnds (cuts_of (opening_in lines) shown) shown.core
   ends_are =
-      run_ends (Owns stores logs lines shown) (opening_in lines shown.opening).job shown.scope (opening_in lines shown.opening).due shown.history (first_state (opening_in lines shown.opening) shown.scope (history shown.opened))
+      run_ends (Owns stores logs history lines shown) (opening_in lines shown.opening).job shown.scope (opening_in lines shown.opening).due shown.history (first_state (opening_in lines shown.opening) shown.scope (history shown.opened))
       (state legal.0 shown.core (shelf_of (opening_in lines) shown) (cuts_of (opening_in lines) shown)) legal.2
       (first_ends_are (setting_of lines shown.opening) shown.opening.opened shown.scope whole.round.numbers.before whole.round.numbers.near)
 
   -- and of no part more is planned than was found
   pub ends_within : AreWithin shown.scope.available shown.core.ends
   ends_within =
-      run_within (Owns stores logs lines shown) (opening_in lines shown.opening).job shown.scope (opening_in lines shown.opening).due shown.history (first_state (opening_in lines shown.opening) shown.scope (history shown.opened))
+      run_within (Owns stores logs history lines shown) (opening_in lines shown.opening).job shown.scope (opening_in lines shown.opening).due shown.history (first_state (opening_in lines shown.opening) shown.scope (history shown.opened))
       (state legal.0 shown.core (shelf_of (opening_in lines) shown) (cuts_of (opening_in lines) shown)) legal.2 whole.round.long
 
   pub each_end : length shown.core.ends ≡ length (parts_in (setting_of lines shown.opening))
@@ -112,10 +112,10 @@ module _ {D L S F : Type 0} (stores logs : Type 0) (lines : L → List Line) (av
       }
 
 -- the watermark by the greatest times of a desk that runs, between epochs
-pub marked : {D L S F : Type 0} (stores logs : Type 0) (lines : L → List Line) (available : L → ℕ) (answers : L → List ℕ) (faults : L → ℕ) (written : S → List ℕ) (sealed : F → List ℕ) (shown : Shown D (Round L)) (load now : Load L S F)
-    → IsWhole stores logs lines available answers faults written sealed shown load → shown.core.front.stop ≡ None → shown.core.front.committed ≡ shown.core.front.planned → now.view ≡ load.view → now.seen ≡ load.seen
-    → Owns stores logs lines shown → watermark_by (delays now.view.bound.now) (seen_at now.seen) ≡ watermark_at (setting_of lines shown.opening) (cuts_of (opening_in lines) shown) shown.core.front.planned
-marked stores logs lines available answers faults written sealed shown load now whole running closed view times t =
+pub marked : {D L S F : Type 0} (stores logs : Type 0) (history : D → History) (lines : L → List Line) (available : L → ℕ) (answers : L → List ℕ) (faults : L → ℕ) (written : S → List ℕ) (sealed : F → List ℕ) (shown : Shown D (Round L)) (load now : Load L S F)
+    → IsWhole stores logs history lines available answers faults written sealed shown load → shown.core.front.stop ≡ None → shown.core.front.committed ≡ shown.core.front.planned → now.view ≡ load.view → now.seen ≡ load.seen
+    → Owns stores logs history lines shown → watermark_by (delays now.view.bound.now) (seen_at now.seen) ≡ watermark_at (setting_of lines shown.opening) (cuts_of (opening_in lines) shown) shown.core.front.planned
+marked stores logs history lines available answers faults written sealed shown load now whole running closed view times t =
     let s : Setting = setting_of lines shown.opening in
     let cuts : Cuts = cuts_of (opening_in lines) shown in
     let are = (whole.holds.seen_so_far running).are t in

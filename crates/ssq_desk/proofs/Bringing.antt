@@ -92,10 +92,10 @@ module _ {L S F : Type 0} (reads owned : Type 0) (lines : L → List Line) (avai
 abbrev pub with_share : {L S F : Type 0} → Load L S F → Vec (Share S) → Vec (Option Held) → Load L S F
 with_share load shares held = record { view = load.view; plans = load.plans; sources = load.sources; shares = shares; held = held; out = load.out; seen = load.seen; pending = load.pending; told = load.told; kept = load.kept }
 
-module _ {D L S F : Type 0} (stores logs : Type 0) (lines : L → List Line) (available : L → ℕ) (answers : L → List ℕ) (faults : L → ℕ) (history : D → History) (tells : Type 0) (written : S → List ℕ) (sealed : F → List ℕ) (counts : S → ℕ) (shown : Shown D (Round L)) (load : Load L S F)
-    (whole : IsWhole stores logs lines available answers faults written sealed shown load) (legal : IsLegal (Owns stores logs lines shown) history (opening_in lines) shown) (order : IsInOrder shown.scope shown.core) (opened : is_open shown.core ≡ true) where
+module _ {D L S F : Type 0} (stores logs : Type 0) (history : D → History) (lines : L → List Line) (available : L → ℕ) (answers : L → List ℕ) (faults : L → ℕ) (tells : Type 0) (written : S → List ℕ) (sealed : F → List ℕ) (counts : S → ℕ) (shown : Shown D (Round L)) (load : Load L S F)
+    (whole : IsWhole stores logs history lines available answers faults written sealed shown load) (legal : IsLegal (Owns stores logs history lines shown) history (opening_in lines) shown) (order : IsInOrder shown.scope shown.core) (opened : is_open shown.core ≡ true) where
   abbrev owned : Type 0
-  owned = Owns stores logs lines shown
+  owned = Owns stores logs history lines shown
 
   abbrev s : Setting
   s = setting_of lines shown.opening
@@ -142,7 +142,7 @@ module _ {D L S F : Type 0} (stores logs : Type 0) (lines : L → List Line) (av
 
     -- what is held then
     holds_back : (c.front.stop ≡ None → IsShare owned written s cuts e p (place.Back f) x) → (c.front.stop ≡ None → p < length load.held.items → IsHeldAt owned s cuts (is_open c) e p (place.Back f) own)
-        → HoldsIn stores logs lines available answers faults written sealed shown cuts (with_reduce c stop p (place.Back f)) load.sources.items shares (set load.held.items p own) load.out load.seen load.pending
+        → HoldsIn stores logs history lines available answers faults written sealed shown cuts (with_reduce c stop p (place.Back f)) load.sources.items shares (set load.held.items p own) load.out load.seen load.pending
     holds_back share held =
         holds_reduced (stores × logs) owned lines available (LogWent logs lines available answers faults) shown.opening.logs.items written sealed s cuts shown.scope.available c stop f p x own load.sources.items load.shares.items load.held.items load.out load.seen load.pending
         (runs_by c.front.stop (due c (reduce_id e p) f)) whole.holds away (λ run _. share run) held (λ _. key) causes
@@ -157,11 +157,11 @@ module _ {D L S F : Type 0} (stores logs : Type 0) (lines : L → List Line) (av
         by_stop c.front.stop (due_stop places) cause.LogFault stopped whole.faulty
         (λ run is. absurd (causes cause.LogFault (none_due c.reduces p f cause.LogFault refl (order.sound.calm run kind.Reduce) is)))
 
-  module _ (laws : PartitionsAreBrought tells written sealed counts) (leasts : KeysAreLeast) (task : ReduceTask S F) (held : Option Held) (o : Outcome S F) (of : IsReduceOf stores logs lines written shown task) (is : IsReduced tells written sealed counts task (reduced_by task held o)) where
+  module _ (laws : PartitionsAreBrought tells written sealed counts) (leasts : KeysAreLeast) (task : ReduceTask S F) (held : Option Held) (o : Outcome S F) (of : IsReduceOf stores logs history lines written shown task) (is : IsReduced tells written sealed counts task (reduced_by task held o)) where
     brings : owned → BringsPartition tells written sealed s cuts e task (reduced_by task held o)
     brings t =
         let own = t.1.1 in
-        laws s s.job.bound own.asks own.lens cuts e task (reduced_by task held o) own.setting own.lines (cover stores logs lines available answers faults written sealed shown load whole history legal order opened own) (partition_task owned written s cuts e task of t) is
+        laws s s.job.bound own.asks own.lens cuts e task (reduced_by task held o) own.setting own.lines (cover stores logs history lines available answers faults written sealed shown load whole legal order opened own) (partition_task owned written s cuts e task of t) is
 
     own_all : owned → own_of s cuts e task.partition o
     own_all t = own_brought tells written sealed s cuts e task.partition task.state held o (brings t).brought (brings t).failed
@@ -201,7 +201,7 @@ module _ {D L S F : Type 0} (stores logs : Type 0) (lines : L → List Line) (av
       key : IsKeyOf owned s cuts e task.partition (place.Back f) x.key
       key = own_key owned s cuts e task.partition o f x.key fault own_all key_is
 
-      holds : HoldsIn stores logs lines available answers faults written sealed shown cuts (with_reduce c (or_stop c.front.stop (due c (reduce_id e task.partition) f)) task.partition (place.Back f)) load.sources.items (set load.shares.items task.partition x)
+      holds : HoldsIn stores logs history lines available answers faults written sealed shown cuts (with_reduce c (or_stop c.front.stop (due c (reduce_id e task.partition) f)) task.partition (place.Back f)) load.sources.items (set load.shares.items task.partition x)
           (set load.held.items task.partition held) load.out load.seen load.pending
       holds =
           holds_back leasts task.partition f x held away causes key
@@ -211,15 +211,15 @@ module _ {D L S F : Type 0} (stores logs : Type 0) (lines : L → List Line) (av
 
       -- it is reported
       pub reported : (disk : D) (epoch : ℕ) (shares : Vec (Share S)) (helds : Vec (Option Held)) → shares.items ≡ set load.shares.items task.partition x → helds.items ≡ set load.held.items task.partition held
-          → IsWhole stores logs lines available answers faults written sealed (did shown disk (entry.Report (reduce_id epoch task.partition) f ∷ [])) (with_share load shares helds)
+          → IsWhole stores logs history lines available answers faults written sealed (did shown disk (entry.Report (reduce_id epoch task.partition) f ∷ [])) (with_share load shares helds)
       reported disk epoch shares helds shares_are helds_are =
-          moved_whole stores logs lines available answers faults written sealed shown load whole disk (entry.Report (reduce_id epoch task.partition) f) (with_share load shares helds) (λ cuts c. refl) refl refl refl refl whole.told whole.told_room
+          moved_whole stores logs history lines available answers faults written sealed shown load whole disk (entry.Report (reduce_id epoch task.partition) f) (with_share load shares helds) (λ cuts c. refl) refl refl refl refl whole.told whole.told_room
           (no_log leasts task.partition f x held away causes key)
-          (subst (λ (l : List (Option Held)). HoldsIn stores logs lines available answers faults written sealed shown cuts (after shown.scope c (entry.Report (reduce_id epoch task.partition) f)) load.sources.items shares.items l load.out load.seen load.pending) (sym helds_are)
-          (subst (λ (l : List (Share S)). HoldsIn stores logs lines available answers faults written sealed shown cuts (after shown.scope c (entry.Report (reduce_id epoch task.partition) f)) load.sources.items l (set load.held.items task.partition held) load.out load.seen load.pending) (sym shares_are) holds))
+          (subst (λ (l : List (Option Held)). HoldsIn stores logs history lines available answers faults written sealed shown cuts (after shown.scope c (entry.Report (reduce_id epoch task.partition) f)) load.sources.items shares.items l load.out load.seen load.pending) (sym helds_are)
+          (subst (λ (l : List (Share S)). HoldsIn stores logs history lines available answers faults written sealed shown cuts (after shown.scope c (entry.Report (reduce_id epoch task.partition) f)) load.sources.items l (set load.held.items task.partition held) load.out load.seen load.pending) (sym shares_are) holds))
 
   -- a reduce task is back with its rows
-  module _ (laws : PartitionsAreBrought tells written sealed counts) (leasts : KeysAreLeast) (task : ReduceTask S F) (held : Option Held) (brought : ReducedRows F) (of : IsReduceOf stores logs lines written shown task) (is : IsReduced tells written sealed counts task (reduced_by task held (Ok brought))) where
+  module _ (laws : PartitionsAreBrought tells written sealed counts) (leasts : KeysAreLeast) (task : ReduceTask S F) (held : Option Held) (brought : ReducedRows F) (of : IsReduceOf stores logs history lines written shown task) (is : IsReduced tells written sealed counts task (reduced_by task held (Ok brought))) where
     -- it brings a delta exactly where its partition keeps state
     seals_is : nat_lt task.partition (keeping_in s) ≡ is_some brought.delta
     seals_is = given_keeps owned written s cuts e task.partition task.state of.state ∙ sym is.brought.delta
@@ -238,23 +238,23 @@ module _ {D L S F : Type 0} (stores logs : Type 0) (lines : L → List Line) (av
     module _ (x : Share S) (away : get_elem? c.reduces task.partition ≡ some place.Away) (key_is : x.key ≡ None) (rows_are : x.rows ≡ brought.rows) (disk : D) (epoch : ℕ) (shares : Vec (Share S)) (helds : Vec (Option Held))
         (shares_are : shares.items ≡ set load.shares.items task.partition x) (helds_are : helds.items ≡ set load.held.items task.partition held) where
       -- its delta is published
-      pub versioned : IsWhole stores logs lines available answers faults written sealed (did shown disk (entry.Version (reduce_id epoch task.partition) ∷ [])) (with_share load shares helds)
+      pub versioned : IsWhole stores logs history lines available answers faults written sealed (did shown disk (entry.Version (reduce_id epoch task.partition) ∷ [])) (with_share load shares helds)
       versioned =
-          moved_whole stores logs lines available answers faults written sealed shown load whole disk (entry.Version (reduce_id epoch task.partition)) (with_share load shares helds) (λ cuts c. refl) refl refl refl refl whole.told whole.told_room
+          moved_whole stores logs history lines available answers faults written sealed shown load whole disk (entry.Version (reduce_id epoch task.partition)) (with_share load shares helds) (λ cuts c. refl) refl refl refl refl whole.told whole.told_room
           (no_log leasts task.partition None x held away (causes laws leasts task held (Ok brought) of is None x away refl key_is rows_are) (key laws leasts task held (Ok brought) of is None x away refl key_is rows_are))
-          (subst (λ (l : List (Option Held)). HoldsIn stores logs lines available answers faults written sealed shown cuts (after shown.scope c (entry.Version (reduce_id epoch task.partition))) load.sources.items shares.items l load.out load.seen load.pending) (sym helds_are)
-          (subst (λ (l : List (Share S)). HoldsIn stores logs lines available answers faults written sealed shown cuts (after shown.scope c (entry.Version (reduce_id epoch task.partition))) load.sources.items l (set load.held.items task.partition held) load.out load.seen load.pending) (sym shares_are)
+          (subst (λ (l : List (Option Held)). HoldsIn stores logs history lines available answers faults written sealed shown cuts (after shown.scope c (entry.Version (reduce_id epoch task.partition))) load.sources.items shares.items l load.out load.seen load.pending) (sym helds_are)
+          (subst (λ (l : List (Share S)). HoldsIn stores logs history lines available answers faults written sealed shown cuts (after shown.scope c (entry.Version (reduce_id epoch task.partition))) load.sources.items l (set load.held.items task.partition held) load.out load.seen load.pending) (sym shares_are)
           (resettled (stores × logs) owned lines available (LogWent logs lines available answers faults) shown.opening.logs.items written sealed s cuts shown.scope.available
           (with_reduce c (or_stop c.front.stop (due c (reduce_id e task.partition) None)) task.partition (place.Back None)) (is_stopped c.front.stop && c.front.settled) load.sources.items (set load.shares.items task.partition x) (set load.held.items task.partition held) load.out load.seen load.pending
           (holds laws leasts task held (Ok brought) of is None x away refl key_is rows_are))))
 
       -- that failed
-      pub missed : IsWhole stores logs lines available answers faults written sealed (did shown disk (entry.Missed (reduce_id epoch task.partition) ∷ [])) (with_share load shares helds)
+      pub missed : IsWhole stores logs history lines available answers faults written sealed (did shown disk (entry.Missed (reduce_id epoch task.partition) ∷ [])) (with_share load shares helds)
       missed =
-          moved_whole stores logs lines available answers faults written sealed shown load whole disk (entry.Missed (reduce_id epoch task.partition)) (with_share load shares helds) (λ cuts c. refl) refl refl refl refl whole.told whole.told_room
+          moved_whole stores logs history lines available answers faults written sealed shown load whole disk (entry.Missed (reduce_id epoch task.partition)) (with_share load shares helds) (λ cuts c. refl) refl refl refl refl whole.told whole.told_room
           (λ stopped. absurd (subst IsReducedCause (same_cause cause.DiskFault cause.LogFault stopped) tt))
-          (subst (λ (l : List (Option Held)). HoldsIn stores logs lines available answers faults written sealed shown cuts (after shown.scope c (entry.Missed (reduce_id epoch task.partition))) load.sources.items shares.items l load.out load.seen load.pending) (sym helds_are)
-          (subst (λ (l : List (Share S)). HoldsIn stores logs lines available answers faults written sealed shown cuts (after shown.scope c (entry.Missed (reduce_id epoch task.partition))) load.sources.items l (set load.held.items task.partition held) load.out load.seen load.pending) (sym shares_are)
+          (subst (λ (l : List (Option Held)). HoldsIn stores logs history lines available answers faults written sealed shown cuts (after shown.scope c (entry.Missed (reduce_id epoch task.partition))) load.sources.items shares.items l load.out load.seen load.pending) (sym helds_are)
+          (subst (λ (l : List (Share S)). HoldsIn stores logs history lines available answers faults written sealed shown cuts (after shown.scope c (entry.Missed (reduce_id epoch task.partition))) load.sources.items l (set load.held.items task.partition held) load.out load.seen load.pending) (sym shares_are)
           (holds_reduced (stores × logs) owned lines available (LogWent logs lines available answers faults) shown.opening.logs.items written sealed s cuts shown.scope.available c (Some cause.DiskFault) (Some cause.DiskFault) task.partition x held load.sources.items load.shares.items load.held.items load.out load.seen load.pending
           (λ none. absurd (true≢false (ap is_some none))) whole.holds away
           (λ run _. back_share owned written s cuts e task.partition failed (Some cause.DiskFault) x tt tt refl tt)
@@ -277,7 +277,7 @@ module _ {D L S F : Type 0} (stores logs : Type 0) (lines : L → List Line) (av
       (old.0, old.1, whole.holds.keys opened p place.Away old.0 away old.1)
 
   -- the same, by the number under which a task comes back
-  module _ (laws : PartitionsAreBrought tells written sealed counts) (leasts : KeysAreLeast) (task : ReduceTask S F) (held : Option Held) (p : ℕ) (same : task.partition ≡ p) (of : IsReduceOf stores logs lines written shown task) where
+  module _ (laws : PartitionsAreBrought tells written sealed counts) (leasts : KeysAreLeast) (task : ReduceTask S F) (held : Option Held) (p : ℕ) (same : task.partition ≡ p) (of : IsReduceOf stores logs history lines written shown task) where
     module _ (o : Outcome S F) (is : IsReduced tells written sealed counts task (reduced_by task held o)) where
       pub right_at : FaultsAreOfTasks → (epoch : ℕ) → epoch ≡ e → owned → IsTrue (opening_in lines) shown (reduce_id epoch p) (fault_of cause_of_failed o)
       right_at faulty epoch now t =
@@ -292,10 +292,10 @@ module _ {D L S F : Type 0} (stores logs : Type 0) (lines : L → List Line) (av
 
       pub reported_at : (f : Option Cause) (x : Share S) (disk : D) (epoch : ℕ) (shares : Vec (Share S)) (helds : Vec (Option Held)) → get_elem? c.reduces p ≡ some place.Away → f ≡ fault_of cause_of_failed o → x.key ≡ key_of_outcome o
           → IfOk o (λ own. x.rows ≡ own.rows) → shares.items ≡ set load.shares.items p x → helds.items ≡ set load.held.items p held
-          → IsWhole stores logs lines available answers faults written sealed (did shown disk (entry.Report (reduce_id epoch p) f ∷ [])) (with_share load shares helds)
+          → IsWhole stores logs history lines available answers faults written sealed (did shown disk (entry.Report (reduce_id epoch p) f ∷ [])) (with_share load shares helds)
       reported_at f x disk epoch shares helds away fault key_is rows_are shares_are helds_are =
           subst (λ (q : ℕ). get_elem? c.reduces q ≡ some place.Away → shares.items ≡ set load.shares.items q x → helds.items ≡ set load.held.items q held
-          → IsWhole stores logs lines available answers faults written sealed (did shown disk (entry.Report (reduce_id epoch q) f ∷ [])) (with_share load shares helds)) same
+          → IsWhole stores logs history lines available answers faults written sealed (did shown disk (entry.Report (reduce_id epoch q) f ∷ [])) (with_share load shares helds)) same
           (λ away shares_are helds_are. reported laws leasts task held o of is f x away fault key_is rows_are disk epoch shares helds shares_are helds_are) away shares_are helds_are
 
     module _ (brought : ReducedRows F) (is : IsReduced tells written sealed counts task (reduced_by task held (Ok brought))) where
@@ -311,14 +311,14 @@ module _ {D L S F : Type 0} (stores logs : Type 0) (lines : L → List Line) (av
 
       pub versioned_at : (x : Share S) (now : Shown D (Round L)) (epoch : ℕ) (shares : Vec (Share S)) (helds : Vec (Option Held)) (result : Result (Unit {0}) Cause) (risen : Type 0) → get_elem? c.reduces p ≡ some place.Away → x.key ≡ None → x.rows ≡ brought.rows
           → shares.items ≡ set load.shares.items p x → helds.items ≡ set load.held.items p held → IsVersioned shown now (reduce_id epoch p) result risen
-          → IsWhole stores logs lines available answers faults written sealed now (with_share load shares helds)
+          → IsWhole stores logs history lines available answers faults written sealed now (with_share load shares helds)
       versioned_at x now epoch shares helds result risen away key_is rows_are shares_are helds_are did_is =
           subst (λ (q : ℕ). get_elem? c.reduces q ≡ some place.Away → shares.items ≡ set load.shares.items q x → helds.items ≡ set load.held.items q held → IsVersioned shown now (reduce_id epoch q) result risen
-          → IsWhole stores logs lines available answers faults written sealed now (with_share load shares helds)) same
+          → IsWhole stores logs history lines available answers faults written sealed now (with_share load shares helds)) same
           (λ away shares_are helds_are did_is. elim did_is [
-            | inl d ↦ subst (λ (x : Shown D (Round L)). IsWhole stores logs lines available answers faults written sealed x (with_share load shares helds)) (sym d.0)
+            | inl d ↦ subst (λ (x : Shown D (Round L)). IsWhole stores logs history lines available answers faults written sealed x (with_share load shares helds)) (sym d.0)
                 (versioned laws leasts task held brought of is x away key_is rows_are now.disk epoch shares helds shares_are helds_are)
-            | inr d ↦ subst (λ (x : Shown D (Round L)). IsWhole stores logs lines available answers faults written sealed x (with_share load shares helds)) (sym d.1)
+            | inr d ↦ subst (λ (x : Shown D (Round L)). IsWhole stores logs history lines available answers faults written sealed x (with_share load shares helds)) (sym d.1)
                 (missed laws leasts task held brought of is x away key_is rows_are now.disk epoch shares helds shares_are helds_are)
           ]) away shares_are helds_are did_is
 
@@ -391,10 +391,6 @@ aside_risen faults reduce.DiskFault (Some state) None aside is = absurd aside
 aside_risen faults reduce.DiskFault (Some state) (Some stage) aside is = rises_some (faults state.stage) (faults stage) aside
 
 -- a task that is with a worker, once a file was taken away
-pub still_task : {D L S F : Type 0} (stores logs : Type 0) (lines : L → List Line) (written : S → List ℕ) (shown : Shown D (Round L)) (disk : D) (task : ReduceTask S F) → IsReduceOf stores logs lines written shown task → IsReduceOf stores logs lines written (did shown disk []) task
-still_task stores logs lines written shown disk task of =
-    subst (λ (h : List Entry). IsReduceTask (Owns stores logs lines shown) written (setting_of lines shown.opening) (cuts_after (opening_in lines shown.opening) shown.scope h) shown.core.front.committed task) (sym (append-nil shown.history)) of
-
--- a ledger that did nothing
-pub did_nothing : {D O : Type 0} (s : Shown D O) → s ≡ did s s.disk []
-did_nothing s = (let none = sym (append-nil s.history) in λ i. record { opening = s.opening; opened = s.opened; scope = s.scope; disk = s.disk; core = s.core; history = none i })
+pub still_task : {D L S F : Type 0} (stores logs : Type 0) (history : D → History) (lines : L → List Line) (written : S → List ℕ) (shown : Shown D (Round L)) (disk : D) (task : ReduceTask S F) → IsReduceOf stores logs history lines written shown task → IsReduceOf stores logs history lines written (did shown disk []) task
+still_task stores logs history lines written shown disk task of =
+    subst (λ (h : List Entry). IsReduceTask (Owns stores logs history lines shown) written (setting_of lines shown.opening) (cuts_after (opening_in lines shown.opening) shown.scope h) shown.core.front.committed task) (sym (append-nil shown.history)) of

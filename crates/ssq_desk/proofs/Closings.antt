@@ -67,8 +67,8 @@ use Rattle.ssq_desk.proofs.Planned.{at_get, fine_not_gone}
 use Rattle.ssq_desk.proofs.Ends.{AreWithin, planned_first}
 use Rattle.ssq_desk.proofs.Telling.{between_most, sum_most, told_less}
 
-module _ {D L S F : Type 0} (stores logs : Type 0) (lines : L → List Line) (available : L → ℕ) (answers : L → List ℕ) (faults : L → ℕ) (history : D → History) (written : S → List ℕ) (sealed : F → List ℕ) (shown : Shown D (Round L)) (load : Load L S F)
-    (whole : IsWhole stores logs lines available answers faults written sealed shown load) (legal : IsLegal (Owns stores logs lines shown) history (opening_in lines) shown) (order : IsInOrder shown.scope shown.core)
+module _ {D L S F : Type 0} (stores logs : Type 0) (history : D → History) (lines : L → List Line) (available : L → ℕ) (answers : L → List ℕ) (faults : L → ℕ) (written : S → List ℕ) (sealed : F → List ℕ) (shown : Shown D (Round L)) (load : Load L S F)
+    (whole : IsWhole stores logs history lines available answers faults written sealed shown load) (legal : IsLegal (Owns stores logs history lines shown) history (opening_in lines) shown) (order : IsInOrder shown.scope shown.core)
     (next : ready_of shown.scope shown.core ≡ ready.Commit) where
   -- the sources begin where the epochs before end
   froms_are : map (λ (x : Source L). x.from) load.sources.items ≡ cut_of (cuts_of (opening_in lines) shown shown.core.front.committed)
@@ -93,7 +93,7 @@ module _ {D L S F : Type 0} (stores logs : Type 0) (lines : L → List Line) (av
       let may = commit_may shown.scope shown.core false next in
       let near = order.sound.near in
       let less = open_less shown.core may.2 in
-      ap cut_of (sym (ap (cuts_of (opening_in lines) shown) (let one : shown.core.front.committed + 1 ≡ shown.core.front.planned = omega (arith, near, less) in one) ∙ ends_are stores logs lines available answers faults history written sealed shown load whole legal order))
+      ap cut_of (sym (ap (cuts_of (opening_in lines) shown) (let one : shown.core.front.committed + 1 ≡ shown.core.front.planned = omega (arith, near, less) in one) ∙ ends_are stores logs history lines available answers faults written sealed shown load whole legal order))
 
   -- an epoch's plan is there
   pub plan_below : shown.core.front.committed < length load.plans.items
@@ -104,14 +104,14 @@ module _ {D L S F : Type 0} (stores logs : Type 0) (lines : L → List Line) (av
   few_lines =
       let count = length-map shown.core.ends (λ (e : PartEnd). e.end) ∙ order.sound.ends in
       let between = between_most (map (λ (x : Source L). x.from) load.sources.items) (map (λ (e : PartEnd). e.end) shown.core.ends) in
-      let most = sum_most (map (λ (e : PartEnd). e.end) shown.core.ends) shown.scope.available count (ends_within stores logs lines available answers faults history written sealed shown load whole legal order) in
+      let most = sum_most (map (λ (e : PartEnd). e.end) shown.core.ends) shown.scope.available count (ends_within stores logs history lines available answers faults written sealed shown load whole legal order) in
       let few = whole.round.few_lines in omega (arith, between, most, few)
 
   -- what is told of it
   pub told_right : (told : Told) → told.epoch ≡ shown.core.front.committed → told.lines ≡ lines_between (map (λ (x : Source L). x.from) load.sources.items) (map (λ (e : PartEnd). e.end) shown.core.ends)
       → ((d : Plan) → told.watermark ≡ (get_or load.plans.items shown.core.front.committed d).watermark)
-      → (Owns stores logs lines shown → told.rows ≡ length (out (setting_of lines shown.opening).job.bound (parts_in (setting_of lines shown.opening)) (offsets (cuts_of (opening_in lines) shown)) shown.core.front.committed))
-      → IsToldOf (Owns stores logs lines shown) (setting_of lines shown.opening) (cuts_of (opening_in lines) shown) shown.core.front.committed told
+      → (Owns stores logs history lines shown → told.rows ≡ length (out (setting_of lines shown.opening).job.bound (parts_in (setting_of lines shown.opening)) (offsets (cuts_of (opening_in lines) shown)) shown.core.front.committed))
+      → IsToldOf (Owns stores logs history lines shown) (setting_of lines shown.opening) (cuts_of (opening_in lines) shown) shown.core.front.committed told
   told_right told epoch between mark rows =
       let none : Plan = record { epoch = 0; watermark = None; ends = [] } in
       let less : shown.core.front.committed < shown.core.front.planned = open_less shown.core (commit_may shown.scope shown.core false next).2 in record {
@@ -211,8 +211,8 @@ first_ahead r s few = record { low = omega arith; before = by s.is_planned; few 
     by true = omega arith
     by false = omega arith
 
-module _ {D L S F : Type 0} (stores logs : Type 0) (lines : L → List Line) (available : L → ℕ) (answers : L → List ℕ) (faults : L → ℕ) (history : D → History) (written : S → List ℕ) (sealed : F → List ℕ) (shown : Shown D (Round L)) (load : Load L S F)
-    (whole : IsWhole stores logs lines available answers faults written sealed shown load) (legal : IsLegal (Owns stores logs lines shown) history (opening_in lines) shown) (order : IsInOrder shown.scope shown.core) where
+module _ {D L S F : Type 0} (stores logs : Type 0) (history : D → History) (lines : L → List Line) (available : L → ℕ) (answers : L → List ℕ) (faults : L → ℕ) (written : S → List ℕ) (sealed : F → List ℕ) (shown : Shown D (Round L)) (load : Load L S F)
+    (whole : IsWhole stores logs history lines available answers faults written sealed shown load) (legal : IsLegal (Owns stores logs history lines shown) history (opening_in lines) shown) (order : IsInOrder shown.scope shown.core) where
   abbrev s : Setting
   s = setting_of lines shown.opening
 
@@ -220,7 +220,7 @@ module _ {D L S F : Type 0} (stores logs : Type 0) (lines : L → List Line) (av
   cuts = cuts_of (opening_in lines) shown
 
   abbrev owned : Type 0
-  owned = Owns stores logs lines shown
+  owned = Owns stores logs history lines shown
 
   ahead : IsAhead shown.opening.opened.committed shown.core
   ahead =
@@ -343,8 +343,8 @@ module _ {D L S F : Type 0} (stores logs : Type 0) (lines : L → List Line) (av
           seen = inr (ap (has_lines (watermarked s.job.bound.streams)) seen_is ∙ lines_of_each (seen_at load.seen) s.job.bound.streams);
           years = years;
         };
-        within = subst (λ (ends : Ends). AreWithin shown.scope.available ends) (sym (cut_is (length next.plans) (omega (arith, count)) ∙ ap cuts count ∙ ends_are stores logs lines available answers faults history written sealed shown load whole legal order))
-            (ends_within stores logs lines available answers faults history written sealed shown load whole legal order);
+        within = subst (λ (ends : Ends). AreWithin shown.scope.available ends) (sym (cut_is (length next.plans) (omega (arith, count)) ∙ ap cuts count ∙ ends_are stores logs history lines available answers faults written sealed shown load whole legal order))
+            (ends_within stores logs history lines available answers faults written sealed shown load whole legal order);
         plans_are = λ t e default less. ap (λ l. get_or l e default) plans ∙ whole.plans.each t e default (omega (arith, less, count));
         seen_is = λ t. seen_is ∙ (let are = seen.are t in λ i. map (λ (d : Delay). (let line : SeenBy = record { stream = d.0; time = are d.0 i } in line)) (delays s.job.bound))
             ∙ ap (λ (n : ℕ). (course_of s cuts).seen n) (sym committed);

@@ -50,9 +50,9 @@ each_end cuts n most first follow zero le = first
 each_end cuts n most first follow (suc k) le =
     subst (λ (m : ℕ). length (cuts m) ≡ n) (add-one k) (sym (follow_parts (cuts k) (cuts (k + 1)) (follow k (omega (arith, le)))).0 ∙ each_end cuts n most first follow k (omega (arith, le)))
 
-module _ {D L S F : Type 0} (stores logs : Type 0) (lines : L → List Line) (available : L → ℕ) (answers : L → List ℕ) (faults : L → ℕ) (written : S → List ℕ) (sealed : F → List ℕ) (shown : Shown D (Round L)) (load : Load L S F)
-    (whole : IsWhole stores logs lines available answers faults written sealed shown load) (history : D → History) (legal : IsLegal (Owns stores logs lines shown) history (opening_in lines) shown) (order : IsInOrder shown.scope shown.core) where
-  pub cover : is_open shown.core ≡ true → (own : IsOwned (setting_of lines shown.opening) shown.opening.opened shown.scope) → CoverFound (setting_of lines shown.opening) own.lens (cuts_of (opening_in lines) shown) (shown.core.front.committed + 1)
+module _ {D L S F : Type 0} (stores logs : Type 0) (history : D → History) (lines : L → List Line) (available : L → ℕ) (answers : L → List ℕ) (faults : L → ℕ) (written : S → List ℕ) (sealed : F → List ℕ) (shown : Shown D (Round L)) (load : Load L S F)
+    (whole : IsWhole stores logs history lines available answers faults written sealed shown load) (legal : IsLegal (Owns stores logs history lines shown) history (opening_in lines) shown) (order : IsInOrder shown.scope shown.core) where
+  pub cover : is_open shown.core ≡ true → (own : IsOwned (setting_of lines shown.opening) shown.opening.opened shown.scope (history shown.opened)) → CoverFound (setting_of lines shown.opening) own.lens (cuts_of (opening_in lines) shown) (shown.core.front.committed + 1)
   cover opened own =
       let s : Setting = setting_of lines shown.opening in
       let cuts : Cuts = cuts_of (opening_in lines) shown in
@@ -65,5 +65,5 @@ module _ {D L S F : Type 0} (stores logs : Type 0) (lines : L → List Line) (av
               rising (parts_in s) (cuts k) (cuts (k + 1)) (each_end cuts (length (parts_in s)) shown.core.front.planned first whole.plans.follow k (omega (arith, before, less))) is.0 is.1);
         };
         found = subst (λ (found : List ℕ). (i : ℕ) → get_or (cut_of (cuts (shown.core.front.committed + 1))) i 0 ≤ get_or found i 0) own.scope.available
-            (tos_within stores logs lines available answers faults written sealed shown load whole history legal order opened);
+            (tos_within stores logs history lines available answers faults written sealed shown load whole legal order opened);
       }

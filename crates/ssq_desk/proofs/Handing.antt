@@ -156,31 +156,31 @@ work_or d (Some w) = w
 pub some_work : {S F : Type 0} (a b : OutWork S F) → Some a ≡ Some b → a ≡ b
 some_work a b e = ap (λ o. work_or a o) e
 
-module _ {D L S F : Type 0} (stores logs : Type 0) (lines : L → List Line) (available : L → ℕ) (answers : L → List ℕ) (faults : L → ℕ) (written : S → List ℕ) (sealed : F → List ℕ) (shown : Shown D (Round L)) (load : Load L S F)
-    (whole : IsWhole stores logs lines available answers faults written sealed shown load) where
+module _ {D L S F : Type 0} (stores logs : Type 0) (history : D → History) (lines : L → List Line) (available : L → ℕ) (answers : L → List ℕ) (faults : L → ℕ) (written : S → List ℕ) (sealed : F → List ℕ) (shown : Shown D (Round L)) (load : Load L S F)
+    (whole : IsWhole stores logs history lines available answers faults written sealed shown load) where
   -- after an entry that plans nothing, with what is held then
   pub moved_whole : (disk : D) (e : Entry) (n : Load L S F) → ((cuts : Cuts) (c : Core) → cuts_by shown.scope cuts c e ≡ cuts) → (after shown.scope shown.core e).front.planned ≡ shown.core.front.planned
       → n.view ≡ load.view → n.plans.items ≡ load.plans.items → n.kept ≡ load.kept
-      → AreTold (Owns stores logs lines shown) (setting_of lines shown.opening) (cuts_of (opening_in lines) shown) shown.opening.opened.committed (after shown.scope shown.core e).front.committed n.told.items
+      → AreTold (Owns stores logs history lines shown) (setting_of lines shown.opening) (cuts_of (opening_in lines) shown) shown.opening.opened.committed (after shown.scope shown.core e).front.committed n.told.items
       → (is_open (after shown.scope shown.core e) ≡ true → length n.told.items < vec_capacity n.told)
       → ((after shown.scope shown.core e).front.stop ≡ Some cause.LogFault → HasFaulty faults (after shown.scope shown.core e).maps n.sources.items)
-      → HoldsIn stores logs lines available answers faults written sealed shown (cuts_of (opening_in lines) shown) (after shown.scope shown.core e) n.sources.items n.shares.items n.held.items n.out n.seen n.pending
-      → IsWhole stores logs lines available answers faults written sealed (did shown disk (e ∷ [])) n
+      → HoldsIn stores logs history lines available answers faults written sealed shown (cuts_of (opening_in lines) shown) (after shown.scope shown.core e) n.sources.items n.shares.items n.held.items n.out n.seen n.pending
+      → IsWhole stores logs history lines available answers faults written sealed (did shown disk (e ∷ [])) n
   moved_whole disk e n keeps planned view plans kept told room faulty h =
       let s : Setting = setting_of lines shown.opening in
       let same : cuts_of (opening_in lines) (did shown disk (e ∷ [])) ≡ cuts_of (opening_in lines) shown = cuts_then (opening_in lines shown.opening) shown.scope shown.history e ∙ keeps (cuts_of (opening_in lines) shown) (after_all shown.scope (first shown.scope (opening_in lines shown.opening).start) shown.history) in record {
         round = whole.round;
         view = subst (λ v. IsViewOf s v) (sym view) whole.view;
-        holds = subst (λ (cuts : Cuts). HoldsIn stores logs lines available answers faults written sealed shown cuts (after shown.scope shown.core e) n.sources.items n.shares.items n.held.items n.out n.seen n.pending) (sym same) h;
-        plans = subst (λ (cuts : Cuts). ArePlans (Owns stores logs lines shown) shown.opening.opened.plans s cuts (after shown.scope shown.core e).front.planned n.plans.items) (sym same)
-            (subst (λ (k : ℕ). ArePlans (Owns stores logs lines shown) shown.opening.opened.plans s (cuts_of (opening_in lines) shown) k n.plans.items) (sym planned) (subst (λ l. ArePlans (Owns stores logs lines shown) shown.opening.opened.plans s (cuts_of (opening_in lines) shown) shown.core.front.planned l) (sym plans) whole.plans));
-        told = subst (λ (cuts : Cuts). AreTold (Owns stores logs lines shown) s cuts shown.opening.opened.committed (after shown.scope shown.core e).front.committed n.told.items) (sym same) told;
+        holds = subst (λ (cuts : Cuts). HoldsIn stores logs history lines available answers faults written sealed shown cuts (after shown.scope shown.core e) n.sources.items n.shares.items n.held.items n.out n.seen n.pending) (sym same) h;
+        plans = subst (λ (cuts : Cuts). ArePlans (Owns stores logs history lines shown) shown.opening.opened.plans s cuts (after shown.scope shown.core e).front.planned n.plans.items) (sym same)
+            (subst (λ (k : ℕ). ArePlans (Owns stores logs history lines shown) shown.opening.opened.plans s (cuts_of (opening_in lines) shown) k n.plans.items) (sym planned) (subst (λ l. ArePlans (Owns stores logs history lines shown) shown.opening.opened.plans s (cuts_of (opening_in lines) shown) shown.core.front.planned l) (sym plans) whole.plans));
+        told = subst (λ (cuts : Cuts). AreTold (Owns stores logs history lines shown) s cuts shown.opening.opened.committed (after shown.scope shown.core e).front.committed n.told.items) (sym same) told;
         told_room = room;
         faulty = faulty;
         kept = subst (IsKept s shown.opening.opened) (sym kept) whole.kept;
       }
 
-  module _ (history : D → History) (legal : IsLegal (Owns stores logs lines shown) history (opening_in lines) shown) (order : IsInOrder shown.scope shown.core) where
+  module _ (legal : IsLegal (Owns stores logs history lines shown) history (opening_in lines) shown) (order : IsInOrder shown.scope shown.core) where
     pub sources_count : length load.sources.items ≡ length shown.scope.available
     sources_count = whole.holds.parts ∙ sym whole.round.parts
 
@@ -219,10 +219,10 @@ module _ {D L S F : Type 0} (stores logs : Type 0) (lines : L → List Line) (av
     -- once it is handed out, without its log
     pub map_claimed : (t : TaskId) (x : Source L) → t.kind ≡ kind.Map → May shown.scope shown.core (entry.Claim t) → (h : IsMapHere t.number)
         → x ≡ record { stream = h.source.stream; part = h.source.part; from = h.source.from; log = None; fed = h.source.fed }
-        → HoldsIn stores logs lines available answers faults written sealed shown (cuts_of (opening_in lines) shown) (after shown.scope shown.core (entry.Claim t)) (set load.sources.items t.number x) load.shares.items load.held.items load.out load.seen load.pending
+        → HoldsIn stores logs history lines available answers faults written sealed shown (cuts_of (opening_in lines) shown) (after shown.scope shown.core (entry.Claim t)) (set load.sources.items t.number x) load.shares.items load.held.items load.out load.seen load.pending
     map_claimed t x is may h x_is =
-        subst (λ (c : Core). HoldsIn stores logs lines available answers faults written sealed shown (cuts_of (opening_in lines) shown) c (set load.sources.items t.number x) load.shares.items load.held.items load.out load.seen load.pending) (sym (map_moved shown.core t place.Away is))
-        (holds_map (stores × logs) (Owns stores logs lines shown) lines available (LogWent logs lines available answers faults) shown.opening.logs.items written sealed (setting_of lines shown.opening) (cuts_of (opening_in lines) shown) shown.scope.available shown.core shown.core.front.stop t.number place.Away x load.sources.items load.shares.items load.held.items load.out load.seen load.pending
+        subst (λ (c : Core). HoldsIn stores logs history lines available answers faults written sealed shown (cuts_of (opening_in lines) shown) c (set load.sources.items t.number x) load.shares.items load.held.items load.out load.seen load.pending) (sym (map_moved shown.core t place.Away is))
+        (holds_map (stores × logs) (Owns stores logs history lines shown) lines available (LogWent logs lines available answers faults) shown.opening.logs.items written sealed (setting_of lines shown.opening) (cuts_of (opening_in lines) shown) shown.scope.available shown.core shown.core.front.stop t.number place.Away x load.sources.items load.shares.items load.held.items load.out load.seen load.pending
         (λ e. e) whole.holds
         (λ part there. (let same : h.part ≡ part = some_same h.part part (sym h.there ∙ there) in record {
           stream = ap (λ (q : Part). q.stream) (sym same) ∙ h.is.stream ∙ sym (ap (λ (q : Source L). q.stream) x_is);
@@ -254,14 +254,14 @@ module _ {D L S F : Type 0} (stores logs : Type 0) (lines : L → List Line) (av
     -- and its task
     pub map_task : (t : TaskId) (view : View) (to : ℕ) (own : L) → t.kind ≡ kind.Map → May shown.scope shown.core (entry.Claim t) → (h : IsMapHere t.number) → view ≡ load.view → h.source.log ≡ Some own
         → to ≡ (get_or shown.core.ends t.number (record { stream = 0; part = 0; end = 0 })).end
-        → IsMapOf stores logs lines available answers faults shown (record { view = view; epoch = t.epoch; number = t.number; stream = h.source.stream; part = h.source.part; from = h.source.from; to = to; log = own })
+        → IsMapOf stores logs history lines available answers faults shown (record { view = view; epoch = t.epoch; number = t.number; stream = h.source.stream; part = h.source.part; from = h.source.from; to = to; log = own })
     map_task t view to own is may h view_is own_is to_is =
         let log = h.is.log (λ away. away) in
         let same : log.0 ≡ own = some_log log.0 own (sym log.1 ∙ own_is) in
         let near = order.sound.near in
         let less = open_less shown.core may.1 in
         let ends : cuts_of (opening_in lines) shown (shown.core.front.committed + 1) ≡ shown.core.ends =
-        ap (cuts_of (opening_in lines) shown) (omega (arith, near, less)) ∙ ends_are stores logs lines available answers faults history written sealed shown load whole legal order in record {
+        ap (cuts_of (opening_in lines) shown) (omega (arith, near, less)) ∙ ends_are stores logs history lines available answers faults written sealed shown load whole legal order in record {
           part = h.part;
           there = h.there;
           view = subst (λ v. IsViewOf (setting_of lines shown.opening) v) (sym view_is) whole.view;
@@ -288,10 +288,10 @@ module _ {D L S F : Type 0} (stores logs : Type 0) (lines : L → List Line) (av
       pub here : get_elem? load.shares.items p ≡ some share
       pub none : share.buckets.items ≡ []
       pub no_key : share.key ≡ None
-      pub state : IsStateFor (Owns stores logs lines shown) written (setting_of lines shown.opening) (cuts_of (opening_in lines) shown) shown.core.front.committed p (state_with (get_or load.held.items p None) share.stage)
+      pub state : IsStateFor (Owns stores logs history lines shown) written (setting_of lines shown.opening) (cuts_of (opening_in lines) shown) shown.core.front.committed p (state_with (get_or load.held.items p None) share.stage)
       pub room : length load.sources.items ≤ vec_capacity share.buckets
       pub safe : (i : ℕ) (source : Source L) → get_elem? load.sources.items i ≡ some source → IsSafe (setting_of lines shown.opening).job.partitions source
-      pub rows : Owns stores logs lines shown → buckets_in p load.sources.items ≡ bucket (setting_of lines shown.opening).job.partitions p (fed (setting_of lines shown.opening).job.bound (parts_in (setting_of lines shown.opening)) (offsets (cuts_of (opening_in lines) shown)) shown.core.front.committed)
+      pub rows : Owns stores logs history lines shown → buckets_in p load.sources.items ≡ bucket (setting_of lines shown.opening).job.partitions p (fed (setting_of lines shown.opening).job.bound (parts_in (setting_of lines shown.opening)) (offsets (cuts_of (opening_in lines) shown)) shown.core.front.committed)
 
     -- the out task waits as long as reduce tasks do
     pub tos_count : is_open shown.core ≡ true → length (cut_of (cuts_of (opening_in lines) shown (shown.core.front.committed + 1))) ≡ length (parts_in (setting_of lines shown.opening))
@@ -299,16 +299,16 @@ module _ {D L S F : Type 0} (stores logs : Type 0) (lines : L → List Line) (av
         let near = order.sound.near in
         let less = open_less shown.core opened in
         length-map (cuts_of (opening_in lines) shown (shown.core.front.committed + 1)) (λ (e : PartEnd). e.end)
-        ∙ ap length (ap (cuts_of (opening_in lines) shown) (omega (arith, near, less)) ∙ ends_are stores logs lines available answers faults history written sealed shown load whole legal order)
-        ∙ each_end stores logs lines available answers faults history written sealed shown load whole legal order
+        ∙ ap length (ap (cuts_of (opening_in lines) shown) (omega (arith, near, less)) ∙ ends_are stores logs history lines available answers faults written sealed shown load whole legal order)
+        ∙ each_end stores logs history lines available answers faults written sealed shown load whole legal order
 
     -- no more lines of a part are planned than were found
     pub tos_within : is_open shown.core ≡ true → AreWithin shown.scope.available (cuts_of (opening_in lines) shown (shown.core.front.committed + 1))
     tos_within opened =
         let near = order.sound.near in
         let less = open_less shown.core opened in
-        subst (AreWithin shown.scope.available) (sym (ap (cuts_of (opening_in lines) shown) (omega (arith, near, less)) ∙ ends_are stores logs lines available answers faults history written sealed shown load whole legal order))
-        (ends_within stores logs lines available answers faults history written sealed shown load whole legal order)
+        subst (AreWithin shown.scope.available) (sym (ap (cuts_of (opening_in lines) shown) (omega (arith, near, less)) ∙ ends_are stores logs history lines available answers faults written sealed shown load whole legal order))
+        (ends_within stores logs history lines available answers faults written sealed shown load whole legal order)
 
     -- each source is fine, where all map tasks are
     pub source_here : shown.core.front.stop ≡ None → (opened : is_open shown.core ≡ true) → list_all is_fine shown.core.maps ≡ true → (i : ℕ) (part : Part) (source : Source L) → slice_get (parts_in (setting_of lines shown.opening)) i ≡ Some part → get_elem? load.sources.items i ≡ some source
@@ -339,9 +339,9 @@ module _ {D L S F : Type 0} (stores logs : Type 0) (lines : L → List Line) (av
           here = share.1;
           none = fresh.0;
           no_key = whole.holds.keys may.1 t.number place.Waits share.0 waits share.1;
-          state = state_for (Owns stores logs lines shown) written s (cuts_of (opening_in lines) shown) shown.core.front.committed t.number (get_or load.held.items t.number None) share.0.stage (own.stage refl) (λ keeps. (
+          state = state_for (Owns stores logs history lines shown) written s (cuts_of (opening_in lines) shown) shown.core.front.committed t.number (get_or load.held.items t.number None) share.0.stage (own.stage refl) (λ keeps. (
               let held = there_at load.held.items t.number (let many = whole.holds.keeping in omega (arith, keeps, many)) in
-              subst (λ (o : Option Held). IsSomeAnd o (IsHeldOf (Owns stores logs lines shown) s (cuts_of (opening_in lines) shown) shown.core.front.committed t.number)) (sym (at_get load.held.items t.number held.0 None held.1))
+              subst (λ (o : Option Held). IsSomeAnd o (IsHeldOf (Owns stores logs history lines shown) s (cuts_of (opening_in lines) shown) shown.core.front.committed t.number)) (sym (at_get load.held.items t.number held.0 None held.1))
               (whole.holds.kept may.0 t.number place.Waits held.0 waits held.1 (λ away. away))));
           room = (let parts = whole.holds.parts in let room = fresh.1 in omega (arith, parts, room));
           safe = λ i source here. (let part = part_there (parts_in s) i (let l = at_length load.sources.items i source here in let parts = whole.holds.parts in omega (arith, l, parts)) in
@@ -357,15 +357,15 @@ module _ {D L S F : Type 0} (stores logs : Type 0) (lines : L → List Line) (av
 
     -- once it is handed out
     pub reduce_claimed : (t : TaskId) (x : Share S) (left : List (Source L)) → x.key ≡ None → t.kind ≡ kind.Reduce → May shown.scope shown.core (entry.Claim t) → AreTaken t.number load.sources.items left
-        → HoldsIn stores logs lines available answers faults written sealed shown (cuts_of (opening_in lines) shown) (after shown.scope shown.core (entry.Claim t)) left (set load.shares.items t.number x) (set load.held.items t.number None) load.out load.seen load.pending
+        → HoldsIn stores logs history lines available answers faults written sealed shown (cuts_of (opening_in lines) shown) (after shown.scope shown.core (entry.Claim t)) left (set load.shares.items t.number x) (set load.held.items t.number None) load.out load.seen load.pending
     reduce_claimed t x left no_key is may taken =
         let all = taken_at t.number load.sources.items left taken in
-        subst (λ (c : Core). HoldsIn stores logs lines available answers faults written sealed shown (cuts_of (opening_in lines) shown) c left (set load.shares.items t.number x) (set load.held.items t.number None) load.out load.seen load.pending) (sym (reduce_moved shown.core t place.Away is))
-        (holds_claimed (stores × logs) (Owns stores logs lines shown) lines available (LogWent logs lines available answers faults) shown.opening.logs.items written sealed (setting_of lines shown.opening) (cuts_of (opening_in lines) shown) shown.scope.available shown.core t.number x load.sources.items left load.shares.items load.held.items load.out load.seen load.pending whole.holds all.0 (subst (λ k. get_elem? (tasks_of k shown.core) t.number ≡ some place.Waits) is may.4) all.1 may.0 no_key)
+        subst (λ (c : Core). HoldsIn stores logs history lines available answers faults written sealed shown (cuts_of (opening_in lines) shown) c left (set load.shares.items t.number x) (set load.held.items t.number None) load.out load.seen load.pending) (sym (reduce_moved shown.core t place.Away is))
+        (holds_claimed (stores × logs) (Owns stores logs history lines shown) lines available (LogWent logs lines available answers faults) shown.opening.logs.items written sealed (setting_of lines shown.opening) (cuts_of (opening_in lines) shown) shown.scope.available shown.core t.number x load.sources.items left load.shares.items load.held.items load.out load.seen load.pending whole.holds all.0 (subst (λ k. get_elem? (tasks_of k shown.core) t.number ≡ some place.Waits) is may.4) all.1 may.0 no_key)
 
     -- The watermark of the epoch that runs, by what was seen before it.
     pub watermark_here : shown.core.front.stop ≡ None → (watermark : Option ℤ) → watermark ≡ watermark_by (delays load.view.bound.now) (seen_at load.seen)
-        → Owns stores logs lines shown → watermark ≡ watermark_at (setting_of lines shown.opening) (cuts_of (opening_in lines) shown) shown.core.front.committed
+        → Owns stores logs history lines shown → watermark ≡ watermark_at (setting_of lines shown.opening) (cuts_of (opening_in lines) shown) shown.core.front.committed
     watermark_here runs watermark is y =
         let seen = whole.holds.seen_so_far runs in
         is ∙ (λ i. watermark_by (delays (whole.view.bound i)) (λ stream. seen.are y stream i))
@@ -385,11 +385,11 @@ module _ {D L S F : Type 0} (stores logs : Type 0) (lines : L → List Line) (av
     pub record IsOutHere : Type 0 where
       pub work : OutWork S F
       pub here : load.out ≡ Some work
-      pub is : IsOutWork (Owns stores logs lines shown) written (setting_of lines shown.opening) (cuts_of (opening_in lines) shown) shown.core.front.committed work
+      pub is : IsOutWork (Owns stores logs history lines shown) written (setting_of lines shown.opening) (cuts_of (opening_in lines) shown) shown.core.front.committed work
       pub room : length work.rows.items + length load.shares.items ≤ vec_capacity work.rows
       pub raise : CanRaise (length work.seen) load.sources.items
-      pub times : Owns stores logs lines shown → (stream : ℕ) → raised_in load.sources.items (seen_at work.seen) stream ≡ seen (setting_of lines shown.opening).job.bound (parts_in (setting_of lines shown.opening)) (offsets (cuts_of (opening_in lines) shown)) stream (shown.core.front.committed + 1)
-      pub rows : Owns stores logs lines shown → AreShown (setting_of lines shown.opening) (cuts_of (opening_in lines) shown) shown.core.front.committed (map (λ share. share.rows.items) load.shares.items)
+      pub times : Owns stores logs history lines shown → (stream : ℕ) → raised_in load.sources.items (seen_at work.seen) stream ≡ seen (setting_of lines shown.opening).job.bound (parts_in (setting_of lines shown.opening)) (offsets (cuts_of (opening_in lines) shown)) stream (shown.core.front.committed + 1)
+      pub rows : Owns stores logs history lines shown → AreShown (setting_of lines shown.opening) (cuts_of (opening_in lines) shown) shown.core.front.committed (map (λ share. share.rows.items) load.shares.items)
       pub printable : All (All (IfTime IsStampTime)) (joined (map (λ share. share.rows.items) load.shares.items))
 
     pub out_here : (t : TaskId) → t.kind ≡ kind.Out → t.number ≡ 0 → May shown.scope shown.core (entry.Claim t) → IsOutHere
@@ -404,11 +404,11 @@ module _ {D L S F : Type 0} (stores logs : Type 0) (lines : L → List Line) (av
         let w = e.outs waits in
         let count = whole.holds.partitions in
         let streams = w.2.times.streams in
-        let share_at : (p : ℕ) (share : Share S) → get_elem? load.shares.items p ≡ some share → IsShare (Owns stores logs lines shown) written s (cuts_of (opening_in lines) shown) shown.core.front.committed p (place.Back None) share =
+        let share_at : (p : ℕ) (share : Share S) → get_elem? load.shares.items p ≡ some share → IsShare (Owns stores logs history lines shown) written s (cuts_of (opening_in lines) shown) shown.core.front.committed p (place.Back None) share =
         λ p share here. (let reduces = order.sound.reduces in
         let scoped = whole.round.partitions in
         let at = there_at shown.core.reduces p (let l = at_length load.shares.items p share here in omega (arith, l, count, reduces, scoped)) in
-        back_of (Owns stores logs lines shown) written s (cuts_of (opening_in lines) shown) shown.core.front.committed p at.0 share (all_fine is_fine shown.core.reduces p at.0 reduces_fine at.1) (e.shared waits p at.0 share at.1 here)) in record {
+        back_of (Owns stores logs history lines shown) written s (cuts_of (opening_in lines) shown) shown.core.front.committed p at.0 share (all_fine is_fine shown.core.reduces p at.0 reduces_fine at.1) (e.shared waits p at.0 share at.1 here)) in record {
           work = w.0;
           here = w.1;
           is = w.2;
@@ -436,10 +436,10 @@ module _ {D L S F : Type 0} (stores logs : Type 0) (lines : L → List Line) (av
 
     -- once it is handed out
     pub out_claimed : (t : TaskId) (more : List (Share S)) (left : Option (OutWork S F)) → t.kind ≡ kind.Out → t.number ≡ 0 → May shown.scope shown.core (entry.Claim t) → map key_of more ≡ map key_of load.shares.items
-        → HoldsIn stores logs lines available answers faults written sealed shown (cuts_of (opening_in lines) shown) (after shown.scope shown.core (entry.Claim t)) load.sources.items more load.held.items left load.seen load.pending
+        → HoldsIn stores logs history lines available answers faults written sealed shown (cuts_of (opening_in lines) shown) (after shown.scope shown.core (entry.Claim t)) load.sources.items more load.held.items left load.seen load.pending
     out_claimed t more left is zero_is may count =
-        subst (λ (c : Core). HoldsIn stores logs lines available answers faults written sealed shown (cuts_of (opening_in lines) shown) c load.sources.items more load.held.items left load.seen load.pending) (sym (out_moved shown.core t place.Away is zero_is))
-        (holds_out (stores × logs) (Owns stores logs lines shown) lines available (LogWent logs lines available answers faults) shown.opening.logs.items written sealed (setting_of lines shown.opening) (cuts_of (opening_in lines) shown) shown.scope.available shown.core shown.core.front.stop place.Away load.sources.items load.shares.items more load.held.items load.out left load.seen load.pending
+        subst (λ (c : Core). HoldsIn stores logs history lines available answers faults written sealed shown (cuts_of (opening_in lines) shown) c load.sources.items more load.held.items left load.seen load.pending) (sym (out_moved shown.core t place.Away is zero_is))
+        (holds_out (stores × logs) (Owns stores logs history lines shown) lines available (LogWent logs lines available answers faults) shown.opening.logs.items written sealed (setting_of lines shown.opening) (cuts_of (opening_in lines) shown) shown.scope.available shown.core shown.core.front.stop place.Away load.sources.items load.shares.items more load.held.items load.out left load.seen load.pending
         (λ e. e) whole.holds (λ e. absurd (away_waits e)) count (λ run opened. and_right (list_all is_fine shown.core.maps) (list_all is_fine shown.core.reduces) (and_right shown.core.front.fresh (list_all is_fine shown.core.maps && list_all is_fine shown.core.reduces) (subst (λ k. may_start shown.core k ≡ true) is may.3))) whole.holds.still (λ f stopped. whole.holds.stop f stopped))
       where
         away_waits : place.Away ≡ place.Waits → ⊥

@@ -26,3 +26,7 @@ pub mod Returning
 pub mod Telling
 pub mod Leaving
 pub mod Closings
+pub mod Entries
+pub mod Snapshots
+pub mod Readings
+pub mod Upkeeps

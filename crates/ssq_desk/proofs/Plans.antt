@@ -143,13 +143,13 @@ pub record HasPlan {L S F : Type 0} (old new : Load L S F) (plan : Plan) : Type 
   pub seen_is : new.seen ≡ old.seen
   pub pending_is : new.pending ≡ old.pending
 
-module _ {D L S F : Type 0} (stores logs : Type 0) (lines : L → List Line) (available : L → ℕ) (answers : L → List ℕ) (faults : L → ℕ) (history : D → History) (written : S → List ℕ) (sealed : F → List ℕ) (shown : Shown D (Round L)) (load made now : Load L S F)
-    (whole : IsWhole stores logs lines available answers faults written sealed shown load) (legal : IsLegal (Owns stores logs lines shown) history (opening_in lines) shown) (order : IsInOrder shown.scope shown.core)
-    (here : Vec PartEnd) (is_made : IsMadeFor (Owns stores logs lines shown) written shown.core.ends load made here) (plan : Plan) (has : HasPlan made now plan) where
+module _ {D L S F : Type 0} (stores logs : Type 0) (history : D → History) (lines : L → List Line) (available : L → ℕ) (answers : L → List ℕ) (faults : L → ℕ) (written : S → List ℕ) (sealed : F → List ℕ) (shown : Shown D (Round L)) (load made now : Load L S F)
+    (whole : IsWhole stores logs history lines available answers faults written sealed shown load) (legal : IsLegal (Owns stores logs history lines shown) history (opening_in lines) shown) (order : IsInOrder shown.scope shown.core)
+    (here : Vec PartEnd) (is_made : IsMadeFor (Owns stores logs history lines shown) written shown.core.ends load made here) (plan : Plan) (has : HasPlan made now plan) where
   pub planned_whole : (disk : D) → ready_of shown.scope shown.core ≡ ready.Plan → plan.epoch ≡ shown.core.front.planned
-      → (Owns stores logs lines shown → plan.watermark ≡ watermark_at (setting_of lines shown.opening) (cuts_of (opening_in lines) shown) shown.core.front.planned)
+      → (Owns stores logs history lines shown → plan.watermark ≡ watermark_at (setting_of lines shown.opening) (cuts_of (opening_in lines) shown) shown.core.front.planned)
       → plan.ends ≡ next_ends shown.scope.cap shown.core.ends shown.scope.available → ForSome plan.watermark IsStampTime
-      → IsWhole stores logs lines available answers faults written sealed (did shown disk (entry.Plan shown.core.front.planned ∷ [])) now
+      → IsWhole stores logs history lines available answers faults written sealed (did shown disk (entry.Plan shown.core.front.planned ∷ [])) now
   planned_whole disk next epoch mark ends printed =
       let s : Setting = setting_of lines shown.opening in
       let r : Scope = shown.scope in
@@ -157,39 +157,39 @@ module _ {D L S F : Type 0} (stores logs : Type 0) (lines : L → List Line) (av
       let cuts : Cuts = cuts_of (opening_in lines) shown in
       let later : Cuts = extended cuts c.front.planned (next_ends r.cap c.ends r.available) in
       let core : Core = after r c (entry.Plan c.front.planned) in
-      let b : IsBetween s cuts r c = between stores logs lines available answers faults history written sealed shown load whole legal order next in
+      let b : IsBetween s cuts r c = between stores logs history lines available answers faults written sealed shown load whole legal order next in
       let known : c ≡ after_all r (first r (opening_in lines shown.opening).start) shown.history =
-      leads_core (Owns stores logs lines shown) (opening_in lines shown.opening).job r (opening_in lines shown.opening).due (first_state (opening_in lines shown.opening) r (history shown.opened)) shown.history (state legal.0 c (shelf_of (opening_in lines) shown) cuts) legal.2 in
+      leads_core (Owns stores logs history lines shown) (opening_in lines shown.opening).job r (opening_in lines shown.opening).due (first_state (opening_in lines shown.opening) r (history shown.opened)) shown.history (state legal.0 c (shelf_of (opening_in lines) shown) cuts) legal.2 in
       let same : cuts_of (opening_in lines) (did shown disk (entry.Plan c.front.planned ∷ [])) ≡ later =
       cuts_then (opening_in lines shown.opening) r shown.history (entry.Plan c.front.planned) ∙ ap (λ (x : Core). cuts_by r cuts x (entry.Plan c.front.planned)) (sym known) in
       let work : OutWork S F = is_made.work.0 in
-      let work_is : IsWorkFor (Owns stores logs lines shown) written load work = is_made.work.2 in
-      let out : IsOutWork (Owns stores logs lines shown) written s cuts c.front.committed work = record {
+      let work_is : IsWorkFor (Owns stores logs history lines shown) written load work = is_made.work.2 in
+      let out : IsOutWork (Owns stores logs history lines shown) written s cuts c.front.committed work = record {
         none = work_is.no_rows;
         room = subst (λ (n : ℕ). n ≤ vec_capacity work.rows) whole.view.partitions work_is.room;
-        times = subst (AreSeen (Owns stores logs lines shown) s cuts c.front.committed) (sym work_is.times) (whole.holds.seen_so_far b.running);
+        times = subst (AreSeen (Owns stores logs history lines shown) s cuts c.front.committed) (sym work_is.times) (whole.holds.seen_so_far b.running);
         rows_empty = work_is.rows_empty;
         commit_empty = work_is.commit_empty;
       } in
-      let all : IsMade (Owns stores logs lines shown) written s cuts c load.sources.items made.sources.items made.shares.items work = record {
+      let all : IsMade (Owns stores logs history lines shown) written s cuts c load.sources.items made.sources.items made.shares.items work = record {
         begun = is_made.begun;
-        ready = ready_in (Owns stores logs lines shown) written load.view.partitions s.job.partitions (length load.sources.items) (length (parts_in s)) (length load.held.items) (keeping_in s) made.shares.items whole.view.partitions whole.holds.parts whole.holds.keeping is_made.ready;
+        ready = ready_in (Owns stores logs history lines shown) written load.view.partitions s.job.partitions (length load.sources.items) (length (parts_in s)) (length load.held.items) (keeping_in s) made.shares.items whole.view.partitions whole.holds.parts whole.holds.keeping is_made.ready;
         out = out;
       } in
       let goes : IsTrue (follows (cuts c.front.planned) (next_ends r.cap c.ends r.available)) = subst (λ (from : Ends). IsTrue (follows from (next_ends r.cap c.ends r.available))) (sym b.ends) (next_follows r.cap c.ends r.available) in
       let stays : AreSameUpTo cuts later c.front.planned = λ e le. sym (ap (λ (x : Bool). if x then next_ends r.cap c.ends r.available else cuts e) (nat_lt-not c.front.planned e le)) in
-      let h = planned (stores × logs) (Owns stores logs lines shown) lines available (LogWent logs lines available answers faults) shown.opening.logs.items written sealed s cuts r c load.sources.items made.sources.items made.shares.items work load.seen all b load.pending load.out load.shares.items load.held.items whole.holds in
-      let moved : HoldsIn stores logs lines available answers faults written sealed shown (cuts_of (opening_in lines) (did shown disk (entry.Plan c.front.planned ∷ []))) core now.sources.items now.shares.items now.held.items now.out now.seen now.pending =
+      let h = planned (stores × logs) (Owns stores logs history lines shown) lines available (LogWent logs lines available answers faults) shown.opening.logs.items written sealed s cuts r c load.sources.items made.sources.items made.shares.items work load.seen all b load.pending load.out load.shares.items load.held.items whole.holds in
+      let moved : HoldsIn stores logs history lines available answers faults written sealed shown (cuts_of (opening_in lines) (did shown disk (entry.Plan c.front.planned ∷ []))) core now.sources.items now.shares.items now.held.items now.out now.seen now.pending =
       (let sources = sym has.sources_are in let shares = sym has.shares_are in let held = sym (has.held_is ∙ ap (λ (v : Vec (Option Held)). v.items) is_made.held_is) in let outs = sym (has.out_is ∙ is_made.work.1) in let seen = sym (has.seen_is ∙ is_made.seen_is) in let pending = sym (has.pending_is ∙ is_made.pending_is) in
-      transported (stores × logs) (Owns stores logs lines shown) lines available (LogWent logs lines available answers faults) shown.opening.logs.items written sealed s r.available core _ _ _ _ _ _ _ _ _ _ _ _ _ _ (sym same) sources shares held outs seen pending h) in record {
+      transported (stores × logs) (Owns stores logs history lines shown) lines available (LogWent logs lines available answers faults) shown.opening.logs.items written sealed s r.available core _ _ _ _ _ _ _ _ _ _ _ _ _ _ (sym same) sources shares held outs seen pending h) in record {
         round = whole.round;
         view = subst (IsViewOf s) (sym (has.view_is ∙ is_made.view_is)) whole.view;
         holds = moved;
-        plans = subst (λ (plans : List Plan). ArePlans (Owns stores logs lines shown) shown.opening.opened.plans s (cuts_of (opening_in lines) (did shown disk (entry.Plan c.front.planned ∷ []))) (c.front.planned + 1) plans) (sym (has.plans_are ∙ ap (λ (l : List Plan). l ++ plan ∷ []) is_made.plans_are))
-            (subst (λ (x : Cuts). ArePlans (Owns stores logs lines shown) shown.opening.opened.plans s x (c.front.planned + 1) (load.plans.items ++ plan ∷ [])) (sym same) (one_plan (Owns stores logs lines shown) shown.opening.opened.plans s cuts c.front.planned (next_ends r.cap c.ends r.available) load.plans.items plan whole.plans epoch mark ends printed goes));
-        told = subst (λ (l : List Told). AreTold (Owns stores logs lines shown) s (cuts_of (opening_in lines) (did shown disk (entry.Plan c.front.planned ∷ []))) shown.opening.opened.committed c.front.committed l) (sym (ap (λ v. v.items) has.told_is ∙ is_made.told_are))
-            (subst (λ (x : Cuts). AreTold (Owns stores logs lines shown) s x shown.opening.opened.committed c.front.committed load.told.items) (sym same)
-            (told_stay (Owns stores logs lines shown) s cuts later c.front.planned shown.opening.opened.committed c.front.committed load.told.items order.sound.before stays whole.told));
+        plans = subst (λ (plans : List Plan). ArePlans (Owns stores logs history lines shown) shown.opening.opened.plans s (cuts_of (opening_in lines) (did shown disk (entry.Plan c.front.planned ∷ []))) (c.front.planned + 1) plans) (sym (has.plans_are ∙ ap (λ (l : List Plan). l ++ plan ∷ []) is_made.plans_are))
+            (subst (λ (x : Cuts). ArePlans (Owns stores logs history lines shown) shown.opening.opened.plans s x (c.front.planned + 1) (load.plans.items ++ plan ∷ [])) (sym same) (one_plan (Owns stores logs history lines shown) shown.opening.opened.plans s cuts c.front.planned (next_ends r.cap c.ends r.available) load.plans.items plan whole.plans epoch mark ends printed goes));
+        told = subst (λ (l : List Told). AreTold (Owns stores logs history lines shown) s (cuts_of (opening_in lines) (did shown disk (entry.Plan c.front.planned ∷ []))) shown.opening.opened.committed c.front.committed l) (sym (ap (λ v. v.items) has.told_is ∙ is_made.told_are))
+            (subst (λ (x : Cuts). AreTold (Owns stores logs history lines shown) s x shown.opening.opened.committed c.front.committed load.told.items) (sym same)
+            (told_stay (Owns stores logs history lines shown) s cuts later c.front.planned shown.opening.opened.committed c.front.committed load.told.items order.sound.before stays whole.told));
         faulty = λ e. absurd (true≢false (sym (ap is_some e)));
         told_room = λ opened. subst (λ v. length v.items < vec_capacity v) (sym has.told_is) is_made.told_room;
         kept = subst (IsKept s shown.opening.opened) (sym (has.kept_is ∙ is_made.kept_is)) whole.kept;

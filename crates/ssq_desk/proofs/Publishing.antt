@@ -1,6 +1,7 @@
 -- The out task is taken back, and its rows are published.
 use Rattle.std.proofs.Common.{◌≡◌, ◌≤◌, ◌+◌, ◌++◌, [], ◌∷◌, ℕ, Bool, true, false, true≢false, List, map, length, set, Option, Some, None, Result, Ok, Err, inl, inr, refl, sym, ap, ◌∙◌, subst, arith}
 use Rattle.std.specs.Prelude.{is_some, IfOk, IfErr, IfSome, OnOk, OnErr, if◌then◌else◌}
+use Rattle.ssq_outside.specs.History.{History}
 use mathlib.Core.Option.{some}
 use lib.ListN.{get_elem?}
 use Rattle.ssq_outside.specs.Faults.{Rises}
@@ -90,48 +91,48 @@ out_stops outs f g few is =
 may_stop : (reads owned : Type 0) (s : Setting) (cuts : Cuts) (e : ℕ) (r : Scope) (c : Core) (f : Option Cause) (g : Cause) → IfSome f (HasCause r c) → f ≡ Some g → (key : Option Values) → IsStopOf reads owned s cuts e key g
 may_stop reads owned s cuts e r c f g has is = cause_stops reads owned s cuts e r c g (subst (λ (o : Option Cause). IfSome o (HasCause r c)) is has)
 
-module _ {D L F : Type 0} (stores logs : Type 0) (lines : L → List Line) (sealed : F → List ℕ) (shown now : Shown D (Round L)) (disk : D) (epoch : ℕ) (f : Option Cause) (reported : now ≡ did shown disk (entry.Report (out_id epoch) f ∷ [])) where
+module _ {D L F : Type 0} (stores logs : Type 0) (history : D → History) (lines : L → List Line) (sealed : F → List ℕ) (shown now : Shown D (Round L)) (disk : D) (epoch : ℕ) (f : Option Cause) (reported : now ≡ did shown disk (entry.Report (out_id epoch) f ∷ [])) where
   -- the cuts stay as they were by a report
   cuts_kept : cuts_of (opening_in lines) (did shown disk (entry.Report (out_id epoch) f ∷ [])) ≡ cuts_of (opening_in lines) shown
   cuts_kept = cuts_then (opening_in lines shown.opening) shown.scope shown.history (entry.Report (out_id epoch) f)
 
-  pub rows_kept : (file : F) → AreRowsOf stores logs lines sealed shown file → AreRowsOf stores logs lines sealed now file
-  rows_kept file are = subst (λ (x : Shown D (Round L)). AreRowsOf stores logs lines sealed x file) (sym reported)
+  pub rows_kept : (file : F) → AreRowsOf stores logs history lines sealed shown file → AreRowsOf stores logs history lines sealed now file
+  rows_kept file are = subst (λ (x : Shown D (Round L)). AreRowsOf stores logs history lines sealed x file) (sym reported)
       (λ t. are t ∙ ap (λ (cuts : Cuts). rows_at (setting_of lines shown.opening) cuts shown.core.front.committed) (sym cuts_kept))
 
-  pub commit_kept : (p : Pending F) → IsCommitOf stores logs lines sealed shown p → IsCommitOf stores logs lines sealed now p
-  commit_kept p is = subst (λ (x : Shown D (Round L)). IsCommitOf stores logs lines sealed x p) (sym reported)
-      (subst (λ (cuts : Cuts). IsPending (Owns stores logs lines shown) sealed (setting_of lines shown.opening) cuts shown.core.front.committed p) (sym cuts_kept) is)
+  pub commit_kept : (p : Pending F) → IsCommitOf stores logs history lines sealed shown p → IsCommitOf stores logs history lines sealed now p
+  commit_kept p is = subst (λ (x : Shown D (Round L)). IsCommitOf stores logs history lines sealed x p) (sym reported)
+      (subst (λ (cuts : Cuts). IsPending (Owns stores logs history lines shown) sealed (setting_of lines shown.opening) cuts shown.core.front.committed p) (sym cuts_kept) is)
 
-module _ {D L S F : Type 0} (stores logs : Type 0) (lines : L → List Line) (available : L → ℕ) (answers : L → List ℕ) (faults : L → ℕ) (written : S → List ℕ) (sealed : F → List ℕ) (shown : Shown D (Round L)) (load : Load L S F)
-    (whole : IsWhole stores logs lines available answers faults written sealed shown load) where
+module _ {D L S F : Type 0} (stores logs : Type 0) (history : D → History) (lines : L → List Line) (available : L → ℕ) (answers : L → List ℕ) (faults : L → ℕ) (written : S → List ℕ) (sealed : F → List ℕ) (shown : Shown D (Round L)) (load : Load L S F)
+    (whole : IsWhole stores logs history lines available answers faults written sealed shown load) where
   -- the files are those of the epoch that runs
-  pub rows_right : PartitionsShowRows → (stages : Type 0) (so : Owns stores logs lines shown → stages) (faults : S → ℕ) (task : OutTask S F) (done : Gathered S F) → IsOutOf stores logs lines written shown task → IsGathered stages written sealed faults task done → (files : SealedEpoch F) → done.outcome ≡ Ok files
-      → AreRowsOf stores logs lines sealed shown files.rows
-  rows_right show stages so faults task done of is files brought t = rows_are (Owns stores logs lines shown) stages so written sealed faults (setting_of lines shown.opening) (cuts_of (opening_in lines) shown) shown.core.front.committed task done of is files brought
+  pub rows_right : PartitionsShowRows → (stages : Type 0) (so : Owns stores logs history lines shown → stages) (faults : S → ℕ) (task : OutTask S F) (done : Gathered S F) → IsOutOf stores logs history lines written shown task → IsGathered stages written sealed faults task done → (files : SealedEpoch F) → done.outcome ≡ Ok files
+      → AreRowsOf stores logs history lines sealed shown files.rows
+  rows_right show stages so faults task done of is files brought t = rows_are (Owns stores logs history lines shown) stages so written sealed faults (setting_of lines shown.opening) (cuts_of (opening_in lines) shown) shown.core.front.committed task done of is files brought
       show whole.round.some_partitions t
 
-  pub commit_right : PartitionsCountRows → (stages : Type 0) (so : Owns stores logs lines shown → stages) (faults : S → ℕ) (task : OutTask S F) (done : Gathered S F) → IsOutOf stores logs lines written shown task → IsGathered stages written sealed faults task done → (files : SealedEpoch F) → done.outcome ≡ Ok files
-      → IsCommitOf stores logs lines sealed shown (record { commit = files.commit; seen = done.seen; count = files.count })
-  commit_right counts stages so faults task done of is files brought = commit_is (Owns stores logs lines shown) stages so written sealed faults (setting_of lines shown.opening) (cuts_of (opening_in lines) shown) shown.core.front.committed task done of is files brought
+  pub commit_right : PartitionsCountRows → (stages : Type 0) (so : Owns stores logs history lines shown → stages) (faults : S → ℕ) (task : OutTask S F) (done : Gathered S F) → IsOutOf stores logs history lines written shown task → IsGathered stages written sealed faults task done → (files : SealedEpoch F) → done.outcome ≡ Ok files
+      → IsCommitOf stores logs history lines sealed shown (record { commit = files.commit; seen = done.seen; count = files.count })
+  commit_right counts stages so faults task done of is files brought = commit_is (Owns stores logs history lines shown) stages so written sealed faults (setting_of lines shown.opening) (cuts_of (opening_in lines) shown) shown.core.front.committed task done of is files brought
       counts whole.round.some_partitions
 
   -- what is held once the out task is back
   pub out_back : (order : IsInOrder shown.scope shown.core) (disk : D) (epoch : ℕ) (f : Option Cause) → May shown.scope shown.core (entry.Report (out_id epoch) f) → IfSome f (HasCause shown.scope shown.core)
-      → IsWhole stores logs lines available answers faults written sealed (did shown disk (entry.Report (out_id epoch) f ∷ [])) load
+      → IsWhole stores logs history lines available answers faults written sealed (did shown disk (entry.Report (out_id epoch) f ∷ [])) load
   out_back order disk epoch f may has =
       let s : Setting = setting_of lines shown.opening in
       let cuts : Cuts = cuts_of (opening_in lines) shown in
       let old : Option Cause = shown.core.front.stop in
       let more : Option Cause = due_stop (set shown.core.outs 0 (place.Back f)) in
-      moved_whole stores logs lines available answers faults written sealed shown load whole disk (entry.Report (out_id epoch) f) load (λ cuts c. refl) refl refl refl refl whole.told whole.told_room
+      moved_whole stores logs history lines available answers faults written sealed shown load whole disk (entry.Report (out_id epoch) f) load (λ cuts c. refl) refl refl refl refl whole.told whole.told_room
       (λ stopped. faulty_by old more (λ e. whole.faulty e) (λ run is_due. absurd (no_log (out_stops shown.core.outs f cause.LogFault order.sound.outs is_due))) stopped)
-      (holds_out (stores × logs) (Owns stores logs lines shown) lines available (LogWent logs lines available answers faults) shown.opening.logs.items written sealed s cuts shown.scope.available shown.core (or_stop old (if is_stopped old then None else more)) (place.Back f) load.sources.items load.shares.items load.shares.items load.held.items load.out load.out load.seen load.pending
+      (holds_out (stores × logs) (Owns stores logs history lines shown) lines available (LogWent logs lines available answers faults) shown.opening.logs.items written sealed s cuts shown.scope.available shown.core (or_stop old (if is_stopped old then None else more)) (place.Back f) load.sources.items load.shares.items load.shares.items load.held.items load.out load.out load.seen load.pending
       (runs_by old (if is_stopped old then None else more)) whole.holds back_waits refl
       (λ run opened. elim (whole.holds.epoch run opened).last [ inl waits ↦ absurd (waits_away (sym waits ∙ may.2)) | inr fine ↦ fine ])
-      (still_by old more whole.holds.still (λ is_due. never_key (stores × logs) (Owns stores logs lines shown) s cuts shown.core.front.committed cause.KeyOverflow (may_stop (stores × logs) (Owns stores logs lines shown) s cuts shown.core.front.committed shown.scope shown.core f cause.KeyOverflow has (out_stops shown.core.outs f cause.KeyOverflow order.sound.outs is_due)) refl))
-      (λ g stopped. stops_by (stores × logs) (Owns stores logs lines shown) s cuts shown.core.front.committed (key_in load.shares.items) old more g stopped whole.holds.stop
-      (λ run is_due. may_stop (stores × logs) (Owns stores logs lines shown) s cuts shown.core.front.committed shown.scope shown.core f g has (out_stops shown.core.outs f g order.sound.outs is_due) (key_in load.shares.items))))
+      (still_by old more whole.holds.still (λ is_due. never_key (stores × logs) (Owns stores logs history lines shown) s cuts shown.core.front.committed cause.KeyOverflow (may_stop (stores × logs) (Owns stores logs history lines shown) s cuts shown.core.front.committed shown.scope shown.core f cause.KeyOverflow has (out_stops shown.core.outs f cause.KeyOverflow order.sound.outs is_due)) refl))
+      (λ g stopped. stops_by (stores × logs) (Owns stores logs history lines shown) s cuts shown.core.front.committed (key_in load.shares.items) old more g stopped whole.holds.stop
+      (λ run is_due. may_stop (stores × logs) (Owns stores logs history lines shown) s cuts shown.core.front.committed shown.scope shown.core f g has (out_stops shown.core.outs f g order.sound.outs is_due) (key_in load.shares.items))))
     where
       no_log : f ≡ Some cause.LogFault → ⊥
       no_log is = subst (λ (o : Option Cause). IfSome o (HasCause shown.scope shown.core)) is has
@@ -143,11 +144,11 @@ module _ {D L S F : Type 0} (stores logs : Type 0) (lines : L → List Line) (av
       waits_away e = cc
 
   -- its rows are published, and its commit is kept
-  pub published_whole : (disk : D) (p : Pending F) → May shown.scope shown.core (entry.OutFile shown.core.front.committed) → IsCommitOf stores logs lines sealed shown p
-      → IsWhole stores logs lines available answers faults written sealed (did shown disk (entry.OutFile shown.core.front.committed ∷ [])) (with_pending load (Some p))
+  pub published_whole : (disk : D) (p : Pending F) → May shown.scope shown.core (entry.OutFile shown.core.front.committed) → IsCommitOf stores logs history lines sealed shown p
+      → IsWhole stores logs history lines available answers faults written sealed (did shown disk (entry.OutFile shown.core.front.committed ∷ [])) (with_pending load (Some p))
   published_whole disk p may is =
       let h = whole.holds in
-      moved_whole stores logs lines available answers faults written sealed shown load whole disk (entry.OutFile shown.core.front.committed) (with_pending load (Some p)) (λ cuts c. refl) refl refl refl refl whole.told whole.told_room (λ e. absurd (true≢false (sym (ap is_some e)))) (record {
+      moved_whole stores logs history lines available answers faults written sealed shown load whole disk (entry.OutFile shown.core.front.committed) (with_pending load (Some p)) (λ cuts c. refl) refl refl refl refl whole.told whole.told_room (λ e. absurd (true≢false (sym (ap is_some e)))) (record {
         parts = h.parts;
         partitions = h.partitions;
         keeping = h.keeping;
@@ -164,12 +165,12 @@ module _ {D L S F : Type 0} (stores logs : Type 0) (lines : L → List Line) (av
       })
 
   -- so it is once they are to be published, or that failed
-  pub after_rows : {E : Type 0} (now : Shown D (Round L)) (result : Result (Unit {0}) E) (risen : Type 0) (p : Pending F) → May shown.scope shown.core (entry.OutFile shown.core.front.committed) → IsCommitOf stores logs lines sealed shown p
+  pub after_rows : {E : Type 0} (now : Shown D (Round L)) (result : Result (Unit {0}) E) (risen : Type 0) (p : Pending F) → May shown.scope shown.core (entry.OutFile shown.core.front.committed) → IsCommitOf stores logs history lines sealed shown p
       → OnOk result (now ≡ did shown now.disk (entry.OutFile shown.core.front.committed ∷ [])) → OnErr result ((now ≡ did shown now.disk (entry.Stop cause.DiskFault ∷ [])) × risen)
-      → IsWhole stores logs lines available answers faults written sealed now (with_pending load (Some p))
-  after_rows now (Ok x) risen p may is done stopped = subst (λ (x : Shown D (Round L)). IsWhole stores logs lines available answers faults written sealed x (with_pending load (Some p))) (sym done) (published_whole now.disk p may is)
-  after_rows now (Err f) risen p may is done stopped = subst (λ (x : Shown D (Round L)). IsWhole stores logs lines available answers faults written sealed x (with_pending load (Some p))) (sym stopped.0)
-      (halted_whole stores logs lines available answers faults written sealed shown load whole now.disk cause.DiskFault (Some p) disk_no_log (λ key. tt))
+      → IsWhole stores logs history lines available answers faults written sealed now (with_pending load (Some p))
+  after_rows now (Ok x) risen p may is done stopped = subst (λ (x : Shown D (Round L)). IsWhole stores logs history lines available answers faults written sealed x (with_pending load (Some p))) (sym done) (published_whole now.disk p may is)
+  after_rows now (Err f) risen p may is done stopped = subst (λ (x : Shown D (Round L)). IsWhole stores logs history lines available answers faults written sealed x (with_pending load (Some p))) (sym stopped.0)
+      (halted_whole stores logs history lines available answers faults written sealed shown load whole now.disk cause.DiskFault (Some p) disk_no_log (λ key. tt))
 
 -- ---- how the result is taken
 

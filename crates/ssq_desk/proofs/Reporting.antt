@@ -142,5 +142,5 @@ module _ {L : Type 0} (tells : Type 0) (s : Setting) (cuts : Cuts) (e : ℕ) (re
         by cause.LogFault c own = tt
         by cause.NoMemory c own = tt
         by cause.DiskFault c own = tt
-        by (cause.Damaged q) c own = own.2
+        by (cause.Damaged q) c own = absurd own.2
         by cause.Full c own = tt

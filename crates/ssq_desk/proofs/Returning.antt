@@ -202,9 +202,9 @@ goes_on logs lines available answers faults before mid after one other = record 
   counted = (let a = one.counted in let b = other.counted in omega (arith, a, b));
 }
 
-module _ {D L S F : Type 0} (stores logs : Type 0) (lines : L → List Line) (available : L → ℕ) (answers : L → List ℕ) (faults : L → ℕ) (history : D → History) (written : S → List ℕ) (sealed : F → List ℕ) (shown : Shown D (Round L)) (load : Load L S F)
-    (whole : IsWhole stores logs lines available answers faults written sealed shown load) (legal : IsLegal (Owns stores logs lines shown) history (opening_in lines) shown) (order : IsInOrder shown.scope shown.core)
-    (task : MapTask L) (done : Fed L) (of : IsMapOf stores logs lines available answers faults shown task) (is : IsFed logs lines available answers faults task done) where
+module _ {D L S F : Type 0} (stores logs : Type 0) (history : D → History) (lines : L → List Line) (available : L → ℕ) (answers : L → List ℕ) (faults : L → ℕ) (written : S → List ℕ) (sealed : F → List ℕ) (shown : Shown D (Round L)) (load : Load L S F)
+    (whole : IsWhole stores logs history lines available answers faults written sealed shown load) (legal : IsLegal (Owns stores logs history lines shown) history (opening_in lines) shown) (order : IsInOrder shown.scope shown.core)
+    (task : MapTask L) (done : Fed L) (of : IsMapOf stores logs history lines available answers faults shown task) (is : IsFed logs lines available answers faults task done) where
   -- the result, said of the part of the task
   pub record IsBackHere : Type 0 where
     pub there : slice_get (parts_in (setting_of lines shown.opening)) done.number ≡ Some of.part
@@ -233,7 +233,7 @@ module _ {D L S F : Type 0} (stores logs : Type 0) (lines : L → List Line) (av
         rows = subst (λ (z : Bound × ℕ × ℕ × ℕ × ℕ × ℕ × ℕ). IfOk done.outcome (λ fed. IsFedFrom logs z.0 z.1 (record { stream = z.2; part = z.3; lines = lines task.log }) z.4 z.5 z.6 fed.time fed.buckets))
             (λ i. (query i, epoch i, stream i, part i, from i, to i, partitions i)) is.rows;
         why = subst (λ (z : Bound × ℕ × ℕ × ℕ × ℕ). IfErr done.outcome (FeedCause logs lines available answers faults z.0 z.1 z.2 z.3 z.4 task.log done.log)) (λ i. (query i, stream i, part i, from i, to i)) is.fault;
-        enough = λ opened t. (let within = tos_within stores logs lines available answers faults written sealed shown load whole history legal order opened task.number in
+        enough = λ opened t. (let within = tos_within stores logs history lines available answers faults written sealed shown load whole legal order opened task.number in
             let long = of.log.long t in
             let grown = is.log.grown t.1 in
             let to_is = ap (λ n. get_or (cut_of (cuts (e + 1))) n 0) is.number in omega (arith, within, long, grown, to_is));
@@ -241,14 +241,14 @@ module _ {D L S F : Type 0} (stores logs : Type 0) (lines : L → List Line) (av
       }
 
   -- the result is the task's own
-  pub map_right : FaultsAreOfTasks → is_open shown.core ≡ true → Owns stores logs lines shown → IsOwn (course_of (setting_of lines shown.opening) (cuts_of (opening_in lines) shown)) (map_id shown.core.front.committed done.number) (fault_of (cause_of_feed done.stream done.part) done.outcome)
+  pub map_right : FaultsAreOfTasks → is_open shown.core ≡ true → Owns stores logs history lines shown → IsOwn (course_of (setting_of lines shown.opening) (cuts_of (opening_in lines) shown)) (map_id shown.core.front.committed done.number) (fault_of (cause_of_feed done.stream done.part) done.outcome)
   map_right faulty opened t = back_own (stores × logs) logs lines available answers faults (λ both. both.1) (setting_of lines shown.opening) (cuts_of (opening_in lines) shown) shown.core.front.committed done.number of.part task.log done.log done.outcome
       (fault_of (cause_of_feed done.stream done.part) done.outcome) faulty back_here.there back_here.lines_are (back_here.enough opened) back_here.fault back_here.rows back_here.why (t.0, t.1.0)
 
   -- where it is taken back, in place of this source
   pub map_back : (old x : Source L) → (may : May shown.scope shown.core (entry.Report (map_id done.epoch done.number) (fault_of (cause_of_feed done.stream done.part) done.outcome))) → get_elem? load.sources.items done.number ≡ some old
       → x.stream ≡ old.stream → x.part ≡ old.part → x.from ≡ old.from → x.log ≡ Some done.log → IfOk done.outcome (λ fed. x.fed ≡ Some fed)
-      → HoldsIn stores logs lines available answers faults written sealed shown (cuts_of (opening_in lines) shown)
+      → HoldsIn stores logs history lines available answers faults written sealed shown (cuts_of (opening_in lines) shown)
       (after shown.scope shown.core (entry.Report (map_id done.epoch done.number) (fault_of (cause_of_feed done.stream done.part) done.outcome))) (set load.sources.items done.number x) load.shares.items load.held.items load.out load.seen load.pending
   map_back old x may here stream part from log fed =
       let s : Setting = setting_of lines shown.opening in
@@ -282,7 +282,7 @@ module _ {D L S F : Type 0} (stores logs : Type 0) (lines : L → List Line) (av
       (back_mapped (stores × logs) logs lines available answers faults (λ both. both.1) s.job.bound c.front.committed of.part _ _ s.job.partitions c.reduces task.log done.log done.outcome f x
       (λ p waits. (let l = at_length c.reduces p place.Waits waits in let reduces = order.sound.reduces in let scoped = whole.round.partitions in omega (arith, l, reduces, scoped)))
       h.lines_are (h.enough opened) (from ∙ was.begins) h.fault fed h.rows h.why)) in
-      holds_map (stores × logs) (Owns stores logs lines shown) lines available (LogWent logs lines available answers faults) shown.opening.logs.items written sealed s cuts shown.scope.available c (or_stop c.front.stop (due c (map_id done.epoch done.number) f)) done.number (place.Back f) x load.sources.items load.shares.items load.held.items load.out load.seen load.pending
+      holds_map (stores × logs) (Owns stores logs history lines shown) lines available (LogWent logs lines available answers faults) shown.opening.logs.items written sealed s cuts shown.scope.available c (or_stop c.front.stop (due c (map_id done.epoch done.number) f)) done.number (place.Back f) x load.sources.items load.shares.items load.held.items load.out load.seen load.pending
       (first_none c.front.stop (due c (map_id done.epoch done.number) f)) whole.holds source mapped (stills mapped c.front.stop refl) (stops mapped c.front.stop refl)
     where
       f : Option Cause
@@ -290,7 +290,7 @@ module _ {D L S F : Type 0} (stores logs : Type 0) (lines : L → List Line) (av
 
       due_stops : (shown.core.front.stop ≡ None → is_open shown.core ≡ true → (q : Part) → slice_get (parts_in (setting_of lines shown.opening)) done.number ≡ Some q
           → IsMapped (stores × logs) (setting_of lines shown.opening).job.bound shown.core.front.committed q (get_or (cut_of (cuts_of (opening_in lines) shown shown.core.front.committed)) done.number 0) (get_or (cut_of (cuts_of (opening_in lines) shown (shown.core.front.committed + 1))) done.number 0) (setting_of lines shown.opening).job.partitions shown.core.reduces (place.Back f) x)
-          → shown.core.front.stop ≡ None → (g : Cause) → or_stop shown.core.front.stop (due shown.core (map_id done.epoch done.number) f) ≡ Some g → (key : Option Values) → IsStopOf (stores × logs) (Owns stores logs lines shown) (setting_of lines shown.opening) (cuts_of (opening_in lines) shown) shown.core.front.committed key g
+          → shown.core.front.stop ≡ None → (g : Cause) → or_stop shown.core.front.stop (due shown.core (map_id done.epoch done.number) f) ≡ Some g → (key : Option Values) → IsStopOf (stores × logs) (Owns stores logs history lines shown) (setting_of lines shown.opening) (cuts_of (opening_in lines) shown) shown.core.front.committed key g
       due_stops mapped run g e =
           let c : Core = shown.core in
           let s : Setting = setting_of lines shown.opening in
@@ -302,15 +302,15 @@ module _ {D L S F : Type 0} (stores logs : Type 0) (lines : L → List Line) (av
           put_both (λ j at own. (part : Part) → slice_get (parts_in s) j ≡ Some part
           → IsMapped (stores × logs) s.job.bound c.front.committed part (get_or (cut_of (cuts c.front.committed)) j 0) (get_or (cut_of (cuts (c.front.committed + 1))) j 0) s.job.partitions c.reduces at own) c.maps load.sources.items done.number (place.Back f) x
           (λ j at own p o part there. epoch.mapped j part at own there p o) (mapped run may.0) j at own place_is own_is part there)
-          (set_length c.maps done.number (place.Back f) ∙ order.sound.maps ∙ sym (parts_count stores logs lines available answers faults written sealed shown load whole history legal order))
+          (set_length c.maps done.number (place.Back f) ∙ order.sound.maps ∙ sym (parts_count stores logs history lines available answers faults written sealed shown load whole legal order))
           (set_length load.sources.items done.number x ∙ whole.holds.parts)
           (length-map (cuts c.front.committed) (λ (e : PartEnd). e.end) ∙ epoch.froms)
-          (tos_count stores logs lines available answers faults written sealed shown load whole history legal order may.0) (Owns stores logs lines shown) g due_is
+          (tos_count stores logs history lines available answers faults written sealed shown load whole legal order may.0) (Owns stores logs history lines shown) g due_is
 
       stops : (shown.core.front.stop ≡ None → is_open shown.core ≡ true → (q : Part) → slice_get (parts_in (setting_of lines shown.opening)) done.number ≡ Some q
           → IsMapped (stores × logs) (setting_of lines shown.opening).job.bound shown.core.front.committed q (get_or (cut_of (cuts_of (opening_in lines) shown shown.core.front.committed)) done.number 0) (get_or (cut_of (cuts_of (opening_in lines) shown (shown.core.front.committed + 1))) done.number 0) (setting_of lines shown.opening).job.partitions shown.core.reduces (place.Back f) x)
           → (o : Option Cause) → shown.core.front.stop ≡ o → (g : Cause) → or_stop shown.core.front.stop (due shown.core (map_id done.epoch done.number) f) ≡ Some g
-          → IsStopOf (stores × logs) (Owns stores logs lines shown) (setting_of lines shown.opening) (cuts_of (opening_in lines) shown) shown.core.front.committed (key_in load.shares.items) g
+          → IsStopOf (stores × logs) (Owns stores logs history lines shown) (setting_of lines shown.opening) (cuts_of (opening_in lines) shown) shown.core.front.committed (key_in load.shares.items) g
       stops mapped (Some w) stopped g e = whole.holds.stop g (stopped ∙ sym (ap (λ o. or_stop o (due shown.core (map_id done.epoch done.number) f)) stopped) ∙ e)
       stops mapped None run g e = due_stops mapped run g e (key_in load.shares.items)
 

@@ -12,6 +12,7 @@ use Rattle.ssq_board.specs.declared.front.Cause.TheVariants as cause
 use Rattle.ssq_board.specs.declared.front.Entry.TheVariants as entry
 use Rattle.ssq_board.specs.declared.front.Ready.TheVariants as ready
 use Rattle.std.specs.List.{list_all}
+use Rattle.ssq_outside.specs.History.{History}
 use Rattle.ssq_board.specs.Core.{Core, after, ready_of, is_open, is_fine}
 use Rattle.ssq_board.proofs.Lists.{all_fine, nat_lt-not}
 use Rattle.ssq_board.proofs.Readies.{commit_may}
@@ -75,13 +76,13 @@ with_pending load pending = record { view = load.view; plans = load.plans; sourc
 abbrev pub with_commit : {L S F : Type 0} → Load L S F → Pending F → Vec Told → Load L S F
 with_commit load p told = record { view = load.view; plans = load.plans; sources = load.sources; shares = load.shares; held = load.held; out = load.out; seen = p.seen; pending = None; told = told; kept = load.kept }
 
-module _ {D L S F : Type 0} (stores logs : Type 0) (lines : L → List Line) (available : L → ℕ) (answers : L → List ℕ) (faults : L → ℕ) (written : S → List ℕ) (sealed : F → List ℕ) (shown : Shown D (Round L)) (load : Load L S F)
-    (whole : IsWhole stores logs lines available answers faults written sealed shown load) (disk : D) where
+module _ {D L S F : Type 0} (stores logs : Type 0) (history : D → History) (lines : L → List Line) (available : L → ℕ) (answers : L → List ℕ) (faults : L → ℕ) (written : S → List ℕ) (sealed : F → List ℕ) (shown : Shown D (Round L)) (load : Load L S F)
+    (whole : IsWhole stores logs history lines available answers faults written sealed shown load) (disk : D) where
   -- names were synced
-  pub synced_whole : (clock : ℕ) → shown.core.front.stop ≡ None → IsWhole stores logs lines available answers faults written sealed (did shown disk (entry.Sync clock ∷ [])) load
+  pub synced_whole : (clock : ℕ) → shown.core.front.stop ≡ None → IsWhole stores logs history lines available answers faults written sealed (did shown disk (entry.Sync clock ∷ [])) load
   synced_whole clock runs =
       let h = whole.holds in
-      moved_whole stores logs lines available answers faults written sealed shown load whole disk (entry.Sync clock) load (λ cuts c. refl) refl refl refl refl whole.told whole.told_room (λ e. absurd (true≢false (sym (ap is_some e)))) (record {
+      moved_whole stores logs history lines available answers faults written sealed shown load whole disk (entry.Sync clock) load (λ cuts c. refl) refl refl refl refl whole.told whole.told_room (λ e. absurd (true≢false (sym (ap is_some e)))) (record {
         parts = h.parts;
         partitions = h.partitions;
         keeping = h.keeping;
@@ -98,11 +99,11 @@ module _ {D L S F : Type 0} (stores logs : Type 0) (lines : L → List Line) (av
       })
 
   -- a Stop, with another commit
-  pub halted_whole : (f : Cause) (pending : Option (Pending F)) → (f ≡ cause.LogFault → ⊥) → ((key : Option Values) → IsStopOf (stores × logs) (Owns stores logs lines shown) (setting_of lines shown.opening) (cuts_of (opening_in lines) shown) shown.core.front.committed key f)
-      → IsWhole stores logs lines available answers faults written sealed (did shown disk (entry.Stop f ∷ [])) (with_pending load pending)
+  pub halted_whole : (f : Cause) (pending : Option (Pending F)) → (f ≡ cause.LogFault → ⊥) → ((key : Option Values) → IsStopOf (stores × logs) (Owns stores logs history lines shown) (setting_of lines shown.opening) (cuts_of (opening_in lines) shown) shown.core.front.committed key f)
+      → IsWhole stores logs history lines available answers faults written sealed (did shown disk (entry.Stop f ∷ [])) (with_pending load pending)
   halted_whole f pending no_log right =
       let h = whole.holds in
-      moved_whole stores logs lines available answers faults written sealed shown load whole disk (entry.Stop f) (with_pending load pending) (λ cuts c. refl) refl refl refl refl whole.told whole.told_room (λ e. absurd (no_log (some_cause f cause.LogFault e))) (record {
+      moved_whole stores logs history lines available answers faults written sealed shown load whole disk (entry.Stop f) (with_pending load pending) (λ cuts c. refl) refl refl refl refl whole.told whole.told_room (λ e. absurd (no_log (some_cause f cause.LogFault e))) (record {
         parts = h.parts;
         partitions = h.partitions;
         keeping = h.keeping;
@@ -110,23 +111,23 @@ module _ {D L S F : Type 0} (stores logs : Type 0) (lines : L → List Line) (av
         reduced = h.reduced;
         dealt = h.dealt;
         keys = h.keys;
-        still = λ e. absurd (never_key (stores × logs) (Owns stores logs lines shown) (setting_of lines shown.opening) (cuts_of (opening_in lines) shown) shown.core.front.committed f right (some_cause f cause.KeyOverflow e));
+        still = λ e. absurd (never_key (stores × logs) (Owns stores logs history lines shown) (setting_of lines shown.opening) (cuts_of (opening_in lines) shown) shown.core.front.committed f right (some_cause f cause.KeyOverflow e));
         kept = λ run. absurd (true≢false (ap is_some run));
         seen_so_far = λ run. absurd (true≢false (ap is_some run));
         epoch = λ run opened. absurd (true≢false (ap is_some run));
         commit = λ run opened written_is. absurd (true≢false (ap is_some run));
-        stop = λ g is. subst (IsStopOf (stores × logs) (Owns stores logs lines shown) (setting_of lines shown.opening) (cuts_of (opening_in lines) shown) shown.core.front.committed (key_in load.shares.items)) (some_cause f g is) (right (key_in load.shares.items));
+        stop = λ g is. subst (IsStopOf (stores × logs) (Owns stores logs history lines shown) (setting_of lines shown.opening) (cuts_of (opening_in lines) shown) shown.core.front.committed (key_in load.shares.items)) (some_cause f g is) (right (key_in load.shares.items));
       })
 
   -- the epoch is committed, and no other is planned
   pub committed_whole : (due : Bool) (p : Pending F) (told : Vec Told) → shown.core.front.stop ≡ None → is_open shown.core ≡ true → list_all is_fine shown.core.reduces ≡ true → shown.core.front.planned ≤ shown.core.front.committed + 1
-      → AreTold (Owns stores logs lines shown) (setting_of lines shown.opening) (cuts_of (opening_in lines) shown) shown.opening.opened.committed (shown.core.front.committed + 1) told.items
-      → IsPending (Owns stores logs lines shown) sealed (setting_of lines shown.opening) (cuts_of (opening_in lines) shown) shown.core.front.committed p
-      → IsWhole stores logs lines available answers faults written sealed (did shown disk (entry.Commit shown.core.front.committed due ∷ [])) (with_commit load p told)
+      → AreTold (Owns stores logs history lines shown) (setting_of lines shown.opening) (cuts_of (opening_in lines) shown) shown.opening.opened.committed (shown.core.front.committed + 1) told.items
+      → IsPending (Owns stores logs history lines shown) sealed (setting_of lines shown.opening) (cuts_of (opening_in lines) shown) shown.core.front.committed p
+      → IsWhole stores logs history lines available answers faults written sealed (did shown disk (entry.Commit shown.core.front.committed due ∷ [])) (with_commit load p told)
   committed_whole due p told runs opened fine near are is =
       let h = whole.holds in
       let c : Core = after shown.scope shown.core (entry.Commit shown.core.front.committed due) in
-      moved_whole stores logs lines available answers faults written sealed shown load whole disk (entry.Commit shown.core.front.committed due) (with_commit load p told) (λ cuts c. refl) refl refl refl refl are (λ opened. absurd (let less = open_less c opened in omega (arith, less, near))) (λ e. absurd (true≢false (sym (ap is_some e)))) (record {
+      moved_whole stores logs history lines available answers faults written sealed shown load whole disk (entry.Commit shown.core.front.committed due) (with_commit load p told) (λ cuts c. refl) refl refl refl refl are (λ opened. absurd (let less = open_less c opened in omega (arith, less, near))) (λ e. absurd (true≢false (sym (ap is_some e)))) (record {
         parts = h.parts;
         partitions = h.partitions;
         keeping = h.keeping;
@@ -135,53 +136,53 @@ module _ {D L S F : Type 0} (stores logs : Type 0) (lines : L → List Line) (av
         dealt = λ opened. absurd (let less = open_less c opened in omega (arith, less, near));
         keys = λ opened. absurd (let less = open_less c opened in omega (arith, less, near));
         still = λ stopped. absurd (true≢false (sym (ap is_some stopped)));
-        kept = λ run q at own here mine. subst (λ (b : Bool). IsHeldAt (Owns stores logs lines shown) (setting_of lines shown.opening) (cuts_of (opening_in lines) shown) b (shown.core.front.committed + 1) q at own) (sym (closed_then c near))
-            (next_held (Owns stores logs lines shown) (setting_of lines shown.opening) (cuts_of (opening_in lines) shown) shown.core.front.committed q at own (all_fine is_fine shown.core.reduces q at fine here) (λ rests. h.dealt opened q (here ∙ ap some rests))
-            (subst (λ (b : Bool). IsHeldAt (Owns stores logs lines shown) (setting_of lines shown.opening) (cuts_of (opening_in lines) shown) b shown.core.front.committed q at own) opened (h.kept runs q at own here mine)));
+        kept = λ run q at own here mine. subst (λ (b : Bool). IsHeldAt (Owns stores logs history lines shown) (setting_of lines shown.opening) (cuts_of (opening_in lines) shown) b (shown.core.front.committed + 1) q at own) (sym (closed_then c near))
+            (next_held (Owns stores logs history lines shown) (setting_of lines shown.opening) (cuts_of (opening_in lines) shown) shown.core.front.committed q at own (all_fine is_fine shown.core.reduces q at fine here) (λ rests. h.dealt opened q (here ∙ ap some rests))
+            (subst (λ (b : Bool). IsHeldAt (Owns stores logs history lines shown) (setting_of lines shown.opening) (cuts_of (opening_in lines) shown) b shown.core.front.committed q at own) opened (h.kept runs q at own here mine)));
         seen_so_far = λ run. is.times;
         epoch = λ run opened. absurd (let less = open_less c opened in omega (arith, less, near));
         commit = λ run opened written_is. absurd (let less = open_less c opened in omega (arith, less, near));
         stop = λ f stopped. absurd (true≢false (sym (ap is_some stopped)));
       })
 
-module _ {D L S F : Type 0} (stores logs : Type 0) (lines : L → List Line) (available : L → ℕ) (answers : L → List ℕ) (faults : L → ℕ) (written : S → List ℕ) (sealed : F → List ℕ) (shown : Shown D (Round L)) (load : Load L S F)
-    (whole : IsWhole stores logs lines available answers faults written sealed shown load) where
+module _ {D L S F : Type 0} (stores logs : Type 0) (history : D → History) (lines : L → List Line) (available : L → ℕ) (answers : L → List ℕ) (faults : L → ℕ) (written : S → List ℕ) (sealed : F → List ℕ) (shown : Shown D (Round L)) (load : Load L S F)
+    (whole : IsWhole stores logs history lines available answers faults written sealed shown load) where
   -- the commit that is to be published is there
   pub pending_here : ready_of shown.scope shown.core ≡ ready.Commit
-      → (p : Pending F) × (load.pending ≡ Some p) × IsPending (Owns stores logs lines shown) sealed (setting_of lines shown.opening) (cuts_of (opening_in lines) shown) shown.core.front.committed p
+      → (p : Pending F) × (load.pending ≡ Some p) × IsPending (Owns stores logs history lines shown) sealed (setting_of lines shown.opening) (cuts_of (opening_in lines) shown) shown.core.front.committed p
   pending_here next = (let m = commit_may shown.scope shown.core false next in whole.holds.commit m.0 m.2 m.4)
 
   -- names were synced, or that failed
   pub after_sync : (now : Shown D (Round L)) (result : Result (Unit {0}) Cause) (before later : ℕ) → shown.core.front.stop ≡ None
       → OnOk result ((clock : ℕ) × (now ≡ did shown now.disk (entry.Sync clock ∷ []))) → IfErr result (λ f. (now ≡ did shown now.disk (entry.Stop f ∷ [])) × HasRisen f before later)
-      → IsWhole stores logs lines available answers faults written sealed now load
+      → IsWhole stores logs history lines available answers faults written sealed now load
   after_sync now (Ok x) before later runs done stopped =
-      subst (λ (x : Shown D (Round L)). IsWhole stores logs lines available answers faults written sealed x load) (sym done.1) (synced_whole stores logs lines available answers faults written sealed shown load whole now.disk done.0 runs)
+      subst (λ (x : Shown D (Round L)). IsWhole stores logs history lines available answers faults written sealed x load) (sym done.1) (synced_whole stores logs history lines available answers faults written sealed shown load whole now.disk done.0 runs)
   after_sync now (Err f) before later runs done stopped =
-      subst (λ (x : Shown D (Round L)). IsWhole stores logs lines available answers faults written sealed x load) (sym stopped.0)
-      (halted_whole stores logs lines available answers faults written sealed shown load whole now.disk f load.pending (risen_no_log f before later stopped.1)
-      (risen_stops (stores × logs) (Owns stores logs lines shown) (setting_of lines shown.opening) (cuts_of (opening_in lines) shown) shown.core.front.committed f before later stopped.1))
+      subst (λ (x : Shown D (Round L)). IsWhole stores logs history lines available answers faults written sealed x load) (sym stopped.0)
+      (halted_whole stores logs history lines available answers faults written sealed shown load whole now.disk f load.pending (risen_no_log f before later stopped.1)
+      (risen_stops (stores × logs) (Owns stores logs history lines shown) (setting_of lines shown.opening) (cuts_of (opening_in lines) shown) shown.core.front.committed f before later stopped.1))
 
   -- the epoch is committed, with what is left of the load
   pub after_commit : (now : Shown D (Round L)) (p : Pending F) (none : Option (Pending F)) (told : Vec Told) → shown.core.front.planned ≤ shown.core.front.committed + 1 → none ≡ None → load.pending ≡ Some p
       → ready_of shown.scope shown.core ≡ ready.Commit → ((due : Bool) × (now ≡ did shown now.disk (entry.Commit shown.core.front.committed due ∷ [])))
-      → AreTold (Owns stores logs lines shown) (setting_of lines shown.opening) (cuts_of (opening_in lines) shown) shown.opening.opened.committed (shown.core.front.committed + 1) told.items
-      → IsWhole stores logs lines available answers faults written sealed now (record { view = load.view; plans = load.plans; sources = load.sources; shares = load.shares; held = load.held; out = load.out; seen = p.seen; pending = none; told = told; kept = load.kept })
+      → AreTold (Owns stores logs history lines shown) (setting_of lines shown.opening) (cuts_of (opening_in lines) shown) shown.opening.opened.committed (shown.core.front.committed + 1) told.items
+      → IsWhole stores logs history lines available answers faults written sealed now (record { view = load.view; plans = load.plans; sources = load.sources; shares = load.shares; held = load.held; out = load.out; seen = p.seen; pending = none; told = told; kept = load.kept })
   after_commit now p none told near none_is p_is next done are =
       let h = pending_here next in
-      let own = subst (IsPending (Owns stores logs lines shown) sealed (setting_of lines shown.opening) (cuts_of (opening_in lines) shown) shown.core.front.committed) (some_pending h.0 p (sym h.1 ∙ p_is)) h.2 in
-      subst (λ (x : Shown D (Round L)). IsWhole stores logs lines available answers faults written sealed x (record { view = load.view; plans = load.plans; sources = load.sources; shares = load.shares; held = load.held; out = load.out; seen = p.seen; pending = none; told = told; kept = load.kept })) (sym done.1)
-      (subst (λ (o : Option (Pending F)). IsWhole stores logs lines available answers faults written sealed (did shown now.disk (entry.Commit shown.core.front.committed done.0 ∷ [])) (record { view = load.view; plans = load.plans; sources = load.sources; shares = load.shares; held = load.held; out = load.out; seen = p.seen; pending = o; told = told; kept = load.kept })) (sym none_is)
-      (let m = commit_may shown.scope shown.core false next in committed_whole stores logs lines available answers faults written sealed shown load whole now.disk done.0 p told m.0 m.2 (commit_fine shown.scope shown.core next) near are own))
+      let own = subst (IsPending (Owns stores logs history lines shown) sealed (setting_of lines shown.opening) (cuts_of (opening_in lines) shown) shown.core.front.committed) (some_pending h.0 p (sym h.1 ∙ p_is)) h.2 in
+      subst (λ (x : Shown D (Round L)). IsWhole stores logs history lines available answers faults written sealed x (record { view = load.view; plans = load.plans; sources = load.sources; shares = load.shares; held = load.held; out = load.out; seen = p.seen; pending = none; told = told; kept = load.kept })) (sym done.1)
+      (subst (λ (o : Option (Pending F)). IsWhole stores logs history lines available answers faults written sealed (did shown now.disk (entry.Commit shown.core.front.committed done.0 ∷ [])) (record { view = load.view; plans = load.plans; sources = load.sources; shares = load.shares; held = load.held; out = load.out; seen = p.seen; pending = o; told = told; kept = load.kept })) (sym none_is)
+      (let m = commit_may shown.scope shown.core false next in committed_whole stores logs history lines available answers faults written sealed shown load whole now.disk done.0 p told m.0 m.2 (commit_fine shown.scope shown.core next) near are own))
 
   -- its commit could not be published
-  pub uncommitted : (now : Shown D (Round L)) (none : Option (Pending F)) → now ≡ did shown now.disk (entry.Stop cause.DiskFault ∷ []) → IsWhole stores logs lines available answers faults written sealed now (with_pending load none)
+  pub uncommitted : (now : Shown D (Round L)) (none : Option (Pending F)) → now ≡ did shown now.disk (entry.Stop cause.DiskFault ∷ []) → IsWhole stores logs history lines available answers faults written sealed now (with_pending load none)
   uncommitted now none stopped =
-      subst (λ (x : Shown D (Round L)). IsWhole stores logs lines available answers faults written sealed x (with_pending load none)) (sym stopped)
-      (halted_whole stores logs lines available answers faults written sealed shown load whole now.disk cause.DiskFault none disk_no_log (λ key. tt))
+      subst (λ (x : Shown D (Round L)). IsWhole stores logs history lines available answers faults written sealed x (with_pending load none)) (sym stopped)
+      (halted_whole stores logs history lines available answers faults written sealed shown load whole now.disk cause.DiskFault none disk_no_log (λ key. tt))
 
   -- and it is the epoch's
   pub pending_right : (p : Pending F) → load.pending ≡ Some p → ready_of shown.scope shown.core ≡ ready.Commit
-      → Owns stores logs lines shown → sealed p.commit ≡ truth ((opening_in lines shown.opening).job.course (cuts_of (opening_in lines) shown)) (name.Commit shown.core.front.committed)
+      → Owns stores logs history lines shown → sealed p.commit ≡ truth ((opening_in lines shown.opening).job.course (cuts_of (opening_in lines) shown)) (name.Commit shown.core.front.committed)
   pending_right p p_is next t =
       let h = pending_here next in ap (λ (x : Pending F). sealed x.commit) (some_pending p h.0 (sym p_is ∙ h.1)) ∙ h.2.commit t

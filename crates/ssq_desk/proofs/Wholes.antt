@@ -20,6 +20,7 @@ use Rattle.ssq_desk.specs.declared.desk.Load.{Load}
 use Rattle.ssq_desk.specs.declared.round.Round.{Round}
 use Rattle.ssq_desk.specs.Round.{setting_of, Owns}
 use Rattle.std.specs.Global.{Vec}
+use Rattle.ssq_outside.specs.History.{History}
 use Rattle.ssq_desk.specs.declared.desk.Source.{Source}
 use Rattle.ssq_desk.specs.declared.desk.Share.{Share}
 use Rattle.ssq_desk.specs.declared.desk.OutWork.{OutWork}
@@ -97,36 +98,40 @@ cause_no_log r c f has is = subst (HasCause r c) is has
 pub unmade_no_log : (n : ℕ) (f : Cause) → IsUnmade n f → f ≡ cause.LogFault → ⊥
 unmade_no_log n f unmade is = subst (IsUnmade n) is unmade
 
+-- a ledger that did nothing
+pub did_nothing : {D O : Type 0} (s : Shown D O) → s ≡ did s s.disk []
+did_nothing s = (let none = sym (append-nil s.history) in λ i. record { opening = s.opening; opened = s.opened; scope = s.scope; disk = s.disk; core = s.core; history = none i })
+
 module _ {D O : Type 0} where
   -- entries after entries
   pub did_then : (s : Shown D O) (one other : D) (es more : List Entry) → did (did s one es) other more ≡ did s other (es ++ more)
   did_then s one other es more = (λ i. record { opening = s.opening; opened = s.opened; scope = s.scope; disk = other; core = after_more s.scope s.core es more i; history = append_assoc s.history es more i })
 
-module _ {D L S F : Type 0} (stores logs : Type 0) (lines : L → List Line) (available : L → ℕ) (answers : L → List ℕ) (faults : L → ℕ) (written : S → List ℕ) (sealed : F → List ℕ) (shown : Shown D (Round L)) (load : Load L S F)
-    (whole : IsWhole stores logs lines available answers faults written sealed shown load) where
+module _ {D L S F : Type 0} (stores logs : Type 0) (history : D → History) (lines : L → List Line) (available : L → ℕ) (answers : L → List ℕ) (faults : L → ℕ) (written : S → List ℕ) (sealed : F → List ℕ) (shown : Shown D (Round L)) (load : Load L S F)
+    (whole : IsWhole stores logs history lines available answers faults written sealed shown load) where
   -- a call of the disk that changes no name
-  pub still_whole : (disk : D) → IsWhole stores logs lines available answers faults written sealed (did shown disk []) load
+  pub still_whole : (disk : D) → IsWhole stores logs history lines available answers faults written sealed (did shown disk []) load
   still_whole disk =
       let same : cuts_of (opening_in lines) (did shown disk []) ≡ cuts_of (opening_in lines) shown = ap (cuts_after (opening_in lines shown.opening) shown.scope) (append-nil shown.history) in record {
         round = whole.round;
         view = whole.view;
-        holds = subst (λ (cuts : Cuts). HoldsIn stores logs lines available answers faults written sealed shown cuts shown.core load.sources.items load.shares.items load.held.items load.out load.seen load.pending) (sym same) whole.holds;
-        plans = subst (λ (cuts : Cuts). ArePlans (Owns stores logs lines shown) shown.opening.opened.plans (setting_of lines shown.opening) cuts shown.core.front.planned load.plans.items) (sym same) whole.plans;
-        told = subst (λ (cuts : Cuts). AreTold (Owns stores logs lines shown) (setting_of lines shown.opening) cuts shown.opening.opened.committed shown.core.front.committed load.told.items) (sym same) whole.told;
+        holds = subst (λ (cuts : Cuts). HoldsIn stores logs history lines available answers faults written sealed shown cuts shown.core load.sources.items load.shares.items load.held.items load.out load.seen load.pending) (sym same) whole.holds;
+        plans = subst (λ (cuts : Cuts). ArePlans (Owns stores logs history lines shown) shown.opening.opened.plans (setting_of lines shown.opening) cuts shown.core.front.planned load.plans.items) (sym same) whole.plans;
+        told = subst (λ (cuts : Cuts). AreTold (Owns stores logs history lines shown) (setting_of lines shown.opening) cuts shown.opening.opened.committed shown.core.front.committed load.told.items) (sym same) whole.told;
         told_room = whole.told_room;
         faulty = whole.faulty;
         kept = whole.kept;
       }
 
   -- a Stop for a cause that may stop it
-  pub stopped_whole : (disk : D) (f : Cause) → (f ≡ cause.LogFault → ⊥) → ((key : Option Values) → IsStopOf (stores × logs) (Owns stores logs lines shown) (setting_of lines shown.opening) (cuts_of (opening_in lines) shown) shown.core.front.committed key f)
-      → IsWhole stores logs lines available answers faults written sealed (did shown disk (entry.Stop f ∷ [])) load
+  pub stopped_whole : (disk : D) (f : Cause) → (f ≡ cause.LogFault → ⊥) → ((key : Option Values) → IsStopOf (stores × logs) (Owns stores logs history lines shown) (setting_of lines shown.opening) (cuts_of (opening_in lines) shown) shown.core.front.committed key f)
+      → IsWhole stores logs history lines available answers faults written sealed (did shown disk (entry.Stop f ∷ [])) load
   stopped_whole disk f no_log right =
       let s : Setting = setting_of lines shown.opening in
       let old : Cuts = cuts_of (opening_in lines) shown in
       let new : Core = after shown.scope shown.core (entry.Stop f) in
       let same : cuts_of (opening_in lines) (did shown disk (entry.Stop f ∷ [])) ≡ old = cuts_then (opening_in lines shown.opening) shown.scope shown.history (entry.Stop f) in
-      let h : HoldsIn stores logs lines available answers faults written sealed shown old new load.sources.items load.shares.items load.held.items load.out load.seen load.pending = record {
+      let h : HoldsIn stores logs history lines available answers faults written sealed shown old new load.sources.items load.shares.items load.held.items load.out load.seen load.pending = record {
         parts = whole.holds.parts;
         partitions = whole.holds.partitions;
         keeping = whole.holds.keeping;
@@ -134,57 +139,57 @@ module _ {D L S F : Type 0} (stores logs : Type 0) (lines : L → List Line) (av
         reduced = whole.holds.reduced;
         dealt = whole.holds.dealt;
         keys = whole.holds.keys;
-        still = λ e. absurd (never_key (stores × logs) (Owns stores logs lines shown) s old shown.core.front.committed f right (some_same f cause.KeyOverflow e));
+        still = λ e. absurd (never_key (stores × logs) (Owns stores logs history lines shown) s old shown.core.front.committed f right (some_same f cause.KeyOverflow e));
         kept = λ running. absurd (true≢false (ap is_some running));
         seen_so_far = λ running. absurd (true≢false (ap is_some running));
         epoch = λ running opened. absurd (true≢false (ap is_some running));
         commit = λ running opened is. absurd (true≢false (ap is_some running));
-        stop = λ g is. subst (IsStopOf (stores × logs) (Owns stores logs lines shown) s old shown.core.front.committed (key_in load.shares.items)) (some_same f g is) (right (key_in load.shares.items));
+        stop = λ g is. subst (IsStopOf (stores × logs) (Owns stores logs history lines shown) s old shown.core.front.committed (key_in load.shares.items)) (some_same f g is) (right (key_in load.shares.items));
       } in record {
         round = whole.round;
         view = whole.view;
-        holds = subst (λ (cuts : Cuts). HoldsIn stores logs lines available answers faults written sealed shown cuts new load.sources.items load.shares.items load.held.items load.out load.seen load.pending) (sym same) h;
-        plans = subst (λ (cuts : Cuts). ArePlans (Owns stores logs lines shown) shown.opening.opened.plans s cuts shown.core.front.planned load.plans.items) (sym same) whole.plans;
-        told = subst (λ (cuts : Cuts). AreTold (Owns stores logs lines shown) s cuts shown.opening.opened.committed shown.core.front.committed load.told.items) (sym same) whole.told;
+        holds = subst (λ (cuts : Cuts). HoldsIn stores logs history lines available answers faults written sealed shown cuts new load.sources.items load.shares.items load.held.items load.out load.seen load.pending) (sym same) h;
+        plans = subst (λ (cuts : Cuts). ArePlans (Owns stores logs history lines shown) shown.opening.opened.plans s cuts shown.core.front.planned load.plans.items) (sym same) whole.plans;
+        told = subst (λ (cuts : Cuts). AreTold (Owns stores logs history lines shown) s cuts shown.opening.opened.committed shown.core.front.committed load.told.items) (sym same) whole.told;
         told_room = whole.told_room;
         faulty = λ e. absurd (no_log (some_same f cause.LogFault e));
         kept = whole.kept;
       }
 
-module _ {D L S F : Type 0} (stores logs : Type 0) (lines : L → List Line) (available : L → ℕ) (answers : L → List ℕ) (faults : L → ℕ) (written : S → List ℕ) (sealed : F → List ℕ) (shown : Shown D (Round L)) (load : Load L S F)
-    (whole : IsWhole stores logs lines available answers faults written sealed shown load) where
+module _ {D L S F : Type 0} (stores logs : Type 0) (history : D → History) (lines : L → List Line) (available : L → ℕ) (answers : L → List ℕ) (faults : L → ℕ) (written : S → List ℕ) (sealed : F → List ℕ) (shown : Shown D (Round L)) (load : Load L S F)
+    (whole : IsWhole stores logs history lines available answers faults written sealed shown load) where
   -- between epochs, a load that is the same but for room
-  pub same_load : (now : Load L S F) → is_open shown.core ≡ false → IsSameLoad load now → IsWhole stores logs lines available answers faults written sealed shown now
+  pub same_load : (now : Load L S F) → is_open shown.core ≡ false → IsSameLoad load now → IsWhole stores logs history lines available answers faults written sealed shown now
   same_load now closed same =
       let s : Setting = setting_of lines shown.opening in
       let cuts : Cuts = cuts_of (opening_in lines) shown in record {
         round = whole.round;
         view = subst (IsViewOf s) (sym same.view_is) whole.view;
-        holds = subst (λ (x : Vec (Source L)). HoldsIn stores logs lines available answers faults written sealed shown cuts shown.core x.items now.shares.items now.held.items now.out now.seen now.pending) (sym same.sources_are)
-            (subst (λ (x : Vec (Share S)). HoldsIn stores logs lines available answers faults written sealed shown cuts shown.core load.sources.items x.items now.held.items now.out now.seen now.pending) (sym same.shares_are)
-            (subst (λ (x : Vec (Option Held)). HoldsIn stores logs lines available answers faults written sealed shown cuts shown.core load.sources.items load.shares.items x.items now.out now.seen now.pending) (sym same.held_is)
-            (subst (λ (x : Option (OutWork S F)). HoldsIn stores logs lines available answers faults written sealed shown cuts shown.core load.sources.items load.shares.items load.held.items x now.seen now.pending) (sym same.out_is)
-            (subst (λ (x : List (Option ℤ)). HoldsIn stores logs lines available answers faults written sealed shown cuts shown.core load.sources.items load.shares.items load.held.items load.out x now.pending) (sym same.seen_is)
-            (subst (λ (x : Option (Pending F)). HoldsIn stores logs lines available answers faults written sealed shown cuts shown.core load.sources.items load.shares.items load.held.items load.out load.seen x) (sym same.pending_is) whole.holds)))));
-        plans = subst (λ (x : List Plan). ArePlans (Owns stores logs lines shown) shown.opening.opened.plans s cuts shown.core.front.planned x) (sym same.plans_are) whole.plans;
-        told = subst (λ (x : List Told). AreTold (Owns stores logs lines shown) s cuts shown.opening.opened.committed shown.core.front.committed x) (sym same.told_are) whole.told;
+        holds = subst (λ (x : Vec (Source L)). HoldsIn stores logs history lines available answers faults written sealed shown cuts shown.core x.items now.shares.items now.held.items now.out now.seen now.pending) (sym same.sources_are)
+            (subst (λ (x : Vec (Share S)). HoldsIn stores logs history lines available answers faults written sealed shown cuts shown.core load.sources.items x.items now.held.items now.out now.seen now.pending) (sym same.shares_are)
+            (subst (λ (x : Vec (Option Held)). HoldsIn stores logs history lines available answers faults written sealed shown cuts shown.core load.sources.items load.shares.items x.items now.out now.seen now.pending) (sym same.held_is)
+            (subst (λ (x : Option (OutWork S F)). HoldsIn stores logs history lines available answers faults written sealed shown cuts shown.core load.sources.items load.shares.items load.held.items x now.seen now.pending) (sym same.out_is)
+            (subst (λ (x : List (Option ℤ)). HoldsIn stores logs history lines available answers faults written sealed shown cuts shown.core load.sources.items load.shares.items load.held.items load.out x now.pending) (sym same.seen_is)
+            (subst (λ (x : Option (Pending F)). HoldsIn stores logs history lines available answers faults written sealed shown cuts shown.core load.sources.items load.shares.items load.held.items load.out load.seen x) (sym same.pending_is) whole.holds)))));
+        plans = subst (λ (x : List Plan). ArePlans (Owns stores logs history lines shown) shown.opening.opened.plans s cuts shown.core.front.planned x) (sym same.plans_are) whole.plans;
+        told = subst (λ (x : List Told). AreTold (Owns stores logs history lines shown) s cuts shown.opening.opened.committed shown.core.front.committed x) (sym same.told_are) whole.told;
         told_room = λ opened. absurd (true≢false (sym opened ∙ closed));
         faulty = λ e. subst (λ (x : Vec (Source L)). HasFaulty faults shown.core.maps x.items) (sym same.sources_are) (whole.faulty e);
         kept = subst (IsKept s shown.opening.opened) (sym same.kept_is) whole.kept;
       }
 
   -- what was made for an epoch that is not to come
-  pub unplanned_whole : (disk : D) (f : Cause) (made now : Load L S F) (here : Vec PartEnd) → (f ≡ cause.LogFault → ⊥) → is_open shown.core ≡ false → IsMadeFor (Owns stores logs lines shown) written shown.core.ends load made here
+  pub unplanned_whole : (disk : D) (f : Cause) (made now : Load L S F) (here : Vec PartEnd) → (f ≡ cause.LogFault → ⊥) → is_open shown.core ≡ false → IsMadeFor (Owns stores logs history lines shown) written shown.core.ends load made here
       → now.view ≡ made.view → now.plans.items ≡ made.plans.items → now.sources.items ≡ made.sources.items → length now.shares.items ≡ length made.shares.items → now.held ≡ made.held → now.told.items ≡ made.told.items → now.kept ≡ made.kept
-      → ((key : Option Values) → IsStopOf (stores × logs) (Owns stores logs lines shown) (setting_of lines shown.opening) (cuts_of (opening_in lines) shown) shown.core.front.committed key f)
-      → IsWhole stores logs lines available answers faults written sealed (did shown disk (entry.Stop f ∷ [])) now
+      → ((key : Option Values) → IsStopOf (stores × logs) (Owns stores logs history lines shown) (setting_of lines shown.opening) (cuts_of (opening_in lines) shown) shown.core.front.committed key f)
+      → IsWhole stores logs history lines available answers faults written sealed (did shown disk (entry.Stop f ∷ [])) now
   unplanned_whole disk f made now here no_log closed is view plans sources shares held told kept right =
       let s : Setting = setting_of lines shown.opening in
       let old : Cuts = cuts_of (opening_in lines) shown in
       let new : Core = after shown.scope shown.core (entry.Stop f) in
       let same : cuts_of (opening_in lines) (did shown disk (entry.Stop f ∷ [])) ≡ old = cuts_then (opening_in lines shown.opening) shown.scope shown.history (entry.Stop f) in
       let begun : AreBegun shown.core.ends load.sources.items now.sources.items = subst (λ (x : List (Source L)). AreBegun shown.core.ends load.sources.items x) (sym sources) is.begun in
-      let h : HoldsIn stores logs lines available answers faults written sealed shown old new now.sources.items now.shares.items now.held.items now.out now.seen now.pending = record {
+      let h : HoldsIn stores logs history lines available answers faults written sealed shown old new now.sources.items now.shares.items now.held.items now.out now.seen now.pending = record {
         parts = begun.0 ∙ whole.holds.parts;
         partitions = shares ∙ is.ready.count ∙ whole.view.partitions;
         keeping = ap (λ (v : Vec (Option Held)). length v.items) (held ∙ is.held_is) ∙ whole.holds.keeping;
@@ -192,19 +197,19 @@ module _ {D L S F : Type 0} (stores logs : Type 0) (lines : L → List Line) (av
         reduced = whole.holds.reduced;
         dealt = λ opened. absurd (true≢false (sym opened ∙ closed));
         keys = λ opened. absurd (true≢false (sym opened ∙ closed));
-        still = λ e. absurd (never_key (stores × logs) (Owns stores logs lines shown) s old shown.core.front.committed f right (some_same f cause.KeyOverflow e));
+        still = λ e. absurd (never_key (stores × logs) (Owns stores logs history lines shown) s old shown.core.front.committed f right (some_same f cause.KeyOverflow e));
         kept = λ running. absurd (true≢false (ap is_some running));
         seen_so_far = λ running. absurd (true≢false (ap is_some running));
         epoch = λ running opened. absurd (true≢false (ap is_some running));
         commit = λ running opened written_is. absurd (true≢false (ap is_some running));
-        stop = λ g stopped. subst (IsStopOf (stores × logs) (Owns stores logs lines shown) s old shown.core.front.committed (key_in now.shares.items)) (some_same f g stopped) (right (key_in now.shares.items));
+        stop = λ g stopped. subst (IsStopOf (stores × logs) (Owns stores logs history lines shown) s old shown.core.front.committed (key_in now.shares.items)) (some_same f g stopped) (right (key_in now.shares.items));
       } in record {
         round = whole.round;
         view = subst (IsViewOf s) (sym (view ∙ is.view_is)) whole.view;
-        holds = subst (λ (cuts : Cuts). HoldsIn stores logs lines available answers faults written sealed shown cuts new now.sources.items now.shares.items now.held.items now.out now.seen now.pending) (sym same) h;
-        plans = subst (λ (cuts : Cuts). ArePlans (Owns stores logs lines shown) shown.opening.opened.plans s cuts shown.core.front.planned now.plans.items) (sym same) (subst (λ (x : List Plan). ArePlans (Owns stores logs lines shown) shown.opening.opened.plans s old shown.core.front.planned x) (sym (plans ∙ is.plans_are)) whole.plans);
-        told = subst (λ (cuts : Cuts). AreTold (Owns stores logs lines shown) s cuts shown.opening.opened.committed shown.core.front.committed now.told.items) (sym same)
-            (subst (λ (x : List Told). AreTold (Owns stores logs lines shown) s old shown.opening.opened.committed shown.core.front.committed x) (sym (told ∙ is.told_are)) whole.told);
+        holds = subst (λ (cuts : Cuts). HoldsIn stores logs history lines available answers faults written sealed shown cuts new now.sources.items now.shares.items now.held.items now.out now.seen now.pending) (sym same) h;
+        plans = subst (λ (cuts : Cuts). ArePlans (Owns stores logs history lines shown) shown.opening.opened.plans s cuts shown.core.front.planned now.plans.items) (sym same) (subst (λ (x : List Plan). ArePlans (Owns stores logs history lines shown) shown.opening.opened.plans s old shown.core.front.planned x) (sym (plans ∙ is.plans_are)) whole.plans);
+        told = subst (λ (cuts : Cuts). AreTold (Owns stores logs history lines shown) s cuts shown.opening.opened.committed shown.core.front.committed now.told.items) (sym same)
+            (subst (λ (x : List Told). AreTold (Owns stores logs history lines shown) s old shown.opening.opened.committed shown.core.front.committed x) (sym (told ∙ is.told_are)) whole.told);
         told_room = λ opened. absurd (true≢false (sym opened ∙ closed));
         faulty = λ e. absurd (no_log (some_same f cause.LogFault e));
         kept = subst (IsKept s shown.opening.opened) (sym (kept ∙ is.kept_is)) whole.kept;

@@ -66,13 +66,14 @@ IsCauseIn reads query part from to (cause.Damaged q) = ⊥
 IsCauseIn reads query part from to cause.Full = ⊥
 
 -- Why a desk stopped, with the least key on which a reduce task of the epoch that runs failed: a line's fault is the first of that epoch, and
--- a key's is that key, where what was opened is the job's own; and no log that tells what it holds is short.
+-- a key's is that key, where what was opened is the job's own; no log that tells what it holds is short; and where what was opened is the job's
+-- own no file is damaged.
 abbrev pub IsStopOf : (reads owned : Type 0) → Setting → Cuts → ℕ → Option Values → Cause → Type 0
 IsStopOf reads owned s cuts e key (cause.BadLine t p o f) = reads → (at : LineAt) × (line_of (cause.BadLine t p o f) ≡ Some at) × (fault s.job.bound (parts_in s) (cuts_of cuts) e ≡ Some (of_line at))
 IsStopOf reads owned s cuts e key (cause.Overflow t p o) = reads → (at : LineAt) × (line_of (cause.Overflow t p o) ≡ Some at) × (fault s.job.bound (parts_in s) (cuts_of cuts) e ≡ Some (of_line at))
 IsStopOf reads owned s cuts e key cause.KeyOverflow = IsSomeAnd key (λ own. owned → fault s.job.bound (parts_in s) (cuts_of cuts) e ≡ Some (of_key own))
 IsStopOf reads owned s cuts e key (cause.LogShort t p logged found) = (found < logged) × (reads → ⊥)
-IsStopOf reads owned s cuts e key (cause.Damaged q) = ⊥
+IsStopOf reads owned s cuts e key (cause.Damaged q) = owned → ⊥
 IsStopOf reads owned s cuts e key cause.LogFault = Unit {0}
 IsStopOf reads owned s cuts e key cause.DiskFault = Unit {0}
 IsStopOf reads owned s cuts e key cause.Full = Unit {0}

@@ -1,5 +1,6 @@
 -- The tasks of the epoch that a desk runs.
 use Rattle.std.specs.Prelude.{ℕ, List}
+use Rattle.ssq_outside.specs.History.{History}
 use Rattle.ssq_meaning.specs.Meaning.{Line}
 use Rattle.ssq_feed.specs.Causes.{LogWent}
 use Rattle.ssq_feed.specs.declared.task.MapTask.{MapTask}
@@ -13,7 +14,7 @@ use Rattle.ssq_desk.specs.Round.{setting_of, Owns}
 use Rattle.ssq_desk.specs.Tasks.{IsMapTask, IsReduceTask, IsOutTask}
 use Rattle.ssq_desk.specs.Whole.{opening_in}
 
-module _ {D L : Type 0} (stores logs : Type 0) (lines : L → List Line) where
+module _ {D L : Type 0} (stores logs : Type 0) (history : D → History) (lines : L → List Line) where
   -- a map task is that of its part in the epoch that a desk runs
   abbrev pub IsMapOf : (L → ℕ) → (L → List ℕ) → (L → ℕ) → Shown D (Round L) → MapTask L → Type 0
   IsMapOf available answers faults shown task =
@@ -21,11 +22,11 @@ module _ {D L : Type 0} (stores logs : Type 0) (lines : L → List Line) where
 
   -- a reduce task that of its partition
   abbrev pub IsReduceOf : {S F : Type 0} → (S → List ℕ) → Shown D (Round L) → ReduceTask S F → Type 0
-  IsReduceOf written shown task = IsReduceTask (Owns stores logs lines shown) written (setting_of lines shown.opening) (cuts_of (opening_in lines) shown) shown.core.front.committed task
+  IsReduceOf written shown task = IsReduceTask (Owns stores logs history lines shown) written (setting_of lines shown.opening) (cuts_of (opening_in lines) shown) shown.core.front.committed task
 
   -- and the out task
   abbrev pub IsOutOf : {S F : Type 0} → (S → List ℕ) → Shown D (Round L) → OutTask S F → Type 0
-  IsOutOf written shown task = IsOutTask (Owns stores logs lines shown) written (setting_of lines shown.opening) (cuts_of (opening_in lines) shown) shown.core.front.committed task
+  IsOutOf written shown task = IsOutTask (Owns stores logs history lines shown) written (setting_of lines shown.opening) (cuts_of (opening_in lines) shown) shown.core.front.committed task
 
   abbrev pub IsTaskOf : {S F : Type 0} → (L → ℕ) → (L → List ℕ) → (L → ℕ) → (S → List ℕ) → Shown D (Round L) → Task L S F → Type 0
   IsTaskOf available answers faults written shown (task.Map t) = IsMapOf available answers faults shown t

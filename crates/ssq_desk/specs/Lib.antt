@@ -10,3 +10,4 @@ pub mod Making
 pub mod First
 pub mod Published
 pub mod Closing
+pub mod Upkeep

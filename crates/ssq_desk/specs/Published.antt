@@ -1,5 +1,6 @@
 -- How the result of an out task is taken.
 use Rattle.std.specs.Prelude.{◌≡◌, ℕ, Bool, true, false, List, [], ◌∷◌, Option, None, Result, OnOk, IfErr}
+use Rattle.ssq_outside.specs.History.{History}
 use Rattle.ssq_outside.specs.declared.name.Name.TheVariants as name
 use Rattle.ssq_outside.specs.declared.gate.TaskId.{TaskId}
 use Rattle.ssq_meaning.specs.Meaning.{Line}
@@ -36,11 +37,11 @@ module _ {D O : Type 0} where
       × IfErr result (λ stop. (stop ≡ cause.DiskFault) × (n ≡ did s n.disk (entry.Report t fault ∷ entry.Stop stop ∷ [])) × risen)
   IsOut false s n t fault result risen = (n ≡ did s n.disk (entry.Report t fault ∷ [])) × (result ≡ answer (due s.core t fault))
 
-module _ {D L F : Type 0} (stores logs : Type 0) (lines : L → List Line) (sealed : F → List ℕ) where
+module _ {D L F : Type 0} (stores logs : Type 0) (history : D → History) (lines : L → List Line) (sealed : F → List ℕ) where
   -- a sealed file has the rows of the epoch that a desk runs
   abbrev pub AreRowsOf : Shown D (Round L) → F → Type 0
-  AreRowsOf shown file = Owns stores logs lines shown → sealed file ≡ truth (course_of (setting_of lines shown.opening) (cuts_of (opening_in lines) shown)) (name.Out shown.core.front.committed)
+  AreRowsOf shown file = Owns stores logs history lines shown → sealed file ≡ truth (course_of (setting_of lines shown.opening) (cuts_of (opening_in lines) shown)) (name.Out shown.core.front.committed)
 
   -- and this is its commit
   abbrev pub IsCommitOf : Shown D (Round L) → Pending F → Type 0
-  IsCommitOf shown pending = IsPending (Owns stores logs lines shown) sealed (setting_of lines shown.opening) (cuts_of (opening_in lines) shown) shown.core.front.committed pending
+  IsCommitOf shown pending = IsPending (Owns stores logs history lines shown) sealed (setting_of lines shown.opening) (cuts_of (opening_in lines) shown) shown.core.front.committed pending

@@ -1,13 +1,14 @@
 -- What a round's desk was made of: the setting of its job, and where the round begins.
 use Rattle.std.specs.Prelude.{◌≡◌, ◌≤◌, ◌<◌, ◌+◌, ◌^◌, ◌&&◌, not, nat_lt, ℕ, zero, suc, ℤ, Bool, List, map, length, get_or, slice_get, Option, None, option_and_then}
 use Rattle.std.specs.List.{sum}
-use Rattle.ssq_outside.specs.Files.{Files}
+use Rattle.ssq_outside.specs.History.{History, files_now}
 use Rattle.ssq_shape.specs.declared.bound.Bound.{Bound}
 use Rattle.ssq_meaning.specs.Meaning.{Line}
 use Rattle.ssq_meaning.specs.Times.{delays, watermark_by, is_above}
 use Rattle.ssq_plans.specs.declared.plan.Plan.{Plan}
 use Rattle.ssq_task.specs.Committing.{told}
 use Rattle.ssq_core.specs.Course.{Ends}
+use Rattle.ssq_core.specs.Settled.{IsSettledAs}
 use Rattle.ssq_course.specs.Setting.{Setting, parts_in, first_ends, job_of, keeping_of, closes}
 use Rattle.ssq_course.specs.Setting.{cut_of as numbers_of}
 use Rattle.ssq_open.specs.declared.wanted.Lens.{Lens}
@@ -21,7 +22,7 @@ use Rattle.ssq_open.specs.Jobs.{IsDeskOf}
 use Rattle.ssq_open.specs.Stores.{AreStores}
 use Rattle.ssq_board.specs.Core.{Scope}
 use Rattle.ssq_board.specs.Rounds.{HasCap}
-use Rattle.ssq_board.specs.Shelf.{first_shelf}
+use Rattle.ssq_board.specs.Shelf.{AreListed, first_shelf}
 use Rattle.ssq_board.specs.Shown.{Start}
 use Rattle.ssq_terms.specs.Setting.{CanRun, IsSettingOf, AreFound, found_lines}
 use Rattle.ssq_terms.specs.Laws.{due_at, IsScopeOf}
@@ -83,24 +84,25 @@ pub record IsRound (s : Setting) (found : Opened) (r : Scope) : Type 0 where
   pub stores : AreStores (keeping_of s.job.bound.shape s.job.partitions) found.committed found.stores
   pub long : (i : ℕ) → get_or (numbers_of (last_ends (first_ends s) found.plans)) i 0 ≤ get_or r.available i 0
 
--- What was opened is the job's own: the setting is that of the query and the lines that were found, which the logs come to hold; a desk of
--- the machine opens on some files, with the plans and the greatest times of the job's epochs so far; and the stores hold the states of its
--- partitions after the committed epochs.
-pub record IsOwned (s : Setting) (found : Opened) (r : Scope) : Type 0 where
+-- What was opened is the job's own, on the disk where the round begins: the setting is that of the query and the lines that were found, which the
+-- logs come to hold; its files are settled, and a desk of the machine opens on them, with the plans and the greatest times of the job's epochs so
+-- far; the stores hold the states of its partitions after the committed epochs; and the names are those of the state's files.
+pub record IsOwned (s : Setting) (found : Opened) (r : Scope) (start : History) : Type 0 where
   pub asks : Option ℕ
   pub lens : Lens
   pub setting : IsSettingOf s s.job.bound asks lens
   pub scope : IsScopeOf r s lens
   pub lines : AreFound (found_lines lens) s.lines
-  pub files : Files
-  pub desk : IsDeskOf (asked s.job.bound asks lens) (job_of s) files found
-  pub jobs : IsJobsFound (asked s.job.bound asks lens) (job_of s) files found desk
+  pub settled : IsSettledAs start (files_now start)
+  pub desk : IsDeskOf (asked s.job.bound asks lens) (job_of s) (files_now start) found
+  pub jobs : IsJobsFound (asked s.job.bound asks lens) (job_of s) (files_now start) found desk
   pub states : (p : ℕ) → HoldsStateOf s desk.desk.cuts found.committed p (slice_get found.stores p)
+  pub names : AreListed (files_now start) found.names
 
 -- the logs tell what they hold, and what was opened is the job's own
-abbrev pub OwnsRound : {L : Type 0} → Type 0 → (L → List Line) → Round L → Scope → Type 0
-OwnsRound logs lines round r = logs × IsOwned (setting_of lines round) round.opened r
+abbrev pub OwnsRound : {L : Type 0} → Type 0 → (L → List Line) → Round L → Scope → History → Type 0
+OwnsRound logs lines round r start = logs × IsOwned (setting_of lines round) round.opened r start
 
 -- and the disk tells too
-abbrev pub Owns : {D L : Type 0} → (stores logs : Type 0) → (L → List Line) → Shown D (Round L) → Type 0
-Owns stores logs lines shown = stores × OwnsRound logs lines shown.opening shown.scope
+abbrev pub Owns : {D L : Type 0} → (stores logs : Type 0) → (D → History) → (L → List Line) → Shown D (Round L) → Type 0
+Owns stores logs history lines shown = stores × OwnsRound logs lines shown.opening shown.scope (history shown.opened)

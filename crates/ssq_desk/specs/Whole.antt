@@ -1,6 +1,7 @@
 -- What is so of every desk.
 use Rattle.std.specs.Prelude.{◌≡◌, ◌<◌, ◌≤◌, ◌+◌, ◌++◌, ℕ, ℤ, true, List, [], All, IsTrue, length, get_or, vec_capacity, Option, Some}
 use Rattle.std.specs.Option.{ForSome}
+use Rattle.ssq_outside.specs.History.{History}
 use Rattle.ssq_time.specs.Time.{IsStampTime}
 use Rattle.ssq_meaning.specs.Meaning.{Line}
 use Rattle.ssq_plans.specs.declared.plan.Plan.{Plan}
@@ -53,11 +54,11 @@ pub record IsKept {L : Type 0} (s : Setting) (opened : Opened) (kept : Kept L) :
 abbrev pub opening_in : {L : Type 0} → (L → List Line) → Round L → Opening
 opening_in lines round = opening_of (setting_of lines round) round.opened
 
-module _ {D L S F : Type 0} (stores logs : Type 0) (lines : L → List Line) (available : L → ℕ) (answers : L → List ℕ) (faults : L → ℕ) (written : S → List ℕ) (sealed : F → List ℕ) where
+module _ {D L S F : Type 0} (stores logs : Type 0) (history : D → History) (lines : L → List Line) (available : L → ℕ) (answers : L → List ℕ) (faults : L → ℕ) (written : S → List ℕ) (sealed : F → List ℕ) where
   -- what the desk of a round holds, with these cuts
   abbrev pub HoldsIn : Shown D (Round L) → Cuts → Core → List (Source L) → List (Share S) → List (Option Held) → Option (OutWork S F) → List (Option ℤ) → Option (Pending F) → Type 0
   HoldsIn shown cuts core sources shares held out times pending =
-      Holds (stores × logs) (Owns stores logs lines shown) lines available (LogWent logs lines available answers faults) shown.opening.logs.items written sealed (setting_of lines shown.opening) cuts shown.scope.available core
+      Holds (stores × logs) (Owns stores logs history lines shown) lines available (LogWent logs lines available answers faults) shown.opening.logs.items written sealed (setting_of lines shown.opening) cuts shown.scope.available core
       sources shares held out times pending
 
   -- What was opened is in order, the load is that of the ledger, and it has the plans of all planned epochs. What is said of lines, and of
@@ -67,9 +68,9 @@ module _ {D L S F : Type 0} (stores logs : Type 0) (lines : L → List Line) (av
     pub round : IsRound (setting_of lines shown.opening) shown.opening.opened shown.scope
     pub view : IsViewOf (setting_of lines shown.opening) load.view
     pub holds : HoldsIn shown (cuts_of (opening_in lines) shown) shown.core load.sources.items load.shares.items load.held.items load.out load.seen load.pending
-    pub plans : ArePlans (Owns stores logs lines shown) shown.opening.opened.plans (setting_of lines shown.opening) (cuts_of (opening_in lines) shown) shown.core.front.planned load.plans.items
+    pub plans : ArePlans (Owns stores logs history lines shown) shown.opening.opened.plans (setting_of lines shown.opening) (cuts_of (opening_in lines) shown) shown.core.front.planned load.plans.items
     -- each epoch that was committed is told, and there is room for the one that runs
-    pub told : AreTold (Owns stores logs lines shown) (setting_of lines shown.opening) (cuts_of (opening_in lines) shown) shown.opening.opened.committed shown.core.front.committed load.told.items
+    pub told : AreTold (Owns stores logs history lines shown) (setting_of lines shown.opening) (cuts_of (opening_in lines) shown) shown.opening.opened.committed shown.core.front.committed load.told.items
     pub told_room : is_open shown.core ≡ true → length load.told.items < vec_capacity load.told
     -- where a log stopped it, that log counts a fault
     pub faulty : shown.core.front.stop ≡ Some cause.LogFault → HasFaulty faults shown.core.maps load.sources.items

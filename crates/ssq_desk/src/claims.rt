@@ -43,7 +43,7 @@ impl<'a, D: Disk, L: Log> Desk<'a, D, L> {
         requires may { May self.old.scope self.old.core (entry.Claim id) }
         ensures did { self.new ≡ did self.old self.old.disk (entry.Claim id ∷ []) }
         ensures id { (result.number ≡ id.number) × (result.epoch ≡ id.epoch) }
-        ensures task { IsMapOf D.tells L.tells L.lines L.available L.answers L.faults self.new result }
+        ensures task { IsMapOf D.tells L.tells D.history L.lines L.available L.answers L.faults self.new result }
         ensures back { (fault : Option CauseOf) → May self.new.scope self.new.core (entry.Report (map_id result.epoch result.number) fault) }
     {
         self.ledger.is_legal();
@@ -71,7 +71,7 @@ impl<'a, D: Disk, L: Log> Desk<'a, D, L> {
         requires may { May self.old.scope self.old.core (entry.Claim id) }
         ensures did { self.new ≡ did self.old self.old.disk (entry.Claim id ∷ []) }
         ensures id { (result.partition ≡ id.number) × (result.epoch ≡ id.epoch) }
-        ensures task { IsReduceOf D.tells L.tells L.lines D.Stage.written self.new result }
+        ensures task { IsReduceOf D.tells L.tells D.history L.lines D.Stage.written self.new result }
         ensures back { (fault : Option CauseOf) → May self.new.scope self.new.core (entry.Report (reduce_id result.epoch result.partition) fault) }
     {
         self.ledger.is_legal();
@@ -100,7 +100,7 @@ impl<'a, D: Disk, L: Log> Desk<'a, D, L> {
         requires may { May self.old.scope self.old.core (entry.Claim id) }
         ensures did { self.new ≡ did self.old self.old.disk (entry.Claim id ∷ []) }
         ensures id { result.epoch ≡ id.epoch }
-        ensures task { IsOutOf D.tells L.tells L.lines D.Stage.written self.new result }
+        ensures task { IsOutOf D.tells L.tells D.history L.lines D.Stage.written self.new result }
         ensures back { (fault : Option CauseOf) → May self.new.scope self.new.core (entry.Report (out_id result.epoch) fault) }
     {
         self.ledger.is_legal();
@@ -129,7 +129,7 @@ impl<'a, D: Disk, L: Log> Desk<'a, D, L> {
     pub fn claim(&mut self) -> Option<Task<'a, L, D::Stage>>
         ensures claimed { MatchOption result ((ready_of self.old.scope self.old.core ≢ ready.Task) × (self.new ≡ self.old))
             (λ task. May self.old.scope self.old.core (entry.Claim (id_of task)) × (self.new ≡ did self.old self.old.disk (entry.Claim (id_of task) ∷ []))) }
-        ensures task { IfSome result (IsTaskOf D.tells L.tells L.lines L.available L.answers L.faults D.Stage.written self.new) }
+        ensures task { IfSome result (IsTaskOf D.tells L.tells D.history L.lines L.available L.answers L.faults D.Stage.written self.new) }
         ensures back { IfSome result (λ task. (fault : Option CauseOf) → May self.new.scope self.new.core (entry.Report (id_of task) fault)) }
     {
         let id = self.ledger.next_task()?;

@@ -242,14 +242,14 @@ impl<'a, D: Disk, L: Log> Desk<'a, D, L> {
         ensures disk { result.disk ≡ self.entry.disk }
         ensures history { result.history.items ≡ self.entry.history }
         ensures stop { result.stop ≡ self.entry.core.front.stop }
-        ensures stopped { (f : CauseOf) → self.entry.core.front.stop ≡ Some f → IsStopOf (D.tells × L.tells) (Owns D.tells L.tells L.lines self.entry) (setting_of L.lines self.entry.opening) (cuts_of (opening_in L.lines) self.entry) self.entry.core.front.committed result.key f }
+        ensures stopped { (f : CauseOf) → self.entry.core.front.stop ≡ Some f → IsStopOf (D.tells × L.tells) (Owns D.tells L.tells D.history L.lines self.entry) (setting_of L.lines self.entry.opening) (cuts_of (opening_in L.lines) self.entry) self.entry.core.front.committed result.key f }
         ensures no_key { self.entry.core.front.stop ≢ Some cause.KeyOverflow → result.key ≡ None }
         // Each log holds the same lines; and where a log stopped the desk, that log counts a fault.
         ensures logs { AllZip (LogWent L.tells L.lines L.available L.answers L.faults) self.entry.opening.logs.items result.logs.items }
         ensures faulty { self.entry.core.front.stop ≡ Some cause.LogFault → 0 < sum_by L.faults result.logs.items }
-        ensures told { AreTold (Owns D.tells L.tells L.lines self.entry) (setting_of L.lines self.entry.opening) (cuts_of (opening_in L.lines) self.entry) self.entry.opening.opened.committed (acknowledged_in self.entry.core) result.told.items }
+        ensures told { AreTold (Owns D.tells L.tells D.history L.lines self.entry) (setting_of L.lines self.entry.opening) (cuts_of (opening_in L.lines) self.entry) self.entry.opening.opened.committed (acknowledged_in self.entry.core) result.told.items }
         ensures next { MatchOption result.next ((ready_of self.entry.scope self.entry.core ≢ ready.Over) ⊎ ((shelf_of (opening_in L.lines) self.entry).tidy ≡ false))
-            (λ next. (ready_of self.entry.scope self.entry.core ≡ ready.Over) × ((shelf_of (opening_in L.lines) self.entry).tidy ≡ true) × IsNext (Owns D.tells L.tells L.lines self.entry) (setting_of L.lines self.entry.opening) (cuts_of (opening_in L.lines) self.entry) self.entry.scope.available self.entry.core (shelf_of (opening_in L.lines) self.entry) self.entry.opening.opened next.0
+            (λ next. (ready_of self.entry.scope self.entry.core ≡ ready.Over) × ((shelf_of (opening_in L.lines) self.entry).tidy ≡ true) × IsNext (Owns D.tells L.tells D.history L.lines self.entry) (setting_of L.lines self.entry.opening) (cuts_of (opening_in L.lines) self.entry) self.entry.scope.available self.entry.core (shelf_of (opening_in L.lines) self.entry) self.entry.opening.opened next.0
             × AreIndexes (Unit {0}) self.entry.opening.view.bound.now next.0.stores next.1.items) }
     {
         self.ledger.is_legal();

@@ -116,5 +116,5 @@ impl<'a, D: Disk, L: Log> Model for Desk<'a, D, L> {
 
     ghost view = { λ s. s.ledger };
 
-    ghost invariant = { λ s. IsWhole D.tells L.tells L.lines L.available L.answers L.faults D.Stage.written D.Stage.sealed s.ledger s.load };
+    ghost invariant = { λ s. IsWhole D.tells L.tells D.history L.lines L.available L.answers L.faults D.Stage.written D.Stage.sealed s.ledger s.load };
 }

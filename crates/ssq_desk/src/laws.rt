@@ -11,7 +11,7 @@ use ssq_outside::{Disk, Log};
 impl<'a, D: Disk, L: Log> Desk<'a, D, L> {
     /// The law of its history: it is legal from what was opened, and leads to what the desk is.
     pub fn is_legal(&self)
-        ensures { IsLegal (Owns D.tells L.tells L.lines self.now) D.history (opening_in L.lines) self.now }
+        ensures { IsLegal (Owns D.tells L.tells D.history L.lines self.now) D.history (opening_in L.lines) self.now }
     {
         self.ledger.is_legal();
     }

@@ -4,7 +4,7 @@
 //! files aside. The definitions are in `specs/`: `Round` says what a desk was made of, `Contents` what it holds, `Whole` what is so of every
 //! desk, `First` what a round begins with, `Room` and `Making` what is made for an epoch before its plan is published, `Tasks` what it hands out,
 //! `Results` what it takes back, `Published` what becomes of the rows of an epoch,
-//! and `Closing` what is given back when the round ends.
+//! `Upkeep` what the snapshots are that it hands out and takes back, and `Closing` what is given back when the round ends.
 #![tactic(auto)]
 
 mod calls;
@@ -33,3 +33,4 @@ pub use desk::Desk;
 pub use round::Round;
 pub use task::Task;
 pub use told::Told;
+pub use upkeep::{Kept, UpkeepTask, keep};

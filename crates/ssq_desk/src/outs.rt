@@ -75,7 +75,7 @@ impl<'a, D: Disk, L: Log> Desk<'a, D, L> {
     /// is left of files that were not sealed is taken away.
     pub fn publish_out(&mut self, done: Gathered<'a, D::Stage>) -> Result<(), Cause>
         requires may { May self.old.scope self.old.core (entry.Report (out_id done.epoch) (fault_of cause_of_left done.outcome)) }
-        requires of { (task : _) × IsOutOf D.tells L.tells L.lines D.Stage.written self.old task × IsGathered D.Stage.tells D.Stage.written D.Stage.sealed D.Stage.faults task done }
+        requires of { (task : _) × IsOutOf D.tells L.tells D.history L.lines D.Stage.written self.old task × IsGathered D.Stage.tells D.Stage.written D.Stage.sealed D.Stage.faults task done }
         ensures out { IsOut (brings self.old.core.front.stop (fault_of cause_of_left done.entry.outcome)) self.old self.new (out_id done.entry.epoch) (fault_of cause_of_left done.entry.outcome) result (Rises (D.faults self.old.disk) (D.faults self.new.disk)) }
         ensures cause { IfErr result (λ f. HasRisen f (D.faults self.old.disk) (D.faults self.new.disk)) }
         ensures counted { D.faults self.old.disk ≤ D.faults self.new.disk }
@@ -124,8 +124,8 @@ impl<'a, D: Disk, L: Log> Desk<'a, D, L> {
         pending: Pending<<D::Stage as Stage>::Sealed>,
     ) -> Result<(), Cause>
         requires may { May self.old.scope self.old.core (entry.Report (out_id epoch) None) }
-        requires rows { AreRowsOf D.tells L.tells L.lines D.Stage.sealed self.old rows }
-        requires commit { IsCommitOf D.tells L.tells L.lines D.Stage.sealed self.old pending }
+        requires rows { AreRowsOf D.tells L.tells D.history L.lines D.Stage.sealed self.old rows }
+        requires commit { IsCommitOf D.tells L.tells D.history L.lines D.Stage.sealed self.old pending }
         ensures out { IsOut (brings self.old.core.front.stop None) self.old self.new (out_id epoch) None result (Rises (D.faults self.old.disk) (D.faults self.new.disk)) }
         ensures cause { IfErr result (λ f. HasRisen f (D.faults self.old.disk) (D.faults self.new.disk)) }
         ensures counted { D.faults self.old.disk ≤ D.faults self.new.disk }
@@ -170,8 +170,8 @@ impl<'a, D: Disk, L: Log> Desk<'a, D, L> {
         pending: Pending<<D::Stage as Stage>::Sealed>,
     ) -> Result<(), Cause>
         requires may { May self.old.scope self.old.core (entry.OutFile self.old.core.front.committed) }
-        requires rows { AreRowsOf D.tells L.tells L.lines D.Stage.sealed self.old rows }
-        requires commit { IsCommitOf D.tells L.tells L.lines D.Stage.sealed self.old pending }
+        requires rows { AreRowsOf D.tells L.tells D.history L.lines D.Stage.sealed self.old rows }
+        requires commit { IsCommitOf D.tells L.tells D.history L.lines D.Stage.sealed self.old pending }
         ensures done { OnOk result (self.new ≡ did self.old self.new.disk (entry.OutFile self.old.core.front.committed ∷ [])) }
         ensures stopped { IfErr result (λ f. (f ≡ cause.DiskFault) × (self.new ≡ did self.old self.new.disk (entry.Stop f ∷ [])) × Rises (D.faults self.old.disk) (D.faults self.new.disk)) }
         ensures counted { D.faults self.old.disk ≤ D.faults self.new.disk }

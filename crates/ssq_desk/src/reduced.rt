@@ -70,7 +70,7 @@ impl<'a, D: Disk, L: Log> Desk<'a, D, L> {
     /// Where a key overflows, the desk runs on until the epoch's other reduce tasks are back, and stops for the least such key then.
     pub fn report_reduced(&mut self, done: Reduced<'a, D::Stage>) -> Result<(), Cause>
         requires may { May self.old.scope self.old.core (entry.Report (reduce_id done.epoch done.partition) (fault_of cause_of_failed done.outcome)) }
-        requires of { (task : _) × IsReduceOf D.tells L.tells L.lines D.Stage.written self.old task × IsReduced D.Stage.tells D.Stage.written D.Stage.sealed D.Stage.faults task done }
+        requires of { (task : _) × IsReduceOf D.tells L.tells D.history L.lines D.Stage.written self.old task × IsReduced D.Stage.tells D.Stage.written D.Stage.sealed D.Stage.faults task done }
         ensures did { IsReturned (delta_of done.entry.outcome) self.old self.new (reduce_id done.entry.epoch done.entry.partition) (fault_of cause_of_failed done.entry.outcome) result (Rises (D.faults self.old.disk) (D.faults self.new.disk)) }
         ensures cause { IsErrOf result cause.DiskFault → Rises (D.faults self.old.disk) (D.faults self.new.disk) }
         ensures counted { D.faults self.old.disk ≤ D.faults self.new.disk }
@@ -97,7 +97,7 @@ impl<'a, D: Disk, L: Log> Desk<'a, D, L> {
         brought: ReducedRows<<D::Stage as Stage>::Sealed>,
     ) -> Result<(), Cause>
         requires may { May self.old.scope self.old.core (entry.Report (reduce_id epoch partition) None) }
-        requires of { (task : _) × IsReduceOf D.tells L.tells L.lines D.Stage.written self.old task × (task.epoch ≡ epoch) × (task.partition ≡ partition)
+        requires of { (task : _) × IsReduceOf D.tells L.tells D.history L.lines D.Stage.written self.old task × (task.epoch ≡ epoch) × (task.partition ≡ partition)
             × IsReduced D.Stage.tells D.Stage.written D.Stage.sealed D.Stage.faults task (reduced_by task held (Ok brought)) }
         ensures did { IsReturned brought.delta self.old self.new (reduce_id epoch partition) None result (Rises (D.faults self.old.disk) (D.faults self.new.disk)) }
         ensures cause { IsErrOf result cause.DiskFault → Rises (D.faults self.old.disk) (D.faults self.new.disk) }
@@ -128,7 +128,7 @@ impl<'a, D: Disk, L: Log> Desk<'a, D, L> {
         stage: Option<D::Stage>,
     ) -> Result<(), Cause>
         requires may { May self.old.scope self.old.core (entry.Report (reduce_id epoch partition) (Some (cause_of_reduce fault))) }
-        requires of { (task : _) × IsReduceOf D.tells L.tells L.lines D.Stage.written self.old task × (task.epoch ≡ epoch) × (task.partition ≡ partition)
+        requires of { (task : _) × IsReduceOf D.tells L.tells D.history L.lines D.Stage.written self.old task × (task.epoch ≡ epoch) × (task.partition ≡ partition)
             × IsReduced D.Stage.tells D.Stage.written D.Stage.sealed D.Stage.faults task (reduced_by task held (Err (fault, stage))) }
         ensures did { self.new ≡ did self.old self.new.disk (entry.Report (reduce_id epoch partition) (Some (cause_of_reduce fault)) ∷ []) }
         ensures answer { result ≡ answer (due self.old.core (reduce_id epoch partition) (Some (cause_of_reduce fault))) }

@@ -78,7 +78,7 @@ impl<'a, D: Disk, L: Log> Desk<'a, D, L> {
     /// Takes the result of a map task that was handed out. Answers the Stop that it brings about.
     pub fn report_fed(&mut self, done: Fed<'a, L>) -> Result<(), Cause>
         requires may { May self.old.scope self.old.core (entry.Report (map_id done.epoch done.number) (fault_of (cause_of_feed done.stream done.part) done.outcome)) }
-        requires of { (task : MapTaskOf L) × IsMapOf D.tells L.tells L.lines L.available L.answers L.faults self.old task × IsFed L.tells L.lines L.available L.answers L.faults task done }
+        requires of { (task : MapTaskOf L) × IsMapOf D.tells L.tells D.history L.lines L.available L.answers L.faults self.old task × IsFed L.tells L.lines L.available L.answers L.faults task done }
         ensures did { self.new ≡ did self.old self.old.disk (entry.Report (map_id done.entry.epoch done.entry.number) (fault_of (cause_of_feed done.entry.stream done.entry.part) done.entry.outcome) ∷ []) }
         ensures answer { result ≡ answer (due self.old.core (map_id done.entry.epoch done.entry.number) (fault_of (cause_of_feed done.entry.stream done.entry.part) done.entry.outcome)) }
     {

@@ -10,7 +10,7 @@ use Rattle.ssq_board.specs.declared.front.Place.TheVariants as place
 use Rattle.ssq_board.specs.Core.{Scope, Core, is_of_epoch, is_stopped, fault_at, due_stop, due, tasks_of}
 use Rattle.ssq_board.proofs.Sounds.{outside_due}
 use Rattle.ssq_board.proofs.Leasts.{cause_counts}
-use Rattle.ssq_drive.specs.Driven.{StopsFor}
+use Rattle.ssq_drive.specs.Driven.{StopsFor, no_file}
 
 set_here : {A : Type 0} (l : List A) (i : ℕ) (a : A) → get_elem? l i ≡ some a → set l i a ≡ l
 set_here [] i a here = refl
@@ -42,7 +42,7 @@ own_or_epochs ps i f g calm stops =
     ]
 
 -- the epoch's own cause is none that the desk accounts for
-epochs_stop : (r : Scope) (c : Core) (before now : ℕ) (g : Cause) → is_of_epoch g ≡ true → StopsFor r c before now g
+epochs_stop : (r : Scope) (c : Core) (before now : ℕ) (g : Cause) → is_of_epoch g ≡ true → StopsFor no_file r c before now g
 epochs_stop r c before now (cause.BadLine s p o f) line = tt
 epochs_stop r c before now (cause.Overflow s p o) line = tt
 epochs_stop r c before now cause.KeyOverflow line = tt
@@ -55,7 +55,7 @@ epochs_stop r c before now cause.NoMemory line = absurd (true≢false (sym line)
 
 -- So it is with each cause that a report brings about, where it is with the report's own.
 pub report_stops : (r : Scope) (c n : Core) (t : TaskId) (f : Option Cause) (before now : ℕ) → c.front.stop ≡ None → due_stop (tasks_of t.kind c) ≡ None
-    → ((g : Cause) → f ≡ Some g → due c t f ≡ Some g → StopsFor r n before now g) → (g : Cause) → due c t f ≡ Some g → StopsFor r n before now g
+    → ((g : Cause) → f ≡ Some g → due c t f ≡ Some g → StopsFor no_file r n before now g) → (g : Cause) → due c t f ≡ Some g → StopsFor no_file r n before now g
 report_stops r c n t f before now running calm own g is =
     let stops = sym (ap (λ (o : Option Cause). if is_stopped o then None else due_stop (set (tasks_of t.kind c) t.number (place.Back f))) running) ∙ is in
     elim (own_or_epochs (tasks_of t.kind c) t.number f g calm stops) [

@@ -1,8 +1,9 @@
 -- How a driven desk ends.
-use Rattle.std.proofs.Common.{◌≡◌, ◌≢◌, ◌⊎◌, not, Bool, true, false, true≢false, Option, Some, None, Result, Ok, Err, IfOk, IfErr, refl, sym, ap, ◌∙◌, subst, inl, inr}
+use Rattle.std.proofs.Common.{◌≡◌, ◌≢◌, ◌⊎◌, not, Bool, true, false, true≢false, Option, Some, None, Result, Ok, Err, IfOk, IfErr, OnErr, refl, sym, ap, ◌∙◌, subst, inl, inr}
 use Rattle.std.specs.Prelude.{IsSome, MatchOption, is_some}
 use Rattle.std.specs.List.{list_all, list_any}
 use Rattle.ssq_board.specs.declared.front.Cause.{Cause}
+use Rattle.ssq_board.specs.declared.front.Ready.{Ready}
 use Rattle.ssq_board.specs.declared.front.Ready.TheVariants as ready
 use Rattle.ssq_board.specs.Core.{Scope, Core, is_fine, is_more, is_open, is_stopped, is_waiting, ready_of, ready_tasks}
 use Rattle.ssq_board.proofs.Readies.{past, chosen}
@@ -35,12 +36,12 @@ stopped_is r c e = elim (chosen (is_stopped c.front.stop) ready.Stopped _ ready.
 ]
 
 -- a desk that gives nothing to go on with is stopped
-pub one_of_both : {N : Type 0} (r : Scope) (c : Core) (tidy : Bool) (Q : N → Type 0) (next : Option N) (stop : Option Cause) → MatchOption next ((ready_of r c ≢ ready.Over) ⊎ (tidy ≡ false)) Q
-    → ((ready_of r c ≡ ready.Over) × (tidy ≡ true)) ⊎ (ready_of r c ≡ ready.Stopped) → stop ≡ c.front.stop → next ≡ None → IsSome stop
-one_of_both {N} r c tidy Q next stop is end same none =
+pub one_of_both : {N : Type 0} (U : Type 0) (r : Scope) (c : Core) (tidy : Bool) (Q : N → Type 0) (next : Option N) (stop : Option Cause) → MatchOption next ((ready_of r c ≢ ready.Over) ⊎ (tidy ≡ false)) Q
+    → ((ready_of r c ≡ ready.Over) × U) ⊎ (ready_of r c ≡ ready.Stopped) → (U → tidy ≡ true) → stop ≡ c.front.stop → next ≡ None → IsSome stop
+one_of_both {N} U r c tidy Q next stop is end settled same none =
     let other : (ready_of r c ≢ ready.Over) ⊎ (tidy ≡ false) = subst (λ (o : Option N). MatchOption o ((ready_of r c ≢ ready.Over) ⊎ (tidy ≡ false)) Q) none is in
     elim end [
-      | inl over ↦ absurd (elim other [ inl more ↦ more over.0 | inr untidy ↦ true≢false (sym over.1 ∙ untidy) ])
+      | inl over ↦ absurd (elim other [ inl more ↦ more over.0 | inr untidy ↦ true≢false (sym (settled over.1) ∙ untidy) ])
       | inr stopped ↦ ap is_some same ∙ stopped_is r c stopped
     ]
 
@@ -58,3 +59,16 @@ same_cause {f} {g} is = ap or is
     or : Option Cause → Cause
     or None = f
     or (Some x) = x
+
+-- of a round that is over upkeep is done
+pub ended_kept : (U : Type 0) (r : Scope) (c : Core) → ((ready_of r c ≡ ready.Over) × U) ⊎ (ready_of r c ≡ ready.Stopped) → ready_of r c ≡ ready.Over → U
+ended_kept U r c (inl over) is = over.1
+ended_kept U r c (inr stopped) is = absurd (clash (ready_of r c) stopped is)
+  where
+    clash : (x : Ready) → x ≡ ready.Stopped → x ≡ ready.Over → ⊥
+    clash x stopped over = cc
+
+-- so it is, whatever the answer
+pub on_err : {T E P : Type 0} (r : Result T E) → P → OnErr r P
+on_err (Ok x) is = tt
+on_err (Err f) is = is

@@ -9,6 +9,7 @@ use lib.ListN.{get_elem?}
 use Rattle.ssq_outside.specs.declared.gate.TaskId.{TaskId}
 use Rattle.ssq_outside.specs.declared.gate.Kind.{Kind}
 use Rattle.ssq_outside.specs.declared.gate.Kind.TheVariants as kind
+use Rattle.ssq_outside.specs.History.{History}
 use Rattle.ssq_shape.specs.declared.bound.Bound.{Bound}
 use Rattle.ssq_meaning.specs.Meaning.{Line}
 use Rattle.ssq_meaning.specs.Cut.{Cut, of_parts}
@@ -224,7 +225,7 @@ cuts_more r [] fs cuts c = refl
 cuts_more r (e ∷ es) fs cuts c = cuts_more r es fs (cuts_by r cuts c e) (after r c e)
 
 -- where an epoch is to be planned none is open
-tasks_no_plan : (c : Core) → ready_tasks c ≡ ready.Plan → ⊥
+pub tasks_no_plan : (c : Core) → ready_tasks c ≡ ready.Plan → ⊥
 tasks_no_plan c e =
     let a = past (not c.front.fresh) _ _ _ e (λ x. cc) in
     let b = past (list_any is_waiting c.maps) _ _ _ a.1 (λ x. cc) in
@@ -353,9 +354,9 @@ module _ {D L : Type 0} (lines : L → List Line) where
   committed_good old new E P Q (Err f) next done stopped good = good_on old new (entry.Stop cause.DiskFault ∷ []) stopped.0 (tt, tt) good
 
   -- a map task
-  pub fed_good : (stores logs : Type 0) (available : L → ℕ) (answers : L → List ℕ) (faults : L → ℕ) (mid new : Shown D (Round L)) (task : MapTask L) (done : Fed L) → stores × logs → IsMapOf stores logs lines available answers faults mid task
+  pub fed_good : (stores logs : Type 0) (history : D → History) (available : L → ℕ) (answers : L → List ℕ) (faults : L → ℕ) (mid new : Shown D (Round L)) (task : MapTask L) (done : Fed L) → stores × logs → IsMapOf stores logs history lines available answers faults mid task
       → IsFed logs lines available answers faults task done → new ≡ did mid mid.disk (entry.Report (map_id done.epoch done.number) (fault_of (cause_of_feed done.stream done.part) done.outcome) ∷ []) → IsGood lines mid → IsGood lines new
-  fed_good stores logs available answers faults mid new task done t of is came good =
+  fed_good stores logs history available answers faults mid new task done t of is came good =
       let e = entry.Report (map_id done.epoch done.number) (fault_of (cause_of_feed done.stream done.part) done.outcome) in
       good_on mid new (e ∷ []) (still mid new (e ∷ []) came) ((λ map none part there. by done.outcome none is.rows part (ap (slice_get (parts_in (setting_of lines mid.opening))) (sym is.number) ∙ there)), tt) good
     where

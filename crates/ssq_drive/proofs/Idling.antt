@@ -4,7 +4,7 @@ use Rattle.std.specs.Global.{Vec}
 use Rattle.std.specs.List.{AllZip}
 use Rattle.std.proofs.lemmas.List.{append-nil}
 use Rattle.std.proofs.lemmas.List.Elements.{All-nil}
-use Rattle.ssq_outside.specs.History.{History, LeavesNow}
+use Rattle.ssq_outside.specs.History.{History, LeavesNow, files_now}
 use Rattle.ssq_outside.specs.Logs.{Line}
 use Rattle.ssq_step.specs.Indexing.{Timed}
 use Rattle.ssq_feed.specs.Causes.{LogWent}
@@ -43,7 +43,7 @@ idle tells nothing at_rest s n r found h disk logs can = record {
     few = (let b = can.numbers.before in omega (arith, b));
     over = λ next ends. absurd (err_ok starved next ends);
     stopped = λ why stops.
-        subst (λ (w : Stopped). IsRoundStop tells (tells × IsOwn s r h found) s (cut_of (first_of found) found.plans) r.available (length found.plans) (found.committed + 0) disk disk logs w.key w.cause) (ap (why_or starved) stops) tt;
+        subst (λ (w : Stopped). IsRoundStop tells (tells × IsOwn s r h found) s (cut_of (first_of found) found.plans) r.available (length found.plans) (found.committed + 0) (files_now h) disk disk logs w.key w.cause) (ap (why_or starved) stops) tt;
     keyless = λ why stops other. ap (λ (w : Stopped). w.key) (sym (ap (why_or starved) stops));
   };
   ran = λ t own. record {
@@ -55,6 +55,7 @@ idle tells nothing at_rest s n r found h disk logs can = record {
     meant = All-nil (IsMeant s (cut_of (first_of found) found.plans));
     settled = λ next ends. absurd (err_ok starved next ends);
     found = λ next ends. absurd (err_ok starved next ends);
+    kept = λ next ends. absurd (err_ok starved next ends);
     quiet = λ next ends. absurd (err_ok starved next ends);
   };
 }

@@ -12,14 +12,14 @@ use Rattle.ssq_board.specs.declared.front.Cause.{Cause}
 use Rattle.ssq_board.specs.Core.{Scope, Core}
 use Rattle.ssq_desk.specs.Contents.{IsReducedCause}
 use Rattle.ssq_desk.specs.Results.{cause_of_bad, cause_of_feed, cause_of_reduce, cause_of_failed, fault_of}
-use Rattle.ssq_drive.specs.Driven.{StopsFor}
+use Rattle.ssq_drive.specs.Driven.{StopsFor, no_file}
 
 -- the desk accounts for it on any terms
 abbrev pub IsOfInput : Cause → Type 0
-IsOfInput g = (r : Scope) (n : Core) (before now : ℕ) → StopsFor r n before now g
+IsOfInput g = (r : Scope) (n : Core) (before now : ℕ) → StopsFor no_file r n before now g
 
 given : (o : Option Cause) (f g : Cause) → IsOfInput f → Some f ≡ o → o ≡ Some g → IsOfInput g
-given o f g own is same r n before now = subst (λ (x : Option Cause). IfSome x (StopsFor r n before now)) same (subst (λ (x : Option Cause). IfSome x (StopsFor r n before now)) is (own r n before now))
+given o f g own is same r n before now = subst (λ (x : Option Cause). IfSome x (StopsFor no_file r n before now)) same (subst (λ (x : Option Cause). IfSome x (StopsFor no_file r n before now)) is (own r n before now))
 
 none_some : (g : Cause) → None ≡ Some g → ⊥
 none_some g is = cc

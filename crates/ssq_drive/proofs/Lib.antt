@@ -16,4 +16,9 @@ pub mod Idling
 pub mod Ending
 pub mod Goods
 pub mod Dues
-pub mod Settling
+pub mod KeepLemmas
+pub mod Making
+pub mod Needing
+pub mod Lacking
+pub mod Dueness
+pub mod Tidying

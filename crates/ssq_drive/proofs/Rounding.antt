@@ -1,5 +1,5 @@
 -- How a round went, by its desk.
-use Rattle.std.proofs.Common.{◌≡◌, ◌≢◌, ◌⊎◌, ◌<◌, ◌≤◌, ◌+◌, ◌-◌, ◌||◌, ℕ, Bool, true, false, true≢false, List, [], ◌∷◌, length, map, get_or, slice_get, Option, Some, None, IfSome, IsSomeAnd, Ok, Err, if◌then◌else◌, sym, refl, ap, ◌∙◌, subst, inl, inr, arith}
+use Rattle.std.proofs.Common.{◌≡◌, ◌≢◌, ◌⊎◌, ◌<◌, ◌≤◌, ◌+◌, ◌-◌, ◌||◌, nat_lt, ℕ, Bool, true, false, true≢false, List, [], ◌∷◌, length, map, get_or, slice_get, Option, Some, None, IfSome, IsSomeAnd, Ok, Err, if◌then◌else◌, sym, refl, ap, ◌∙◌, subst, inl, inr, arith}
 use Rattle.std.specs.Global.{Vec}
 use Rattle.std.specs.List.{list_any}
 use Rattle.std.proofs.lemmas.List.{length-map}
@@ -48,18 +48,22 @@ use Rattle.ssq_desk.specs.declared.round.Round.{Round}
 use Rattle.ssq_desk.specs.declared.told.Told.{Told}
 use Rattle.ssq_desk.specs.Round.{Owns, is_due_on, setting_of, start_at}
 use Rattle.ssq_desk.specs.Round.{IsRound as IsDeskRound}
-use Rattle.ssq_desk.specs.Contents.{IsStopOf}
+use Rattle.ssq_desk.specs.Contents.{IsStopOf, keeping_in}
 use Rattle.ssq_desk.specs.Closing.{AreTold as DeskTold, IsNext}
 use Rattle.ssq_desk.specs.First.{first_shown}
 use Rattle.ssq_desk.specs.Whole.{opening_in}
-use Rattle.ssq_drive.specs.Driven.{StopsFor, IsDriven, brings_due}
+use Rattle.ssq_drive.specs.Damaged.{HasDamaged}
+use Rattle.ssq_drive.specs.Driven.{StopsFor, IsDriven, IsUpkept, brings_due}
 use Rattle.ssq_drive.specs.Good.{IsGood}
 use Rattle.ssq_drive.specs.declared.round.Stopped.{Stopped}
+use Rattle.ssq_drive.specs.Kept.{IsKeptUp, NeedsNoUpkeep}
 use Rattle.ssq_drive.specs.Rounds.{CanBegin, Ended, HaveIndexes, IsFoundOf, IsMore, IsOver, IsOwn, IsRound, IsRoundStop, RoundRan, RoundWent, first_of}
 use Rattle.ssq_drive.proofs.Counting.{counted}
 use Rattle.ssq_drive.proofs.Cutting.{AreNextCuts, GoOn, entries_go, first_of_two, stops_open}
 use Rattle.ssq_drive.proofs.Fitting.{FitsPlans, built_fits, next_fits, plans_on}
 use Rattle.ssq_drive.proofs.Idling.{err_ok}
+use Rattle.ssq_drive.proofs.KeepLemmas.{old_all}
+use Rattle.ssq_drive.proofs.Needing.{commits_are, files_kept, needs_none}
 use Rattle.ssq_drive.proofs.Dues.{found_due, never_due}
 use Rattle.ssq_drive.proofs.Parting.{begin_as_counted, start_is}
 use Rattle.ssq_drive.proofs.Saying.{told_are, told_from, told_good, told_meant, same_from}
@@ -68,15 +72,16 @@ use Rattle.ssq_drive.proofs.Stopping.{stop_is}
 
 -- what a desk of a round shows in the end, and what it gives back
 pub record IsClosed {D L : Type 0} (stores logs : Type 0) (lines : L → List Line) (history : D → History) (faults : D → ℕ) (first : Shown D (Round L)) (log_faults : ℕ) (told : List Told) (end : Ended) (desk : Shown D (Round L)) : Type 0 where
-  pub legal : IsLegal (Owns stores logs lines desk) history (opening_in lines) desk
+  pub legal : IsLegal (Owns stores logs history lines desk) history (opening_in lines) desk
   pub order : IsInOrder desk.scope desk.core
-  pub why : IfSome desk.core.front.stop (StopsFor first.scope desk.core (faults first.disk) (faults desk.disk))
-  pub telling : DeskTold (Owns stores logs lines desk) (setting_of lines desk.opening) (cuts_of (opening_in lines) desk) desk.opening.opened.committed (acknowledged_in desk.core) told
+  pub why : IfSome desk.core.front.stop (StopsFor (HasDamaged stores logs history lines desk) first.scope desk.core (faults first.disk) (faults desk.disk))
+  pub telling : DeskTold (Owns stores logs history lines desk) (setting_of lines desk.opening) (cuts_of (opening_in lines) desk) desk.opening.opened.committed (acknowledged_in desk.core) told
   pub over : (next : Opened × Vec (List Timed)) → end ≡ Ok next → (ready_of desk.scope desk.core ≡ ready.Over) × ((shelf_of (opening_in lines) desk).tidy ≡ true)
-      × IsNext (Owns stores logs lines desk) (setting_of lines desk.opening) (cuts_of (opening_in lines) desk) desk.scope.available desk.core (shelf_of (opening_in lines) desk) desk.opening.opened next.0
+      × IsNext (Owns stores logs history lines desk) (setting_of lines desk.opening) (cuts_of (opening_in lines) desk) desk.scope.available desk.core (shelf_of (opening_in lines) desk) desk.opening.opened next.0
       × HaveIndexes desk.opening.view.bound.now next.0.stores next.1.items
+  pub kept : (next : Opened × Vec (List Timed)) → end ≡ Ok next → IsUpkept (keeping_in (setting_of lines desk.opening)) desk.scope.partitions desk.core (shelf_of (opening_in lines) desk)
   pub stopped : (why : Stopped) → end ≡ Err why → (desk.core.front.stop ≡ Some why.cause)
-      × IsStopOf (stores × logs) (Owns stores logs lines desk) (setting_of lines desk.opening) (cuts_of (opening_in lines) desk) desk.core.front.committed why.key why.cause
+      × IsStopOf (stores × logs) (Owns stores logs history lines desk) (setting_of lines desk.opening) (cuts_of (opening_in lines) desk) desk.core.front.committed why.key why.cause
   pub keyless : (why : Stopped) → end ≡ Err why → why.cause ≢ cause.KeyOverflow → why.key ≡ None
   pub faulty : desk.core.front.stop ≡ Some cause.LogFault → 0 < log_faults
   pub good : stores × logs → IsGood lines desk
@@ -151,7 +156,7 @@ stop_on tells one other s cuts e key cause.KeyOverflow so why = by key why
     by None is = is
     by (Some own) is = λ o. is (so o)
 stop_on tells one other s cuts e key (cause.LogShort t p m n) so why = why
-stop_on tells one other s cuts e key (cause.Damaged q) so why = why
+stop_on tells one other s cuts e key (cause.Damaged q) so why = λ o. why (so o)
 stop_on tells one other s cuts e key cause.LogFault so why = why
 stop_on tells one other s cuts e key cause.DiskFault so why = why
 stop_on tells one other s cuts e key cause.Full so why = why
@@ -159,7 +164,7 @@ stop_on tells one other s cuts e key cause.NoMemory so why = why
 
 module _ {D L : Type 0} (stores logs : Type 0) (lines : L → List Line) (history : D → History) (faults : D → ℕ) (round : Round L) (r : Scope) (disk now : D) (es : List Entry)
     (can : CanBegin round.view.bound.now (length round.logs.items) round.opened r) (begin : first_ends (setting_of lines round) ≡ first_of round.opened) (is : IsDeskRound (setting_of lines round) round.opened r)
-    (quiet : closes round.view.bound.now ≡ false → list_any brings_due es ≡ false) (log_faults : ℕ) (told : List Told) (end : Ended)
+    (quiet : closes round.view.bound.now ≡ false → list_any brings_due es ≡ false) (back : (k : Shelf) → k.claimed ≡ [] → (shelf_all r (first r (opening_in lines round).start) k es).claimed ≡ []) (log_faults : ℕ) (told : List Told) (end : Ended)
     (closed : IsClosed stores logs lines history faults (first_shown lines round disk r) log_faults told end (did (first_shown lines round disk r) now es)) where
   abbrev s : Setting
   s = setting_of lines round
@@ -183,7 +188,7 @@ module _ {D L : Type 0} (stores logs : Type 0) (lines : L → List Line) (histor
   shelf = shelf_all r begun o.shelf es
 
   abbrev owned : Type 0
-  owned = Owns stores logs lines (did (first_shown lines round disk r) now es)
+  owned = Owns stores logs history lines (did (first_shown lines round disk r) now es)
 
   runs : Runs r begun es c
   runs = runs_of owned o.job r o.due es (first_state o r (history disk)) (state closed.legal.0 c shelf cuts) closed.legal.2
@@ -236,6 +241,16 @@ module _ {D L : Type 0} (stores logs : Type 0) (lines : L → List Line) (histor
   nothing : (f : Cause) → None ≡ Some f → ⊥
   nothing f is = cc
 
+  -- where it is over no upkeep is left
+  needs_here : (own : Opened × Vec (List Timed)) → end ≡ Ok own → NeedsNoUpkeep (keeping_of s.job.bound.shape found.meta.partitions) found.meta.partitions own.0.committed own.0.names
+  needs_here own ends =
+      let n = (closed.over own ends).2 in
+      let settled = (over_is r c (closed.over own ends).0).2 in
+      let u = closed.kept own ends in
+      subst (λ (m : ℕ). NeedsNoUpkeep (keeping_of s.job.bound.shape m) m own.0.committed own.0.names) can.partitions
+      (needs_none (keeping_of s.job.bound.shape r.partitions) r.partitions own.0.committed c shelf own.0.names n.names_are n.committed_is settled (old_all r begun o.shelf es (λ settled tidy. refl) settled u.tidy) (back o.shelf refl)
+      (subst (λ (m : ℕ). IsUpkept (keeping_of s.job.bound.shape m) r.partitions c shelf) (sym is.partitions) u))
+
   -- where it is over
   is_over : (own : Opened × Vec (List Timed)) → end ≡ Ok own → IsOver s.job.bound (length round.logs.items) r found own.0.plans told own.0 own.1.items
   is_over own ends =
@@ -258,6 +273,7 @@ module _ {D L : Type 0} (stores logs : Type 0) (lines : L → List Line) (histor
         all = omega (arith, count, up, before, all, told_all);
         meta_is = n.meta_is;
         covered = ap (λ (ends : Ends). is_behind ends r.available) (ap (cut_of (first_of found) next.plans) count ∙ fits.are c.front.planned (omega arith) ∙ go.last) ∙ o.3;
+        kept = needs_here own ends;
         indexes = was.3;
         can = record {
           runs = can.runs;
@@ -301,10 +317,11 @@ module _ {D L : Type 0} (stores logs : Type 0) (lines : L → List Line) (histor
           setting = own.setting;
           scope = own.scope;
           lines = own.lines;
-          files = files_now (history disk);
+          settled = own.settled;
           desk = own_desk;
           jobs = record { plans = own.found_is.plans; seen = own.found_is.seen };
           states = own.found_is.states;
+          names = own.found_is.names;
         },
       ),
     )
@@ -418,6 +435,11 @@ module _ {D L : Type 0} (stores logs : Type 0) (lines : L → List Line) (histor
       meant = told_meant owned s cuts (first_of found) plans c.front.planned fits.are c.front.committed sound.before went_on.faultless is_owned told found.committed closed.telling.each (let a = acknowledged in let b = below in omega (arith, a, b));
       settled = λ next ends. (left next ends).settled;
       found = found_next;
+      kept = λ next ends.
+          let f = found_next next ends in
+          subst (λ (m : ℕ). IsKeptUp (keeping_of s.job.bound.shape m) m (files_now (history now))) (sym can.partitions ∙ is.partitions)
+          (files_kept (keeping_of s.job.bound.shape found.meta.partitions) found.meta.partitions next.0.committed next.0.names (files_now (history now)) f.names
+          (λ e. commits_are ((job_of s).course f.desk.cuts) f.desk.planned f.desk.committed (files_now (history now)) f.is.0 e ∙ ap (nat_lt e) f.committed) (needs_here next ends));
       quiet = none_due plans fits;
     }
 
@@ -428,14 +450,15 @@ module _ {D L : Type 0} (stores logs : Type 0) (lines : L → List Line) (histor
   module _ (laws : HaveLaws (stores × logs)) where
     -- why it stopped, by plans of these cuts
     stop_told : (plans : List Plan) → FitsPlans (first_of found) found.plans plans c.front.planned cuts → (why : Stopped) → end ≡ Err why
-        → IsRoundStop (stores × logs) ours s (cut_of (first_of found) plans) r.available (length plans) (found.committed + length told) (faults disk) (faults now) log_faults why.key why.cause
+        → IsRoundStop (stores × logs) ours s (cut_of (first_of found) plans) r.available (length plans) (found.committed + length told) (files_now (history now)) (faults disk) (faults now) log_faults why.key why.cause
     stop_told plans fits why stops =
         let was = closed.stopped why stops in
         let count = fits.count in
-        subst (λ (n : ℕ). IsRoundStop (stores × logs) ours s (cut_of (first_of found) plans) r.available n (found.committed + length told) (faults disk) (faults now) log_faults why.key why.cause) (sym count)
-        (stop_is (stores × logs) ours s cuts (cut_of (first_of found) plans) r.available c.front.planned c.front.committed (found.committed + length told) why.key (faults disk) (faults now) log_faults r c why.cause fits.are open_there
+        subst (λ (n : ℕ). IsRoundStop (stores × logs) ours s (cut_of (first_of found) plans) r.available n (found.committed + length told) (files_now (history now)) (faults disk) (faults now) log_faults why.key why.cause) (sym count)
+        (stop_is (stores × logs) ours (HasDamaged stores logs history lines (did (first_shown lines round disk r) now es)) (files_now (history now)) s cuts (cut_of (first_of found) plans) r.available c.front.planned c.front.committed (found.committed + length told) why.key (faults disk) (faults now) log_faults r c why.cause fits.are open_there
         (stop_on (stores × logs) owned ours s cuts c.front.committed why.key why.cause (λ u. is_owned laws u.0 u.1) was.1)
-        (subst (λ (x : Option Cause). IfSome x (StopsFor r c (faults disk) (faults now))) was.0 closed.why) (λ same. closed.faulty (was.0 ∙ ap Some same)) full)
+        (subst (λ (x : Option Cause). IfSome x (StopsFor (HasDamaged stores logs history lines (did (first_shown lines round disk r) now es)) r c (faults disk) (faults now))) was.0 closed.why) (λ same. closed.faulty (was.0 ∙ ap Some same)) full
+        (λ q bad. ((λ u. bad.0 (is_owned laws u.0 u.1)), λ t. bad.1 t.0)))
       where
         open_there : is_of_epoch why.cause ≡ true → (c.front.committed ≡ found.committed + length told) × (found.committed + length told < c.front.planned)
         open_there own =
@@ -453,7 +476,7 @@ module _ {D L : Type 0} (stores logs : Type 0) (lines : L → List Line) (histor
 
     -- whatever the disk tells
     went_by : (plans : List Plan) → FitsPlans (first_of found) found.plans plans c.front.planned cuts → ((next : Opened × Vec (List Timed)) → end ≡ Ok next → next.0.plans ≡ plans)
-        → RoundWent (stores × logs) ours s (length round.logs.items) r found (faults disk) (faults now) log_faults plans told end
+        → RoundWent (stores × logs) ours s (length round.logs.items) r found (files_now (history now)) (faults disk) (faults now) log_faults plans told end
     went_by plans fits same = record {
       on = plans_on r (closes s.job.bound) (first_of found) found.plans plans c.front.planned cuts next_cuts fits;
       told_are = told_are owned s cuts (first_of found) plans c.front.planned fits.are told found.committed closed.telling.each within;
@@ -476,26 +499,26 @@ plans_or plans (Err f) = plans
 -- how a round went, and what it did, where these entries came
 round_is : {D L : Type 0} (stores logs : Type 0) (lines : L → List Line) (history : D → History) (faults : D → ℕ) (round : Round L) (r : Scope) (disk now : D) (es : List Entry)
     → CanBegin round.view.bound.now (length round.logs.items) round.opened r → first_ends (setting_of lines round) ≡ first_of round.opened → IsDeskRound (setting_of lines round) round.opened r
-    → (closes round.view.bound.now ≡ false → list_any brings_due es ≡ false) → (log_faults : ℕ) (told : List Told) (end : Ended)
+    → (closes round.view.bound.now ≡ false → list_any brings_due es ≡ false) → ((k : Shelf) → k.claimed ≡ [] → (shelf_all r (first r (opening_in lines round).start) k es).claimed ≡ []) → (log_faults : ℕ) (told : List Told) (end : Ended)
     → IsClosed stores logs lines history faults (first_shown lines round disk r) log_faults told end (did (first_shown lines round disk r) now es) → HaveLaws (stores × logs)
     → IsRound (stores × logs) (setting_of lines round) (length round.logs.items) r round.opened (history disk) (history now) (faults disk) (faults now) log_faults told end
-round_is stores logs lines history faults round r disk now es can begin is quiet log_faults told (Ok next) closed laws =
+round_is stores logs lines history faults round r disk now es can begin is quiet back log_faults told (Ok next) closed laws =
     let n = (closed.over next refl).2 in
-    let fits = next_fits _ (setting_of lines round) (first_of round.opened) _ r.available _ _ round.opened next.0 n (begins_so stores logs lines history faults round r disk now es can begin is quiet log_faults told (Ok next) closed) in
-    round_by stores logs lines history faults round r disk now es can begin is quiet log_faults told (Ok next) closed laws next.0.plans fits (λ other ends. sym (ap (plans_or next.0.plans) ends))
-round_is stores logs lines history faults round r disk now es can begin is quiet log_faults told (Err why) closed laws =
-    let next = next_cuts stores logs lines history faults round r disk now es can begin is quiet log_faults told (Err why) closed in
-    let below = more stores logs lines history faults round r disk now es can begin is quiet log_faults told (Err why) closed in
+    let fits = next_fits _ (setting_of lines round) (first_of round.opened) _ r.available _ _ round.opened next.0 n (begins_so stores logs lines history faults round r disk now es can begin is quiet back log_faults told (Ok next) closed) in
+    round_by stores logs lines history faults round r disk now es can begin is quiet back log_faults told (Ok next) closed laws next.0.plans fits (λ other ends. sym (ap (plans_or next.0.plans) ends))
+round_is stores logs lines history faults round r disk now es can begin is quiet back log_faults told (Err why) closed laws =
+    let next = next_cuts stores logs lines history faults round r disk now es can begin is quiet back log_faults told (Err why) closed in
+    let below = more stores logs lines history faults round r disk now es can begin is quiet back log_faults told (Err why) closed in
     let fits = built_fits r (closes round.view.bound.now) (first_of round.opened) round.opened.plans _ _ next below in
-    round_by stores logs lines history faults round r disk now es can begin is quiet log_faults told (Err why) closed laws _ fits (λ other ends. absurd (err_ok why other ends))
+    round_by stores logs lines history faults round r disk now es can begin is quiet back log_faults told (Err why) closed laws _ fits (λ other ends. absurd (err_ok why other ends))
 
 -- how a round went, by its desk in the end
 pub round_closed : {D L : Type 0} (stores logs : Type 0) (lines : L → List Line) (history : D → History) (faults : D → ℕ) (round : Round L) (r : Scope) (disk : D) (desk : Shown D (Round L)) (back : D)
-    → round.view.partitions ≡ round.opened.meta.partitions → CanBegin round.view.bound.now (length round.logs.items) round.opened r → IsDriven faults (closes round.view.bound.now) (first_shown lines round disk r) desk → back ≡ desk.disk
+    → round.view.partitions ≡ round.opened.meta.partitions → CanBegin round.view.bound.now (length round.logs.items) round.opened r → IsDriven faults (HasDamaged stores logs history lines) (closes round.view.bound.now) (first_shown lines round disk r) desk → back ≡ desk.disk
     → (log_faults : ℕ) (told : List Told) (end : Ended) → IsClosed stores logs lines history faults (first_shown lines round disk r) log_faults told end desk → HaveLaws (stores × logs)
     → IsRound (stores × logs) (setting_of lines round) (length round.logs.items) r round.opened (history disk) (history back) (faults disk) (faults back) log_faults told end
 round_closed stores logs lines history faults round r disk desk back same can driven is_back log_faults told end closed laws =
     let b = desk_begins lines round r same can in
     subst (λ (d : _). IsRound (stores × logs) (setting_of lines round) (length round.logs.items) r round.opened (history disk) (history d) (faults disk) (faults d) log_faults told end) (sym is_back)
-    (round_is stores logs lines history faults round r disk desk.disk driven.entries.0 can b.0 b.1 driven.quiet log_faults told end
+    (round_is stores logs lines history faults round r disk desk.disk driven.entries.0 can b.0 b.1 driven.quiet driven.returned log_faults told end
     (subst (IsClosed stores logs lines history faults (first_shown lines round disk r) log_faults told end) driven.entries.1 closed) laws)

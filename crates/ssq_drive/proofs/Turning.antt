@@ -12,6 +12,7 @@ use Rattle.ssq_board.specs.declared.front.Entry.{Entry}
 use Rattle.ssq_board.specs.declared.front.Entry.TheVariants as entry
 use Rattle.ssq_board.specs.declared.front.Ready.TheVariants as ready
 use Rattle.ssq_board.specs.Core.{Scope, Core, May, after, after_all, is_open, is_stopped, need, ready_of, tasks_of}
+use Rattle.ssq_board.specs.Shelf.{Shelf, shelf_all}
 use Rattle.ssq_board.specs.Shown.{IsSound}
 use Rattle.ssq_board.specs.Rounds.{HasCap, IsAtRest, is_away, one_if, weigh, epochs_left, weight, left}
 use Rattle.ssq_board.proofs.Falls.{plan_falls, sync_falls, commit_falls}
@@ -19,20 +20,21 @@ use Rattle.ssq_board.proofs.Readies.{past, plan_may, full_is, commit_may, sync_d
 use Rattle.ssq_board.proofs.Resting.{plan_turn, sync_turn, commit_turn}
 use Rattle.ssq_board.proofs.Sounds.{running_of}
 use Rattle.ssq_ledger.specs.Shown.{Shown, HasRisen, IsUnplanned, did}
-use Rattle.ssq_drive.specs.Driven.{StopsFor, IsTurn, brings_due}
+use Rattle.ssq_drive.specs.Driven.{StopsFor, no_file, IsTurn, brings_due}
 
 -- a turn, as far as it goes by what a desk knows
 pub record Goes (r : Scope) (c n : Core) (before now : ℕ) : Type 0 where
   pub running : c.front.stop ≡ None
   pub less : left r n < left r c
   pub rest : IsAtRest n
-  pub cause : IfSome n.front.stop (StopsFor r n before now)
+  pub cause : IfSome n.front.stop (StopsFor no_file r n before now)
 
-pub goes_turn : {D O : Type 0} (faults : D → ℕ) (closing : Bool) (old new : Shown D O) (es : List Entry) → new ≡ did old new.disk es → (closing ≡ false → list_any brings_due es ≡ false) → Goes old.scope old.core (after_all old.scope old.core es) (faults old.disk) (faults new.disk)
+pub goes_turn : {D O : Type 0} (faults : D → ℕ) (closing : Bool) (old new : Shown D O) (es : List Entry) → new ≡ did old new.disk es → (closing ≡ false → list_any brings_due es ≡ false)
+    → ((k : Shelf) → k.claimed ≡ [] → (shelf_all old.scope old.core k es).claimed ≡ []) → Goes old.scope old.core (after_all old.scope old.core es) (faults old.disk) (faults new.disk)
     → faults old.disk ≤ faults new.disk → IsTurn faults closing old new
-goes_turn faults closing old new es is undue goes counted =
+goes_turn faults closing old new es is undue back goes counted =
     let g = subst (λ (n : Core). Goes old.scope old.core n (faults old.disk) (faults new.disk)) (sym (ap (λ s. s.core) is)) goes in
-    record { running = g.running; less = g.less; driven = record { entries = (es, is); quiet = undue; stopped = λ f stops. absurd (both f stops g.running); rest = g.rest; cause = λ run. g.cause; counted = counted } }
+    record { running = g.running; less = g.less; driven = record { entries = (es, is); quiet = undue; returned = back; stopped = λ f stops. absurd (both f stops g.running); rest = g.rest; cause = λ run. g.cause; counted = counted } }
   where
     both : (f : Cause) → old.core.front.stop ≡ Some f → old.core.front.stop ≡ None → ⊥
     both f stops running = cc
@@ -70,7 +72,7 @@ none_left r c n running stopped = by (is_stopped c.front.stop) (is_stopped n.fro
 plan_runs : (r : Scope) (c : Core) → ready_of r c ≡ ready.Plan → c.front.stop ≡ None
 plan_runs r c next = running_of c.front.stop (past (is_stopped c.front.stop) _ _ _ next (λ x. cc)).0
 
-pub stop_goes : (r : Scope) (c : Core) (f : Cause) (before now : ℕ) → c.front.stop ≡ None → IsAtRest c → StopsFor r (after r c (entry.Stop f)) before now f → Goes r c (after r c (entry.Stop f)) before now
+pub stop_goes : (r : Scope) (c : Core) (f : Cause) (before now : ℕ) → c.front.stop ≡ None → IsAtRest c → StopsFor no_file r (after r c (entry.Stop f)) before now f → Goes r c (after r c (entry.Stop f)) before now
 stop_goes r c f before now running rest why = record {
   running = running;
   less = none_left r c (after r c (entry.Stop f)) running refl;
@@ -78,7 +80,7 @@ stop_goes r c f before now running rest why = record {
   cause = why;
 }
 
-pub risen_stops : (r : Scope) (c : Core) (f : Cause) (before now : ℕ) → HasRisen f before now → StopsFor r c before now f
+pub risen_stops : (r : Scope) (c : Core) (f : Cause) (before now : ℕ) → HasRisen f before now → StopsFor no_file r c before now f
 risen_stops r c (cause.BadLine s p o x) before now risen = absurd risen
 risen_stops r c (cause.Overflow s p o) before now risen = absurd risen
 risen_stops r c cause.KeyOverflow before now risen = absurd risen
@@ -89,7 +91,7 @@ risen_stops r c cause.DiskFault before now risen = risen
 risen_stops r c cause.Full before now risen = absurd risen
 risen_stops r c cause.NoMemory before now risen = tt
 
-unplanned_stops : (r : Scope) (c : Core) (f : Cause) (before now : ℕ) → ready_of r c ≡ ready.Plan → IsUnplanned c.front.planned before now f → StopsFor r (after r c (entry.Stop f)) before now f
+unplanned_stops : (r : Scope) (c : Core) (f : Cause) (before now : ℕ) → ready_of r c ≡ ready.Plan → IsUnplanned c.front.planned before now f → StopsFor no_file r (after r c (entry.Stop f)) before now f
 unplanned_stops r c (cause.BadLine s p o x) before now is risen = absurd risen
 unplanned_stops r c (cause.Overflow s p o) before now is risen = absurd risen
 unplanned_stops r c cause.KeyOverflow before now is risen = absurd risen
@@ -123,7 +125,7 @@ module _ {D O : Type 0} (faults : D → ℕ) (closing : Bool) (old new : Shown D
         rest = runs_rest n refl (plan_turn r c n c.front.planned (inl refl));
         cause = tt;
       } in
-      goes_turn faults closing old new (entry.Plan c.front.planned ∷ []) done (λ none. refl) goes counted
+      goes_turn faults closing old new (entry.Plan c.front.planned ∷ []) done (λ none. refl) (λ k none. none) goes counted
     where
       ok_err : Ok x ≡ Err cause.Full → ⊥
       ok_err e = cc
@@ -131,7 +133,7 @@ module _ {D O : Type 0} (faults : D → ℕ) (closing : Bool) (old new : Shown D
       below : old.core.front.planned ≤ 4294967295 → (old.core.front.planned ≡ 4294967295 → IsErrOf (Ok x) cause.Full) → old.core.front.planned < 4294967295
       below few full = elim (cases_lt old.core.front.planned 4294967295) [ inl less ↦ less | inr most ↦ absurd (ok_err (full (omega (arith, few, most)))) ]
   planned (Err f) has_cap sound rest next few done stopped full counted =
-      goes_turn faults closing old new (entry.Stop f ∷ []) stopped.0 (λ none. refl) (stop_goes old.scope old.core f (faults old.disk) (faults new.disk) (plan_runs old.scope old.core next) rest (unplanned_stops old.scope old.core f (faults old.disk) (faults new.disk) next stopped.1)) counted
+      goes_turn faults closing old new (entry.Stop f ∷ []) stopped.0 (λ none. refl) (λ k none. none) (stop_goes old.scope old.core f (faults old.disk) (faults new.disk) (plan_runs old.scope old.core next) rest (unplanned_stops old.scope old.core f (faults old.disk) (faults new.disk) next stopped.1)) counted
 
   -- a sync
   pub synced : (result : Result (Unit {0}) Cause) → IsAtRest old.core → ready_of old.scope old.core ≡ ready.Sync
@@ -149,9 +151,9 @@ module _ {D O : Type 0} (faults : D → ℕ) (closing : Bool) (old new : Shown D
         rest = runs_rest n refl (sync_turn r c n done.0 d.0 rest (inl refl));
         cause = tt;
       } in
-      goes_turn faults closing old new (entry.Sync done.0 ∷ []) done.1 (λ none. refl) goes counted
+      goes_turn faults closing old new (entry.Sync done.0 ∷ []) done.1 (λ none. refl) (λ k none. none) goes counted
   synced (Err f) rest next done stopped counted =
-      goes_turn faults closing old new (entry.Stop f ∷ []) stopped.0 (λ none. refl) (stop_goes old.scope old.core f (faults old.disk) (faults new.disk) (sync_due old.scope old.core next).0 rest (risen_stops old.scope (after old.scope old.core (entry.Stop f)) f (faults old.disk) (faults new.disk) stopped.1)) counted
+      goes_turn faults closing old new (entry.Stop f ∷ []) stopped.0 (λ none. refl) (λ k none. none) (stop_goes old.scope old.core f (faults old.disk) (faults new.disk) (sync_due old.scope old.core next).0 rest (risen_stops old.scope (after old.scope old.core (entry.Stop f)) f (faults old.disk) (faults new.disk) stopped.1)) counted
 
   -- a commit
   pub committed : (result : Result (Unit {0}) DiskFault) → IsSound old.scope old.core → IsAtRest old.core → ready_of old.scope old.core ≡ ready.Commit
@@ -170,6 +172,6 @@ module _ {D O : Type 0} (faults : D → ℕ) (closing : Bool) (old new : Shown D
         rest = runs_rest n refl (commit_turn r c n c.front.committed due sound rest (inl refl));
         cause = tt;
       } in
-      goes_turn faults closing old new (entry.Commit c.front.committed due ∷ []) done.1 (λ none. ap (λ (b : Bool). b || false) (not_due due none done.2)) goes counted
+      goes_turn faults closing old new (entry.Commit c.front.committed due ∷ []) done.1 (λ none. ap (λ (b : Bool). b || false) (not_due due none done.2)) (λ k none. none) goes counted
   committed (Err f) sound rest next done stopped counted =
-      goes_turn faults closing old new (entry.Stop cause.DiskFault ∷ []) stopped.0 (λ none. refl) (stop_goes old.scope old.core cause.DiskFault (faults old.disk) (faults new.disk) (commit_may old.scope old.core false next).0 rest stopped.1) counted
+      goes_turn faults closing old new (entry.Stop cause.DiskFault ∷ []) stopped.0 (λ none. refl) (λ k none. none) (stop_goes old.scope old.core cause.DiskFault (faults old.disk) (faults new.disk) (commit_may old.scope old.core false next).0 rest stopped.1) counted

@@ -4,6 +4,8 @@ use Rattle.std.specs.List.{list_any}
 use Rattle.ssq_outside.specs.declared.gate.TaskId.{TaskId}
 use Rattle.ssq_outside.specs.declared.gate.Kind.{Kind}
 use Rattle.ssq_outside.specs.declared.gate.Kind.TheVariants as kind
+use Rattle.ssq_outside.specs.declared.name.Name.{Name}
+use Rattle.ssq_outside.specs.declared.name.Name.TheVariants as name
 use Rattle.ssq_outside.specs.Faults.{Rises}
 use Rattle.ssq_board.specs.declared.front.Cause.{Cause}
 use Rattle.ssq_board.specs.declared.front.Cause.TheVariants as cause
@@ -11,14 +13,15 @@ use Rattle.ssq_board.specs.declared.front.Entry.{Entry}
 use Rattle.ssq_board.specs.declared.front.Entry.TheVariants as entry
 use Rattle.ssq_board.specs.declared.front.Place.{Place}
 use Rattle.ssq_board.specs.declared.front.Place.TheVariants as place
-use Rattle.ssq_board.specs.Core.{Scope, Core, May, after, after_all, due, due_stop, moved, or_stop, tasks_of, with_tasks}
+use Rattle.ssq_board.specs.Core.{Scope, Core, May, after, after_all, due, due_stop, is_stopped, moved, or_stop, tasks_of, with_tasks}
+use Rattle.ssq_board.specs.Shelf.{Shelf, version_on}
 use Rattle.ssq_board.specs.Shown.{IsSound}
 use Rattle.ssq_board.specs.Rounds.{IsAtRest, Worked, Versioned, brings_rows, is_away}
 use Rattle.ssq_board.proofs.Falls.{version_falls, work_falls}
 use Rattle.ssq_board.proofs.Resting.{version_turn, work_turn}
 use Rattle.ssq_board.proofs.Sounds.{step_sound}
 use Rattle.ssq_ledger.specs.Shown.{Shown, HasRisen, did, answer}
-use Rattle.ssq_drive.specs.Driven.{StopsFor, IsTurn}
+use Rattle.ssq_drive.specs.Driven.{StopsFor, no_file, IsTurn}
 use Rattle.ssq_desk.specs.Contents.{IsReducedCause}
 use Rattle.ssq_desk.specs.Published.{IsOut, brings}
 use Rattle.ssq_desk.specs.Results.{IsReturned}
@@ -62,6 +65,11 @@ version_here r c t h = same_here (moved (moved c t place.Away) t (place.Back Non
 missed_here : (r : Scope) (c : Core) (t : TaskId) → ((k : Kind) → list_any is_away (tasks_of k c) ≡ false) → (k : Kind) → list_any is_away (tasks_of k (after r (after r c (entry.Claim t)) (entry.Missed t))) ≡ false
 missed_here r c t h = same_here (moved (moved c t place.Away) t (place.Back (Some cause.DiskFault))) (after r (after r c (entry.Claim t)) (entry.Missed t)) refl refl refl (back_all c t (Some cause.DiskFault) h)
 
+-- a version makes no snapshot
+version_claims : (b : Bool) (q : Name) (s : Shelf) → (version_on b q s).claimed ≡ s.claimed
+version_claims true q s = refl
+version_claims false q s = refl
+
 -- a cause, where there is one
 given_all : (o : Option Cause) (Q : Cause → Type 0) → ((g : Cause) → o ≡ Some g → Q g) → IfSome o Q
 given_all None Q why = tt
@@ -70,7 +78,7 @@ given_all (Some g) Q why = why g refl
 module _ (r : Scope) (c : Core) (t : TaskId) (before now : ℕ) (sound : IsSound r c) (rest : IsAtRest c) (may : May r c (entry.Claim t)) where
   -- a task that publishes nothing
   report_goes : (f : Option Cause) → brings_rows t.kind f ≡ false
-      → ((g : Cause) → due (after r c (entry.Claim t)) t f ≡ Some g → StopsFor r (after_all r c (entry.Claim t ∷ entry.Report t f ∷ [])) before now g)
+      → ((g : Cause) → due (after r c (entry.Claim t)) t f ≡ Some g → StopsFor no_file r (after_all r c (entry.Claim t ∷ entry.Report t f ∷ [])) before now g)
       → Goes r c (after_all r c (entry.Claim t ∷ entry.Report t f ∷ [])) before now
   report_goes f none why =
       let n = after_all r c (entry.Claim t ∷ entry.Report t f ∷ []) in
@@ -80,11 +88,11 @@ module _ (r : Scope) (c : Core) (t : TaskId) (before now : ℕ) (sound : IsSound
         running = may.0;
         less = work_falls r c n w;
         rest = rests n (work_here r c t f rest.here) (work_turn r c n sound rest w);
-        cause = subst (λ (o : Option Cause). IfSome o (StopsFor r n before now)) (sym (ap (λ (o : Option Cause). or_stop o d) may.0)) (given_all d (StopsFor r n before now) why);
+        cause = subst (λ (o : Option Cause). IfSome o (StopsFor no_file r n before now)) (sym (ap (λ (o : Option Cause). or_stop o d) may.0)) (given_all d (StopsFor no_file r n before now) why);
       }
 
   -- a reduce task whose version is published
-  version_goes : t.kind ≡ kind.Reduce → ((g : Cause) → due (after r c (entry.Claim t)) t None ≡ Some g → StopsFor r (after_all r c (entry.Claim t ∷ entry.Version t ∷ [])) before now g)
+  version_goes : t.kind ≡ kind.Reduce → ((g : Cause) → due (after r c (entry.Claim t)) t None ≡ Some g → StopsFor no_file r (after_all r c (entry.Claim t ∷ entry.Version t ∷ [])) before now g)
       → Goes r c (after_all r c (entry.Claim t ∷ entry.Version t ∷ [])) before now
   version_goes is why =
       let n = after_all r c (entry.Claim t ∷ entry.Version t ∷ []) in
@@ -94,7 +102,7 @@ module _ (r : Scope) (c : Core) (t : TaskId) (before now : ℕ) (sound : IsSound
         running = may.0;
         less = version_falls r c n w;
         rest = rests n (version_here r c t rest.here) (version_turn r c n rest w);
-        cause = subst (λ (o : Option Cause). IfSome o (StopsFor r n before now)) (sym (ap (λ (o : Option Cause). or_stop o d) may.0)) (given_all d (StopsFor r n before now) why);
+        cause = subst (λ (o : Option Cause). IfSome o (StopsFor no_file r n before now)) (sym (ap (λ (o : Option Cause). or_stop o d) may.0)) (given_all d (StopsFor no_file r n before now) why);
       }
 
   -- and one whose version could not be published
@@ -117,7 +125,7 @@ module _ (r : Scope) (c : Core) (t : TaskId) (before now : ℕ) (sound : IsSound
       record { running = may.0; less = work_falls r c n w; rest = runs_rest n refl (work_turn r c n sound rest w); cause = tt }
 
   -- and one whose rows could not be published
-  unpublished_goes : (f : Option Cause) (g : Cause) → StopsFor r (after_all r c (entry.Claim t ∷ entry.Report t f ∷ entry.Stop g ∷ [])) before now g → Goes r c (after_all r c (entry.Claim t ∷ entry.Report t f ∷ entry.Stop g ∷ [])) before now
+  unpublished_goes : (f : Option Cause) (g : Cause) → StopsFor no_file r (after_all r c (entry.Claim t ∷ entry.Report t f ∷ entry.Stop g ∷ [])) before now g → Goes r c (after_all r c (entry.Claim t ∷ entry.Report t f ∷ entry.Stop g ∷ [])) before now
   unpublished_goes f g why =
       let mid = after_all r c (entry.Claim t ∷ entry.Report t f ∷ []) in
       let n = after_all r c (entry.Claim t ∷ entry.Report t f ∷ entry.Stop g ∷ []) in
@@ -143,7 +151,7 @@ no_cause : (g : Cause) → None ≡ Some g → ⊥
 no_cause g is = cc
 
 -- the desk accounts for it, where a failure of the disk was counted
-reduce_stops : (r : Scope) (n : Core) (before now : ℕ) (g : Cause) → IsReducedCause g → (g ≡ cause.DiskFault → Rises before now) → StopsFor r n before now g
+reduce_stops : (r : Scope) (n : Core) (before now : ℕ) (g : Cause) → IsReducedCause g → (g ≡ cause.DiskFault → Rises before now) → StopsFor no_file r n before now g
 reduce_stops r n before now (cause.BadLine s p o x) is risen = absurd is
 reduce_stops r n before now (cause.Overflow s p o) is risen = absurd is
 reduce_stops r n before now cause.KeyOverflow is risen = tt
@@ -164,14 +172,14 @@ module _ {D O : Type 0} (faults : D → ℕ) (closing : Bool) (old mid new : Sho
 
   -- a map or a reduce task is back, with a cause that is none of the desk's
   pub reported : (f : Option Cause) → new ≡ did mid mid.disk (entry.Report t f ∷ []) → brings_rows t.kind f ≡ false
-      → ((g : Cause) → f ≡ Some g → (r : Scope) (n : Core) (before now : ℕ) → StopsFor r n before now g) → IsTurn faults closing old new
+      → ((g : Cause) → f ≡ Some g → (r : Scope) (n : Core) (before now : ℕ) → StopsFor no_file r n before now g) → IsTurn faults closing old new
   reported f is none own =
       let r = old.scope in
       let c = old.core in
       let n = after_all r c (entry.Claim t ∷ entry.Report t f ∷ []) in
       let calm = (step_sound r c (entry.Claim t) may sound).calm may.0 t.kind in
       let same : faults new.disk ≡ faults old.disk = ap (λ s. faults s.disk) is ∙ claimed_faults in
-      goes_turn faults closing old new (entry.Claim t ∷ entry.Report t f ∷ []) (behind old mid new t (entry.Report t f ∷ []) claimed (here mid new (entry.Report t f ∷ []) is)) (λ none. refl)
+      goes_turn faults closing old new (entry.Claim t ∷ entry.Report t f ∷ []) (behind old mid new t (entry.Report t f ∷ []) claimed (here mid new (entry.Report t f ∷ []) is)) (λ none. refl) (λ k none. none)
       (report_goes r c t (faults old.disk) (faults new.disk) sound rest may f none
       (report_stops r (after r c (entry.Claim t)) n t f (faults old.disk) (faults new.disk) may.0 calm (λ g own_is due_is. own g own_is r n (faults old.disk) (faults new.disk))))
       (subst (λ (x : ℕ). faults old.disk ≤ x) (sym same) (le_refl (faults old.disk)))
@@ -205,7 +213,7 @@ module _ {D O : Type 0} (faults : D → ℕ) (closing : Bool) (old mid new : Sho
       by : (delta : Option F) → IsReturned delta mid new t f result (Rises (faults mid.disk) (faults new.disk)) → (IsErrOf result cause.DiskFault → Rises (faults old.disk) (faults new.disk)) → faults old.disk ≤ faults new.disk → IsTurn faults closing old new
       by None came risen counted =
           let n = after_all r c (entry.Claim t ∷ entry.Report t f ∷ []) in
-          goes_turn faults closing old new (entry.Claim t ∷ entry.Report t f ∷ []) (behind old mid new t (entry.Report t f ∷ []) claimed came.0) (λ none. refl)
+          goes_turn faults closing old new (entry.Claim t ∷ entry.Report t f ∷ []) (behind old mid new t (entry.Report t f ∷ []) claimed came.0) (λ none. refl) (λ k none. none)
           (report_goes r c t (faults old.disk) (faults new.disk) sound rest may f (none_reduce t.kind f is)
           (report_stops r now n t f (faults old.disk) (faults new.disk) may.0 calm
           (λ g own_is due_is. reduce_stops r n (faults old.disk) (faults new.disk) g (subst (λ (o : Option Cause). IfSome o IsReducedCause) own_is own)
@@ -213,12 +221,12 @@ module _ {D O : Type 0} (faults : D → ℕ) (closing : Bool) (old mid new : Sho
           counted
       by (Some file) (inl came) risen counted =
           let n = after_all r c (entry.Claim t ∷ entry.Version t ∷ []) in
-          goes_turn faults closing old new (entry.Claim t ∷ entry.Version t ∷ []) (behind old mid new t (entry.Version t ∷ []) claimed came.0) (λ none. refl)
+          goes_turn faults closing old new (entry.Claim t ∷ entry.Version t ∷ []) (behind old mid new t (entry.Version t ∷ []) claimed came.0) (λ none. refl) (λ k none. version_claims (is_stopped old.core.front.stop) (name.Delta t.number t.epoch) k ∙ none)
           (version_goes r c t (faults old.disk) (faults new.disk) sound rest may is
           (report_stops r now n t None (faults old.disk) (faults new.disk) may.0 calm (λ g own_is. absurd (no_cause g own_is))))
           counted
       by (Some file) (inr missed) risen counted =
-          goes_turn faults closing old new (entry.Claim t ∷ entry.Missed t ∷ []) (behind old mid new t (entry.Missed t ∷ []) claimed missed.1) (λ none. refl)
+          goes_turn faults closing old new (entry.Claim t ∷ entry.Missed t ∷ []) (behind old mid new t (entry.Missed t ∷ []) claimed missed.1) (λ none. refl) (λ k none. none)
           (missed_goes r c t (faults old.disk) (faults new.disk) sound rest may (risen missed.2))
           counted
 
@@ -236,18 +244,18 @@ module _ {D O : Type 0} (faults : D → ℕ) (closing : Bool) (old mid new : Sho
           → faults old.disk ≤ faults new.disk → IsTurn faults closing old new
       by None (Ok x) out risen counted =
           let es = entry.Report t None ∷ entry.OutFile mid.core.front.committed ∷ [] in
-          goes_turn faults closing old new (entry.Claim t ∷ es) (behind old mid new t es claimed out.0) (λ none. refl)
+          goes_turn faults closing old new (entry.Claim t ∷ es) (behind old mid new t es claimed out.0) (λ none. refl) (λ k none. none)
           (rows_goes old.scope old.core t (faults old.disk) (faults new.disk) sound rest may mid.core.front.committed rows (ap (λ (x : Core). x.front.committed) claimed_core)) counted
       by None (Err g) out risen counted =
           let es = entry.Report t None ∷ entry.Stop g ∷ [] in
-          goes_turn faults closing old new (entry.Claim t ∷ es) (behind old mid new t es claimed out.1.1) (λ none. refl)
+          goes_turn faults closing old new (entry.Claim t ∷ es) (behind old mid new t es claimed out.1.1) (λ none. refl) (λ k none. none)
           (unpublished_goes old.scope old.core t (faults old.disk) (faults new.disk) sound rest may None g (risen_stops old.scope (after_all old.scope old.core (entry.Claim t ∷ es)) g (faults old.disk) (faults new.disk) risen)) counted
       by (Some f) result out risen counted =
           let r = old.scope in
           let c = old.core in
           let n = after_all r c (entry.Claim t ∷ entry.Report t (Some f) ∷ []) in
           let es = entry.Report t (Some f) ∷ [] in
-          goes_turn faults closing old new (entry.Claim t ∷ es) (behind old mid new t es claimed out.0) (λ none. refl)
+          goes_turn faults closing old new (entry.Claim t ∷ es) (behind old mid new t es claimed out.0) (λ none. refl) (λ k none. none)
           (report_goes r c t (faults old.disk) (faults new.disk) sound rest may (Some f) (no_rows f)
           (λ g is. risen_stops r n g (faults old.disk) (faults new.disk)
           (subst (λ (x : Result (Unit {0}) Cause). IfErr x (λ h. HasRisen h (faults old.disk) (faults new.disk))) (out.1 ∙ ap (λ (x : Core). answer (due x t (Some f))) claimed_core ∙ ap answer is) risen)))

@@ -1,3 +1,5 @@
+pub mod Damaged
 pub mod Driven
 pub mod Good
+pub mod Kept
 pub mod Rounds

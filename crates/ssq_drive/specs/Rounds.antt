@@ -38,7 +38,9 @@ use Rattle.ssq_desk.specs.Closing.{lines_between}
 use Rattle.ssq_desk.specs.Contents.{line_of}
 use Rattle.ssq_desk.specs.First.{AreIndexes}
 use Rattle.ssq_drive.specs.declared.round.Stopped.{Stopped}
+use Rattle.ssq_drive.specs.Damaged.{IsDamagedIn}
 use Rattle.ssq_drive.specs.Good.{HasGoodLines}
+use Rattle.ssq_drive.specs.Kept.{IsKeptUp, NeedsNoUpkeep}
 
 -- the query, with the partitions and parts that its checkpoint keeps, over the lines of the logs
 abbrev pub setting_for : {L : Type 0} → (L → List Line) → Bound → Opened → List L → Setting
@@ -137,25 +139,28 @@ IsMore s cuts found e = (is_behind (cuts e) found ≡ true) ⊎ (due_at s cuts e
 -- Why a round stopped that has so many epochs planned, at the first that is not committed: where disk and logs tell what they hold, a line
 -- is told only where it is the first fault of that epoch, which is planned, and no log is short; where also what was opened is the job's own, a
 -- key only where it is the fault of that epoch. There are too many epochs only where one more is to come: some part has more lines, or the query
--- closes; and by the job's own that one is due. What failed has counted it. No file is found damaged.
-abbrev pub IsRoundStop : (tells owned : Type 0) → Setting → Cuts → (found : List ℕ) → (planned e : ℕ) → (disk disk_now logs : ℕ) → (key : Option Values) → Cause → Type 0
-IsRoundStop tells owned s cuts found planned e disk disk_now logs key (cause.BadLine t p o f) = (e < planned) × (tells → IsFaultAt s cuts e (line_of (cause.BadLine t p o f)))
-IsRoundStop tells owned s cuts found planned e disk disk_now logs key (cause.Overflow t p o) = (e < planned) × (tells → IsFaultAt s cuts e (line_of (cause.Overflow t p o)))
-IsRoundStop tells owned s cuts found planned e disk disk_now logs key cause.KeyOverflow = (e < planned) × IsSomeAnd key (λ own. owned → IsKeyAt s cuts e own)
-IsRoundStop tells owned s cuts found planned e disk disk_now logs key cause.LogFault = 0 < logs
-IsRoundStop tells owned s cuts found planned e disk disk_now logs key (cause.LogShort t p logged lines) = (lines < logged) × (tells → ⊥)
-IsRoundStop tells owned s cuts found planned e disk disk_now logs key (cause.Damaged q) = ⊥
-IsRoundStop tells owned s cuts found planned e disk disk_now logs key cause.DiskFault = Rises disk disk_now
-IsRoundStop tells owned s cuts found planned e disk disk_now logs key cause.Full = (planned ≡ 4294967295) × ((is_behind (cuts planned) found ≡ true) ⊎ (closes s.job.bound ≡ true)) × (owned → IsMore s cuts found planned)
-IsRoundStop tells owned s cuts found planned e disk disk_now logs key cause.NoMemory = Unit {0}
+-- closes; and by the job's own that one is due. What failed has counted it. A file that upkeep read is told only where it is damaged among those
+-- that the round leaves, and never where what was opened is the job's own.
+abbrev pub IsRoundStop : (tells owned : Type 0) → Setting → Cuts → (found : List ℕ) → (planned e : ℕ) → Files → (disk disk_now logs : ℕ) → (key : Option Values) → Cause → Type 0
+IsRoundStop tells owned s cuts found planned e files disk disk_now logs key (cause.BadLine t p o f) = (e < planned) × (tells → IsFaultAt s cuts e (line_of (cause.BadLine t p o f)))
+IsRoundStop tells owned s cuts found planned e files disk disk_now logs key (cause.Overflow t p o) = (e < planned) × (tells → IsFaultAt s cuts e (line_of (cause.Overflow t p o)))
+IsRoundStop tells owned s cuts found planned e files disk disk_now logs key cause.KeyOverflow = (e < planned) × IsSomeAnd key (λ own. owned → IsKeyAt s cuts e own)
+IsRoundStop tells owned s cuts found planned e files disk disk_now logs key cause.LogFault = 0 < logs
+IsRoundStop tells owned s cuts found planned e files disk disk_now logs key (cause.LogShort t p logged lines) = (lines < logged) × (tells → ⊥)
+IsRoundStop tells owned s cuts found planned e files disk disk_now logs key (cause.Damaged q) = (owned → ⊥) × (tells → IsDamagedIn files q)
+IsRoundStop tells owned s cuts found planned e files disk disk_now logs key cause.DiskFault = Rises disk disk_now
+IsRoundStop tells owned s cuts found planned e files disk disk_now logs key cause.Full = (planned ≡ 4294967295) × ((is_behind (cuts planned) found ≡ true) ⊎ (closes s.job.bound ≡ true)) × (owned → IsMore s cuts found planned)
+IsRoundStop tells owned s cuts found planned e files disk disk_now logs key cause.NoMemory = Unit {0}
 
--- A round that is over: all epochs are committed and told, and cover what was found; the next round may begin on that, with these indexes.
+-- A round that is over: all epochs are committed and told, and cover what was found; upkeep is done, by the names of the files that are left; and the
+-- next round may begin on that, with these indexes.
 pub record IsOver (bound : Bound) (logs : ℕ) (r : Scope) (found : Opened) (plans : List Plan) (told : List Told) (next : Opened) (closings : List (List Timed)) : Type 0 where
   pub plans_are : next.plans ≡ plans
   pub committed : next.committed ≡ length plans
   pub all : found.committed + length told ≡ length plans
   pub meta_is : next.meta ≡ found.meta
   pub covered : is_behind (last_ends (first_of found) plans) r.available ≡ false
+  pub kept : NeedsNoUpkeep (keeping_of bound.shape found.meta.partitions) found.meta.partitions next.committed next.names
   pub can : CanBegin bound logs next r
   pub indexes : HaveIndexes bound next.stores closings
 
@@ -166,18 +171,19 @@ Ended = Result (Opened × Vec (List Timed)) Stopped
 -- How a round went, whatever the disk tells: these are its plans in the end, the epochs that it told are the first ones that were not
 -- committed, of which no line is a fault where disk and logs tell what they hold, and it is over or stopped at an epoch behind them, for a key
 -- only where that is told.
-pub record RoundWent (tells owned : Type 0) (s : Setting) (logs_count : ℕ) (r : Scope) (found : Opened) (disk disk_now logs : ℕ) (plans : List Plan) (told : List Told) (end : Ended) : Type 0 where
+pub record RoundWent (tells owned : Type 0) (s : Setting) (logs_count : ℕ) (r : Scope) (found : Opened) (files : Files) (disk disk_now logs : ℕ) (plans : List Plan) (told : List Told) (end : Ended) : Type 0 where
   pub on : PlansOn (closes s.job.bound) (first_of found) r.cap r.available found.plans plans
   pub told_are : AreTold (first_of found) plans found.committed told
   pub good : tells → All (λ told. HasGoodLines s (cut_of (first_of found) plans) told.epoch) told
   pub few : found.committed + length told ≤ length plans
   pub over : (next : Opened × Vec (List Timed)) → end ≡ Ok next → IsOver s.job.bound logs_count r found plans told next.0 next.1.items
-  pub stopped : (why : Stopped) → end ≡ Err why → IsRoundStop tells owned s (cut_of (first_of found) plans) r.available (length plans) (found.committed + length told) disk disk_now logs why.key why.cause
+  pub stopped : (why : Stopped) → end ≡ Err why → IsRoundStop tells owned s (cut_of (first_of found) plans) r.available (length plans) (found.committed + length told) files disk disk_now logs why.key why.cause
   pub keyless : (why : Stopped) → end ≡ Err why → why.cause ≢ cause.KeyOverflow → why.key ≡ None
 
 -- What a round does that begins on the job's own settled files: it is a run of the machine; its plans are those of the files that it leaves,
 -- or, once all are done with, the publishing of one more failed; each epoch that it planned was to come; each that it tells has the rows of the
--- meaning; and where it is over, its files are settled, what the next round begins on is what they hold, and no epoch without lines is due.
+-- meaning; and where it is over, its files are settled, what the next round begins on is what they hold, upkeep is done by them, and no epoch
+-- without lines is due.
 pub record RoundRan (tells : Type 0) (s : Setting) (r : Scope) (start now : History) (cuts : Cuts) (before committed planned : ℕ) (told : List Told) (end : Ended) : Type 0 where
   pub run : WasRun tells (job_of s) start now (map (λ t. t.epoch) told)
   pub files : AreFilesOf (job_of s) r.cap (due_at s) (λ lines. AreFound lines s.lines) (committed + length told ≡ planned) cuts planned now
@@ -185,6 +191,7 @@ pub record RoundRan (tells : Type 0) (s : Setting) (r : Scope) (start now : Hist
   pub meant : All (IsMeant s cuts) told
   pub settled : (next : Opened × Vec (List Timed)) → end ≡ Ok next → IsSettledAs now (files_now now)
   pub found : (next : Opened × Vec (List Timed)) → end ≡ Ok next → IsFoundOf s (files_now now) next.0
+  pub kept : (next : Opened × Vec (List Timed)) → end ≡ Ok next → IsKeptUp (keeping_of s.job.bound.shape s.job.partitions) s.job.partitions (files_now now)
   pub quiet : (next : Opened × Vec (List Timed)) → end ≡ Ok next → due_at s cuts planned ≡ false
 
 -- What was opened is the job's own: the setting is that of the query and of the lines that were found, the files are settled, and what was
@@ -201,5 +208,5 @@ pub record IsOwn (s : Setting) (r : Scope) (start : History) (found : Opened) : 
 -- how a round went, and what it did
 pub record IsRound (tells : Type 0) (s : Setting) (logs_count : ℕ) (r : Scope) (found : Opened) (start now : History) (disk disk_now logs : ℕ) (told : List Told) (end : Ended) : Type 0 where
   pub plans : List Plan
-  pub went : RoundWent tells (tells × IsOwn s r start found) s logs_count r found disk disk_now logs plans told end
+  pub went : RoundWent tells (tells × IsOwn s r start found) s logs_count r found (files_now now) disk disk_now logs plans told end
   pub ran : tells → IsOwn s r start found → RoundRan tells s r start now (cut_of (first_of found) plans) (length found.plans) found.committed (length plans) told end

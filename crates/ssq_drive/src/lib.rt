@@ -4,10 +4,8 @@
 //! of an epoch that is committed is a fault, `Rounds` what a round begins on, what it plans and tells, and why it stops.
 #![tactic(auto)]
 
-mod drive;
 mod keep;
 mod round;
 mod turn;
 
-pub use drive::run_desk;
 pub use round::{Stopped, Went, run_round};

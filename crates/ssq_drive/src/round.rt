@@ -6,7 +6,8 @@ ghost use mathlib.Core.Option.{some};
 ghost use lib.ListN.{get_elem?};
 ghost use Rattle.ssq_drive.specs.Rounds.{CanBegin, AreReturned, HaveIndexes, IsRound, setting_for};
 
-use crate::drive::run_desk;
+use crate::keep::{finish, keep_between};
+use crate::turn::turn;
 use ssq_board::Cause;
 use ssq_desk::{Closed, Desk, Told};
 use ssq_meaning::View;
@@ -105,7 +106,10 @@ pub fn run_round<D: Disk, L: Log, G: Gate>(
             };
         }
     };
-    run_desk(alloc, gate, &mut desk);
+    while turn(alloc, gate, &mut desk) {
+        keep_between(alloc, &mut desk);
+    }
+    finish(alloc, &mut desk);
     desk.is_legal();
     desk.is_in_order();
     let Closed {

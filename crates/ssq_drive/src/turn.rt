@@ -76,33 +76,7 @@ fn id_of<L: Log, S: Stage>(task: &Task<'_, L, S>) -> TaskId
     }
 }
 
-/// Does the next task, behind the gate.
-fn work<'a, D: Disk, L: Log, G: Gate>(alloc: Global, gate: &G, desk: &mut Desk<'a, D, L>)
-    requires rest { IsAtRest desk.old.core }
-    requires next { ready_of desk.old.scope desk.old.core ≡ ready.Task }
-    ensures turn { IsTurn D.faults (closes desk.old.opening.view.bound.now) desk.old desk.new }
-    ensures good { KeepsGood L.lines (D.tells × L.tells) desk.old desk.new }
-{
-    desk.is_in_order();
-    desk.is_numbered();
-    let Some(task) = desk.claim() else {
-        unreachable!()
-    };
-    gate.at(id_of(&task));
-    match task {
-        Task::Map(task) => {
-            let _ = desk.report_fed(feed(alloc, task));
-        }
-        Task::Reduce(task) => {
-            let _ = desk.report_reduced(reduce(alloc, task));
-        }
-        Task::Out(task) => {
-            let _ = desk.publish_out(gather(alloc, task));
-        }
-    }
-}
-
-/// Does what is next. Answers whether there was anything.
+/// Does what is next; a task behind the gate. Answers whether there was anything.
 pub(crate) fn turn<'a, D: Disk, L: Log, G: Gate>(
     alloc: Global,
     gate: &G,
@@ -117,7 +91,24 @@ pub(crate) fn turn<'a, D: Disk, L: Log, G: Gate>(
     desk.is_in_order();
     match desk.ready() {
         Ready::Plan => plan(alloc, desk),
-        Ready::Task => work(alloc, gate, desk),
+        Ready::Task => {
+            desk.is_numbered();
+            let Some(task) = desk.claim() else {
+                unreachable!()
+            };
+            gate.at(id_of(&task));
+            match task {
+                Task::Map(task) => {
+                    let _ = desk.report_fed(feed(alloc, task));
+                }
+                Task::Reduce(task) => {
+                    let _ = desk.report_reduced(reduce(alloc, task));
+                }
+                Task::Out(task) => {
+                    let _ = desk.publish_out(gather(alloc, task));
+                }
+            }
+        }
         Ready::Sync => sync(desk),
         Ready::Commit => commit(desk),
         Ready::Over => return false,

@@ -6,4 +6,5 @@ pub mod Moves
 pub mod Written
 pub mod Publishing
 pub mod Closings
+pub mod Dropping
 pub mod Planning

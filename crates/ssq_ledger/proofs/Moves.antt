@@ -8,7 +8,7 @@ use Rattle.ssq_outside.specs.History.{History, had_now, Elapses}
 use Rattle.ssq_core.specs.Course.{Cuts, Job, truth}
 use Rattle.ssq_core.specs.Machine.{publishes}
 use Rattle.ssq_board.specs.declared.front.Cause.{Cause}
-use Rattle.ssq_board.specs.Follows.{Goes, Tries, publishes_by}
+use Rattle.ssq_board.specs.Follows.{Goes, Tries, publishes_by, makes_by}
 
 pub went : (q : Name) (bytes true_bytes : List ℕ) (old new : History) → bytes ≡ true_bytes → Elapses old new (λ had. had ≡ added q bytes (had_now old)) → had_now new ≡ added q bytes (had_now old) → Goes (publishes q true_bytes) old new
 went q bytes true_bytes old new is steps now = subst (λ (b : List ℕ). Elapses old new (λ had. had ≡ added q b (had_now old)) × (had_now new ≡ added q b (had_now old))) is (steps, now)
@@ -31,6 +31,14 @@ version_went job cuts t stop old new running = subst (λ (o : Option Cause). Goe
 pub version_kept : (job : Job) (cuts : Cuts) (t : TaskId) (stop : Option Cause) (disk : History) → is_some stop ≡ true → Goes (publishes_by job cuts t stop) disk disk
 version_kept job cuts t None disk is = absurd (true≢false (sym is))
 version_kept job cuts t (Some f) disk is = refl
+
+-- and so is a snapshot
+pub snapshot_went : (job : Job) (cuts : Cuts) (p v : ℕ) (stop : Option Cause) (old new : History) → stop ≡ None → Goes (publishes (name.Snapshot p v) (truth (job.course cuts) (name.Snapshot p v))) old new → Goes (makes_by job cuts p v stop) old new
+snapshot_went job cuts p v stop old new running = subst (λ (o : Option Cause). Goes (makes_by job cuts p v o) old new) (sym running)
+
+pub snapshot_kept : (job : Job) (cuts : Cuts) (p v : ℕ) (stop : Option Cause) (disk : History) → is_some stop ≡ true → Goes (makes_by job cuts p v stop) disk disk
+snapshot_kept job cuts p v None disk is = absurd (true≢false (sym is))
+snapshot_kept job cuts p v (Some f) disk is = refl
 
 pub none_of : (stop : Option Cause) → is_some stop ≡ false → stop ≡ None
 none_of None is = refl

@@ -228,7 +228,7 @@ impl Board {
         }
     }
 
-    fn stop_by(&mut self, stop: Option<Cause>)
+    pub(crate) fn stop_by(&mut self, stop: Option<Cause>)
         ensures { self.new ≡ with_front self.old (stopped_front self.old.front (or_stop self.old.front.stop stop)) }
     {
         self.front.stop = or_stop(self.front.stop, stop);

@@ -50,8 +50,8 @@ impl<D: Disk, O: Opening> Ledger<D, O> {
     /// the Stop that this brings about.
     pub fn report(&mut self, id: TaskId, fault: Option<Cause>) -> Result<(), Cause>
         requires may { May self.old.scope self.old.core (entry.Report id fault) }
-        requires right { (D.tells × O.tells self.old.opening self.old.scope) → IsTrue O.opening self.old id fault }
-        requires bare { (D.tells × O.tells self.old.opening self.old.scope) → HasNone O.opening self.old id fault }
+        requires right { (D.tells × O.tells self.old.opening self.old.scope (D.history self.old.opened)) → IsTrue O.opening self.old id fault }
+        requires bare { (D.tells × O.tells self.old.opening self.old.scope (D.history self.old.opened)) → HasNone O.opening self.old id fault }
         ensures did { self.new ≡ did self.old self.old.disk (entry.Report id fault ∷ []) }
         ensures answer { result ≡ answer (due self.old.core id fault) }
     {
@@ -69,7 +69,7 @@ impl<D: Disk, O: Opening> Ledger<D, O> {
         file: <D::Stage as Stage>::Sealed,
     ) -> Result<(), Cause>
         requires may { May self.old.scope self.old.core (entry.Version id) }
-        requires right { (D.tells × O.tells self.old.opening self.old.scope) → HasVersion O.opening self.old id (D.Stage.sealed file) }
+        requires right { (D.tells × O.tells self.old.opening self.old.scope (D.history self.old.opened)) → HasVersion O.opening self.old id (D.Stage.sealed file) }
         ensures did { IsVersioned self.old self.new id result (Rises (D.faults self.old.disk) (D.faults self.new.disk)) }
         ensures kept { self.old.core.front.stop ≢ None → self.new.disk ≡ self.old.disk }
         ensures counted { D.faults self.old.disk ≤ D.faults self.new.disk }
@@ -93,7 +93,7 @@ impl<D: Disk, O: Opening> Ledger<D, O> {
     /// Publishes the rows of the epoch that runs. It takes no memory.
     pub fn publish_rows(&mut self, file: <D::Stage as Stage>::Sealed) -> Result<(), DiskFault>
         requires may { May self.old.scope self.old.core (entry.OutFile self.old.core.front.committed) }
-        requires right { (D.tells × O.tells self.old.opening self.old.scope) → D.Stage.sealed file ≡ truth ((O.opening self.old.opening).job.course (cuts_of O.opening self.old)) (name.Out self.old.core.front.committed) }
+        requires right { (D.tells × O.tells self.old.opening self.old.scope (D.history self.old.opened)) → D.Stage.sealed file ≡ truth ((O.opening self.old.opening).job.course (cuts_of O.opening self.old)) (name.Out self.old.core.front.committed) }
         ensures done { OnOk result (self.new ≡ did self.old self.new.disk (entry.OutFile self.old.core.front.committed ∷ [])) }
         ensures stopped { OnErr result ((self.new ≡ did self.old self.new.disk (entry.Stop cause.DiskFault ∷ [])) × Rises (D.faults self.old.disk) (D.faults self.new.disk)) }
         ensures counted { D.faults self.old.disk ≤ D.faults self.new.disk }
@@ -143,8 +143,8 @@ impl<D: Disk, O: Opening> Ledger<D, O> {
     /// no memory.
     pub fn commit(&mut self, file: <D::Stage as Stage>::Sealed, due: bool) -> Result<(), DiskFault>
         requires ready { ready_of self.old.scope self.old.core ≡ ready.Commit }
-        requires right { (D.tells × O.tells self.old.opening self.old.scope) → D.Stage.sealed file ≡ truth ((O.opening self.old.opening).job.course (cuts_of O.opening self.old)) (name.Commit self.old.core.front.committed) }
-        requires due { (D.tells × O.tells self.old.opening self.old.scope) → due ≡ (O.opening self.old.opening).due (cuts_of O.opening self.old) (self.old.core.front.committed + 1) }
+        requires right { (D.tells × O.tells self.old.opening self.old.scope (D.history self.old.opened)) → D.Stage.sealed file ≡ truth ((O.opening self.old.opening).job.course (cuts_of O.opening self.old)) (name.Commit self.old.core.front.committed) }
+        requires due { (D.tells × O.tells self.old.opening self.old.scope (D.history self.old.opened)) → due ≡ (O.opening self.old.opening).due (cuts_of O.opening self.old) (self.old.core.front.committed + 1) }
         ensures done { OnOk result (self.new ≡ did self.old self.new.disk (entry.Commit self.old.core.front.committed due ∷ [])) }
         ensures stopped { OnErr result ((self.new ≡ did self.old self.new.disk (entry.Stop cause.DiskFault ∷ [])) × Rises (D.faults self.old.disk) (D.faults self.new.disk)) }
         ensures counted { D.faults self.old.disk ≤ D.faults self.new.disk }
@@ -169,7 +169,7 @@ impl<D: Disk, O: Opening> Ledger<D, O> {
     pub fn plan(&mut self, alloc: Global, watermark: Option<i64>) -> Result<(), Cause>
         requires ready { ready_of self.old.scope self.old.core ≡ ready.Plan }
         requires printed { ForSome watermark IsStampTime }
-        requires right { (D.tells × O.tells self.old.opening self.old.scope) → watermark ≡ ((O.opening self.old.opening).job.course (cuts_of O.opening self.old)).watermark self.old.core.front.planned }
+        requires right { (D.tells × O.tells self.old.opening self.old.scope (D.history self.old.opened)) → watermark ≡ ((O.opening self.old.opening).job.course (cuts_of O.opening self.old)).watermark self.old.core.front.planned }
         ensures done { OnOk result (self.new ≡ did self.old self.new.disk (entry.Plan self.old.core.front.planned ∷ [])) }
         ensures stopped { IfErr result (λ f. (self.new ≡ did self.old self.new.disk (entry.Stop f ∷ [])) × IsUnplanned self.old.core.front.planned (D.faults self.old.disk) (D.faults self.new.disk) f) }
         ensures full { self.old.core.front.planned ≡ 4294967295 → IsErrOf result cause.Full }
@@ -187,7 +187,7 @@ impl<D: Disk, O: Opening> Ledger<D, O> {
     fn publish_plan(&mut self, alloc: Global, next: Next) -> Result<(), Cause>
         requires may { May self.old.scope self.old.core (entry.Plan self.old.core.front.planned) }
         requires board { next.board ≡ after self.old.scope self.old.core (entry.Plan self.old.core.front.planned) }
-        requires right { (D.tells × O.tells self.old.opening self.old.scope) → next.text ≡ truth ((O.opening self.old.opening).job.course (cuts_by self.old.scope (cuts_of O.opening self.old) self.old.core (entry.Plan self.old.core.front.planned))) (name.Plan self.old.core.front.planned) }
+        requires right { (D.tells × O.tells self.old.opening self.old.scope (D.history self.old.opened)) → next.text ≡ truth ((O.opening self.old.opening).job.course (cuts_by self.old.scope (cuts_of O.opening self.old) self.old.core (entry.Plan self.old.core.front.planned))) (name.Plan self.old.core.front.planned) }
         ensures done { OnOk result (self.new ≡ did self.old self.new.disk (entry.Plan self.old.core.front.planned ∷ [])) }
         ensures stopped { IfErr result (λ f. (self.new ≡ did self.old self.new.disk (entry.Stop f ∷ [])) × HasRisen f (D.faults self.old.disk) (D.faults self.new.disk)) }
         ensures counted { D.faults self.old.disk ≤ D.faults self.new.disk }
@@ -230,7 +230,7 @@ impl<D: Disk, O: Opening> Ledger<D, O> {
 }
 
 /// Notes a Stop.
-fn halt(board: &mut Board, entries: &mut Vec<Entry>, cause: Cause)
+pub(crate) fn halt(board: &mut Board, entries: &mut Vec<Entry>, cause: Cause)
     requires { length entries.old.items < vec_capacity entries.old }
     ensures board { board.new ≡ with_front board.old (stopped_front board.old.front (Some cause)) }
     ensures items { entries.new.items ≡ entries.old.items ++ entry.Stop cause ∷ [] }
@@ -275,17 +275,23 @@ pub(crate) fn room_of(tasks: usize) -> usize
     2 * tasks + 4
 }
 
-/// Makes room for all entries that can come before the next sync.
-fn make_room(entries: &mut Vec<Entry>, tasks: usize) -> Option<()>
-    requires { tasks ≤ 2 ^ 40 }
+/// Makes room for so many entries more.
+pub(crate) fn make_room(entries: &mut Vec<Entry>, more: usize) -> Option<()>
     ensures items { entries.new.items ≡ entries.old.items }
     ensures kept { vec_capacity entries.old ≤ vec_capacity entries.new }
-    ensures room { IfSome result (λ made. length entries.old.items + (2 * tasks + 4) ≤ vec_capacity entries.new) }
+    ensures room { IfSome result (λ made. length entries.old.items + more ≤ vec_capacity entries.new) }
 {
-    match entries.reserve(room_of(tasks)) {
+    match entries.reserve(more) {
         Ok(()) => Some(()),
         Err(_) => None,
     }
+}
+
+/// So much room, and some for each snapshot that is being made.
+pub(crate) fn with_claimed(room: usize, names: &Names) -> Option<usize>
+    ensures { IfSome result (λ sum. sum ≡ room + length names.now.claimed.items) }
+{
+    room.checked_add(names.claimed.as_slice().len())
 }
 
 /// Makes room for a sync, and for all entries that can come before the next.
@@ -293,11 +299,12 @@ fn make_sync_room(entries: &mut Vec<Entry>, names: &mut Names, tasks: usize) -> 
     requires { tasks ≤ 2 ^ 40 }
     ensures items { entries.new.items ≡ entries.old.items }
     ensures kept { vec_capacity entries.old ≤ vec_capacity entries.new }
-    ensures room { IfSome result (λ made. length entries.old.items + (2 * tasks + 4) ≤ vec_capacity entries.new) }
+    ensures room { IfSome result (λ made. length entries.old.items + (2 * tasks + 4) + length names.old.claimed.items ≤ vec_capacity entries.new) }
     ensures names { MakesSettled names.old names.new result }
 {
+    let more = with_claimed(room_of(tasks), names)?;
     let made = make_settled(names);
-    make_room(entries, tasks)?;
+    make_room(entries, more)?;
     made
 }
 
@@ -306,11 +313,12 @@ fn make_plan_room(entries: &mut Vec<Entry>, names: &mut Names, tasks: usize) -> 
     requires { tasks ≤ 2 ^ 40 }
     ensures items { entries.new.items ≡ entries.old.items }
     ensures kept { vec_capacity entries.old ≤ vec_capacity entries.new }
-    ensures room { IfSome result (λ made. length entries.old.items + (2 * tasks + 4) ≤ vec_capacity entries.new) }
+    ensures room { IfSome result (λ made. length entries.old.items + (2 * tasks + 4) + length names.old.claimed.items ≤ vec_capacity entries.new) }
     ensures names { MakesRoom (2 * tasks + 4) names.old names.new result }
 {
+    let more = with_claimed(room_of(tasks), names)?;
     let made = make_names_room(names, room_of(tasks));
-    make_room(entries, tasks)?;
+    make_room(entries, more)?;
     made
 }
 

@@ -13,6 +13,7 @@ mod names;
 mod places;
 mod plan;
 mod scope;
+mod upkeep;
 
 pub use law::marks_follow_commits;
 pub use ledger::{Ledger, Opening};

@@ -2,9 +2,11 @@
 
 ghost use Rattle.std.specs.Prelude.{◌≡◌, ◌≤◌, ◌<◌, ◌+◌, ◌*◌, ◌++◌, ◌||◌, ◌^◌, length, true, [], ◌∷◌, IfSome, vec_capacity, if◌then◌else◌};
 ghost use Rattle.ssq_upkeep.specs.Upkeep.{is_among};
-ghost use Rattle.ssq_ledger.specs.Names.{MakesRoom, MakesSettled};
+ghost use Rattle.ssq_board.specs.Shelf.{without};
+ghost use Rattle.ssq_ledger.specs.Names.{MakesRoom, MakesSettled, IsNewestBelow, newer};
 
 use ssq_outside::Name;
+use ssq_upkeep::newest_to;
 
 /// The names of the state's files.
 #[derive(Drop)]
@@ -73,5 +75,59 @@ pub(crate) fn make_settled(names: &mut Names) -> Option<()>
     match names.settled.reserve(names.news.as_slice().len()) {
         Ok(()) => Some(()),
         Err(_) => None,
+    }
+}
+
+/// Makes room for a snapshot that is handed out.
+pub(crate) fn make_claimed(names: &mut Names) -> Option<()>
+    ensures settled { names.new.settled ≡ names.old.settled }
+    ensures news { names.new.news ≡ names.old.news }
+    ensures claimed { names.new.claimed.items ≡ names.old.claimed.items }
+    ensures tidy { names.new.tidy ≡ names.old.tidy }
+    ensures room { IfSome result (λ made. length names.new.claimed.items < vec_capacity names.new.claimed) }
+{
+    match names.claimed.reserve(1) {
+        Ok(()) => Some(()),
+        Err(_) => None,
+    }
+}
+
+/// Leaves a name out.
+pub(crate) fn leave_out(names: &mut Vec<Name>, name: Name)
+    ensures items { names.new.items ≡ without name names.old.items }
+    ensures capacity { vec_capacity names.new ≡ vec_capacity names.old }
+{
+    names.retain(|other| !other.is(name));
+}
+
+/// The newest version below this one of which a partition has a snapshot.
+fn newest_below(names: &[Name], partition: u32, version: u32) -> Option<u32>
+    ensures { IsNewestBelow partition version names.now result }
+{
+    newest_to(names, partition, version.checked_sub(1)?)
+}
+
+/// The newest version below this one of which a partition has a snapshot in one of the lists.
+pub(crate) fn snapshot_below(
+    settled: &[Name],
+    news: &[Name],
+    partition: u32,
+    version: u32,
+) -> Option<u32>
+    ensures { IsNewestBelow partition version (settled.now ++ news.now) result }
+{
+    let old = newest_below(settled, partition, version);
+    let new = newest_below(news, partition, version);
+    newer(old, new)
+}
+
+/// Of two versions the newer one, where there are any.
+fn newer(one: Option<u32>, other: Option<u32>) -> Option<u32>
+    ensures { result ≡ newer one other }
+{
+    match (one, other) {
+        (Some(one), Some(other)) => Some(one.max(other)),
+        (Some(_), None) => one,
+        (None, _) => other,
     }
 }

@@ -37,8 +37,6 @@ fn first_opened<D: Disk>(
     let partitions = wanted.partitions.unwrap_or(1);
     let stores = load_stores(alloc, disk, keeping_in(wanted.keeps, partitions), 0)?;
     let parts = Sequence::from_vec(Vec::from_slice(alloc, wanted.parts)?);
-    let mut names = Sequence::new(alloc);
-    names.push(Name::Meta)?;
     let query = wanted.query.clone()?;
     let meta = Meta {
         partitions,
@@ -51,7 +49,7 @@ fn first_opened<D: Disk>(
         committed: 0,
         seen: Sequence::new(alloc),
         stores,
-        names,
+        names: Sequence::new(alloc),
     })
 }
 

@@ -1,13 +1,15 @@
 //! What the names of a checkpoint's files say, without a look into the files.
 
-ghost use Rattle.std.specs.Prelude.{◌≡◌, ◌<◌, ◌≤◌, ◌+◌, ◌^◌, ◌↔◌, ℕ, AllPairs, Contains, IsTrue};
+ghost use Rattle.std.specs.Prelude.{◌≡◌, ◌<◌, ◌≤◌, ◌+◌, ◌^◌, ◌↔◌, ℕ, AllPairs, Contains, IsTrue, filter};
 ghost use Rattle.std.specs.Option.{option_copied};
 ghost use Rattle.std.specs.List.{find};
 ghost use Rattle.ssq_outside.specs.Files.{name_before};
+ghost use Rattle.ssq_core.specs.Sound.{is_state};
 ghost use Rattle.ssq_open.specs.Listing.{is_commit_from, is_out_from};
 ghost use Rattle.ssq_open.specs.Epochs.{is_stray};
 
 use ssq_outside::Name;
+use ssq_value::Sequence;
 
 /// How many epochs are planned: the greatest plan's number and one.
 pub(crate) fn planned(names: &[Name]) -> u64
@@ -122,4 +124,20 @@ pub(crate) fn committed(names: &[Name], planned: u64) -> u64
     } else {
         last as u64
     }
+}
+
+/// Whether a file is of the state.
+fn is_of_state(name: Name) -> bool
+    ensures { result ≡ is_state name }
+{
+    matches!(name, Name::Delta(..) | Name::Snapshot(..))
+}
+
+/// The names of the files of the state among others.
+pub(crate) fn files_of_state(names: Sequence<Name>) -> Sequence<Name>
+    ensures { result ≡ filter is_state names }
+{
+    let mut names = names.into_vec();
+    names.retain(|name| is_of_state(*name));
+    Sequence::from_vec(names)
 }

@@ -17,6 +17,7 @@ use crate::cuts::begins;
 use crate::fault::OpenFault;
 use crate::job::kept_query;
 use crate::kept::kept_progress;
+use crate::listing::files_of_state;
 use crate::streams::{Watermarked, watermarked_among};
 use crate::wanted::Opened;
 use ssq_outside::{Disk, Name};
@@ -54,7 +55,7 @@ fn held<D: Disk>(
         committed: epochs.committed,
         seen: epochs.seen,
         stores: Sequence::new(alloc),
-        names,
+        names: files_of_state(names),
     })
 }
 

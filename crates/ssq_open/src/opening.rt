@@ -24,6 +24,7 @@ use crate::job::kept_job;
 use crate::kept::{Epochs, kept_epochs};
 use crate::lengths::check_ends;
 use crate::lens::{counts_of, found_in};
+use crate::listing::files_of_state;
 use crate::plans::last_ends;
 use crate::stateful::{keeping_in, keeps_state};
 use crate::stores::load_stores;
@@ -101,7 +102,7 @@ fn kept<D: Disk>(
         committed: epochs.committed,
         seen: epochs.seen,
         stores,
-        names,
+        names: files_of_state(names),
     })
 }
 

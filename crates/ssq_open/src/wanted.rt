@@ -46,6 +46,6 @@ pub struct Opened {
     /// The stores of the partitions that keep state, in order, each with the partition's state after the committed epochs. A look loads
     /// none.
     pub stores: Sequence<Store>,
-    /// The names of the files, in order.
+    /// The names of the files of the state, in order.
     pub names: Sequence<Name>,
 }

@@ -9,6 +9,7 @@ use Rattle.std.proofs.lemmas.List.Elements.{All-head, All-tail}
 use mathlib.Core.Option.{some, some-injective, some-ne-none}
 use lib.ListN.{get_elem?}
 use Rattle.ssq_outside.specs.History.{History, files_now}
+use Rattle.ssq_outside.specs.Files.{Files}
 use Rattle.ssq_outside.specs.Logs.{Held, Line}
 use Rattle.ssq_shape.specs.declared.bound.Bound.{Bound}
 use Rattle.ssq_shape.specs.declared.bound.Stream.{Stream}
@@ -72,7 +73,7 @@ module _ {L : Type 0} (told tells : Type 0) (lines : L → List Line) (available
     pub stopped : (found : List ℕ) (asked_logs : List L) → AreAsked tells lines available answers faults g.logs asked_logs found → (b : Begun L) → IsBegunBy tells lines available answers faults g found b
         → (ends : Ends tells lines available answers faults b now disk_faults logs OutTells written text end) → (seen : List ℕ) → AreNext (Owned tells lines available answers faults b) (setting_in tells lines available answers faults b) b.cap seen (cuts_in b ends.plans) (epochs_after (length b.found.plans) ends.done) (length ends.plans)
         → HaveAnswered tells lines available answers faults 0 (record { found = seen; epochs = length ends.plans } ∷ ends.done) b.logs logs → (why : Stopped)
-        → IsRoundStop tells (Owned tells lines available answers faults b) (setting_in tells lines available answers faults b) (cuts_in b ends.plans) seen (length ends.plans) (b.found.committed + length ends.told) b.disk_faults disk_faults (sum_by faults logs) why.key why.cause
+        → IsRoundStop tells (Owned tells lines available answers faults b) (setting_in tells lines available answers faults b) (cuts_in b ends.plans) seen (length ends.plans) (b.found.committed + length ends.told) (files_now now) b.disk_faults disk_faults (sum_by faults logs) why.key why.cause
         → P (Err (fault_of why))
 
   as_end : (P : Result (Unit {0}) RunFault → Type 0) (end other : Result (Unit {0}) RunFault) → end ≡ other → P other → P end
@@ -88,7 +89,7 @@ module _ {L : Type 0} (told tells : Type 0) (lines : L → List Line) (available
       lines_before : (why : LengthFault) → IsUncounted tells lines available answers faults b.logs logs why → P (Err (fault.Lines why))
       lines_before why not = show.uncounted why (subst (λ (l : List L). IsUncounted tells lines available answers faults l logs why) begun.logs_are not)
 
-      by : IsEnd tells lines available answers faults b disk_faults logs OutTells written ends.plans ends.done ends.told text end → P end
+      by : IsEnd tells lines available answers faults b now disk_faults logs OutTells written ends.plans ends.done ends.told text end → P end
       by (finished number all committed has_asked wrote left is) = as_end P end (Ok tt) is show.done
       by (stopped number seen next has_asked why stop put more split wrote left is) = as_end P end (Err (fault_of why)) is (show.stopped found asked_logs asked b begun ends seen next has_asked.answered why stop)
       by (rounds_uncounted number all before has_asked why not stop wrote left is) = as_end P end (Err (fault.Lines why)) is (lines_before why not)
@@ -118,17 +119,17 @@ module _ {L : Type 0} (told tells : Type 0) (lines : L → List Line) (available
 
 -- ---- no refusal
 
-going_stop : (tells owned : Type 0) (s : Setting) (cuts : Cuts) (found : List ℕ) (planned e disk disk_now logs : ℕ) (key : Option Values) (why : Cause) → tells → IsRoundStop tells owned s cuts found planned e disk disk_now logs key why → IsNoRefusal (Err (fault_by why key))
-going_stop tells owned s cuts found planned e disk disk_now logs key (cause.BadLine a b o f) t is = tt
-going_stop tells owned s cuts found planned e disk disk_now logs key (cause.Overflow a b o) t is = tt
-going_stop tells owned s cuts found planned e disk disk_now logs None cause.KeyOverflow t is = tt
-going_stop tells owned s cuts found planned e disk disk_now logs (Some own) cause.KeyOverflow t is = tt
-going_stop tells owned s cuts found planned e disk disk_now logs key cause.LogFault t is = tt
-going_stop tells owned s cuts found planned e disk disk_now logs key (cause.LogShort a b m k) t is = is.1 t
-going_stop tells owned s cuts found planned e disk disk_now logs key (cause.Damaged q) t is = is
-going_stop tells owned s cuts found planned e disk disk_now logs key cause.DiskFault t is = tt
-going_stop tells owned s cuts found planned e disk disk_now logs key cause.Full t is = tt
-going_stop tells owned s cuts found planned e disk disk_now logs key cause.NoMemory t is = tt
+going_stop : (tells owned : Type 0) (s : Setting) (cuts : Cuts) (found : List ℕ) (planned e : ℕ) (files : Files) (disk disk_now logs : ℕ) (key : Option Values) (why : Cause) → tells → owned → IsRoundStop tells owned s cuts found planned e files disk disk_now logs key why → IsNoRefusal (Err (fault_by why key))
+going_stop tells owned s cuts found planned e files disk disk_now logs key (cause.BadLine a b o f) t own is = tt
+going_stop tells owned s cuts found planned e files disk disk_now logs key (cause.Overflow a b o) t own is = tt
+going_stop tells owned s cuts found planned e files disk disk_now logs None cause.KeyOverflow t own is = tt
+going_stop tells owned s cuts found planned e files disk disk_now logs (Some keys) cause.KeyOverflow t own is = tt
+going_stop tells owned s cuts found planned e files disk disk_now logs key cause.LogFault t own is = tt
+going_stop tells owned s cuts found planned e files disk disk_now logs key (cause.LogShort a b m k) t own is = is.1 t
+going_stop tells owned s cuts found planned e files disk disk_now logs key (cause.Damaged q) t own is = is.0 own
+going_stop tells owned s cuts found planned e files disk disk_now logs key cause.DiskFault t own is = tt
+going_stop tells owned s cuts found planned e files disk disk_now logs key cause.Full t own is = tt
+going_stop tells owned s cuts found planned e files disk disk_now logs key cause.NoMemory t own is = tt
 
 going_unparted : (told : Type 0) (held : Held) (streams : List Stream) (why : RunFault) → IsUnparted told held streams why → IsNoRefusal (Err why)
 going_unparted told held streams (fault.Parts why) is = tt
@@ -150,7 +151,10 @@ goes_on told tells lines available answers faults OutTells h t held known bound 
       uncounted = λ why not. tt;
       refused = λ found why asked outside. outside t s (runs h s can.setting) (jobs told tells lines available answers faults OutTells h t held known bound ask start s can g counts starts are (runs h s can.setting) logs found asked);
       stopped = λ found asked_logs asked b begun ends seen next has_asked why stop.
-          going_stop tells (Owned tells lines available answers faults b) (setting_in tells lines available answers faults b) (cuts_in b ends.plans) seen (length ends.plans) (b.found.committed + length ends.told) b.disk_faults disk_faults_now (sum_by faults logs) why.key why.cause t stop;
+          let run = runs h s can.setting in
+          let own = begun.own t s run
+          (resumed_stands (job_of s) (known_in held known bound.streams) (files_now g.start) (resumed told tells lines available answers faults OutTells h t held known bound ask start s can g counts starts are run asked_logs found asked)) in
+          going_stop tells (Owned tells lines available answers faults b) (setting_in tells lines available answers faults b) (cuts_in b ends.plans) seen (length ends.plans) (b.found.committed + length ends.told) (files_now now) b.disk_faults disk_faults_now (sum_by faults logs) why.key why.cause t (t, own.1) stop;
     }) run_end
 
 -- ---- cuts and keys
@@ -367,7 +371,7 @@ module _ {L : Type 0} (told tells : Type 0) (lines : L → List Line) (available
 
   pub faultless_stop : (disk disk_now failed : ℕ) (key : Option Values) (why : Cause) → ((i : ℕ) (part : Part) → slice_get (parts_in s) i ≡ Some part → IsFine s.job.bound part (get_or (committed_in can.resumed) i 0))
       → ((cuts : Offsets) (n e : ℕ) → AreCuts (parts_in s) cuts n → GoOnFrom can.resumed cuts → commits_in can.resumed ≤ e → e < n → key_fault s.job.bound (parts_in s) cuts e ≡ None)
-      → IsRoundStop tells (Owned tells lines available answers faults b) (setting_in tells lines available answers faults b) (cuts_in b ends.plans) seen (length ends.plans) (b.found.committed + length ends.told) disk disk_now failed key why → IsNoFault (Err (fault_by why key))
+      → IsRoundStop tells (Owned tells lines available answers faults b) (setting_in tells lines available answers faults b) (cuts_in b ends.plans) seen (length ends.plans) (b.found.committed + length ends.told) (files_now now) disk disk_now failed key why → IsNoFault (Err (fault_by why key))
   faultless_stop disk disk_now failed key (cause.BadLine a p o f) good keys is = no_fault_at (length ends.told) is.0 good _ (is.1 t)
   faultless_stop disk disk_now failed key (cause.Overflow a p o) good keys is = no_fault_at (length ends.told) is.0 good _ (is.1 t)
   faultless_stop disk disk_now failed None cause.KeyOverflow good keys is = is.1
@@ -421,7 +425,7 @@ module _ {L : Type 0} (told tells : Type 0) (lines : L → List Line) (available
           too_many planned lines most covered epochs first opened cut few full same le all grew = omega (arith, few, full, same, le, all, grew)
 
   pub roomy_stop : (disk disk_now failed : ℕ) (key : Option Values) (why : Cause) → planned_in can.resumed + epochs_for s.job.bound (sum (map (λ (own : List Line). length own) s.lines) - sum (covered_in can.resumed)) < most_epochs
-      → IsRoundStop tells (Owned tells lines available answers faults b) (setting_in tells lines available answers faults b) (cuts_in b ends.plans) seen (length ends.plans) (b.found.committed + length ends.told) disk disk_now failed key why → IsNoLimit (Err (fault_by why key))
+      → IsRoundStop tells (Owned tells lines available answers faults b) (setting_in tells lines available answers faults b) (cuts_in b ends.plans) seen (length ends.plans) (b.found.committed + length ends.told) (files_now now) disk disk_now failed key why → IsNoLimit (Err (fault_by why key))
   roomy_stop disk disk_now failed key (cause.BadLine a p o f) few is = tt
   roomy_stop disk disk_now failed key (cause.Overflow a p o) few is = tt
   roomy_stop disk disk_now failed None cause.KeyOverflow few is = tt

@@ -176,6 +176,7 @@ ready_first T U lines available answers faults less nothing at_rest b news found
         };
         there = λ never. absurd (omega (arith, never));
         disk_counted = omega arith;
+        kept = λ never. absurd (omega (arith, never));
         ran = λ u own.
             let s = setting_in U lines available answers faults b in
             let desk = own.found_is.desk in (

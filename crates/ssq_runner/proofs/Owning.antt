@@ -38,7 +38,7 @@ use Rattle.ssq_runner.specs.Lens.{lens_of, apart}
 use Rattle.ssq_runner.specs.Ending.{IsOwnRun}
 use Rattle.ssq_runner.specs.Running.{IsOpenedOn}
 use Rattle.ssq_runner.proofs.Firsts.{apart_joined, apart_count, apart_few}
-use Rattle.ssq_runner.proofs.Listed.{all_listed, none_listed}
+use Rattle.ssq_runner.proofs.Listed.{none_listed, state_listed}
 
 -- ---- images
 
@@ -224,7 +224,7 @@ module _ {L : Type 0} (tells : Type 0) (lines : L → List Line) (available : L 
         parts_are = ap (λ (m : Meta). m.parts) meta_is ∙ parts
 
         names_of : IsOpen (asked bound asks (lens_of counts found)) (files_now (history before)) (history after) opened → AreListed (files_now (history after)) opened.names
-        names_of (kept passes settled) = subst (λ (f : Files). AreListed f opened.names) (sym (settled_files_are (history after) (files_now (history before)) settled)) (all_listed (files_now (history before)) opened.names passes.listed)
+        names_of (kept passes settled) = subst (λ (f : Files). AreListed f opened.names) (sym (settled_files_are (history after) (files_now (history before)) settled)) (state_listed (files_now (history before)) opened.names passes.listed)
         names_of (begun empty begins_as settled) =
             let first_one = first_meta (asked bound asks (lens_of counts found)) in
             subst (λ (f : Files). AreListed f opened.names) (sym (settled_files_are (history after) (only_meta first_one) settled)) (subst (λ (l : List Name). AreListed (only_meta first_one) l) (sym begins_as.names) (none_listed first_one))

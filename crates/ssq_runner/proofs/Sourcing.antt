@@ -7,7 +7,8 @@ use Rattle.std.proofs.lemmas.List.Sums.{sum_by-cons}
 use Rattle.ssq_outside.specs.Logs.{Held, Line}
 use Rattle.ssq_shape.specs.declared.bound.Stream.{Stream}
 use Rattle.ssq_outside.specs.Faults.{Rises}
-use Rattle.ssq_outside.specs.History.{History}
+use Rattle.ssq_outside.specs.Files.{Files}
+use Rattle.ssq_outside.specs.History.{History, files_now}
 use Rattle.ssq_shape.specs.declared.bound.Bound.{Bound}
 use Rattle.ssq_plans.specs.declared.plan.Plan.{Plan}
 use Rattle.ssq_core.specs.Course.{Cuts}
@@ -78,18 +79,18 @@ module _ {L : Type 0} (tells : Type 0) (lines : L → List Line) (available : L 
   logs_before held mid known more (part ∷ parts) [] same grown are = absurd are
 
   -- a fault of the outside was counted
-  stop_counts : (owned : Type 0) (s : Setting) (cuts : Cuts) (found : List ℕ) (planned e : ℕ) (first disk disk_now logs inputs inputs_now out out_now : ℕ) (key : Option Values) (c : Cause) → disk ≤ first → (0 < logs → Rises inputs inputs_now)
-      → IsRoundStop tells owned s cuts found planned e first disk_now logs key c → HasCount disk disk_now inputs inputs_now out out_now (Err (fault_by c key))
-  stop_counts owned s cuts found planned e first disk disk_now logs inputs inputs_now out out_now key (cause.BadLine a b o r) le risen is = tt
-  stop_counts owned s cuts found planned e first disk disk_now logs inputs inputs_now out out_now key (cause.Overflow a b o) le risen is = tt
-  stop_counts owned s cuts found planned e first disk disk_now logs inputs inputs_now out out_now None cause.KeyOverflow le risen is = tt
-  stop_counts owned s cuts found planned e first disk disk_now logs inputs inputs_now out out_now (Some own) cause.KeyOverflow le risen is = tt
-  stop_counts owned s cuts found planned e first disk disk_now logs inputs inputs_now out out_now key cause.LogFault le risen is = risen is
-  stop_counts owned s cuts found planned e first disk disk_now logs inputs inputs_now out out_now key (cause.LogShort a b m k) le risen is = tt
-  stop_counts owned s cuts found planned e first disk disk_now logs inputs inputs_now out out_now key (cause.Damaged q) le risen is = tt
-  stop_counts owned s cuts found planned e first disk disk_now logs inputs inputs_now out out_now key cause.DiskFault le risen is = rises_from disk first disk_now le is
-  stop_counts owned s cuts found planned e first disk disk_now logs inputs inputs_now out out_now key cause.Full le risen is = tt
-  stop_counts owned s cuts found planned e first disk disk_now logs inputs inputs_now out out_now key cause.NoMemory le risen is = tt
+  stop_counts : (owned : Type 0) (s : Setting) (cuts : Cuts) (found : List ℕ) (planned e : ℕ) (files : Files) (first disk disk_now logs inputs inputs_now out out_now : ℕ) (key : Option Values) (c : Cause) → disk ≤ first → (0 < logs → Rises inputs inputs_now)
+      → IsRoundStop tells owned s cuts found planned e files first disk_now logs key c → HasCount disk disk_now inputs inputs_now out out_now (Err (fault_by c key))
+  stop_counts owned s cuts found planned e files first disk disk_now logs inputs inputs_now out out_now key (cause.BadLine a b o r) le risen is = tt
+  stop_counts owned s cuts found planned e files first disk disk_now logs inputs inputs_now out out_now key (cause.Overflow a b o) le risen is = tt
+  stop_counts owned s cuts found planned e files first disk disk_now logs inputs inputs_now out out_now None cause.KeyOverflow le risen is = tt
+  stop_counts owned s cuts found planned e files first disk disk_now logs inputs inputs_now out out_now (Some own) cause.KeyOverflow le risen is = tt
+  stop_counts owned s cuts found planned e files first disk disk_now logs inputs inputs_now out out_now key cause.LogFault le risen is = risen is
+  stop_counts owned s cuts found planned e files first disk disk_now logs inputs inputs_now out out_now key (cause.LogShort a b m k) le risen is = tt
+  stop_counts owned s cuts found planned e files first disk disk_now logs inputs inputs_now out out_now key (cause.Damaged q) le risen is = tt
+  stop_counts owned s cuts found planned e files first disk disk_now logs inputs inputs_now out out_now key cause.DiskFault le risen is = rises_from disk first disk_now le is
+  stop_counts owned s cuts found planned e files first disk disk_now logs inputs inputs_now out out_now key cause.Full le risen is = tt
+  stop_counts owned s cuts found planned e files first disk disk_now logs inputs inputs_now out out_now key cause.NoMemory le risen is = tt
 
   lines_count : (olds logs : List L) (disk disk_now inputs inputs_now out out_now : ℕ) (why : LengthFault) → (0 < sum_by faults logs → Rises inputs inputs_now) → IsUncounted tells lines available answers faults olds logs why → HasCount disk disk_now inputs inputs_now out out_now (Err (fault.Lines why))
   lines_count olds logs disk disk_now inputs inputs_now out out_now (length_fault.Full at found) risen is = tt
@@ -109,18 +110,18 @@ module _ {L : Type 0} (tells : Type 0) (lines : L → List Line) (available : L 
     at_end : (Ending : Type 0) (e : Result (Unit {0}) RunFault) → end ≡ e → HasCount disk disk_now inputs inputs_now out out_now e → HasCount disk disk_now inputs inputs_now out out_now end
     at_end Ending e same is = subst (HasCount disk disk_now inputs inputs_now out out_now) (sym same) is
 
-    rounds_count : (b : Begun L) (plans : List Plan) (done : List Round) (told : List Told) → disk ≤ b.disk_faults → IsEnd tells lines available answers faults b disk_now logs OutTells written plans done told text end → HasCount disk disk_now inputs inputs_now out out_now end
-    rounds_count b plans done told le (finished number all committed asked wrote left is) = at_end (Unit {0}) (Ok tt) is tt
-    rounds_count b plans done told le (stopped number found next asked why stop put_told more split wrote left is) = at_end (Unit {0}) (Err (fault_of why)) is (stop_counts (Owned tells lines available answers faults b) (setting_in tells lines available answers faults b) (cuts_in b plans) found (length plans) (b.found.committed + length told) b.disk_faults disk disk_now (sum_by faults logs) inputs inputs_now out out_now why.key why.cause le risen stop)
-    rounds_count b plans done told le (rounds_uncounted number all before has_asked why not stop wrote left is) = at_end (Unit {0}) (Err (fault.Lines why)) is (lines_count b.logs logs disk disk_now inputs inputs_now out out_now why risen not)
-    rounds_count b plans done told le (unput number found next has_asked put_told more split wrote left is) = at_end (Unit {0}) (Err fault.OutFault) is (subst (OutRises out out_now) is put)
-    rounds_count b plans done told le (rounds_starved number rounds were has_asked put_told more rest split wrote left is) = at_end (Unit {0}) (Err fault.NoMemory) is tt
+    rounds_count : (b : Begun L) (now : History) (plans : List Plan) (done : List Round) (told : List Told) → disk ≤ b.disk_faults → IsEnd tells lines available answers faults b now disk_now logs OutTells written plans done told text end → HasCount disk disk_now inputs inputs_now out out_now end
+    rounds_count b now plans done told le (finished number all committed asked wrote left is) = at_end (Unit {0}) (Ok tt) is tt
+    rounds_count b now plans done told le (stopped number found next asked why stop put_told more split wrote left is) = at_end (Unit {0}) (Err (fault_of why)) is (stop_counts (Owned tells lines available answers faults b) (setting_in tells lines available answers faults b) (cuts_in b plans) found (length plans) (b.found.committed + length told) (files_now now) b.disk_faults disk disk_now (sum_by faults logs) inputs inputs_now out out_now why.key why.cause le risen stop)
+    rounds_count b now plans done told le (rounds_uncounted number all before has_asked why not stop wrote left is) = at_end (Unit {0}) (Err (fault.Lines why)) is (lines_count b.logs logs disk disk_now inputs inputs_now out out_now why risen not)
+    rounds_count b now plans done told le (unput number found next has_asked put_told more split wrote left is) = at_end (Unit {0}) (Err fault.OutFault) is (subst (OutRises out out_now) is put)
+    rounds_count b now plans done told le (rounds_starved number rounds were has_asked put_told more rest split wrote left is) = at_end (Unit {0}) (Err fault.NoMemory) is tt
 
     pub run_counts : (g : Given L) (now : History) → g.disk_faults ≡ disk → RunEnd tells lines available answers faults g now disk_now logs OutTells written text end → HasCount disk disk_now inputs inputs_now out out_now end
     run_counts g now same (uncounted why not stop still unsaid is) = at_end (Unit {0}) (Err (fault.Lines why)) is (lines_count g.logs logs disk disk_now inputs inputs_now out out_now why risen not)
     run_counts g now same (refused found why asked checks moments outside count unsaid is) = at_end (Unit {0}) (Err (fault.Open why)) is (open_count disk disk_now inputs inputs_now out out_now why (subst (λ (n : ℕ). DiskRises why n disk_now) same count))
     run_counts g now same (starved found asks still unsaid is) = at_end (Unit {0}) (Err fault.NoMemory) is tt
-    run_counts g now same (ran found asked_logs asked b begun ends promised) = rounds_count b ends.plans ends.done ends.told (let c = begun.counted in omega (arith, c, same)) ends.is_end
+    run_counts g now same (ran found asked_logs asked b begun ends promised) = rounds_count b now ends.plans ends.done ends.told (let c = begun.counted in omega (arith, c, same)) ends.is_end
 
 -- what the inputs counted before, they count still
 pub parts_count_on : (inputs mid now : ℕ) (why : PartsFault) → InputsRise inputs mid why → min mid (2 ^ 64 - 1) ≤ now → HasCount 0 0 inputs now 0 0 (Err (fault.Parts why))

@@ -9,7 +9,7 @@ use Rattle.ssq_open.specs.Watermarks.{watermarked}
 use Rattle.std.specs.List.{sum_by}
 use mathlib.Core.Option.{some}
 use lib.ListN.{get_elem?}
-use Rattle.ssq_outside.specs.History.{History}
+use Rattle.ssq_outside.specs.History.{History, files_now}
 use Rattle.ssq_outside.specs.Logs.{Line}
 use Rattle.ssq_plans.specs.declared.part.PartEnd.{PartEnd}
 use Rattle.ssq_board.specs.declared.front.Cause.{Cause}
@@ -111,7 +111,7 @@ module _ {L : Type 0} (T U : Type 0) (lines : L → List Line) (available : L �
       }
 
   -- nothing was done, and so the run ends
-  idle_end : (why : RunFault) (text : List ℕ) → IsEnd U lines available answers faults b disk news OutTells written opened.plans so.done so.told text (Err why) → Ends U lines available answers faults b now disk news OutTells written text (Err why)
+  idle_end : (why : RunFault) (text : List ℕ) → IsEnd U lines available answers faults b now disk news OutTells written opened.plans so.done so.told text (Err why) → Ends U lines available answers faults b now disk news OutTells written text (Err why)
   idle_end why text end = record { plans = opened.plans; done = so.done; told = so.told; has = so.has; is_end = end; good = so.good; ran = λ u own. (so.ran u own).0; left = λ ok. absurd (never_ok why ok) }
 
   pub unready_end : 0 < n → (why : RunFault) (text : List ℕ) → n < b.rounds → text ≡ [] → IsUnready T lines available answers faults opened olds news why → Ends U lines available answers faults b now disk news OutTells written text (Err why)
@@ -143,7 +143,7 @@ module _ {L : Type 0} (T U : Type 0) (lines : L → List Line) (available : L �
               (let t = so.there later u i old.0 old.1 in let o = old.2 in let e = ap (λ (ends : List PartEnd). get_or (offsets_of ends) i 0) same in omega (arith, t, o, e))
 
       stop_of : (c : Cause) → short_of (planned_ends opened) found ≡ Some c → AreAsked T lines available answers faults olds news found → is_short c
-          → IsRoundStop U (Owned U lines available answers faults b) (setting_in U lines available answers faults b) (cuts_in b opened.plans) found (length opened.plans) (b.found.committed + length so.told) b.disk_faults disk (sum_by faults news) None c
+          → IsRoundStop U (Owned U lines available answers faults b) (setting_in U lines available answers faults b) (cuts_in b opened.plans) found (length opened.plans) (b.found.committed + length so.told) (files_now now) b.disk_faults disk (sum_by faults news) None c
       stop_of (cause.LogShort s p logged k) is ask less = (less, λ u. never (cause.LogShort s p logged k) ask is u)
       stop_of (cause.BadLine s p o f) is ask less = absurd less
       stop_of (cause.Overflow s p o) is ask less = absurd less
@@ -167,7 +167,7 @@ module _ {L : Type 0} (T U : Type 0) (lines : L → List Line) (available : L �
     ran = λ u own. (so.ran u own).0;
     left = λ ok u own.
         let ran = so.ran u own in
-        record { opened = opened; meta_is = so.meta_is; plans_are = refl; committed = so.whole some_round; settled = ran.1; found_is = ran.2 };
+        record { opened = opened; meta_is = so.meta_is; plans_are = refl; committed = so.whole some_round; settled = ran.1; found_is = ran.2; kept = so.kept some_round u own };
   }
   finish (Err why) before text all some_round empty have said unsaid =
       idle_end why text (starved (let m = so.number in omega (arith, m, all)) so.done (inl refl) have so.told [] [] (sym (append-nil so.told)) so.wrote (unsaid.1 ∙ empty ∙ text_none) (ap Err unsaid.0))

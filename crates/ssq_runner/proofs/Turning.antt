@@ -5,6 +5,7 @@ use Rattle.std.proofs.lemmas.List.Elements.{All-nil, All-cons, All-head, All-tai
 use Rattle.std.specs.List.{sum_by}
 use Rattle.std.specs.Prelude.{◌⊎◌, IsSomeAnd}
 use Rattle.std.specs.Global.{Vec}
+use Rattle.ssq_outside.specs.Files.{Files}
 use Rattle.ssq_outside.specs.History.{History, files_now}
 use Rattle.ssq_outside.specs.Logs.{Line}
 use Rattle.ssq_plans.specs.declared.plan.Plan.{Plan}
@@ -171,26 +172,26 @@ more_by : (s t : Setting) (cuts others : Cuts) (found : List ℕ) (e : ℕ) → 
 more_by s t cuts others found e same cut is = subst (λ (x : Setting). IsMore x others found e) same (subst (λ (c : Cuts). IsMore s c found e) cut is)
 
 -- why a round stopped, said of the run
-pub stop_moved : (tells one other : Type 0) (s t : Setting) (cuts others : Cuts) (found : List ℕ) (planned e f : ℕ) (first disk disk_now logs : ℕ) (key : Option Values) (cause : Cause) → (tells → s ≡ t) → s.job.bound ≡ t.job.bound
+pub stop_moved : (tells one other : Type 0) (s t : Setting) (cuts others : Cuts) (found : List ℕ) (planned e f : ℕ) (files : Files) (first disk disk_now logs : ℕ) (key : Option Values) (cause : Cause) → (tells → s ≡ t) → s.job.bound ≡ t.job.bound
     → (other → tells) → (other → one) → cuts ≡ others → e ≡ f → first ≤ disk
-    → IsRoundStop tells one s cuts found planned e disk disk_now logs key cause → IsRoundStop tells other t others found planned f first disk_now logs key cause
-stop_moved tells one other s t cuts others found planned e f first disk disk_now logs key (cause.BadLine a b o r) same query known own cut at le is =
+    → IsRoundStop tells one s cuts found planned e files disk disk_now logs key cause → IsRoundStop tells other t others found planned f files first disk_now logs key cause
+stop_moved tells one other s t cuts others found planned e f files first disk disk_now logs key (cause.BadLine a b o r) same query known own cut at le is =
     (subst (λ (n : ℕ). n < planned) at is.0, λ told. fault_moved s t cuts others e f (line_of (cause.BadLine a b o r)) (same told) cut at (is.1 told))
-stop_moved tells one other s t cuts others found planned e f first disk disk_now logs key (cause.Overflow a b o) same query known own cut at le is =
+stop_moved tells one other s t cuts others found planned e f files first disk disk_now logs key (cause.Overflow a b o) same query known own cut at le is =
     (subst (λ (n : ℕ). n < planned) at is.0, λ told. fault_moved s t cuts others e f (line_of (cause.Overflow a b o)) (same told) cut at (is.1 told))
-stop_moved tells one other s t cuts others found planned e f first disk disk_now logs key cause.KeyOverflow same query known own cut at le is =
+stop_moved tells one other s t cuts others found planned e f files first disk disk_now logs key cause.KeyOverflow same query known own cut at le is =
     (subst (λ (n : ℕ). n < planned) at is.0, key_moved one other s t cuts others e f key (λ o. same (known o)) own cut at is.1)
-stop_moved tells one other s t cuts others found planned e f first disk disk_now logs key cause.LogFault same query known own cut at le is = is
-stop_moved tells one other s t cuts others found planned e f first disk disk_now logs key (cause.LogShort a b m k) same query known own cut at le is = is
-stop_moved tells one other s t cuts others found planned e f first disk disk_now logs key (cause.Damaged q) same query known own cut at le is = absurd is
-stop_moved tells one other s t cuts others found planned e f first disk disk_now logs key cause.DiskFault same query known own cut at le is = rises_from first disk disk_now le is
-stop_moved tells one other s t cuts others found planned e f first disk disk_now logs key cause.Full same query known own cut at le is =
+stop_moved tells one other s t cuts others found planned e f files first disk disk_now logs key cause.LogFault same query known own cut at le is = is
+stop_moved tells one other s t cuts others found planned e f files first disk disk_now logs key (cause.LogShort a b m k) same query known own cut at le is = is
+stop_moved tells one other s t cuts others found planned e f files first disk disk_now logs key (cause.Damaged q) same query known own cut at le is = ((λ o. is.0 (own o)), is.1)
+stop_moved tells one other s t cuts others found planned e f files first disk disk_now logs key cause.DiskFault same query known own cut at le is = rises_from first disk disk_now le is
+stop_moved tells one other s t cuts others found planned e f files first disk disk_now logs key cause.Full same query known own cut at le is =
     (is.0, full_by is.1, λ o. more_by s t cuts others found planned (same (known o)) cut (is.2 (own o)))
   where
     full_by : (is_behind (cuts planned) found ≡ true) ⊎ (closes s.job.bound ≡ true) → (is_behind (others planned) found ≡ true) ⊎ (closes t.job.bound ≡ true)
     full_by (inl behind) = inl (subst (λ (c : Cuts). is_behind (c planned) found ≡ true) cut behind)
     full_by (inr closing) = inr (subst (λ (query : Bound). closes query ≡ true) query closing)
-stop_moved tells one other s t cuts others found planned e f first disk disk_now logs key cause.NoMemory same query known own cut at le is = tt
+stop_moved tells one other s t cuts others found planned e f files first disk disk_now logs key cause.NoMemory same query known own cut at le is = tt
 
 -- what can begin again over the logs that came back can be run on
 pub fits_over : {L : Type 0} (tells : Type 0) (lines : L → List Line) (available : L → ℕ) (answers : L → List ℕ) (faults : L → ℕ) (bound : Bound) (cap : Option ℕ) (logs news : List L) (found : List ℕ) (of next : Opened)
@@ -309,6 +310,7 @@ module _ {L : Type 0} (tells : Type 0) (lines : L → List Line) (available : L 
         ran = λ t own.
             let ran = ran_on t own in
             (subst (λ (ps : List Plan). HaveRun tells lines available answers faults b now ps all_told) (sym over.plans_are) (have_on t own), ran.settled next ok, ran.found next ok);
+        kept = λ some_round t own. (ran_on t own).kept next ok;
       }
 
   -- the round stopped, or its lines were not written
@@ -335,12 +337,12 @@ module _ {L : Type 0} (tells : Type 0) (lines : L → List Line) (available : L 
       put_so = so.wrote
 
       stop_at : (stop : Stopped) → end ≡ Err stop
-          → IsRoundStop tells (Owned tells lines available answers faults b) (setting_in tells lines available answers faults b) (cuts_in b round.plans) found (length round.plans) (b.found.committed + length all_told) b.disk_faults disk_now (sum_by faults news) stop.key stop.cause
+          → IsRoundStop tells (Owned tells lines available answers faults b) (setting_in tells lines available answers faults b) (cuts_in b round.plans) found (length round.plans) (b.found.committed + length all_told) (files_now now) b.disk_faults disk_now (sum_by faults news) stop.key stop.cause
       stop_at stop is_err =
           stop_moved tells (tells × IsOwn (setting_for lines b.bound opened logs) (scope_of opened found b.cap) start opened) (Owned tells lines available answers faults b) (setting_for lines b.bound opened logs) (setting_in tells lines available answers faults b) (cut_of (first_of opened) round.plans) (cuts_in b round.plans) found (length round.plans) (opened.committed + length told) (b.found.committed + length all_told)
-          b.disk_faults disk disk_now (sum_by faults news) stop.key stop.cause same_s refl (λ own. own.0) (λ own. (own.0, own_at own.0 own.1)) cuts_same (let e = length-append so.told told in let c = so.committed in omega (arith, e, c)) so.disk_counted (round.went.stopped stop is_err)
+          (files_now now) b.disk_faults disk disk_now (sum_by faults news) stop.key stop.cause same_s refl (λ own. own.0) (λ own. (own.0, own_at own.0 own.1)) cuts_same (let e = length-append so.told told in let c = so.committed in omega (arith, e, c)) so.disk_counted (round.went.stopped stop is_err)
 
-      end_of : IsUntold OutTells written written_now before after text told end why → IsEnd tells lines available answers faults b disk_now news OutTells written_now round.plans so.done all_told text (Err why)
+      end_of : IsUntold OutTells written written_now before after text told end why → IsEnd tells lines available answers faults b now disk_now news OutTells written_now round.plans so.done all_told text (Err why)
       end_of (untold_stopped stop is_err is_why same left) =
           stopped some_done found goes.1 back_asked stop (stop_at stop is_err) so.told told refl (λ o. same o ∙ put_so o) left (ap Err is_why)
       end_of (failed is_why risen front empty) = unput some_done found goes.1 back_asked so.told told refl (λ o. let f = front o in (f.0, f.1 ∙ ap (λ (l : List ℕ). l ++ take f.0 (told_text told)) (put_so o))) empty (ap Err is_why)

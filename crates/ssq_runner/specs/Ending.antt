@@ -9,7 +9,7 @@ use Rattle.ssq_shape.specs.declared.bound.Bound.{Bound}
 use Rattle.ssq_plans.specs.declared.plan.Plan.{Plan}
 use Rattle.ssq_core.specs.Course.{Cuts}
 use Rattle.ssq_core.specs.Settled.{IsSettledAs}
-use Rattle.ssq_course.specs.Setting.{Setting, job_of}
+use Rattle.ssq_course.specs.Setting.{Setting, job_of, keeping_of}
 use Rattle.ssq_open.specs.declared.wanted.Opened.{Opened}
 use Rattle.ssq_open.specs.Epochs.{cut_of}
 use Rattle.ssq_promise.specs.Run.{WasRun, AreFilesOf}
@@ -21,6 +21,7 @@ use Rattle.ssq_terms.specs.Laws.{due_at}
 use Rattle.ssq_desk.specs.declared.told.Told.{Told}
 use Rattle.ssq_drive.specs.declared.round.Stopped.{Stopped}
 use Rattle.ssq_drive.specs.Good.{HasGoodLines}
+use Rattle.ssq_drive.specs.Kept.{IsKeptUp}
 use Rattle.ssq_drive.specs.Rounds.{AreTold, IsMeant, IsFoundOf, IsRoundStop, setting_for, first_of}
 use Rattle.ssq_runner.specs.declared.fault.RunFault.{RunFault}
 use Rattle.ssq_runner.specs.declared.fault.RunFault.TheVariants as fault
@@ -85,7 +86,8 @@ module _ {L : Type 0} (tells : Type 0) (lines : L → List Line) (available : L 
   abbrev pub AreGood : Begun L → List Plan → List Told → Type 0
   AreGood b plans told = All (λ (t : Told). HasGoodLines (setting_in b) (cuts_in b plans) t.epoch) told
 
-  -- What rounds leave that are all over: the checkpoint is settled, and its files are those of these plans, of which each is committed.
+  -- What rounds leave that are all over: the checkpoint is settled, and its files are those of these plans, of which each is committed; no snapshot is
+  -- due, and no file of the state may go.
   pub record AreLeft (b : Begun L) (now : History) (plans : List Plan) : Type 0 where
     pub opened : Opened
     pub meta_is : opened.meta ≡ b.found.meta
@@ -93,6 +95,7 @@ module _ {L : Type 0} (tells : Type 0) (lines : L → List Line) (available : L 
     pub committed : opened.committed ≡ length plans
     pub settled : IsSettledAs now (files_now now)
     pub found_is : IsFoundOf (setting_in b) (files_now now) opened
+    pub kept : IsKeptUp (keeping_of b.bound.shape b.found.meta.partitions) b.found.meta.partitions (files_now now)
 
   -- The logs were asked for these rounds, of which the first found what they answered as the checkpoint was opened.
   pub record WereAsked (b : Begun L) (rounds : List Round) (logs : List L) : Type 0 where
@@ -126,20 +129,20 @@ module _ {L : Type 0} (tells : Type 0) (lines : L → List Line) (available : L 
   --  one stopped, for which they were asked, too, at an epoch behind those that were told, of which those of the rounds before are written. Or the
   --  lines were not counted for one, for which some logs were asked. Or the output failed, and a front of the lines of the last round was written,
   --  for which they were asked, too. Or memory ran out, and lines of the last round are left.
-  pub data IsEnd (b : Begun L) (disk_faults : ℕ) (logs : List L) (OutTells : Type 0) (written : List ℕ) (plans : List Plan) (done : List Round) (told : List Told) (text : List ℕ) (end : Result (Unit {0}) RunFault) : Type 0 where
+  pub data IsEnd (b : Begun L) (now : History) (disk_faults : ℕ) (logs : List L) (OutTells : Type 0) (written : List ℕ) (plans : List Plan) (done : List Round) (told : List Told) (text : List ℕ) (end : Result (Unit {0}) RunFault) : Type 0 where
     finished : length done ≡ b.rounds → epochs_after (length b.found.plans) done ≡ length plans → b.found.committed + length told ≡ length plans → WereAsked b done logs
-        → (OutTells → written ≡ b.written ++ told_text told) → text ≡ done_line (length plans) → end ≡ Ok tt → IsEnd b disk_faults logs OutTells written plans done told text end
+        → (OutTells → written ≡ b.written ++ told_text told) → text ≡ done_line (length plans) → end ≡ Ok tt → IsEnd b now disk_faults logs OutTells written plans done told text end
     stopped : length done < b.rounds → (found : List ℕ) → AreNext (Owned b) (setting_in b) b.cap found (cuts_in b plans) (epochs_after (length b.found.plans) done) (length plans)
         → WereAsked b (record { found = found; epochs = length plans } ∷ done) logs → (why : Stopped)
-        → IsRoundStop tells (Owned b) (setting_in b) (cuts_in b plans) found (length plans) (b.found.committed + length told) b.disk_faults disk_faults (sum_by faults logs) why.key why.cause
-        → (put more : List Told) → told ≡ put ++ more → (OutTells → written ≡ b.written ++ told_text put) → text ≡ told_text more → end ≡ Err (fault_of why) → IsEnd b disk_faults logs OutTells written plans done told text end
+        → IsRoundStop tells (Owned b) (setting_in b) (cuts_in b plans) found (length plans) (b.found.committed + length told) (files_now now) b.disk_faults disk_faults (sum_by faults logs) why.key why.cause
+        → (put more : List Told) → told ≡ put ++ more → (OutTells → written ≡ b.written ++ told_text put) → text ≡ told_text more → end ≡ Err (fault_of why) → IsEnd b now disk_faults logs OutTells written plans done told text end
     uncounted : length done < b.rounds → epochs_after (length b.found.plans) done ≡ length plans → (before : List L) → WereAsked b done before → (why : LengthFault) → IsUncounted b.logs logs why
-        → IsStopped tells lines available answers faults 0 before logs why → (OutTells → written ≡ b.written ++ told_text told) → text ≡ [] → end ≡ Err (fault.Lines why) → IsEnd b disk_faults logs OutTells written plans done told text end
+        → IsStopped tells lines available answers faults 0 before logs why → (OutTells → written ≡ b.written ++ told_text told) → text ≡ [] → end ≡ Err (fault.Lines why) → IsEnd b now disk_faults logs OutTells written plans done told text end
     unput : length done < b.rounds → (found : List ℕ) → AreNext (Owned b) (setting_in b) b.cap found (cuts_in b plans) (epochs_after (length b.found.plans) done) (length plans)
         → WereAsked b (record { found = found; epochs = length plans } ∷ done) logs → (put more : List Told) → told ≡ put ++ more → (OutTells → (n : ℕ) × (written ≡ (b.written ++ told_text put) ++ take n (told_text more))) → text ≡ [] → end ≡ Err fault.OutFault
-        → IsEnd b disk_faults logs OutTells written plans done told text end
+        → IsEnd b now disk_faults logs OutTells written plans done told text end
     starved : length done ≤ b.rounds → (rounds : List Round) → AreBegun b plans done rounds → WereAsked b rounds logs → (put more rest : List Told) → told ≡ put ++ (more ++ rest) → (OutTells → written ≡ b.written ++ told_text put) → text ≡ told_text more → end ≡ Err fault.NoMemory
-        → IsEnd b disk_faults logs OutTells written plans done told text end
+        → IsEnd b now disk_faults logs OutTells written plans done told text end
 
   -- so, by some plans, rounds and epochs that were told
   pub record Ends (b : Begun L) (now : History) (disk_faults : ℕ) (logs : List L) (OutTells : Type 0) (written text : List ℕ) (end : Result (Unit {0}) RunFault) : Type 0 where
@@ -147,7 +150,7 @@ module _ {L : Type 0} (tells : Type 0) (lines : L → List Line) (available : L 
     pub done : List Round
     pub told : List Told
     pub has : HasRounds (Owned b) (setting_in b) b plans done told
-    pub is_end : IsEnd b disk_faults logs OutTells written plans done told text end
+    pub is_end : IsEnd b now disk_faults logs OutTells written plans done told text end
     -- where disk and logs tell what they hold, whatever the files say
     pub good : tells → AreGood b plans told
     pub ran : tells → IsOwnRun b → HaveRun b now plans told

@@ -16,6 +16,7 @@ use Rattle.ssq_terms.specs.Setting.{CanRun, AreFound}
 use Rattle.ssq_desk.specs.declared.told.Told.{Told}
 use Rattle.ssq_open.specs.Numbers.{HasNumbers}
 use Rattle.ssq_open.specs.Stores.{AreStores}
+use Rattle.ssq_drive.specs.Kept.{IsKeptUp}
 use Rattle.ssq_drive.specs.Rounds.{CanBegin, IsFoundOf, first_of}
 use Rattle.ssq_runner.specs.Rounds.{Round, epochs_after}
 use Rattle.ssq_runner.specs.Told.{told_text}
@@ -60,6 +61,7 @@ module _ {L : Type 0} (tells : Type 0) (lines : L → List Line) (available : L 
     pub disk_counted : b.disk_faults ≤ disk_faults
     pub ran : tells → IsOwnRun tells lines available answers faults b → HaveRun tells lines available answers faults b now opened.plans told × IsSettledAs now (files_now now)
         × IsFoundOf (setting_in tells lines available answers faults b) (files_now now) opened
+    pub kept : 0 < n → tells → IsOwnRun tells lines available answers faults b → IsKeptUp (keeping_of b.bound.shape b.found.meta.partitions) b.found.meta.partitions (files_now now)
 
   -- and the logs were asked for the next round, and answered this
   pub record IsReady (b : Begun L) (n : ℕ) (now : History) (disk_faults : ℕ) (logs : List L) (OutTells : Type 0) (written : List ℕ) (opened : Opened) (found : List ℕ) : Type 0 where

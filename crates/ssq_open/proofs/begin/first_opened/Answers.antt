@@ -1,7 +1,5 @@
-use Rattle.std.proofs.Common.{◌≡◌, ◌∙◌, ◌++◌, ◌∷◌, [], ℕ, List, refl, ap, subst}
+use Rattle.std.proofs.Common.{◌≡◌, ◌∙◌, ℕ, refl, ap, subst}
 use Rattle.std.proofs.lemmas.Result.{err_from_is_err_and}
-use Rattle.ssq_outside.specs.declared.name.Name.{Name}
-use Rattle.ssq_outside.specs.declared.name.Name.TheVariants as name
 use Rattle.ssq_outside.specs.History.{files_now}
 use Rattle.ssq_plans.specs.declared.meta.Meta.{Meta}
 use Rattle.ssq_open.specs.Sought.{Sought, sought}
@@ -22,7 +20,7 @@ pub returns-clause-in_order : goal.returns-clause-in_order
 returns-clause-in_order g c =
     let s : Sought = sought c.args.wanted.now in
     let meta : Meta = record { partitions = c.unwrap_or-partitions.result; parts = c.from_vec-parts.result; query = c.in_ok-query.query } in
-    let found : Opened = record { meta = meta; plans = c.new.result; committed = 0; seen = c.new-2.result; stores = c.in_ok-stores.stores; names = c.push.new.self } in
+    let found : Opened = record { meta = meta; plans = c.new.result; committed = 0; seen = c.new-2.result; stores = c.in_ok-stores.stores; names = c.new-3.result } in
     let meta_is : meta ≡ first_meta s = (λ i. record { partitions = c.unwrap_or-partitions.ensures i; parts = (c.from_vec-parts.ensures ∙ c.in_ok-from_slice.ensures.items) i; query = c.in_ok-query.ensures.cases i }) in
     let K : ℕ → Type 0 = λ keeping. AreStores keeping 0 c.in_ok-stores.stores in
     first_in_order s found c.requires meta_is c.new.ensures refl c.new-2.ensures (subst K c.keeping_in.ensures c.in_ok-stores.ensures.numbers)
@@ -35,6 +33,6 @@ returns-clause-first g c = λ tells.
       plans = c.new.ensures;
       committed = refl;
       seen = c.new-2.ensures;
-      names = c.in_ok-push.ensures.ok ∙ ap (λ (names : List Name). names ++ name.Meta ∷ []) c.new-names.ensures;
+      names = c.new-3.ensures;
       stores = new_loaded (files_now (g.D.Disk.history c.args.disk.now)) _ c.in_ok-stores.stores (subst K (c.keeping_in.ensures ∙ ap (keeping_in c.args.wanted.now.keeps) c.unwrap_or-partitions.ensures) (c.in_ok-stores.ensures.loaded tells));
     }

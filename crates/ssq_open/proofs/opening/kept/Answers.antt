@@ -33,13 +33,13 @@ returns-clause-passes g c = λ tells are.
     record {
       found = c.in_ok-meta.ensures.finds tells (subst A (sym c.as_slice.ensures) are);
       loaded = subst K c.keeping_in-keeping.ensures (subst L (c.check.ensures.same tells) (c.in_ok-stores.ensures.loaded tells));
-      listed = are;
+      listed = (c.args.names, are, c.files_of_state.ensures);
     }
 
 pub returns-clause-in_order : goal.returns-clause-in_order
 returns-clause-in_order g c =
     let s : Sought = sought c.args.wanted.now in
     let epochs = c.in_ok-meta.field-0.epochs in
-    let found : Opened = record { meta = c.in_ok-meta.field-0.meta; plans = epochs.plans; committed = epochs.committed; seen = epochs.seen; stores = c.in_ok-stores.stores; names = c.args.names } in
+    let found : Opened = record { meta = c.in_ok-meta.field-0.meta; plans = epochs.plans; committed = epochs.committed; seen = epochs.seen; stores = c.in_ok-stores.stores; names = c.files_of_state.result } in
     let K : ℕ → Type 0 = λ keeping. AreStores keeping epochs.committed c.in_ok-stores.stores in
     kept_in_order s found c.in_ok-meta.ensures.in_order (subst K c.keeping_in-keeping.ensures c.in_ok-stores.ensures.numbers)

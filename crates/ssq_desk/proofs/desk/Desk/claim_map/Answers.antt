@@ -23,19 +23,19 @@ use Rattle.ssq_desk.proofs.desk.Desk.claim_map.Goals as goal
 pub bounds-ends-number : goal.bounds-ends-number
 bounds-ends-number g c =
     let m = subst (λ (x : Shown g.row.D.Denot (Round g.row.L.Denot)). May x.scope x.core (entry.Claim c.args.id)) (sym c.self.view_is) c.requires.may in
-    let h = map_here _ _ _ _ _ _ _ _ _ _ c.self.invariant g.D.Disk.history c.is_legal.ensures.legal c.is_in_order.ensures c.args.id c.requires.map m in
+    let h = map_here _ _ _ _ _ _ _ _ _ _ _ c.self.invariant c.is_legal.ensures.legal c.is_in_order.ensures c.args.id c.requires.map m in
     let e = ap length c.ends.ensures in omega (arith, h.ends_below, e)
 
 pub index_mut-source-requires : goal.index_mut-source-requires
 index_mut-source-requires g c =
     let m = subst (λ (x : Shown g.row.D.Denot (Round g.row.L.Denot)). May x.scope x.core (entry.Claim c.args.id)) (sym c.self.view_is) c.requires.may in
-    let h = map_here _ _ _ _ _ _ _ _ _ _ c.self.invariant g.D.Disk.history c.is_legal.ensures.legal c.is_in_order.ensures c.args.id c.requires.map m in
+    let h = map_here _ _ _ _ _ _ _ _ _ _ _ c.self.invariant c.is_legal.ensures.legal c.is_in_order.ensures c.args.id c.requires.map m in
     let n = c.self.inside.load.sources.ok.0 in omega (arith, h.below, n)
 
 pub take_log-log-requires : goal.take_log-log-requires
 take_log-log-requires g c =
     let m = subst (λ (x : Shown g.row.D.Denot (Round g.row.L.Denot)). May x.scope x.core (entry.Claim c.args.id)) (sym c.self.view_is) c.requires.may in
-    let h = map_here _ _ _ _ _ _ _ _ _ _ c.self.invariant g.D.Disk.history c.is_legal.ensures.legal c.is_in_order.ensures c.args.id c.requires.map m in
+    let h = map_here _ _ _ _ _ _ _ _ _ _ _ c.self.invariant c.is_legal.ensures.legal c.is_in_order.ensures c.args.id c.requires.map m in
     let log = h.is.log (λ away. away) in
     let same = c.index_mut-source.ensures.value ∙ at_get c.self.inside.load.sources.items c.args.id.number h.source _ h.here in
     (log.0, ap (λ x. x.log) same ∙ log.1)
@@ -43,23 +43,23 @@ take_log-log-requires g c =
 pub invariant_of-self : goal.invariant_of-self
 invariant_of-self g c =
     let m = subst (λ (x : Shown g.row.D.Denot (Round g.row.L.Denot)). May x.scope x.core (entry.Claim c.args.id)) (sym c.self.view_is) c.requires.may in
-    let h = map_here _ _ _ _ _ _ _ _ _ _ c.self.invariant g.D.Disk.history c.is_legal.ensures.legal c.is_in_order.ensures c.args.id c.requires.map m in
+    let h = map_here _ _ _ _ _ _ _ _ _ _ _ c.self.invariant c.is_legal.ensures.legal c.is_in_order.ensures c.args.id c.requires.map m in
     let same = c.index_mut-source.ensures.value ∙ at_get c.self.inside.load.sources.items c.args.id.number h.source _ h.here in
     let left = c.take_log-log.ensures.rest ∙ (λ i. record { stream = (same i).stream; part = (same i).part; from = (same i).from; log = None; fed = (same i).fed }) in
     let s = c.self.inside in
     let n : Load g.row.L.Denot g.row.D-Stage.Denot g.row.D-Stage-Sealed.Denot = record { view = s.load.view; plans = s.load.plans; sources = with_item s.load.sources c.args.id.number c.take_log-log.new.source; shares = s.load.shares; held = s.load.held; out = s.load.out; seen = s.load.seen; pending = s.load.pending; told = s.load.told; kept = s.load.kept } in
-    subst (λ (x : Shown g.row.D.Denot (Round g.row.L.Denot)). IsWhole g.D.Disk.tells g.L.Log.tells g.L.Log.lines g.L.Log.available g.L.Log.answers g.L.Log.faults g.D.Stage.Stage.written g.D.Stage.Stage.sealed x n) (sym c.claim.ensures)
-    (moved_whole _ _ _ _ _ _ _ _ s.ledger s.load c.self.invariant s.ledger.disk (entry.Claim c.args.id) n (λ cuts n. refl) refl refl refl refl c.self.invariant.told c.self.invariant.told_room
+    subst (λ (x : Shown g.row.D.Denot (Round g.row.L.Denot)). IsWhole g.D.Disk.tells g.L.Log.tells g.D.Disk.history g.L.Log.lines g.L.Log.available g.L.Log.answers g.L.Log.faults g.D.Stage.Stage.written g.D.Stage.Stage.sealed x n) (sym c.claim.ensures)
+    (moved_whole _ _ _ _ _ _ _ _ _ s.ledger s.load c.self.invariant s.ledger.disk (entry.Claim c.args.id) n (λ cuts n. refl) refl refl refl refl c.self.invariant.told c.self.invariant.told_room
     (λ e. absurd (runs_without s.ledger.core.front.stop cause.LogFault (subst (λ (x : Shown g.row.D.Denot (Round g.row.L.Denot)). May x.scope x.core (entry.Claim c.args.id)) (sym c.self.view_is) c.requires.may).0 e))
-    (map_claimed _ _ _ _ _ _ _ _ _ _ c.self.invariant g.D.Disk.history c.is_legal.ensures.legal c.is_in_order.ensures c.args.id c.take_log-log.new.source c.requires.map m h left))
+    (map_claimed _ _ _ _ _ _ _ _ _ _ _ c.self.invariant c.is_legal.ensures.legal c.is_in_order.ensures c.args.id c.take_log-log.new.source c.requires.map m h left))
 
 pub returns-clause-task : goal.returns-clause-task
 returns-clause-task g c =
     let m = subst (λ (x : Shown g.row.D.Denot (Round g.row.L.Denot)). May x.scope x.core (entry.Claim c.args.id)) (sym c.self.view_is) c.requires.may in
-    let h = map_here _ _ _ _ _ _ _ _ _ _ c.self.invariant g.D.Disk.history c.is_legal.ensures.legal c.is_in_order.ensures c.args.id c.requires.map m in
+    let h = map_here _ _ _ _ _ _ _ _ _ _ _ c.self.invariant c.is_legal.ensures.legal c.is_in_order.ensures c.args.id c.requires.map m in
     let same = c.index_mut-source.ensures.value ∙ at_get c.self.inside.load.sources.items c.args.id.number h.source _ h.here in
     let s = c.self.inside in
-    let task = map_task _ _ _ _ _ _ _ _ _ _ c.self.invariant g.D.Disk.history c.is_legal.ensures.legal c.is_in_order.ensures c.args.id s.load.view
+    let task = map_task _ _ _ _ _ _ _ _ _ _ _ c.self.invariant c.is_legal.ensures.legal c.is_in_order.ensures c.args.id s.load.view
     (get_or c.ends.result.now c.args.id.number (record { stream = 0; part = 0; end = 0 })).end c.take_log-log.result c.requires.map m h refl (sym (ap (λ x. x.log) same) ∙ c.take_log-log.ensures.log)
     (ap (λ (l : List PartEnd). (get_or l c.args.id.number (record { stream = 0; part = 0; end = 0 })).end) c.ends.ensures) in
     let handed : MapTask g.row.L.Denot = (record {
@@ -72,9 +72,9 @@ returns-clause-task g c =
       to = (get_or c.ends.result.now c.args.id.number (record { stream = 0; part = 0; end = 0 })).end;
       log = c.take_log-log.result;
     }) in
-    subst (λ (x : Shown g.row.D.Denot (Round g.row.L.Denot)). IsMapOf g.D.Disk.tells g.L.Log.tells g.L.Log.lines g.L.Log.available g.L.Log.answers g.L.Log.faults x handed) (sym c.claim.ensures)
+    subst (λ (x : Shown g.row.D.Denot (Round g.row.L.Denot)). IsMapOf g.D.Disk.tells g.L.Log.tells g.D.Disk.history g.L.Log.lines g.L.Log.available g.L.Log.answers g.L.Log.faults x handed) (sym c.claim.ensures)
     (after_claim g.L.Log.lines s.ledger s.ledger.disk c.args.id (λ (cuts : Cuts). IsMapTask (g.D.Disk.tells × g.L.Log.tells) g.L.Log.lines g.L.Log.available (LogWent g.L.Log.tells g.L.Log.lines g.L.Log.available g.L.Log.answers g.L.Log.faults) s.ledger.opening.logs.items (setting_of g.L.Log.lines s.ledger.opening) cuts s.ledger.core.front.committed s.ledger.scope.available handed)
-    (subst (λ (x : Source g.row.L.Denot). IsMapOf g.D.Disk.tells g.L.Log.tells g.L.Log.lines g.L.Log.available g.L.Log.answers g.L.Log.faults s.ledger
+    (subst (λ (x : Source g.row.L.Denot). IsMapOf g.D.Disk.tells g.L.Log.tells g.D.Disk.history g.L.Log.lines g.L.Log.available g.L.Log.answers g.L.Log.faults s.ledger
     (record {
       view = s.load.view;
       epoch = c.args.id.epoch;

@@ -33,7 +33,7 @@ pub raise_all-requires : goal.raise_all-requires
 raise_all-requires g c =
     let s = c.self.inside in
     let m = subst (λ (x : Shown g.row.D.Denot (Round g.row.L.Denot)). May x.scope x.core (entry.Claim c.args.id)) (sym c.self.view_is) c.requires.may in
-    let h = out_here _ _ _ _ _ _ _ _ _ _ c.self.invariant g.D.Disk.history c.is_legal.ensures.legal c.is_in_order.ensures c.args.id c.requires.out.0 c.requires.out.1 m in
+    let h = out_here _ _ _ _ _ _ _ _ _ _ _ c.self.invariant c.is_legal.ensures.legal c.is_in_order.ensures c.args.id c.requires.out.0 c.requires.out.1 m in
     let same = some_work h.work c.in-Some.work (sym h.here ∙ sym c.replace.ensures.value ∙ c.in-Some.is) in
     subst (λ (w : OutWork g.row.D-Stage.Denot g.row.D-Stage-Sealed.Denot). CanRaise (length w.seen) c.as_slice.result.now) same
     (subst (λ (l : List (Source g.row.L.Denot)). CanRaise (length h.work.seen) l) (sym c.as_slice.ensures.value) h.raise)
@@ -45,24 +45,24 @@ invariant_of-self g c =
     let count = c.take_rows.ensures.count ∙ ap length c.deref_mut.ensures.value in
     let items : (with_items s.load.shares more).items ≡ more = with_items_is s.load.shares more (count ∙ sym s.load.shares.ok.0) in
     let n : Load g.row.L.Denot g.row.D-Stage.Denot g.row.D-Stage-Sealed.Denot = record { view = s.load.view; plans = s.load.plans; sources = s.load.sources; shares = with_items s.load.shares more; held = s.load.held; out = c.replace.new.dest; seen = s.load.seen; pending = s.load.pending; told = s.load.told; kept = s.load.kept } in
-    let held = out_claimed _ _ _ _ _ _ _ _ _ _ c.self.invariant g.D.Disk.history c.is_legal.ensures.legal c.is_in_order.ensures c.args.id more c.replace.new.dest c.requires.out.0 c.requires.out.1 (subst (λ (x : Shown g.row.D.Denot (Round g.row.L.Denot)). May x.scope x.core (entry.Claim c.args.id)) (sym c.self.view_is) c.requires.may) (c.take_rows.ensures.keys ∙ ap (map (λ (x : Share g.row.D-Stage.Denot). x.key)) c.deref_mut.ensures.value) in
-    subst (λ (x : Shown g.row.D.Denot (Round g.row.L.Denot)). IsWhole g.D.Disk.tells g.L.Log.tells g.L.Log.lines g.L.Log.available g.L.Log.answers g.L.Log.faults g.D.Stage.Stage.written g.D.Stage.Stage.sealed x n) (sym c.claim.ensures)
-    (moved_whole _ _ _ _ _ _ _ _ s.ledger s.load c.self.invariant s.ledger.disk (entry.Claim c.args.id) n (λ cuts m. refl) refl refl refl refl c.self.invariant.told c.self.invariant.told_room
+    let held = out_claimed _ _ _ _ _ _ _ _ _ _ _ c.self.invariant c.is_legal.ensures.legal c.is_in_order.ensures c.args.id more c.replace.new.dest c.requires.out.0 c.requires.out.1 (subst (λ (x : Shown g.row.D.Denot (Round g.row.L.Denot)). May x.scope x.core (entry.Claim c.args.id)) (sym c.self.view_is) c.requires.may) (c.take_rows.ensures.keys ∙ ap (map (λ (x : Share g.row.D-Stage.Denot). x.key)) c.deref_mut.ensures.value) in
+    subst (λ (x : Shown g.row.D.Denot (Round g.row.L.Denot)). IsWhole g.D.Disk.tells g.L.Log.tells g.D.Disk.history g.L.Log.lines g.L.Log.available g.L.Log.answers g.L.Log.faults g.D.Stage.Stage.written g.D.Stage.Stage.sealed x n) (sym c.claim.ensures)
+    (moved_whole _ _ _ _ _ _ _ _ _ s.ledger s.load c.self.invariant s.ledger.disk (entry.Claim c.args.id) n (λ cuts m. refl) refl refl refl refl c.self.invariant.told c.self.invariant.told_room
     (λ e. absurd (runs_without s.ledger.core.front.stop cause.LogFault (subst (λ (x : Shown g.row.D.Denot (Round g.row.L.Denot)). May x.scope x.core (entry.Claim c.args.id)) (sym c.self.view_is) c.requires.may).0 e))
-    (subst (λ (l : List (Share g.row.D-Stage.Denot)). HoldsIn g.D.Disk.tells g.L.Log.tells g.L.Log.lines g.L.Log.available g.L.Log.answers g.L.Log.faults g.D.Stage.Stage.written g.D.Stage.Stage.sealed s.ledger (cuts_of (opening_in g.L.Log.lines) s.ledger)
+    (subst (λ (l : List (Share g.row.D-Stage.Denot)). HoldsIn g.D.Disk.tells g.L.Log.tells g.D.Disk.history g.L.Log.lines g.L.Log.available g.L.Log.answers g.L.Log.faults g.D.Stage.Stage.written g.D.Stage.Stage.sealed s.ledger (cuts_of (opening_in g.L.Log.lines) s.ledger)
     (after s.ledger.scope s.ledger.core (entry.Claim c.args.id)) s.load.sources.items l s.load.held.items c.replace.new.dest s.load.seen s.load.pending) (sym items) held))
 
 pub returns-clause-task : goal.returns-clause-task
 returns-clause-task g c =
     let s = c.self.inside in
     let m = subst (λ (x : Shown g.row.D.Denot (Round g.row.L.Denot)). May x.scope x.core (entry.Claim c.args.id)) (sym c.self.view_is) c.requires.may in
-    let h = out_here _ _ _ _ _ _ _ _ _ _ c.self.invariant g.D.Disk.history c.is_legal.ensures.legal c.is_in_order.ensures c.args.id c.requires.out.0 c.requires.out.1 m in
+    let h = out_here _ _ _ _ _ _ _ _ _ _ _ c.self.invariant c.is_legal.ensures.legal c.is_in_order.ensures c.args.id c.requires.out.0 c.requires.out.1 m in
     let same = some_work h.work c.in-Some.work (sym h.here ∙ sym c.replace.ensures.value ∙ c.in-Some.is) in
-    let is = subst (λ (w : OutWork g.row.D-Stage.Denot g.row.D-Stage-Sealed.Denot). IsOutWork (Owns g.D.Disk.tells g.L.Log.tells g.L.Log.lines s.ledger) g.D.Stage.Stage.written (setting_of g.L.Log.lines s.ledger.opening) (cuts_of (opening_in g.L.Log.lines) s.ledger) s.ledger.core.front.committed w) same h.is in
+    let is = subst (λ (w : OutWork g.row.D-Stage.Denot g.row.D-Stage-Sealed.Denot). IsOutWork (Owns g.D.Disk.tells g.L.Log.tells g.D.Disk.history g.L.Log.lines s.ledger) g.D.Stage.Stage.written (setting_of g.L.Log.lines s.ledger.opening) (cuts_of (opening_in g.L.Log.lines) s.ledger) s.ledger.core.front.committed w) same h.is in
     let rows : map (λ v. v.items) c.take_rows.new.into.items ≡ map (λ (x : Share g.row.D-Stage.Denot). x.rows.items) s.load.shares.items = c.take_rows.ensures.rows ∙ (λ i. map (λ v. v.items) (is.none i) ++ map (λ (x : Share g.row.D-Stage.Denot). x.rows.items) (c.deref_mut.ensures.value i)) in
     let handed : OutTask g.row.D-Stage.Denot g.row.D-Stage-Sealed.Denot = (record { view = s.load.view; epoch = c.args.id.epoch; seen = c.raise_all.new.seen; rows = c.take_rows.new.into; stages = c.in-Some.work.stages }) in
-    subst (λ (x : Shown g.row.D.Denot (Round g.row.L.Denot)). IsOutOf g.D.Disk.tells g.L.Log.tells g.L.Log.lines g.D.Stage.Stage.written x handed) (sym c.claim.ensures)
-    (after_claim g.L.Log.lines s.ledger s.ledger.disk c.args.id (λ (cuts : Cuts). IsOutTask (Owns g.D.Disk.tells g.L.Log.tells g.L.Log.lines s.ledger) g.D.Stage.Stage.written (setting_of g.L.Log.lines s.ledger.opening) cuts s.ledger.core.front.committed handed)
+    subst (λ (x : Shown g.row.D.Denot (Round g.row.L.Denot)). IsOutOf g.D.Disk.tells g.L.Log.tells g.D.Disk.history g.L.Log.lines g.D.Stage.Stage.written x handed) (sym c.claim.ensures)
+    (after_claim g.L.Log.lines s.ledger s.ledger.disk c.args.id (λ (cuts : Cuts). IsOutTask (Owns g.D.Disk.tells g.L.Log.tells g.D.Disk.history g.L.Log.lines s.ledger) g.D.Stage.Stage.written (setting_of g.L.Log.lines s.ledger.opening) cuts s.ledger.core.front.committed handed)
     (record {
       view = c.self.invariant.view;
       epoch = m.2;

@@ -27,19 +27,19 @@ use Rattle.ssq_desk.proofs.desk.Desk.closed.Goals as goal
 pub next_if-next-requires-clause-each : goal.next_if-next-requires-clause-each
 next_if-next-requires-clause-each g c over =
     let s = c.self.inside in
-    seen_each g.D.Disk.tells g.L.Log.tells g.L.Log.lines g.L.Log.available g.L.Log.answers g.L.Log.faults g.D.Disk.history g.D.Stage.Stage.written g.D.Stage.Stage.sealed s.ledger s.load c.self.invariant c.is_legal.ensures.legal c.is_in_order.ensures (sym c.ready.ensures ∙ (c.is_over-is_over.ensures.over over).0)
+    seen_each g.D.Disk.tells g.L.Log.tells g.D.Disk.history g.L.Log.lines g.L.Log.available g.L.Log.answers g.L.Log.faults g.D.Stage.Stage.written g.D.Stage.Stage.sealed s.ledger s.load c.self.invariant c.is_legal.ensures.legal c.is_in_order.ensures (sym c.ready.ensures ∙ (c.is_over-is_over.ensures.over over).0)
 
 pub logs_of-requires-clause-there : goal.logs_of-requires-clause-there
 logs_of-requires-clause-there g c =
     let s = c.self.inside in
     let none = subst (λ (x : Shown g.row.D.Denot (Round g.row.L.Denot)). list_any is_away x.core.maps ≡ false) (sym c.self.view_is) (c.requires.back kind.Map) in
-    logs_there g.D.Disk.tells g.L.Log.tells g.L.Log.lines g.L.Log.available g.L.Log.answers g.L.Log.faults g.D.Disk.history g.D.Stage.Stage.written g.D.Stage.Stage.sealed s.ledger s.load c.self.invariant c.is_legal.ensures.legal c.is_in_order.ensures none
+    logs_there g.D.Disk.tells g.L.Log.tells g.D.Disk.history g.L.Log.lines g.L.Log.available g.L.Log.answers g.L.Log.faults g.D.Stage.Stage.written g.D.Stage.Stage.sealed s.ledger s.load c.self.invariant c.is_legal.ensures.legal c.is_in_order.ensures none
 
 pub returns-clause-stopped : goal.returns-clause-stopped
 returns-clause-stopped g c =
     let s = c.self.inside in
-    subst (λ (x : Shown g.row.D.Denot (Round g.row.L.Denot)). (f : Cause) → x.core.front.stop ≡ Some f → IsStopOf (g.D.Disk.tells × g.L.Log.tells) (Owns g.D.Disk.tells g.L.Log.tells g.L.Log.lines x) (setting_of g.L.Log.lines x.opening) (cuts_of (opening_in g.L.Log.lines) x) x.core.front.committed c.take_key-key.result f) c.self.view_is
-    (λ f stopped. stopped_for (g.D.Disk.tells × g.L.Log.tells) (Owns g.D.Disk.tells g.L.Log.tells g.L.Log.lines s.ledger) (setting_of g.L.Log.lines s.ledger.opening) (cuts_of (opening_in g.L.Log.lines) s.ledger) s.ledger.core.front.committed (key_in s.load.shares.items) c.take_key-key.result f
+    subst (λ (x : Shown g.row.D.Denot (Round g.row.L.Denot)). (f : Cause) → x.core.front.stop ≡ Some f → IsStopOf (g.D.Disk.tells × g.L.Log.tells) (Owns g.D.Disk.tells g.L.Log.tells g.D.Disk.history g.L.Log.lines x) (setting_of g.L.Log.lines x.opening) (cuts_of (opening_in g.L.Log.lines) x) x.core.front.committed c.take_key-key.result f) c.self.view_is
+    (λ f stopped. stopped_for (g.D.Disk.tells × g.L.Log.tells) (Owns g.D.Disk.tells g.L.Log.tells g.D.Disk.history g.L.Log.lines s.ledger) (setting_of g.L.Log.lines s.ledger.opening) (cuts_of (opening_in g.L.Log.lines) s.ledger) s.ledger.core.front.committed (key_in s.load.shares.items) c.take_key-key.result f
     (λ is. c.take_key-key.ensures.key (ap (λ (front : Front). front.stop) c.front-front.ensures ∙ stopped ∙ ap (λ (f : Cause). Some f) is) ∙ ap (λ (l : List (Share g.row.D-Stage.Denot)). key_in l) c.deref_mut.ensures.value) (c.self.invariant.holds.stop f stopped))
 
 pub returns-clause-no_key : goal.returns-clause-no_key
@@ -52,20 +52,20 @@ returns-clause-logs g c =
     let s = c.self.inside in
     let none = subst (λ (x : Shown g.row.D.Denot (Round g.row.L.Denot)). list_any is_away x.core.maps ≡ false) (sym c.self.view_is) (c.requires.back kind.Map) in
     subst (λ (x : Shown g.row.D.Denot (Round g.row.L.Denot)). AllZip (LogWent g.L.Log.tells g.L.Log.lines g.L.Log.available g.L.Log.answers g.L.Log.faults) x.opening.logs.items c.logs_of.result.items) c.self.view_is
-    (logs_back g.D.Disk.tells g.L.Log.tells g.L.Log.lines g.L.Log.available g.L.Log.answers g.L.Log.faults g.D.Disk.history g.D.Stage.Stage.written g.D.Stage.Stage.sealed s.ledger s.load c.self.invariant c.is_legal.ensures.legal c.is_in_order.ensures none c.logs_of.result.items c.logs_of.ensures)
+    (logs_back g.D.Disk.tells g.L.Log.tells g.D.Disk.history g.L.Log.lines g.L.Log.available g.L.Log.answers g.L.Log.faults g.D.Stage.Stage.written g.D.Stage.Stage.sealed s.ledger s.load c.self.invariant c.is_legal.ensures.legal c.is_in_order.ensures none c.logs_of.result.items c.logs_of.ensures)
 
 pub returns-clause-faulty : goal.returns-clause-faulty
 returns-clause-faulty g c =
     let s = c.self.inside in
     subst (λ (x : Shown g.row.D.Denot (Round g.row.L.Denot)). x.core.front.stop ≡ Some cause.LogFault → 0 < sum_by g.L.Log.faults c.logs_of.result.items) c.self.view_is
-    (faulty_back g.D.Disk.tells g.L.Log.tells g.L.Log.lines g.L.Log.available g.L.Log.answers g.L.Log.faults g.D.Disk.history g.D.Stage.Stage.written g.D.Stage.Stage.sealed s.ledger s.load c.self.invariant c.is_legal.ensures.legal c.is_in_order.ensures c.logs_of.result.items c.logs_of.ensures)
+    (faulty_back g.D.Disk.tells g.L.Log.tells g.D.Disk.history g.L.Log.lines g.L.Log.available g.L.Log.answers g.L.Log.faults g.D.Stage.Stage.written g.D.Stage.Stage.sealed s.ledger s.load c.self.invariant c.is_legal.ensures.legal c.is_in_order.ensures c.logs_of.result.items c.logs_of.ensures)
 
 pub returns-clause-told : goal.returns-clause-told
 returns-clause-told g c =
     let s = c.self.inside in
     let front = c.front-front.ensures in
-    subst (λ (x : Shown g.row.D.Denot (Round g.row.L.Denot)). AreTold (Owns g.D.Disk.tells g.L.Log.tells g.L.Log.lines x) (setting_of g.L.Log.lines x.opening) (cuts_of (opening_in g.L.Log.lines) x) x.opening.opened.committed (acknowledged_in x.core) c.acknowledged-told.result.items) c.self.view_is
-    (told_back g.D.Disk.tells g.L.Log.tells g.L.Log.lines g.L.Log.available g.L.Log.answers g.L.Log.faults g.D.Disk.history g.D.Stage.Stage.written g.D.Stage.Stage.sealed s.ledger s.load c.self.invariant c.is_legal.ensures.legal c.is_in_order.ensures c.is_told.result c.acknowledged-told.result.items
+    subst (λ (x : Shown g.row.D.Denot (Round g.row.L.Denot)). AreTold (Owns g.D.Disk.tells g.L.Log.tells g.D.Disk.history g.L.Log.lines x) (setting_of g.L.Log.lines x.opening) (cuts_of (opening_in g.L.Log.lines) x) x.opening.opened.committed (acknowledged_in x.core) c.acknowledged-told.result.items) c.self.view_is
+    (told_back g.D.Disk.tells g.L.Log.tells g.D.Disk.history g.L.Log.lines g.L.Log.available g.L.Log.answers g.L.Log.faults g.D.Stage.Stage.written g.D.Stage.Stage.sealed s.ledger s.load c.self.invariant c.is_legal.ensures.legal c.is_in_order.ensures c.is_told.result c.acknowledged-told.result.items
     ((λ i. nat_lt ((sym front i).committed) ((sym front i).planned) || (sym front i).settled) ∙ sym c.is_told.ensures) c.acknowledged-told.ensures.all c.acknowledged-told.ensures.rest)
 
 pub returns-clause-next : goal.returns-clause-next
@@ -74,8 +74,8 @@ returns-clause-next g c =
     let is = subst (λ (f : Front). MatchOption c.next_if-next.result.0 (c.is_over-is_over.result ≡ false) (λ next. (c.is_over-is_over.result ≡ true)
     × (next.0 ≡ record { meta = s.load.kept.meta; plans = s.load.plans.items; committed = f.committed; seen = lines_of s.load.view.bound.now s.load.seen; stores = stores_in s.load.held.items; names = c.closed-disk.result.2.items }) × All HasLineTime next.0.seen × (next.1.items ≡ closings_in s.load.held.items))) c.front-front.ensures c.next_if-next.ensures.next in
     subst (λ (x : Shown g.row.D.Denot (Round g.row.L.Denot)). MatchOption c.next_if-next.result.0 ((ready_of x.scope x.core ≢ ready.Over) ⊎ ((shelf_of (opening_in g.L.Log.lines) x).tidy ≡ false)) (λ next. (ready_of x.scope x.core ≡ ready.Over) × ((shelf_of (opening_in g.L.Log.lines) x).tidy ≡ true)
-    × IsNext (Owns g.D.Disk.tells g.L.Log.tells g.L.Log.lines x) (setting_of g.L.Log.lines x.opening) (cuts_of (opening_in g.L.Log.lines) x) x.scope.available x.core (shelf_of (opening_in g.L.Log.lines) x) x.opening.opened next.0
+    × IsNext (Owns g.D.Disk.tells g.L.Log.tells g.D.Disk.history g.L.Log.lines x) (setting_of g.L.Log.lines x.opening) (cuts_of (opening_in g.L.Log.lines) x) x.scope.available x.core (shelf_of (opening_in g.L.Log.lines) x) x.opening.opened next.0
     × AreIndexes (Unit {0}) x.opening.view.bound.now next.0.stores next.1.items)) c.self.view_is
-    (next_back g.D.Disk.tells g.L.Log.tells g.L.Log.lines g.L.Log.available g.L.Log.answers g.L.Log.faults g.D.Disk.history g.D.Stage.Stage.written g.D.Stage.Stage.sealed s.ledger s.load c.self.invariant c.is_legal.ensures.legal c.is_in_order.ensures c.next_if-next.result.0 c.is_over-is_over.result c.closed-disk.result.2.items c.closed-disk.ensures.names is
+    (next_back g.D.Disk.tells g.L.Log.tells g.D.Disk.history g.L.Log.lines g.L.Log.available g.L.Log.answers g.L.Log.faults g.D.Stage.Stage.written g.D.Stage.Stage.sealed s.ledger s.load c.self.invariant c.is_legal.ensures.legal c.is_in_order.ensures c.next_if-next.result.0 c.is_over-is_over.result c.closed-disk.result.2.items c.closed-disk.ensures.names is
     (λ over. (let both = c.is_over-is_over.ensures.over over in (sym c.ready.ensures ∙ both.0, sym c.is_tidy.ensures ∙ both.1)))
     (λ other. elim (c.is_over-is_over.ensures.other other) [ inl not_over ↦ inl (λ over. not_over (c.ready.ensures ∙ over)) | inr untidy ↦ inr (sym c.is_tidy.ensures ∙ untidy) ]))

@@ -24,14 +24,14 @@ use Rattle.ssq_desk.proofs.desk.Desk.commit.Goals as goal
 pub take_pending-pending-requires : goal.take_pending-pending-requires
 take_pending-pending-requires g c =
     let next = subst (λ (x : Shown g.row.D.Denot (Round g.row.L.Denot)). ready_of x.scope x.core ≡ ready.Commit) (sym c.self.view_is) c.requires in
-    let h = pending_here _ _ _ _ _ _ _ _ c.self.inside.ledger c.self.inside.load c.self.invariant next in (h.0, h.1)
+    let h = pending_here _ _ _ _ _ _ _ _ _ c.self.inside.ledger c.self.inside.load c.self.invariant next in (h.0, h.1)
 
 -- the epoch's plan is there, and its lines can be counted
 pub tell-told-requires-clause-plan : goal.tell-told-requires-clause-plan
 tell-told-requires-clause-plan g c =
     let s = c.self.inside in
     let next = subst (λ (x : Shown g.row.D.Denot (Round g.row.L.Denot)). ready_of x.scope x.core ≡ ready.Commit) (sym c.self.view_is) c.requires in
-    let below = plan_below g.D.Disk.tells g.L.Log.tells g.L.Log.lines g.L.Log.available g.L.Log.answers g.L.Log.faults g.D.Disk.history g.D.Stage.Stage.written g.D.Stage.Stage.sealed s.ledger s.load c.self.invariant c.is_legal.ensures.legal c.is_in_order.ensures next in
+    let below = plan_below g.D.Disk.tells g.L.Log.tells g.D.Disk.history g.L.Log.lines g.L.Log.available g.L.Log.answers g.L.Log.faults g.D.Stage.Stage.written g.D.Stage.Stage.sealed s.ledger s.load c.self.invariant c.is_legal.ensures.legal c.is_in_order.ensures next in
     let epoch = ap (λ (f : Front). f.committed) c.front-epoch.ensures in omega (arith, below, epoch)
 
 pub tell-told-requires-clause-few : goal.tell-told-requires-clause-few
@@ -40,12 +40,12 @@ tell-told-requires-clause-few g c =
     let next = subst (λ (x : Shown g.row.D.Denot (Round g.row.L.Denot)). ready_of x.scope x.core ≡ ready.Commit) (sym c.self.view_is) c.requires in
     let ends = c.ends.ensures in
     subst (λ (n : ℕ). n < 2 ^ 64) (λ i. lines_between (map (λ (x : Source g.row.L.Denot). x.from) s.load.sources.items) (map (λ (e : PartEnd). e.end) (sym ends i)))
-    (few_lines g.D.Disk.tells g.L.Log.tells g.L.Log.lines g.L.Log.available g.L.Log.answers g.L.Log.faults g.D.Disk.history g.D.Stage.Stage.written g.D.Stage.Stage.sealed s.ledger s.load c.self.invariant c.is_legal.ensures.legal c.is_in_order.ensures next)
+    (few_lines g.D.Disk.tells g.L.Log.tells g.D.Disk.history g.L.Log.lines g.L.Log.available g.L.Log.answers g.L.Log.faults g.D.Stage.Stage.written g.D.Stage.Stage.sealed s.ledger s.load c.self.invariant c.is_legal.ensures.legal c.is_in_order.ensures next)
 
 pub commit-requires-clause-right : goal.commit-requires-clause-right
 commit-requires-clause-right g c =
     let next = subst (λ (x : Shown g.row.D.Denot (Round g.row.L.Denot)). ready_of x.scope x.core ≡ ready.Commit) (sym c.self.view_is) c.requires in
-    pending_right _ _ _ _ _ _ _ _ c.self.inside.ledger c.self.inside.load c.self.invariant c.take_pending-pending.result c.take_pending-pending.ensures.is next
+    pending_right _ _ _ _ _ _ _ _ _ c.self.inside.ledger c.self.inside.load c.self.invariant c.take_pending-pending.result c.take_pending-pending.ensures.is next
 
 pub commit-requires-clause-due : goal.commit-requires-clause-due
 commit-requires-clause-due g c = λ t. (
@@ -54,9 +54,9 @@ commit-requires-clause-due g c = λ t. (
     let set = setting_of g.L.Log.lines s.ledger.opening in
     let cuts = cuts_of (opening_in g.L.Log.lines) s.ledger in
     let told = c.tell-told.result in
-    let h = pending_here _ _ _ _ _ _ _ _ s.ledger s.load c.self.invariant next in
+    let h = pending_here _ _ _ _ _ _ _ _ _ s.ledger s.load c.self.invariant next in
     let mine : h.0 ≡ c.take_pending-pending.result = some_pending h.0 c.take_pending-pending.result (sym h.1 ∙ c.take_pending-pending.ensures.is) in
-    let is = told_right g.D.Disk.tells g.L.Log.tells g.L.Log.lines g.L.Log.available g.L.Log.answers g.L.Log.faults g.D.Disk.history g.D.Stage.Stage.written g.D.Stage.Stage.sealed s.ledger s.load c.self.invariant c.is_legal.ensures.legal c.is_in_order.ensures next told
+    let is = told_right g.D.Disk.tells g.L.Log.tells g.D.Disk.history g.L.Log.lines g.L.Log.available g.L.Log.answers g.L.Log.faults g.D.Stage.Stage.written g.D.Stage.Stage.sealed s.ledger s.load c.self.invariant c.is_legal.ensures.legal c.is_in_order.ensures next told
     (c.tell-told.ensures.epoch ∙ ap (λ (f : Front). f.committed) c.front-epoch.ensures)
     (c.tell-told.ensures.lines ∙ (λ i. lines_between (map (λ (x : Source g.row.L.Denot). x.from) s.load.sources.items) (map (λ (e : PartEnd). e.end) (c.ends.ensures i))))
     (λ (d : Plan). c.tell-told.ensures.watermark d ∙ (λ i. (get_or s.load.plans.items ((c.front-epoch.ensures i).committed) d).watermark))
@@ -78,22 +78,22 @@ push_reserved-requires g c =
 
 pub invariant_of-self : goal.invariant_of-self
 invariant_of-self g c =
-    uncommitted _ _ _ _ _ _ _ _ c.self.inside.ledger c.self.inside.load c.self.invariant c.commit.new.self c.take_pending-pending.new.pending c.in_err-commit.ensures.stopped.0
+    uncommitted _ _ _ _ _ _ _ _ _ c.self.inside.ledger c.self.inside.load c.self.invariant c.commit.new.self c.take_pending-pending.new.pending c.in_err-commit.ensures.stopped.0
 
 pub invariant_of-self-2 : goal.invariant_of-self-2
 invariant_of-self-2 g c =
     let s = c.self.inside in
     let next = subst (λ (x : Shown g.row.D.Denot (Round g.row.L.Denot)). ready_of x.scope x.core ≡ ready.Commit) (sym c.self.view_is) c.requires in
-    let owned = Owns g.D.Disk.tells g.L.Log.tells g.L.Log.lines s.ledger in
+    let owned = Owns g.D.Disk.tells g.L.Log.tells g.D.Disk.history g.L.Log.lines s.ledger in
     let told = c.tell-told.result in
-    let h = pending_here _ _ _ _ _ _ _ _ s.ledger s.load c.self.invariant next in
+    let h = pending_here _ _ _ _ _ _ _ _ _ s.ledger s.load c.self.invariant next in
     let mine : h.0 ≡ c.take_pending-pending.result = some_pending h.0 c.take_pending-pending.result (sym h.1 ∙ c.take_pending-pending.ensures.is) in
-    let is = told_right g.D.Disk.tells g.L.Log.tells g.L.Log.lines g.L.Log.available g.L.Log.answers g.L.Log.faults g.D.Disk.history g.D.Stage.Stage.written g.D.Stage.Stage.sealed s.ledger s.load c.self.invariant c.is_legal.ensures.legal c.is_in_order.ensures next told
+    let is = told_right g.D.Disk.tells g.L.Log.tells g.D.Disk.history g.L.Log.lines g.L.Log.available g.L.Log.answers g.L.Log.faults g.D.Stage.Stage.written g.D.Stage.Stage.sealed s.ledger s.load c.self.invariant c.is_legal.ensures.legal c.is_in_order.ensures next told
     (c.tell-told.ensures.epoch ∙ ap (λ (f : Front). f.committed) c.front-epoch.ensures)
     (c.tell-told.ensures.lines ∙ (λ i. lines_between (map (λ (x : Source g.row.L.Denot). x.from) s.load.sources.items) (map (λ (e : PartEnd). e.end) (c.ends.ensures i))))
     (λ (d : Plan). c.tell-told.ensures.watermark d ∙ (λ i. (get_or s.load.plans.items ((c.front-epoch.ensures i).committed) d).watermark))
     (λ t. c.tell-told.ensures.rows ∙ ap (λ (p : Pending g.row.D-Stage-Sealed.Denot). p.count) (sym mine) ∙ h.2.rows t) in
-    after_commit _ _ _ _ _ _ _ _ s.ledger s.load c.self.invariant c.commit.new.self c.take_pending-pending.result c.take_pending-pending.new.pending c.push_reserved.new.self
+    after_commit _ _ _ _ _ _ _ _ _ s.ledger s.load c.self.invariant c.commit.new.self c.take_pending-pending.result c.take_pending-pending.new.pending c.push_reserved.new.self
     c.is_in_order.ensures.sound.near c.take_pending-pending.ensures.none c.take_pending-pending.ensures.is next (c.is_due-due.result, c.in_ok-commit.ensures.done)
     (subst (λ l. AreTold owned (setting_of g.L.Log.lines s.ledger.opening) (cuts_of (opening_in g.L.Log.lines) s.ledger) s.ledger.opening.opened.committed (s.ledger.core.front.committed + 1) l) (sym c.push_reserved.ensures.items)
     (told_more owned (setting_of g.L.Log.lines s.ledger.opening) (cuts_of (opening_in g.L.Log.lines) s.ledger) s.ledger.opening.opened.committed s.ledger.core.front.committed s.load.told.items told c.self.invariant.told is))

@@ -21,31 +21,31 @@ use Rattle.ssq_desk.proofs.desk.Desk.plan.Goals as goal
 
 pub make-requires : goal.make-requires
 make-requires g c =
-    record { each = c.self.invariant.holds.parts ∙ sym (each_end g.D.Disk.tells g.L.Log.tells g.L.Log.lines g.L.Log.available g.L.Log.answers g.L.Log.faults g.D.Disk.history g.D.Stage.Stage.written g.D.Stage.Stage.sealed c.self.inside.ledger c.self.inside.load c.self.invariant c.is_legal.ensures.legal c.is_in_order.ensures) }
+    record { each = c.self.invariant.holds.parts ∙ sym (each_end g.D.Disk.tells g.L.Log.tells g.D.Disk.history g.L.Log.lines g.L.Log.available g.L.Log.answers g.L.Log.faults g.D.Stage.Stage.written g.D.Stage.Stage.sealed c.self.inside.ledger c.self.inside.load c.self.invariant c.is_legal.ensures.legal c.is_in_order.ensures) }
 
 -- nothing was made: the desk is stopped
 pub invariant_of-self : goal.invariant_of-self
 invariant_of-self g c =
     let old = c.self.inside.ledger in
-    let tells = Owns g.D.Disk.tells g.L.Log.tells g.L.Log.lines old in
+    let tells = Owns g.D.Disk.tells g.L.Log.tells g.D.Disk.history g.L.Log.lines old in
     let es = entry.Stop c.in-Err.cause ∷ [] in
     let next : ready_of old.scope old.core ≡ ready.Plan = subst (λ (x : Shown g.row.D.Denot (Round g.row.L.Denot)). ready_of x.scope x.core ≡ ready.Plan) (sym c.self.view_is) c.requires in
-    let same = same_load g.D.Disk.tells g.L.Log.tells g.L.Log.lines g.L.Log.available g.L.Log.answers g.L.Log.faults g.D.Stage.Stage.written g.D.Stage.Stage.sealed old c.self.inside.load c.self.invariant c.make.new.load (plan_runs old.scope old.core next).1 c.in-Err.ensures.kept in
+    let same = same_load g.D.Disk.tells g.L.Log.tells g.D.Disk.history g.L.Log.lines g.L.Log.available g.L.Log.answers g.L.Log.faults g.D.Stage.Stage.written g.D.Stage.Stage.sealed old c.self.inside.load c.self.invariant c.make.new.load (plan_runs old.scope old.core next).1 c.in-Err.ensures.kept in
     let right = unmade_stops (g.D.Disk.tells × g.L.Log.tells) tells (setting_of g.L.Log.lines old.opening) (cuts_of (opening_in g.L.Log.lines) old) old.core.front.committed old.core.front.planned c.in-Err.cause c.in-Err.ensures.unmade.0 in
-    let whole = stopped_whole g.D.Disk.tells g.L.Log.tells g.L.Log.lines g.L.Log.available g.L.Log.answers g.L.Log.faults g.D.Stage.Stage.written g.D.Stage.Stage.sealed old c.make.new.load same c.make.new.ledger.disk c.in-Err.cause (unmade_no_log old.core.front.planned c.in-Err.cause c.in-Err.ensures.unmade.0) right in
-    subst (λ (x : Shown g.row.D.Denot (Round g.row.L.Denot)). IsWhole g.D.Disk.tells g.L.Log.tells g.L.Log.lines g.L.Log.available g.L.Log.answers g.L.Log.faults g.D.Stage.Stage.written g.D.Stage.Stage.sealed x c.make.new.load)
+    let whole = stopped_whole g.D.Disk.tells g.L.Log.tells g.D.Disk.history g.L.Log.lines g.L.Log.available g.L.Log.answers g.L.Log.faults g.D.Stage.Stage.written g.D.Stage.Stage.sealed old c.make.new.load same c.make.new.ledger.disk c.in-Err.cause (unmade_no_log old.core.front.planned c.in-Err.cause c.in-Err.ensures.unmade.0) right in
+    subst (λ (x : Shown g.row.D.Denot (Round g.row.L.Denot)). IsWhole g.D.Disk.tells g.L.Log.tells g.D.Disk.history g.L.Log.lines g.L.Log.available g.L.Log.answers g.L.Log.faults g.D.Stage.Stage.written g.D.Stage.Stage.sealed x c.make.new.load)
     (sym (c.stop.ensures ∙ ap (λ (x : Shown g.row.D.Denot (Round g.row.L.Denot)). did x c.make.new.ledger.disk es) c.make.ensures.did ∙ did_then old c.make.new.ledger.disk c.make.new.ledger.disk [] es)) whole
 
 -- the watermark is the epoch's
 pub plan-requires-clause-right : goal.plan-requires-clause-right
 plan-requires-clause-right g c = λ t.
     let old = c.self.inside.ledger in
-    let tells = Owns g.D.Disk.tells g.L.Log.tells g.L.Log.lines old in
+    let tells = Owns g.D.Disk.tells g.L.Log.tells g.D.Disk.history g.L.Log.lines old in
     let next : ready_of old.scope old.core ≡ ready.Plan = subst (λ (x : Shown g.row.D.Denot (Round g.row.L.Denot)). ready_of x.scope x.core ≡ ready.Plan) (sym c.self.view_is) c.requires in
-    let b = between g.D.Disk.tells g.L.Log.tells g.L.Log.lines g.L.Log.available g.L.Log.answers g.L.Log.faults g.D.Disk.history g.D.Stage.Stage.written g.D.Stage.Stage.sealed old c.self.inside.load c.self.invariant c.is_legal.ensures.legal c.is_in_order.ensures next in
-    let still = still_whole g.D.Disk.tells g.L.Log.tells g.L.Log.lines g.L.Log.available g.L.Log.answers g.L.Log.faults g.D.Stage.Stage.written g.D.Stage.Stage.sealed old c.self.inside.load c.self.invariant c.make.new.ledger.disk in
-    let mark = marked g.D.Disk.tells g.L.Log.tells g.L.Log.lines g.L.Log.available g.L.Log.answers g.L.Log.faults g.D.Stage.Stage.written g.D.Stage.Stage.sealed (did old c.make.new.ledger.disk []) c.self.inside.load c.make.new.load still b.running b.closed c.in-Ok.ensures.made.view_is c.in-Ok.ensures.made.seen_is
-    (subst (λ (x : Shown g.row.D.Denot (Round g.row.L.Denot)). Owns g.D.Disk.tells g.L.Log.tells g.L.Log.lines x) c.make.ensures.did t) in
+    let b = between g.D.Disk.tells g.L.Log.tells g.D.Disk.history g.L.Log.lines g.L.Log.available g.L.Log.answers g.L.Log.faults g.D.Stage.Stage.written g.D.Stage.Stage.sealed old c.self.inside.load c.self.invariant c.is_legal.ensures.legal c.is_in_order.ensures next in
+    let still = still_whole g.D.Disk.tells g.L.Log.tells g.D.Disk.history g.L.Log.lines g.L.Log.available g.L.Log.answers g.L.Log.faults g.D.Stage.Stage.written g.D.Stage.Stage.sealed old c.self.inside.load c.self.invariant c.make.new.ledger.disk in
+    let mark = marked g.D.Disk.tells g.L.Log.tells g.D.Disk.history g.L.Log.lines g.L.Log.available g.L.Log.answers g.L.Log.faults g.D.Stage.Stage.written g.D.Stage.Stage.sealed (did old c.make.new.ledger.disk []) c.self.inside.load c.make.new.load still b.running b.closed c.in-Ok.ensures.made.view_is c.in-Ok.ensures.made.seen_is
+    (subst (λ (x : Shown g.row.D.Denot (Round g.row.L.Denot)). Owns g.D.Disk.tells g.L.Log.tells g.D.Disk.history g.L.Log.lines x) c.make.ensures.did t) in
     c.watermark-watermark.ensures.watermark ∙ mark
     ∙ ap (λ (x : Shown g.row.D.Denot (Round g.row.L.Denot)). watermark_at (setting_of g.L.Log.lines x.opening) (cuts_of (opening_in g.L.Log.lines) x) x.core.front.planned) (sym c.make.ensures.did)
 
@@ -61,40 +61,40 @@ copied-ends-requires-clause-fits g c =
 pub invariant_of-self-in-Ok-plan : goal.invariant_of-self-in-Ok-plan
 invariant_of-self-in-Ok-plan g c =
     let old = c.self.inside.ledger in
-    let tells = Owns g.D.Disk.tells g.L.Log.tells g.L.Log.lines old in
+    let tells = Owns g.D.Disk.tells g.L.Log.tells g.D.Disk.history g.L.Log.lines old in
     let load = c.make.new.load in
     let now : Load g.row.L.Denot g.row.D-Stage.Denot g.row.D-Stage-Sealed.Denot = record { view = load.view; plans = c.push_reserved.new.self; sources = load.sources; shares = load.shares; held = load.held; out = load.out; seen = load.seen; pending = load.pending; told = load.told; kept = load.kept } in
     let plan : Plan = record { epoch = c.front-epoch.result.planned; watermark = c.watermark-watermark.result; ends = c.from_vec.result } in
     let next : ready_of old.scope old.core ≡ ready.Plan = subst (λ (x : Shown g.row.D.Denot (Round g.row.L.Denot)). ready_of x.scope x.core ≡ ready.Plan) (sym c.self.view_is) c.requires in
-    let b = between g.D.Disk.tells g.L.Log.tells g.L.Log.lines g.L.Log.available g.L.Log.answers g.L.Log.faults g.D.Disk.history g.D.Stage.Stage.written g.D.Stage.Stage.sealed old c.self.inside.load c.self.invariant c.is_legal.ensures.legal c.is_in_order.ensures next in
+    let b = between g.D.Disk.tells g.L.Log.tells g.D.Disk.history g.L.Log.lines g.L.Log.available g.L.Log.answers g.L.Log.faults g.D.Stage.Stage.written g.D.Stage.Stage.sealed old c.self.inside.load c.self.invariant c.is_legal.ensures.legal c.is_in_order.ensures next in
     let mark : tells → plan.watermark ≡ watermark_at (setting_of g.L.Log.lines old.opening) (cuts_of (opening_in g.L.Log.lines) old) old.core.front.planned = λ t.
     c.watermark-watermark.ensures.watermark
-    ∙ marked g.D.Disk.tells g.L.Log.tells g.L.Log.lines g.L.Log.available g.L.Log.answers g.L.Log.faults g.D.Stage.Stage.written g.D.Stage.Stage.sealed old c.self.inside.load load c.self.invariant b.running b.closed c.in-Ok.ensures.made.view_is c.in-Ok.ensures.made.seen_is t in
+    ∙ marked g.D.Disk.tells g.L.Log.tells g.D.Disk.history g.L.Log.lines g.L.Log.available g.L.Log.answers g.L.Log.faults g.D.Stage.Stage.written g.D.Stage.Stage.sealed old c.self.inside.load load c.self.invariant b.running b.closed c.in-Ok.ensures.made.view_is c.in-Ok.ensures.made.seen_is t in
     let made = made_by g.D.Disk.tells tells g.D.Stage.Stage.written old.core.ends c.self.inside.load load c.in-Ok.ends (λ t. t.0) c.in-Ok.ensures.made in
     let epoch : plan.epoch ≡ old.core.front.planned = ap (λ (f : Front). f.planned) c.front-epoch.ensures ∙ ap (λ (x : Shown g.row.D.Denot (Round g.row.L.Denot)). x.core.front.planned) c.make.ensures.did in
     let ends : plan.ends ≡ next_ends old.scope.cap old.core.ends old.scope.available =
     c.from_vec.ensures ∙ c.copied-ends.ensures ∙ c.ends.ensures ∙ ap (λ (x : Shown g.row.D.Denot (Round g.row.L.Denot)). x.core.ends) c.in-Ok-plan.ensures.done
     ∙ ap (λ (x : Shown g.row.D.Denot (Round g.row.L.Denot)). next_ends x.scope.cap x.core.ends x.scope.available) c.make.ensures.did in
-    let whole = planned_whole g.D.Disk.tells g.L.Log.tells g.L.Log.lines g.L.Log.available g.L.Log.answers g.L.Log.faults g.D.Disk.history g.D.Stage.Stage.written g.D.Stage.Stage.sealed old c.self.inside.load load now c.self.invariant c.is_legal.ensures.legal c.is_in_order.ensures c.in-Ok.ends made plan
+    let whole = planned_whole g.D.Disk.tells g.L.Log.tells g.D.Disk.history g.L.Log.lines g.L.Log.available g.L.Log.answers g.L.Log.faults g.D.Stage.Stage.written g.D.Stage.Stage.sealed old c.self.inside.load load now c.self.invariant c.is_legal.ensures.legal c.is_in_order.ensures c.in-Ok.ends made plan
     (record { view_is = refl; plans_are = c.push_reserved.ensures.items; told_is = refl; kept_is = refl; sources_are = refl; shares_are = refl; held_is = refl; out_is = refl; seen_is = refl; pending_is = refl }) c.plan.new.self.disk next epoch mark ends (for_some c.watermark-watermark.result IsStampTime c.watermark-watermark.ensures.years) in
-    subst (λ (x : Shown g.row.D.Denot (Round g.row.L.Denot)). IsWhole g.D.Disk.tells g.L.Log.tells g.L.Log.lines g.L.Log.available g.L.Log.answers g.L.Log.faults g.D.Stage.Stage.written g.D.Stage.Stage.sealed x now)
+    subst (λ (x : Shown g.row.D.Denot (Round g.row.L.Denot)). IsWhole g.D.Disk.tells g.L.Log.tells g.D.Disk.history g.L.Log.lines g.L.Log.available g.L.Log.answers g.L.Log.faults g.D.Stage.Stage.written g.D.Stage.Stage.sealed x now)
     (sym (c.in-Ok-plan.ensures.done ∙ ap (λ (x : Shown g.row.D.Denot (Round g.row.L.Denot)). did x c.plan.new.self.disk (entry.Plan x.core.front.planned ∷ [])) c.make.ensures.did ∙ did_then old c.make.new.ledger.disk c.plan.new.self.disk [] (entry.Plan old.core.front.planned ∷ []))) whole
 
 -- the plan was not published: the desk is stopped, and the files that were begun are gone
 pub invariant_of-self-in-Err-plan : goal.invariant_of-self-in-Err-plan
 invariant_of-self-in-Err-plan g c =
     let old = c.self.inside.ledger in
-    let tells = Owns g.D.Disk.tells g.L.Log.tells g.L.Log.lines old in
+    let tells = Owns g.D.Disk.tells g.L.Log.tells g.D.Disk.history g.L.Log.lines old in
     let load = c.make.new.load in
     let es = entry.Stop c.in-Err-plan.cause ∷ [] in
     let next : ready_of old.scope old.core ≡ ready.Plan = subst (λ (x : Shown g.row.D.Denot (Round g.row.L.Denot)). ready_of x.scope x.core ≡ ready.Plan) (sym c.self.view_is) c.requires in
     let made = made_by g.D.Disk.tells tells g.D.Stage.Stage.written old.core.ends c.self.inside.load load c.in-Ok.ends (λ t. t.0) c.in-Ok.ensures.made in
     let stopped = c.in-Err-plan.ensures.stopped.0 ∙ ap (λ (x : Shown g.row.D.Denot (Round g.row.L.Denot)). did x c.plan.new.self.disk es) c.make.ensures.did ∙ did_then old c.make.new.ledger.disk c.plan.new.self.disk [] es in
-    let legal = subst (λ (x : Shown g.row.D.Denot (Round g.row.L.Denot)). IsLegal (Owns g.D.Disk.tells g.L.Log.tells g.L.Log.lines x) g.D.Disk.history (opening_in g.L.Log.lines) x) stopped c.is_legal-in-Err-plan.ensures.legal in
+    let legal = subst (λ (x : Shown g.row.D.Denot (Round g.row.L.Denot)). IsLegal (Owns g.D.Disk.tells g.L.Log.tells g.D.Disk.history g.L.Log.lines x) g.D.Disk.history (opening_in g.L.Log.lines) x) stopped c.is_legal-in-Err-plan.ensures.legal in
     let o = opening_in g.L.Log.lines old.opening in
     let may = last_may tells o.job old.scope o.due old.history (entry.Stop c.in-Err-plan.cause) (first_state o old.scope (g.D.Disk.history old.opened)) (state legal.0 (did old c.plan.new.self.disk es).core (shelf_of (opening_in g.L.Log.lines) (did old c.plan.new.self.disk es)) (cuts_of (opening_in g.L.Log.lines) (did old c.plan.new.self.disk es))) legal.2 in
     let right = cause_stops (g.D.Disk.tells × g.L.Log.tells) tells (setting_of g.L.Log.lines old.opening) (cuts_of (opening_in g.L.Log.lines) old) old.core.front.committed old.scope may.0 c.in-Err-plan.cause may.1.1 in
-    let whole = unplanned_whole g.D.Disk.tells g.L.Log.tells g.L.Log.lines g.L.Log.available g.L.Log.answers g.L.Log.faults g.D.Stage.Stage.written g.D.Stage.Stage.sealed old c.self.inside.load c.self.invariant c.drop_files.new.ledger.disk c.in-Err-plan.cause load c.drop_files.new.load c.in-Ok.ends (cause_no_log old.scope may.0 c.in-Err-plan.cause may.1.1) (plan_runs old.scope old.core next).1 made
+    let whole = unplanned_whole g.D.Disk.tells g.L.Log.tells g.D.Disk.history g.L.Log.lines g.L.Log.available g.L.Log.answers g.L.Log.faults g.D.Stage.Stage.written g.D.Stage.Stage.sealed old c.self.inside.load c.self.invariant c.drop_files.new.ledger.disk c.in-Err-plan.cause load c.drop_files.new.load c.in-Ok.ends (cause_no_log old.scope may.0 c.in-Err-plan.cause may.1.1) (plan_runs old.scope old.core next).1 made
     (ap (λ (l : Load _ _ _). l.view) c.drop_files.ensures.kept) (ap (λ (l : Load _ _ _). l.plans.items) c.drop_files.ensures.kept) (ap (λ (l : Load _ _ _). l.sources.items) c.drop_files.ensures.kept) c.drop_files.ensures.count (ap (λ (l : Load _ _ _). l.held) c.drop_files.ensures.kept) (ap (λ (l : Load _ _ _). l.told.items) c.drop_files.ensures.kept) (ap (λ (l : Load _ _ _). l.kept) c.drop_files.ensures.kept) right in
-    subst (λ (x : Shown g.row.D.Denot (Round g.row.L.Denot)). IsWhole g.D.Disk.tells g.L.Log.tells g.L.Log.lines g.L.Log.available g.L.Log.answers g.L.Log.faults g.D.Stage.Stage.written g.D.Stage.Stage.sealed x c.drop_files.new.load)
+    subst (λ (x : Shown g.row.D.Denot (Round g.row.L.Denot)). IsWhole g.D.Disk.tells g.L.Log.tells g.D.Disk.history g.L.Log.lines g.L.Log.available g.L.Log.answers g.L.Log.faults g.D.Stage.Stage.written g.D.Stage.Stage.sealed x c.drop_files.new.load)
     (sym (c.drop_files.ensures.did ∙ ap (λ (x : Shown g.row.D.Denot (Round g.row.L.Denot)). did x c.drop_files.new.ledger.disk []) stopped ∙ did_then old c.plan.new.self.disk c.drop_files.new.ledger.disk es [])) whole

@@ -23,7 +23,7 @@ index_mut-source-requires g c =
     let i = c.args.done.number in
     let f = fault_of (cause_of_feed c.args.done.stream c.args.done.part) c.args.done.outcome in
     let m = subst (λ (x : Shown g.row.D.Denot (Round g.row.L.Denot)). May x.scope x.core (entry.Report (map_id c.args.done.epoch i) f)) (sym c.self.view_is) c.requires.may in
-    let old = old_source s.ledger.core s.load.sources.items i (c.is_in_order.ensures.sound.maps ∙ sym (sources_count _ _ _ _ _ _ _ _ _ _ c.self.invariant g.D.Disk.history c.is_legal.ensures.legal c.is_in_order.ensures)) m.2 in
+    let old = old_source s.ledger.core s.load.sources.items i (c.is_in_order.ensures.sound.maps ∙ sym (sources_count _ _ _ _ _ _ _ _ _ _ _ c.self.invariant c.is_legal.ensures.legal c.is_in_order.ensures)) m.2 in
     let less = at_length s.load.sources.items i old.0 old.1 in
     let n = s.load.sources.ok.0 in omega (arith, less, n)
 
@@ -32,10 +32,10 @@ report-requires-clause-right g c =
     let s = c.self.inside in
     let f = fault_of (cause_of_feed c.args.done.stream c.args.done.part) c.args.done.outcome in
     let m = subst (λ (x : Shown g.row.D.Denot (Round g.row.L.Denot)). May x.scope x.core (entry.Report (map_id c.args.done.epoch c.args.done.number) f)) (sym c.self.view_is) c.requires.may in
-    let of = subst (λ (x : Shown g.row.D.Denot (Round g.row.L.Denot)). IsMapOf g.D.Disk.tells g.L.Log.tells g.L.Log.lines g.L.Log.available g.L.Log.answers g.L.Log.faults x c.requires.of.0) (sym c.self.view_is) c.requires.of.1 in
+    let of = subst (λ (x : Shown g.row.D.Denot (Round g.row.L.Denot)). IsMapOf g.D.Disk.tells g.L.Log.tells g.D.Disk.history g.L.Log.lines g.L.Log.available g.L.Log.answers g.L.Log.faults x c.requires.of.0) (sym c.self.view_is) c.requires.of.1 in
     λ t. subst (λ (o : Option Cause). IsTrue (opening_in g.L.Log.lines) s.ledger (map_id c.args.done.epoch c.args.done.number) o) (sym c.split_fed-fed.ensures.cause)
     (subst (λ (e : ℕ). IsTrue (opening_in g.L.Log.lines) s.ledger (map_id e c.args.done.number) f) (sym m.1)
-    (map_right g.D.Disk.tells g.L.Log.tells g.L.Log.lines g.L.Log.available g.L.Log.answers g.L.Log.faults g.D.Disk.history g.D.Stage.Stage.written g.D.Stage.Stage.sealed s.ledger s.load c.self.invariant c.is_legal.ensures.legal c.is_in_order.ensures c.requires.of.0 c.args.done of c.requires.of.2 c.tasks_have_terms.ensures.faults m.0 t))
+    (map_right g.D.Disk.tells g.L.Log.tells g.D.Disk.history g.L.Log.lines g.L.Log.available g.L.Log.answers g.L.Log.faults g.D.Stage.Stage.written g.D.Stage.Stage.sealed s.ledger s.load c.self.invariant c.is_legal.ensures.legal c.is_in_order.ensures c.requires.of.0 c.args.done of c.requires.of.2 c.tasks_have_terms.ensures.faults m.0 t))
 
 pub invariant_of-self : goal.invariant_of-self
 invariant_of-self g c =
@@ -43,15 +43,15 @@ invariant_of-self g c =
     let i = c.args.done.number in
     let f = fault_of (cause_of_feed c.args.done.stream c.args.done.part) c.args.done.outcome in
     let m = subst (λ (x : Shown g.row.D.Denot (Round g.row.L.Denot)). May x.scope x.core (entry.Report (map_id c.args.done.epoch i) f)) (sym c.self.view_is) c.requires.may in
-    let of = subst (λ (x : Shown g.row.D.Denot (Round g.row.L.Denot)). IsMapOf g.D.Disk.tells g.L.Log.tells g.L.Log.lines g.L.Log.available g.L.Log.answers g.L.Log.faults x c.requires.of.0) (sym c.self.view_is) c.requires.of.1 in
-    let old = old_source s.ledger.core s.load.sources.items i (c.is_in_order.ensures.sound.maps ∙ sym (sources_count _ _ _ _ _ _ _ _ _ _ c.self.invariant g.D.Disk.history c.is_legal.ensures.legal c.is_in_order.ensures)) m.2 in
+    let of = subst (λ (x : Shown g.row.D.Denot (Round g.row.L.Denot)). IsMapOf g.D.Disk.tells g.L.Log.tells g.D.Disk.history g.L.Log.lines g.L.Log.available g.L.Log.answers g.L.Log.faults x c.requires.of.0) (sym c.self.view_is) c.requires.of.1 in
+    let old = old_source s.ledger.core s.load.sources.items i (c.is_in_order.ensures.sound.maps ∙ sym (sources_count _ _ _ _ _ _ _ _ _ _ _ c.self.invariant c.is_legal.ensures.legal c.is_in_order.ensures)) m.2 in
     let same = c.index_mut-source.ensures.value ∙ at_get s.load.sources.items i old.0 _ old.1 in
     let x : Source g.row.L.Denot = record { stream = c.index_mut-source.result.now.stream; part = c.index_mut-source.result.now.part; from = c.index_mut-source.result.now.from; log = Some c.args.done.log; fed = c.split_fed-fed.result.0 } in
     let n : Load g.row.L.Denot g.row.D-Stage.Denot g.row.D-Stage-Sealed.Denot = record { view = s.load.view; plans = s.load.plans; sources = with_item s.load.sources i x; shares = s.load.shares; held = s.load.held; out = s.load.out; seen = s.load.seen; pending = s.load.pending; told = s.load.told; kept = s.load.kept } in
-    let held = map_back g.D.Disk.tells g.L.Log.tells g.L.Log.lines g.L.Log.available g.L.Log.answers g.L.Log.faults g.D.Disk.history g.D.Stage.Stage.written g.D.Stage.Stage.sealed s.ledger s.load c.self.invariant c.is_legal.ensures.legal c.is_in_order.ensures c.requires.of.0 c.args.done of c.requires.of.2
+    let held = map_back g.D.Disk.tells g.L.Log.tells g.D.Disk.history g.L.Log.lines g.L.Log.available g.L.Log.answers g.L.Log.faults g.D.Stage.Stage.written g.D.Stage.Stage.sealed s.ledger s.load c.self.invariant c.is_legal.ensures.legal c.is_in_order.ensures c.requires.of.0 c.args.done of c.requires.of.2
     old.0 x m old.1 (ap (λ z. z.stream) same) (ap (λ z. z.part) same) (ap (λ z. z.from) same) refl c.split_fed-fed.ensures.brought in
-    let faulty = map_faulty g.D.Disk.tells g.L.Log.tells g.L.Log.lines g.L.Log.available g.L.Log.answers g.L.Log.faults g.D.Disk.history g.D.Stage.Stage.written g.D.Stage.Stage.sealed s.ledger s.load c.self.invariant c.is_legal.ensures.legal c.is_in_order.ensures c.requires.of.0 c.args.done of c.requires.of.2
+    let faulty = map_faulty g.D.Disk.tells g.L.Log.tells g.D.Disk.history g.L.Log.lines g.L.Log.available g.L.Log.answers g.L.Log.faults g.D.Stage.Stage.written g.D.Stage.Stage.sealed s.ledger s.load c.self.invariant c.is_legal.ensures.legal c.is_in_order.ensures c.requires.of.0 c.args.done of c.requires.of.2
     old.0 x m old.1 refl in
     let reported = c.report.ensures.did ∙ ap (λ o. did s.ledger s.ledger.disk (entry.Report (map_id c.args.done.epoch i) o ∷ [])) c.split_fed-fed.ensures.cause in
-    subst (λ (y : Shown g.row.D.Denot (Round g.row.L.Denot)). IsWhole g.D.Disk.tells g.L.Log.tells g.L.Log.lines g.L.Log.available g.L.Log.answers g.L.Log.faults g.D.Stage.Stage.written g.D.Stage.Stage.sealed y n) (sym reported)
-    (moved_whole _ _ _ _ _ _ _ _ s.ledger s.load c.self.invariant s.ledger.disk (entry.Report (map_id c.args.done.epoch i) f) n (λ cuts k. refl) refl refl refl refl c.self.invariant.told c.self.invariant.told_room faulty held)
+    subst (λ (y : Shown g.row.D.Denot (Round g.row.L.Denot)). IsWhole g.D.Disk.tells g.L.Log.tells g.D.Disk.history g.L.Log.lines g.L.Log.available g.L.Log.answers g.L.Log.faults g.D.Stage.Stage.written g.D.Stage.Stage.sealed y n) (sym reported)
+    (moved_whole _ _ _ _ _ _ _ _ _ s.ledger s.load c.self.invariant s.ledger.disk (entry.Report (map_id c.args.done.epoch i) f) n (λ cuts k. refl) refl refl refl refl c.self.invariant.told c.self.invariant.told_room faulty held)

@@ -12,8 +12,8 @@ use Rattle.ssq_desk.proofs.desk.Desk.take_left.Goals as goal
 pub invariant_of-self : goal.invariant_of-self
 invariant_of-self g c =
     let s = c.self.inside in
-    subst (λ (x : Shown g.row.D.Denot (Round g.row.L.Denot)). IsWhole g.D.Disk.tells g.L.Log.tells g.L.Log.lines g.L.Log.available g.L.Log.answers g.L.Log.faults g.D.Stage.Stage.written g.D.Stage.Stage.sealed x s.load) (sym c.discard.ensures.did)
-    (still_whole _ _ _ _ _ _ _ _ s.ledger s.load c.self.invariant c.discard.new.ledger.disk)
+    subst (λ (x : Shown g.row.D.Denot (Round g.row.L.Denot)). IsWhole g.D.Disk.tells g.L.Log.tells g.D.Disk.history g.L.Log.lines g.L.Log.available g.L.Log.answers g.L.Log.faults g.D.Stage.Stage.written g.D.Stage.Stage.sealed x s.load) (sym c.discard.ensures.did)
+    (still_whole _ _ _ _ _ _ _ _ _ s.ledger s.load c.self.invariant c.discard.new.ledger.disk)
 
 pub returns-clause-cause : goal.returns-clause-cause
 returns-clause-cause g c =

@@ -23,4 +23,4 @@ invariant_of-self g c =
     let s = c.self.inside in
     let m : May s.scope s.board (entry.Claim c.args.id) = subst (λ (x : Shown g.row.D.Denot g.row.O.Denot). May x.scope x.core (entry.Claim c.args.id)) (sym c.self.view_is) c.requires in
     let kept : s.entries.cap ≤ c.push_reserved.new.self.cap = (let k = c.push_reserved.ensures.capacity in omega arith) in
-    spent_both _ _ _ _ _ _ _ _ c.self.invariant.0 _ c.self.invariant.1 _ _ _ _ (entry.Claim c.args.id) refl refl m (λ t. refl) (λ t. tt) c.claim.ensures c.push_reserved.ensures.items kept
+    spent_both _ _ _ _ _ _ _ _ c.self.invariant.0 _ _ c.self.invariant.1 _ _ _ _ (entry.Claim c.args.id) refl refl m (λ t. refl) (λ t. tt) c.claim.ensures c.push_reserved.ensures.items kept kept

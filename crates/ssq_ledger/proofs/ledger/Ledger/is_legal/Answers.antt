@@ -11,15 +11,15 @@ use Rattle.ssq_ledger.proofs.ledger.Ledger.is_legal.Goals as goal
 pub returns-clause-legal : goal.returns-clause-legal
 returns-clause-legal g c =
     let d = c.self.invariant.0 in
-    subst (λ (x : Shown g.row.D.Denot g.row.O.Denot). IsLegal (g.D.Disk.tells × g.O.Opening.tells x.opening x.scope) g.D.Disk.history g.O.Opening.opening x) c.self.view_is (d.until, d.is_disk, d.leads)
+    subst (λ (x : Shown g.row.D.Denot g.row.O.Denot). IsLegal (g.D.Disk.tells × g.O.Opening.tells x.opening x.scope (g.D.Disk.history x.opened)) g.D.Disk.history g.O.Opening.opening x) c.self.view_is (d.until, d.is_disk, d.leads)
 
 pub returns-clause-here : goal.returns-clause-here
 returns-clause-here g c =
     let s = c.self.inside in
     let d = c.self.invariant.0 in
     let o = g.O.Opening.opening s.opening.value in
-    let tells = g.D.Disk.tells × g.O.Opening.tells s.opening.value s.scope in
-    subst (λ (x : Shown g.row.D.Denot g.row.O.Denot). g.D.Disk.tells × g.O.Opening.tells x.opening x.scope → LeadsHere (g.D.Disk.tells × g.O.Opening.tells x.opening x.scope) g.D.Disk.history g.O.Opening.opening x) c.self.view_is
+    let tells = g.D.Disk.tells × g.O.Opening.tells s.opening.value s.scope (g.D.Disk.history s.opened.value) in
+    subst (λ (x : Shown g.row.D.Denot g.row.O.Denot). g.D.Disk.tells × g.O.Opening.tells x.opening x.scope (g.D.Disk.history x.opened) → LeadsHere (g.D.Disk.tells × g.O.Opening.tells x.opening x.scope (g.D.Disk.history x.opened)) g.D.Disk.history g.O.Opening.opening x) c.self.view_is
     (λ t. subst (λ (h : History). Leads tells o.job s.scope o.due (first_state o s.scope (g.D.Disk.history s.opened.value)) s.entries.items (state h s.board (shelf_after o s.scope s.entries.items) (cuts_after o s.scope s.entries.items))) (d.is_disk t) d.leads)
 
 pub returns-clause-core : goal.returns-clause-core

@@ -35,11 +35,11 @@ invariant_of-self g c =
     let e = entry.OutFile c.front-epoch.result.committed in
     let m : May s.scope s.board (entry.OutFile s.board.front.committed) = subst (λ (x : Shown g.row.D.Denot g.row.O.Denot). May x.scope x.core (entry.OutFile x.core.front.committed)) (sym c.self.view_is) c.requires.may in
     let m' : May s.scope s.board e = (m.0, epoch, m.2, m.3, m.4) in
-    let right : g.D.Disk.tells × g.O.Opening.tells s.opening.value s.scope → g.D.Stage.Stage.sealed c.args.file ≡ truth (o.job.course (cuts_after o s.scope s.entries.items)) (name.Out c.front-epoch.result.committed) =
-    (λ t. subst (λ (x : Shown g.row.D.Denot g.row.O.Denot). g.D.Disk.tells × g.O.Opening.tells x.opening x.scope → g.D.Stage.Stage.sealed c.args.file ≡ truth ((g.O.Opening.opening x.opening).job.course (cuts_of g.O.Opening.opening x)) (name.Out x.core.front.committed)) (sym c.self.view_is) c.requires.right t
+    let right : g.D.Disk.tells × g.O.Opening.tells s.opening.value s.scope (g.D.Disk.history s.opened.value) → g.D.Stage.Stage.sealed c.args.file ≡ truth (o.job.course (cuts_after o s.scope s.entries.items)) (name.Out c.front-epoch.result.committed) =
+    (λ t. subst (λ (x : Shown g.row.D.Denot g.row.O.Denot). g.D.Disk.tells × g.O.Opening.tells x.opening x.scope (g.D.Disk.history x.opened) → g.D.Stage.Stage.sealed c.args.file ≡ truth ((g.O.Opening.opening x.opening).job.course (cuts_of g.O.Opening.opening x)) (name.Out x.core.front.committed)) (sym c.self.view_is) c.requires.right t
     ∙ ap (λ n. truth (o.job.course (cuts_after o s.scope s.entries.items)) (name.Out n)) (sym epoch)) in
     let kept : s.entries.cap ≤ c.push_reserved.new.self.cap = (let k = c.push_reserved.ensures.capacity in omega arith) in
-    spent_both _ _ _ _ _ _ _ _ c.self.invariant.0 _ c.self.invariant.1 _ _ _ _ e refl refl m' (λ t. went (name.Out c.front-epoch.result.committed) _ _ _ _ (right t) (c.publish.ensures.steps t.0) (c.in-Ok.ensures.ok t.0)) (λ t. tt) c.write.ensures c.push_reserved.ensures.items kept
+    spent_both _ _ _ _ _ _ _ _ c.self.invariant.0 _ _ c.self.invariant.1 _ _ _ _ e refl refl m' (λ t. went (name.Out c.front-epoch.result.committed) _ _ _ _ (right t) (c.publish.ensures.steps t.0) (c.in-Ok.ensures.ok t.0)) (λ t. tt) c.write.ensures c.push_reserved.ensures.items kept kept
 
 pub invariant_of-self-in-Err : goal.invariant_of-self-in-Err
 invariant_of-self-in-Err g c =
@@ -49,10 +49,10 @@ invariant_of-self-in-Err g c =
     let e = entry.OutFile c.front-epoch.result.committed in
     let m : May s.scope s.board (entry.OutFile s.board.front.committed) = subst (λ (x : Shown g.row.D.Denot g.row.O.Denot). May x.scope x.core (entry.OutFile x.core.front.committed)) (sym c.self.view_is) c.requires.may in
     let m' : May s.scope s.board e = (m.0, epoch, m.2, m.3, m.4) in
-    let right : g.D.Disk.tells × g.O.Opening.tells s.opening.value s.scope → g.D.Stage.Stage.sealed c.args.file ≡ truth (o.job.course (cuts_after o s.scope s.entries.items)) (name.Out c.front-epoch.result.committed) =
-    (λ t. subst (λ (x : Shown g.row.D.Denot g.row.O.Denot). g.D.Disk.tells × g.O.Opening.tells x.opening x.scope → g.D.Stage.Stage.sealed c.args.file ≡ truth ((g.O.Opening.opening x.opening).job.course (cuts_of g.O.Opening.opening x)) (name.Out x.core.front.committed)) (sym c.self.view_is) c.requires.right t
+    let right : g.D.Disk.tells × g.O.Opening.tells s.opening.value s.scope (g.D.Disk.history s.opened.value) → g.D.Stage.Stage.sealed c.args.file ≡ truth (o.job.course (cuts_after o s.scope s.entries.items)) (name.Out c.front-epoch.result.committed) =
+    (λ t. subst (λ (x : Shown g.row.D.Denot g.row.O.Denot). g.D.Disk.tells × g.O.Opening.tells x.opening x.scope (g.D.Disk.history x.opened) → g.D.Stage.Stage.sealed c.args.file ≡ truth ((g.O.Opening.opening x.opening).job.course (cuts_of g.O.Opening.opening x)) (name.Out x.core.front.committed)) (sym c.self.view_is) c.requires.right t
     ∙ ap (λ n. truth (o.job.course (cuts_after o s.scope s.entries.items)) (name.Out n)) (sym epoch)) in
     let kept : s.entries.cap ≤ c.halt.new.entries.cap = (let k = c.halt.ensures.capacity in omega arith) in
-    spent_both _ _ _ _ _ _ _ _ c.self.invariant.0 _ c.self.invariant.1 _ _ _ _ (entry.Stop cause.DiskFault) refl refl (m.0, tt)
+    spent_both _ _ _ _ _ _ _ _ c.self.invariant.0 _ _ c.self.invariant.1 _ _ _ _ (entry.Stop cause.DiskFault) refl refl (m.0, tt)
     (λ t. (publishes (name.Out c.front-epoch.result.committed) (truth (o.job.course (cuts_after o s.scope s.entries.items)) (name.Out c.front-epoch.result.committed)), inr (e, m', refl, refl), tried (name.Out c.front-epoch.result.committed) _ _ _ _ (right t) (c.publish.ensures.steps t.0)))
-    (λ t. tt) c.halt.ensures.board c.halt.ensures.items kept
+    (λ t. tt) c.halt.ensures.board c.halt.ensures.items kept kept

@@ -26,12 +26,12 @@ invariant_of-self g c =
     let e = entry.Report c.args.id c.args.fault in
     let m : May s.scope s.board e = subst (λ (x : Shown g.row.D.Denot g.row.O.Denot). May x.scope x.core e) (sym c.self.view_is) c.requires.may in
     let kept : s.entries.cap ≤ c.push_reserved.new.self.cap = (let k = c.push_reserved.ensures.capacity in omega arith) in
-    spent_both _ _ _ _ _ _ _ _ c.self.invariant.0 _ c.self.invariant.1 _ _ _ _ e refl refl m (λ t. refl)
+    spent_both _ _ _ _ _ _ _ _ c.self.invariant.0 _ _ c.self.invariant.1 _ _ _ _ e refl refl m (λ t. refl)
     (λ t. (
-      subst (λ (x : Shown g.row.D.Denot g.row.O.Denot). g.D.Disk.tells × g.O.Opening.tells x.opening x.scope → IsTrue g.O.Opening.opening x c.args.id c.args.fault) (sym c.self.view_is) c.requires.right t,
-      subst (λ (x : Shown g.row.D.Denot g.row.O.Denot). g.D.Disk.tells × g.O.Opening.tells x.opening x.scope → HasNone g.O.Opening.opening x c.args.id c.args.fault) (sym c.self.view_is) c.requires.bare t,
+      subst (λ (x : Shown g.row.D.Denot g.row.O.Denot). g.D.Disk.tells × g.O.Opening.tells x.opening x.scope (g.D.Disk.history x.opened) → IsTrue g.O.Opening.opening x c.args.id c.args.fault) (sym c.self.view_is) c.requires.right t,
+      subst (λ (x : Shown g.row.D.Denot g.row.O.Denot). g.D.Disk.tells × g.O.Opening.tells x.opening x.scope (g.D.Disk.history x.opened) → HasNone g.O.Opening.opening x c.args.id c.args.fault) (sym c.self.view_is) c.requires.bare t,
     ))
-    (c.report-stop.ensures.now s.scope) c.push_reserved.ensures.items kept
+    (c.report-stop.ensures.now s.scope) c.push_reserved.ensures.items kept kept
 
 pub returns-clause-did : goal.returns-clause-did
 returns-clause-did g c =

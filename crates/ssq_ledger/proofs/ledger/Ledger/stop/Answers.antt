@@ -18,4 +18,4 @@ invariant_of-self g c =
     let s = c.self.inside in
     let m : May s.scope s.board (entry.Stop c.args.cause) = subst (λ (x : Shown g.row.D.Denot g.row.O.Denot). May x.scope x.core (entry.Stop c.args.cause)) (sym c.self.view_is) (c.requires.running, c.requires.cause) in
     let kept : s.entries.cap ≤ c.halt.new.entries.cap = (let k = c.halt.ensures.capacity in omega arith) in
-    spent_both _ _ _ _ _ _ _ _ c.self.invariant.0 _ c.self.invariant.1 _ _ _ _ (entry.Stop c.args.cause) refl refl m (λ t. (nothing, inl refl, refl)) (λ t. tt) c.halt.ensures.board c.halt.ensures.items kept
+    spent_both _ _ _ _ _ _ _ _ c.self.invariant.0 _ _ c.self.invariant.1 _ _ _ _ (entry.Stop c.args.cause) refl refl m (λ t. (nothing, inl refl, refl)) (λ t. tt) c.halt.ensures.board c.halt.ensures.items kept kept

@@ -1,4 +1,6 @@
-use Rattle.std.proofs.Common.{◌≡◌, ◌≤◌, ◌<◌, length, List, ◌++◌, ◌∷◌, [], None, sym, ap, ◌∙◌, refl, subst, inl, inr, arith}
+use Rattle.std.proofs.Common.{◌≡◌, ◌≤◌, ◌<◌, length, List, ◌++◌, ◌∷◌, [], None, sym, ap, ◌∙◌, refl, subst, inl, inr, le_refl, arith}
+use Rattle.std.specs.Global.{Vec}
+use Rattle.ssq_outside.specs.declared.name.Name.{Name}
 use Rattle.ssq_core.specs.Machine.{nothing, syncs}
 use Rattle.ssq_board.specs.declared.front.Cause.TheVariants as cause
 use Rattle.ssq_board.specs.declared.front.Entry.{Entry}
@@ -54,7 +56,7 @@ invariant_of-self g c =
     let running : s.board.front.stop ≡ None = ap (λ (x : Shown g.row.D.Denot g.row.O.Denot). x.core.front.stop) c.self.view_is ∙ c.requires in
     let items = c.halt.ensures.items ∙ ap (λ (l : List Entry). l ++ entry.Stop cause.NoMemory ∷ []) c.make_sync_room.ensures.items in
     let kept : s.entries.cap ≤ c.halt.new.entries.cap = (let k = c.halt.ensures.capacity in let q : s.entries.cap ≤ c.make_sync_room.new.entries.cap = c.make_sync_room.ensures.kept in omega arith) in
-    spent_both _ _ _ _ _ _ _ _ c.self.invariant.0 _ (made_settled _ _ _ _ _ c.self.invariant.1 c.make_sync_room.ensures.names) _ _ _ _ (entry.Stop cause.NoMemory) refl refl (running, tt) (λ t. (nothing, inl refl, refl)) (λ t. tt) c.halt.ensures.board items kept
+    spent_both _ _ _ _ _ _ _ _ c.self.invariant.0 _ _ (made_settled _ _ _ _ _ _ _ _ c.self.invariant.1 c.make_sync_room.ensures.names (le_refl s.entries.cap)) _ _ _ _ (entry.Stop cause.NoMemory) refl refl (running, tt) (λ t. (nothing, inl refl, refl)) (λ t. tt) c.halt.ensures.board items kept kept
 
 pub invariant_of-self-in-Ok : goal.invariant_of-self-in-Ok
 invariant_of-self-in-Ok g c =
@@ -68,7 +70,8 @@ invariant_of-self-in-Ok g c =
     let same = ap need c.settle.ensures ∙ need_sync s.scope s.board c.clock-clock.result running in (
       one _ _ _ _ _ _ _ _ c.self.invariant.0 _ _ _ _ e running tt (λ t. ((c.sync_names.ensures.steps t.0, c.in-Ok.ensures.ok t.0), c.clock-clock.ensures)) (λ t. tt) c.settle.ensures items
           (let k = c.push_reserved.ensures.capacity in omega arith),
-      sync_shelved _ _ _ _ _ _ _ _ c.self.invariant.0 _ (made_settled _ _ _ _ _ c.self.invariant.1 c.make_sync_room.ensures.names) c.clock-clock.result c.settle.new.self _ _ same items c.settle-in-Ok.ensures.settled c.settle-in-Ok.ensures.news c.settle-in-Ok.ensures.capacity refl refl,
+      sync_shelved _ _ _ _ _ _ _ _ c.self.invariant.0 _ _ (made_settled _ _ _ _ _ _ _ _ c.self.invariant.1 c.make_sync_room.ensures.names (le_refl s.entries.cap)) c.clock-clock.result c.settle.new.self _ _ _ same items c.settle-in-Ok.ensures.settled c.settle-in-Ok.ensures.news c.settle-in-Ok.ensures.capacity refl refl
+          (let k = c.push_reserved.ensures.capacity in let same_claimed = ap (λ (v : Vec Name). length v.items) c.make_sync_room.ensures.names.claimed in omega arith),
     )
 
 pub invariant_of-self-in-Err : goal.invariant_of-self-in-Err
@@ -77,7 +80,7 @@ invariant_of-self-in-Err g c =
     let running : s.board.front.stop ≡ None = ap (λ (x : Shown g.row.D.Denot g.row.O.Denot). x.core.front.stop) c.self.view_is ∙ c.requires in
     let items = c.halt-in-Err.ensures.items ∙ ap (λ (l : List Entry). l ++ entry.Stop cause.DiskFault ∷ []) c.make_sync_room.ensures.items in
     let kept : s.entries.cap ≤ c.halt-in-Err.new.entries.cap = (let k = c.halt-in-Err.ensures.capacity in let q : s.entries.cap ≤ c.make_sync_room.new.entries.cap = c.make_sync_room.ensures.kept in omega arith) in
-    spent_both _ _ _ _ _ _ _ _ c.self.invariant.0 _ (made_settled _ _ _ _ _ c.self.invariant.1 c.make_sync_room.ensures.names) _ _ _ _ (entry.Stop cause.DiskFault) refl refl (running, tt) (λ t. (syncs, inr (entry.Sync 0, running, refl, refl), c.sync_names.ensures.steps t.0)) (λ t. tt) c.halt-in-Err.ensures.board items kept
+    spent_both _ _ _ _ _ _ _ _ c.self.invariant.0 _ _ (made_settled _ _ _ _ _ _ _ _ c.self.invariant.1 c.make_sync_room.ensures.names (le_refl s.entries.cap)) _ _ _ _ (entry.Stop cause.DiskFault) refl refl (running, tt) (λ t. (syncs, inr (entry.Sync 0, running, refl, refl), c.sync_names.ensures.steps t.0)) (λ t. tt) c.halt-in-Err.ensures.board items kept kept
 
 pub settle-requires-in-Ok : goal.settle-requires-in-Ok
 settle-requires-in-Ok g c = c.in-Some.ensures.names.room

@@ -1,0 +1,195 @@
+-- A snapshot that is handed out, and that comes back.
+use Rattle.std.proofs.Common.{◌≡◌, ◌⊎◌, ◌<◌, ◌≤◌, ◌+◌, ◌++◌, ◌||◌, ℕ, Bool, true, false, List, [], ◌∷◌, All, Option, Some, None, IfSome, Result, Ok, Err, IfOk, IfErr, sym, refl, ap, ◌∙◌, subst, inl, inr, arith}
+use Rattle.ssq_outside.specs.declared.name.Name.{Name}
+use Rattle.ssq_outside.specs.declared.name.Name.TheVariants as name
+use Rattle.ssq_outside.specs.Faults.{Rises}
+use Rattle.ssq_outside.specs.Files.{Files, same_name}
+use Rattle.ssq_outside.specs.History.{History, files_now}
+use Rattle.ssq_outside.proofs.Names.{same_name-same}
+use Rattle.ssq_upkeep.specs.Upkeep.{IsDue, IsNext, is_among}
+use Rattle.ssq_meaning.specs.Meaning.{Line}
+use Rattle.ssq_store.specs.declared.fault.SnapshotFault.{SnapshotFault}
+use Rattle.ssq_store.specs.Loaded.{files_in, IsDamaged}
+use Rattle.ssq_board.specs.declared.front.Cause.{Cause}
+use Rattle.ssq_board.specs.declared.front.Cause.TheVariants as cause
+use Rattle.ssq_board.specs.declared.front.Entry.{Entry}
+use Rattle.ssq_board.specs.declared.front.Entry.TheVariants as entry
+use Rattle.ssq_board.specs.Core.{Scope, Core, is_stopped}
+use Rattle.ssq_board.specs.Rounds.{IsAtRest}
+use Rattle.ssq_board.specs.Shelf.{Shelf, asked_in, last_of, there_in}
+use Rattle.ssq_board.proofs.Keeping.{or_left}
+use Rattle.ssq_ledger.specs.Shown.{Opening, Shown, HasRisen, did, shelf_of}
+use Rattle.ssq_ledger.specs.Upkept.{IsTaken, NoneIsDue}
+use Rattle.ssq_desk.specs.declared.round.Round.{Round}
+use Rattle.ssq_desk.specs.declared.upkeep.UpkeepTask.{UpkeepTask}
+use Rattle.ssq_desk.specs.Round.{Owns}
+use Rattle.ssq_desk.specs.Upkeep.{FailsFor, AreReadFor, IsHandedOut, IsMalformed, IsMissing, IsReadBy, IsTakenBack, cause_of_snapshot, names_in}
+use Rattle.ssq_desk.specs.Whole.{opening_in}
+use Rattle.ssq_drive.specs.Damaged.{HasDamaged, IsDamagedIn}
+use Rattle.ssq_drive.specs.Driven.{StopsFor, IsMade, KeepsUp, unmade}
+use Rattle.ssq_drive.specs.Good.{IsGood}
+use Rattle.ssq_drive.proofs.Dueness.{among_second}
+use Rattle.ssq_drive.proofs.Going.{did_more, earlier}
+use Rattle.ssq_drive.proofs.Goods.{good_on}
+use Rattle.ssq_drive.proofs.KeepLemmas.{IsLed, fails_stop, keeps_made, keeps_stop, keeps_still, keeps_unmade, keeps_untaken, made_less, or_stopped, shelf_did}
+
+-- the disk is as it was
+pub still : {D O : Type 0} (old new : Shown D O) (es : List Entry) → new ≡ did old old.disk es → new ≡ did old new.disk es
+still {D} old new es is = is ∙ ap (λ (d : D). did old d es) (sym (ap (λ s. s.disk) is))
+
+err_ok : {A : Type 0} {f : Cause} {a : A} → ◌≡◌ {A = Result A Cause} (Err f) (Ok a) → ⊥
+err_ok e = cc
+
+same_cause : {A : Type 0} (f g : Cause) → ◌≡◌ {A = Result A Cause} (Err f) (Err g) → f ≡ g
+same_cause {A} f g is = ap or is
+  where
+    or : Result A Cause → Cause
+    or (Ok a) = f
+    or (Err x) = x
+
+risen_from : (before mid now : ℕ) → before ≤ mid → Rises mid now → Rises before now
+risen_from before mid now le risen = omega (arith, le, risen)
+
+module _ {D L : Type 0} (stores logs : Type 0) (history : D → History) (lines : L → List Line) (faults : D → ℕ) (closing : Bool) (keeping : ℕ) (old : Shown D (Round L)) (running : old.core.front.stop ≡ None) (rest : IsAtRest old.core) where
+  abbrev pub P : Shown D (Round L) → Name → Type 0
+  P = HasDamaged stores logs history lines
+
+  abbrev pub k : Shelf
+  k = shelf_of (opening_in lines) old
+
+  -- a file that is not there is damaged
+  missing : (new : Shown D (Round L)) (es : List Entry) → new ≡ did old new.disk es → (stores → history new.disk ≡ history old.disk) → (p v : ℕ) (q : Name)
+      → IsMissing stores (Owns stores logs history lines old) (files_now (history old.disk)) p v (there_in k) q → P new q
+  missing new es is same p v q (unread, never) = (
+    subst (λ (x : Shown D (Round L)). Owns stores logs history lines x → ⊥) (sym is) never,
+    λ t. record {
+      partition = p;
+      version = v;
+      below = unread.below;
+      needed = unread.among;
+      is = inl (subst (λ (h : History). files_now h q ≡ None) (sym (same t)) (unread.absent t));
+    },
+  )
+
+  -- and one of those that were read, where it is not the canonical one
+  malformed : {S : Type 0} (new : Shown D (Round L)) (es : List Entry) → new ≡ did old new.disk es → (stores → history new.disk ≡ history old.disk) → (task : UpkeepTask S)
+      → AreReadFor stores (files_now (history old.disk)) (there_in k) task → (q : Name) → is_among (names_in task.files.items) q ≡ true → IsDamaged (files_in task.files.items) task.partition (task.version + 1) q
+      → (Owns stores logs history lines old → ⊥) → P new q
+  malformed new es is same task read q among damaged never = (
+    subst (λ (x : Shown D (Round L)). Owns stores logs history lines x → ⊥) (sym is) never,
+    λ t. record {
+      partition = task.partition;
+      version = task.version;
+      below = read.below;
+      needed = subst (λ (l : List Name). is_among l q ≡ true) read.are among;
+      is = inr (
+        task.files.items,
+        read.are,
+        subst (λ (h : History). All (λ file. files_now h file.0 ≡ Some file.1) task.files.items) (sym (same t)) (read.found t),
+        damaged,
+      );
+    },
+  )
+
+  -- upkeep failed, and the desk is stopped
+  pub record Failed (new : Shown D (Round L)) : Type 0 where
+    pub kept : KeepsUp faults P closing old new
+    pub stopped : is_stopped new.core.front.stop ≡ true
+    pub good : IsGood lines old → IsGood lines new
+
+  -- none was due
+  pub none_handed : (mid : Shown D (Round L)) → (mid ≡ old) × NoneIsDue keeping old.core k → KeepsUp faults P closing old mid
+  none_handed mid none = keeps_still faults P closing old mid none.0 rest
+
+  -- none could be begun
+  pub unhanded : (S : Type 0) (mid : Shown D (Round L)) (f : Cause) → IsHandedOut (opening_in lines) {S = S} keeping (λ p v. IsMissing stores (Owns stores logs history lines old) (files_now (history old.disk)) p v (there_in k)) (faults old.disk) (faults mid.disk) old mid (Err f)
+      → (stores → history mid.disk ≡ history old.disk) → faults old.disk ≤ faults mid.disk → Failed mid
+  unhanded S mid f (inl (same, is)) still_so counted =
+      let here = still old mid (entry.Stop f ∷ []) is in
+      record {
+        kept = keeps_stop faults P closing old mid f here running rest (subst (λ (x : Cause). HasRisen x (faults old.disk) (faults mid.disk)) (sym same) tt) counted;
+        stopped = ap (λ (s : Shown D (Round L)). is_stopped s.core.front.stop) is;
+        good = λ good. good_on lines old mid (entry.Stop f ∷ []) here (tt, tt) good;
+      }
+  unhanded S mid f (inr (p, v, due, is, why)) still_so counted = record {
+    kept = keeps_unmade faults P closing old mid p v f is running rest
+        (fails_stop (IsMissing stores (Owns stores logs history lines old) (files_now (history old.disk)) p v (there_in k)) (P mid) old.scope mid.core (faults old.disk) (faults mid.disk) f (λ q bad. missing mid (entry.Upkeep p v ∷ entry.Unmade p v f ∷ []) is still_so p v q bad) why) counted;
+    stopped = ap (λ (s : Shown D (Round L)). is_stopped s.core.front.stop) is ∙ or_stopped old.core.front.stop f;
+    good = λ good. good_on lines old mid (entry.Upkeep p v ∷ entry.Unmade p v f ∷ []) is (tt, (tt, tt)) good;
+  }
+
+  module _ {S : Type 0} (mid : Shown D (Round L)) where
+    -- what a snapshot that was handed out came to
+    module _ (task : UpkeepTask S) (claimed : mid ≡ did old mid.disk (entry.Upkeep task.partition task.version ∷ [])) (first : faults old.disk ≤ faults mid.disk) (read : AreReadFor stores (files_now (history old.disk)) (there_in k) task)
+        (same_mid : stores → history mid.disk ≡ history old.disk) where
+      abbrev pub p : ℕ
+      p = task.partition
+
+      abbrev pub v : ℕ
+      v = task.version
+
+      -- it is being made
+      pub is_claimed : (i w : ℕ) → i ≡ p → w ≡ v → is_among (shelf_of (opening_in lines) mid).claimed (name.Snapshot i w) ≡ true
+      is_claimed i w here now =
+          subst (λ (x : ℕ). is_among (shelf_of (opening_in lines) mid).claimed (name.Snapshot x w) ≡ true) (sym here) (subst (λ (y : ℕ). is_among (shelf_of (opening_in lines) mid).claimed (name.Snapshot p y) ≡ true) (sym now)
+          (ap (λ (s : Shelf). is_among s.claimed (name.Snapshot p v)) (shelf_did (opening_in lines) old mid (entry.Upkeep p v) claimed)
+          ∙ among_second k.claimed (name.Snapshot p v ∷ []) (name.Snapshot p v) (or_left (same_name (name.Snapshot p v) (name.Snapshot p v)) false (same_name-same (name.Snapshot p v)))))
+
+      module _ {F : Type 0} (new : Shown D (Round L)) (i w : ℕ) (here : i ≡ p) (now : w ≡ v) (outcome : Result F (S × SnapshotFault)) (later : faults mid.disk ≤ faults new.disk) where
+        counted : faults old.disk ≤ faults new.disk
+        counted = omega (arith, first, later)
+
+        there : (result : Result (Unit {0}) Cause) (risen : Type 0) → IsTakenBack mid new i w outcome result risen → IsTakenBack mid new p v outcome result risen
+        there result risen taken = subst (λ (x : ℕ). IsTakenBack mid new x v outcome result risen) here (subst (λ (y : ℕ). IsTakenBack mid new i y outcome result risen) now taken)
+
+        both : (e : Entry) → new ≡ did mid new.disk (e ∷ []) → new ≡ did old new.disk (entry.Upkeep p v ∷ e ∷ [])
+        both e is = did_more old mid new (entry.Upkeep p v ∷ []) (e ∷ []) claimed is
+
+        -- it was not made
+        pub untaken : (f : Cause) → IsTakenBack mid new i w outcome (Err f) (Rises (faults mid.disk) (faults new.disk)) → FailsFor (IsMalformed (Owns stores logs history lines mid) task.files.items task.partition task.version) (faults mid.disk) (faults new.disk) f
+            → (stores → IfErr outcome (λ failed. history new.disk ≡ history mid.disk)) → Failed new
+        untaken f taken why same = by outcome (there (Err f) (Rises (faults mid.disk) (faults new.disk)) taken) same
+          where
+            not_owned : (Owns stores logs history lines mid → ⊥) → Owns stores logs history lines old → ⊥
+            not_owned never = subst (λ (x : Shown D (Round L)). Owns stores logs history lines x → ⊥) claimed never
+
+            by : (outcome : Result F (S × SnapshotFault)) → IsTakenBack mid new p v outcome (Err f) (Rises (faults mid.disk) (faults new.disk)) → (stores → IfErr outcome (λ failed. history new.disk ≡ history mid.disk)) → Failed new
+            by (Ok file) (inl (is, ok)) same = absurd (err_ok ok)
+            by (Ok file) (inr (run, is, told, risen)) same =
+                let all = both (entry.Untaken p v) is in
+                record {
+                  kept = keeps_untaken faults P closing old new p v all running rest (risen_from (faults old.disk) (faults mid.disk) (faults new.disk) first risen) counted;
+                  stopped = ap (λ (s : Shown D (Round L)). is_stopped s.core.front.stop) all;
+                  good = λ good. good_on lines old new (entry.Upkeep p v ∷ entry.Untaken p v ∷ []) all (tt, (tt, tt)) good;
+                }
+            by (Err failed) (is, told) same =
+                let g = cause_of_snapshot failed.1 in
+                let all = both (entry.Unmade p v g) is in
+                let es = entry.Upkeep p v ∷ entry.Unmade p v g ∷ [] in
+                let bad = λ (q : Name) (m : IsMalformed (Owns stores logs history lines mid) task.files.items task.partition task.version q). malformed new es all (λ t. same t ∙ same_mid t) task read q m.among m.is (not_owned m.never) in
+                record {
+                  kept = keeps_unmade faults P closing old new p v g all running rest
+                      (earlier (P new) old.scope new.core (faults old.disk) (faults mid.disk) (faults new.disk) g first
+                      (subst (StopsFor (P new) old.scope new.core (faults mid.disk) (faults new.disk)) (same_cause f g told)
+                      (fails_stop (IsMalformed (Owns stores logs history lines mid) task.files.items task.partition task.version) (P new) old.scope new.core (faults mid.disk) (faults new.disk) f bad why))) counted;
+                  stopped = ap (λ (s : Shown D (Round L)). is_stopped s.core.front.stop) all ∙ or_stopped old.core.front.stop g;
+                  good = λ good. good_on lines old new es all (tt, (tt, tt)) good;
+                }
+
+        -- it was made
+        pub taken_is : (risen : Type 0) → IsTakenBack mid new i w outcome (Ok tt) risen → new ≡ did old new.disk (entry.Upkeep p v ∷ entry.Snapshot p v ∷ [])
+        taken_is risen taken = by outcome (there (Ok tt) risen taken)
+          where
+            by : (outcome : Result F (S × SnapshotFault)) → IsTakenBack mid new p v outcome (Ok tt) risen → new ≡ did old new.disk (entry.Upkeep p v ∷ entry.Snapshot p v ∷ [])
+            by (Ok file) (inl (is, ok)) = both (entry.Snapshot p v) is
+            by (Ok file) (inr (run, is, told, rose)) = absurd (err_ok (sym told))
+            by (Err failed) (is, told) = absurd (err_ok (sym told))
+
+        pub made_kept : new ≡ did old new.disk (entry.Upkeep p v ∷ entry.Snapshot p v ∷ []) → KeepsUp faults P closing old new
+        made_kept all = keeps_made faults P closing old new p v all running rest counted
+
+        pub made_good : new ≡ did old new.disk (entry.Upkeep p v ∷ entry.Snapshot p v ∷ []) → IsGood lines old → IsGood lines new
+        made_good all good = good_on lines old new (entry.Upkeep p v ∷ entry.Snapshot p v ∷ []) all (tt, (tt, tt)) good
+
+        pub is_made : new ≡ did old new.disk (entry.Upkeep p v ∷ entry.Snapshot p v ∷ []) → IsLed (opening_in lines) old → (p < keeping) × IsNext (asked_in k) k.settled p (last_of old.core) v → IsMade (opening_in lines) keeping old new true
+        is_made all led due = (ap (λ (s : Shown D (Round L)). s.core) all, made_less (opening_in lines) old new keeping p v led running all due.0 due.1.due)

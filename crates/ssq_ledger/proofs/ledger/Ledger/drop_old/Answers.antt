@@ -1,0 +1,89 @@
+use Rattle.std.proofs.Common.{◌≡◌, ◌≤◌, ◌<◌, ◌+◌, ◌++◌, [], ◌∷◌, List, ◌-◌, Some, None, length, sym, ap, ◌∙◌, refl, subst, inl, le_refl, arith}
+use Rattle.ssq_outside.specs.declared.name.Name.TheVariants as name
+use Rattle.ssq_upkeep.specs.Upkeep.{IsLeast}
+use Rattle.ssq_board.specs.declared.front.Cause.TheVariants as cause
+use Rattle.ssq_board.specs.declared.front.Entry.{Entry}
+use Rattle.ssq_board.specs.declared.front.Entry.TheVariants as entry
+use Rattle.ssq_board.specs.Core.{Core, need}
+use Rattle.ssq_board.specs.Shelf.{there_in}
+use Rattle.ssq_ledger.specs.Shown.{Shown}
+use Rattle.ssq_board.proofs.Needs.{need_bound}
+use Rattle.ssq_core.specs.Machine.{nothing}
+use Rattle.ssq_ledger.proofs.Ledgers.{held, has_room}
+use Rattle.ssq_ledger.proofs.Shelves.{by_shelf, dropped_are, same_are, spent_both, stop_most, stops_need, upkeep_both, without_most}
+use Rattle.ssq_ledger.proofs.ledger.Ledger.drop_old.Goals as goal
+
+pub count-requires : goal.count-requires
+count-requires g c =
+    let d = held _ _ _ _ _ _ _ _ c.self.invariant.0 in
+    let few = c.self.invariant.0.few in
+    omega (arith, d.maps, d.reduces, d.outs)
+
+pub make_drop_room-requires : goal.make_drop_room-requires
+make_drop_room-requires g c =
+    let d = held _ _ _ _ _ _ _ _ c.self.invariant.0 in
+    let few = c.self.invariant.0.few in
+    let n = c.count.ensures in
+    omega (arith, d.maps, d.reduces, d.outs)
+
+pub halt-requires : goal.halt-requires
+halt-requires g c =
+    let s = c.self.inside in
+    let running : s.board.front.stop ≡ None = ap (λ (x : Shown g.row.D.Denot g.row.O.Denot). x.core.front.stop) c.self.view_is ∙ c.requires in
+    (let a = has_room _ _ _ _ _ _ _ _ c.self.invariant.0 (entry.Stop cause.NoMemory) (running, tt) refl in let b = ap length c.make_drop_room.ensures.items in let k : s.entries.cap ≤ c.make_drop_room.new.entries.cap = c.make_drop_room.ensures.kept in omega arith)
+
+pub push_reserved-requires : goal.push_reserved-requires
+push_reserved-requires g c =
+    let s = c.self.inside in
+    let room = c.in-Some-make_drop_room.ensures.room in
+    let b = ap length c.make_drop_room.ensures.items in
+    subst (λ n. n < c.make_drop_room.new.entries.cap) (sym c.make_drop_room.new.entries.ok.0) (omega (arith, room, b))
+
+pub push_reserved-requires-in-Err : goal.push_reserved-requires-in-Err
+push_reserved-requires-in-Err g c =
+    let room = c.in-Some-make_drop_room.ensures.room in
+    let b = ap length c.make_drop_room.ensures.items in
+    subst (λ n. n < c.make_drop_room.new.entries.cap) (sym c.make_drop_room.new.entries.ok.0) (omega (arith, room, b))
+
+pub invariant_of-self : goal.invariant_of-self
+invariant_of-self g c =
+    let s = c.self.inside in
+    let running : s.board.front.stop ≡ None = ap (λ (x : Shown g.row.D.Denot g.row.O.Denot). x.core.front.stop) c.self.view_is ∙ c.requires in
+    let items = c.halt.ensures.items ∙ ap (λ (l : List Entry). l ++ entry.Stop cause.NoMemory ∷ []) c.make_drop_room.ensures.items in
+    let kept : s.entries.cap ≤ c.halt.new.entries.cap = (let k = c.halt.ensures.capacity in let q : s.entries.cap ≤ c.make_drop_room.new.entries.cap = c.make_drop_room.ensures.kept in omega arith) in
+    spent_both _ _ _ _ _ _ _ _ c.self.invariant.0 _ _ c.self.invariant.1 _ _ _ _ (entry.Stop cause.NoMemory) refl refl (running, tt) (λ t. (nothing, inl refl, refl)) (λ t. tt) c.halt.ensures.board items kept kept
+
+pub invariant_of-self-in-Ok : goal.invariant_of-self-in-Ok
+invariant_of-self-in-Ok g c =
+    let s = c.self.inside in
+    let q = c.in-Some.name in
+    let running : s.board.front.stop ≡ None = ap (λ (x : Shown g.row.D.Denot g.row.O.Denot). x.core.front.stop) c.self.view_is ∙ c.requires in
+    let least = by_shelf (λ l x. IsLeast (there_in x) x.settled s.scope.partitions l q) _ _ _ _ s.names s.board c.front.result c.last_of-last.result c.self.invariant.1 c.front.ensures c.last_of-last.ensures c.in-Some.ensures in
+    let items = c.push_reserved.ensures.items ∙ ap (λ (l : List Entry). l ++ entry.Drop q ∷ []) c.make_drop_room.ensures.items in
+    let n = c.count.ensures in
+    let few = need_bound s.board in
+    let fewer = without_most q s.names.news.items in
+    let count = ap length c.leave_out-in-Ok.ensures.items in
+    let cap = c.leave_out-in-Ok.ensures.capacity in
+    let room = c.self.invariant.1.room in
+    let all = c.in-Some-make_drop_room.ensures.room in
+    let k = c.push_reserved.ensures.capacity in
+    upkeep_both _ _ _ _ _ _ _ _ c.self.invariant.0 _ _ c.self.invariant.1 _ s.board _ _ _ (entry.Drop q) running least.goes
+    (λ t. (c.remove.ensures.steps t.0, c.in-Ok.ensures.ok t.0)) (λ t. tt) refl items (le_refl (need s.board))
+    (dropped_are _ _ _ _ _ _ _ _ c.self.invariant.0 _ _ c.self.invariant.1 q _ c.leave_out.ensures.items c.leave_out-in-Ok.ensures.items refl refl)
+    (omega (arith, fewer, count, cap, room)) (omega (arith, n, few, all, k))
+
+pub invariant_of-self-in-Err : goal.invariant_of-self-in-Err
+invariant_of-self-in-Err g c =
+    let s = c.self.inside in
+    let q = c.in-Some.name in
+    let running : s.board.front.stop ≡ None = ap (λ (x : Shown g.row.D.Denot g.row.O.Denot). x.core.front.stop) c.self.view_is ∙ c.requires in
+    let least = by_shelf (λ l x. IsLeast (there_in x) x.settled s.scope.partitions l q) _ _ _ _ s.names s.board c.front.result c.last_of-last.result c.self.invariant.1 c.front.ensures c.last_of-last.ensures c.in-Some.ensures in
+    let items = c.push_reserved-in-Err.ensures.items ∙ ap (λ (l : List Entry). l ++ entry.Undropped q ∷ []) c.make_drop_room.ensures.items in
+    let n = c.count.ensures in
+    let few = need_bound s.board in
+    let all = c.in-Some-make_drop_room.ensures.room in
+    let k = c.push_reserved-in-Err.ensures.capacity in
+    upkeep_both _ _ _ _ _ _ _ _ c.self.invariant.0 _ _ c.self.invariant.1 _ _ _ _ _ (entry.Undropped q) running least.goes (λ t. c.remove.ensures.steps t.0) (λ t. tt) c.stop.ensures items
+    (subst (λ (x : Core). need x ≤ need s.board) (sym c.stop.ensures) (stops_need s.board (Some cause.DiskFault) (stop_most s.board.front.stop cause.DiskFault)))
+    (same_are _ _ _ _ _ c.self.invariant.1) c.self.invariant.1.room (omega (arith, n, few, all, k))
