@@ -1,2 +1,3 @@
+pub mod Agreeing
 pub mod Checkpoint
 pub mod Shown

@@ -1,5 +1,6 @@
 //! Laws of the rows that are shown.
 
+ghost use Rattle.ssq_tables.specs.Agreeing.{SinksAreOfOneRows, TablesAgree, TextsAreOfOneRows};
 ghost use Rattle.ssq_tables.specs.Checkpoint.{CheckpointsHoldTables};
 ghost use Rattle.ssq_tables.specs.Shown.{EpochsAreStored};
 
@@ -21,4 +22,14 @@ pub fn checkpoints_hold_tables()
     ensures { CheckpointsHoldTables }
 {
     shown_rows_are_stored();
+}
+
+/// The law of what is read of them: no other rows have the same text, and so a sink file is of one list of rows; and where a checkpoint stands for the job
+/// of a query that was bound, what is read of its sink files is the table of the query's meaning, each row as often, by whatever rows they are read.
+pub fn tables_agree()
+    ensures texts { TextsAreOfOneRows }
+    ensures sinks { SinksAreOfOneRows }
+    ensures table { TablesAgree }
+{
+    checkpoints_hold_tables();
 }

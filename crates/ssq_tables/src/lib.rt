@@ -3,4 +3,4 @@
 
 mod law;
 
-pub use law::{checkpoints_hold_tables, shown_rows_are_stored};
+pub use law::{checkpoints_hold_tables, shown_rows_are_stored, tables_agree};
