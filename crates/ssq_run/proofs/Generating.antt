@@ -6,7 +6,6 @@ use Rattle.std.proofs.lemmas.Bool.{cases_lt}
 use Rattle.std.proofs.lemmas.Bool.Decides.{nat_tests}
 use Rattle.std.proofs.lemmas.List.{length-map}
 use Rattle.std.proofs.lemmas.List.Elements.{All-head, All-tail}
-use Rattle.ssq_outside.specs.declared.name.Name.{Name}
 use Rattle.ssq_outside.specs.declared.name.Name.TheVariants as name
 use Rattle.ssq_outside.specs.Files.{Files, IsEmpty}
 use Rattle.ssq_outside.specs.History.{History, files_now}
@@ -22,15 +21,14 @@ use Rattle.ssq_meaning.specs.declared.line.LineFault.TheVariants as line
 use Rattle.ssq_plans.specs.declared.meta.Meta.{Meta}
 use Rattle.ssq_plans.specs.declared.plan.Plan.{Plan}
 use Rattle.ssq_core.specs.Course.{Cuts, Ends as EndsOf}
-use Rattle.ssq_core.specs.Standing.{IsThere, StandsAt}
-use Rattle.ssq_course.specs.Setting.{Setting, cuts_of, course_of, job_of, parts_in, rows_at}
+use Rattle.ssq_core.specs.Standing.{StandsAt}
+use Rattle.ssq_course.specs.Setting.{Setting, cuts_of, course_of, parts_in, rows_at}
 use Rattle.ssq_board.specs.declared.front.Cause.{Cause}
 use Rattle.ssq_board.specs.declared.front.Cause.TheVariants as cause
 use Rattle.ssq_board.specs.declared.front.RowFault.{RowFault}
 use Rattle.ssq_board.specs.declared.front.RowFault.TheVariants as row
 use Rattle.ssq_board.specs.Core.{is_behind, next_ends}
 use Rattle.ssq_logs.specs.Asked.{AreAsked}
-use Rattle.ssq_logs.specs.Parts.{counts_in}
 use Rattle.ssq_logs.specs.declared.fault.PartsFault.TheVariants as parts
 use Rattle.ssq_logs.specs.declared.fault.LengthFault.{LengthFault}
 use Rattle.ssq_logs.specs.declared.fault.LengthFault.TheVariants as lengths_fault
@@ -48,20 +46,19 @@ use Rattle.ssq_sink.specs.Table.{AreCounted, AreSinks, IsBadSink, output_kinds}
 use Rattle.ssq_terms.specs.Laws.{due_at}
 use Rattle.ssq_desk.specs.declared.told.Told.{Told}
 use Rattle.ssq_desk.specs.Contents.{bad_of}
-use Rattle.ssq_drive.specs.declared.round.Stopped.{Stopped}
 use Rattle.ssq_drive.specs.Rounds.{AreTold, IsMeant, IsRoundStop, first_of}
 use Rattle.ssq_runner.specs.declared.ask.Ask.{Ask}
 use Rattle.ssq_runner.specs.declared.fault.RunFault.{RunFault}
 use Rattle.ssq_runner.specs.declared.fault.RunFault.TheVariants as run
 use Rattle.ssq_runner.specs.Complete.{IsNoRefusal, IsNoLimit}
 use Rattle.ssq_runner.specs.Ending.{Begun, Ends, IsEnd, Owned, IsOwnRun, setting_in, cuts_in, finished, stopped, uncounted as rounds_uncounted, unput, starved as rounds_starved}
-use Rattle.ssq_runner.specs.Faults.{fault_by, fault_of}
+use Rattle.ssq_runner.specs.Faults.{fault_by}
 use Rattle.ssq_runner.specs.Rounds.{Round, AreNext, AreRounds, BeginWith, epochs_after}
 use Rattle.ssq_runner.specs.Running.{Given, IsRunOf, IsBegunBy, RunEnd, uncounted, refused, starved, ran, sought_in}
 use Rattle.ssq_runner.specs.Sources.{IsSettingFor, IsUnparted, RunOver, unparted, over}
 use Rattle.ssq_run.specs.declared.stop.Stop.{Stop}
 use Rattle.ssq_run.specs.declared.stop.Stop.TheVariants as stop
-use Rattle.ssq_run.specs.Generated.{AreAllEpochs, AreCounts, AreEpochs, AreTold as IsTold, GenEnd, counted, at_fault, out_of_memory, IsFirstFault, in_memory, lengths, made_cap, made_setting}
+use Rattle.ssq_run.specs.Generated.{AreAllEpochs, AreEpochs, AreTold as IsTold, GenEnd, counted, at_fault, out_of_memory, IsFirstFault, in_memory, lengths, made_cap, made_setting}
 use Rattle.ssq_value.specs.declared.column.Column.{Column}
 use Rattle.ssq_run.specs.declared.stop.Wrong.{Wrong}
 use Rattle.ssq_run.specs.Places.{columns_of, name_of}
@@ -301,7 +298,7 @@ module _ {L : Type 0} (told tells : Type 0) (lines : L → List Line) (available
 
       by_stop : (at : List ℕ) → length ends.done ≡ 0 → AreNext (Owned tells lines available answers faults b) S b.cap at C (epochs_after (length b.found.plans) ends.done) (length ends.plans)
           → BeginWith b.seen (record { found = at; epochs = length ends.plans } ∷ ends.done) → (key : Option Values) (why : Cause)
-          → IsRoundStop tells (Owned tells lines available answers faults b) S C at (length ends.plans) last b.disk_faults disk_faults (sum_by faults logs) key why → RanSo S (files_now now) (Err (fault_by why key))
+          → IsRoundStop tells (Owned tells lines available answers faults b) S C at (length ends.plans) last (files_now now) b.disk_faults disk_faults (sum_by faults logs) key why → RanSo S (files_now now) (Err (fault_by why key))
       by_stop at none next begin key (cause.BadLine t p o f) is =
           faulty (of_line (record { stream = t; part = p; offset = o; what = line.Bad (bad_of f) })) (first_so at (of_line (record { stream = t; part = p; offset = o; what = line.Bad (bad_of f) })) none next begin is.0 (is.1 k))
           (λ streams counts. ap (λ (w : Wrong). Some (stop.BadLine (name_of streams t) p o w)) (wrong_same (columns_of streams t) f))
@@ -311,7 +308,7 @@ module _ {L : Type 0} (told tells : Type 0) (lines : L → List Line) (available
       by_stop at none next begin (Some key) cause.KeyOverflow is = faulty (of_key key) (first_so at (of_key key) none next begin is.0 (is.1 owned)) (λ streams counts. refl)
       by_stop at none next begin key cause.LogFault is = outer (λ streams counts goes free. tt)
       by_stop at none next begin key (cause.LogShort t p logged count) is = absurd (is.1 k)
-      by_stop at none next begin key (cause.Damaged q) is = absurd is
+      by_stop at none next begin key (cause.Damaged q) is = absurd (is.0 owned)
       by_stop at none next begin key cause.DiskFault is = outer (λ streams counts goes free. tt)
       by_stop at none next begin key cause.Full is = outer (λ streams counts goes free. absurd free)
       by_stop at none next begin key cause.NoMemory is = outer (λ streams counts goes free. tt)
@@ -322,7 +319,7 @@ module _ {L : Type 0} (told tells : Type 0) (lines : L → List Line) (available
       abbrev So : Result (Unit {0}) RunFault → Type 0
       So = RanSo S (files_now now)
 
-      by_end : IsEnd tells lines available answers faults b disk_faults logs OutTells written ends.plans ends.done ends.told text end → So end
+      by_end : IsEnd tells lines available answers faults b now disk_faults logs OutTells written ends.plans ends.done ends.told text end → So end
       by_end (finished len upto all asked put untold is) = done C (length ends.plans) (all_so ends.done (len ∙ by.rounds_are ∙ once) ends.has.are upto asked.first) (stands_so is) is
       by_end (stopped less at next asked why stop_is put more told_is put_is text_is is) = subst So (sym is) (by_stop at (none_done less) next asked.first why.key why.cause stop_is)
       by_end (rounds_uncounted less upto before asked why uncounted_is stopped_is put_is text_is is) = outer (subst (λ (e : Result (Unit {0}) RunFault). IsOuter e) (sym is) (outer_lines why))

@@ -1,5 +1,5 @@
 -- The text of a key.
-use Rattle.std.proofs.Common.{◌≡◌, ◌∙◌, ap, ℕ, ℤ, List, [], ◌∷◌, ◌++◌, IsUtf8, map, drop, length}
+use Rattle.std.proofs.Common.{ℤ, IsUtf8}
 use Rattle.std.proofs.lemmas.Str.{IsUtf8-from_ascii}
 use Rattle.ssq_time.specs.Time.{IsStampTime, stamp_text}
 use Rattle.ssq_time.proofs.Ascii.{stamp_text-ascii}

@@ -11,3 +11,4 @@ pub mod Making
 mod Runnable
 mod KeyLemmas
 mod ShownKeys
+mod ShownTable

@@ -3,7 +3,7 @@ use Rattle.std.proofs.Common.{◌≡◌, ◌<◌, ◌≤◌, ◌+◌, ◌*◌, �
 use Rattle.std.specs.Prelude.{slice_get, unwrap_or}
 use Rattle.std.specs.Option.{option_map_or}
 use Rattle.std.specs.Str.{bytes_eq}
-use Rattle.std.proofs.lemmas.List.{length-append, map-append}
+use Rattle.std.proofs.lemmas.List.{length-append}
 use Rattle.std.proofs.lemmas.List.Elements.{All-append, All-cons, All-nil}
 use Rattle.std.proofs.lemmas.List.Sums.{sum-map, sum_by-cons}
 use Rattle.ssq_outside.specs.Files.{Files, IsEmpty}
@@ -19,10 +19,9 @@ use Rattle.ssq_runner.specs.declared.ask.Ask.{Ask}
 use Rattle.ssq_runner.specs.declared.fault.RunFault.{RunFault}
 use Rattle.ssq_runner.specs.Complete.{CanGoOn, HasRoom, IsNoRefusal, IsNoLimit, RunsGoOn, RunsMeetNoLimit, is_empty, most_epochs}
 use Rattle.ssq_runner.specs.Sources.{IsSettingFor, RunOver}
-use Rattle.ssq_gen.specs.Made.{line_at, made_held, part_lines, parts_made, source, turn}
+use Rattle.ssq_gen.specs.Made.{line_at, made_held, part_lines, parts_made, source}
 use Rattle.ssq_run.specs.declared.stop.Stop.{Stop}
 use Rattle.ssq_run.specs.Generated.{GenEnd, in_memory, made_cap, made_partitions, made_setting, setting_over}
-use Rattle.ssq_run.specs.Program.{HasRun, Went}
 use Rattle.ssq_run.specs.Stopping.{IsToldAs, stop_of_end}
 use Rattle.ssq_run.proofs.Generating.{IsRan, RanSo, gen_ran, gen_stop, over_so}
 
@@ -153,16 +152,17 @@ abbrev made_ask : Ask
 made_ask = record { partitions = Some made_partitions; cap = Some made_cap; rounds = 1 }
 
 module _ {L : Type 0} (told tells : Type 0) (lines : L → List Line) (available : L → ℕ) (answers : L → List ℕ) (faults : L → ℕ) (OutTells : Type 0) where
-  pub gen_run : (held : Held) (known : List ℕ → ℕ → ℕ) (bound : Bound) (went : Went) (why : Option Stop) → HasRun told tells lines available answers faults held known bound made_ask OutTells went why
+  pub gen_run : (held : Held) (known : List ℕ → ℕ → ℕ) (bound : Bound) (start now : History) (disk_faults disk_faults_now : ℕ) (returned returned_now : List (List ℕ)) (old written text counts : List ℕ) (end : Result (Unit {0}) RunFault) (why : Option Stop)
+      → RunOver told tells lines available answers faults held known bound made_ask start now disk_faults disk_faults_now returned returned_now OutTells old written text end → IsToldAs why (stop_of_end bound.streams counts end)
       → told → tells → ((log : L) → available log ≡ length (lines log)) → RunsGoOn told tells lines available answers faults OutTells → RunsMeetNoLimit told tells lines available answers faults OutTells
-      → (number count : ℕ) → held ≡ made_held number count → count ≤ most_made → length bound.streams ≤ 2 → IsEmpty (files_now went.start) → AfterRun bound number count (files_now went.now) why
-  gen_run held known bound went why ran t k whole goes free number count made few two_streams empty =
-      let over_held = λ (h : Held). RunOver told tells lines available answers faults h known bound made_ask went.start went.now went.disk_faults went.disk_faults_now went.returned went.returned_now OutTells went.old went.written went.text ran.end in
-      let own : RunOver told tells lines available answers faults (made_held number count) known bound made_ask went.start went.now went.disk_faults went.disk_faults_now went.returned went.returned_now OutTells went.old went.written went.text ran.end = subst over_held made ran.over in
+      → (number count : ℕ) → held ≡ made_held number count → count ≤ most_made → length bound.streams ≤ 2 → IsEmpty (files_now start) → AfterRun bound number count (files_now now) why
+  gen_run held known bound start now disk_faults disk_faults_now returned returned_now old written text counts end why ran is t k whole goes free number count made few two_streams empty =
+      let over_held = λ (h : Held). RunOver told tells lines available answers faults h known bound made_ask start now disk_faults disk_faults_now returned returned_now OutTells old written text end in
+      let own = subst over_held made ran in
       let s : Setting = made_setting bound number count in
-      after_run bound number count (files_now went.now) (counts_in held bound.streams) ran.end why
-      (over_so told tells lines available answers faults whole k (made_held number count) known bound made_ask went.start went.now went.disk_faults went.disk_faults_now went.returned went.returned_now OutTells went.old went.written went.text ran.end own t refl refl empty s
-      (setting_for (made_held number count) bound went.start))
-      (goes t k (made_held number count) known bound made_ask went.start went.now went.disk_faults went.disk_faults_now went.returned went.returned_now went.old went.written went.text ran.end s (can_go_on number count few bound went.start empty known) own)
-      (free t k (made_held number count) known bound made_ask went.start went.now went.disk_faults went.disk_faults_now went.returned went.returned_now went.old went.written went.text ran.end s (has_room number count few bound went.start empty known two_streams) own)
-      (ran.is t)
+      after_run bound number count (files_now now) counts end why
+      (over_so told tells lines available answers faults whole k (made_held number count) known bound made_ask start now disk_faults disk_faults_now returned returned_now OutTells old written text end own t refl refl empty s
+      (setting_for (made_held number count) bound start))
+      (goes t k (made_held number count) known bound made_ask start now disk_faults disk_faults_now returned returned_now old written text end s (can_go_on number count few bound start empty known) own)
+      (free t k (made_held number count) known bound made_ask start now disk_faults disk_faults_now returned returned_now old written text end s (has_room number count few bound start empty known two_streams) own)
+      is

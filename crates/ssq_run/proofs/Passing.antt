@@ -8,12 +8,12 @@ use Rattle.ssq_outside.specs.Logs.{Held, Line}
 use Rattle.ssq_outside.proofs.Steps.{begins, files_are_image}
 use Rattle.ssq_shape.specs.declared.bound.Bound.{Bound}
 use Rattle.ssq_shape.specs.declared.bound.Stream.{Stream}
-use Rattle.ssq_board.specs.declared.front.Cause.{Cause}
 use Rattle.ssq_board.specs.declared.front.Cause.TheVariants as cause
 use Rattle.ssq_logs.specs.declared.fault.PartsFault.TheVariants as parts
 use Rattle.ssq_logs.specs.declared.fault.LengthFault.{LengthFault}
 use Rattle.ssq_logs.specs.declared.fault.LengthFault.TheVariants as lengths
-use Rattle.ssq_logs.specs.Opened.{Part, IsLogOf, AreLogsOf}
+use Rattle.ssq_logs.specs.Opened.{Part, AreLogsOf}
+use Rattle.ssq_logs.specs.Parts.{counts_in}
 use Rattle.ssq_open.specs.declared.fault.OpenFault.TheVariants as opening
 use Rattle.ssq_runner.specs.declared.ask.Ask.{Ask}
 use Rattle.ssq_runner.specs.declared.fault.RunFault.{RunFault}
@@ -23,15 +23,18 @@ use Rattle.ssq_runner.specs.Sources.{RunOver, unparted, over}
 use Rattle.ssq_bind.specs.Explained.{explained}
 use Rattle.ssq_words.specs.declared.error.AskError.{AskError}
 use Rattle.ssq_words.specs.declared.error.AskError.TheVariants as words
-use Rattle.ssq_words.specs.Asking.{Asked, asks_show, asks_explain, asked, IsCause}
+use Rattle.ssq_words.specs.Asking.{Asked, asks_explain, asks_run, asked, IsCause}
 use Rattle.ssq_accept.specs.declared.refusal.Refusal.{Refusal}
 use Rattle.ssq_accept.specs.declared.refusal.Refusal.TheVariants as refusal
 use Rattle.ssq_run.specs.declared.stop.Stop.{Stop}
 use Rattle.ssq_run.specs.declared.stop.Stop.TheVariants.{Usage, Refused, LogFault, DiskFault, OutFault, NoMemory}
-use Rattle.ssq_run.specs.Queries.{IsQueryFor, IsRefusedFor}
+use Rattle.ssq_run.specs.declared.prepare.Look.{Look}
+use Rattle.ssq_run.specs.declared.prepare.Todo.TheVariants as todo
+use Rattle.ssq_run.specs.Prepared.{IsLook, IsTodo, IsUnready}
+use Rattle.ssq_run.specs.Queries.{IsRefusedFor}
 use Rattle.ssq_run.specs.Stopping.{stop_in, stop_of_ask, stop_of_refusal, stop_of_end, IsToldAs, IsUnread, WordsCause, IsPastWords, HasCount}
 use Rattle.ssq_run.specs.Looked.{LookEnd}
-use Rattle.ssq_run.specs.Program.{Given, Went, IsUntouched, IsIdle, went_of, ask_of, HasObeyed, has_run, has_shown, has_explained, has_looked, has_generated, ran_out, ProgramEnd, unread, no_command, no_file, refused, obeyed}
+use Rattle.ssq_run.specs.Program.{Given, Went, IsIdle, IsUntouched, went_of, HasTold, has_explained, ran_out, has_run, has_told, ProgramEnd, unread, no_command, no_file, refused, obeyed}
 
 -- what is not touched leaves what it might have left
 pub still_leaves : (h : History) (P : Files → Type 0) → LeavesNow h P → LeavesOnly h h P
@@ -126,37 +129,18 @@ denied_look bound files text end stop none is look =
     let E : Option Stop → Type 0 = λ e. LookEnd bound files text e in
     subst E (sym is) (subst T (sym none) look)
 
--- a count that was lower before
-pub counts_since : (i i0 i1 d0 d1 o0 o1 : ℕ) (stop : Option Stop) → i ≤ i0 → HasCount i0 i1 d0 d1 o0 o1 stop → HasCount i i1 d0 d1 o0 o1 stop
-counts_since i i0 i1 d0 d1 o0 o1 (Some LogFault) less is = omega (arith, less, is)
-counts_since i i0 i1 d0 d1 o0 o1 (Some DiskFault) less is = is
-counts_since i i0 i1 d0 d1 o0 o1 (Some OutFault) less is = is
-counts_since i i0 i1 d0 d1 o0 o1 None less is = tt
-counts_since i i0 i1 d0 d1 o0 o1 (Some _) less is = tt
+-- where each fault that was counted so was counted in all
+pub counts_by : (i0 i1 d0 d1 o0 o1 all_i0 all_i1 all_d0 all_d1 all_o0 all_o1 : ℕ) (stop : Option Stop) → (Rises i0 i1 → Rises all_i0 all_i1) → (Rises d0 d1 → Rises all_d0 all_d1) → (Rises o0 o1 → Rises all_o0 all_o1)
+    → HasCount i0 i1 d0 d1 o0 o1 stop → HasCount all_i0 all_i1 all_d0 all_d1 all_o0 all_o1 stop
+counts_by i0 i1 d0 d1 o0 o1 all_i0 all_i1 all_d0 all_d1 all_o0 all_o1 (Some LogFault) of_inputs of_disk of_out is = of_inputs is
+counts_by i0 i1 d0 d1 o0 o1 all_i0 all_i1 all_d0 all_d1 all_o0 all_o1 (Some DiskFault) of_inputs of_disk of_out is = of_disk is
+counts_by i0 i1 d0 d1 o0 o1 all_i0 all_i1 all_d0 all_d1 all_o0 all_o1 (Some OutFault) of_inputs of_disk of_out is = of_out is
+counts_by i0 i1 d0 d1 o0 o1 all_i0 all_i1 all_d0 all_d1 all_o0 all_o1 None of_inputs of_disk of_out is = tt
+counts_by i0 i1 d0 d1 o0 o1 all_i0 all_i1 all_d0 all_d1 all_o0 all_o1 (Some _) of_inputs of_disk of_out is = tt
 
--- where only the inputs were asked
-pub inputs_count : (i0 i1 d0 d1 o0 o1 : ℕ) (stop : Option Stop) → HasCount i0 i1 0 0 0 0 stop → HasCount i0 i1 d0 d1 o0 o1 stop
-inputs_count i0 i1 d0 d1 o0 o1 (Some LogFault) is = is
-inputs_count i0 i1 d0 d1 o0 o1 (Some DiskFault) is = absurd (omega (arith, is))
-inputs_count i0 i1 d0 d1 o0 o1 (Some OutFault) is = absurd (omega (arith, is))
-inputs_count i0 i1 d0 d1 o0 o1 None is = tt
-inputs_count i0 i1 d0 d1 o0 o1 (Some _) is = tt
-
--- and where only the disk was
-pub disk_counts : (i0 i1 d0 d1 o0 o1 : ℕ) (stop : Option Stop) → HasCount 0 0 d0 d1 0 0 stop → HasCount i0 i1 d0 d1 o0 o1 stop
-disk_counts i0 i1 d0 d1 o0 o1 (Some LogFault) is = absurd (omega (arith, is))
-disk_counts i0 i1 d0 d1 o0 o1 (Some DiskFault) is = is
-disk_counts i0 i1 d0 d1 o0 o1 (Some OutFault) is = absurd (omega (arith, is))
-disk_counts i0 i1 d0 d1 o0 o1 None is = tt
-disk_counts i0 i1 d0 d1 o0 o1 (Some _) is = tt
-
--- and where the disk and the output were
-pub shown_counts : (i0 i1 d0 d1 o0 o1 : ℕ) (stop : Option Stop) → HasCount 0 0 d0 d1 o0 o1 stop → HasCount i0 i1 d0 d1 o0 o1 stop
-shown_counts i0 i1 d0 d1 o0 o1 (Some LogFault) is = absurd (omega (arith, is))
-shown_counts i0 i1 d0 d1 o0 o1 (Some DiskFault) is = is
-shown_counts i0 i1 d0 d1 o0 o1 (Some OutFault) is = is
-shown_counts i0 i1 d0 d1 o0 o1 None is = tt
-shown_counts i0 i1 d0 d1 o0 o1 (Some _) is = tt
+-- where none was counted
+pub none_counted : (before now : ℕ) → Rises 0 0 → Rises before now
+none_counted before now rises = absurd (omega (arith, rises))
 
 -- a refusal is told as such, or memory ran out
 pub refusal_unread : (held : Held) (what : Asked) (why : Refusal) → IsRefusedFor held what why → IsUnread held what (stop_of_refusal why)
@@ -165,15 +149,23 @@ refusal_unread held what (refusal.Bind fault) is = (is, refl)
 refusal_unread held what (refusal.Mode fault) is = (is, refl)
 refusal_unread held what refusal.NoMemory is = tt
 
-some_asked : (words : List (List ℕ)) (what : Asked) → asked words ≡ Some what → IsSome (asked words)
-some_asked words what is = cc
+-- the words gave no command, or its query was not had
+pub asked_unready : (held : Held) (line : List (List ℕ)) (error : AskError) → IsCause line error → IsUnready held line (stop_of_ask error)
+asked_unready held line words.Usage cause = cause
+asked_unready held line words.NoMemory cause = tt
+
+pub unread_unready : (held : Held) (line : List (List ℕ)) (what : Asked) (own : Stop) → asked line ≡ Some what → IsUnread held what own → IsUnready held line own
+unread_unready held line what (Refused why) is cause = (what, is, cause)
+unread_unready held line what LogFault is cause = (what, is, tt)
+unread_unready held line what NoMemory is cause = tt
+unread_unready held line what _ is cause = absurd cause
 
 -- the words were taken, so the stop is another
-pub words_taken : (words : List (List ℕ)) (what : Asked) (stop : Option Stop) → asked words ≡ Some what → IsPastWords stop → WordsCause words stop
-words_taken words what (Some Usage) is past = absurd past
-words_taken words what (Some NoMemory) is past = tt
-words_taken words what None is past = some_asked words what is
-words_taken words what (Some _) is past = some_asked words what is
+pub words_taken : (line : List (List ℕ)) (stop : Option Stop) → IsSome (asked line) → IsPastWords stop → WordsCause line stop
+words_taken line (Some Usage) taken past = absurd past
+words_taken line (Some NoMemory) taken past = tt
+words_taken line None taken past = taken
+words_taken line (Some _) taken past = taken
 
 module _ {L : Type 0} (told tells : Type 0) (lines : L → List Line) (available : L → ℕ) (answers : L → List ℕ) (faults : L → ℕ) where
   -- logs that begin with what is known later begin with what was known before
@@ -200,81 +192,46 @@ module _ {L : Type 0} (told tells : Type 0) (lines : L → List Line) (available
   run_earlier held known later less bound ask OutTells went end (over g counts of start disk old own setting logs how back) =
       over g counts of start disk old (logs_earlier held known later less _ _ own) setting logs how back
 
-  pub obeyed_earlier : (held : Held) (known later : List ℕ → ℕ → ℕ) → ((stream : List ℕ) (part : ℕ) → known stream part ≤ later stream part) → (bound : Bound) (OutTells : Type 0) (went : Went) (stop : Option Stop) (what : Asked)
-      → HasObeyed told tells lines available answers faults held later bound OutTells went stop what → HasObeyed told tells lines available answers faults held known bound OutTells went stop what
-  obeyed_earlier held known later less bound OutTells went stop what (has_run file partitions most rounds ran) =
-      has_run file partitions most rounds (record { end = ran.end; over = run_earlier held known later less bound (ask_of partitions most rounds) OutTells went ran.end ran.over; is = ran.is })
-  obeyed_earlier held known later less bound OutTells went stop what (has_shown file still back text end) = has_shown file still back text end
-  obeyed_earlier held known later less bound OutTells went stop what (has_explained file same text none) = has_explained file same text none
-  obeyed_earlier held known later less bound OutTells went stop what (has_looked file same end) = has_looked file same end
-  obeyed_earlier held known later less bound OutTells went stop what (has_generated number count same end) = has_generated number count same end
-  obeyed_earlier held known later less bound OutTells went stop what (ran_out own idle is) = ran_out own idle is
-
-  -- a command of another name
-  pub obeyed_as : (held : Held) (known : List ℕ → ℕ → ℕ) (bound : Bound) (OutTells : Type 0) (went : Went) (stop : Option Stop) (what other : Asked) → other ≡ what
-      → HasObeyed told tells lines available answers faults held known bound OutTells went stop what → HasObeyed told tells lines available answers faults held known bound OutTells went stop other
-  obeyed_as held known bound OutTells went stop what other same obeyed_so =
-      let P : Asked → Type 0 = HasObeyed told tells lines available answers faults held known bound OutTells went stop in subst P (sym same) obeyed_so
-
-  -- what a query is was told, or memory ran out
-  pub explained_end : (held : Held) (known : List ℕ → ℕ → ℕ) (bound : Bound) (OutTells : Type 0) (went : Went) (file : List ℕ) (end : Result (Unit {0}) Stop) → IsUntouched went → IfOk end (λ done. went.text ≡ explained bound)
-      → IfErr end (λ stop. (stop ≡ NoMemory) × (went.text ≡ [])) → HasObeyed told tells lines available answers faults held known bound OutTells went (stop_in end) (asks_explain file)
-  explained_end held known bound OutTells went file (Ok done) same text memory = has_explained file same text refl
-  explained_end held known bound OutTells went file (Err stop) same text memory = ran_out (asks_explain file) (record { untouched = same; untold = memory.1 }) (ap Some memory.0)
-
-  -- the words gave no command
-  pub ask_end : (given : Given) (OutTells : Type 0) (went : Went) (error : AskError) (stop : Option Stop) → IsCause given.words error → stop ≡ Some (stop_of_ask error) → IsIdle went
+  -- the query was run, over inputs of which more may have been known
+  pub run_end : (given : Given) (held : Held) (later : List ℕ → ℕ → ℕ) (OutTells : Type 0) (went : Went) (stop : Option Stop) (bound : Bound) (ask : Ask) (counts : List ℕ) (end : Result (Unit {0}) RunFault)
+      → IsTodo given.held given.words (todo.Run bound ask) → held ≡ given.held → ((stream : List ℕ) (part : ℕ) → given.known stream part ≤ later stream part)
+      → RunOver told tells lines available answers faults held later bound ask went.start went.now went.disk_faults went.disk_faults_now went.returned went.returned_now OutTells went.old went.written went.text end
+      → (told → (why : LengthFault) → end ≡ Err (run.Lines why) → counts ≡ counts_in held bound.streams) → IsToldAs stop (stop_of_end bound.streams counts end)
       → ProgramEnd told tells lines available answers faults given OutTells went stop
-  ask_end given OutTells went words.Usage stop cause is idle = no_command cause is idle
-  ask_end given OutTells went words.NoMemory stop cause is idle = unread is idle
+  run_end given held later OutTells went stop bound ask counts end is same less over_later counts_are told_as =
+      let R : Held → Type 0 = λ h. RunOver told tells lines available answers faults h given.known bound ask went.start went.now went.disk_faults went.disk_faults_now went.returned went.returned_now OutTells went.old went.written went.text end in
+      let S : Held → Type 0 = λ h. told → IsToldAs stop (stop_of_end bound.streams (counts_in h bound.streams) end) in
+      obeyed (asks_run is.0 ask.partitions ask.cap ask.rounds) bound is.1 is.2
+      (has_run is.0 ask.partitions ask.cap ask.rounds end (subst R same (run_earlier held given.known later less bound ask OutTells went end over_later))
+      (subst S same (λ t. told_by_parts bound.streams counts (counts_in held bound.streams) end stop (counts_are t) told_as)))
 
-  -- the query's file was not read, or is refused
-  unread_end : (given : Given) (OutTells : Type 0) (went : Went) (what : Asked) (own : Stop) → asked given.words ≡ Some what → IsIdle went → IsUnread given.held what own
-      → ProgramEnd told tells lines available answers faults given OutTells went (Some own)
-  unread_end given OutTells went what (Refused why) is idle cause = refused what is why cause.0 (ap Some (sym cause.1)) idle
-  unread_end given OutTells went what LogFault is idle cause = no_file what is (inl refl) idle
-  unread_end given OutTells went what NoMemory is idle cause = no_file what is (inr refl) idle
-  unread_end given OutTells went what _ is idle cause = absurd cause
-
-  pub read_end : (given : Given) (OutTells : Type 0) (went : Went) (what : Asked) (own : Stop) (stop : Option Stop) → asked given.words ≡ Some what → IsUnread given.held what own → stop ≡ Some own → IsIdle went
+  -- something was told of it
+  pub look_end : (given : Given) (OutTells : Type 0) (went : Went) (stop : Option Stop) (bound : Bound) (look : Look) → IsTodo given.held given.words (todo.Look bound look) → ((what : Asked) → IsLook look what → HasTold bound OutTells went stop what)
       → ProgramEnd told tells lines available answers faults given OutTells went stop
-  read_end given OutTells went what own stop is cause same idle =
-      let P : Option Stop → Type 0 = ProgramEnd told tells lines available answers faults given OutTells went in subst P (sym same) (unread_end given OutTells went what own is idle cause)
+  look_end given OutTells went stop bound look is told_so = obeyed is.0 bound is.1 is.3 (has_told is.0 (told_so is.0 is.2))
 
-  -- the command was obeyed, over inputs of which more may have been known
-  pub obeyed_end : (given : Given) (held : Held) (later : List ℕ → ℕ → ℕ) (OutTells : Type 0) (went : Went) (stop : Option Stop) (what : Asked) (bound : Bound) → asked given.words ≡ Some what → held ≡ given.held
-      → ((stream : List ℕ) (part : ℕ) → given.known stream part ≤ later stream part) → IsQueryFor given.held what bound → HasObeyed told tells lines available answers faults held later bound OutTells went stop what
-      → ProgramEnd told tells lines available answers faults given OutTells went stop
-  obeyed_end given held later OutTells went stop what bound is same less query obeyed_so =
-      let H : Held → Type 0 = λ h. HasObeyed told tells lines available answers faults h given.known bound OutTells went stop what in
-      obeyed what bound is query (subst H same (obeyed_earlier held given.known later less bound OutTells went stop what obeyed_so))
+  -- the words are no command, its query's file was not read, or it is refused
+  pub unready_end : (given : Given) (OutTells : Type 0) (went : Went) (own : Stop) → IsUnready given.held given.words own → IsIdle went → ProgramEnd told tells lines available answers faults given OutTells went (Some own)
+  unready_end given OutTells went Usage is idle = no_command is refl idle
+  unready_end given OutTells went NoMemory is idle = unread refl idle
+  unready_end given OutTells went LogFault is idle = no_file is.0 is.1 (inl refl) idle
+  unready_end given OutTells went (Refused why) is idle = refused is.0 is.1 why is.2.0 (ap Some (sym is.2.1)) idle
+  unready_end given OutTells went _ is idle = absurd is.2
+
+-- what is told of a query, for a command of another name
+pub told_as : (bound : Bound) (OutTells : Type 0) (went : Went) (stop : Option Stop) (what other : Asked) → what ≡ other → HasTold bound OutTells went stop other → HasTold bound OutTells went stop what
+told_as bound OutTells went stop what other same so = let P : Asked → Type 0 = HasTold bound OutTells went stop in subst P (sym same) so
+
+-- what a query is was told, or memory ran out
+pub explained_end : (bound : Bound) (OutTells : Type 0) (went : Went) (file : List ℕ) (end : Result (Unit {0}) Stop) → IsUntouched went → IfOk end (λ done. went.text ≡ explained bound) → IfErr end (λ stop. (stop ≡ NoMemory) × (went.text ≡ []))
+    → HasTold bound OutTells went (stop_in end) (asks_explain file)
+explained_end bound OutTells went file (Ok done) same text memory = has_explained file same text refl
+explained_end bound OutTells went file (Err stop) same text memory = ran_out file (record { untouched = same; untold = memory.1 }) (ap Some memory.0)
 
 -- nothing was done
 pub idle_of : (start now : History) (disk_faults disk_faults_now : ℕ) (returned returned_now : List (List ℕ)) (old written text : List ℕ) → now ≡ start → returned_now ≡ returned → written ≡ old → text ≡ []
     → IsIdle (went_of start now disk_faults disk_faults_now returned returned_now old written text)
 idle_of start now disk_faults disk_faults_now returned returned_now old written text still back same none = record { untouched = record { still = still; none_back = back; unwritten = same }; untold = none }
-
--- why the words gave no command
-pub ask_words : (line : List (List ℕ)) (error : AskError) (stop : Option Stop) → IsCause line error → stop ≡ Some (stop_of_ask error) → WordsCause line stop
-ask_words line error stop cause is = let W : Option Stop → Type 0 = WordsCause line in subst W (sym is) (by_error error cause)
-  where
-    by_error : (e : AskError) → IsCause line e → WordsCause line (Some (stop_of_ask e))
-    by_error words.Usage c = c
-    by_error words.NoMemory c = tt
-
-pub ask_counts : (i0 i1 d0 d1 o0 o1 : ℕ) (error : AskError) (stop : Option Stop) → stop ≡ Some (stop_of_ask error) → HasCount i0 i1 d0 d1 o0 o1 stop
-ask_counts i0 i1 d0 d1 o0 o1 error stop is = let C : Option Stop → Type 0 = HasCount i0 i1 d0 d1 o0 o1 in subst C (sym is) (by_error error)
-  where
-    by_error : (e : AskError) → HasCount i0 i1 d0 d1 o0 o1 (Some (stop_of_ask e))
-    by_error words.Usage = tt
-    by_error words.NoMemory = tt
-
--- a stop of the inputs alone
-pub read_counts : (i0 i1 d0 d1 o0 o1 : ℕ) (own stop : Option Stop) → HasCount i0 i1 0 0 0 0 own → stop ≡ own → HasCount i0 i1 d0 d1 o0 o1 stop
-read_counts i0 i1 d0 d1 o0 o1 own stop counts is = let C : Option Stop → Type 0 = HasCount i0 i1 d0 d1 o0 o1 in subst C (sym is) (inputs_count i0 i1 d0 d1 o0 o1 own counts)
-
-pub read_words : (words : List (List ℕ)) (what : Asked) (own stop : Option Stop) → asked words ≡ Some what → IsPastWords own → stop ≡ own → WordsCause words stop
-read_words words what own stop is past same = let W : Option Stop → Type 0 = WordsCause words in subst W (sym same) (words_taken words what own is past)
 
 -- what leaves the disk as it is leaves what it might have left
 pub same_leaves : (start now : History) (P : Files → Type 0) → now ≡ start → LeavesNow start P → LeavesOnly start now P

@@ -1,6 +1,5 @@
 -- A query that is accepted can be run.
 use Rattle.std.proofs.Common.{◌≡◌, subst, ℕ, ◌≤ℤ◌, ℤ, pos, List, Option, Some, None, IfSome, arith}
-use Rattle.std.specs.List.{All}
 use Rattle.std.proofs.lemmas.List.Elements.{All-weaker}
 use Rattle.ssq_time.specs.Time.{IsSpan}
 use Rattle.ssq_ast.specs.declared.query.Query.{Query}

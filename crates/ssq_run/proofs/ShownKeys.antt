@@ -1,12 +1,11 @@
 -- A query that groups its rows in Update shows its keys.
-use Rattle.std.proofs.Common.{◌≡◌, ◌∙◌, refl, ap, sym, subst, inl, inr, ℕ, zero, suc, ◌+◌, ◌<◌, ◌≤◌, nat_lt, ℤ, Bool, true, false, not, ◌&&◌, List, [], ◌∷◌, ◌++◌, map, length, Option, Some, None, IfSome, arith, Result, Ok, Err}
-use Rattle.std.specs.Prelude.{if◌then◌else◌, slice_get, position, cond}
+use Rattle.std.proofs.Common.{◌≡◌, ◌∙◌, refl, sym, subst, inl, inr, ℕ, zero, suc, ◌+◌, ◌<◌, ◌≤◌, nat_lt, Bool, true, false, not, ◌&&◌, List, [], ◌∷◌, ◌++◌, map, length, Option, Some, None, IfSome, arith, Result, Ok, Err}
+use Rattle.std.specs.Prelude.{if◌then◌else◌, position, cond}
 use Rattle.std.specs.List.{All, AllByRecursion, flat_map, list_any, position_or_len}
 use Rattle.std.proofs.lemmas.Bool.{cases_lt, lt-ltb, ltb-true}
 use Rattle.std.proofs.lemmas.List.Elements.{All-head, All-tail}
 use Rattle.std.specs.Str.{bytes_eq}
 use Rattle.ssq_ast.specs.declared.expr.ColumnRef.{ColumnRef}
-use Rattle.ssq_ast.specs.declared.expr.Expr.{Expr}
 use Rattle.ssq_ast.specs.declared.expr.Expr.TheVariants as expr
 use Rattle.ssq_ast.specs.declared.expr.Ident.{Ident}
 use Rattle.ssq_ast.specs.declared.query.Deduplicate.{Deduplicate}
@@ -33,19 +32,16 @@ use Rattle.ssq_check.specs.Sound.{IsSoundGroupItem, IsSoundGroup, IsSound}
 use Rattle.ssq_check.proofs.SoundLemmas.{sound_where_none}
 use Rattle.ssq_shape.specs.declared.bound.Bound.{Bound}
 use Rattle.ssq_shape.specs.declared.bound.GroupKey.{GroupKey}
-use Rattle.ssq_shape.specs.declared.bound.GroupKey.TheVariants as group_key
 use Rattle.ssq_shape.specs.declared.bound.Grouping.{Grouping}
 use Rattle.ssq_shape.specs.declared.bound.Mode.TheVariants as mode
 use Rattle.ssq_shape.specs.declared.bound.Output.{Output}
-use Rattle.ssq_shape.specs.declared.bound.Shape.{Shape}
 use Rattle.ssq_shape.specs.declared.bound.Shape.TheVariants as shape
-use Rattle.ssq_shape.specs.declared.typed.Typed.{Typed}
 use Rattle.ssq_shape.specs.declared.typed.Typed.TheVariants as typed
 use Rattle.ssq_meaning.specs.Table as table
 use Rattle.ssq_meaning.specs.Table.{IsWindowAt, IsKeyAlone, ShowsKeys}
 use Rattle.ssq_bind.specs.declared.context.Context.{Context}
 use Rattle.ssq_bind.specs.Bound.{context_of, shown_of, grouping_of, kept_by, shape_of, bound_of}
-use Rattle.ssq_bind.specs.Shapes.{item_value, item_aggregates, shown_key, item_column, output_of, outputs_of, group_items, key_of}
+use Rattle.ssq_bind.specs.Shapes.{item_aggregates, output_of, outputs_of, group_items, key_of}
 use Rattle.ssq_bind.specs.Value.{or_zero, is_window_column, key_index, key_spot, shifted_value, window_value, column_value, value_of}
 use Rattle.ssq_modes.specs.declared.fault.ModeFault.TheVariants as fault
 use Rattle.ssq_modes.specs.Modes as modes
@@ -53,9 +49,10 @@ use Rattle.ssq_modes.specs.Modes.{AppliesNone, applies, are_shown}
 use Rattle.ssq_accept.specs.Accepting.{IsAccepted}
 use Rattle.ssq_outside.specs.History.{History}
 use Rattle.ssq_course.specs.Setting.{Setting}
+use Rattle.ssq_tables.specs.Agreeing.{ShowsItsKeys}
 use Rattle.ssq_run.specs.Going.{IsAskedFor}
 use Rattle.ssq_run.specs.Program.{Given}
-use Rattle.ssq_run.specs.Queries.{read_of}
+use Rattle.ssq_run.specs.Queries.{IsQueryOf, read_of}
 
 -- ---- each key is shown
 
@@ -222,7 +219,7 @@ has_none bound grouping none is update =
     let same = none fault.HavingInUpdate in
     none_there grouping.having (rw (is, update) at same)
 
-pub shows_keys : (file : List ℕ) (query : Query) (bound : Bound) (grouping : Grouping) → IsAccepted file query bound → bound.shape ≡ shape.Group grouping → bound.mode ≡ mode.Update → ShowsKeys bound grouping
+shows_keys : (file : List ℕ) (query : Query) (bound : Bound) (grouping : Grouping) → IsAccepted file query bound → bound.shape ≡ shape.Group grouping → bound.mode ≡ mode.Update → ShowsKeys bound grouping
 shows_keys file query bound grouping accepted is update =
     let of_query : (bound_of query).shape ≡ shape.Group grouping = subst (λ (b : Bound). b.shape ≡ shape.Group grouping) accepted.names.is is in
     let alone = query_alone query (sound_where_none query accepted.names.unbroken) in
@@ -233,11 +230,13 @@ shows_keys file query bound grouping accepted is update =
       all = has_none bound grouping accepted.may_run is update;
     }
 
--- so does the query that is to be run
-pub asked_shows_keys : (given : Given) (start : History) (s : Setting) (grouping : Grouping) → IsAskedFor given start s → s.job.bound.shape ≡ shape.Group grouping → s.job.bound.mode ≡ mode.Update → ShowsKeys s.job.bound grouping
-asked_shows_keys given start s grouping of is update =
-    let same = of.setting.query in
-    let own = of.asks.is in
+-- so does a query of this text
+pub query_shows_keys : (text : List ℕ) (bound own : Bound) → IsQueryOf text bound → own ≡ bound → ShowsItsKeys own
+query_shows_keys text bound own of same grouping is update =
     let shaped = subst (λ (b : Bound). b.shape ≡ shape.Group grouping) same is in
     let updates = subst (λ (b : Bound). b.mode ≡ mode.Update) same update in
-    subst (λ (b : Bound). ShowsKeys b grouping) (sym same) (shows_keys (read_of given.held of.asks.file) own.query of.asks.bound grouping own.accepted shaped updates)
+    subst (λ (b : Bound). ShowsKeys b grouping) (sym same) (shows_keys text of.query bound grouping of.accepted shaped updates)
+
+-- and the query that is to be run
+pub asked_shows_keys : (given : Given) (start : History) (s : Setting) → IsAskedFor given start s → ShowsItsKeys s.job.bound
+asked_shows_keys given start s of = query_shows_keys (read_of given.held of.asks.file) of.asks.bound s.job.bound of.asks.is of.setting.query

@@ -1,87 +1,28 @@
 -- The table that sink files make, as rows.
-use Rattle.std.proofs.Common.{◌≡◌, ◌<◌, ◌+◌, ℕ, zero, suc, Bool, true, false, List, [], ◌∷◌, ◌++◌, length, Option, Some, None, refl, sym, ap, subst, ◌∙◌, arith, if◌then◌else◌, inl, inr}
-use Rattle.std.specs.Prelude.{map, slice_get, unwrap_or, IsSome}
-use Rattle.std.specs.List.{All, list_any}
+use Rattle.std.proofs.Common.{◌≡◌, ◌<◌, ◌+◌, ℕ, zero, suc, List, [], ◌++◌, length, Option, Some, None, sym, ap, subst, ◌∙◌, arith, inl, inr}
+use Rattle.std.specs.Prelude.{map, unwrap_or, IsSome}
 use Rattle.std.proofs.lemmas.Bool.{cases_lt}
-use Rattle.std.proofs.lemmas.List.Elements.{All-append, All-cons, All-head, All-nil, All-tail}
 use Rattle.ssq_outside.specs.declared.name.Name.TheVariants as name
 use Rattle.ssq_outside.specs.declared.name.Name.{Name}
 use Rattle.ssq_outside.specs.Files.{Files}
 use Rattle.ssq_outside.specs.History.{History, files_now}
-use Rattle.ssq_value.specs.declared.column.ColType.{ColType}
 use Rattle.ssq_shape.specs.declared.bound.Bound.{Bound}
 use Rattle.ssq_shape.specs.declared.bound.Output.{Output}
 use Rattle.ssq_shape.specs.Plain.{output_names}
-use Rattle.ssq_json.specs.Stored.{AreRows, AreStoredIn, lines_of}
+use Rattle.ssq_json.specs.Stored.{AreRows}
 use Rattle.ssq_meaning.specs.Meaning.{Values}
-use Rattle.ssq_meaning.specs.Table.{is_same_group}
-use Rattle.ssq_sink.specs.Sink.{is_row_below, ordered_text, sink_text}
-use Rattle.ssq_sink.specs.Sorted.{placed, sorted}
 use Rattle.ssq_sink.specs.declared.fault.SinkFault.{SinkFault}
 use Rattle.ssq_sink.specs.declared.fault.SinkFault.TheVariants as sink
 use Rattle.ssq_sink.specs.Fault.{IfDamaged, IsOutside, TableEnd, broke_off, spoilt, unread, written}
-use Rattle.ssq_sink.specs.Table.{AreCounted, AreSinks, IsBadSink, joined, last_of, last_rows, output_kinds, reading, table_text, text_read}
-use Rattle.ssq_sink.specs.declared.table.Reading.{Reading}
-use Rattle.ssq_sink.specs.declared.table.Reading.TheVariants.{Each, Latest, Last}
+use Rattle.ssq_sink.specs.Table.{AreCounted, AreSinks, IsBadSink, output_kinds, reading, table_text}
+use Rattle.ssq_tables.specs.Agreeing.{rows_read}
+use Rattle.ssq_tables.proofs.Reading.{table_rows}
 use Rattle.ssq_gen.specs.Counts.{IsRows, counts_line}
 use Rattle.ssq_run.specs.Generated.{AreTold}
 
-module _ (P : Values → Type 0) where
-  -- each of these lists has rows of this kind alone
-  abbrev AreEach : List (List Values) → Type 0
-  AreEach epochs = (e : ℕ) (own : List Values) → slice_get epochs e ≡ Some own → All P own
-
-  all_joined : (epochs : List (List Values)) → AreEach epochs → All P (joined epochs)
-  all_joined [] each = All-nil P
-  all_joined (own ∷ epochs) each = All-append P own (joined epochs) (each 0 own refl) (all_joined epochs (λ e one is. each (suc e) one is))
-
-  all_last : (epochs : List (List Values)) → AreEach epochs → All P (last_of epochs)
-  all_last [] each = All-nil P
-  all_last (own ∷ []) each = each 0 own refl
-  all_last (own ∷ next ∷ epochs) each = all_last (next ∷ epochs) (λ e one is. each (suc e) one is)
-
-  one_of : (own : Bool) (row : Values) (rows : List Values) → P row → All P rows → All P (if own then rows else row ∷ rows)
-  one_of true row rows is are = are
-  one_of false row rows is are = All-cons P row rows is are
-
-  all_latest : (outputs : List Output) (rows : List Values) → All P rows → All P (last_rows outputs rows)
-  all_latest outputs [] are = All-nil P
-  all_latest outputs (row ∷ rows) are =
-      one_of (list_any (is_same_group outputs row) rows) row (last_rows outputs rows) (All-head P row rows are) (all_latest outputs rows (All-tail P row rows are))
-
-  either : (own : Bool) (x y : List Values) → All P x → All P y → All P (if own then x else y)
-  either true x y is are = is
-  either false x y is are = are
-
-  all_placed : (below : Values → Values → Bool) (row : Values) (rows : List Values) → P row → All P rows → All P (placed below row rows)
-  unfolding placed
-  all_placed below row [] is are = All-cons P row [] is are
-  all_placed below row (other ∷ rows) is are =
-      either (below other row) (other ∷ placed below row rows) (row ∷ other ∷ rows)
-      (All-cons P other (placed below row rows) (All-head P other rows are) (all_placed below row rows is (All-tail P other rows are)))
-      (All-cons P row (other ∷ rows) is are)
-
-  all_sorted : (below : Values → Values → Bool) (rows : List Values) → All P rows → All P (sorted below rows)
-  unfolding sorted
-  all_sorted below [] are = All-nil P
-  all_sorted below (row ∷ rows) are = all_placed below row (sorted below rows) (All-head P row rows are) (all_sorted below rows (All-tail P row rows are))
-
--- however they are read, sink files make rows
-read_rows : (own : Reading) (query : Bound) (epochs : List (List Values)) → AreEach (AreStoredIn (output_kinds query)) epochs → IsRows (output_names query) (output_kinds query) (text_read own query epochs)
-unfolding sink_text ordered_text
-read_rows Each query epochs each = record { rows = joined epochs; are = record { stored = all_joined (AreStoredIn (output_kinds query)) epochs each; text = refl } }
-read_rows Latest query epochs each = record {
-  rows = sorted (is_row_below query.order) (last_rows query.outputs (joined epochs));
-  are = record {
-    stored = all_sorted (AreStoredIn (output_kinds query)) (is_row_below query.order) (last_rows query.outputs (joined epochs))
-        (all_latest (AreStoredIn (output_kinds query)) query.outputs (joined epochs) (all_joined (AreStoredIn (output_kinds query)) epochs each));
-    text = refl;
-  };
-}
-read_rows Last query epochs each = record { rows = last_of epochs; are = record { stored = all_last (AreStoredIn (output_kinds query)) epochs each; text = refl } }
-
-pub table_rows : (query : Bound) (files : Files) (epochs : List (List Values)) → AreSinks query files epochs → IsRows (output_names query) (output_kinds query) (table_text query epochs)
-table_rows query files epochs sinks = read_rows (reading query) query epochs (λ e own is. (sinks.each e own is).are.stored)
+-- the text of the table is rows
+table_is_rows : (query : Bound) (files : Files) (epochs : List (List Values)) → AreSinks query files epochs → IsRows (output_names query) (output_kinds query) (table_text query epochs)
+table_is_rows query files epochs sinks = record { rows = rows_read (reading query) query epochs; are = table_rows query files epochs sinks }
 
 pub some_none : {A : Type 0} (o : Option A) → IsSome o → o ≡ None → ⊥
 some_none o some none = cc
@@ -120,7 +61,7 @@ pub record IsWritten (bound : Bound) (files : Files) (text : List ℕ) : Type 0 
   pub sinks : AreSinks bound files epochs
   pub is : text ≡ table_text bound epochs
 
-end_told : (bound : Bound) (files : Files) (told : List ℕ) (fault : Option SinkFault) → fault ≡ None → TableEnd (reading bound) bound files told fault → IsWritten bound files told
+pub end_told : (bound : Bound) (files : Files) (told : List ℕ) (fault : Option SinkFault) → fault ≡ None → TableEnd (reading bound) bound files told fault → IsWritten bound files told
 end_told bound files told fault none (written has is) = record { epochs = has.epochs; sinks = has.sinks; is = has.is }
 end_told bound files told fault none (spoilt at bad untold some) = absurd cc
 end_told bound files told fault none (unread own outer untold some) = absurd cc
@@ -148,13 +89,13 @@ pub written_rows : (bound : Bound) (files : Files) (outputs : List Output) (text
 written_rows bound files outputs text table heads bytes so =
     let O : List Output → Type 0 = λ o. IsRows (map (λ output. output.name) o) (map (λ output. output.kind) o) table in
     let T : List ℕ → Type 0 = λ t. IsRows (output_names bound) (output_kinds bound) t in
-    subst O (sym heads) (subst T (sym (bytes ∙ so.is)) (table_rows bound files so.epochs so.sinks))
+    subst O (sym heads) (subst T (sym (bytes ∙ so.is)) (table_is_rows bound files so.epochs so.sinks))
 
 -- and it is told
 pub written_told : (bound : Bound) (files : Files) (lines count : ℕ) (text line : List ℕ) (so : IsWritten bound files text) → AreCounted files count → ((rows : List Values) → AreRows (output_names bound) (output_kinds bound) text rows → line ≡ counts_line lines count rows)
     → (epochs : List (List Values)) × AreSinks bound files epochs × AreTold bound lines epochs line
 written_told bound files lines count text line so counted each =
-    let own = table_rows bound files so.epochs so.sinks in
+    let own = table_is_rows bound files so.epochs so.sinks in
     let T : List ℕ → Type 0 = λ t. AreRows (output_names bound) (output_kinds bound) t own.rows in (
       so.epochs,
       so.sinks,

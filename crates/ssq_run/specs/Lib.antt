@@ -6,5 +6,6 @@ pub mod Shown
 pub mod Stopping
 pub mod Lines
 pub mod Looked
+pub mod Prepared
 pub mod Program
 pub mod Going

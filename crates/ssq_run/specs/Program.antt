@@ -58,23 +58,23 @@ pub record IsIdle (went : Went) : Type 0 where
 abbrev pub IsOutside : Option Stop → Type 0
 IsOutside stop = (stop ≡ Some LogFault) ⊎ (stop ≡ Some NoMemory)
 
-module _ {L : Type 0} (told tells : Type 0) (lines : L → List Line) (available : L → ℕ) (answers : L → List ℕ) (faults : L → ℕ) where
-  -- a run went so, and this is why it stopped, told by the names of its streams
-  pub record HasRun (held : Held) (known : List ℕ → ℕ → ℕ) (bound : Bound) (ask : Ask) (OutTells : Type 0) (went : Went) (stop : Option Stop) : Type 0 where
-    pub end : Result (Unit {0}) RunFault
-    pub over : RunOver told tells lines available answers faults held known bound ask went.start went.now went.disk_faults went.disk_faults_now went.returned went.returned_now OutTells went.old went.written went.text end
-    pub is : told → IsToldAs stop (stop_of_end bound.streams (counts_in held bound.streams) end)
+-- What is told of a query, which changes nothing: its table was shown, for which the disk is only read; or it was explained, or its checkpoint was looked at;
+-- or generated input was run in memory, and told of; or memory ran out for the line that explains it.
+pub data HasTold (bound : Bound) (OutTells : Type 0) (went : Went) (stop : Option Stop) : Asked → Type 0 where
+  has_shown : (file : List ℕ) → went.now ≡ went.start → went.returned_now ≡ went.returned → went.text ≡ [] → (OutTells → (shown : List ℕ) × (went.written ≡ went.old ++ shown) × ShowEnd bound (files_now went.start) shown stop)
+      → HasTold bound OutTells went stop (asks_show file)
+  has_explained : (file : List ℕ) → IsUntouched went → went.text ≡ explained bound → stop ≡ None → HasTold bound OutTells went stop (asks_explain file)
+  ran_out : (file : List ℕ) → IsIdle went → stop ≡ Some NoMemory → HasTold bound OutTells went stop (asks_explain file)
+  has_looked : (file : List ℕ) → IsUntouched went → LookEnd bound (files_now went.start) went.text stop → HasTold bound OutTells went stop (asks_status file)
+  has_generated : (number lines : ℕ) → IsUntouched went → GenEnd bound number lines went.text stop → HasTold bound OutTells went stop (asks_gen number lines)
 
-  -- How a command goes whose file is a query: the query was run; or its table was shown, for which the disk is only read; or it was explained, or its checkpoint was looked at, which changes nothing;
-  -- or generated input was run in memory, and told of; or memory ran out.
+module _ {L : Type 0} (told tells : Type 0) (lines : L → List Line) (available : L → ℕ) (answers : L → List ℕ) (faults : L → ℕ) where
+  -- How a command goes whose file is a query: the query was run, and why that ended is told by the names of its streams; or something was told of it.
   pub data HasObeyed (held : Held) (known : List ℕ → ℕ → ℕ) (bound : Bound) (OutTells : Type 0) (went : Went) (stop : Option Stop) : Asked → Type 0 where
-    has_run : (file : List ℕ) (partitions most : Option ℕ) (rounds : ℕ) → HasRun held known bound (ask_of partitions most rounds) OutTells went stop → HasObeyed held known bound OutTells went stop (asks_run file partitions most rounds)
-    has_shown : (file : List ℕ) → went.now ≡ went.start → went.returned_now ≡ went.returned → went.text ≡ [] → (OutTells → (shown : List ℕ) × (went.written ≡ went.old ++ shown) × ShowEnd bound (files_now went.start) shown stop)
-        → HasObeyed held known bound OutTells went stop (asks_show file)
-    has_explained : (file : List ℕ) → IsUntouched went → went.text ≡ explained bound → stop ≡ None → HasObeyed held known bound OutTells went stop (asks_explain file)
-    has_looked : (file : List ℕ) → IsUntouched went → LookEnd bound (files_now went.start) went.text stop → HasObeyed held known bound OutTells went stop (asks_status file)
-    has_generated : (number lines : ℕ) → IsUntouched went → GenEnd bound number lines went.text stop → HasObeyed held known bound OutTells went stop (asks_gen number lines)
-    ran_out : (what : Asked) → IsIdle went → stop ≡ Some NoMemory → HasObeyed held known bound OutTells went stop what
+    has_run : (file : List ℕ) (partitions most : Option ℕ) (rounds : ℕ) (end : Result (Unit {0}) RunFault)
+        → RunOver told tells lines available answers faults held known bound (ask_of partitions most rounds) went.start went.now went.disk_faults went.disk_faults_now went.returned went.returned_now OutTells went.old went.written went.text end
+        → (told → IsToldAs stop (stop_of_end bound.streams (counts_in held bound.streams) end)) → HasObeyed held known bound OutTells went stop (asks_run file partitions most rounds)
+    has_told : (what : Asked) → HasTold bound OutTells went stop what → HasObeyed held known bound OutTells went stop what
 
   -- How the program ends, in the order of its work: memory ran out for its words; they are no command; the query's file could not be read;
   -- it is refused; or the command was obeyed.

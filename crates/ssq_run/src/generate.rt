@@ -10,13 +10,13 @@ ghost use Rattle.ssq_terms.specs.Setting.{CanRun};
 ghost use Rattle.ssq_run.specs.Generated.{AreTold, GenEnd, in_memory};
 ghost use Rattle.ssq_run.specs.Queries.{IsSomeQuery};
 
-use crate::obey::{Done, run};
+use crate::done::{Done, named};
 use crate::stop::Stop;
 use ssq_bind::{queries_are_typed, queries_read_their_streams};
 use ssq_fakes::{MemDisk, MemInputs, MemOut};
 use ssq_gen::{CountsFault, counts_line, made};
 use ssq_outside::{Disk, Gate};
-use ssq_runner::{Ask, runs_go_on};
+use ssq_runner::{Ask, run_query, runs_go_on};
 use ssq_shape::Bound;
 use ssq_sink::{SinkFault, count_sinks, write_table};
 use ssq_tables::checkpoints_hold_tables;
@@ -88,15 +88,16 @@ pub(crate) fn generate<G: Gate>(
     checkpoints_hold_tables();
     let mut inputs = made(alloc, number, lines)?;
     let mut out = MemOut::new(alloc);
-    let Done { disk, text: _, end } = run(
+    let ran = run_query(
         alloc,
         gate,
         bound,
-        ASK,
         MemDisk::new(alloc),
         &mut inputs,
         &mut out,
+        ASK,
     );
+    let Done { disk, text: _, end } = named(alloc, bound, ran);
     match end {
         Ok(()) => match counted(alloc, bound, disk, lines) {
             Ok(line) => Ok(line),

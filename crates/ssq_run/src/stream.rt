@@ -17,18 +17,19 @@ ghost use Rattle.ssq_meaning.specs.Meaning.{Values as ValuesOf};
 ghost use Rattle.ssq_meaning.specs.Table.{table};
 ghost use Rattle.ssq_meaning.specs.Times.{AtMost};
 ghost use Rattle.ssq_outside.specs.Faults.{Rises};
-ghost use Rattle.ssq_outside.specs.History.{LeavesNow, LeavesOnly};
+ghost use Rattle.ssq_outside.specs.History.{LeavesNow, LeavesOnly, files_now};
+ghost use Rattle.ssq_core.specs.Course.{Cuts as CutsOf};
 ghost use Rattle.ssq_core.specs.Sound.{StandsOrEmpty};
-ghost use Rattle.ssq_core.specs.Standing.{Stands};
-ghost use Rattle.ssq_course.specs.Setting.{Setting as SettingOf, parts_in, job_of};
+ghost use Rattle.ssq_core.specs.Standing.{Stands, StandsAt};
+ghost use Rattle.ssq_course.specs.Setting.{Setting as SettingOf, parts_in, course_of, job_of};
 ghost use Rattle.ssq_words.specs.Asking.{asked};
 ghost use Rattle.ssq_run.specs.Going.{IsAskedFor, CanGoOn, HasRoom, IsFaultless, CanLook, CanShow, NoneFailed, IsDone, IsDoneToAFault};
-ghost use Rattle.ssq_run.specs.Program.{went_of, ProgramEnd, ProgramWrote};
-ghost use Rattle.ssq_run.specs.Stopping.{stop_in, HasCount, WordsCause};
+ghost use Rattle.ssq_run.specs.Program.{ProgramWrote};
+ghost use Rattle.ssq_run.specs.Shown.{HasWrittenTable};
 
-use crate::obey::{Done, obey, stopped};
-use crate::prepare::read_query;
-use crate::stop::Stop;
+use crate::done::{Done, named, stopped};
+use crate::look::look_at;
+use crate::prepare::{Todo, prepare};
 use crate::tell::tell;
 use ssq_accept::files_have_one_answer;
 use ssq_bind::{queries_are_typed, queries_read_their_streams};
@@ -38,10 +39,9 @@ use ssq_meaning::{
     groups_in_update_replace_their_rows, joined_rows_add_up, rows_add_up, watermarks_never_fall,
 };
 use ssq_outside::{Disk, Gate, Inputs, Output};
-use ssq_runner::runs_go_on;
-use ssq_tables::checkpoints_hold_tables;
+use ssq_runner::{run_query, runs_go_on};
+use ssq_tables::{checkpoints_hold_tables, tables_agree};
 use ssq_terms::job_is_wanted;
-use ssq_words::ask;
 use std::alloc::Global;
 use std::sync::Wait;
 use std::thread::Threads;
@@ -54,36 +54,6 @@ pub struct Ended<D: Disk, I: Inputs, O: Output> {
     pub disk: D,
     pub inputs: I,
     pub out: O,
-}
-
-/// Does what the words ask for.
-fn work<D: Disk, I: Inputs, O: Output, G: Gate>(
-    alloc: Global,
-    gate: &G,
-    words: &[String],
-    disk: D,
-    inputs: &mut I,
-    out: &mut O,
-) -> Done<D>
-    ensures end { D.tells → I.tells → ProgramEnd I.tells (D.tells × I.Log.tells) I.Log.lines I.Log.available I.Log.answers I.Log.faults
-        (record { words = map string_bytes words.now; held = I.held inputs.old; known = I.available inputs.old }) O.tells
-        (went_of (D.history disk) (D.history result.disk) (D.faults disk) (D.faults result.disk) (I.returned inputs.old) (I.returned inputs.new) (O.content out.old) (O.content out.new) result.text.items) (stop_in result.end) }
-    ensures stands { D.tells → I.tells → (s : SettingOf) → IsAskedFor (record { words = map string_bytes words.now; held = I.held inputs.old; known = I.available inputs.old }) (D.history disk) s →
-        LeavesNow (D.history disk) (StandsOrEmpty (job_of s)) → LeavesOnly (D.history disk) (D.history result.disk) (StandsOrEmpty (job_of s)) }
-    ensures stay { D.tells → I.tells → (s : SettingOf) → IsAskedFor (record { words = map string_bytes words.now; held = I.held inputs.old; known = I.available inputs.old }) (D.history disk) s →
-        LeavesNow (D.history disk) (Stands (job_of s)) → LeavesOnly (D.history disk) (D.history result.disk) (Stands (job_of s)) }
-    ensures held { I.tells → I.held inputs.new ≡ I.held inputs.old }
-    ensures words { WordsCause (map string_bytes words.now) (stop_in result.end) }
-    ensures cause { HasCount (I.faults inputs.old) (I.faults inputs.new) (D.faults disk) (D.faults result.disk) (O.faults out.old) (O.faults out.new) (stop_in result.end) }
-    ensures counted { O.faults out.old ≤ O.faults out.new }
-{
-    match ask(alloc, words) {
-        Ok(command) => match read_query(alloc, inputs, command) {
-            Ok(bound) => obey(alloc, gate, command, &bound, disk, inputs, out),
-            Err(stop) => stopped(alloc, disk, stop),
-        },
-        Err(error) => stopped(alloc, disk, Stop::from(error)),
-    }
 }
 
 /// Does all that the program does: what the words ask for, on this disk and these inputs, with what there is to say on this
@@ -183,6 +153,12 @@ pub fn stream_main<R: Threads + Wait + Sync, D: Disk, I: Inputs, O: Output, G: G
         (record { words = map string_bytes words.now; held = I.held inputs; known = I.available inputs }) (D.history disk) →
         NoneFailed (I.faults inputs) (I.faults result.inputs) (D.faults disk) (D.faults result.disk) (O.faults out) (O.faults result.out) →
         IsDone result.status }
+    // And where it is done to its end, what it writes is the table of the query's meaning, for whatever cuts the checkpoint stands: its rows, each as
+    // often, after as many epochs as have a sink file.
+    ensures shows_table { D.tells → I.tells → O.tells → (can : CanShow
+        (record { words = map string_bytes words.now; held = I.held inputs; known = I.available inputs }) (D.history disk)) → (cuts : CutsOf) (planned committed : ℕ) →
+        StandsAt (course_of can.setting cuts) planned committed (files_now (D.history disk)) → result.status ≡ 0 →
+        HasWrittenTable can.setting cuts planned committed (files_now (D.history disk)) (O.content out) (O.content result.out) }
 
     // The words are refused exactly where they are no command, unless memory runs out.
     ensures usage { result.status ≡ 2 → asked (map string_bytes words.now) ≡ None }
@@ -209,9 +185,23 @@ pub fn stream_main<R: Threads + Wait + Sync, D: Disk, I: Inputs, O: Output, G: G
     queries_are_typed();
     queries_read_their_streams();
     checkpoints_hold_tables();
+    tables_agree();
     let mut inputs = inputs;
     let mut out = out;
-    let Done { disk, text, end } = work(alloc, gate, words, disk, &mut inputs, &mut out);
+    let Done { disk, text, end } = match prepare(alloc, words, &mut inputs) {
+        Ok(Todo::Run { bound, ask }) => {
+            let ran = run_query(alloc, gate, &bound, disk, &mut inputs, &mut out, ask);
+            let done = named(alloc, &bound, ran);
+            drop(bound);
+            done
+        }
+        Ok(Todo::Look { bound, look }) => {
+            let done = look_at(alloc, gate, &bound, look, disk, &mut out);
+            drop(bound);
+            done
+        }
+        Err(stop) => stopped(alloc, disk, stop),
+    };
     let status = tell(alloc, &mut out, text, end);
     Ended {
         status,

@@ -1,4 +1,4 @@
-use Rattle.std.proofs.Common.{◌≡◌, ◌∙◌, List, ℕ, Result, map, ap, subst, sym}
+use Rattle.std.proofs.Common.{List, ℕ, map, ap, subst, sym}
 use Rattle.std.specs.String.{string_bytes}
 use Rattle.ssq_outside.specs.declared.name.Name.{Name}
 use Rattle.ssq_outside.specs.Files.{AreNames}
@@ -6,7 +6,6 @@ use Rattle.ssq_outside.specs.History.{files_now}
 use Rattle.ssq_fakes.specs.Disks.{disk_history}
 use Rattle.ssq_shape.specs.declared.bound.Output.{Output}
 use Rattle.ssq_json.specs.Stored.{AreRows}
-use Rattle.ssq_meaning.specs.Meaning.{Values}
 use Rattle.ssq_sink.specs.Passing.{fault_in}
 use Rattle.ssq_gen.specs.Counts.{IsCause}
 use Rattle.ssq_gen.specs.declared.fault.CountsFault.{CountsFault}

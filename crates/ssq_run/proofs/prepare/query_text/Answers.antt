@@ -1,4 +1,4 @@
-use Rattle.std.proofs.Common.{◌≡◌, ◌∙◌, ap, sym}
+use Rattle.std.proofs.Common.{◌∙◌, ap, sym}
 use Rattle.std.specs.Prelude.{option_map}
 use Rattle.ssq_run.specs.Queries.{text_of}
 use Rattle.ssq_run.proofs.prepare.query_text.Goals as goal

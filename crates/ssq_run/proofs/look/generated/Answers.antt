@@ -1,7 +1,7 @@
 use Rattle.std.proofs.Common.{ap}
 use Rattle.ssq_run.specs.Stopping.{stop_in}
 use Rattle.ssq_run.proofs.Generating.{gen_as, gen_counts, gen_past}
-use Rattle.ssq_run.proofs.obey.generated.Goals as goal
+use Rattle.ssq_run.proofs.look.generated.Goals as goal
 
 pub returns-in-Err-clause-ended : goal.returns-in-Err-clause-ended
 returns-in-Err-clause-ended g c = gen_as c.args.bound.now c.args.number c.args.lines _ (stop_in c.stopped.result.end) c.in-Err.stop c.stopped.ensures.1 (ap stop_in c.stopped.ensures.2) c.in-Err.ensures.stop
