@@ -6,6 +6,7 @@
 - What an epoch costs over 1 and over 8 parts, 10 lines of each, at epochs 100, 1000 and 4000: microseconds and device calls
   over 50 epochs, less what opening costs.
 - What opening costs there: a run with nothing new.
+- What an epoch and an opening cost, and how large the state's files are, with 100,000 groups of which 10 change in each epoch, there.
 - 1,000,000 lines of one part in one epoch.
 
 Checkpoints lie in new folders inside FOLDER; without one, where temporary files lie. In a folder of memory (/dev/shm) the disk's
@@ -27,6 +28,8 @@ QUERY = (
     "SELECT id, v + 1 AS w FROM s WHERE v > 10 OUTPUT APPEND;\n"
 )
 CALLS = "openat,rename,renameat,renameat2,fsync,fdatasync,write,read,unlink,mkdir,lseek,pread64,getdents64,statx,newfstatat,fstat"
+GROUPS = "CREATE STREAM s (id BIGINT, v BIGINT) FROM 's';\nSELECT id, COUNT(*) AS n, SUM(v) AS t FROM s GROUP BY id OUTPUT UPDATE;\n"
+KEYS = 100_000
 EPOCHS = 50
 LINES = 10  # of each part in an epoch
 MANY = 1_000_000
@@ -35,10 +38,10 @@ MANY = 1_000_000
 class Work:
     """A folder with a query and the logs of its parts."""
 
-    def __init__(self, place, parts):
+    def __init__(self, place, parts, query=QUERY):
         self.folder = pathlib.Path(tempfile.mkdtemp(prefix="ssq-cost-", dir=place))
         self.logs = [self.folder / f"s.{part}.jsonl" for part in range(parts)]
-        (self.folder / "q.sql").write_text(QUERY)
+        (self.folder / "q.sql").write_text(query)
         self.grow(0)
 
     def __enter__(self):
@@ -47,9 +50,9 @@ class Work:
     def __exit__(self, *fault):
         shutil.rmtree(self.folder)
 
-    def grow(self, lines):
-        """Adds lines to each part."""
-        text = "".join(json.dumps({"id": n, "v": n % 23}, separators=(",", ":")) + "\n" for n in range(lines))
+    def grow(self, lines, step=1, numbers=MANY):
+        """Adds lines to each part, with ids so far apart, below so many."""
+        text = "".join(json.dumps({"id": n * step % numbers, "v": n % 23}, separators=(",", ":")) + "\n" for n in range(lines))
         for log in self.logs:
             with open(log, "a") as file:
                 file.write(text)
@@ -99,6 +102,26 @@ def measure_epochs(place, parts):
                 print("  device calls an epoch:", {name: round(count / EPOCHS, 2) for name, count in sorted(calls.items())})
 
 
+def measure_state(place):
+    with Work(place, 1, GROUPS) as work:
+        work.grow(KEYS)
+        seconds, used = work.run()
+        print(f"{KEYS} groups in one epoch: {seconds:.2f} s, {used.ru_maxrss / 1024:.0f} MB of memory")
+        done = 1
+        for at in (100, 1000, 4000):
+            work.grow(LINES * (at - done), step=9973, numbers=KEYS)
+            work.run_epochs()
+            opening = min(work.run_epochs()[0] for _ in range(5))
+            work.grow(LINES * EPOCHS, step=9973, numbers=KEYS)
+            some = work.run_epochs()[0]
+            files = [file.stat().st_size for file in (work.folder / "checkpoint" / "state").rglob("*") if file.is_file()]
+            print(
+                f"{KEYS} groups, at epoch {at}: {(some - opening) / EPOCHS * 1e6:.0f} us an epoch of {LINES} groups, {opening * 1e3:.1f} ms to open, "
+                f"{len(files)} files of the state with {sum(files) / 1e6:.2f} MB"
+            )
+            done = at + EPOCHS
+
+
 def measure_lines(place):
     with Work(place, 1) as work:
         work.grow(MANY)
@@ -114,6 +137,7 @@ def main():
     place = sys.argv[1] if len(sys.argv) > 1 else None
     for parts in (1, 8):
         measure_epochs(place, parts)
+    measure_state(place)
     measure_lines(place)
 
 

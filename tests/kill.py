@@ -1,7 +1,7 @@
 #!/usr/bin/env python3
 """Kills runs of the built program at random moments, and judges every file that they leave.
 
-    python3 tests/kill.py [RUNS] [SEED] [--shape plain|group|dedup|join]      (200 killed runs, plain; `make` builds bin/ssq)
+    python3 tests/kill.py [RUNS] [SEED] [--shape plain|group|dedup|join] [--epochs N] [--seconds S]      (200 killed runs, plain; `make` builds bin/ssq)
 
 A query with a watermark reads three parts, to which a writer appends while runs of many rounds go over them and between the
 runs. Each run is killed (SIGKILL) after a random time, from the first millisecond on, so that openings are hit too, and the
@@ -20,8 +20,8 @@ After each run the plans are read, to learn the cuts, and nothing else is taken 
 file and file of the state has to hold, and each line that was printed, is computed from the logs (tests/model.py), and compared
 byte for byte. Plans that were there stay. Each epoch whose line was printed has its commit and its sink file, and none is printed
 twice. Of the state each delta is there that the next run needs, and no file that may not be. After the last run each line of the
-logs is in exactly one epoch, no window is left to be closed, and of the state there is what a run that is done leaves; a program
-that makes no snapshots yet has to have all deltas.
+logs is in exactly one epoch, no window is left to be closed, and of the state there is exactly what upkeep leaves. Every second kill of
+a query that keeps state waits for a moment at which upkeep is due; it is told how many left a snapshot to be made or a file to be removed.
 
 It is not part of the gate, since it takes minutes and its timing is the machine's. A killed process loses nothing that the
 system had taken from it, so this shows crashes of the program, and not of the machine: those are proved.
@@ -52,8 +52,8 @@ STREAM = "CREATE STREAM s (ts TIMESTAMP, k STRING, v BIGINT) FROM 's'"
 WATERMARK = " WATERMARK FOR ts DELAY '10 seconds'"
 SECOND = datetime.timedelta(seconds=1)
 START = datetime.datetime(2024, 1, 1)
-LINES = 800  # of each part
 CAP = 10  # lines of a part in an epoch
+LINES = 80 * CAP  # of each part
 
 
 @dataclasses.dataclass
@@ -266,9 +266,14 @@ class Checkpoint:
             assert not lacking, f"deltas {sorted(lacking)} of {partition} are not there, with {commits} commits"
 
     def judge_end(self, commits):
-        """What a run that is done leaves of the state: what upkeep leaves, or all deltas where the program has none."""
+        """What upkeep leaves of the state is there, and nothing else."""
         for partition, versions in enumerate(self.versions(self.files())):
-            assert versions in (model.state_at_end(commits), (list(range(commits)), [])), f"state {partition}: {versions}"
+            assert versions == model.state_at_end(commits), f"state {partition}: {versions}"
+
+    def is_in_upkeep(self, commits):
+        """Of the committed epochs a snapshot is left to be made, or a file to be removed."""
+        found = self.versions(self.files())
+        return any(([e for e in deltas if e < commits], snapshots) != model.state_at_end(commits) for deltas, snapshots in found)
 
     def versions(self, files):
         """The versions of the deltas and of the snapshots of each partition that keeps state."""
@@ -295,11 +300,25 @@ def started(folder, job, out, *more):
     return subprocess.Popen([SSQ, "run", "q.sql", "--max-lines", str(CAP), *job.words(), *more], cwd=folder, stdout=out)
 
 
-def killed_run(folder, job, chance):
-    """Runs until a random moment. What it printed."""
+def wait_for_upkeep(folder, chance):
+    """Waits until an epoch is committed behind which a snapshot is due, for three seconds at most, and then a little."""
+    commits = folder / "checkpoint" / "commits"
+    done = len(list(commits.iterdir())) if commits.exists() else 0
+    due = next(filter(model.has_snapshot, itertools.count(done + 10 * chance.randrange(3))))
+    end = time.monotonic() + 3
+    while not (commits / str(due)).exists() and time.monotonic() < end:
+        time.sleep(0.0003)
+    time.sleep(0.02 * chance.random())
+
+
+def killed_run(folder, job, chance, longest):
+    """Runs until a random moment; of a query that keeps state every second run until upkeep is due. What it printed."""
     with open(folder / "out", "w+") as out:
         run = started(folder, job, out, "--rounds", "1000000")
-        time.sleep(chance.choice([0.002, 0.02, 0.3, 1.0]) * chance.random())
+        if job.query.keeps_state() and chance.random() < 0.5:
+            wait_for_upkeep(folder, chance)
+        else:
+            time.sleep(chance.choice([0.002, 0.02, 0.3, 1.0]) * longest * chance.random())
         run.send_signal(signal.SIGKILL)
         status = run.wait()
         out.seek(0)
@@ -316,15 +335,16 @@ def whole_run(folder, job):
     return output
 
 
-def trial(folder, job, kills, chance):
+def trial(folder, job, kills, chance, longest):
     """One checkpoint: runs that are killed, and a last one. What came of it, in numbers."""
     checkpoint = Checkpoint(folder, job)
     writer = Writer(job.logs(folder), job.lines, chance)
     writer.start()
     found = collections.Counter()
     for _ in range(kills):
-        epochs, commits = checkpoint.judge(killed_run(folder, job, chance))
+        epochs, commits = checkpoint.judge(killed_run(folder, job, chance, longest))
         found["opened"] += len(epochs.cuts) - commits
+        found["upkeep"] += checkpoint.is_in_upkeep(commits)
     found["early"] = len(checkpoint.told)
     writer.done.set()
     writer.join()
@@ -385,6 +405,8 @@ def asked():
     words.add_argument("runs", nargs="?", type=int, default=200)
     words.add_argument("seed", nargs="?", type=int, default=int(time.time()))
     words.add_argument("--shape", choices=["plain", *MANY], default="plain")
+    words.add_argument("--epochs", type=int, default=LINES // CAP, help="of each checkpoint, about so many")
+    words.add_argument("--seconds", type=float, default=1.0, help="after which a run is killed at the latest")
     return words.parse_args()
 
 
@@ -392,6 +414,8 @@ def main():
     ask = asked()
     chance = random.Random(ask.seed)
     jobs = jobs_taken(ask.shape)
+    for job in jobs:
+        job.lines = job.lines * ask.epochs * CAP // LINES
     killed, found = 0, collections.Counter()
     for number in itertools.count():
         if killed >= ask.runs:
@@ -400,7 +424,7 @@ def main():
         kills = min(chance.randrange(1, 6), ask.runs - killed)
         folder = pathlib.Path(tempfile.mkdtemp(prefix="ssq-kill-"))
         try:
-            found += trial(folder, job, kills, chance)
+            found += trial(folder, job, kills, chance, ask.seconds)
         except AssertionError as wrong:
             sys.exit(f"checkpoint {number} ({job.name}) of seed {ask.seed}: {wrong}; what is left is in {folder}")
         shutil.rmtree(folder)
@@ -409,7 +433,8 @@ def main():
     print(f"{killed} runs killed over {over}, seed {ask.seed}: {number} checkpoints, {found['early']} epochs told before a kill,")
     print(f"{found['opened']} planned and not committed at a kill, {found['epochs']} epochs in all, each file right")
     if ask.shape in MANY:
-        print(f"{found['late']} rows late, {found['equal']} of them at the watermark itself, {found['closing']} epochs without lines")
+        print(f"{found['late']} rows late, {found['equal']} of them at the watermark itself, {found['closing']} epochs without lines,")
+        print(f"{found['upkeep']} kills left a snapshot to be made or a file to be removed")
     if ask.shape == "dedup":
         print(f"{found['repeats']} rows were repeats")
     if ask.shape == "join":

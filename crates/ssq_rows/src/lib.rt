@@ -22,3 +22,5 @@ mod table_tests;
 mod tables;
 #[cfg(test)]
 mod tests;
+#[cfg(test)]
+mod upkeep_tests;

@@ -17,7 +17,7 @@ use std::{env, fs, process};
 /// What a crash left of a name that changed, by the number of a content it had.
 static IMAGES: [&[u64]; 2] = [&[0], &[1]];
 
-type Over = Ended<MemDisk, MemInputs, MemOut>;
+pub(crate) type Over = Ended<MemDisk, MemInputs, MemOut>;
 
 fn words_of(alloc: Global, words: &[&str]) -> Result<Vec<String>, AllocError> {
     let mut all = Vec::new(alloc);
