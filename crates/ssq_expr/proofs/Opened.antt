@@ -1,5 +1,5 @@
 -- What an expression is on a row, by what stands in its boxes.
-use Rattle.std.proofs.Common.{◌≡◌, ℤ, List, Option, Ok, refl}
+use Rattle.std.proofs.Common.{◌≡◌, ◌∙◌, ℤ, List, Option, Ok, refl}
 use Rattle.ssq_value.specs.declared.value.Value.{Value}
 use Rattle.ssq_value.specs.declared.value.Value.TheVariants.{Truth}
 use Rattle.ssq_shape.specs.declared.typed.Arithmetic.{Arithmetic}
@@ -51,3 +51,11 @@ module _ (aggregates : List (Option Value)) (own : Typed) (row : List Value) whe
   pub or_opened : (a a' b b' : Typed) → own ≡ view.Or a b → a' ≡ a → b' ≡ b → evaluated_with aggregates own row ≡ and_then (evaluated_with aggregates a' row) (λ left. disjunction (truth_in left) (truth_of (evaluated_with aggregates b' row)))
   unfolding evaluated_with
   or_opened a a' b b' is left right = rw (is, left, right, or_is a b) refl
+
+  -- operators on two operands that are known
+
+  pub compared_known : (comparison : Comparison) (a b : Typed) (left right : Value) → own ≡ view.Compared comparison a b → evaluated_with aggregates a row ≡ Ok left → evaluated_with aggregates b row ≡ Ok right → evaluated_with aggregates own row ≡ Ok (truth_value (compared comparison left right))
+  compared_known comparison a b left right is first second = compared_opened comparison a a b b is refl refl ∙ rw (first, second) refl
+
+  pub arithmetic_known : (op : Arithmetic) (a b : Typed) (left right : Value) → own ≡ view.Arithmetic op a b → evaluated_with aggregates a row ≡ Ok left → evaluated_with aggregates b row ≡ Ok right → evaluated_with aggregates own row ≡ arithmetic op (number_in left) (number_in right)
+  arithmetic_known op a b left right is first second = arithmetic_opened op a a b b is refl refl ∙ rw (first, second) refl

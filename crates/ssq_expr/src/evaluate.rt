@@ -1,8 +1,7 @@
 //! The evaluation of an expression on a row, and on a group.
 
-ghost use Rattle.std.specs.Prelude.{◌≡◌, All, IfOk, IfSome, Ok as OkOf};
+ghost use Rattle.std.specs.Prelude.{◌≡◌, All, IfOk, IfSome};
 ghost use Rattle.std.specs.Cow.{cow_value};
-ghost use Rattle.ssq_value.specs.declared.value.Value.TheVariants.{Int as IntOf, Text as TextOf};
 ghost use Rattle.ssq_time.specs.Time.{IsStampTime};
 ghost use Rattle.ssq_value.specs.Kind.{IfTime};
 ghost use Rattle.ssq_shape.specs.Evaluation.{aggregate_at, cell_at, constant, evaluated, evaluated_with};
@@ -10,12 +9,13 @@ ghost use Rattle.ssq_shape.specs.Fit.{IsFit};
 ghost use Rattle.ssq_expr.specs.Answers.{Answers, itself};
 
 use crate::fault::EvalFault;
+use crate::operands::{constant, operand, operation};
 use crate::operators::{
-    LONGEST, arithmetic, both, compared, either, is_null, joined, negated, negation, number_in,
-    shifted, time_in, timestamp, truth_in, truth_value,
+    arithmetic, both, compared, either, is_null, joined, negated, negation, number_in, shifted,
+    time_in, truth_in, truth_value,
 };
 use ssq_shape::{Comparison, Typed, values_stay_fit};
-use ssq_value::{Text, Value};
+use ssq_value::Value;
 use std::alloc::Global;
 use std::borrow::Cow;
 
@@ -38,38 +38,14 @@ fn aggregate_at<'a>(aggregates: &'a [Option<Value>], at: usize) -> Result<Cow<'a
     }
 }
 
-/// A text of at most 1,048,576 bytes.
-fn fitting_text<'a>(value: &'a Value, text: &Text) -> Result<Cow<'a, Value>, EvalFault>
-    requires { value.now ≡ TextOf text.now }
+fn constant_in<'a>(value: &'a Value) -> Result<Cow<'a, Value>, EvalFault>
     ensures { Answers cow_value result (constant value.now) }
 {
-    if text.as_bytes().len() <= LONGEST {
-        Ok(Cow::Borrowed(value))
-    } else {
-        Err(EvalFault::Overflow)
-    }
-}
-
-/// Each number has 64 bits.
-fn fitting_number<'a>(number: i64) -> Cow<'a, Value>
-    ensures { constant (IntOf number) ≡ OkOf (cow_value result) }
-{
-    Cow::Owned(Value::Int(number))
-}
-
-fn constant<'a>(value: &'a Value) -> Result<Cow<'a, Value>, EvalFault>
-    ensures { Answers cow_value result (constant value.now) }
-{
-    match value {
-        Value::Time(time) => Ok(Cow::Owned(timestamp(*time)?)),
-        Value::Text(text) => fitting_text(value, text),
-        Value::Int(number) => Ok(fitting_number(*number)),
-        Value::Null | Value::Truth(_) => Ok(Cow::Borrowed(value)),
-    }
+    Ok(Cow::Borrowed(constant(value)?))
 }
 
 /// The value of an expression, which is borrowed where it stands in the row, in the aggregates or in the query. Most
-/// operands are columns and constants, and take no frame with room for each operator.
+/// operands are columns and constants, and most operators have these alone: they take no frame with room for each operator.
 #[cycle(evaluation)]
 #[tactic(auto, using(ssq_shape::specs::Boxes::boxes), unfolding(ssq_shape::specs::Evaluation::evaluated_with))]
 pub(crate) fn evaluate<'a>(
@@ -83,8 +59,11 @@ pub(crate) fn evaluate<'a>(
     match expression {
         Typed::Column(at) => Ok(cell_at(row, *at)),
         Typed::Aggregate(at) => aggregate_at(aggregates, *at),
-        Typed::Constant(value) => constant(value),
-        _ => operated(alloc, expression, row, aggregates),
+        Typed::Constant(value) => constant_in(value),
+        _ => match operation(expression, row, aggregates) {
+            Some(result) => Ok(Cow::Owned(result?)),
+            None => operated(alloc, expression, row, aggregates),
+        },
     }
 }
 
@@ -103,7 +82,7 @@ fn operated<'a>(
     match expression {
         Typed::Column(at) => Ok(cell_at(row, *at)),
         Typed::Aggregate(at) => aggregate_at(aggregates, *at),
-        Typed::Constant(value) => constant(value),
+        Typed::Constant(value) => constant_in(value),
         Typed::Negated(a) => {
             let number = number_in(evaluate(alloc, a.get(), row, aggregates)?);
             Ok(Cow::Owned(negated(number)?))
@@ -165,6 +144,25 @@ fn operated<'a>(
     }
 }
 
+/// As [`evaluate`], in memory of its own. What most items of SELECT are, a column or an operator on two operands, is made in place.
+fn value_of(
+    alloc: Global,
+    expression: &Typed,
+    row: &[Value],
+    aggregates: &[Option<Value>],
+) -> Result<Value, EvalFault>
+    ensures { Answers itself result (evaluated_with aggregates.now expression.now row.now) }
+{
+    if let Some(value) = operand(expression, row, aggregates) {
+        return Ok(value.clone()?);
+    }
+    if let Some(result) = operation(expression, row, aggregates) {
+        return result;
+    }
+    let value = operated(alloc, expression, row, aggregates)?;
+    Ok(value.into_owned()?)
+}
+
 /// The value of an expression on a row. Its caller gives a row of the types with which the expression was bound; in
 /// any other an operand of a wrong type counts as NULL.
 pub fn eval(alloc: Global, expression: &Typed, row: &[Value]) -> Result<Value, EvalFault>
@@ -175,8 +173,7 @@ pub fn eval(alloc: Global, expression: &Typed, row: &[Value]) -> Result<Value, E
     ensures fit { All IsFit row.now → IfOk result IsFit }
 {
     values_stay_fit();
-    let value = evaluate(alloc, expression, row, &[])?;
-    Ok(value.into_owned()?)
+    value_of(alloc, expression, row, &[])
 }
 
 /// The value of an expression on a group: its keys, and its aggregates by their numbers. An aggregate is none where it is
@@ -192,6 +189,5 @@ pub fn eval_group(
     // A time is one that can be printed, where each time of the keys and of the aggregates is.
     ensures years { All (λ aggregate. IfSome aggregate (IfTime IsStampTime)) aggregates.now → All (IfTime IsStampTime) keys.now → IfOk result (IfTime IsStampTime) }
 {
-    let value = evaluate(alloc, expression, keys, aggregates)?;
-    Ok(value.into_owned()?)
+    value_of(alloc, expression, keys, aggregates)
 }

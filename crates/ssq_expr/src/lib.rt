@@ -6,6 +6,7 @@
 
 mod evaluate;
 mod fault;
+mod operands;
 mod operators;
 mod plain;
 

@@ -2,7 +2,7 @@
 
 ghost use Rattle.std.specs.Prelude.{◌≡◌};
 ghost use Rattle.std.specs.Cow.{cow_value};
-ghost use Rattle.ssq_shape.specs.Evaluation.{number_in, time_in, truth_in, truth_value, is_null, timestamp, negated, calculated, arithmetic, shifted, joined, text_in, holds, compared, negation, both, either};
+ghost use Rattle.ssq_shape.specs.Evaluation.{number_in, time_in, truth_in, truth_value, is_true, is_null, timestamp, negated, calculated, arithmetic, shifted, joined, text_in, holds, compared, negation, both, either};
 ghost use Rattle.ssq_expr.specs.Answers.{Answers, itself};
 
 use crate::fault::EvalFault;
@@ -17,7 +17,7 @@ use std::cmp::Ordering;
 pub(crate) const LONGEST: usize = 1_048_576;
 
 /// The number that a value is, if it is one.
-fn number_of(value: &Value) -> Option<i64>
+pub(crate) fn number_of(value: &Value) -> Option<i64>
     ensures { result ≡ number_in value.now }
 {
     match value {
@@ -71,6 +71,16 @@ pub(crate) fn truth_value(truth: Option<bool>) -> Value
     }
 }
 
+/// Whether a truth of three is TRUE.
+pub(crate) fn is_true(truth: Option<bool>) -> bool
+    ensures { result ≡ is_true (truth_value truth) }
+{
+    match truth {
+        Some(truth) => truth,
+        None => false,
+    }
+}
+
 fn is_nothing(value: &Value) -> bool
     ensures { result ≡ is_null value.now }
 {
@@ -83,7 +93,7 @@ pub(crate) fn is_null(value: Cow<Value>) -> bool
     is_nothing(&value)
 }
 
-pub(crate) fn timestamp(time: i64) -> Result<Value, EvalFault>
+fn timestamp(time: i64) -> Result<Value, EvalFault>
     ensures { Answers itself result (timestamp time) }
 {
     if is_stamp_time(time) {
@@ -208,7 +218,7 @@ fn holds(comparison: Comparison, order: Ordering) -> bool
     }
 }
 
-fn compared_values(comparison: Comparison, left: &Value, right: &Value) -> Option<bool>
+pub(crate) fn compared_values(comparison: Comparison, left: &Value, right: &Value) -> Option<bool>
     ensures { result ≡ compared comparison left.now right.now }
 {
     if is_nothing(left) || is_nothing(right) {

@@ -9,7 +9,8 @@ ghost use Rattle.ssq_expr.specs.Answers.{Answers, itself};
 
 use crate::evaluate::{eval, evaluate};
 use crate::fault::EvalFault;
-use crate::operators::truth_in;
+use crate::operands::comparison;
+use crate::operators::{is_true, truth_in};
 use ssq_shape::{Bound, Output, Typed, values_stay_fit};
 use ssq_value::{Row, Value};
 use std::alloc::{AllocError, Global};
@@ -21,6 +22,9 @@ pub fn passes(alloc: Global, filter: &Option<Typed>, row: &[Value]) -> Result<bo
     let Some(condition) = filter else {
         return Ok(true);
     };
+    if let Some(truth) = comparison(condition, row, &[]) {
+        return Ok(is_true(truth));
+    }
     let truth = truth_in(evaluate(alloc, condition, row, &[])?);
     Ok(truth == Some(true))
 }

@@ -2,7 +2,7 @@ use Rattle.std.proofs.Common.{◌≡◌, ◌≤◌, List, ℕ, subst, length, ar
 use Rattle.std.specs.Str.{IsUtf8}
 use Rattle.ssq_shape.specs.Evaluation.{longest}
 use Rattle.ssq_expr.proofs.Texts.{text_kept}
-use Rattle.ssq_expr.proofs.evaluate.fitting_text.Goals as goal
+use Rattle.ssq_expr.proofs.operands.fitting_text.Goals as goal
 
 pub returns-then-as_bytes-le-LONGEST : goal.returns-then-as_bytes-le-LONGEST
 returns-then-as_bytes-le-LONGEST c =
