@@ -9,7 +9,7 @@ use Rattle.ssq_value.specs.Order.{values_cmp}
 use Rattle.ssq_version.specs.State.{Change, IsAfter, State, value_after, value_at}
 use Rattle.ssq_shape.specs.declared.bound.Bound.{Bound}
 use Rattle.ssq_shape.specs.declared.bound.Grouping.{Grouping}
-use Rattle.ssq_meaning.specs.declared.fed_row.FedRow.{FedRow}
+use Rattle.ssq_meaning.specs.FedRows.{FedRow}
 use Rattle.ssq_meaning.specs.declared.total.Total.{Total}
 use Rattle.ssq_meaning.specs.Group.{kept}
 use Rattle.ssq_meaning.specs.GroupLaws.{held}

@@ -11,7 +11,7 @@ use Rattle.ssq_version.specs.State.{State, Ascends, by_bytes, value_at}
 use Rattle.ssq_version.proofs.Values.{by_case, one_key, first_at, others_at, is_itself, none_behind}
 use Rattle.ssq_shape.specs.declared.bound.Bound.{Bound}
 use Rattle.ssq_shape.specs.declared.bound.Grouping.{Grouping}
-use Rattle.ssq_meaning.specs.declared.fed_row.FedRow.{FedRow}
+use Rattle.ssq_meaning.specs.FedRows.{FedRow}
 use Rattle.ssq_meaning.specs.declared.total.Total.{Total}
 use Rattle.ssq_meaning.specs.Fit.{IsFit}
 use Rattle.ssq_meaning.specs.Group.{closing_time, is_same, members}

@@ -21,7 +21,7 @@ use Rattle.ssq_shape.specs.declared.bound.Function.TheVariants as function
 use Rattle.ssq_shape.specs.declared.bound.Grouping.{Grouping}
 use Rattle.ssq_shape.specs.declared.bound.Shape.{Shape}
 use Rattle.ssq_shape.specs.Evaluation.{cell_at, is_null}
-use Rattle.ssq_meaning.specs.declared.fed_row.FedRow.{FedRow}
+use Rattle.ssq_meaning.specs.FedRows.{FedRow}
 use Rattle.ssq_meaning.specs.declared.total.Total.{Total}
 use Rattle.ssq_meaning.specs.Fit.{IsFit}
 use Rattle.ssq_meaning.specs.Group.{entry_of, has_key, is_closed, is_same, kept, keys_in, members, open_keys, totals_in}

@@ -1,33 +1,35 @@
 -- What a change says of groups.
-use Rattle.std.proofs.Common.{◌≡◌, ◌<◌, ◌+◌, ◌++◌, ℕ, [], ◌∷◌, Some, None, List, Option, Bool, true, false, All, refl, ap, sym, subst, ◌∙◌, take, length, get_or}
+use Rattle.std.proofs.Common.{◌≡◌, ◌<◌, ◌+◌, ◌++◌, ℕ, [], ◌∷◌, Some, None, List, Option, Bool, true, false, All, refl, ap, sym, subst, ◌∙◌, take, length, get_or, map}
 use Rattle.std.specs.Prelude.{◌||◌, if◌then◌else◌}
 use Rattle.std.specs.declared.cmp.Ordering.TheVariants.{Less}
 use Rattle.std.specs.BTreeMap.{BTreeMap, get, is_at}
 use Rattle.std.specs.Cmp.Lexicographic.{nat_list_cmp_total}
-use Rattle.std.specs.List.{AllByRecursion, list_any}
+use Rattle.std.specs.List.{AllByRecursion}
 use Rattle.std.specs.List.Sorted.{IsStrictlySortedBy}
 use Rattle.std.specs.Map.{lookup}
+use Rattle.std.specs.Option.{option_or}
 use Rattle.std.specs.Ordering.{is_eq}
 use Rattle.std.proofs.lemmas.Cmp.{tied_itself}
 use Rattle.std.proofs.lemmas.List.{map-append, take_more}
-use Rattle.std.proofs.lemmas.List.Elements.{All-from_recursion, All-get_or, All-weaker, recursion_from_All}
-use Rattle.std.proofs.lemmas.List.Folds.{list_any-append}
+use Rattle.std.proofs.lemmas.List.Elements.{All-push, All-tail, All-weaker, recursion_from_All}
 use Rattle.ssq_value.specs.Key.{IsSpelled, keys_of}
 use Rattle.ssq_value.specs.Order.{values_cmp}
 use Rattle.ssq_value.specs.OrderLaws.{values_cmp_total}
-use Rattle.ssq_version.specs.State.{Change, IsToldAt, by_bytes, value_at}
-use Rattle.ssq_version.proofs.Values.{by_case, one_key}
+use Rattle.ssq_version.specs.State.{Change, IsShortEntry, by_bytes, last_at, value_at}
+use Rattle.ssq_version.proofs.LastSaid.{last_has, or_none}
+use Rattle.ssq_version.proofs.Values.{one_key}
 use Rattle.ssq_meaning.specs.declared.total.Total.{Total}
 use Rattle.ssq_meaning.specs.Group.{is_same}
 use Rattle.ssq_meaning.specs.GroupLaws.{IsKeySpelled}
 use Rattle.ssq_meaning.specs.Meaning.{Values}
 use Rattle.ssq_meaning.specs.Totals.{totals_bytes}
 use Rattle.ssq_agg.specs.declared.kept.Group.{Group}
-use Rattle.ssq_agg.specs.Groups.{Held}
+use Rattle.ssq_agg.specs.Readable.{IsFitGroup}
 use Rattle.ssq_agg.specs.Shown.{Pair}
-use Rattle.ssq_agg.specs.Steps.{AreKeys, AreTouchedKeys, Says, is_among, keys_of_groups, said_if}
+use Rattle.ssq_agg.specs.Steps.{AreKeys, AreTouchedKeys, Says, gone_entry, is_among, keys_of_groups, put_entry, said_if}
 use Rattle.ssq_agg.proofs.Dueing.{keys_of_pairs}
-use Rattle.ssq_agg.proofs.Taking.{same_back, same_is}
+use Rattle.ssq_agg.proofs.Hashed.{none_left, one_on}
+use Rattle.ssq_agg.proofs.Taking.{same_is}
 
 -- the law of keys
 abbrev pub AreApart : Type 0
@@ -49,125 +51,71 @@ same_bytes apart many key other is are = by (is_at (by_bytes (keys_of key)) (key
     by false true at same =
         let no : true ≡ false = ap is_eq (sym (tied_itself nat_list_cmp_total (keys_of key))) ∙ ap (λ k. is_at (by_bytes (keys_of key)) (keys_of k)) (same_is key other same) ∙ at in absurd cc
 
--- ---- the groups that go
+-- ---- what the entries say
 
-pub says_nothing : (many : ℕ) (closed : List Group) (change : Change) → closed ≡ [] → change ≡ [] → Says many (λ key. None) closed change
-says_nothing many closed change none empty = record {
-  told = λ key is. ap (λ (c : Change). value_at c (keys_of key)) empty ∙ ap (λ l. said_if None (is_among l key)) (sym none);
-  only = λ bytes said has. let no : None ≡ Some said = ap (λ (c : Change). value_at c bytes) (sym empty) ∙ has in absurd cc;
-}
+once : (key : Values) (rest : List Pair) → AllByRecursion (λ y. values_cmp key y ≡ Less) (keys_of_pairs rest) → lookup (is_at (values_cmp key)) rest ≡ None
+once key [] all = refl
+once key (entry ∷ rest) all = ap (λ r. if is_eq r then Some entry.1 else lookup (is_at (values_cmp key)) rest) all.0 ∙ once key rest all.1
 
-is_among-push : (closed : List Group) (group : Group) (key : Values) → is_among (closed ++ group ∷ []) key ≡ (is_among closed key || is_same key group.key)
-is_among-push closed group key =
-    ap (list_any (is_same key)) (map-append (λ (group : Group). group.key) closed (group ∷ []))
-    ∙ list_any-append (is_same key) (keys_of_groups closed) (group.key ∷ [])
-    ∙ ap (λ b. is_among closed key || b) (by (is_same key group.key))
-  where
-    by : (b : Bool) → (b || false) ≡ b
-    by true = refl
-    by false = refl
+-- the keys of a map's entries are those of so many values, each of them once
+pub record AreOnce (many : ℕ) (pairs : List Pair) : Type 0 where
+  pub keys : AllByRecursion (λ (entry : Pair). IsKeySpelled many entry.0) pairs
+  pub ordered : IsStrictlySortedBy values_cmp (keys_of_pairs pairs)
 
-gone_by : (among same at : Bool) (was : Option (Option (List ℕ))) → at ≡ same → was ≡ said_if None among → (if at then Some None else was) ≡ said_if None (among || same)
-gone_by true true at was is old = ap (λ b. if b then Some None else was) is
-gone_by true false at was is old = ap (λ b. if b then Some None else was) is ∙ old
-gone_by false true at was is old = ap (λ b. if b then Some None else was) is
-gone_by false false at was is old = ap (λ b. if b then Some None else was) is ∙ old
-
-pub says_gone : AreApart → (many : ℕ) (closed more : List Group) (group : Group) (old new : Change) → more ≡ closed ++ group ∷ [] → IsKeySpelled many group.key → IsToldAt (keys_of group.key) None old new
-    → Says many (λ key. None) closed old → Says many (λ key. None) more new
-says_gone apart many closed more group old new push is changed was = record {
-  told = λ key key_is.
-      changed (keys_of key)
-      ∙ gone_by (is_among closed key) (is_same key group.key) (is_at (by_bytes (keys_of group.key)) (keys_of key)) (value_at old (keys_of key))
-      (same_bytes apart many group.key key is key_is ∙ same_back group.key key) (was.told key key_is)
-      ∙ ap (said_if None) (sym (ap (λ l. is_among l key) push ∙ is_among-push closed group key));
-  only = λ bytes said has.
-      by_case (is_at (by_bytes (keys_of group.key)) bytes)
-      (λ at. (group.key, sym (one_key (keys_of group.key) bytes at), is))
-      (λ there. was.only bytes said (ap (λ b. if b then Some None else value_at old bytes) (sym there) ∙ sym (changed bytes) ∙ has));
-}
-
--- the group at a place
-pub says_gone_at : AreApart → (many : ℕ) (closed : List Group) (at : ℕ) (group : Group) (old new : Change) → at < length closed → group ≡ get_or closed at group → AreKeys many (keys_of_groups closed)
-    → IsToldAt (keys_of group.key) None old new → Says many (λ key. None) (take at closed) old → Says many (λ key. None) (take (at + 1) closed) new
-says_gone_at apart many closed at group old new inside is keys changed was =
-    says_gone apart many (take at closed) (take (at + 1) closed) group old new (take_more closed at group inside ∙ ap (λ g. take at closed ++ g ∷ []) (sym is))
-    (subst (λ (g : Group). IsKeySpelled many g.key) (sym is) (All-get_or (λ (g : Group). IsKeySpelled many g.key) closed at group inside (All-from_recursion (λ (g : Group). IsKeySpelled many g.key) closed (each closed keys))))
-    changed was
-  where
-    each : (groups : List Group) → AreKeys many (keys_of_groups groups) → AllByRecursion (λ (g : Group). IsKeySpelled many g.key) groups
-    each [] keys = tt
-    each (g ∷ groups) keys = (keys.0, each groups keys.1)
-
--- ---- and the groups that were touched
-
--- what is said of a key, where its totals are yet to be said
-abbrev pub said_over : Option (List Total) → Option (Option (List ℕ)) → Option (Option (List ℕ))
-said_over None said = said
-said_over (Some totals) said = Some (Some (totals_bytes totals))
-
--- the change says all once it says what is left of the groups that were touched
-pub record SaysTo (many : ℕ) (found : Held) (closed : List Group) (left : List Pair) (change : Change) : Type 0 where
-  pub told : (key : Values) → IsKeySpelled many key → said_over (lookup (is_at (values_cmp key)) left) (value_at change (keys_of key)) ≡ said_if (found key) (is_among closed key)
-  pub only : (bytes : List ℕ) (said : Option (List ℕ)) → value_at change bytes ≡ Some said → (key : Values) × (bytes ≡ keys_of key) × IsKeySpelled many key
-  pub keys : AllByRecursion (λ (entry : Pair). IsKeySpelled many entry.0) left
-  pub ordered : IsStrictlySortedBy values_cmp (keys_of_pairs left)
-
-pub said_begins : (many : ℕ) (found : Held) (closed : List Group) (left : List Pair) (change : Change) → ((key : Values) → found key ≡ lookup (is_at (values_cmp key)) left)
-    → AllByRecursion (λ (entry : Pair). IsKeySpelled many entry.0) left → IsStrictlySortedBy values_cmp (keys_of_pairs left) → Says many (λ key. None) closed change → SaysTo many found closed left change
-said_begins many found closed left change finds keys ordered was = record {
-  told = λ key is. ap (said_over (lookup (is_at (values_cmp key)) left)) (was.told key is) ∙ by (lookup (is_at (values_cmp key)) left) (is_among closed key) ∙ ap (λ o. said_if o (is_among closed key)) (sym (finds key));
-  only = was.only;
-  keys = keys;
-  ordered = ordered;
-}
-  where
-    by : (o : Option (List Total)) (b : Bool) → said_over o (said_if None b) ≡ said_if o b
-    by None b = refl
-    by (Some totals) b = refl
-
-said_once : (key : Values) (rest : List Pair) → AllByRecursion (λ y. values_cmp key y ≡ Less) (keys_of_pairs rest) → lookup (is_at (values_cmp key)) rest ≡ None
-said_once key [] all = refl
-said_once key (entry ∷ rest) all = ap (λ r. if is_eq r then Some entry.1 else lookup (is_at (values_cmp key)) rest) all.0 ∙ said_once key rest all.1
-
-said_first : AreApart → (many : ℕ) (found : Held) (closed : List Group) (rest : List Pair) (group : Values) (totals : List Total) (old new : Change) → IsToldAt (keys_of group) (Some (totals_bytes totals)) old new
-    → SaysTo many found closed ((group, totals) ∷ rest) old → SaysTo many found closed rest new
+behind : (many : ℕ) (pair : Pair) (pairs : List Pair) → AreOnce many (pair ∷ pairs) → AreOnce many pairs
 unfolding IsStrictlySortedBy
-said_first apart many found closed rest group totals old new changed was = record {
-  told = λ key is. by_case (is_same key group) (here key is) (there key is);
-  only = λ bytes said has.
-      by_case (is_at (by_bytes (keys_of group)) bytes)
-      (λ at. (group, sym (one_key (keys_of group) bytes at), was.keys.0))
-      (λ apart_from. was.only bytes said (ap (λ b. if b then Some (Some (totals_bytes totals)) else value_at old bytes) (sym apart_from) ∙ sym (changed bytes) ∙ has));
-  keys = was.keys.1;
-  ordered = was.ordered.1;
-}
-  where
-    here : (key : Values) → IsKeySpelled many key → is_same key group ≡ true → said_over (lookup (is_at (values_cmp key)) rest) (value_at new (keys_of key)) ≡ said_if (found key) (is_among closed key)
-    here key is same =
-        (λ i. said_over ((ap (λ k. lookup (is_at (values_cmp k)) rest) (same_is key group same) ∙ said_once group rest was.ordered.0) i) (value_at new (keys_of key)))
-        ∙ changed (keys_of key)
-        ∙ ap (λ b. if b then Some (Some (totals_bytes totals)) else value_at old (keys_of key)) (same_bytes apart many group key was.keys.0 is ∙ same_back group key ∙ same)
-        ∙ ap (λ b. said_over (if b then Some totals else lookup (is_at (values_cmp key)) rest) (value_at old (keys_of key))) (sym same)
-        ∙ was.told key is
+behind many pair pairs are = record { keys = are.keys.1; ordered = are.ordered.1 }
 
-    there : (key : Values) → IsKeySpelled many key → is_same key group ≡ false → said_over (lookup (is_at (values_cmp key)) rest) (value_at new (keys_of key)) ≡ said_if (found key) (is_among closed key)
-    there key is other =
-        ap (said_over (lookup (is_at (values_cmp key)) rest))
-        (changed (keys_of key) ∙ ap (λ b. if b then Some (Some (totals_bytes totals)) else value_at old (keys_of key)) (same_bytes apart many group key was.keys.0 is ∙ same_back group key ∙ other))
-        ∙ ap (λ b. said_over (if b then Some totals else lookup (is_at (values_cmp key)) rest) (value_at old (keys_of key))) (sym other)
-        ∙ was.told key is
+-- a key that is in front stands nowhere behind it
+none_behind : (many : ℕ) (pair : Pair) (pairs : List Pair) → AreOnce many (pair ∷ pairs) → (key : Values) → is_same key pair.0 ≡ true → lookup (is_at (values_cmp key)) pairs ≡ None
+unfolding IsStrictlySortedBy
+none_behind many pair pairs are key same = ap (λ k. lookup (is_at (values_cmp k)) pairs) (same_is key pair.0 same) ∙ once pair.0 pairs are.ordered.0
 
-pub said_on : AreApart → (many : ℕ) (found : Held) (closed : List Group) (left rest : List Pair) (group : Values) (totals : List Total) (old new : Change) → left ≡ (group, totals) ∷ rest
-    → IsToldAt (keys_of group) (Some (totals_bytes totals)) old new → SaysTo many found closed left old → SaysTo many found closed rest new
-said_on apart many found closed left rest group totals old new step changed was =
-    said_first apart many found closed rest group totals old new changed (subst (λ l. SaysTo many found closed l old) step was)
+-- what is said of a key by the entry in front, and by those behind it
+put_by : (same : Bool) (found : Option (List Total)) (totals : List Total) → (same ≡ true → found ≡ None)
+    → option_or (said_if found false) (if same then Some (Some (totals_bytes totals)) else None) ≡ said_if (if same then Some totals else found) false
+put_by true found totals none = ap (λ o. option_or (said_if o false) (Some (Some (totals_bytes totals)))) (none refl)
+put_by false found totals none = or_none (said_if found false)
 
-pub said_all : (many : ℕ) (found : Held) (closed : List Group) (left : List Pair) (change : Change) → left ≡ [] → SaysTo many found closed left change → Says many found closed change
-said_all many found closed left change none was = record {
-  told = λ key is. ap (λ l. said_over (lookup (is_at (values_cmp key)) l) (value_at change (keys_of key))) (sym none) ∙ was.told key is;
-  only = was.only;
-}
+gone_by : (same among : Bool) (found : Option (List Total)) → option_or (said_if found among) (if same then Some None else None) ≡ said_if found (same || among)
+gone_by same among (Some totals) = refl
+gone_by true true None = refl
+gone_by true false None = refl
+gone_by false true None = refl
+gone_by false false None = refl
+
+module _ (many : ℕ) where
+  last_put : AreApart → (pairs : List Pair) → AreOnce many pairs → (key : Values) → IsKeySpelled many key
+      → last_at (map put_entry pairs) (keys_of key) ≡ said_if (lookup (is_at (values_cmp key)) pairs) false
+  last_put apart [] are key is = refl
+  last_put apart (pair ∷ pairs) are key is =
+      (λ i. option_or (last_put apart pairs (behind many pair pairs are) key is i) (if same_bytes apart many key pair.0 is are.keys.0 i then Some (Some (totals_bytes pair.1)) else None))
+      ∙ put_by (is_same key pair.0) (lookup (is_at (values_cmp key)) pairs) pair.1 (none_behind many pair pairs are key)
+
+  last_said : AreApart → (closed : List Group) (pairs : List Pair) → AreKeys many (keys_of_groups closed) → AreOnce many pairs → (key : Values) → IsKeySpelled many key
+      → last_at (map gone_entry closed ++ map put_entry pairs) (keys_of key) ≡ said_if (lookup (is_at (values_cmp key)) pairs) (is_among closed key)
+  last_said apart [] pairs keys are key is = last_put apart pairs are key is
+  last_said apart (group ∷ closed) pairs keys are key is =
+      (λ i. option_or (last_said apart closed pairs keys.1 are key is i) (if same_bytes apart many key group.key is keys.0 i then Some None else None))
+      ∙ gone_by (is_same key group.key) (is_among closed key) (lookup (is_at (values_cmp key)) pairs)
+
+  -- the entry is of a key of so many values
+  abbrev IsOfKey : List ℕ × Option (List ℕ) → Type 0
+  IsOfKey entry = (key : Values) × (entry.0 ≡ keys_of key) × IsKeySpelled many key
+
+  of_keys : (closed : List Group) (pairs : List Pair) → AreKeys many (keys_of_groups closed) → AllByRecursion (λ (entry : Pair). IsKeySpelled many entry.0) pairs
+      → AllByRecursion IsOfKey (map gone_entry closed ++ map put_entry pairs)
+  of_keys [] [] keys are = tt
+  of_keys [] (pair ∷ pairs) keys are = ((pair.0, refl, are.0), of_keys [] pairs keys are.1)
+  of_keys (group ∷ closed) pairs keys are = ((group.key, refl, keys.0), of_keys closed pairs keys.1 are)
+
+  pub says_all : AreApart → (touched : BTreeMap Values (List Total)) (closed : List Group) → AreKeys many (keys_of_groups closed) → AreOnce many touched.entries → (entries change : Change)
+      → ((bytes : List ℕ) → value_at change bytes ≡ last_at entries bytes) → entries ≡ map gone_entry closed ++ map put_entry touched.entries → Says many (get values_cmp touched) closed change
+  says_all apart touched closed keys once entries change said are = record {
+    told = λ key is. said (keys_of key) ∙ ap (λ l. last_at l (keys_of key)) are ∙ last_said apart closed touched.entries keys once key is;
+    only = λ bytes what has.
+        last_has IsOfKey (map gone_entry closed ++ map put_entry touched.entries) (of_keys closed touched.entries keys once.keys) bytes what (sym (said bytes ∙ ap (λ l. last_at l bytes) are) ∙ has);
+  }
 
 -- the keys of a map of groups, entry by entry
 pub entries_keys : (many : ℕ) (groups : BTreeMap Values (List Total)) → AreTouchedKeys many groups → All (λ entry. get values_cmp groups entry.0 ≡ Some entry.1) groups.entries
@@ -175,3 +123,42 @@ pub entries_keys : (many : ℕ) (groups : BTreeMap Values (List Total)) → AreT
 entries_keys many groups keys found =
     recursion_from_All (λ (entry : Pair). IsKeySpelled many entry.0) groups.entries
     (All-weaker (λ (entry : Pair). get values_cmp groups entry.0 ≡ Some entry.1) (λ (entry : Pair). IsKeySpelled many entry.0) (λ entry is. keys entry.0 entry.1 is) groups.entries found)
+
+-- ---- an entry more
+
+pub short_more : (entry : List ℕ × Option (List ℕ)) (before after : Change) → after ≡ before ++ entry ∷ [] → IsShortEntry entry → All IsShortEntry before → All IsShortEntry after
+short_more entry before after pushed short was = subst (All IsShortEntry) (sym pushed) (All-push IsShortEntry before entry was short)
+
+-- the entries of the groups so far, with that of the group at a place
+pub gone_more : (closed : List Group) (at : ℕ) (group : Group) → at < length closed → group ≡ get_or closed at group → (before after : Change) → after ≡ before ++ gone_entry group ∷ []
+    → before ≡ map gone_entry (take at closed) → after ≡ map gone_entry (take (at + 1) closed)
+gone_more closed at group inside is before after pushed was =
+    pushed
+    ∙ ap (λ l. l ++ gone_entry group ∷ []) was
+    ∙ sym (map-append gone_entry (take at closed) (group ∷ []))
+    ∙ ap (map gone_entry) (sym (take_more closed at group inside ∙ ap (λ g. take at closed ++ g ∷ []) (sym is)))
+
+-- The entries so far, with those of the touched groups that are left, are those of the closed groups and behind them of all that were touched.
+pub record AreEntries (closed : List Group) (touched left : List Pair) (entries : Change) : Type 0 where
+  pub all : entries ++ map put_entry left ≡ map gone_entry closed ++ map put_entry touched
+  pub short : All IsShortEntry entries
+  pub fit : All (λ (entry : Pair). IsFitGroup entry.0 entry.1) left
+
+pub put_begins : (closed : List Group) (touched left : List Pair) (entries : Change) → entries ≡ map gone_entry closed → left ≡ touched → All IsShortEntry entries
+    → All (λ (entry : Pair). IsFitGroup entry.0 entry.1) touched → AreEntries closed touched left entries
+put_begins closed touched left entries are same short fit = record {
+  all = λ i. are i ++ map put_entry (same i);
+  short = short;
+  fit = subst (All (λ (entry : Pair). IsFitGroup entry.0 entry.1)) (sym same) fit;
+}
+
+pub put_more : (closed : List Group) (touched left rest : List Pair) (pair : Pair) (before after : Change) → left ≡ pair ∷ rest → after ≡ before ++ put_entry pair ∷ []
+    → All IsShortEntry after → AreEntries closed touched left before → AreEntries closed touched rest after
+put_more closed touched left rest pair before after steps pushed short was = record {
+  all = one_on before (map put_entry left) (map gone_entry closed ++ map put_entry touched) after (map put_entry rest) (put_entry pair) (put_entry pair) pushed refl (ap (map put_entry) steps) was.all;
+  short = short;
+  fit = All-tail (λ (entry : Pair). IsFitGroup entry.0 entry.1) pair rest (subst (All (λ (entry : Pair). IsFitGroup entry.0 entry.1)) steps was.fit);
+}
+
+pub put_all : (closed : List Group) (touched left : List Pair) (entries : Change) → left ≡ [] → AreEntries closed touched left entries → entries ≡ map gone_entry closed ++ map put_entry touched
+put_all closed touched left entries none was = none_left entries (map put_entry left) (map gone_entry closed ++ map put_entry touched) (ap (map put_entry) none) was.all

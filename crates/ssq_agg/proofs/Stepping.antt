@@ -10,7 +10,7 @@ use Rattle.ssq_shape.specs.declared.bound.Grouping.{Grouping}
 use Rattle.ssq_shape.specs.declared.bound.Mode.{Mode}
 use Rattle.ssq_shape.specs.declared.bound.Mode.TheVariants as mode
 use Rattle.ssq_shape.specs.Evaluation.{Overflow}
-use Rattle.ssq_meaning.specs.declared.fed_row.FedRow.{FedRow}
+use Rattle.ssq_meaning.specs.FedRows.{FedRow}
 use Rattle.ssq_meaning.specs.declared.total.Total.{Total}
 use Rattle.ssq_meaning.specs.Group.{is_same, has_key, members, totals_in, group_row, row_of_key, key_overflows, closing_time, is_closed, due_keys, least_key}
 use Rattle.ssq_meaning.specs.GroupLaws.{times, times_due, held_if, held, next_held, is_due_now}

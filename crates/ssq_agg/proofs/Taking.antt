@@ -12,7 +12,7 @@ use Rattle.ssq_value.specs.Order.{values_cmp}
 use Rattle.ssq_value.specs.OrderLaws.{values_cmp_total, values_cmp_exact}
 use Rattle.ssq_value.specs.declared.value.Value.{Value}
 use Rattle.ssq_shape.specs.declared.bound.Aggregate.{Aggregate}
-use Rattle.ssq_meaning.specs.declared.fed_row.FedRow.{FedRow}
+use Rattle.ssq_meaning.specs.FedRows.{FedRow}
 use Rattle.ssq_meaning.specs.declared.total.Total.{Total}
 use Rattle.ssq_meaning.specs.Group.{is_same, members}
 use Rattle.ssq_meaning.specs.Totals.{with_row}

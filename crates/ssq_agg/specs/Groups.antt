@@ -5,7 +5,7 @@ use Rattle.std.specs.List.{AllByRecursion}
 use Rattle.ssq_value.specs.declared.value.Value.{Value}
 use Rattle.ssq_value.specs.declared.value.Value.TheVariants as value
 use Rattle.ssq_shape.specs.declared.bound.Aggregate.{Aggregate}
-use Rattle.ssq_meaning.specs.declared.fed_row.FedRow.{FedRow}
+use Rattle.ssq_meaning.specs.FedRows.{FedRow}
 use Rattle.ssq_meaning.specs.declared.total.Total.{Total}
 use Rattle.ssq_meaning.specs.Group.{members}
 use Rattle.ssq_meaning.specs.Meaning.{Values}

@@ -1,7 +1,6 @@
 pub mod Readable
 pub mod Fits
 pub mod Groups
-pub mod Hashing
 pub mod Holding
 pub mod Indexing
 pub mod Closed

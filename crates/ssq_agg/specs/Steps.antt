@@ -12,7 +12,7 @@ use Rattle.ssq_shape.specs.declared.bound.Mode.{Mode}
 use Rattle.ssq_shape.specs.declared.bound.Mode.TheVariants as mode
 use Rattle.ssq_shape.specs.declared.bound.Shape.{Shape}
 use Rattle.ssq_shape.specs.declared.bound.Shape.TheVariants as shape
-use Rattle.ssq_meaning.specs.declared.fed_row.FedRow.{FedRow}
+use Rattle.ssq_meaning.specs.FedRows.{FedRow}
 use Rattle.ssq_meaning.specs.declared.total.Total.{Total}
 use Rattle.ssq_meaning.specs.Fit.{IsFitRow}
 use Rattle.ssq_meaning.specs.Group.{is_same}
@@ -132,6 +132,13 @@ abbrev pub said_if : Option (List Total) → Bool → Option (Option (List ℕ))
 said_if (Some totals) is_closed = Some (Some (totals_bytes totals))
 said_if None true = Some None
 said_if None false = None
+
+-- the entry of a change that says of a group that it goes, and of one that was touched which totals it has
+abbrev pub gone_entry : Group → List ℕ × Option (List ℕ)
+gone_entry group = (keys_of group.key, None)
+
+abbrev pub put_entry : Pair → List ℕ × Option (List ℕ)
+put_entry pair = (keys_of pair.0, Some (totals_bytes pair.1))
 
 -- the change says this of keys of so many values, and nothing else
 pub record Says (many : ℕ) (found : Held) (closed : List Group) (change : Change) : Type 0 where

@@ -1,18 +1,19 @@
 //! What a step changes in the state.
 
-ghost use Rattle.std.specs.Prelude.{ℕ, Some, None, All, IfOk, OnOk};
+ghost use Rattle.std.specs.Prelude.{◌≡◌, ◌++◌, ◌∷◌, [], ℕ, Some, All, map, IfOk, OnOk};
 ghost use Rattle.std.specs.BTreeMap.{get};
 ghost use Rattle.ssq_value.specs.Order.{values_cmp};
 ghost use Rattle.ssq_value.specs.Key.{keys_of};
-ghost use Rattle.ssq_version.specs.State.{IsToldAt};
+ghost use Rattle.ssq_version.specs.State.{IsShortEntry};
 ghost use Rattle.ssq_meaning.specs.Fit.{IsFit};
 ghost use Rattle.ssq_meaning.specs.Totals.{totals_bytes};
 ghost use Rattle.ssq_agg.specs.Readable.{AreFit, AreFitGroups, IsFitGroup};
-ghost use Rattle.ssq_agg.specs.Steps.{AreKeys, AreTouchedKeys, Says, keys_of_groups};
+ghost use Rattle.ssq_agg.specs.Steps.{AreKeys, AreTouchedKeys, Says, gone_entry, keys_of_groups};
 
 use crate::kept::Group;
 use crate::total_bytes::bytes_of;
 use crate::totals::Totals;
+use ssq_field::Bytes;
 use ssq_step::{bytes_of_key, short};
 use ssq_value::{Row, keys_are_apart};
 use ssq_version::Change;
@@ -22,40 +23,54 @@ use std::collections::BTreeMap;
 /// Says that a group has these totals from now on.
 fn put_group(
     alloc: Global,
-    change: &mut Change,
+    entries: &mut Vec<(Bytes, Option<Bytes>)>,
     key: &Row,
     totals: &Totals,
 ) -> Result<(), AllocError>
     requires { IsFitGroup key.now totals.now }
-    ensures { OnOk result (IsToldAt (keys_of key.now) (Some (totals_bytes totals.now)) change.old change.new) }
+    ensures said { OnOk result (entries.new.items ≡ entries.old.items ++ (keys_of key.now, Some (totals_bytes totals.now)) ∷ []) }
+    ensures short { All IsShortEntry entries.old.items → OnOk result (All IsShortEntry entries.new.items) }
 {
     let key = bytes_of_key(alloc, key.as_slice())?;
     let value = short(bytes_of(alloc, totals.as_slice())?)?;
-    change.put(key, value)
+    entries.push((key, Some(value)))?;
+    Ok(())
 }
 
 /// Says that a group goes.
-fn remove_group(alloc: Global, change: &mut Change, key: &Row) -> Result<(), AllocError>
-    requires { All IsFit key.now }
-    ensures { OnOk result (IsToldAt (keys_of key.now) None change.old change.new) }
+fn remove_group(
+    alloc: Global,
+    entries: &mut Vec<(Bytes, Option<Bytes>)>,
+    group: &Group,
+) -> Result<(), AllocError>
+    requires { All IsFit group.now.key }
+    ensures said { OnOk result (entries.new.items ≡ entries.old.items ++ gone_entry group.now ∷ []) }
+    ensures short { All IsShortEntry entries.old.items → OnOk result (All IsShortEntry entries.new.items) }
 {
-    change.remove(bytes_of_key(alloc, key.as_slice())?)
+    let key = bytes_of_key(alloc, group.key.as_slice())?;
+    entries.push((key, None))?;
+    Ok(())
 }
 
-/// That the groups go.
-fn removed(alloc: Global, groups: &[Group]) -> Result<Change, AllocError>
+/// That the groups go, in a list with room for so many entries.
+fn removed(
+    alloc: Global,
+    groups: &[Group],
+    room: usize,
+) -> Result<Vec<(Bytes, Option<Bytes>)>, AllocError>
     requires { AreFit groups.now }
-    ensures { (many : ℕ) → AreKeys many (keys_of_groups groups.now) → IfOk result (Says many (λ _. None) groups.now) }
+    ensures said { IfOk result (λ entries. entries.items ≡ map gone_entry groups.now) }
+    ensures short { IfOk result (λ entries. All IsShortEntry entries.items) }
 {
-    keys_are_apart();
-    let mut change = Change::new(alloc);
+    let mut entries = Vec::with_capacity(alloc, room)?;
     for group in groups {
-        remove_group(alloc, &mut change, &group.key)?;
+        remove_group(alloc, &mut entries, group)?;
     }
-    Ok(change)
+    Ok(entries)
 }
 
-/// What changes: the groups that were touched have their totals from now on, and those that are closed go.
+/// What changes: the groups that were touched have their totals from now on, and those that are closed go. What is said of each group is put
+/// in order once.
 pub(crate) fn changed(
     alloc: Global,
     touched: &BTreeMap<Row, Totals>,
@@ -66,9 +81,10 @@ pub(crate) fn changed(
     ensures { (many : ℕ) → AreKeys many (keys_of_groups closed.now) → AreTouchedKeys many touched.now → IfOk result (Says many (get values_cmp touched.now) closed.now) }
 {
     keys_are_apart();
-    let mut change = removed(alloc, closed)?;
+    let room = closed.len().saturating_add(touched.len());
+    let mut entries = removed(alloc, closed, room)?;
     for (key, totals) in touched.iter() {
-        put_group(alloc, &mut change, key, totals)?;
+        put_group(alloc, &mut entries, key, totals)?;
     }
-    Ok(change)
+    Change::of_entries(alloc, entries)
 }

@@ -15,10 +15,10 @@ ghost use Rattle.ssq_agg.specs.Holding.{Holds};
 ghost use Rattle.ssq_agg.specs.Readable.{AreFitAt, AreFitGroups, IsFitTotal, IsKey};
 
 use crate::kept::totals_of;
-use crate::key::Key;
 use crate::totals::Totals;
 use ssq_meaning::FedRow;
 use ssq_shape::Grouping;
+use ssq_step::Key;
 use ssq_value::{Row, Value};
 use ssq_version::StateMap;
 use std::alloc::{AllocError, Global};
@@ -57,12 +57,12 @@ fn take_row<'a>(
         (if is_same row.now.key key then Some (with_row (goes_on grouping.now.aggregates (own row.now.key) (found is_same groups.old row.now.key)) row.now.values) else found is_same groups.old key)) }
     ensures fit { AreFitAt (found is_same groups.old) → OnOk result (AreFitAt (found is_same groups.new)) }
 {
-    let key = Key::of(&row.key);
+    let key = Key::of(row.key());
     if let Some(totals) = groups.get_mut(&key) {
-        return totals.add_row(row.values.as_slice());
+        return totals.add_row(row.values());
     }
-    let mut totals = started(alloc, grouping, state, row.key.as_slice())?;
-    totals.add_row(row.values.as_slice())?;
+    let mut totals = started(alloc, grouping, state, row.key())?;
+    totals.add_row(row.values())?;
     groups.insert(key, totals)?;
     Ok(())
 }
@@ -76,7 +76,7 @@ fn in_order(
 {
     let mut entries = Vec::new(alloc);
     for (key, totals) in groups {
-        entries.push((key.to_row()?, totals))?;
+        entries.push((key.to_row(alloc)?, totals))?;
     }
     entries.into_iter().collect(alloc)
 }

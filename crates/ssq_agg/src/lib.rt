@@ -5,7 +5,6 @@ mod changed;
 mod epoch;
 mod groups;
 mod kept;
-mod key;
 mod laws;
 mod show;
 mod shown;

@@ -24,7 +24,7 @@ use Rattle.std.specs.Ordering.{is_gt}
 use Rattle.ssq_value.specs.Order.{value_cmp}
 use Rattle.ssq_shape.specs.Evaluation.{cell_at, is_null}
 use Rattle.ssq_shape.specs.Fit.{IsFit}
-use Rattle.ssq_meaning.specs.declared.fed_row.FedRow.{FedRow}
+use Rattle.ssq_meaning.specs.FedRows.{FedRow}
 use Rattle.ssq_meaning.specs.Fit.{IsFitRow}
 use Rattle.ssq_meaning.specs.Dedup as repeats
 use Rattle.ssq_meaning.specs.Group.{distinct, is_closed, is_same, keys_in, kept, members, totals_in}

@@ -19,7 +19,7 @@ use Rattle.ssq_shape.specs.declared.bound.Shape.TheVariants.{Plain, Group, Dedup
 use Rattle.ssq_shape.specs.declared.bound.Stream.{Stream}
 use Rattle.ssq_shape.specs.Evaluation.{cell_at}
 use Rattle.ssq_shape.specs.Windows.{HasWindows, HasWindowsBy}
-use Rattle.ssq_meaning.specs.declared.fed_row.FedRow.{FedRow}
+use Rattle.ssq_meaning.specs.FedRows.{FedRow}
 use Rattle.ssq_meaning.specs.Cut.{AreCuts, Cuts as Offsets}
 use Rattle.ssq_meaning.specs.Dedup as repeats
 use Rattle.ssq_meaning.specs.DedupLaws.{IsDedupRow}

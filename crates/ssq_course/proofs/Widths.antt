@@ -13,7 +13,7 @@ use Rattle.ssq_shape.specs.declared.bound.Bound.{Bound}
 use Rattle.ssq_shape.specs.declared.bound.Joining.{Joining}
 use Rattle.ssq_shape.specs.declared.bound.Shape.{Shape}
 use Rattle.ssq_shape.specs.declared.bound.Shape.TheVariants.{Join}
-use Rattle.ssq_meaning.specs.declared.fed_row.FedRow.{FedRow}
+use Rattle.ssq_meaning.specs.FedRows.{FedRow}
 use Rattle.ssq_meaning.specs.declared.line.LineFault.{LineFault}
 use Rattle.ssq_meaning.specs.Cut.{Cut, Cuts, of_parts}
 use Rattle.ssq_meaning.specs.Epochs.{accepted, fed, fed_between, on_time, watermark}

@@ -14,7 +14,7 @@ use Rattle.ssq_value.specs.Key.{IsSpelled, keys_of}
 use Rattle.ssq_version.specs.State.{Change, IsAfter, State, by_bytes, value_after, value_at}
 use Rattle.ssq_shape.specs.declared.bound.Bound.{Bound}
 use Rattle.ssq_shape.specs.declared.bound.Shape.{Shape}
-use Rattle.ssq_meaning.specs.declared.fed_row.FedRow.{FedRow}
+use Rattle.ssq_meaning.specs.FedRows.{FedRow}
 use Rattle.ssq_meaning.specs.Dedup.{closing_time, firsts, is_closed, kept, values_in}
 use Rattle.ssq_meaning.specs.DedupLaws.{Follows, entry_if, is_held, is_held_next}
 use Rattle.ssq_meaning.specs.Fit.{IsFit}

@@ -1,20 +1,22 @@
 -- One row more, and one key that goes.
-use Rattle.std.proofs.Common.{◌≡◌, ◌<◌, ◌+◌, ◌++◌, ℕ, [], ◌∷◌, Some, None, List, Bool, true, false, All, refl, ap, sym, subst, ◌∙◌, take, length, get_or}
+use Rattle.std.proofs.Common.{◌≡◌, ◌<◌, ◌+◌, ◌++◌, ℕ, [], ◌∷◌, Some, None, List, Option, Bool, true, false, cond, All, refl, ap, sym, subst, ◌∙◌, take, length, get_or, map, arith}
 use Rattle.std.specs.Prelude.{◌&&◌, ◌||◌, not, if◌then◌else◌, is_some}
 use Rattle.std.specs.Borrow.{Bor}
 use Rattle.std.specs.BTreeMap.{is_at}
 use Rattle.std.specs.List.{AllByRecursion, list_any}
+use Rattle.std.specs.Option.{option_or}
 use Rattle.std.proofs.lemmas.List.{append_assoc, append-nil, map-append, take_more}
-use Rattle.std.proofs.lemmas.List.Elements.{All-get_or, All-push, All-weaker}
+use Rattle.std.proofs.lemmas.List.Elements.{All-get_or, All-push, All-weaker, recursion_from_All}
 use Rattle.std.proofs.lemmas.List.Folds.{list_any-append}
 use Rattle.ssq_time.specs.Time.{IsStampTime}
 use Rattle.ssq_value.specs.declared.value.Value.{Value}
 use Rattle.ssq_value.specs.declared.value.Value.TheVariants as value
 use Rattle.ssq_value.specs.Kind.{IfTime}
 use Rattle.ssq_value.specs.Key.{IsSpelled, keys_of}
-use Rattle.ssq_version.specs.State.{Change, IsToldAt, State, by_bytes, value_at}
-use Rattle.ssq_version.proofs.Values.{by_case, is_itself, one_key, other_way}
-use Rattle.ssq_meaning.specs.declared.fed_row.FedRow.{FedRow}
+use Rattle.ssq_version.specs.State.{Change, IsShort, IsShortEntry, IsToldAt, State, by_bytes, last_at, value_at}
+use Rattle.ssq_version.proofs.LastSaid.{last_has}
+use Rattle.ssq_version.proofs.Values.{either_way, is_itself, one_key}
+use Rattle.ssq_meaning.specs.FedRows.{FedRow}
 use Rattle.ssq_meaning.specs.Dedup.{firsts, values_in}
 use Rattle.ssq_meaning.specs.DedupLaws.{entry_if}
 use Rattle.ssq_meaning.specs.Fit.{IsFit, IsFitRow}
@@ -25,19 +27,20 @@ use Rattle.ssq_meaning.proofs.Counted.{has_key-append}
 use Rattle.ssq_meaning.proofs.FitRows.{spelled}
 use Rattle.ssq_meaning.proofs.Keys.{same_back, same_is, same_itself}
 use Rattle.ssq_step.specs.Indexing.{IsReadableKey, seen}
-use Rattle.ssq_dedup.specs.Firsts.{HoldsKeys, IsGone, IsKeyed, SaysFirsts, Takes, TakesIf, first_among, said_if}
+use Rattle.ssq_dedup.specs.Firsts.{HoldsKeys, IsGone, IsKeyed, SaysFirsts, Takes, TakesIf, first_among, kept_entry, said_if}
 
 or_false : (b : Bool) → (b || false) ≡ b
 or_false true = refl
 or_false false = refl
 
-or_true : (b : Bool) → (b || true) ≡ true
-or_true true = refl
-or_true false = refl
+or_back : (a b : Bool) → (a || b) ≡ (b || a)
+or_back true true = refl
+or_back true false = refl
+or_back false true = refl
+or_back false false = refl
 
-no_left : (a b : Bool) → (a || b) ≡ false → a ≡ false
-no_left true b is = is
-no_left false b is = refl
+one_more : {A : Type 0} (xs : List A) (at : ℕ) (x : A) → at < length xs → x ≡ get_or xs at x → take (at + 1) xs ≡ take at xs ++ x ∷ []
+one_more xs at x inside is = take_more xs at x inside ∙ ap (λ y. take at xs ++ y ∷ []) (sym is)
 
 -- ---- the rows that are no repeats
 
@@ -82,117 +85,167 @@ same_bytes apart count key other is are = by (is_at (by_bytes (keys_of key)) (ke
 
 -- ---- a row more
 
-pub says_nothing : (count : ℕ) (is_held : Values → Bool) (change : Change) → change ≡ [] → SaysFirsts count is_held [] change
-says_nothing count is_held change empty = record {
-  told = λ key readable. ap (λ (c : Change). value_at c (keys_of key)) empty ∙ by (not (is_held key));
-  only = λ bytes said has. let no : None ≡ Some said = ap (λ (c : Change). value_at c bytes) (sym empty) ∙ has in absurd cc;
-}
+-- a key that is noted is new exactly where it was not there
+pub was_there : (is_new has : Bool) → is_new ≡ not has → is_new ≡ false → has ≡ true
+was_there is_new true says no_more = refl
+was_there is_new false says no_more = let no : true ≡ false = sym says ∙ no_more in absurd cc
+
+pub was_absent : (is_new has : Bool) → is_new ≡ not has → is_new ≡ true → has ≡ false
+was_absent is_new false says yes_more = refl
+was_absent is_new true says yes_more = let no : true ≡ false = sym yes_more ∙ says in absurd cc
+
+pub put_in : (key own : Values) (old new : Values → Bool) → ((q : Values) → new q ≡ cond (is_same key q) true (old q)) → key ≡ own → (q : Values) → new q ≡ (is_same own q || old q)
+put_in key own old new is same q = is q ∙ ap (λ k. cond (is_same k q) true (old q)) same ∙ by (is_same own q)
   where
-    by : (b : Bool) → None ≡ said_if (b && false)
+    by : (b : Bool) → cond b true (old q) ≡ (b || old q)
     by true = refl
     by false = refl
 
-module _ (apart : AreApart) (count : ℕ) (is_held : Values → Bool) (state : State) (holds : HoldsKeys count state is_held) (done : List FedRow) (row : FedRow) (keyed : IsKeyed count row)
-    (before after : Change) (shown more : List Values) (says : SaysFirsts count is_held done before) where
-  known_is : (is_some (value_at state (keys_of row.key)) || is_some (value_at before (keys_of row.key))) ≡ (is_held row.key || has_key done row.key)
-  known_is = (λ i. is_some (holds row.key keyed i) || is_some (says.told row.key keyed i)) ∙ by (is_held row.key) (has_key done row.key)
+-- a row whose key a row before it has
+pub takes_repeat : (state : State) (row : FedRow) (has_row : Bool) → has_row ≡ true → (entries : Change) (shown : List Values) → Takes state row has_row entries entries shown shown
+takes_repeat state row has_row has entries shown = subst (λ b. Takes state row b entries entries shown shown) (sym has) (refl, refl)
+
+-- one whose key the state keeps or not, as is said
+pub takes_by : (state : State) (row : FedRow) (has_row is_kept : Bool) → has_row ≡ false → is_kept ≡ is_some (value_at state (keys_of row.key)) → (before after : Change) (shown more : List Values)
+    → TakesIf is_kept row before after shown more → Takes state row has_row before after shown more
+takes_by state row has_row is_kept has kept before after shown more takes =
+    let known : (false || is_kept) ≡ (has_row || is_some (value_at state (keys_of row.key))) = λ i. sym has i || kept i in
+    subst (λ b. TakesIf b row before after shown more) known takes
+
+pub short_pushed : (key value : List ℕ) (before after : Change) → after ≡ before ++ (key, Some value) ∷ [] → IsShort key → value ≡ [] → All IsShortEntry before → All IsShortEntry after
+short_pushed key value before after pushed short none was =
+    let empty : IsShort [] = omega arith in
+    subst (All IsShortEntry) (sym pushed) (All-push IsShortEntry before (key, Some value) was (short, subst IsShort (sym none) empty))
+
+has_more : (done : List FedRow) (row : FedRow) (key : Values) → has_key (done ++ row ∷ []) key ≡ (has_key done key || is_same key row.key)
+has_more done row key = has_key-append done (row ∷ []) key ∙ ap (λ b. has_key done key || b) (or_false (is_same key row.key))
+
+-- the keys of the rows so far, with that of one row more
+pub keys_more : (rows : List FedRow) (at : ℕ) (row : FedRow) → at < length rows → row ≡ get_or rows at row → (old new : Values → Bool) → ((key : Values) → new key ≡ (is_same row.key key || old key))
+    → ((key : Values) → old key ≡ has_key (take at rows) key) → (key : Values) → new key ≡ has_key (take (at + 1) rows) key
+keys_more rows at row inside is old new more was key =
+    more key
+    ∙ (λ i. same_back row.key key i || was key i)
+    ∙ or_back (is_same key row.key) (has_key (take at rows) key)
+    ∙ sym (has_more (take at rows) row key)
+    ∙ ap (λ l. has_key l key) (sym (one_more rows at row inside is))
+
+module _ (is_held : Values → Bool) (done : List FedRow) (row : FedRow) where
+  -- what is listed of the rows that are no repeats, with one row more
+  list_more : {A : Type 0} (f : FedRow → A) (known : Bool) → (is_held row.key || has_key done row.key) ≡ known → (before after : List A) → after ≡ before ++ map f (if known then [] else row ∷ [])
+      → before ≡ map f (first_among is_held [] done) → after ≡ map f (first_among is_held [] (done ++ row ∷ []))
+  unfolding first_among
+  list_more f known is before after added was =
+      added
+      ∙ (λ i. was i ++ map f (if sym is i then [] else row ∷ []))
+      ∙ sym (ap (map f) (first_among-append is_held [] done (row ∷ [])) ∙ map-append f (first_among is_held [] done) (first_among is_held done (row ∷ [])))
+
+  adds : (known : Bool) (before after : Change) (shown more : List Values) → TakesIf known row before after shown more
+      → (after ≡ before ++ map kept_entry (if known then [] else row ∷ [])) × (more ≡ shown ++ values_in (if known then [] else row ∷ []))
+  adds true before after shown more takes = (takes.0 ∙ sym (append-nil before), takes.1 ∙ sym (append-nil shown))
+  adds false before after shown more takes = takes
+
+  known_is : (count : ℕ) (state : State) → HoldsKeys count state is_held → IsKeyed count row → (has_row : Bool) → has_row ≡ has_key done row.key
+      → (has_row || is_some (value_at state (keys_of row.key))) ≡ (is_held row.key || has_key done row.key)
+  known_is count state holds keyed has_row has = (λ i. has i || is_some (holds row.key keyed i)) ∙ by (has_key done row.key) (is_held row.key)
     where
-      by : (h m : Bool) → (is_some (entry_if h) || is_some (said_if (not h && m))) ≡ (h || m)
-      by true m = refl
+      by : (r h : Bool) → (r || is_some (entry_if h)) ≡ (h || r)
+      by true true = refl
+      by true false = refl
       by false true = refl
       by false false = refl
 
-  has_more : (key : Values) → has_key (done ++ row ∷ []) key ≡ (has_key done key || is_same key row.key)
-  has_more key = has_key-append done (row ∷ []) key ∙ ap (λ b. has_key done key || b) (or_false (is_same key row.key))
+-- the entries so far and the rows shown are those of the rows that are no repeats
+abbrev pub AreFirsts : (Values → Bool) → List FedRow → Change → List Values → Type 0
+AreFirsts is_held done entries shown = (entries ≡ map kept_entry (first_among is_held [] done)) × (shown ≡ values_in (first_among is_held [] done))
 
-  -- a row whose key is known says nothing of any key
-  same_said : (is_held row.key || has_key done row.key) ≡ true → (key : Values) → (not (is_held key) && has_key done key) ≡ (not (is_held key) && has_key (done ++ row ∷ []) key)
-  same_said known key = by (is_same key row.key) refl
-    where
-      both : (h m : Bool) → (h || m) ≡ true → (not h && m) ≡ (not h && (m || true))
-      both true m is = refl
-      both false true is = refl
-      both false false is = absurd cc
-
-      by : (s : Bool) → is_same key row.key ≡ s → (not (is_held key) && has_key done key) ≡ (not (is_held key) && has_key (done ++ row ∷ []) key)
-      by true same =
-          let one : key ≡ row.key = same_is key row.key same in
-          both (is_held key) (has_key done key) (ap (λ k. is_held k || has_key done k) one ∙ known)
-          ∙ ap (λ b. not (is_held key) && b) (sym (has_more key ∙ ap (λ s. has_key done key || s) same))
-      by false other = ap (λ b. not (is_held key) && b) (sym (has_more key ∙ ap (λ s. has_key done key || s) other ∙ or_false (has_key done key)))
-
-  -- one whose key is new says that it is kept
-  new_said : (is_held row.key || has_key done row.key) ≡ false → IsToldAt (keys_of row.key) (Some []) before after → (key : Values) → IsReadableKey count key
-      → value_at after (keys_of key) ≡ said_if (not (is_held key) && has_key (done ++ row ∷ []) key)
-  new_said unknown told key readable =
-      told (keys_of key)
-      ∙ ap (λ b. if b then Some (Some []) else value_at before (keys_of key)) (same_bytes apart count row.key key keyed readable ∙ same_back row.key key)
-      ∙ by (is_same key row.key) refl
-    where
-      by : (s : Bool) → is_same key row.key ≡ s → (if s then Some (Some []) else value_at before (keys_of key)) ≡ said_if (not (is_held key) && has_key (done ++ row ∷ []) key)
-      by true same =
-          let one : key ≡ row.key = same_is key row.key same in
-          let free : is_held key ≡ false = ap is_held one ∙ no_left (is_held row.key) (has_key done row.key) unknown in
-          let there : has_key (done ++ row ∷ []) key ≡ true = has_more key ∙ ap (λ s. has_key done key || s) same ∙ or_true (has_key done key) in
-          λ i. said_if (not (sym free i) && sym there i)
-      by false other =
-          says.told key readable
-          ∙ ap (λ b. said_if (not (is_held key) && b)) (sym (has_more key ∙ ap (λ s. has_key done key || s) other ∙ or_false (has_key done key)))
-
-  says_by : (known : Bool) → (is_held row.key || has_key done row.key) ≡ known → TakesIf known row before after shown more → SaysFirsts count is_held (done ++ row ∷ []) after
-  says_by true known takes = record {
-    told = λ key readable. ap (λ (c : Change). value_at c (keys_of key)) takes.0 ∙ says.told key readable ∙ ap said_if (same_said known key);
-    only = λ bytes said has. says.only bytes said (ap (λ (c : Change). value_at c bytes) (sym takes.0) ∙ has);
-  }
-  says_by false unknown takes = record {
-    told = new_said unknown takes.0;
-    only = λ bytes said has.
-        by_case (is_at (by_bytes (keys_of row.key)) bytes)
-        (λ at. (row.key, sym (one_key (keys_of row.key) bytes at), keyed))
-        (λ there. says.only bytes said (ap (λ b. if b then Some (Some []) else value_at before bytes) (sym there) ∙ sym (takes.0 bytes) ∙ has));
-  }
-
-  shows_by : (known : Bool) → (is_held row.key || has_key done row.key) ≡ known → TakesIf known row before after shown more
-      → shown ≡ values_in (first_among is_held [] done) → more ≡ values_in (first_among is_held [] (done ++ row ∷ []))
-  unfolding first_among
-  shows_by known is takes was =
-      by known takes
-      ∙ (λ i. was i ++ values_in (if sym is i then [] else row ∷ []))
-      ∙ sym (ap values_in (first_among-append is_held [] done (row ∷ [])) ∙ map-append (λ (row : FedRow). row.values) (first_among is_held [] done) (first_among is_held done (row ∷ [])))
-    where
-      by : (b : Bool) → TakesIf b row before after shown more → more ≡ shown ++ values_in (if b then [] else row ∷ [])
-      by true takes = takes.1 ∙ sym (append-nil shown)
-      by false takes = takes.1
-
-  takes_known : Takes state row before after shown more → TakesIf (is_held row.key || has_key done row.key) row before after shown more
-  takes_known takes = subst (λ b. TakesIf b row before after shown more) known_is takes
-
-  pub says_more : Takes state row before after shown more → SaysFirsts count is_held (done ++ row ∷ []) after
-  says_more takes = says_by (is_held row.key || has_key done row.key) refl (takes_known takes)
-
-  pub shows_more : Takes state row before after shown more → shown ≡ values_in (first_among is_held [] done) → more ≡ values_in (first_among is_held [] (done ++ row ∷ []))
-  shows_more takes = shows_by (is_held row.key || has_key done row.key) refl (takes_known takes)
-
--- ---- the row at a place
-
--- what is said and shown of the rows so far
-abbrev pub SaysTo : ℕ → (Values → Bool) → List FedRow → Change → List Values → Type 0
-SaysTo count is_held done change shown = SaysFirsts count is_held done change × (shown ≡ values_in (first_among is_held [] done))
-
-pub begins : (count : ℕ) (is_held : Values → Bool) (change : Change) (shown : List Values) → change ≡ [] → shown ≡ [] → SaysTo count is_held [] change shown
+pub begins : (is_held : Values → Bool) (entries : Change) (shown : List Values) → entries ≡ [] → shown ≡ [] → AreFirsts is_held [] entries shown
 unfolding first_among
-begins count is_held change shown empty none = (says_nothing count is_held change empty, none)
+begins is_held entries shown empty none = (empty, none)
 
-pub row_more : AreApart → (count : ℕ) (is_held : Values → Bool) (state : State) → HoldsKeys count state is_held → (rows : List FedRow) → All (IsKeyed count) rows → (at : ℕ) (row : FedRow)
-    → at < length rows → row ≡ get_or rows at row → (before after : Change) (shown more : List Values) → Takes state row before after shown more
-    → SaysTo count is_held (take at rows) before shown → SaysTo count is_held (take (at + 1) rows) after more
-row_more apart count is_held state holds rows keyed at row inside is before after shown more takes was =
-    let took : take (at + 1) rows ≡ take at rows ++ row ∷ [] = take_more rows at row inside ∙ ap (λ r. take at rows ++ r ∷ []) (sym is) in
-    let own : IsKeyed count row = subst (IsKeyed count) (sym is) (All-get_or (IsKeyed count) rows at row inside keyed) in
-    subst (λ (done : List FedRow). SaysTo count is_held done after more) (sym took) (
-      says_more apart count is_held state holds (take at rows) row own before after shown more was.0 takes,
-      shows_more apart count is_held state holds (take at rows) row own before after shown more was.0 takes was.1,
+pub row_more : (count : ℕ) (is_held : Values → Bool) (state : State) → HoldsKeys count state is_held → (rows : List FedRow) → All (IsKeyed count) rows → (at : ℕ) (row : FedRow)
+    → at < length rows → row ≡ get_or rows at row → (has_row : Bool) → has_row ≡ has_key (take at rows) row.key → (before after : Change) (shown more : List Values)
+    → Takes state row has_row before after shown more → AreFirsts is_held (take at rows) before shown → AreFirsts is_held (take (at + 1) rows) after more
+row_more count is_held state holds rows keyed at row inside is has_row has before after shown more takes was =
+    let done = take at rows in
+    let known = known_is is_held done row count state holds (subst (IsKeyed count) (sym is) (All-get_or (IsKeyed count) rows at row inside keyed)) has_row has in
+    let added = adds is_held done row (is_held row.key || has_key done row.key) before after shown more (subst (λ b. TakesIf b row before after shown more) known takes) in
+    subst (λ (l : List FedRow). AreFirsts is_held l after more) (sym (one_more rows at row inside is)) (
+      list_more is_held done row kept_entry (is_held row.key || has_key done row.key) refl before after added.0 was.0,
+      list_more is_held done row (λ (row : FedRow). row.values) (is_held row.key || has_key done row.key) refl shown more added.1 was.1,
     )
+
+-- ---- what the entries say
+
+module _ (count : ℕ) (is_held : Values → Bool) where
+  -- what is said of a key: of the row in front, and of those behind it
+  flags : (known same held earlier behind : Bool) → (same ≡ true → (held || earlier) ≡ known)
+      → (if known then said_if (not (held || (earlier || same)) && behind) else option_or (said_if (not (held || (earlier || same)) && behind)) (if same then Some (Some []) else None))
+      ≡ said_if (not (held || earlier) && (same || behind))
+  flags true false true earlier behind is = refl
+  flags true false false true behind is = refl
+  flags true false false false behind is = refl
+  flags true true true earlier behind is = refl
+  flags true true false true behind is = refl
+  flags true true false false behind is = let no : false ≡ true = is refl in absurd cc
+  flags false false true earlier behind is = refl
+  flags false false false true behind is = refl
+  flags false false false false true is = refl
+  flags false false false false false is = refl
+  flags false true true earlier behind is = let no : true ≡ false = is refl in absurd cc
+  flags false true false true behind is = let no : true ≡ false = is refl in absurd cc
+  flags false true false false behind is = refl
+
+  none_said : (b : Bool) → None ≡ said_if (b && false)
+  none_said true = refl
+  none_said false = refl
+
+  last_told : AreApart → (earlier rows : List FedRow) → AllByRecursion (IsKeyed count) rows → (key : Values) → IsReadableKey count key
+      → last_at (map kept_entry (first_among is_held earlier rows)) (keys_of key) ≡ said_if (not (is_held key || has_key earlier key) && has_key rows key)
+  unfolding first_among
+  last_told apart earlier [] all key readable = none_said (not (is_held key || has_key earlier key))
+  last_told apart earlier (row ∷ rows) all key readable =
+      let rest : last_at others (keys_of key) ≡ said_if (not (is_held key || (has_key earlier key || is_same key row.key)) && has_key rows key) =
+      last_told apart (earlier ++ row ∷ []) rows all.1 key readable ∙ ap (λ b. said_if (not (is_held key || b) && has_key rows key)) (has_more earlier row key) in
+      split (is_held row.key || has_key earlier row.key)
+      ∙ (λ i. if (is_held row.key || has_key earlier row.key) then rest i else option_or (rest i) (if same_bytes apart count key row.key readable all.0 i then Some (Some []) else None))
+      ∙ flags (is_held row.key || has_key earlier row.key) (is_same key row.key) (is_held key) (has_key earlier key) (has_key rows key) (λ same. ap (λ k. is_held k || has_key earlier k) (same_is key row.key same))
+    where
+      others : Change
+      others = map kept_entry (first_among is_held (earlier ++ row ∷ []) rows)
+
+      split : (known : Bool) → last_at (map kept_entry (if known then first_among is_held (earlier ++ row ∷ []) rows else row ∷ first_among is_held (earlier ++ row ∷ []) rows)) (keys_of key)
+          ≡ (if known then last_at others (keys_of key) else option_or (last_at others (keys_of key)) (if is_at (by_bytes (keys_of key)) (keys_of row.key) then Some (Some []) else None))
+      split true = refl
+      split false = refl
+
+  -- the entry is of a key that is read back from its bytes
+  abbrev IsOfKey : List ℕ × Option (List ℕ) → Type 0
+  IsOfKey entry = (key : Values) × (entry.0 ≡ keys_of key) × IsReadableKey count key
+
+  of_keys : (earlier rows : List FedRow) → AllByRecursion (IsKeyed count) rows → AllByRecursion IsOfKey (map kept_entry (first_among is_held earlier rows))
+  unfolding first_among
+  of_keys earlier [] all = tt
+  of_keys earlier (row ∷ rows) all = by (is_held row.key || has_key earlier row.key) (of_keys (earlier ++ row ∷ []) rows all.1)
+    where
+      by : (known : Bool) → AllByRecursion IsOfKey (map kept_entry (first_among is_held (earlier ++ row ∷ []) rows))
+          → AllByRecursion IsOfKey (map kept_entry (if known then first_among is_held (earlier ++ row ∷ []) rows else row ∷ first_among is_held (earlier ++ row ∷ []) rows))
+      by true rest = rest
+      by false rest = ((row.key, refl, all.0), rest)
+
+  pub says_firsts : AreApart → (rows : List FedRow) → All (IsKeyed count) rows → (entries change : Change) → ((bytes : List ℕ) → value_at change bytes ≡ last_at entries bytes)
+      → entries ≡ map kept_entry (first_among is_held [] rows) → SaysFirsts count is_held rows change
+  says_firsts apart rows keyed entries change said are = record {
+    told = λ key readable.
+        said (keys_of key)
+        ∙ ap (λ l. last_at l (keys_of key)) are
+        ∙ last_told apart [] rows each key readable
+        ∙ ap (λ b. said_if (not b && has_key rows key)) (or_false (is_held key));
+    only = λ bytes what has. last_has IsOfKey (map kept_entry (first_among is_held [] rows)) (of_keys [] rows each) bytes what (sym (said bytes ∙ ap (λ l. last_at l bytes) are) ∙ has);
+  }
+    where
+      each : AllByRecursion (IsKeyed count) rows
+      each = recursion_from_All (IsKeyed count) rows keyed
 
 -- ---- what can be printed
 
@@ -209,17 +262,11 @@ printed_by true row before after shown more takes fit was = subst (All (All (IfT
 printed_by false row before after shown more takes fit was =
     subst (All (All (IfTime IsStampTime))) (sym takes.1) (All-push (All (IfTime IsStampTime)) shown row.values was (All-weaker IsFit (IfTime IsStampTime) fit_time row.values fit.values))
 
-pub printed_more : (state : State) (row : FedRow) (before after : Change) (shown more : List Values) → Takes state row before after shown more → IsFitRow row → All (All (IfTime IsStampTime)) shown
-    → All (All (IfTime IsStampTime)) more
-printed_more state row before after shown more takes fit was =
-    printed_by (is_some (value_at state (keys_of row.key)) || is_some (value_at before (keys_of row.key))) row before after shown more takes fit was
+pub printed_more : (state : State) (row : FedRow) (has_row : Bool) (before after : Change) (shown more : List Values) → Takes state row has_row before after shown more → IsFitRow row
+    → All (All (IfTime IsStampTime)) shown → All (All (IfTime IsStampTime)) more
+printed_more state row has_row before after shown more takes fit was = printed_by (has_row || is_some (value_at state (keys_of row.key))) row before after shown more takes fit was
 
 -- ---- a key that goes
-
-either_way : (q k : List ℕ) → is_at (by_bytes q) k ≡ is_at (by_bytes k) q
-either_way q k = by_case (is_at (by_bytes q) k)
-    (λ at. at ∙ sym (ap (λ x. is_at (by_bytes k) x) (one_key q k at) ∙ is_itself k))
-    (λ apart. apart ∙ sym (other_way q k apart))
 
 pub none_gone : (keys : List (List ℕ)) (before after : Change) → keys ≡ [] → after ≡ before → IsGone keys before after
 none_gone keys before after none same q =
@@ -241,6 +288,6 @@ gone_more keys key before old new told was q =
 pub gone_at : (keys : List (Bor (List ℕ))) (at : ℕ) (key : Bor (List ℕ)) → at < length keys → key ≡ get_or keys at key → (before old new : Change) → IsToldAt key.now None old new
     → IsGone (seen (take at keys)) before old → IsGone (seen (take (at + 1) keys)) before new
 gone_at keys at key inside is before old new told was =
-    let took : take (at + 1) keys ≡ take at keys ++ key ∷ [] = take_more keys at key inside ∙ ap (λ k. take at keys ++ k ∷ []) (sym is) in
+    let took : take (at + 1) keys ≡ take at keys ++ key ∷ [] = one_more keys at key inside is in
     subst (λ (l : List (List ℕ)). IsGone l before new) (sym (ap seen took ∙ map-append (λ (key : Bor (List ℕ)). key.now) (take at keys) (key ∷ [])))
     (gone_more (seen (take at keys)) key.now before old new told was)

@@ -3,8 +3,8 @@ use Rattle.std.specs.Prelude.{◌≡◌, ◌++◌, ◌&&◌, ◌||◌, ℕ, Bool
 use Rattle.std.specs.BTreeMap.{is_at}
 use Rattle.std.specs.List.{list_any}
 use Rattle.ssq_value.specs.Key.{keys_of}
-use Rattle.ssq_version.specs.State.{Change, IsToldAt, State, by_bytes, value_at}
-use Rattle.ssq_meaning.specs.declared.fed_row.FedRow.{FedRow}
+use Rattle.ssq_version.specs.State.{Change, State, by_bytes, value_at}
+use Rattle.ssq_meaning.specs.FedRows.{FedRow}
 use Rattle.ssq_meaning.specs.DedupLaws.{entry_if}
 use Rattle.ssq_meaning.specs.Group.{has_key}
 use Rattle.ssq_meaning.specs.Meaning.{Values}
@@ -26,14 +26,18 @@ first_among is_held earlier (row ∷ rows) =
 
 -- ---- a row more
 
--- A row whose key is known changes nothing and is not shown. The key of each other row is kept, with nothing behind it, and the row is shown.
+-- what a change says of the key of a row that is shown: that it is kept, with nothing behind it
+abbrev pub kept_entry : FedRow → List ℕ × Option (List ℕ)
+kept_entry row = (keys_of row.key, Some [])
+
+-- A row whose key is known changes nothing and is not shown. The key of each other row is kept, and the row is shown.
 abbrev pub TakesIf : (is_known : Bool) → FedRow → (before after : Change) → (shown more : List Values) → Type 0
 TakesIf true row before after shown more = (after ≡ before) × (more ≡ shown)
-TakesIf false row before after shown more = IsToldAt (keys_of row.key) (Some []) before after × (more ≡ shown ++ row.values ∷ [])
+TakesIf false row before after shown more = (after ≡ before ++ kept_entry row ∷ []) × (more ≡ shown ++ row.values ∷ [])
 
-abbrev pub Takes : State → FedRow → (before after : Change) → (shown more : List Values) → Type 0
-Takes state row before after shown more =
-    TakesIf (is_some (value_at state (keys_of row.key)) || is_some (value_at before (keys_of row.key))) row before after shown more
+-- a key is known where a row before it has it, or the state
+abbrev pub Takes : State → FedRow → (has_row : Bool) → (before after : Change) → (shown more : List Values) → Type 0
+Takes state row has_row before after shown more = TakesIf (has_row || is_some (value_at state (keys_of row.key))) row before after shown more
 
 -- ---- what a change says
 

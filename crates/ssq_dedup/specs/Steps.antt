@@ -4,7 +4,7 @@ use Rattle.ssq_version.specs.State.{State}
 use Rattle.ssq_shape.specs.declared.bound.Bound.{Bound}
 use Rattle.ssq_shape.specs.declared.bound.Shape.{Shape}
 use Rattle.ssq_shape.specs.declared.bound.Shape.TheVariants as shape
-use Rattle.ssq_meaning.specs.declared.fed_row.FedRow.{FedRow}
+use Rattle.ssq_meaning.specs.FedRows.{FedRow}
 use Rattle.ssq_meaning.specs.DedupLaws.{Follows}
 use Rattle.ssq_meaning.specs.Fit.{IsFitRow}
 use Rattle.ssq_meaning.specs.Operator.{dedup}

@@ -1,15 +1,17 @@
 //! The step of an epoch.
 
-ghost use Rattle.std.specs.Prelude.{◌≡◌, ◌||◌, [], ℕ, ℤ, Bool, List, Option, All, is_some, IfOk, IfErr, OnOk};
+ghost use Rattle.std.specs.Prelude.{◌≡◌, ◌||◌, [], ℕ, ℤ, Bool, List, Option, All, is_some, not, IfOk, IfErr, OnOk};
+ghost use Rattle.std.specs.HashSet.{contains};
 ghost use Rattle.ssq_value.specs.declared.value.Value.{Value as Cell};
 ghost use Rattle.ssq_time.specs.Time.{IsStampTime};
 ghost use Rattle.ssq_value.specs.Kind.{IfTime};
 ghost use Rattle.ssq_shape.specs.declared.bound.Bound.{Bound as Query};
-ghost use Rattle.ssq_meaning.specs.declared.fed_row.FedRow.{FedRow as Fed};
+ghost use Rattle.ssq_meaning.specs.FedRows.{FedRow as Fed};
 ghost use Rattle.ssq_meaning.specs.Dedup.{values_in};
 ghost use Rattle.ssq_meaning.specs.Fit.{IsFitRow};
+ghost use Rattle.ssq_meaning.specs.Group.{is_same};
 ghost use Rattle.ssq_meaning.specs.Operator.{dedup};
-ghost use Rattle.ssq_version.specs.State.{IsShort, value_at};
+ghost use Rattle.ssq_version.specs.State.{IsShort, IsShortEntry, value_at};
 ghost use Rattle.ssq_step.specs.Indexing.{seen};
 ghost use Rattle.ssq_step.specs.Steps.{IsStep};
 ghost use Rattle.ssq_step.specs.declared.fault.StepFault.TheVariants.{NoMemory};
@@ -19,10 +21,11 @@ ghost use Rattle.ssq_dedup.specs.Steps.{Given, KeepsRepeats};
 use ssq_field::Bytes;
 use ssq_meaning::{FedRow, first_rows_are_told_by_what_is_kept, kept_keys_are_found};
 use ssq_shape::{Bound, Shape};
-use ssq_step::{Closing, StepFault, Stepped, bytes_of_key, short};
-use ssq_value::{Row, keys_are_apart};
+use ssq_step::{Closing, Key, StepFault, Stepped, bytes_of_key, copied_row, short};
+use ssq_value::{Row, Value, keys_are_apart};
 use ssq_version::{Change, StateMap};
 use std::alloc::{AllocError, Global};
+use std::collections::HashSet;
 
 fn is_kept(state: &StateMap, key: &Bytes) -> bool
     ensures { result ≡ is_some (value_at state.now key.now) }
@@ -30,39 +33,43 @@ fn is_kept(state: &StateMap, key: &Bytes) -> bool
     state.get(key).is_some()
 }
 
-fn is_told(change: &Change, key: &Bytes) -> bool
-    ensures { result ≡ is_some (value_at change.now key.now) }
+/// Puts the key among those of the rows, and tells whether no row before has it.
+fn note_key<'a>(keys: &mut HashSet<Key<'a>>, key: &'a [Value]) -> Result<bool, AllocError>
+    ensures keys { OnOk result ((other : List Cell) → contains is_same keys.new other ≡ (is_same key.now other || contains is_same keys.old other)) }
+    ensures is_new { IfOk result (λ is_new. is_new ≡ not (contains is_same keys.old key.now)) }
 {
-    change.get(key).is_some()
+    let is_new = keys.insert(Key::of(key))?;
+    Ok(is_new)
 }
 
-/// Whether a key is kept, or has a row of the epoch already.
-fn is_known(state: &StateMap, change: &Change, key: &Bytes) -> bool
-    ensures { result ≡ (is_some (value_at state.now key.now) || is_some (value_at change.now key.now)) }
-{
-    is_kept(state, key) || is_told(change, key)
-}
-
-/// Takes one more row: where its key is new, the row is shown, and its key is kept from now on.
-fn take_row(
+/// Takes one more row: where no row before has its key, and the state does not keep it, the row is shown, and its key is kept from now on.
+fn take_row<'a>(
     alloc: Global,
     state: &StateMap,
-    change: &mut Change,
+    keys: &mut HashSet<Key<'a>>,
+    entries: &mut Vec<(Bytes, Option<Bytes>)>,
     shown: &mut Vec<Row>,
-    row: &FedRow,
+    row: &'a FedRow,
 ) -> Result<(), AllocError>
     requires { IsFitRow row.now }
-    ensures { OnOk result (Takes state.now row.now change.old change.new shown.old.items shown.new.items) }
+    ensures keys { OnOk result ((key : List Cell) → contains is_same keys.new key ≡ (is_same row.now.key key || contains is_same keys.old key)) }
+    ensures taken { OnOk result (Takes state.now row.now (contains is_same keys.old row.now.key) entries.old.items entries.new.items shown.old.items shown.new.items) }
+    ensures short { All IsShortEntry entries.old.items → OnOk result (All IsShortEntry entries.new.items) }
 {
-    let key = bytes_of_key(alloc, row.key.as_slice())?;
-    if is_known(state, change, &key) {
+    let is_new = note_key(keys, row.key())?;
+    if !is_new {
         return Ok(());
     }
-    shown.push(row.values.clone()?)?;
-    change.put(key, Bytes::new(alloc))
+    let key = bytes_of_key(alloc, row.key())?;
+    if is_kept(state, &key) {
+        return Ok(());
+    }
+    shown.push(copied_row(alloc, row.values())?)?;
+    entries.push((key, Some(Bytes::new(alloc))))?;
+    Ok(())
 }
 
-/// The rows that are no repeats, and that their keys are kept from now on. Each row's key is looked up once.
+/// The rows that are no repeats, and that their keys are kept from now on. The state is asked once for each key.
 fn first_rows(alloc: Global, state: &StateMap, rows: &[FedRow]) -> Result<Stepped, AllocError>
     requires { All IsFitRow rows.now }
     ensures change { (count : ℕ) (is_held : List Cell → Bool) → HoldsKeys count state.now is_held → All (IsKeyed count) rows.now →
@@ -72,11 +79,13 @@ fn first_rows(alloc: Global, state: &StateMap, rows: &[FedRow]) -> Result<Steppe
     ensures printable { IfOk result (λ stepped. All (All (IfTime IsStampTime)) stepped.rows.items) }
 {
     keys_are_apart();
-    let mut change = Change::new(alloc);
+    let mut keys = HashSet::with_capacity(alloc, rows.len())?;
+    let mut entries = Vec::new(alloc);
     let mut shown = Vec::new(alloc);
     for row in rows {
-        take_row(alloc, state, &mut change, &mut shown, row)?;
+        take_row(alloc, state, &mut keys, &mut entries, &mut shown, row)?;
     }
+    let change = Change::of_entries(alloc, entries)?;
     Ok(Stepped {
         change,
         rows: shown,
@@ -127,7 +136,7 @@ fn step_rows(
 /// watermark, in microseconds since 1970, what changes in the state, and which rows are shown. Of a query that does not deduplicate nothing
 /// changes, and nothing is shown.
 ///
-/// A row is shown where its key is neither kept nor that of a row before it. A key is looked up once for each of its rows; no other key is
+/// A row is shown where its key is neither kept nor that of a row before it. The state is asked once for each key of the rows; no other key is
 /// read but those that are forgotten.
 pub fn step(
     alloc: Global,

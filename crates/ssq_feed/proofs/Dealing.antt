@@ -9,7 +9,7 @@ use Rattle.ssq_value.specs.Key.{keys_of}
 use Rattle.ssq_route.specs.Place.{fnv_1a, place_of}
 use Rattle.ssq_route.specs.Buckets.{items_at, buckets_of, bucket_at}
 use Rattle.ssq_route.proofs.Filling.{buckets_of-at}
-use Rattle.ssq_meaning.specs.declared.fed_row.FedRow.{FedRow}
+use Rattle.ssq_meaning.specs.FedRows.{FedRow}
 use Rattle.ssq_meaning.specs.Epochs.{bucket}
 use Rattle.ssq_meaning.specs.Fit.{IsFitRow}
 use Rattle.ssq_feed.specs.Dealing.{Deals}

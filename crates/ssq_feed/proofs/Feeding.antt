@@ -20,7 +20,7 @@ use Rattle.ssq_json.specs.Fits.{FitsSchema}
 use Rattle.ssq_json.specs.declared.bad_row.BadRow.TheVariants.{TooLong}
 use Rattle.ssq_shape.specs.declared.bound.Bound.{Bound}
 use Rattle.ssq_shape.specs.Evaluation.{time_in as time_of_value}
-use Rattle.ssq_meaning.specs.declared.fed_row.FedRow.{FedRow}
+use Rattle.ssq_meaning.specs.FedRows.{FedRow}
 use Rattle.ssq_meaning.specs.declared.line.LineFault.{LineFault}
 use Rattle.ssq_meaning.specs.declared.line.LineFault.TheVariants as line
 use Rattle.ssq_meaning.specs.Fit.{IsFitRow}

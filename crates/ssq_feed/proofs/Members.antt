@@ -1,16 +1,16 @@
 -- Rows that are dealt, one behind the other, and those that go to the groups of a row.
-use Rattle.std.proofs.Common.{◌≡◌, ◌+◌, ◌-◌, ◌≤◌, ◌++◌, ℕ, List, [], ◌∷◌, Some, Result, Ok, Err, arith, refl, ap, sym, ◌∙◌, subst, map, length, take, append_assoc}
+use Rattle.std.proofs.Common.{◌≡◌, ◌+◌, ◌-◌, ◌≤◌, ◌++◌, ℕ, List, [], ◌∷◌, Some, Result, Ok, Err, arith, refl, ap, sym, ◌∙◌, subst, map, length, take, drop, append_assoc, length-append}
 use Rattle.std.specs.Prelude.{All, OnOk, slice_get}
 use Rattle.std.specs.List.{flat_map}
-use Rattle.std.proofs.lemmas.List.{append-nil, map-append, take_all, take_more}
+use Rattle.std.proofs.lemmas.List.{append-nil, map-append, take_all, take_more, take-append-le, drop-append-le}
 use Rattle.std.proofs.lemmas.List.Concat.{flat_map-append}
-use Rattle.std.proofs.lemmas.List.Elements.{All-nil, All-append}
+use Rattle.std.proofs.lemmas.List.Elements.{All-nil, All-append, All-push}
 use Rattle.std.proofs.lemmas.Option.{slice_get_within, get_or_from_slice_get}
 use Rattle.ssq_value.specs.declared.value.Value.{Value}
 use Rattle.ssq_shape.specs.declared.bound.Bound.{Bound}
 use Rattle.ssq_shape.specs.declared.bound.GroupKey.{GroupKey}
 use Rattle.ssq_shape.specs.declared.bound.Grouping.{Grouping}
-use Rattle.ssq_meaning.specs.declared.fed_row.FedRow.{FedRow}
+use Rattle.ssq_meaning.specs.FedRows.{FedRow}
 use Rattle.ssq_meaning.specs.Fit.{IsFit, IsFitRow}
 use Rattle.ssq_meaning.specs.Group.{key_values, row_keys, member}
 use Rattle.ssq_meaning.specs.Meaning.{Values}
@@ -117,6 +117,24 @@ rows_of_key origin query grouping arguments key row (part ∷ parts) is = absurd
 pub value_fits : (values : List Value) (nth : ℕ) (value : Value) → All IsFit values → slice_get values nth ≡ Some value → IsFit value
 value_fits values nth value all there =
     subst IsFit (get_or_from_slice_get values nth value value there) (all nth value (slice_get_within values nth value there))
+
+-- Cells, the arguments with a key behind them, that go on with one more value: the key does, and the arguments stay.
+pub record GoesOn (arguments : ℕ) (cells longer : Values) (value : Value) : Type 0 where
+  pub same : take arguments longer ≡ take arguments cells
+  pub key : drop arguments longer ≡ drop arguments cells ++ value ∷ []
+  pub within : arguments ≤ length longer
+  pub fit : All IsFit longer
+
+pub goes_on : (arguments : ℕ) (cells longer : Values) (value : Value) → arguments ≤ length cells → All IsFit cells → IsFit value → longer ≡ cells ++ value ∷ []
+    → GoesOn arguments cells longer value
+goes_on arguments cells longer value within all fits is =
+    let Q : Values → Type 0 = All IsFit in
+    record {
+      same = ap (take arguments) is ∙ take-append-le arguments cells (value ∷ []) within;
+      key = ap (drop arguments) is ∙ drop-append-le arguments cells (value ∷ []) within;
+      within = omega (arith, within, ap (λ (l : Values). length l) is, length-append cells (value ∷ []));
+      fit = subst Q (sym is) (All-push IsFit cells value all fits);
+    }
 
 pub on_ok : {T E A B : Type 0} (r : Result T E) → OnOk r A → (A → B) → OnOk r B
 on_ok (Ok x) a f = f a

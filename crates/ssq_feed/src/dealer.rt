@@ -1,6 +1,6 @@
 //! Rows on their way to their partitions.
 
-ghost use Rattle.std.specs.Prelude.{◌≡◌, ◌≤◌, ◌∷◌, ◌++◌, [], length, map, All, IfOk, OnOk, Some};
+ghost use Rattle.std.specs.Prelude.{◌≡◌, ◌≤◌, ◌∷◌, ◌++◌, [], length, take, drop, map, All, IfOk, OnOk, Some};
 ghost use Rattle.std.specs.List.{AllByRecursion};
 ghost use Rattle.ssq_meaning.specs.Dedup.{distinguished};
 ghost use Rattle.ssq_meaning.specs.Feeding.{shown_once};
@@ -31,8 +31,8 @@ pub(crate) struct Origin {
 
 impl Origin {
     /// The row that is fed from this line with a key, the time when it is past, and values.
-    fn row(self, key: Row, time: Option<i64>, values: Row) -> FedRow
-        ensures { result ≡ from_origin self (record { key = key; time = time; values = values }) }
+    fn row(self, key: Row, time: Option<i64>, values: Row) -> Result<FedRow, AllocError>
+        ensures { IfOk result (λ row. row ≡ from_origin self (record { key = key; time = time; values = values })) }
     {
         let Origin {
             epoch,
@@ -40,15 +40,26 @@ impl Origin {
             part,
             offset,
         } = self;
-        FedRow {
+        FedRow::new(epoch, stream, part, offset, key, time, values)
+    }
+
+    /// The row that is fed from this line with so many values, a key behind them, and the time when it is past.
+    fn member(
+        self,
+        values: usize,
+        time: Option<i64>,
+        cells: Vec<Value>,
+    ) -> Result<FedRow, AllocError>
+        requires { values ≤ length cells.items }
+        ensures { IfOk result (λ row. row ≡ from_origin self (record { key = drop values cells.items; time = time; values = take values cells.items })) }
+    {
+        let Origin {
             epoch,
             stream,
             part,
             offset,
-            key,
-            time,
-            values,
-        }
+        } = self;
+        FedRow::of_cells(epoch, stream, part, offset, values, time, cells)
     }
 }
 
@@ -59,6 +70,8 @@ struct Source<'a> {
     bound: &'a Bound,
     grouping: &'a Grouping,
     row: &'a [Value],
+    /// How many arguments the aggregates have.
+    arguments: usize,
 }
 
 /// Deals rows to the buckets of their partitions.
@@ -69,27 +82,27 @@ pub(crate) struct Dealer {
     key: Vec<u8>,
 }
 
-/// A key that goes on with one more value than its front, with room for so many values.
+/// Cells that go on with one more value than their front, with room for so many values.
 fn longer(
     alloc: Global,
     room: usize,
     front: &[Value],
     value: Value,
 ) -> Result<Vec<Value>, AllocError>
-    ensures { IfOk result (λ key. key.items ≡ front.now ++ value ∷ []) }
+    ensures { IfOk result (λ cells. cells.items ≡ front.now ++ value ∷ []) }
 {
-    let mut key = Vec::with_capacity(alloc, room)?;
-    key.extend_with_clones(front)?;
-    key.push(value)?;
-    Ok(key)
+    let mut cells = Vec::with_capacity(alloc, room)?;
+    cells.extend_with_clones(front)?;
+    cells.push(value)?;
+    Ok(cells)
 }
 
-/// The same key with one more value.
-fn pushed(mut key: Vec<Value>, value: Value) -> Result<Vec<Value>, AllocError>
-    ensures { IfOk result (λ longer. longer.items ≡ key.items ++ value ∷ []) }
+/// The same cells with one more value.
+fn pushed(mut cells: Vec<Value>, value: Value) -> Result<Vec<Value>, AllocError>
+    ensures { IfOk result (λ longer. longer.items ≡ cells.items ++ value ∷ []) }
 {
-    key.push(value)?;
-    Ok(key)
+    cells.push(value)?;
+    Ok(cells)
 }
 
 impl Dealer {
@@ -122,44 +135,44 @@ impl Dealer {
         }
         fit_values_are_spelled();
         self.key.clear();
-        put_key(&mut self.key, row.key.as_slice())?;
+        put_key(&mut self.key, row.key())?;
         self.buckets.add(self.key.as_slice(), row)
     }
 
-    /// Deals a row to each of its groups whose keys begin like this, by the parts of a key that are left. The arguments are cloned for each
-    /// group but the last.
+    /// Deals a row to each of its groups whose keys begin like this, by the parts of a key that are left. The cells are the arguments and, behind
+    /// them, the key so far; they are cloned for each group but the last.
     fn deal_groups(
         &mut self,
         alloc: Global,
         from: &Source<'_>,
         parts: &[GroupKey],
-        key: Vec<Value>,
-        arguments: Row,
+        cells: Vec<Value>,
     ) -> Result<(), AllocError>
         requires windows { HasGroupWindows from.now.grouping.now }
         requires left { AllByRecursion HasWindow parts.now }
         requires read { IsReadRow from.now.row.now }
-        requires key { All IsFit key.items }
-        requires arguments { All IsFit arguments }
+        requires arguments { from.now.arguments ≤ length cells.items }
+        requires cells { All IsFit cells.items }
         ensures { OnOk result (Deals self.old.buckets self.new.buckets
-            (member_rows from.now.origin from.now.bound.now from.now.grouping.now arguments (begun_with key.items (row_keys parts.now from.now.row.now)))) }
+            (member_rows from.now.origin from.now.bound.now from.now.grouping.now (take from.now.arguments cells.items)
+            (begun_with (drop from.now.arguments cells.items) (row_keys parts.now from.now.row.now)))) }
     {
         let Some((part, parts)) = parts.split_first() else {
-            let key = Row::from_vec(key);
-            let time = closing_time(from.bound, from.grouping, key.as_slice());
-            return self.deal(from.origin.row(key, time, arguments));
+            let time = closing_time(from.bound, from.grouping, &cells[from.arguments..]);
+            let row = from.origin.member(from.arguments, time, cells)?;
+            return self.deal(row);
         };
         let values = KeyValues::of(part, from.row);
         let Some(last) = values.count().checked_sub(1) else {
             return Ok(());
         };
-        let room = from.grouping.keys.len();
+        let room = from.grouping.keys.len().saturating_add(from.arguments);
         for nth in 0..last {
-            let begun = longer(alloc, room, key.as_slice(), values.value(nth)?)?;
-            self.deal_groups(alloc, from, parts, begun, arguments.clone()?)?;
+            let begun = longer(alloc, room, cells.as_slice(), values.value(nth)?)?;
+            self.deal_groups(alloc, from, parts, begun)?;
         }
-        let key = pushed(key, values.value(last)?)?;
-        self.deal_groups(alloc, from, parts, key, arguments)
+        let cells = pushed(cells, values.value(last)?)?;
+        self.deal_groups(alloc, from, parts, cells)
     }
 
     /// Deals what a row hands on. A row as SELECT shows it has a key without values.
@@ -177,8 +190,8 @@ impl Dealer {
         match handed {
             HandedOn::Nothing => Ok(()),
             HandedOn::Shown(values) => {
-                let row = origin.row(Row::new(alloc), None, values);
-                self.buckets.add(&[], row)
+                let row = origin.row(Row::new(alloc), None, values)?;
+                self.deal(row)
             },
             HandedOn::Distinguished {
                 columns,
@@ -186,9 +199,13 @@ impl Dealer {
                 values,
             } => {
                 let time = repeat_time(bound, columns, key.as_slice());
-                self.deal(origin.row(key, time, values))
+                let row = origin.row(key, time, values)?;
+                self.deal(row)
             },
-            HandedOn::Paired { key, time, row } => self.deal(origin.row(key, time, row)),
+            HandedOn::Paired { key, time, row } => {
+                let row = origin.row(key, time, row)?;
+                self.deal(row)
+            },
             HandedOn::Grouped {
                 grouping,
                 row,
@@ -199,10 +216,10 @@ impl Dealer {
                     bound,
                     grouping,
                     row: row.as_slice(),
+                    arguments: arguments.len(),
                 };
                 let parts = grouping.keys.as_slice();
-                let key = Vec::with_capacity(alloc, parts.len())?;
-                self.deal_groups(alloc, &from, parts, key, arguments)
+                self.deal_groups(alloc, &from, parts, arguments.into_vec())
             }
         }
     }

@@ -43,6 +43,7 @@ pub(crate) enum HandedOn<'a> {
         grouping: &'a Grouping,
         /// The row as it was read, of which the groups' keys are made.
         row: Row,
+        /// They have room for the values of a group's key.
         arguments: Row,
     },
 }
@@ -58,18 +59,19 @@ fn argument_of(alloc: Global, argument: &Option<Typed>, row: &[Value]) -> Result
     }
 }
 
-/// The arguments of the aggregates, evaluated from the left.
+/// The arguments of the aggregates, evaluated from the left, with room for so many values more.
 #[tactic(auto, unfolding(ssq_meaning::specs::Group::arguments_of))]
 fn arguments_of(
     alloc: Global,
     aggregates: &[Aggregate],
+    room: usize,
     row: &[Value],
 ) -> Result<Vec<Value>, EvalFault>
     requires fit { All IsFit row.now }
     ensures values { Answers (λ values. values.items) result (arguments_of aggregates.now row.now) }
     ensures fit { IfOk result (λ values. All IsFit values.items) }
 {
-    let mut values = Vec::with_capacity(alloc, aggregates.len())?;
+    let mut values = Vec::with_capacity(alloc, aggregates.len().saturating_add(room))?;
     for aggregate in aggregates {
         let value = argument_of(alloc, &aggregate.argument, row)?;
         values.push(value).map_err(AllocError::from)?;
@@ -100,13 +102,13 @@ fn cell_at(row: &[Value], column: usize) -> Result<Value, AllocError>
     }
 }
 
-/// The values of the columns, in their order.
-fn key_in(alloc: Global, columns: &[usize], row: &[Value]) -> Result<Row, AllocError>
+/// The values of the columns, in their order, with room for so many values more.
+fn key_in(alloc: Global, columns: &[usize], room: usize, row: &[Value]) -> Result<Row, AllocError>
     requires { All IsFit row.now }
     ensures key { IfOk result (λ key. key ≡ key_in columns.now row.now) }
     ensures fit { IfOk result (All IsFit) }
 {
-    let mut key = Vec::with_capacity(alloc, columns.len())?;
+    let mut key = Vec::with_capacity(alloc, columns.len().saturating_add(room))?;
     for column in columns {
         key.push(cell_at(row, *column)?)?;
     }
@@ -126,7 +128,7 @@ fn distinguished<'a>(
 {
     match show(alloc, bound, row)? {
         Some(values) => {
-            let key = key_in(alloc, columns, row)?;
+            let key = key_in(alloc, columns, values.len(), row)?;
             Ok(HandedOn::Distinguished {
                 columns,
                 key,
@@ -152,7 +154,12 @@ fn grouped<'a>(
     if !passes(alloc, &bound.filter, row.as_slice())? {
         return Ok(HandedOn::Nothing);
     }
-    let arguments = arguments_of(alloc, grouping.aggregates.as_slice(), row.as_slice())?;
+    let arguments = arguments_of(
+        alloc,
+        grouping.aggregates.as_slice(),
+        grouping.keys.len(),
+        row.as_slice(),
+    )?;
     Ok(HandedOn::Grouped {
         grouping,
         row,
@@ -166,13 +173,13 @@ fn key_column(left: bool, pair: &KeyPair) -> usize
     if left { pair.left } else { pair.right }
 }
 
-/// The join key of a row of a stream: its values in the columns of the key equalities.
+/// The join key of a row of a stream: its values in the columns of the key equalities. It has room for the row.
 fn join_key(alloc: Global, pairs: &[KeyPair], stream: u32, row: &[Value]) -> Result<Row, AllocError>
     requires { All IsFit row.now }
     ensures key { IfOk result (λ key. key ≡ join_key pairs.now stream row.now) }
     ensures fit { IfOk result (All IsFit) }
 {
-    let mut key = Vec::with_capacity(alloc, pairs.len())?;
+    let mut key = Vec::with_capacity(alloc, pairs.len().saturating_add(row.len()))?;
     for pair in pairs {
         key.push(cell_at(row, key_column(stream == 0, pair))?)?;
     }

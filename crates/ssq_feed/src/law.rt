@@ -2,7 +2,7 @@
 
 ghost use Rattle.std.specs.Prelude.{◌≡◌, ◌<◌, ℕ, List, length};
 ghost use Rattle.ssq_route.specs.Buckets.{bucket_at};
-ghost use Rattle.ssq_meaning.specs.declared.fed_row.FedRow.{FedRow as Fed};
+ghost use Rattle.ssq_meaning.specs.FedRows.{FedRow as Fed};
 ghost use Rattle.ssq_meaning.specs.Epochs.{bucket};
 ghost use Rattle.ssq_feed.specs.Rows.{dealt};
 

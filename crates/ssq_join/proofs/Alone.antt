@@ -13,7 +13,7 @@ use Rattle.ssq_value.specs.Key.{keys_of}
 use Rattle.ssq_version.specs.State.{State}
 use Rattle.ssq_shape.specs.declared.bound.Bound.{Bound}
 use Rattle.ssq_shape.specs.declared.bound.Joining.{Joining}
-use Rattle.ssq_meaning.specs.declared.fed_row.FedRow.{FedRow}
+use Rattle.ssq_meaning.specs.FedRows.{FedRow}
 use Rattle.ssq_meaning.specs.Fit.{IsFit}
 use Rattle.ssq_meaning.specs.Join.{Considered, alone_of, is_left, joined_alone, nulls, row_key, row_value}
 use Rattle.ssq_meaning.specs.Meaning.{Values, layout_at}

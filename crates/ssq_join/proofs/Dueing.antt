@@ -6,7 +6,7 @@ use Rattle.std.proofs.lemmas.List.{length-append, map-append}
 use Rattle.std.proofs.lemmas.List.Elements.{filter-append}
 use Rattle.ssq_version.specs.State.{by_bytes}
 use Rattle.ssq_version.proofs.Values.{by_case, is_itself, one_key}
-use Rattle.ssq_meaning.specs.declared.fed_row.FedRow.{FedRow}
+use Rattle.ssq_meaning.specs.FedRows.{FedRow}
 use Rattle.ssq_meaning.specs.Join.{row_key}
 use Rattle.ssq_meaning.specs.JoinLaws.{AreApart, IsReordered}
 use Rattle.ssq_step.specs.Indexing.{stands}

@@ -10,7 +10,7 @@ use Rattle.ssq_version.specs.State.{Ascends, State, all_with, from_key, front_wi
 use Rattle.ssq_shape.specs.declared.bound.Bound.{Bound}
 use Rattle.ssq_shape.specs.declared.bound.Joining.{Joining}
 use Rattle.ssq_shape.specs.Evaluation.{is_null}
-use Rattle.ssq_meaning.specs.declared.fed_row.FedRow.{FedRow}
+use Rattle.ssq_meaning.specs.FedRows.{FedRow}
 use Rattle.ssq_meaning.specs.Group.{is_same}
 use Rattle.ssq_meaning.specs.Join.{is_left, is_near}
 use Rattle.ssq_meaning.specs.JoinLaws.{are_candidates}

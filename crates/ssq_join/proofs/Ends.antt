@@ -13,7 +13,7 @@ use Rattle.ssq_shape.specs.declared.bound.Bound.{Bound}
 use Rattle.ssq_shape.specs.declared.bound.Joining.{Joining}
 use Rattle.ssq_shape.specs.declared.bound.TimeBound.{TimeBound}
 use Rattle.ssq_shape.specs.Evaluation.{cell_at, time_in}
-use Rattle.ssq_meaning.specs.declared.fed_row.FedRow.{FedRow}
+use Rattle.ssq_meaning.specs.FedRows.{FedRow}
 use Rattle.ssq_meaning.specs.Fit.{IsFit}
 use Rattle.ssq_meaning.specs.Join.{event_column, is_left, is_over, join_time, last_time, met_byte, row_key, row_value, side_byte}
 use Rattle.ssq_meaning.specs.JoinLaws.{IsAround, IsBounded}

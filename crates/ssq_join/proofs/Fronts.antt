@@ -6,7 +6,7 @@ use Rattle.std.proofs.lemmas.List.Sorted.{IsPermutation-middle, IsPermutation-re
 use Rattle.ssq_version.specs.State.{begins_with, front_with}
 use Rattle.ssq_shape.specs.declared.bound.Bound.{Bound}
 use Rattle.ssq_shape.specs.declared.bound.Joining.{Joining}
-use Rattle.ssq_meaning.specs.declared.fed_row.FedRow.{FedRow}
+use Rattle.ssq_meaning.specs.FedRows.{FedRow}
 use Rattle.ssq_meaning.specs.JoinLaws.{are_candidates}
 use Rattle.ssq_join.specs.declared.found.Found.{Found}
 use Rattle.ssq_join.specs.Meeting.{AreOthers, IsOther, MeetsFront, MeetsNext, entry_with, with_candidate}

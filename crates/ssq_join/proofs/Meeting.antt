@@ -7,7 +7,7 @@ use Rattle.ssq_version.specs.State.{by_bytes}
 use Rattle.ssq_shape.specs.declared.bound.Bound.{Bound}
 use Rattle.ssq_shape.specs.declared.bound.Joining.{Joining}
 use Rattle.ssq_shape.specs.Evaluation.{Overflow as Excess}
-use Rattle.ssq_meaning.specs.declared.fed_row.FedRow.{FedRow}
+use Rattle.ssq_meaning.specs.FedRows.{FedRow}
 use Rattle.ssq_meaning.specs.Join.{Considered, is_partner, row_key}
 use Rattle.ssq_meaning.specs.Meaning.{Values}
 use Rattle.ssq_join.specs.declared.found.Found.{Found}

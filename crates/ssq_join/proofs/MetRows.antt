@@ -8,7 +8,7 @@ use Rattle.std.proofs.lemmas.List.Folds.{list_any-append}
 use Rattle.ssq_version.specs.State.{by_bytes}
 use Rattle.ssq_version.proofs.Values.{one_key}
 use Rattle.ssq_shape.specs.declared.bound.Joining.{Joining}
-use Rattle.ssq_meaning.specs.declared.fed_row.FedRow.{FedRow}
+use Rattle.ssq_meaning.specs.FedRows.{FedRow}
 use Rattle.ssq_meaning.specs.Join.{has_partner, have_equal_keys, is_candidate, is_left, is_near, is_on, is_pair, is_partner, row_key}
 use Rattle.ssq_meaning.specs.JoinLaws.{AreApart, are_candidates}
 use Rattle.ssq_meaning.specs.Meaning.{is_true_answer}

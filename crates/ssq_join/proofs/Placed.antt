@@ -9,7 +9,7 @@ use Rattle.ssq_version.specs.State.{State, by_bytes, value_at}
 use Rattle.ssq_version.proofs.Values.{is_itself, other_way}
 use Rattle.ssq_shape.specs.declared.bound.Bound.{Bound}
 use Rattle.ssq_shape.specs.declared.bound.Joining.{Joining}
-use Rattle.ssq_meaning.specs.declared.fed_row.FedRow.{FedRow}
+use Rattle.ssq_meaning.specs.FedRows.{FedRow}
 use Rattle.ssq_meaning.specs.Join.{row_key, row_value}
 use Rattle.ssq_meaning.specs.JoinLaws.{AreApart, IsReordered}
 use Rattle.ssq_meaning.proofs.Reordered.{permutes}

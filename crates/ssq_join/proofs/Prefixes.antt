@@ -8,7 +8,7 @@ use Rattle.ssq_value.specs.Key.{keys_of}
 use Rattle.ssq_version.specs.State.{begins_with}
 use Rattle.ssq_shape.specs.declared.bound.Joining.{Joining}
 use Rattle.ssq_shape.specs.Evaluation.{is_null}
-use Rattle.ssq_meaning.specs.declared.fed_row.FedRow.{FedRow}
+use Rattle.ssq_meaning.specs.FedRows.{FedRow}
 use Rattle.ssq_meaning.specs.Group.{is_same}
 use Rattle.ssq_meaning.specs.GroupLaws.{IsKeySpelled}
 use Rattle.ssq_meaning.specs.Join.{is_left, is_near, row_key, side_byte}

@@ -8,7 +8,7 @@ use Rattle.std.proofs.lemmas.List.Folds.{list_any-append}
 use Rattle.ssq_value.specs.Key.{keys_of}
 use Rattle.ssq_version.specs.State.{Ascends, Change, IsToldAt, State, by_bytes, value_at}
 use Rattle.ssq_version.proofs.Values.{by_case, first_at, is_itself, none_behind, one_key, other_way, others_at}
-use Rattle.ssq_meaning.specs.declared.fed_row.FedRow.{FedRow}
+use Rattle.ssq_meaning.specs.FedRows.{FedRow}
 use Rattle.ssq_meaning.specs.Feeding.{or_else}
 use Rattle.ssq_meaning.specs.Join.{met_byte, row_key, row_value}
 use Rattle.ssq_step.specs.Indexing.{seen}

@@ -10,7 +10,7 @@ use Rattle.ssq_version.specs.State.{State, by_bytes, value_at}
 use Rattle.ssq_version.proofs.Values.{by_case, is_itself, one_key, other_way}
 use Rattle.ssq_shape.specs.declared.bound.Bound.{Bound}
 use Rattle.ssq_shape.specs.declared.bound.Joining.{Joining}
-use Rattle.ssq_meaning.specs.declared.fed_row.FedRow.{FedRow}
+use Rattle.ssq_meaning.specs.FedRows.{FedRow}
 use Rattle.ssq_meaning.specs.Feeding.{or_else}
 use Rattle.ssq_meaning.specs.Join.{row_key, row_value}
 use Rattle.ssq_meaning.specs.JoinLaws.{AreApart}

@@ -10,7 +10,7 @@ use Rattle.ssq_version.specs.State.{Change, IsAfter, State, value_at}
 use Rattle.ssq_shape.specs.declared.bound.Bound.{Bound}
 use Rattle.ssq_shape.specs.declared.bound.Joining.{Joining}
 use Rattle.ssq_shape.specs.declared.bound.Shape.{Shape}
-use Rattle.ssq_meaning.specs.declared.fed_row.FedRow.{FedRow}
+use Rattle.ssq_meaning.specs.FedRows.{FedRow}
 use Rattle.ssq_meaning.specs.Group.{least_key}
 use Rattle.ssq_meaning.specs.Join.{alone_of, entry_of, faulty_among, faulty_key, has_partner, is_alone, is_over, is_partner, kept, open_rows, row_key, row_of, shown_among}
 use Rattle.ssq_meaning.specs.JoinLaws.{AreApart, Follows, IsBounded, IsReordered, considered_by, pairs_in_turn}

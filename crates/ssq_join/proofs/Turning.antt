@@ -12,7 +12,7 @@ use Rattle.std.proofs.lemmas.List.Sorted.{IsPermutation-append_comm, IsPermutati
 use Rattle.ssq_version.specs.State.{by_bytes}
 use Rattle.ssq_shape.specs.declared.bound.Bound.{Bound}
 use Rattle.ssq_shape.specs.declared.bound.Joining.{Joining}
-use Rattle.ssq_meaning.specs.declared.fed_row.FedRow.{FedRow}
+use Rattle.ssq_meaning.specs.FedRows.{FedRow}
 use Rattle.ssq_meaning.specs.Join.{is_left, row_key, row_value}
 use Rattle.ssq_meaning.specs.JoinLaws.{are_candidates, pair_by, pairs_in_turn}
 use Rattle.ssq_join.specs.Changing.{find_row}

@@ -6,7 +6,7 @@ use Rattle.std.specs.List.Sorted.{IsPermutation}
 use Rattle.ssq_version.specs.State.{by_bytes}
 use Rattle.ssq_shape.specs.declared.bound.Bound.{Bound}
 use Rattle.ssq_shape.specs.declared.bound.Joining.{Joining}
-use Rattle.ssq_meaning.specs.declared.fed_row.FedRow.{FedRow}
+use Rattle.ssq_meaning.specs.FedRows.{FedRow}
 use Rattle.ssq_meaning.specs.Group.{least_key}
 use Rattle.ssq_meaning.specs.Join.{Considered, faulty_among, is_left, is_partner, row_key, shown_among}
 use Rattle.ssq_meaning.specs.JoinLaws.{are_candidates, pair_by}

@@ -41,10 +41,10 @@ pub(crate) fn row_key(alloc: Global, row: &FedRow) -> Result<Bytes, AllocError>
     ensures bytes { IfOk result (λ bytes. bytes ≡ row_key row.now) }
     ensures short { IfOk result IsShort }
 {
-    let mut bytes = prefix_of(alloc, row.stream == 0, row.key.as_slice())?;
-    put_be32(&mut bytes, row.epoch)?;
-    put_be32(&mut bytes, row.part)?;
-    put_be64(&mut bytes, row.offset)?;
+    let mut bytes = prefix_of(alloc, row.stream() == 0, row.key())?;
+    put_be32(&mut bytes, row.epoch())?;
+    put_be32(&mut bytes, row.part())?;
+    put_be64(&mut bytes, row.offset())?;
     short(bytes.into_vec())
 }
 
@@ -54,7 +54,7 @@ pub(crate) fn row_value(alloc: Global, met: bool, row: &FedRow) -> Result<Bytes,
     ensures bytes { IfOk result (λ bytes. bytes ≡ row_value met row.now) }
     ensures short { IfOk result IsShort }
 {
-    let mut bytes = key_bytes(alloc, row.values.as_slice())?;
+    let mut bytes = key_bytes(alloc, row.values())?;
     bytes.push(met_byte(met))?;
     short(bytes)
 }

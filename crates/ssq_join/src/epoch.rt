@@ -2,7 +2,7 @@
 
 ghost use Rattle.std.specs.Prelude.{◌≡◌, [], ℤ, List, Option, All, FitsSigned, IfOk, IfErr, IfSome};
 ghost use Rattle.std.specs.Int.{w64};
-ghost use Rattle.ssq_meaning.specs.declared.fed_row.FedRow.{FedRow as Fed};
+ghost use Rattle.ssq_meaning.specs.FedRows.{FedRow as Fed};
 ghost use Rattle.ssq_meaning.specs.Fit.{IsFitRow};
 ghost use Rattle.ssq_meaning.specs.Operator.{join};
 ghost use Rattle.ssq_shape.specs.declared.bound.Joining.{Joining as Joins};

@@ -7,7 +7,8 @@ ghost use Rattle.ssq_join.specs.Judging.{ArePrintable, IsPrintable, shown_by};
 ghost use Rattle.ssq_join.specs.Telling.{Tells};
 
 use crate::judge::Shown;
-use ssq_value::{Row, order_rows};
+use ssq_step::copied_row;
+use ssq_value::{Row, Value, order_rows};
 use std::alloc::{AllocError, Global};
 
 /// What was considered so far: the rows that are shown, in no order, and the least join key of what overflowed.
@@ -28,18 +29,18 @@ pub(crate) fn nothing_found(alloc: Global) -> Found
     }
 }
 
-fn lesser_key(key: &Row, least: Option<Row>) -> Result<Row, AllocError>
+fn lesser_key(alloc: Global, key: &[Value], least: Option<Row>) -> Result<Row, AllocError>
     ensures { IfOk result (λ own. own ≡ lesser_key key.now least) }
 {
     match least {
         Some(other) => {
-            if order_rows(key.as_slice(), other.as_slice()).is_gt() {
+            if order_rows(key, other.as_slice()).is_gt() {
                 Ok(other)
             } else {
-                key.clone()
+                copied_row(alloc, key)
             }
         }
-        None => key.clone(),
+        None => copied_row(alloc, key),
     }
 }
 
@@ -52,12 +53,12 @@ fn with_row(found: Found, row: Row) -> Result<Found, AllocError>
     Ok(Found { rows, fault })
 }
 
-fn with_fault(found: Found, key: &Row) -> Result<Found, AllocError>
+fn with_fault(alloc: Global, found: Found, key: &[Value]) -> Result<Found, AllocError>
     ensures rows { IfOk result (λ now. now.rows.items ≡ found.rows.items) }
     ensures fault { IfOk result (λ now. now.fault ≡ Some (lesser_key key.now found.fault)) }
 {
     let Found { rows, fault } = found;
-    let least = lesser_key(key, fault)?;
+    let least = lesser_key(alloc, key, fault)?;
     Ok(Found {
         rows,
         fault: Some(least),
@@ -65,7 +66,12 @@ fn with_fault(found: Found, key: &Row) -> Result<Found, AllocError>
 }
 
 /// Takes in what was considered for a key.
-pub(crate) fn with_shown(found: Found, key: &Row, shown: Shown) -> Result<Found, AllocError>
+pub(crate) fn with_shown(
+    alloc: Global,
+    found: Found,
+    key: &[Value],
+    shown: Shown,
+) -> Result<Found, AllocError>
     requires one { IsPrintable shown }
     requires printable { ArePrintable found.rows.items }
     ensures told { (all : List Told) → Tells found all → IfOk result (λ now. Tells now (record { key = key.now; row = shown_by shown } ∷ all)) }
@@ -74,6 +80,6 @@ pub(crate) fn with_shown(found: Found, key: &Row, shown: Shown) -> Result<Found,
     match shown {
         Shown::Row(row) => with_row(found, row),
         Shown::Nothing => Ok(found),
-        Shown::Overflow => with_fault(found, key),
+        Shown::Overflow => with_fault(alloc, found, key),
     }
 }

@@ -3,7 +3,7 @@
 ghost use Rattle.std.specs.Prelude.{◌≡◌, ◌||◌, ℕ, Bool, List, All, if◌then◌else◌, IfOk, OnOk};
 ghost use Rattle.std.specs.BTreeMap.{is_at};
 ghost use Rattle.ssq_version.specs.State.{by_bytes};
-ghost use Rattle.ssq_meaning.specs.declared.fed_row.FedRow.{FedRow as Fed};
+ghost use Rattle.ssq_meaning.specs.FedRows.{FedRow as Fed};
 ghost use Rattle.ssq_meaning.specs.Fit.{IsFit, IsFitRow};
 ghost use Rattle.ssq_meaning.specs.Join.{row_key};
 ghost use Rattle.ssq_join.specs.Judging.{ArePrintable};
@@ -68,8 +68,8 @@ fn judge_pair(
     ensures { IfOk result (JudgedAs bound.now joining.now row.now other.now.left other.now.values) }
 {
     let own = Half {
-        time: row.time,
-        values: row.values.as_slice(),
+        time: row.time(),
+        values: row.values(),
     };
     let values = other.values.as_slice();
     if other.left {
@@ -130,7 +130,7 @@ fn meet_row(
         shown,
     } = judged;
     know(met, is_partner, comer.bytes, key)?;
-    with_shown(found, &comer.row.key, shown)
+    with_shown(alloc, found, comer.row.key(), shown)
 }
 
 /// Takes in the rows among some that are kept that may be partners of a new row: those of the other side with its join key. They stand together

@@ -4,7 +4,7 @@ ghost use Rattle.std.specs.Prelude.{◌≡◌, ◌∷◌, Bool, List, All, Some,
 ghost use Rattle.ssq_value.specs.Key.{keys_of};
 ghost use Rattle.ssq_shape.specs.declared.bound.Bound.{Bound as Query};
 ghost use Rattle.ssq_shape.specs.declared.bound.Joining.{Joining as Joins};
-ghost use Rattle.ssq_meaning.specs.declared.fed_row.FedRow.{FedRow as Fed};
+ghost use Rattle.ssq_meaning.specs.FedRows.{FedRow as Fed};
 ghost use Rattle.ssq_meaning.specs.Fit.{IsFit};
 ghost use Rattle.ssq_meaning.specs.Join.{Considered as Told, alone_of, is_outer_side, joined_alone, nulls, row_key, row_value};
 ghost use Rattle.ssq_step.specs.Indexing.{seen};
@@ -102,7 +102,7 @@ fn row_at(
 fn show_alone(
     alloc: Global,
     bound: &Bound,
-    own: &Row,
+    own: &[Value],
     row: &KeptRow,
     found: Found,
 ) -> Result<Found, AllocError>
@@ -114,7 +114,7 @@ fn show_alone(
 {
     let values = joined_alone(alloc, bound, row)?;
     let shown = show_row(alloc, bound, values.as_slice())?;
-    with_shown(found, own, shown)
+    with_shown(alloc, found, own, shown)
 }
 
 /// Takes in a row that is over, where it met no partner and is shown without one.
@@ -142,7 +142,7 @@ fn take_over(
     let Some(own) = own else {
         return Ok(found);
     };
-    show_alone(alloc, bound, &own, &row, found)
+    show_alone(alloc, bound, own.as_slice(), &row, found)
 }
 
 /// Takes in the rows that are over, each by the bytes under which it is kept.

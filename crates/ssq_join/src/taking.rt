@@ -2,7 +2,7 @@
 
 ghost use Rattle.std.specs.Prelude.{◌≡◌, ◌++◌, ◌∷◌, [], Bool, List, None, All, IfOk};
 ghost use Rattle.ssq_version.specs.State.{Ascends, from_key};
-ghost use Rattle.ssq_meaning.specs.declared.fed_row.FedRow.{FedRow as Fed};
+ghost use Rattle.ssq_meaning.specs.FedRows.{FedRow as Fed};
 ghost use Rattle.ssq_meaning.specs.Fit.{IsFitRow};
 ghost use Rattle.ssq_meaning.specs.Join.{row_key};
 ghost use Rattle.ssq_meaning.specs.JoinLaws.{AreApart};
@@ -64,10 +64,10 @@ fn take_row(
     keys_are_apart();
     beginnings_stand_together();
     states_are_kept(state);
-    if has_null(comer.row.key.as_slice()) {
+    if has_null(comer.row.key()) {
         return Ok(found);
     }
-    let prefix = prefix_of(alloc, comer.row.stream != 0, comer.row.key.as_slice())?;
+    let prefix = prefix_of(alloc, comer.row.stream() != 0, comer.row.key())?;
     let between = meet(
         alloc,
         bound,

@@ -13,7 +13,7 @@ use Rattle.ssq_shape.specs.declared.bound.Shape.{Shape}
 use Rattle.ssq_shape.specs.declared.bound.Shape.TheVariants.{Plain}
 use Rattle.ssq_shape.specs.Evaluation.{Overflow as Excess, and_then}
 use Rattle.ssq_shape.specs.Plain.{passes, projected}
-use Rattle.ssq_meaning.specs.declared.fed_row.FedRow.{FedRow}
+use Rattle.ssq_meaning.specs.FedRows.{FedRow}
 use Rattle.ssq_meaning.specs.Meaning.{Line, Values, is_fed, is_true_answer, shown, lines_between}
 use Rattle.ssq_meaning.specs.Parts.{Part}
 use Rattle.ssq_meaning.specs.Cut.{Cut, Cuts, start_of, of_parts, AreWithin, AreCuts}

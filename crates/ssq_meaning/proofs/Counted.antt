@@ -7,7 +7,7 @@ use Rattle.std.specs.List.{AllByRecursion, list_any}
 use Rattle.ssq_shape.specs.declared.bound.Bound.{Bound}
 use Rattle.ssq_shape.specs.declared.bound.Grouping.{Grouping}
 use Rattle.ssq_shape.specs.declared.bound.Mode.TheVariants as mode
-use Rattle.ssq_meaning.specs.declared.fed_row.FedRow.{FedRow}
+use Rattle.ssq_meaning.specs.FedRows.{FedRow}
 use Rattle.ssq_meaning.specs.Group.{is_same, keys_in, has_key, members, totals_in, is_closed, is_due, closing_time}
 use Rattle.ssq_meaning.specs.GroupLaws.{Follows, times, times_due, times_closed, held_if, held, next_held}
 use Rattle.ssq_meaning.specs.Meaning.{Values}

@@ -6,7 +6,7 @@ use Rattle.ssq_shape.specs.declared.bound.Grouping.{Grouping}
 use Rattle.ssq_shape.specs.declared.bound.Mode.{Mode}
 use Rattle.ssq_shape.specs.declared.bound.Mode.TheVariants as mode
 use Rattle.ssq_shape.specs.Late.{event_of, time_key}
-use Rattle.ssq_meaning.specs.declared.fed_row.FedRow.{FedRow}
+use Rattle.ssq_meaning.specs.FedRows.{FedRow}
 use Rattle.ssq_meaning.specs.declared.total.Total.{Total}
 use Rattle.ssq_meaning.specs.Group.{keys_in, has_key, members, totals_in, is_closed, is_due, closing_time, time_by, unless_complete}
 use Rattle.ssq_meaning.specs.GroupLaws.{Follows, times_due, held_if, held, is_due_now}

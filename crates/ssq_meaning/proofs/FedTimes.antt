@@ -15,7 +15,7 @@ use Rattle.ssq_shape.specs.declared.bound.Grouping.{Grouping}
 use Rattle.ssq_shape.specs.declared.bound.Shape.{Shape}
 use Rattle.ssq_shape.specs.declared.bound.Shape.TheVariants.{Group}
 use Rattle.ssq_shape.specs.Evaluation.{Evaluated, cell_at, time_in}
-use Rattle.ssq_meaning.specs.declared.fed_row.FedRow.{FedRow}
+use Rattle.ssq_meaning.specs.FedRows.{FedRow}
 use Rattle.ssq_meaning.specs.Cut.{Cuts}
 use Rattle.ssq_meaning.specs.Epochs.{accepted, fed, on_time, watermark}
 use Rattle.ssq_meaning.specs.Feeding.{line_handed, read_at, fed_in}

@@ -19,7 +19,7 @@ use Rattle.ssq_shape.specs.declared.bound.Shape.TheVariants as shape
 use Rattle.ssq_shape.specs.Evaluation.{Overflow as Excess, cell_at, time_in}
 use Rattle.ssq_shape.specs.Plain.{projected}
 use Rattle.ssq_shape.specs.Windows.{HasWindow, HasWindowsBy, HasWindows, is_window}
-use Rattle.ssq_meaning.specs.declared.fed_row.FedRow.{FedRow}
+use Rattle.ssq_meaning.specs.FedRows.{FedRow}
 use Rattle.ssq_meaning.specs.declared.line.LineFault.{LineFault}
 use Rattle.ssq_meaning.specs.Cut.{Cut, Cuts, AreCuts, AreWithin, of_parts}
 use Rattle.ssq_meaning.specs.Dedup.{distinguished, key_in}

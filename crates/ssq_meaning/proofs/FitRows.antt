@@ -30,7 +30,7 @@ use Rattle.ssq_shape.specs.Evaluation.{cell_at, evaluated, time_in}
 use Rattle.ssq_shape.specs.Fit.{IsFit}
 use Rattle.ssq_shape.specs.Plain.{projected}
 use Rattle.ssq_shape.specs.Windows.{HasWindow, HasWindowsBy, HasWindows}
-use Rattle.ssq_meaning.specs.declared.fed_row.FedRow.{FedRow}
+use Rattle.ssq_meaning.specs.FedRows.{FedRow}
 use Rattle.ssq_meaning.specs.Cut.{Cuts}
 use Rattle.ssq_meaning.specs.Dedup.{distinguished, key_in}
 use Rattle.ssq_meaning.specs.Epochs.{fed, on_time, accepted}

@@ -9,7 +9,7 @@ use Rattle.ssq_shape.specs.declared.bound.Grouping.{Grouping}
 use Rattle.ssq_shape.specs.declared.bound.Mode.TheVariants as mode
 use Rattle.ssq_shape.specs.declared.bound.Shape.{Shape}
 use Rattle.ssq_shape.specs.declared.bound.Shape.TheVariants.{Group}
-use Rattle.ssq_meaning.specs.declared.fed_row.FedRow.{FedRow}
+use Rattle.ssq_meaning.specs.FedRows.{FedRow}
 use Rattle.ssq_meaning.specs.Cut.{Cuts}
 use Rattle.ssq_meaning.specs.Epochs.{accepted, on_time, watermark, watermark_before, out}
 use Rattle.ssq_meaning.specs.Group.{distinct, has_key, totals_in, is_closed, closing_time, meant}

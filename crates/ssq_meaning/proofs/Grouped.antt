@@ -10,7 +10,7 @@ use Rattle.std.specs.List.Sorted.{IsPermutation}
 use Rattle.ssq_shape.specs.declared.bound.Bound.{Bound}
 use Rattle.ssq_shape.specs.declared.bound.Grouping.{Grouping}
 use Rattle.ssq_shape.specs.declared.bound.Mode.TheVariants as mode
-use Rattle.ssq_meaning.specs.declared.fed_row.FedRow.{FedRow}
+use Rattle.ssq_meaning.specs.FedRows.{FedRow}
 use Rattle.ssq_meaning.specs.Group.{is_same, distinct, keys_in, has_key, members, group_row, row_of_key, is_closed, is_meant, meant, is_due, closing_time}
 use Rattle.ssq_meaning.specs.GroupLaws.{Follows}
 use Rattle.ssq_meaning.specs.Meaning.{Values}

@@ -10,7 +10,7 @@ use Rattle.ssq_shape.specs.declared.bound.Shape.{Shape}
 use Rattle.ssq_shape.specs.declared.bound.Shape.TheVariants as shape
 use Rattle.ssq_shape.specs.Evaluation.{Overflow as Excess, and_then}
 use Rattle.ssq_shape.specs.Plain.{passes, projected}
-use Rattle.ssq_meaning.specs.declared.fed_row.FedRow.{FedRow}
+use Rattle.ssq_meaning.specs.FedRows.{FedRow}
 use Rattle.ssq_meaning.specs.declared.line.LineFault.{LineFault}
 use Rattle.ssq_meaning.specs.Cut.{Cut, Cuts, of_parts}
 use Rattle.ssq_meaning.specs.Dedup.{distinguished, distinguished_if, handed_to_dedup, key_in}

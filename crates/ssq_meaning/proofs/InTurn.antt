@@ -9,7 +9,7 @@ use Rattle.std.proofs.lemmas.List.Folds.{list_any-append}
 use Rattle.std.proofs.lemmas.List.Sorted.{IsPermutation-append, IsPermutation-append_left, IsPermutation-append_right, IsPermutation-map, IsPermutation-refl, IsPermutation-sym, IsPermutation-trans}
 use Rattle.ssq_shape.specs.declared.bound.Bound.{Bound}
 use Rattle.ssq_shape.specs.declared.bound.Joining.{Joining}
-use Rattle.ssq_meaning.specs.declared.fed_row.FedRow.{FedRow}
+use Rattle.ssq_meaning.specs.FedRows.{FedRow}
 use Rattle.ssq_meaning.specs.Group.{least_key}
 use Rattle.ssq_meaning.specs.Join.{alone_of, considered, due_rows, faulty_among, faulty_key, has_partner, have_equal_keys, is_alone, is_candidate, is_due, is_left, is_near, is_on, is_outer_side, is_over, is_partner, open_rows, pair_of, pairs_of, pairs_with, row_of, shown_among}
 use Rattle.ssq_meaning.specs.JoinLaws.{Follows, IsBounded, IsReordered, are_candidates, considered_by, pair_by, pairs_by, pairs_in_turn}

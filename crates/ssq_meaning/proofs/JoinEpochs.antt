@@ -11,7 +11,7 @@ use Rattle.ssq_shape.specs.declared.bound.Bound.{Bound}
 use Rattle.ssq_shape.specs.declared.bound.Joining.{Joining}
 use Rattle.ssq_shape.specs.declared.bound.Shape.{Shape}
 use Rattle.ssq_shape.specs.declared.bound.Shape.TheVariants.{Join}
-use Rattle.ssq_meaning.specs.declared.fed_row.FedRow.{FedRow}
+use Rattle.ssq_meaning.specs.FedRows.{FedRow}
 use Rattle.ssq_meaning.specs.Cut.{Cuts}
 use Rattle.ssq_meaning.specs.Epochs.{accepted, bucket, fed, on_time, out, watermark, watermark_before}
 use Rattle.ssq_meaning.specs.Feeding.{fed_in, line_handed, read_at}

@@ -5,7 +5,7 @@ use Rattle.std.specs.List.{AllByRecursion}
 use Rattle.std.proofs.lemmas.Int.{ints}
 use Rattle.ssq_shape.specs.declared.bound.Joining.{Joining}
 use Rattle.ssq_shape.specs.declared.bound.TimeBound.{TimeBound}
-use Rattle.ssq_meaning.specs.declared.fed_row.FedRow.{FedRow}
+use Rattle.ssq_meaning.specs.FedRows.{FedRow}
 use Rattle.ssq_meaning.specs.Join.{has_partner, have_equal_keys, is_candidate, is_left, is_near, is_on, is_over, last_time}
 use Rattle.ssq_meaning.specs.JoinLaws.{IsAround, IsBounded}
 use Rattle.ssq_meaning.specs.Meaning.{is_true_answer}

@@ -10,7 +10,7 @@ use Rattle.std.proofs.lemmas.List.Folds.{list_any-append}
 use Rattle.std.proofs.lemmas.List.Sorted.{IsPermutation-append, IsPermutation-append_left, IsPermutation-map, IsPermutation-trans}
 use Rattle.ssq_shape.specs.declared.bound.Bound.{Bound}
 use Rattle.ssq_shape.specs.declared.bound.Joining.{Joining}
-use Rattle.ssq_meaning.specs.declared.fed_row.FedRow.{FedRow}
+use Rattle.ssq_meaning.specs.FedRows.{FedRow}
 use Rattle.ssq_meaning.specs.Join.{alone_of, considered, due_rows, has_partner, is_alone, is_candidate, is_due, is_left, is_outer_side, is_over, is_partner, meant, meant_of, pair_of, pairs_of, pairs_with, row_of, rows_alone}
 use Rattle.ssq_meaning.specs.JoinLaws.{Follows, IsBounded}
 use Rattle.ssq_meaning.specs.Operator.{join}

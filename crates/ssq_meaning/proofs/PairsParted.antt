@@ -9,7 +9,7 @@ use Rattle.ssq_route.specs.Place.{place_of}
 use Rattle.ssq_shape.specs.declared.bound.Bound.{Bound}
 use Rattle.ssq_shape.specs.declared.bound.Joining.{Joining}
 use Rattle.ssq_shape.specs.Evaluation.{is_null}
-use Rattle.ssq_meaning.specs.declared.fed_row.FedRow.{FedRow}
+use Rattle.ssq_meaning.specs.FedRows.{FedRow}
 use Rattle.ssq_meaning.specs.Epochs.{bucket}
 use Rattle.ssq_meaning.specs.Group.{is_same, least_key}
 use Rattle.ssq_meaning.specs.Join.{Considered, alone_of, considered, due_rows, faulty_among, faulty_key, have_equal_keys, is_alone, is_candidate, is_due, is_left, is_near, is_on, is_outer_side, is_pair, is_partner, pair_of, pairs_of, pairs_with, row_of}

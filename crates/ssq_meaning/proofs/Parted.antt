@@ -15,7 +15,7 @@ use Rattle.ssq_value.specs.OrderLaws.{values_cmp_total}
 use Rattle.ssq_route.specs.Place.{place_of, fnv_1a}
 use Rattle.ssq_shape.specs.declared.bound.Bound.{Bound}
 use Rattle.ssq_shape.specs.declared.bound.Grouping.{Grouping}
-use Rattle.ssq_meaning.specs.declared.fed_row.FedRow.{FedRow}
+use Rattle.ssq_meaning.specs.FedRows.{FedRow}
 use Rattle.ssq_meaning.specs.Epochs.{bucket}
 use Rattle.ssq_meaning.specs.Group.{is_same, keys_in, has_key, members, group_row, row_of_key, key_overflows, is_closed, is_due, due_keys, lesser_key, least_key}
 use Rattle.ssq_meaning.specs.GroupLaws.{times}

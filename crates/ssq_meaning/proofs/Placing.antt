@@ -22,7 +22,7 @@ use Rattle.ssq_shape.specs.declared.bound.Shape.TheVariants.{Join}
 use Rattle.ssq_shape.specs.Evaluation.{cell_at}
 use Rattle.ssq_shape.specs.Fit.{IsFit}
 use Rattle.ssq_shape.specs.Windows.{HasWindows, HasWindowsBy}
-use Rattle.ssq_meaning.specs.declared.fed_row.FedRow.{FedRow}
+use Rattle.ssq_meaning.specs.FedRows.{FedRow}
 use Rattle.ssq_meaning.specs.declared.line.LineFault.{LineFault}
 use Rattle.ssq_meaning.specs.Cut.{Cut, Cuts, of_parts}
 use Rattle.ssq_meaning.specs.Epochs.{accepted, fed, fed_between, on_time, watermark}

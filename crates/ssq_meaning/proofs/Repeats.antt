@@ -11,7 +11,7 @@ use Rattle.ssq_shape.specs.declared.bound.Shape.{Shape}
 use Rattle.ssq_shape.specs.declared.bound.Shape.TheVariants.{Dedup}
 use Rattle.ssq_shape.specs.Evaluation.{Overflow as Excess, cell_at}
 use Rattle.ssq_shape.specs.Plain.{projected}
-use Rattle.ssq_meaning.specs.declared.fed_row.FedRow.{FedRow}
+use Rattle.ssq_meaning.specs.FedRows.{FedRow}
 use Rattle.ssq_meaning.specs.Cut.{Cuts}
 use Rattle.ssq_meaning.specs.Dedup.{closing_time, distinguished, firsts, is_closed, key_in, values_in}
 use Rattle.ssq_meaning.specs.DedupLaws.{Follows, IsDedupRow, IsKnownAt, IsOpenTo, is_held, is_held_next, meaning_at}

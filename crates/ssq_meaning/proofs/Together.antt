@@ -9,7 +9,7 @@ use Rattle.std.proofs.lemmas.List.Sorted.{IsPermutation-append, IsPermutation-fi
 use Rattle.std.proofs.lemmas.Nat.{mod_below}
 use Rattle.ssq_value.specs.Key.{keys_of}
 use Rattle.ssq_route.specs.Place.{place_of, fnv_1a}
-use Rattle.ssq_meaning.specs.declared.fed_row.FedRow.{FedRow}
+use Rattle.ssq_meaning.specs.FedRows.{FedRow}
 use Rattle.ssq_meaning.specs.Epochs.{bucket}
 use Rattle.ssq_meaning.specs.Meaning.{Values}
 

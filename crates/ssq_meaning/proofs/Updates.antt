@@ -10,7 +10,7 @@ use Rattle.ssq_shape.specs.declared.bound.Grouping.{Grouping}
 use Rattle.ssq_shape.specs.declared.bound.Mode.TheVariants as mode
 use Rattle.ssq_shape.specs.declared.bound.Shape.TheVariants.{Group}
 use Rattle.ssq_shape.specs.Evaluation.{Overflow, and_then}
-use Rattle.ssq_meaning.specs.declared.fed_row.FedRow.{FedRow}
+use Rattle.ssq_meaning.specs.FedRows.{FedRow}
 use Rattle.ssq_meaning.specs.Cut.{Cuts}
 use Rattle.ssq_meaning.specs.Epochs.{accepted, on_time, watermark, watermark_before, out, key_fault}
 use Rattle.ssq_meaning.specs.Group.{is_same, distinct, keys_in, has_key, members, totals_in, group_items, passes_having, group_row, row_of_key, key_overflows, is_closed, is_meant, is_due, due_keys, least_key}

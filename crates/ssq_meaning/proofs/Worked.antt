@@ -4,7 +4,7 @@ use Rattle.std.specs.Prelude.{if◌then◌else◌}
 use Rattle.ssq_value.specs.declared.value.Value.TheVariants as value
 use Rattle.ssq_value.specs.Order.{value_cmp}
 use Rattle.ssq_shape.specs.declared.bound.Bound.{Bound}
-use Rattle.ssq_meaning.specs.declared.fed_row.FedRow.{FedRow}
+use Rattle.ssq_meaning.specs.FedRows.{FedRow}
 use Rattle.ssq_meaning.specs.declared.line.LineFault.{LineFault}
 use Rattle.ssq_meaning.specs.declared.line.LineFault.TheVariants.{Overflow}
 use Rattle.ssq_meaning.specs.Dedup.{firsts}

@@ -8,7 +8,7 @@ use Rattle.ssq_shape.specs.declared.bound.Bound.{Bound}
 use Rattle.ssq_shape.specs.Evaluation.{Overflow, and_then, cell_at, time_in}
 use Rattle.ssq_shape.specs.Late.{event_of, is_event}
 use Rattle.ssq_shape.specs.Plain.{shown}
-use Rattle.ssq_meaning.specs.declared.fed_row.FedRow.{FedRow}
+use Rattle.ssq_meaning.specs.FedRows.{FedRow}
 use Rattle.ssq_meaning.specs.Group.{has_key, keys_in, unless_complete}
 use Rattle.ssq_meaning.specs.Handed.{Handed}
 use Rattle.ssq_meaning.specs.Meaning.{Values}

@@ -1,7 +1,7 @@
 -- What holds of rows without repeats from epoch to epoch.
 use Rattle.std.specs.Prelude.{◌≡◌, ◌≤◌, ◌&&◌, ◌||◌, ℕ, ℤ, Bool, true, false, not, List, [], All, length, Option, Some, None}
 use Rattle.ssq_shape.specs.declared.bound.Bound.{Bound}
-use Rattle.ssq_meaning.specs.declared.fed_row.FedRow.{FedRow}
+use Rattle.ssq_meaning.specs.FedRows.{FedRow}
 use Rattle.ssq_meaning.specs.Cut.{Cuts}
 use Rattle.ssq_meaning.specs.Dedup.{closing_time, is_closed, meant}
 use Rattle.ssq_meaning.specs.Epochs.{accepted, watermark, watermark_before}

@@ -11,7 +11,7 @@ use Rattle.ssq_shape.specs.Evaluation.{Overflow as Excess, and_then, time_in as 
 use Rattle.ssq_shape.specs.Plain.{shown as shown_row}
 use Rattle.ssq_meaning.specs.declared.line.LineFault.{LineFault}
 use Rattle.ssq_meaning.specs.declared.line.LineFault.TheVariants.{Bad, Overflow}
-use Rattle.ssq_meaning.specs.declared.fed_row.FedRow.{FedRow}
+use Rattle.ssq_meaning.specs.FedRows.{FedRow}
 pub use Rattle.ssq_meaning.specs.Meaning.{layout_at}
 use Rattle.ssq_meaning.specs.Meaning.{Line, Values, lines_between}
 use Rattle.ssq_meaning.specs.Dedup.{handed_to_dedup}

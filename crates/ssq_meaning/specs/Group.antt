@@ -24,7 +24,7 @@ use Rattle.ssq_shape.specs.declared.typed.Typed.{Typed}
 use Rattle.ssq_shape.specs.Evaluation.{Overflow, Evaluated, and_then, cell_at, evaluated, evaluated_with, is_true, time_in}
 use Rattle.ssq_shape.specs.Late.{event_of, is_window_of, is_column_of, time_key}
 use Rattle.ssq_shape.specs.Plain.{passes}
-use Rattle.ssq_meaning.specs.declared.fed_row.FedRow.{FedRow}
+use Rattle.ssq_meaning.specs.FedRows.{FedRow}
 use Rattle.ssq_meaning.specs.declared.total.Total.{Total}
 use Rattle.ssq_meaning.specs.Handed.{Handed}
 use Rattle.ssq_meaning.specs.Meaning.{Values}

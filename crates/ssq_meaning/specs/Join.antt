@@ -17,7 +17,7 @@ use Rattle.ssq_shape.specs.declared.bound.TimeBound.{TimeBound}
 use Rattle.ssq_shape.specs.declared.typed.Typed.{Typed}
 use Rattle.ssq_shape.specs.Evaluation.{Overflow, Evaluated, and_then, cell_at, conjunction, evaluated, is_null, is_true, time_in, truth_in, truth_of}
 use Rattle.ssq_shape.specs.Plain.{shown}
-use Rattle.ssq_meaning.specs.declared.fed_row.FedRow.{FedRow}
+use Rattle.ssq_meaning.specs.FedRows.{FedRow}
 use Rattle.ssq_meaning.specs.Group.{is_same}
 use Rattle.ssq_meaning.specs.Handed.{Handed}
 use Rattle.ssq_meaning.specs.Meaning.{Values, is_true_answer, layout_at}

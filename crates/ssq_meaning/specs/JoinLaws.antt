@@ -7,7 +7,7 @@ use Rattle.std.specs.Ordering.{nat_cmp}
 use Rattle.ssq_shape.specs.declared.bound.Bound.{Bound}
 use Rattle.ssq_shape.specs.declared.bound.Joining.{Joining}
 use Rattle.ssq_shape.specs.declared.bound.TimeBound.{TimeBound}
-use Rattle.ssq_meaning.specs.declared.fed_row.FedRow.{FedRow}
+use Rattle.ssq_meaning.specs.FedRows.{FedRow}
 use Rattle.ssq_meaning.specs.Cut.{Cuts}
 use Rattle.ssq_meaning.specs.Epochs.{accepted, on_time, watermark, watermark_before}
 use Rattle.ssq_meaning.specs.Join.{Considered, alone_of, due_rows, is_alone, is_candidate, is_due, is_left, is_over, join_key, join_time, meant, open_rows, pair_of, row_key, rows_alone}

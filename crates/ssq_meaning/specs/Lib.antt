@@ -3,6 +3,7 @@ pub mod Parts
 pub mod Cut
 pub mod Times
 pub mod Handed
+pub mod FedRows
 pub mod Totals
 pub mod Group
 pub mod Dedup

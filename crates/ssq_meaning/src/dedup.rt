@@ -10,7 +10,7 @@ ghost use Rattle.std.specs.Ordering.{nat_cmp};
 ghost use Rattle.ssq_value.specs.Key.{IsSpelled, keys_of};
 ghost use Rattle.ssq_shape.specs.declared.bound.Bound.{Bound as Query};
 ghost use Rattle.ssq_shape.specs.declared.bound.Shape.TheVariants as shape;
-ghost use Rattle.ssq_meaning.specs.declared.fed_row.FedRow.{FedRow as Fed};
+ghost use Rattle.ssq_meaning.specs.FedRows.{FedRow as Fed};
 ghost use Rattle.ssq_meaning.specs.Cut.{Cuts};
 ghost use Rattle.ssq_meaning.specs.Dedup.{is_closed, kept, meant};
 ghost use Rattle.ssq_meaning.specs.DedupLaws.{Follows, IsDedupRow, IsKnownAt, IsOpenTo, entry_if, is_held, is_held_next, meaning_at};

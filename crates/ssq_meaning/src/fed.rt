@@ -6,7 +6,7 @@ ghost use Rattle.ssq_value.specs.Key.{HasShortText, IsSpelled};
 ghost use Rattle.ssq_shape.specs.declared.bound.Bound.{Bound as Query};
 ghost use Rattle.ssq_shape.specs.Fit.{IsFit};
 ghost use Rattle.ssq_shape.specs.Windows.{HasWindows};
-ghost use Rattle.ssq_meaning.specs.declared.fed_row.FedRow.{FedRow as Fed};
+ghost use Rattle.ssq_meaning.specs.FedRows.{FedRow as Fed};
 ghost use Rattle.ssq_meaning.specs.Cut.{Cuts, AreCuts, AreWithin};
 ghost use Rattle.ssq_meaning.specs.Epochs.{accepted, bucket, fed, on_time};
 ghost use Rattle.ssq_meaning.specs.Feeding.{fed_in};

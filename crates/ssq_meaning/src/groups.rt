@@ -12,7 +12,7 @@ ghost use Rattle.ssq_shape.specs.declared.bound.Bound.{Bound as Query};
 ghost use Rattle.ssq_shape.specs.declared.bound.Grouping.{Grouping as Groups};
 ghost use Rattle.ssq_shape.specs.declared.bound.Mode.TheVariants as mode;
 ghost use Rattle.ssq_shape.specs.declared.bound.Shape.TheVariants as shape;
-ghost use Rattle.ssq_meaning.specs.declared.fed_row.FedRow.{FedRow as Fed};
+ghost use Rattle.ssq_meaning.specs.FedRows.{FedRow as Fed};
 ghost use Rattle.ssq_meaning.specs.Cut.{Cuts};
 ghost use Rattle.ssq_meaning.specs.Epochs.{accepted, bucket, fed, key_fault, on_time, watermark, watermark_before};
 ghost use Rattle.ssq_meaning.specs.Feeding.{fed_in};

@@ -7,7 +7,7 @@ ghost use Rattle.std.specs.List.Sorted.{IsPermutation, IsStrictlySortedBy};
 ghost use Rattle.std.specs.Ordering.{nat_cmp};
 ghost use Rattle.ssq_shape.specs.declared.bound.Bound.{Bound as Query};
 ghost use Rattle.ssq_shape.specs.declared.bound.Shape.TheVariants as shape;
-ghost use Rattle.ssq_meaning.specs.declared.fed_row.FedRow.{FedRow as Fed};
+ghost use Rattle.ssq_meaning.specs.FedRows.{FedRow as Fed};
 ghost use Rattle.ssq_meaning.specs.Parts.{Part};
 ghost use Rattle.ssq_meaning.specs.Cut.{Cuts, AreCuts, AreSameTo};
 ghost use Rattle.ssq_meaning.specs.Times.{AtMost};

@@ -2,3 +2,4 @@ pub mod Timed
 pub mod Rows
 pub mod Indexing
 pub mod Steps
+pub mod Hashing

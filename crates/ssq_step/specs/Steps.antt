@@ -2,7 +2,7 @@
 use Rattle.std.specs.Prelude.{◌≡◌, ◌++◌, ⊤, ℤ, List, Option, Some, None}
 use Rattle.std.specs.List.Sorted.{IsPermutation}
 use Rattle.ssq_version.specs.State.{State, IsAfter}
-use Rattle.ssq_meaning.specs.declared.fed_row.FedRow.{FedRow}
+use Rattle.ssq_meaning.specs.FedRows.{FedRow}
 use Rattle.ssq_meaning.specs.Operator.{Operator}
 use Rattle.ssq_step.specs.declared.fault.StepFault.{StepFault}
 use Rattle.ssq_step.specs.declared.fault.StepFault.TheVariants.{Overflow, NoMemory}

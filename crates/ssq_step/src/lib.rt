@@ -1,16 +1,20 @@
-//! What the steps of all operators that keep state share: the index of keys by time, or of a join's rows, what a step gives, and why it gives
-//! nothing.
+//! What the steps of all operators that keep state share: the index of keys by time, or of a join's rows, a key that hashes, what a step gives,
+//! and why it gives nothing.
 #![tactic(auto)]
 
 mod bytes;
 mod closing;
+mod copies;
 mod fault;
+mod key;
 mod row_index;
 mod rows;
 mod stepped;
 
 pub use bytes::{bytes_of_key, short};
 pub use closing::Closing;
+pub use copies::copied_row;
 pub use fault::StepFault;
+pub use key::Key;
 pub use rows::{KeptRow, read_row, width_of};
 pub use stepped::Stepped;

@@ -26,7 +26,7 @@ use Rattle.ssq_shape.specs.Fit.{IsFit}
 use Rattle.ssq_shape.specs.Kinds.{AreHeldBy}
 use Rattle.ssq_shape.specs.Plain.{projected}
 use Rattle.ssq_shape.specs.Windows.{HasWindows}
-use Rattle.ssq_meaning.specs.declared.fed_row.FedRow.{FedRow}
+use Rattle.ssq_meaning.specs.FedRows.{FedRow}
 use Rattle.ssq_meaning.specs.declared.line.LineFault.{LineFault}
 use Rattle.ssq_meaning.specs.Cut.{Cut, Cuts, of_parts}
 use Rattle.ssq_meaning.specs.Dedup.{distinguished, firsts, key_in}

@@ -7,7 +7,7 @@ use Rattle.ssq_shape.specs.declared.bound.Bound.{Bound}
 use Rattle.ssq_shape.specs.declared.bound.Grouping.{Grouping}
 use Rattle.ssq_shape.specs.declared.bound.Shape.TheVariants.{Group}
 use Rattle.ssq_shape.specs.Evaluation.{Overflow, and_then}
-use Rattle.ssq_meaning.specs.declared.fed_row.FedRow.{FedRow}
+use Rattle.ssq_meaning.specs.FedRows.{FedRow}
 use Rattle.ssq_meaning.specs.Cut.{Cuts}
 use Rattle.ssq_meaning.specs.Epochs.{accepted, on_time, out, watermark, watermark_before}
 use Rattle.ssq_meaning.specs.Group.{due_keys, group_items, group_row, has_key, is_closed, is_due, is_same, keys_in, passes_having, row_of_key, totals_in}

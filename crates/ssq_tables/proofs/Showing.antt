@@ -20,7 +20,7 @@ use Rattle.ssq_shape.specs.Fit.{IsFit}
 use Rattle.ssq_shape.specs.Kinds.{AreHeldBy}
 use Rattle.ssq_shape.specs.Plain.{passes, projected, shown}
 use Rattle.ssq_json.specs.Stored.{AreStoredIn}
-use Rattle.ssq_meaning.specs.declared.fed_row.FedRow.{FedRow}
+use Rattle.ssq_meaning.specs.FedRows.{FedRow}
 use Rattle.ssq_meaning.specs.declared.total.Total.{Total}
 use Rattle.ssq_meaning.specs.Dedup.{firsts}
 use Rattle.ssq_meaning.specs.Group.{distinct, due_keys, group_items, group_row, has_key, is_closed, is_due, is_same, keys_in, members, passes_having, row_of_key, totals_in}

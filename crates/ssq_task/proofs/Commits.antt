@@ -93,13 +93,13 @@ pub later_none : (t : Option ℤ) → later t None ≡ t
 later_none None = refl
 later_none (Some t) = refl
 
-later_assoc : (a b c : Option ℤ) → later (later a b) c ≡ later a (later b c)
+pub later_assoc : (a b c : Option ℤ) → later (later a b) c ≡ later a (later b c)
 later_assoc None b c = refl
 later_assoc (Some a) None c = refl
 later_assoc (Some a) (Some b) None = refl
 later_assoc (Some a) (Some b) (Some c) = ap Some (let same : int_max (int_max a b) c ≡ int_max a (int_max b c) = grind (arith, ints) in same)
 
-same_test : (m n : ℕ) (b : Bool) → (m == n) ≡ b → (n == m) ≡ b
+pub same_test : (m n : ℕ) (b : Bool) → (m == n) ≡ b → (n == m) ≡ b
 same_test m n true is = eq-eqb n m (sym (eqb-true m n is))
 same_test m n false is = ne_eqb n m (λ same. eqb-false m n is (sym same))
 

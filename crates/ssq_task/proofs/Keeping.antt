@@ -9,7 +9,7 @@ use Rattle.ssq_shape.specs.declared.bound.Grouping.{Grouping}
 use Rattle.ssq_shape.specs.declared.bound.Joining.{Joining}
 use Rattle.ssq_shape.specs.declared.bound.Shape.{Shape}
 use Rattle.ssq_shape.specs.declared.bound.Shape.TheVariants.{Plain, Group, Dedup, Join}
-use Rattle.ssq_meaning.specs.declared.fed_row.FedRow.{FedRow}
+use Rattle.ssq_meaning.specs.FedRows.{FedRow}
 use Rattle.ssq_meaning.specs.Epochs.{timely}
 use Rattle.ssq_meaning.specs.Operator.{dedup, group, join, operator_for, operator_of}
 use Rattle.ssq_step.specs.declared.fault.StepFault.{StepFault}
@@ -58,26 +58,24 @@ module _ (query : Bound) (state : version.State) (closing : List Timed) (old new
   was_kept can = was_by query.shape can
 
   module _ (result : Result Stepped StepFault) (can : CanStep query state closing old new before now) where
+    -- what holds of the step by the query's shape holds of the step
+    by_shape : (P : Shape → Type 0) (shape : Shape) → query.shape ≡ shape → (CanStepBy shape query state closing old new before now → P shape) → P query.shape
+    by_shape P shape is gives = subst P (sym is) (gives (subst (λ (shape : Shape). CanStepBy shape query state closing old new before now) is can))
+
     pub groups_step : (grouping : Grouping) → query.shape ≡ Group grouping → (groups.Given query grouping state closing old new before now → IfOk result (IsStep (group query grouping) state old new before now))
         → IfOk result (IsStep (operator_of query) state old new before now)
     unfolding operator_of
-    groups_step grouping is gives =
-        subst (λ (shape : Shape). IfOk result (IsStep (operator_for shape query) state old new before now)) (sym is)
-        (gives (subst (λ (shape : Shape). CanStepBy shape query state closing old new before now) is can))
+    groups_step grouping is gives = by_shape (λ shape. IfOk result (IsStep (operator_for shape query) state old new before now)) (Group grouping) is gives
 
     pub groups_cause : (grouping : Grouping) → query.shape ≡ Group grouping → (groups.Given query grouping state closing old new before now → IfErr result (steps.IsCause (group query grouping) old new before now))
         → IfErr result (steps.IsCause (operator_of query) old new before now)
     unfolding operator_of
-    groups_cause grouping is gives =
-        subst (λ (shape : Shape). IfErr result (steps.IsCause (operator_for shape query) old new before now)) (sym is)
-        (gives (subst (λ (shape : Shape). CanStepBy shape query state closing old new before now) is can))
+    groups_cause grouping is gives = by_shape (λ shape. IfErr result (steps.IsCause (operator_for shape query) old new before now)) (Group grouping) is gives
 
     pub repeats_step : (columns : List ℕ) → query.shape ≡ Dedup columns → (repeats.Given query columns state closing old new before now → IfOk result (IsStep (dedup query columns) state old new before now))
         → IfOk result (IsStep (operator_of query) state old new before now)
     unfolding operator_of
-    repeats_step columns is gives =
-        subst (λ (shape : Shape). IfOk result (IsStep (operator_for shape query) state old new before now)) (sym is)
-        (gives (subst (λ (shape : Shape). CanStepBy shape query state closing old new before now) is can))
+    repeats_step columns is gives = by_shape (λ shape. IfOk result (IsStep (operator_for shape query) state old new before now)) (Dedup columns) is gives
 
     -- want of memory is a cause
     no_memory : (fault : StepFault) → fault ≡ step.NoMemory → steps.IsCause (operator_of query) old new before now fault
@@ -89,16 +87,12 @@ module _ (query : Bound) (state : version.State) (closing : List Timed) (old new
     pub pairs_step : (joining : Joining) → query.shape ≡ Join joining → (pairs.Given query joining state closing old new before now → IfOk result (IsStep (join query joining) state old new before now))
         → IfOk result (IsStep (operator_of query) state old new before now)
     unfolding operator_of
-    pairs_step joining is gives =
-        subst (λ (shape : Shape). IfOk result (IsStep (operator_for shape query) state old new before now)) (sym is)
-        (gives (subst (λ (shape : Shape). CanStepBy shape query state closing old new before now) is can))
+    pairs_step joining is gives = by_shape (λ shape. IfOk result (IsStep (operator_for shape query) state old new before now)) (Join joining) is gives
 
     pub pairs_cause : (joining : Joining) → query.shape ≡ Join joining → (pairs.Given query joining state closing old new before now → IfErr result (steps.IsCause (join query joining) old new before now))
         → IfErr result (steps.IsCause (operator_of query) old new before now)
     unfolding operator_of
-    pairs_cause joining is gives =
-        subst (λ (shape : Shape). IfErr result (steps.IsCause (operator_for shape query) old new before now)) (sym is)
-        (gives (subst (λ (shape : Shape). CanStepBy shape query state closing old new before now) is can))
+    pairs_cause joining is gives = by_shape (λ shape. IfErr result (steps.IsCause (operator_for shape query) old new before now)) (Join joining) is gives
 
 -- ---- the task
 

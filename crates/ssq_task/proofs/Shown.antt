@@ -11,7 +11,7 @@ use Rattle.ssq_value.specs.Kind.{IfTime}
 use Rattle.ssq_shape.specs.declared.bound.Bound.{Bound}
 use Rattle.ssq_shape.specs.declared.bound.Shape.{Shape}
 use Rattle.ssq_shape.specs.declared.bound.Shape.TheVariants.{Plain, Group, Dedup, Join}
-use Rattle.ssq_meaning.specs.declared.fed_row.FedRow.{FedRow}
+use Rattle.ssq_meaning.specs.FedRows.{FedRow}
 use Rattle.ssq_meaning.specs.Epochs.{timely}
 use Rattle.ssq_meaning.specs.Fit.{IsFit, IsFitRow}
 use Rattle.ssq_meaning.specs.Meaning.{Values}

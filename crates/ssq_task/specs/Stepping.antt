@@ -3,7 +3,7 @@ use Rattle.std.specs.Prelude.{ℤ, List, Option}
 use Rattle.ssq_shape.specs.declared.bound.Bound.{Bound}
 use Rattle.ssq_shape.specs.declared.bound.Shape.{Shape}
 use Rattle.ssq_shape.specs.declared.bound.Shape.TheVariants.{Plain, Group, Dedup, Join}
-use Rattle.ssq_meaning.specs.declared.fed_row.FedRow.{FedRow}
+use Rattle.ssq_meaning.specs.FedRows.{FedRow}
 use Rattle.ssq_version.specs.State.{State}
 use Rattle.ssq_step.specs.Indexing.{Timed}
 use Rattle.ssq_agg.specs.Steps as groups

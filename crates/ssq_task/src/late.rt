@@ -18,11 +18,18 @@ fn is_past(watermark: Option<i64>, time: Option<i64>) -> bool
     }
 }
 
+/// Whether a row is late at a watermark.
+fn is_late(watermark: Option<i64>, row: &FedRow) -> bool
+    ensures { result ≡ is_past watermark row.now.time }
+{
+    is_past(watermark, row.time())
+}
+
 /// Leaves out the rows that are late.
 fn leave_late(watermark: Option<i64>, rows: &mut Vec<FedRow>)
     ensures { rows.new.items ≡ not_past watermark rows.old.items }
 {
-    rows.retain(|row| !is_past(watermark, row.time));
+    rows.retain(|row| !is_late(watermark, row));
 }
 
 /// Puts the rows of a part that are not late behind those that are there.
@@ -35,7 +42,7 @@ fn push_timely(
 {
     timely.reserve(rows.len())?;
     for row in rows {
-        if !is_past(watermark, row.time) {
+        if !is_late(watermark, &row) {
             timely.push(row)?;
         }
     }

@@ -3,7 +3,7 @@
 ghost use Rattle.std.specs.Prelude.{◌≡◌, ◌<◌, ◌++◌, ◌^◌, ℕ, ℤ, List, Option, Some, All, IfOk, IfErr, OnOk, OnErr};
 ghost use Rattle.ssq_time.specs.Time.{IsStampTime};
 ghost use Rattle.ssq_value.specs.Kind.{IfTime};
-ghost use Rattle.ssq_meaning.specs.declared.fed_row.FedRow.{FedRow as Fed};
+ghost use Rattle.ssq_meaning.specs.FedRows.{FedRow as Fed};
 ghost use Rattle.ssq_meaning.specs.Epochs.{timely};
 ghost use Rattle.ssq_meaning.specs.Fit.{IsFitRow};
 ghost use Rattle.ssq_meaning.specs.Windows.{HasWindows};

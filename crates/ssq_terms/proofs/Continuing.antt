@@ -17,7 +17,7 @@ use Rattle.ssq_shape.specs.declared.bound.Shape.{Shape}
 use Rattle.ssq_shape.specs.declared.bound.Shape.TheVariants.{Plain, Group, Dedup, Join}
 use Rattle.ssq_shape.specs.Fit.{IsFit}
 use Rattle.ssq_shape.specs.Windows.{HasWindows}
-use Rattle.ssq_meaning.specs.declared.fed_row.FedRow.{FedRow}
+use Rattle.ssq_meaning.specs.FedRows.{FedRow}
 use Rattle.ssq_meaning.specs.Parts.{Part, parts_of}
 use Rattle.ssq_meaning.specs.Cut.{Cut, AreCuts, AreWithin}
 use Rattle.ssq_meaning.specs.Cut.{Cuts as Offsets}
@@ -217,99 +217,101 @@ module _ (laws : PartitionLaws) (s : Setting) (cuts : Cuts) (e p : ℕ) (windows
         let at : FedRow → Bool = λ (row : FedRow). place_of (keys_of row.key) s.job.partitions == p in
         All-filter at (pairs.IsKept s.job.bound joining) rows (kept_joined s.job.bound joining rows fit own (length s.job.parts) streams.counts low wide)
 
-module _ {S : Type 0} (laws : PartitionLaws) (s : Setting) (cuts : Cuts) (e p : ℕ) (below : p < s.job.partitions) (windows : HasWindows s.job.bound) (covers : CoverFewLines s cuts (e + 1)) where
-  given_groups : (grouping : Grouping) → s.job.bound.shape ≡ Group grouping → (state : Option (State S)) → HoldsPartition s cuts e p (held_in state)
-      → IsSomeAnd state (IsGivenState (Group grouping) s.job.bound p (accepted_by s cuts e p) (on_time_to s cuts e p) (mark_before s cuts e) (watermark_at s cuts e))
-  given_groups grouping is None there =
-      let keeping : keeping_of s.job.bound.shape s.job.partitions ≡ s.job.partitions = ap (λ (shape : Shape). keeping_of shape s.job.partitions) is in
-      absurd (omega (arith, there.store, keeping, below))
-  given_groups grouping is (Some state) there =
-      let query = s.job.bound in
-      let parts = parts_in s in
-      let offsets = cuts_of cuts in
-      let old = accepted_by s cuts e p in
-      let new = on_time_to s cuts e p in
-      let fit_old : All IsFitRow old = laws.fit_bucket (accepted query parts offsets e) s.job.partitions p (laws.fit_accepted query windows parts offsets e) in
-      let fit_new : All IsFitRow new = laws.fit_bucket (on_time query parts offsets e) s.job.partitions p (laws.fit_on_time query windows parts offsets e) in
-      record {
-        own = there.store.1;
-        given = record {
-          groups = is;
-          kept = there.store.2 ∙ kept_is query grouping is old (mark_before s cuts e);
-          indexed = there.indexed;
-          follows = laws.follows query grouping is parts offsets s.job.partitions p e;
-          steady = laws.steady query grouping (held query grouping old (mark_before s cuts e)) old new (mark_before s cuts e) (λ key. refl) (few_rows laws s cuts e p windows covers)
-              (have_bigints old (recursion_from_All IsFitRow old fit_old)) (have_bigints new (recursion_from_All IsFitRow new fit_new));
-          rows = All-append (IsKept grouping) old new
-              (kept_rows grouping old fit_old (lengths_of query grouping s.job.partitions p (accepted query parts offsets e) (laws.grouped_accepted query grouping is parts offsets e)))
-              (kept_rows grouping new fit_new (lengths_of query grouping s.job.partitions p (on_time query parts offsets e) (laws.grouped_on_time query grouping is parts offsets e)));
-        };
-      }
+module _ (laws : PartitionLaws) (s : Setting) (cuts : Cuts) (e p : ℕ) (below : p < s.job.partitions) (windows : HasWindows s.job.bound) (covers : CoverFewLines s cuts (e + 1)) where
+  -- the rows before, and those of the epoch, can be kept
+  fit_old : All IsFitRow (accepted_by s cuts e p)
+  fit_old = laws.fit_bucket (accepted s.job.bound (parts_in s) (cuts_of cuts) e) s.job.partitions p (laws.fit_accepted s.job.bound windows (parts_in s) (cuts_of cuts) e)
 
-  given_repeats : (columns : List ℕ) → s.job.bound.shape ≡ Dedup columns → (state : Option (State S)) → HoldsPartition s cuts e p (held_in state)
-      → IsSomeAnd state (IsGivenState (Dedup columns) s.job.bound p (accepted_by s cuts e p) (on_time_to s cuts e p) (mark_before s cuts e) (watermark_at s cuts e))
-  given_repeats columns is None there =
-      let keeping : keeping_of s.job.bound.shape s.job.partitions ≡ s.job.partitions = ap (λ (shape : Shape). keeping_of shape s.job.partitions) is in
-      absurd (omega (arith, there.store, keeping, below))
-  given_repeats columns is (Some state) there =
-      let query = s.job.bound in
-      let parts = parts_in s in
-      let offsets = cuts_of cuts in
-      let old = accepted_by s cuts e p in
-      let new = on_time_to s cuts e p in
-      let fit_old : All IsFitRow old = laws.fit_bucket (accepted query parts offsets e) s.job.partitions p (laws.fit_accepted query windows parts offsets e) in
-      let fit_new : All IsFitRow new = laws.fit_bucket (on_time query parts offsets e) s.job.partitions p (laws.fit_on_time query windows parts offsets e) in
-      record {
-        own = there.store.1;
-        given = record {
-          repeats = is;
-          kept = there.store.2 ∙ repeats_kept_is query columns is old (mark_before s cuts e);
-          indexed = there.indexed;
-          follows = laws.repeats_follow query columns is parts offsets s.job.partitions p e;
-          rows = All-append (once.IsKept columns) old new
-              (kept_repeats columns old fit_old (keys_of_columns query columns s.job.partitions p (accepted query parts offsets e) (laws.keyed_accepted query columns is parts offsets e)))
-              (kept_repeats columns new fit_new (keys_of_columns query columns s.job.partitions p (on_time query parts offsets e) (laws.keyed_on_time query columns is parts offsets e)));
-        };
-      }
+  fit_new : All IsFitRow (on_time_to s cuts e p)
+  fit_new = laws.fit_bucket (on_time s.job.bound (parts_in s) (cuts_of cuts) e) s.job.partitions p (laws.fit_on_time s.job.bound windows (parts_in s) (cuts_of cuts) e)
 
-  given_joins : e < 2 ^ 32 → HasFewStreams s → (joining : Joining) → s.job.bound.shape ≡ Join joining → IsBounded joining → (state : Option (State S)) → HoldsPartition s cuts e p (held_in state)
-      → IsSomeAnd state (IsGivenState (Join joining) s.job.bound p (accepted_by s cuts e p) (on_time_to s cuts e p) (mark_before s cuts e) (watermark_at s cuts e))
-  given_joins few streams joining is bounded None there =
-      let keeping : keeping_of s.job.bound.shape s.job.partitions ≡ s.job.partitions = ap (λ (shape : Shape). keeping_of shape s.job.partitions) is in
-      absurd (omega (arith, there.store, keeping, below))
-  given_joins few streams joining is bounded (Some state) there =
-      let query = s.job.bound in
-      let parts = parts_in s in
-      let offsets = cuts_of cuts in
-      let old = accepted_by s cuts e p in
-      let new = on_time_to s cuts e p in
-      let of_old = laws.wide_accepted query joining is in
-      let of_new = laws.wide_on_time query joining is in
-      record {
-        own = there.store.1;
-        given = record {
-          joins = is;
-          bounded = bounded;
-          kept = there.store.2 ∙ joined_kept_is query joining is old (mark_before s cuts e);
-          indexed = there.indexed;
-          follows = laws.joins_follow query joining is parts offsets s.job.partitions p e;
-          rows = All-append (pairs.IsKept query joining) old new
-              (own_rows laws s cuts e p windows covers few streams joining is (accepted query parts offsets e) (laws.fit_accepted query windows parts offsets e) (laws.joined_accepted query joining is parts offsets e) (of_old.stream s.job.parts s.lines offsets e) (of_old.wide parts offsets e))
-              (own_rows laws s cuts e p windows covers few streams joining is (on_time query parts offsets e) (laws.fit_on_time query windows parts offsets e) (laws.joined_on_time query joining is parts offsets e) (of_new.stream s.job.parts s.lines offsets e) (of_new.wide parts offsets e));
-          apart = rows_apart laws s cuts e p windows covers few streams joining is;
-        };
-      }
+  -- a query that keeps state has one for each partition
+  none_kept : keeping_of s.job.bound.shape s.job.partitions ≡ s.job.partitions → HoldsPartition s cuts e p None → ⊥
+  none_kept keeping there = omega (arith, there.store, keeping, below)
 
-  given_nothing : (state : Option (State S)) → HoldsPartition s cuts e p (held_in state) → keeping_of s.job.bound.shape s.job.partitions ≡ 0 → state ≡ None
-  given_nothing None there none = refl
-  given_nothing (Some state) there none = absurd (omega (arith, there.store.0, none))
+  module _ {S : Type 0} where
+    given_groups : (grouping : Grouping) → s.job.bound.shape ≡ Group grouping → (state : Option (State S)) → HoldsPartition s cuts e p (held_in state)
+        → IsSomeAnd state (IsGivenState (Group grouping) s.job.bound p (accepted_by s cuts e p) (on_time_to s cuts e p) (mark_before s cuts e) (watermark_at s cuts e))
+    given_groups grouping is None there = absurd (none_kept (ap (λ (shape : Shape). keeping_of shape s.job.partitions) is) there)
+    given_groups grouping is (Some state) there =
+        let query = s.job.bound in
+        let parts = parts_in s in
+        let offsets = cuts_of cuts in
+        let old = accepted_by s cuts e p in
+        let new = on_time_to s cuts e p in
+        record {
+          own = there.store.1;
+          given = record {
+            groups = is;
+            kept = there.store.2 ∙ kept_is query grouping is old (mark_before s cuts e);
+            indexed = there.indexed;
+            follows = laws.follows query grouping is parts offsets s.job.partitions p e;
+            steady = laws.steady query grouping (held query grouping old (mark_before s cuts e)) old new (mark_before s cuts e) (λ key. refl) (few_rows laws s cuts e p windows covers)
+                (have_bigints old (recursion_from_All IsFitRow old fit_old)) (have_bigints new (recursion_from_All IsFitRow new fit_new));
+            rows = All-append (IsKept grouping) old new
+                (kept_rows grouping old fit_old (lengths_of query grouping s.job.partitions p (accepted query parts offsets e) (laws.grouped_accepted query grouping is parts offsets e)))
+                (kept_rows grouping new fit_new (lengths_of query grouping s.job.partitions p (on_time query parts offsets e) (laws.grouped_on_time query grouping is parts offsets e)));
+          };
+        }
 
-  given_by : e < 2 ^ 32 → HasFewStreams s → (shape : Shape) → s.job.bound.shape ≡ shape → Runs shape → (state : Option (State S)) → HoldsPartition s cuts e p (held_in state)
-      → IsGivenBy shape s.job.bound p (accepted_by s cuts e p) (on_time_to s cuts e p) (mark_before s cuts e) (watermark_at s cuts e) state
-  given_by few streams Plain is runs state there = given_nothing state there (ap (λ (shape : Shape). keeping_of shape s.job.partitions) is)
-  given_by few streams (Group grouping) is runs state there = given_groups grouping is state there
-  given_by few streams (Dedup columns) is runs state there = given_repeats columns is state there
-  given_by few streams (Join joining) is runs state there = given_joins few streams joining is runs.1 state there
+    given_repeats : (columns : List ℕ) → s.job.bound.shape ≡ Dedup columns → (state : Option (State S)) → HoldsPartition s cuts e p (held_in state)
+        → IsSomeAnd state (IsGivenState (Dedup columns) s.job.bound p (accepted_by s cuts e p) (on_time_to s cuts e p) (mark_before s cuts e) (watermark_at s cuts e))
+    given_repeats columns is None there = absurd (none_kept (ap (λ (shape : Shape). keeping_of shape s.job.partitions) is) there)
+    given_repeats columns is (Some state) there =
+        let query = s.job.bound in
+        let parts = parts_in s in
+        let offsets = cuts_of cuts in
+        let old = accepted_by s cuts e p in
+        let new = on_time_to s cuts e p in
+        record {
+          own = there.store.1;
+          given = record {
+            repeats = is;
+            kept = there.store.2 ∙ repeats_kept_is query columns is old (mark_before s cuts e);
+            indexed = there.indexed;
+            follows = laws.repeats_follow query columns is parts offsets s.job.partitions p e;
+            rows = All-append (once.IsKept columns) old new
+                (kept_repeats columns old fit_old (keys_of_columns query columns s.job.partitions p (accepted query parts offsets e) (laws.keyed_accepted query columns is parts offsets e)))
+                (kept_repeats columns new fit_new (keys_of_columns query columns s.job.partitions p (on_time query parts offsets e) (laws.keyed_on_time query columns is parts offsets e)));
+          };
+        }
+
+    given_joins : e < 2 ^ 32 → HasFewStreams s → (joining : Joining) → s.job.bound.shape ≡ Join joining → IsBounded joining → (state : Option (State S)) → HoldsPartition s cuts e p (held_in state)
+        → IsSomeAnd state (IsGivenState (Join joining) s.job.bound p (accepted_by s cuts e p) (on_time_to s cuts e p) (mark_before s cuts e) (watermark_at s cuts e))
+    given_joins few streams joining is bounded None there = absurd (none_kept (ap (λ (shape : Shape). keeping_of shape s.job.partitions) is) there)
+    given_joins few streams joining is bounded (Some state) there =
+        let query = s.job.bound in
+        let parts = parts_in s in
+        let offsets = cuts_of cuts in
+        let old = accepted_by s cuts e p in
+        let new = on_time_to s cuts e p in
+        let of_old = laws.wide_accepted query joining is in
+        let of_new = laws.wide_on_time query joining is in
+        record {
+          own = there.store.1;
+          given = record {
+            joins = is;
+            bounded = bounded;
+            kept = there.store.2 ∙ joined_kept_is query joining is old (mark_before s cuts e);
+            indexed = there.indexed;
+            follows = laws.joins_follow query joining is parts offsets s.job.partitions p e;
+            rows = All-append (pairs.IsKept query joining) old new
+                (own_rows laws s cuts e p windows covers few streams joining is (accepted query parts offsets e) (laws.fit_accepted query windows parts offsets e) (laws.joined_accepted query joining is parts offsets e) (of_old.stream s.job.parts s.lines offsets e) (of_old.wide parts offsets e))
+                (own_rows laws s cuts e p windows covers few streams joining is (on_time query parts offsets e) (laws.fit_on_time query windows parts offsets e) (laws.joined_on_time query joining is parts offsets e) (of_new.stream s.job.parts s.lines offsets e) (of_new.wide parts offsets e));
+            apart = rows_apart laws s cuts e p windows covers few streams joining is;
+          };
+        }
+
+    given_nothing : (state : Option (State S)) → HoldsPartition s cuts e p (held_in state) → keeping_of s.job.bound.shape s.job.partitions ≡ 0 → state ≡ None
+    given_nothing None there none = refl
+    given_nothing (Some state) there none = absurd (omega (arith, there.store.0, none))
+
+    given_by : e < 2 ^ 32 → HasFewStreams s → (shape : Shape) → s.job.bound.shape ≡ shape → Runs shape → (state : Option (State S)) → HoldsPartition s cuts e p (held_in state)
+        → IsGivenBy shape s.job.bound p (accepted_by s cuts e p) (on_time_to s cuts e p) (mark_before s cuts e) (watermark_at s cuts e) state
+    given_by few streams Plain is runs state there = given_nothing state there (ap (λ (shape : Shape). keeping_of shape s.job.partitions) is)
+    given_by few streams (Group grouping) is runs state there = given_groups grouping is state there
+    given_by few streams (Dedup columns) is runs state there = given_repeats columns is state there
+    given_by few streams (Join joining) is runs state there = given_joins few streams joining is runs.1 state there
 
 -- ---- the task
 

@@ -8,7 +8,7 @@ use Rattle.std.proofs.lemmas.List.Sums.{sum_by-cons}
 use Rattle.ssq_shape.specs.declared.bound.Bound.{Bound}
 use Rattle.ssq_shape.specs.declared.bound.Joining.{Joining}
 use Rattle.ssq_shape.specs.declared.bound.Shape.TheVariants.{Join}
-use Rattle.ssq_meaning.specs.declared.fed_row.FedRow.{FedRow}
+use Rattle.ssq_meaning.specs.FedRows.{FedRow}
 use Rattle.ssq_meaning.specs.Cut.{AreCuts, AreWithin, Cut, of_parts}
 use Rattle.ssq_meaning.specs.Cut.{Cuts as Offsets}
 use Rattle.ssq_meaning.specs.Epochs.{accepted, joined, on_time, seen, time_of_stream, watermark}

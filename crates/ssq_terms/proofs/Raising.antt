@@ -1,30 +1,14 @@
 -- The greatest times of the parts, taken in one after the other, are those at the end of the epoch.
-use Rattle.std.proofs.Common.{◌≡◌, ◌+◌, ◌==◌, [], ◌∷◌, ℕ, ℤ, List, Option, Some, None, Bool, true, false, refl, ap, sym, ◌∙◌, arith, add-one}
+use Rattle.std.proofs.Common.{◌≡◌, ◌+◌, ◌==◌, [], ◌∷◌, ℕ, ℤ, List, Option, None, Bool, true, false, refl, ap, sym, ◌∙◌, add-one}
 use Rattle.std.specs.Prelude.{if◌then◌else◌}
-use Rattle.std.specs.Int.{int_max}
-use Rattle.std.proofs.lemmas.Bool.{eqb-true, eqb-false, eq-eqb, ne_eqb}
-use Rattle.std.proofs.lemmas.Int.{ints}
 use Rattle.ssq_shape.specs.declared.bound.Bound.{Bound}
 use Rattle.ssq_meaning.specs.Parts.{Part}
 use Rattle.ssq_meaning.specs.Cut.{Cut, of_parts}
 use Rattle.ssq_meaning.specs.Times.{later}
 use Rattle.ssq_meaning.specs.Feeding.{time_in}
 use Rattle.ssq_meaning.specs.Epochs.{seen, time_between, time_of_stream}
+use Rattle.ssq_task.proofs.Commits.{later_none, later_assoc, same_test}
 use Rattle.ssq_terms.specs.Rows.{raised_by, raised, PartsRaiseTimes}
-
-later_none : (t : Option ℤ) → later t None ≡ t
-later_none None = refl
-later_none (Some t) = refl
-
-later_assoc : (a b c : Option ℤ) → later (later a b) c ≡ later a (later b c)
-later_assoc None b c = refl
-later_assoc (Some a) None c = refl
-later_assoc (Some a) (Some b) None = refl
-later_assoc (Some a) (Some b) (Some c) = ap Some (let same : int_max (int_max a b) c ≡ int_max a (int_max b c) = grind (arith, ints) in same)
-
-same_test : (m n : ℕ) (b : Bool) → (m == n) ≡ b → (n == m) ≡ b
-same_test m n true is = eq-eqb n m (sym (eqb-true m n is))
-same_test m n false is = ne_eqb n m (λ same. eqb-false m n is (sym same))
 
 -- one part more
 one_part : (b : Bool) (known time : Option ℤ) → (if b then later known time else known) ≡ later known (if b then time else None)

@@ -2,7 +2,7 @@
 use Rattle.std.specs.Prelude.{◌≡◌, ◌<◌, ◌≤◌, ◌+◌, ◌^◌, ◌++◌, ℕ, ℤ, List, false, filter_map, get_or, Option, Some, None, option_map, IfOk, IfErr, IfSome}
 use Rattle.std.specs.List.{range_with_len}
 use Rattle.ssq_shape.specs.declared.bound.Bound.{Bound}
-use Rattle.ssq_meaning.specs.declared.fed_row.FedRow.{FedRow}
+use Rattle.ssq_meaning.specs.FedRows.{FedRow}
 use Rattle.ssq_meaning.specs.Cut.{AreCuts}
 use Rattle.ssq_meaning.specs.Epochs.{accepted, fed, on_time, bucket, key_fault, watermark_before}
 use Rattle.ssq_meaning.specs.Group.{least_key}

@@ -2,6 +2,7 @@ pub mod Collected
 pub mod Filling
 mod Kept
 pub mod Leading
+pub mod LastSaid
 mod Listing
 pub mod Once
 mod Prefixes

@@ -29,6 +29,11 @@ other_way q k apart =
     (λ at. absurd (true≢false (sym (is_itself q) ∙ ap (λ (x : List ℕ). is_at (by_bytes q) x) (sym (one_key k q at)) ∙ apart)))
     (λ apart. apart)
 
+pub either_way : (q k : List ℕ) → is_at (by_bytes q) k ≡ is_at (by_bytes k) q
+either_way q k = by_case (is_at (by_bytes q) k)
+    (λ at. at ∙ sym (ap (λ x. is_at (by_bytes k) x) (one_key q k at) ∙ is_itself k))
+    (λ apart. apart ∙ sym (other_way q k apart))
+
 -- ---- the first entry, and the others
 
 pub first_at : {X : Type 0} (k : List ℕ) (x : X) (es : List (List ℕ × X)) (q : List ℕ) → is_at (by_bytes q) k ≡ true → value_at ((k, x) ∷ es) q ≡ Some x

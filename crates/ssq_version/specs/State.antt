@@ -2,6 +2,7 @@
 use Rattle.std.specs.Prelude.{◌≡◌, ◌≢◌, ℕ, ◌<◌, ◌^◌, Bool, true, false, not, ◌&&◌, ◌==◌, nat_eq, List, [], ◌∷◌, map, length, filter, All, Option, Some, None, IfSome, IsSome, is_some, if◌then◌else◌}
 use Rattle.std.specs.Ordering.{nat_cmp, is_le}
 use Rattle.std.specs.declared.cmp.Ordering.{Ordering}
+use Rattle.std.specs.Option.{option_or}
 use Rattle.std.specs.Cmp.Lexicographic.{pointwise, slice_cmp}
 use Rattle.std.specs.List.{list_any, AllByRecursion}
 use Rattle.std.specs.List.Sorted.{IsStrictlySortedBy}
@@ -79,6 +80,15 @@ IsChangedAt key value old new = (other : List ℕ) → value_at new other ≡ (i
 -- The change says this of one key, and of each other key what it said.
 abbrev pub IsToldAt : List ℕ → Option (List ℕ) → Change → Change → Type 0
 IsToldAt key value old new = (other : List ℕ) → value_at new other ≡ (if is_at (by_bytes key) other then Some value else value_at old other)
+
+-- what the last of the entries that have a key says of it
+abbrev pub last_at : {X : Type 0} → List (List ℕ × X) → List ℕ → Option X
+last_at [] key = None
+last_at (entry ∷ entries) key = option_or (last_at entries key) (if is_at (by_bytes key) entry.0 then Some entry.1 else None)
+
+-- a change can hold the entry: its key and its value are short
+abbrev pub IsShortEntry : List ℕ × Option (List ℕ) → Type 0
+IsShortEntry entry = IsShort entry.0 × IsShortOrNone entry.1
 
 -- a key that is given a value by the change is in the state already, so that it takes no memory
 abbrev pub HasRoom : State → Change → Type 0

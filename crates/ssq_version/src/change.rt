@@ -1,8 +1,8 @@
 //! What a version changes.
 
-ghost use Rattle.std.specs.Prelude.{◌≡◌, ◌==◌, ◌<◌, ◌^◌, [], length, None, Some, OnOk, OnErr, IsSome, option_copied};
+ghost use Rattle.std.specs.Prelude.{◌≡◌, ◌==◌, ◌<◌, ◌^◌, ℕ, List, All, [], length, None, Some, IfOk, OnOk, OnErr, IsSome, option_copied};
 ghost use Rattle.std.specs.BTreeMap.{insert_entry};
-ghost use Rattle.ssq_version.specs.State.{by_bytes, value_at, IsToldAt, IsChange, IsShort, IsShortOrNone};
+ghost use Rattle.ssq_version.specs.State.{by_bytes, last_at, value_at, IsToldAt, IsChange, IsShort, IsShortEntry, IsShortOrNone};
 
 use ssq_field::Bytes;
 use std::alloc::{AllocError, Global};
@@ -25,12 +25,35 @@ impl Model for Change {
     ghost invariant = { λ change. IsChange change.0.entries };
 }
 
+/// The map of these entries, in which each key has what the last one of it says.
+fn made_of(
+    alloc: Global,
+    entries: Vec<(Bytes, Option<Bytes>)>,
+) -> Result<BTreeMap<Bytes, Option<Bytes>>, AllocError>
+    requires { All IsShortEntry entries.items }
+    ensures said { IfOk result (λ made. (key : List ℕ) → value_at made.entries key ≡ last_at entries.items key) }
+    ensures kept { IfOk result (λ made. IsChange made.entries) }
+{
+    entries.into_iter().collect(alloc)
+}
+
 impl Change {
     /// A change of nothing.
     pub fn new(alloc: Global) -> Change
         ensures { result ≡ [] }
     {
         Change(BTreeMap::new(alloc))
+    }
+
+    /// A change that says all these entries, in any order, of each key the last one. They are put in order once.
+    pub fn of_entries(
+        alloc: Global,
+        entries: Vec<(Bytes, Option<Bytes>)>,
+    ) -> Result<Change, AllocError>
+        requires { All IsShortEntry entries.items }
+        ensures { IfOk result (λ change. (key : List ℕ) → value_at change key ≡ last_at entries.items key) }
+    {
+        Ok(Change(made_of(alloc, entries)?))
     }
 
     /// Says that the key has this value from now on, in place of what was said of it. After an `Err` the change is as before.

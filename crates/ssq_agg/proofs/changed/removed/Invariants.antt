@@ -1,6 +1,7 @@
-use Rattle.std.proofs.Common.{ℕ, None, take}
-use Rattle.ssq_agg.specs.Steps.{AreKeys, Says, keys_of_groups}
+use Rattle.std.proofs.Common.{◌≡◌, All, map, take}
+use Rattle.ssq_version.specs.State.{IsShortEntry}
+use Rattle.ssq_agg.specs.Steps.{gone_entry}
 use Rattle.ssq_agg.proofs.changed.removed.Given as goal
 
 abbrev pub invariant-loop-group : goal.invariant-loop-group
-invariant-loop-group l = (many : ℕ) → AreKeys many (keys_of_groups l.groups) → Says many (λ key. None) (take l.group-index l.groups) l.change
+invariant-loop-group l = (l.entries.items ≡ map gone_entry (take l.group-index l.groups)) × All IsShortEntry l.entries.items

@@ -2,7 +2,6 @@ use Rattle.std.proofs.Common.{◌≡◌, ◌++◌, ◌∷◌, List, ℕ, ap, ◌
 use Rattle.std.specs.Int.{w32, w64, to_be_bytes}
 use Rattle.std.proofs.lemmas.List.{append_assoc}
 use Rattle.std.proofs.lemmas.Result.{IfOk-weaker}
-use Rattle.ssq_value.specs.declared.value.Value.{Value}
 use Rattle.ssq_value.specs.Key.{keys_of}
 use Rattle.ssq_meaning.specs.Join.{is_left, row_key, side_byte}
 use Rattle.ssq_join.proofs.bytes.row_key.Goals as goal
@@ -14,11 +13,10 @@ pieces a b c d = append_assoc (a ++ b) c d ∙ append_assoc a b (c ++ d)
 pub returns-clause-bytes : goal.returns-clause-bytes
 returns-clause-bytes c =
     let row = c.args.row.now in
-    let epoch = to_be_bytes w32 row.epoch in
-    let part = to_be_bytes w32 row.part in
-    let offset = to_be_bytes w64 row.offset in
     let bytes = c.into_vec.ensures
     ∙ c.in_ok-put_be64.ensures.ok
-    ∙ ap (λ (l : List ℕ). l ++ offset) (c.in_ok-put_be32-2.ensures.ok ∙ ap (λ (l : List ℕ). l ++ part) (c.in_ok-put_be32.ensures.ok ∙ ap (λ (l : List ℕ). l ++ epoch) (c.in_ok-bytes.ensures ∙ ap (λ (key : List Value). side_byte (is_left row.stream) ∷ keys_of key) c.as_slice.ensures)))
-    ∙ pieces (side_byte (is_left row.stream) ∷ keys_of row.key) epoch part offset in
+    ∙ ap (λ (l : List ℕ). l ++ to_be_bytes w64 c.offset.result)
+    (c.in_ok-put_be32-2.ensures.ok ∙ ap (λ (l : List ℕ). l ++ to_be_bytes w32 c.part.result) (c.in_ok-put_be32.ensures.ok ∙ ap (λ (l : List ℕ). l ++ to_be_bytes w32 c.epoch.result) c.in_ok-bytes.ensures))
+    ∙ (λ i. (((side_byte (is_left (c.stream.ensures i)) ∷ keys_of (c.key.ensures i)) ++ to_be_bytes w32 (c.epoch.ensures i)) ++ to_be_bytes w32 (c.part.ensures i)) ++ to_be_bytes w64 (c.offset.ensures i))
+    ∙ pieces (side_byte (is_left row.stream) ∷ keys_of row.key) (to_be_bytes w32 row.epoch) (to_be_bytes w32 row.part) (to_be_bytes w64 row.offset) in
     IfOk-weaker c.short.result (λ own. own ≡ c.into_vec.result.items) (λ bytes. bytes ≡ row_key row) (λ own same. same ∙ bytes) c.short.ensures.bytes

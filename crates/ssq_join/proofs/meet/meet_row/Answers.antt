@@ -1,10 +1,11 @@
 use Rattle.std.proofs.Common.{◌≡◌, ◌∷◌, ◌||◌, ℕ, Bool, List, Some, None, if◌then◌else◌, subst}
+use Rattle.std.specs.Prelude.{IfOk}
 use Rattle.std.specs.BTreeMap.{is_at}
 use Rattle.std.proofs.lemmas.Result.{IfOk-weaker}
 use Rattle.ssq_value.specs.declared.value.Value.{Value}
 use Rattle.ssq_keys.proofs.ReadLemmas.{none_has}
 use Rattle.ssq_version.specs.State.{by_bytes}
-use Rattle.ssq_meaning.specs.declared.fed_row.FedRow.{FedRow}
+use Rattle.ssq_meaning.specs.FedRows.{FedRow}
 use Rattle.ssq_meaning.specs.Join.{Considered, is_left, row_key}
 use Rattle.ssq_step.specs.declared.rows.KeptRow.{KeptRow}
 use Rattle.ssq_join.specs.Judging.{shown_by}
@@ -53,4 +54,5 @@ returns-clause-meets c = λ other was pairs is meets.
     IfOk-weaker c.with_shown.result (λ now. (all : List Considered) → Tells c.args.found all → Tells now (record { key = row.key; row = shown_by judged.shown } ∷ all))
     (λ now. Meets query joining (with_candidate joining row other pairs) now after)
     (λ now told. one_met query joining row other was c.args.key.now c.args.value.now is c.in-Some.other.left same.0 judged near pairs c.args.found now before after told knows meets)
-    (each_ok c.with_shown.result (Tells c.args.found) (λ all now. Tells now (record { key = row.key; row = shown_by judged.shown } ∷ all)) c.with_shown.ensures.told)
+    (subst (λ (key : List Value). IfOk c.with_shown.result (λ now. (all : List Considered) → Tells c.args.found all → Tells now (record { key = key; row = shown_by judged.shown } ∷ all))) c.key.ensures
+    (each_ok c.with_shown.result (Tells c.args.found) (λ all now. Tells now (record { key = c.key.result.now; row = shown_by judged.shown } ∷ all)) c.with_shown.ensures.told))

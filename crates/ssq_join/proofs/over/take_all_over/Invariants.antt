@@ -1,5 +1,5 @@
 use Rattle.std.proofs.Common.{Bool, List, take}
-use Rattle.ssq_meaning.specs.declared.fed_row.FedRow.{FedRow}
+use Rattle.ssq_meaning.specs.FedRows.{FedRow}
 use Rattle.ssq_meaning.specs.Join.{Considered}
 use Rattle.ssq_step.specs.Indexing.{seen}
 use Rattle.ssq_join.specs.Judging.{ArePrintable}

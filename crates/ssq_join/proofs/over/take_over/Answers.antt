@@ -30,4 +30,4 @@ returns-clause-told c = λ met row all held key tells.
     let first : is_outer_side kind (is_left row.stream) ≡ true = ap (is_outer_side kind) (sym read.left) ∙ sym c.is_outer_side.ensures ∙ c.if-not-is_outer_side.false in
     let second : met row ≡ false = sym read.met ∙ c.if-row.false in
     let own : c.in-Some-own.own ≡ row.key = some_is c.in-Some-own.own row.key (sym c.in-Some-own.is ∙ c.in_ok-own.ensures c.args.bound.now row held.own key) in
-    if_shown c.args.bound.now c.args.joining.now met row all c.show_alone.result (λ i. first i && not (second i)) (c.show_alone.ensures.told row (met row) all read own tells)
+    if_shown c.args.bound.now c.args.joining.now met row all c.show_alone.result (λ i. first i && not (second i)) (c.show_alone.ensures.told row (met row) all read (c.as_slice.ensures ∙ own) tells)

@@ -12,7 +12,7 @@ use Rattle.ssq_join.proofs.taking.take_row.Goals as goal
 
 pub returns-then-has_null-clause-meets : goal.returns-then-has_null-clause-meets
 returns-then-has_null-clause-meets c =
-    earlier_null c.args.bound.now c.args.joining.now c.args.comer.row.now (ap (λ (key : List Value). list_any is_null key) (sym c.as_slice.ensures) ∙ sym c.has_null.ensures ∙ c.if-has_null.true) c.args.state.now
+    earlier_null c.args.bound.now c.args.joining.now c.args.comer.row.now (ap (λ (key : List Value). list_any is_null key) (sym c.key.ensures) ∙ sym c.has_null.ensures ∙ c.if-has_null.true) c.args.state.now
     c.args.fresh.now.entries c.args.found c.args.met.now.keys
 
 pub returns-clause-meets : goal.returns-clause-meets
@@ -24,8 +24,8 @@ returns-clause-meets c =
     (λ now. MeetsEarlier query joining row c.args.state.now c.args.fresh.now.entries c.args.found now c.args.met.now.keys c.meet-2.new.met.keys)
     (λ now second.
     earlier_of c.keys_are_apart.ensures.whatever_follows c.beginnings_stand_together.ensures query joining row
-    (ap (λ (key : List Value). list_any is_null key) (sym c.as_slice.ensures) ∙ sym c.has_null.ensures ∙ c.if-has_null.false) c.in_ok-prefix.prefix
-    (c.in_ok-prefix.ensures ∙ ap (λ (key : List Value). side_byte (not (is_left row.stream)) ∷ keys_of key) c.as_slice-2.ensures) c.args.state.now c.args.fresh.now.entries c.iter_from.result c.from_key.result
+    (ap (λ (key : List Value). list_any is_null key) (sym c.key.ensures) ∙ sym c.has_null.ensures ∙ c.if-has_null.false) c.in_ok-prefix.prefix
+    (c.in_ok-prefix.ensures ∙ (λ i. side_byte (not (is_left (c.stream.ensures i))) ∷ keys_of (c.key-2.ensures i))) c.args.state.now c.args.fresh.now.entries c.iter_from.result c.from_key.result
     c.states_are_kept.ensures.kept.ascend c.from_key.ensures.ascend c.iter_from.ensures c.from_key.ensures.entries c.args.found c.in_ok-between.between now c.args.met.now.keys c.meet.new.met.keys c.meet-2.new.met.keys
     c.in_ok-between.ensures.meets second)
     c.meet-2.ensures.meets

@@ -1,7 +1,7 @@
 use Rattle.std.specs.Prelude.{◌==◌}
 use Rattle.ssq_value.specs.Key.{keys_of}
 use Rattle.ssq_route.specs.Place.{place_of}
-use Rattle.ssq_meaning.specs.declared.fed_row.FedRow.{FedRow}
+use Rattle.ssq_meaning.specs.FedRows.{FedRow}
 use Rattle.ssq_meaning.proofs.KeptRows.{apart_filter}
 use Rattle.ssq_meaning.proofs.Placing.{accepted_apart, parts_apart}
 use Rattle.ssq_meaning.proofs.join.joined_rows_are_kept_apart.Goals as goal

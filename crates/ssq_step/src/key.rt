@@ -1,17 +1,18 @@
-//! The key of a group, as a map that hashes has it.
+//! The key of rows, as a map or a set that hashes has it.
 
 ghost use Rattle.std.specs.Prelude.{◌≡◌, IfOk};
 ghost use Rattle.std.specs.List.{fold};
-ghost use Rattle.ssq_agg.specs.Hashing.{key_writes, value_writes};
+ghost use Rattle.ssq_step.specs.Hashing.{key_writes, value_writes};
 
-use ssq_value::{Row, Value};
-use std::alloc::AllocError;
+use crate::copies::copied_row;
+use ssq_value::{Row, Value, order_rows};
+use std::alloc::{AllocError, Global};
 use std::hash::{Hash, Hasher};
 use std::marker::Model;
 
 /// The key of a row, lent. Contracts see its values.
 #[derive(Drop)]
-pub(crate) struct Key<'a>(&'a Row);
+pub struct Key<'a>(&'a [Value]);
 
 impl<'a> Model for Key<'a> {
     ghost use Rattle.std.specs.Prelude.{List};
@@ -23,17 +24,17 @@ impl<'a> Model for Key<'a> {
 }
 
 impl<'a> Key<'a> {
-    pub fn of(row: &'a Row) -> Key<'a>
-        ensures { result ≡ row.now }
+    pub fn of(values: &'a [Value]) -> Key<'a>
+        ensures { result ≡ values.now }
     {
-        Key(row)
+        Key(values)
     }
 
     /// A copy in memory of its own.
-    pub fn to_row(&self) -> Result<Row, AllocError>
+    pub fn to_row(&self, alloc: Global) -> Result<Row, AllocError>
         ensures { IfOk result (λ row. row ≡ self.now) }
     {
-        self.0.clone()
+        copied_row(alloc, self.0)
     }
 }
 
@@ -48,7 +49,7 @@ impl<'a> PartialEq for Key<'a> {
     ghost laws = { partial_equiv_from_equiv (eq_by_cmp_equiv values_cmp_total) };
 
     fn eq(&self, other: &Key<'a>) -> bool {
-        self.0.eq(other.0)
+        order_rows(self.0, other.0).is_eq()
     }
 }
 
@@ -81,13 +82,13 @@ fn feed_all<H: Hasher>(values: &[Value], state: &mut H)
 
 /// By the values one after the other.
 impl<'a> Hash for Key<'a> {
-    ghost use Rattle.ssq_agg.specs.Hashing.{key_writes, same_writes};
+    ghost use Rattle.ssq_step.specs.Hashing.{key_writes, same_writes};
 
     ghost hash_input = { key_writes };
 
     ghost respects_eq = { same_writes };
 
     fn hash<H: Hasher>(&self, state: &mut H) {
-        feed_all(self.0.as_slice(), state);
+        feed_all(self.0, state);
     }
 }

@@ -1,8 +1,8 @@
 use Rattle.std.proofs.Common.{◌∙◌, arith, ap}
 use Rattle.std.specs.Prelude.{fold}
-use Rattle.ssq_agg.specs.Hashing.{value_writes}
-use Rattle.ssq_agg.proofs.Hashed.{fed_more}
-use Rattle.ssq_agg.proofs.key.feed_all.Goals as goal
+use Rattle.ssq_step.specs.Hashing.{value_writes}
+use Rattle.ssq_step.proofs.Hashed.{fed_more}
+use Rattle.ssq_step.proofs.key.feed_all.Goals as goal
 
 pub loop-value-preserved : goal.loop-value-preserved
 loop-value-preserved g c =
