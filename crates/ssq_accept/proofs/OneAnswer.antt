@@ -1,6 +1,5 @@
 -- A file has one answer.
-use Rattle.std.proofs.Common.{◌≡◌, ◌∙◌, inl, inr, ⊎_elim, ap, sym, refl, subst, ℕ, ◌<◌, true, false, arith, List, Result, Ok, Err}
-use Rattle.std.specs.Prelude.{nat_eq, if◌then◌else◌}
+use Rattle.std.proofs.Common.{◌≡◌, ◌∙◌, inl, inr, ⊎_elim, ap, sym, refl, subst, ℕ, ◌<◌, true, false, arith, List, [], ◌∷◌, get_or, Result, Ok, Err}
 use Rattle.std.proofs.lemmas.Bool.{cases_lt}
 use Rattle.ssq_accept.specs.declared.refusal.Refusal.TheVariants as refusal
 use Rattle.ssq_ast.specs.declared.query.Query.{Query}
@@ -13,7 +12,6 @@ use Rattle.ssq_check.specs.Whole.{QueryFaults}
 use Rattle.ssq_modes.specs.declared.fault.ModeFault.{ModeFault}
 use Rattle.ssq_modes.specs.declared.fault.ModeFault.TheVariants as mode
 use Rattle.ssq_modes.specs.Modes as modes
-use Rattle.ssq_modes.specs.Modes.{applies}
 use Rattle.ssq_parse.specs.declared.fault.ParseCause.{ParseCause}
 use Rattle.ssq_parse.specs.File.{Fault, query_of}
 use Rattle.ssq_shape.specs.declared.bound.Bound.{Bound}
@@ -51,57 +49,26 @@ accepted_are_taken file query bound refusal.NoMemory is why = refl
 
 -- ---- two refusals
 
--- the cause of a rank
-abbrev cause_at : ℕ → Cause
-cause_at n =
-    if nat_eq n 0 then cause.UnknownName else (
-    if nat_eq n 1 then cause.DoubleName else (
-    if nat_eq n 2 then cause.WrongType else (
-    if nat_eq n 3 then cause.BadDivisor else (
-    if nat_eq n 4 then cause.NotGrouped else (
-    if nat_eq n 5 then cause.AggregateHere else (
-    if nat_eq n 6 then cause.TooMany else (
-    if nat_eq n 7 then cause.BadBound else (
-    if nat_eq n 8 then cause.BadWindow else (
-    if nat_eq n 9 then cause.TwoStateful else (
-    if nat_eq n 10 then cause.Distinct else (
-    cause.Limit)))))))))))
+-- of a list in which each stands at its rank, those of one rank are the same
+one_rank : {A : Type 0} (rank : A → ℕ) (all : List A) (last : A) → ((x : A) → get_or all (rank x) last ≡ x) → (x y : A) → rank x ≡ rank y → x ≡ y
+one_rank rank all last is x y same = sym (is x) ∙ ap (λ n. get_or all n last) same ∙ is y
 
-cause_is : (c : Cause) → cause_at (rank c) ≡ c
-cause_is cause.UnknownName = refl
-cause_is cause.DoubleName = refl
-cause_is cause.WrongType = refl
-cause_is cause.BadDivisor = refl
-cause_is cause.NotGrouped = refl
-cause_is cause.AggregateHere = refl
-cause_is cause.TooMany = refl
-cause_is cause.BadBound = refl
-cause_is cause.BadWindow = refl
-cause_is cause.TwoStateful = refl
-cause_is cause.Distinct = refl
+abbrev causes : List Cause
+causes =
+    cause.UnknownName ∷ cause.DoubleName ∷ cause.WrongType ∷ cause.BadDivisor ∷ cause.NotGrouped ∷ cause.AggregateHere ∷ cause.TooMany ∷ cause.BadBound ∷ cause.BadWindow
+    ∷ cause.TwoStateful ∷ cause.Distinct ∷ []
+
+cause_is : (c : Cause) → get_or causes (rank c) cause.Limit ≡ c
 cause_is cause.Limit = refl
+cause_is _ = refl
 
--- the rule of modes of a rank
-abbrev fault_at : ℕ → ModeFault
-fault_at n =
-    if nat_eq n 0 then mode.AppendNeedsWatermark else (
-    if nat_eq n 1 then mode.CompleteNeedsAggregate else (
-    if nat_eq n 2 then mode.JoinNeedsAppend else (
-    if nat_eq n 3 then mode.OuterNeedsBound else (
-    if nat_eq n 4 then mode.BoundNeedsWatermark else (
-    if nat_eq n 5 then mode.SortNeedsComplete else (
-    if nat_eq n 6 then mode.HavingInUpdate else (
-    mode.KeyNotShown)))))))
+abbrev faults : List ModeFault
+faults =
+    mode.AppendNeedsWatermark ∷ mode.CompleteNeedsAggregate ∷ mode.JoinNeedsAppend ∷ mode.OuterNeedsBound ∷ mode.BoundNeedsWatermark ∷ mode.SortNeedsComplete ∷ mode.HavingInUpdate ∷ []
 
-fault_is : (f : ModeFault) → fault_at (modes.rank f) ≡ f
-fault_is mode.AppendNeedsWatermark = refl
-fault_is mode.CompleteNeedsAggregate = refl
-fault_is mode.JoinNeedsAppend = refl
-fault_is mode.OuterNeedsBound = refl
-fault_is mode.BoundNeedsWatermark = refl
-fault_is mode.SortNeedsComplete = refl
-fault_is mode.HavingInUpdate = refl
+fault_is : (f : ModeFault) → get_or faults (modes.rank f) mode.KeyNotShown ≡ f
 fault_is mode.KeyNotShown = refl
+fault_is _ = refl
 
 -- each of two places is not beyond the other, and at one place neither cause is
 same_place : (f g : BindFault) → IsNoLater f g.cause g.at → IsNoLater g f.cause f.at → (f.at ≡ g.at) × (rank f.cause ≡ rank g.cause)
@@ -113,11 +80,11 @@ same_place f g (inr less) (inr more) = (less.0, omega (arith, less.1, more.1))
 one_broken : (query : Query) (f g : BindFault) → Breaks query f → Breaks query g → f ≡ g
 one_broken query f g is also =
     let p = same_place f g (is.least g.cause g.at also.is) (also.least f.cause f.at is.is) in
-    let causes : f.cause ≡ g.cause = sym (cause_is f.cause) ∙ ap cause_at p.1 ∙ cause_is g.cause in
-    λ i. record { at = p.0 i; cause = causes i }
+    let same : f.cause ≡ g.cause = one_rank rank causes cause.Limit cause_is f.cause g.cause p.1 in
+    λ i. record { at = p.0 i; cause = same i }
 
 one_forbidden : (bound : Bound) (f g : ModeFault) → Forbids bound f → Forbids bound g → f ≡ g
-one_forbidden bound f g is also = sym (fault_is f) ∙ ap fault_at ranks ∙ fault_is g
+one_forbidden bound f g is also = one_rank modes.rank faults mode.KeyNotShown fault_is f g ranks
   where
     apart : true ≡ false → ⊥
     apart same = absurd cc

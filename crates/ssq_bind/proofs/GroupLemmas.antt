@@ -1,20 +1,18 @@
 -- Expressions on groups have their types.
-use Rattle.std.proofs.Common.{◌≡◌, ◌∙◌, ap, sym, subst, refl, arith, ℕ, zero, suc, ◌+◌, ◌<◌, ℤ, Bool, true, false, ◌&&◌, List, [], ◌∷◌, ◌++◌, map, length, Option, Some, None, Result, Ok, Err}
+use Rattle.std.proofs.Common.{◌≡◌, ◌∙◌, ap, sym, subst, refl, arith, ℕ, zero, suc, ◌+◌, Bool, true, false, ◌&&◌, List, [], ◌∷◌, ◌++◌, map, length, Option, Some, None, Result, Ok, Err}
 use Rattle.std.specs.Prelude.{nat_eq, slice_get, position, if◌then◌else◌, All, IfSome, IfOk}
 use Rattle.std.specs.List.{AllByRecursion, flat_map}
 use Rattle.std.specs.Option.{option_map, IsSomeAnd}
-use Rattle.std.specs.Str.{bytes_eq}
 use Rattle.std.proofs.lemmas.Bool.{and_parts}
 use Rattle.std.proofs.lemmas.List.Elements.{All-head, All-tail}
 use Rattle.std.proofs.lemmas.Option.{slice_get-map}
 use Rattle.ssq_value.specs.declared.column.ColType.{ColType}
 use Rattle.ssq_value.specs.declared.column.ColType.TheVariants as type
-use Rattle.ssq_shape.specs.Kinds.{is_kind, gives, kind_in, kind_with}
+use Rattle.ssq_shape.specs.Kinds.{is_kind, gives, kind_with}
 use Rattle.ssq_shape.specs.declared.bound.Aggregate.{Aggregate}
 use Rattle.ssq_shape.specs.declared.bound.Function.TheVariants as function
 use Rattle.ssq_shape.specs.declared.typed.Typed.{Typed}
 use Rattle.ssq_shape.specs.declared.typed.Typed.TheVariants as typed
-use Rattle.ssq_ast.specs.declared.expr.ColumnRef.{ColumnRef}
 use Rattle.ssq_ast.specs.declared.expr.Expr.{Expr}
 use Rattle.ssq_ast.specs.declared.expr.Expr.TheVariants as expr
 use Rattle.ssq_ast.specs.declared.expr.Function.{Function as Called}
@@ -34,14 +32,14 @@ use Rattle.ssq_check.specs.declared.scope.Spot.{Spot}
 use Rattle.ssq_check.specs.declared.scope.Within.TheVariants as within
 use Rattle.ssq_check.specs.Joined.{spot_in}
 use Rattle.ssq_check.specs.Names.{is_there, found_key, keys_of}
-use Rattle.ssq_check.specs.Rules.{operands_of, operator_kind, unary_kind, aggregate_kind, between_kind, divides, is_interval, is_shift, is_sum, may_stand, type_of, of_one, together, if_divides, kind}
+use Rattle.ssq_check.specs.Rules.{operands_of, operator_kind, unary_kind, aggregate_kind, between_kind, divides, is_interval, is_shift, is_sum, type_of, of_one, together, if_divides, kind}
 use Rattle.ssq_check.specs.Scope.{bare_spot, named_spot, is_window_key, has_window, is_same_side, is_key_of, is_key, is_window_here, grouped, column_kind_by, column_kind}
-use Rattle.ssq_check.specs.Sound.{IsTimeSpot, IsSoundWindow, IsSoundGroupItem}
+use Rattle.ssq_check.specs.Sound.{IsTimeSpot, IsSoundGroupItem}
 use Rattle.ssq_bind.specs.declared.context.Context.{Context}
 use Rattle.ssq_bind.specs.Shapes.{kind_or_bigint, key_of}
 use Rattle.ssq_bind.specs.Typed as kinds
 use Rattle.ssq_bind.specs.Typed.{row_kinds, key_kind}
-use Rattle.ssq_bind.specs.Value.{index_on, row_index, or_zero, key_spot, shifted_value, window_value, column_value, function_of, given, count, value_of, aggregates_of, row_value}
+use Rattle.ssq_bind.specs.Value.{index_on, row_index, or_zero, key_spot, shifted_value, window_value, column_value, function_of, aggregates_of, row_value}
 use Rattle.ssq_bind.proofs.Kept.{Stands, spot_stands, Has, in_left, in_right, HaveTypes, row_typed, shifted_has}
 use Rattle.ssq_bind.proofs.Placed.{IsFound, found, found_is}
 

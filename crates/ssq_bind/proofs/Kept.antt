@@ -1,6 +1,6 @@
 -- What is bound has the type that it has where it is written.
 use Rattle.std.proofs.Common.{◌≡◌, ◌∙◌, ap, sym, subst, refl, ℕ, zero, suc, ◌+◌, ◌<◌, ℤ, Bool, true, false, ◌&&◌, nat_lt, List, [], ◌∷◌, ◌++◌, length, Option, Some, None, Result, Ok, Err, arith}
-use Rattle.std.specs.Prelude.{slice_get, position, if◌then◌else◌, IfSome, IfOk}
+use Rattle.std.specs.Prelude.{slice_get, if◌then◌else◌, IfSome, IfOk}
 use Rattle.std.specs.Option.{option_map}
 use Rattle.std.proofs.lemmas.Option.{slice_get-map, slice_get_within}
 use Rattle.std.proofs.lemmas.Bool.{lt-ltb}
@@ -34,11 +34,12 @@ use Rattle.ssq_check.specs.declared.scope.Within.{Within}
 use Rattle.ssq_check.specs.declared.scope.Within.TheVariants as within
 use Rattle.ssq_check.specs.Joined.{spot_in, spot_by}
 use Rattle.ssq_check.specs.Rules.{operands_of, operator_kind, unary_kind, aggregate_kind, between_kind, divides, is_sum, is_shift, may_stand, type_of, of_one, together, if_divides, kind}
-use Rattle.ssq_check.specs.Scope.{spot_from, spot_where, in_source, only_one, known, source_named, bare_spot, named_spot, grouped, column_kind_by, column_kind}
+use Rattle.ssq_check.specs.Scope.{bare_spot, named_spot, grouped, column_kind_by, column_kind}
 use Rattle.ssq_bind.specs.declared.context.Context.{Context}
 use Rattle.ssq_bind.specs.Typed.{column_kinds, source_kinds, row_kinds}
 use Rattle.ssq_bind.specs.Value.{width, behind, row_index, column_value, unary_value, null_value, binary_value, between_value, shift_of, shift_by, shifted_or, shifted_value, function_of, numbered, given, count, value_of, aggregates_of, row_value}
 use Rattle.ssq_bind.proofs.Opened.{counted}
+use Rattle.ssq_bind.proofs.Spots.{OfColumns, of_spot}
 
 -- ---- columns
 
@@ -70,12 +71,6 @@ module _ (scope : Scope) where
   abbrev pub Stands : Spot → Type 0
   Stands spot = slice_get (row_kinds scope) (row_index scope (Some spot)) ≡ Some spot.kind
 
-  on_left : (source : Source) (at : ℕ) (got : Option Column) → scope.left ≡ Some source → slice_get source.columns at ≡ got → IfSome (spot_from side.Left at got) Stands
-  on_left source at None stands is = tt
-  on_left source at (Some column) stands is =
-      in_left (source_kinds scope.left) (source_kinds scope.right) at column.kind
-      (rw stands (slice_get-map (λ (x : Column). x.kind) source.columns at ∙ ap (option_map (λ (x : Column). x.kind)) is))
-
   pub if_true : {A : Type 0} (b : Bool) (x y : A) → b ≡ true → (if b then x else y) ≡ x
   if_true true x y is = refl
   if_true false x y is = absurd cc
@@ -83,53 +78,19 @@ module _ (scope : Scope) where
   pub lt_true : (m n : ℕ) → m < n → nat_lt m n ≡ true
   lt_true m n less = lt-ltb m n less
 
-  on_right : (source : Source) (at : ℕ) (got : Option Column) → scope.right ≡ Some source → slice_get source.columns at ≡ got → IfSome (spot_from side.Right at got) Stands
-  on_right source at None stands is = tt
-  on_right source at (Some column) stands is =
+  column_stands : OfColumns scope Stands
+  column_stands side.Left source at column stands is =
+      in_left (source_kinds scope.left) (source_kinds scope.right) at column.kind
+      (rw stands (slice_get-map (λ (x : Column). x.kind) source.columns at ∙ ap (option_map (λ (x : Column). x.kind)) is))
+  column_stands side.Right source at column stands is =
       let within : at < width scope.right = rw stands (slice_get_within source.columns at column is) in
       let index : behind (width scope.left) (width scope.right) at ≡ length (source_kinds scope.left) + at = if_true (nat_lt at (width scope.right)) (width scope.left + at) 0 (lt_true at (width scope.right) within) ∙ (λ i. sym (width_is scope.left) i + at) in
       ap (slice_get (row_kinds scope)) index
       ∙ in_right (source_kinds scope.left) (source_kinds scope.right) at
       ∙ rw stands (slice_get-map (λ (x : Column). x.kind) source.columns at ∙ ap (option_map (λ (x : Column). x.kind)) is)
 
-  left_place : (source : Source) (place : Option ℕ) → scope.left ≡ Some source → IfSome (spot_where side.Left source.columns place) Stands
-  left_place source None stands = tt
-  left_place source (Some at) stands = on_left source at (slice_get source.columns at) stands refl
-
-  right_place : (source : Source) (place : Option ℕ) → scope.right ≡ Some source → IfSome (spot_where side.Right source.columns place) Stands
-  right_place source None stands = tt
-  right_place source (Some at) stands = on_right source at (slice_get source.columns at) stands refl
-
-  in_left_source : (source : Option Source) (name : List ℕ) → scope.left ≡ source → IfSome (in_source side.Left source name) Stands
-  in_left_source None name is = tt
-  in_left_source (Some source) name is = left_place source (position (λ (column : Column). Rattle.std.specs.Str.bytes_eq column.name name) source.columns) is
-
-  in_right_source : (source : Option Source) (name : List ℕ) → scope.right ≡ source → IfSome (in_source side.Right source name) Stands
-  in_right_source None name is = tt
-  in_right_source (Some source) name is = right_place source (position (λ (column : Column). Rattle.std.specs.Str.bytes_eq column.name name) source.columns) is
-
-  only_stands : (left right : Option Spot) (at : ℕ) → IfSome left Stands → IfSome right Stands → IfOk (only_one left right at) Stands
-  only_stands (Some left) (Some right) at a b = tt
-  only_stands (Some left) None at a b = a
-  only_stands None (Some right) at a b = b
-  only_stands None None at a b = tt
-
-  known_stands : (spot : Option Spot) (at : ℕ) → IfSome spot Stands → IfOk (known spot at) Stands
-  known_stands None at is = tt
-  known_stands (Some spot) at is = is
-
-  one_stands : (a b : Bool) (x y z : Result Spot BindFault) → IfOk x Stands → IfOk y Stands → IfOk z Stands → IfOk (if a then x else if b then y else z) Stands
-  one_stands true b x y z p q r = p
-  one_stands false true x y z p q r = q
-  one_stands false false x y z p q r = r
-
   pub spot_stands : (stream : Option Ident) (column : Ident) → IfOk (spot_by scope stream column) Stands
-  spot_stands None column = only_stands (in_source side.Left scope.left column.text) (in_source side.Right scope.right column.text) column.at (in_left_source scope.left column.text refl) (in_right_source scope.right column.text refl)
-  spot_stands (Some stream) column =
-      one_stands (source_named scope.left stream.text) (source_named scope.right stream.text) _ _ _
-      (known_stands (in_source side.Left scope.left column.text) column.at (in_left_source scope.left column.text refl))
-      (known_stands (in_source side.Right scope.right column.text) column.at (in_right_source scope.right column.text refl))
-      tt
+  spot_stands = of_spot scope Stands column_stands
 
 -- ---- operators
 
@@ -157,19 +118,7 @@ module _ (aggregates kinds : List ColType) where
   operator_has : (o : BinaryOp) (a b : ColType) (x y : Typed) → kind_with aggregates kinds x ≡ Some a → kind_with aggregates kinds y ≡ Some b → kind_with aggregates kinds (binary_value o x y) ≡ operator_kind (operands_of o) a b
   unfolding kind_with
   operator_has op.Or a b x y p q = rw (p, q) refl
-  operator_has op.And a b x y p q = rw (p, q) refl
-  operator_has op.Equal a b x y p q = rw (p, q) refl
-  operator_has op.NotEqual a b x y p q = rw (p, q) refl
-  operator_has op.Less a b x y p q = rw (p, q) refl
-  operator_has op.AtMost a b x y p q = rw (p, q) refl
-  operator_has op.Greater a b x y p q = rw (p, q) refl
-  operator_has op.AtLeast a b x y p q = rw (p, q) refl
-  operator_has op.Add a b x y p q = rw (p, q) refl
-  operator_has op.Subtract a b x y p q = rw (p, q) refl
-  operator_has op.Concat a b x y p q = rw (p, q) refl
-  operator_has op.Multiply a b x y p q = rw (p, q) refl
-  operator_has op.Divide a b x y p q = rw (p, q) refl
-  operator_has op.Remainder a b x y p q = rw (p, q) refl
+  operator_has _ a b x y p q = rw (p, q) refl
 
   binary_has : (o : BinaryOp) (divided : Bool) (a b : Option ColType) (x y : Typed) → Has a x → Has b y → Has (if_divides divided (of_one (λ pair. operator_kind (operands_of o) pair.0 pair.1) (together a b))) (binary_value o x y)
   binary_has o false a b x y p q = tt
@@ -201,18 +150,7 @@ module _ (aggregates kinds : List ColType) where
   span_has op.Add false divided a x y by is p = none_has op.Add divided a _
   span_has op.Subtract true divided a x y by is p = shifted_has a x _ p is
   span_has op.Subtract false divided a x y by is p = none_has op.Subtract divided a _
-  span_has op.Or time divided a x y by is p = none_has op.Or divided a _
-  span_has op.And time divided a x y by is p = none_has op.And divided a _
-  span_has op.Equal time divided a x y by is p = none_has op.Equal divided a _
-  span_has op.NotEqual time divided a x y by is p = none_has op.NotEqual divided a _
-  span_has op.Less time divided a x y by is p = none_has op.Less divided a _
-  span_has op.AtMost time divided a x y by is p = none_has op.AtMost divided a _
-  span_has op.Greater time divided a x y by is p = none_has op.Greater divided a _
-  span_has op.AtLeast time divided a x y by is p = none_has op.AtLeast divided a _
-  span_has op.Concat time divided a x y by is p = none_has op.Concat divided a _
-  span_has op.Multiply time divided a x y by is p = none_has op.Multiply divided a _
-  span_has op.Divide time divided a x y by is p = none_has op.Divide divided a _
-  span_has op.Remainder time divided a x y by is p = none_has op.Remainder divided a _
+  span_has o time divided a x y by is p = none_has o divided a _
 
   no_shift : (sum time : Bool) → (sum && false && time) ≡ false
   no_shift true time = refl
@@ -228,17 +166,7 @@ module _ (aggregates kinds : List ColType) where
         Has (if is_shift o a b then Some type.Timestamp else if_divides divided (of_one (λ pair. operator_kind (operands_of o) pair.0 pair.1) (together a (kind scope w b)))) (shifted_or (shift_of o b) x (binary_value o x y))
     unfolding kind shift_of
     behind_has (expr.Interval span at) p q = span_has o (is_kind type.Timestamp a) divided a x y span.micros refl p
-    behind_has (expr.Number n at) p q = other_has o (is_kind type.Timestamp a) divided a _ x y p q
-    behind_has (expr.Text text at) p q = other_has o (is_kind type.Timestamp a) divided a _ x y p q
-    behind_has (expr.Truth truth at) p q = other_has o (is_kind type.Timestamp a) divided a _ x y p q
-    behind_has (expr.Timestamp moment at) p q = other_has o (is_kind type.Timestamp a) divided a _ x y p q
-    behind_has (expr.Column column) p q = other_has o (is_kind type.Timestamp a) divided a (kind scope w (expr.Column column)) x y p q
-    behind_has (expr.CountRows at) p q = other_has o (is_kind type.Timestamp a) divided a (kind scope w (expr.CountRows at)) x y p q
-    behind_has (expr.Aggregate' f at r (only e)) p q = other_has o (is_kind type.Timestamp a) divided a (kind scope w (expr.Aggregate' f at r (only e))) x y p q
-    behind_has (expr.Unary' u at r (only e)) p q = other_has o (is_kind type.Timestamp a) divided a (kind scope w (expr.Unary' u at r (only e))) x y p q
-    behind_has (expr.IsNull' r (only e) at test) p q = other_has o (is_kind type.Timestamp a) divided a (kind scope w (expr.IsNull' r (only e) at test)) x y p q
-    behind_has (expr.Binary' left_at r (only e) u at right_at s (only f)) p q = other_has o (is_kind type.Timestamp a) divided a (kind scope w (expr.Binary' left_at r (only e) u at right_at s (only f))) x y p q
-    behind_has (expr.Between' r (only e) at s (only f) u (only g)) p q = other_has o (is_kind type.Timestamp a) divided a (kind scope w (expr.Between' r (only e) at s (only f) u (only g))) x y p q
+    behind_has b p q = other_has o (is_kind type.Timestamp a) divided a (kind scope w b) x y p q
 
 -- ---- the whole
 

@@ -15,6 +15,7 @@ pub mod SameText
 pub mod SameValues
 pub mod SameQueries
 pub mod SpanLemmas
+pub mod Spots
 pub mod WindowLemmas
 pub mod SoundLemmas
 pub mod LimitLemmas

@@ -22,13 +22,6 @@ value_in part = part.value
 
 pub values_are : (at : ℕ) (e : Expr) → map value_in (conjuncts at e) ≡ parts_of e
 unfolding conjuncts parts_of
-values_are at (expr.Number n own) = refl
-values_are at (expr.Text text own) = refl
-values_are at (expr.Truth truth own) = refl
-values_are at (expr.Timestamp moment own) = refl
-values_are at (expr.Interval span own) = refl
-values_are at (expr.Column column) = refl
-values_are at (expr.CountRows own) = refl
 values_are at (expr.Aggregate' f own p (only x)) = refl
 values_are at (expr.Unary' o own p (only x)) = refl
 values_are at (expr.IsNull' p (only x) own test) = refl
@@ -40,6 +33,7 @@ values_are at (expr.Binary' left_at p (only a) o own right_at q (only b)) =
         → map value_in (if joins then left ++ right else record { at = at; value = whole } ∷ []) ≡ (if joins then xs ++ ys else whole ∷ [])
     by true whole left right xs ys one two = map-append value_in left right ∙ (λ i. one i ++ two i)
     by false whole left right xs ys one two = refl
+values_are at _ = refl
 
 -- ---- key equalities
 
@@ -72,21 +66,11 @@ module _ (query : Query) where
 
   pair_one : (e : Expr) → length (listed (key_pair (scope_of query) e)) ≤ (if is_key_equality (row_scope query) e then 1 else 0)
   unfolding key_pair is_key_equality
-  pair_one (expr.Number n own) = omega arith
-  pair_one (expr.Text text own) = omega arith
-  pair_one (expr.Truth truth own) = omega arith
-  pair_one (expr.Timestamp moment own) = omega arith
-  pair_one (expr.Interval span own) = omega arith
-  pair_one (expr.Column column) = omega arith
-  pair_one (expr.CountRows own) = omega arith
-  pair_one (expr.Aggregate' f own p (only x)) = omega arith
-  pair_one (expr.Unary' o own p (only x)) = omega arith
-  pair_one (expr.IsNull' p (only x) own test) = omega arith
-  pair_one (expr.Between' p (only a) own q (only b) r (only c)) = omega arith
   pair_one (expr.Binary' left_at p (only a) o own right_at q (only b)) =
       subst (λ (x : Option Spot). length (listed (pair_of o x (looked (scope_of query) (bare_column b)))) ≤ (if is_pair (row_scope query) o a b then 1 else 0)) (sym (same_spot (bare_column a)))
       (subst (λ (y : Option Spot). length (listed (pair_of o (looked (row_scope query) (bare_column a)) y)) ≤ (if is_pair (row_scope query) o a b then 1 else 0)) (sym (same_spot (bare_column b)))
       (pair_is_one (is_equal o) (looked (row_scope query) (bare_column a)) (looked (row_scope query) (bare_column b))))
+  pair_one _ = omega arith
 
   as_few_pairs : (parts : List Conjunct) → length (flat_map (keys_in (context_of query)) (map value_in parts)) ≤ length (key_places (row_scope query) parts)
   unfolding context_of

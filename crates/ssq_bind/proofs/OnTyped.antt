@@ -1,6 +1,6 @@
 -- ON is well typed once it is bound.
 use Rattle.std.proofs.Common.{◌≡◌, ◌∙◌, ap, sym, subst, refl, inl, inr, arith, ℕ, Bool, true, false, not, ◌&&◌, List, [], ◌∷◌, ◌++◌, map, Option, Some, None, Result, Ok, Err}
-use Rattle.std.specs.Prelude.{slice_get, position, nat_eq, if◌then◌else◌, IfSome}
+use Rattle.std.specs.Prelude.{slice_get, position, nat_eq, if◌then◌else◌, IfSome, IfOk}
 use Rattle.std.specs.List.{AllByRecursion, flat_map}
 use Rattle.std.specs.Option.{option_map, IsSomeAnd}
 use Rattle.std.specs.Str.{bytes_eq}
@@ -33,7 +33,7 @@ use Rattle.ssq_check.specs.Fault.{AreNone}
 use Rattle.ssq_check.specs.Joined.{Conjunct, conjuncts, is_and, are_across, is_edge, spot_in, spot_by, looked, bare_column, is_at, is_event_by, is_event, if_so, edge_column, low_column, high_column, is_right, are_bound, is_bound, are_typed, between_at, is_misplaced, BoundRule, seen_by, BoundFaults}
 use Rattle.ssq_check.specs.Names.{is_there}
 use Rattle.ssq_check.specs.Rules.{type_of, kind, of_one, together, is_interval, operator_kind, operands_of}
-use Rattle.ssq_check.specs.Scope.{spot_from, spot_where, in_columns, in_source, only_one, known, source_named, bare_spot, named_spot, is_same_side, grouped}
+use Rattle.ssq_check.specs.Scope.{spot_from, spot_where, in_columns, bare_spot, named_spot, is_same_side, grouped}
 use Rattle.ssq_check.specs.Sound.{IsTimeSpot}
 use Rattle.ssq_check.specs.Names.{row_scope, scope_of}
 use Rattle.ssq_check.specs.Sound.{IsSoundJoin}
@@ -47,70 +47,27 @@ use Rattle.ssq_bind.specs.Value.{row_value}
 use Rattle.ssq_bind.proofs.GroupLemmas.{all_both}
 use Rattle.ssq_bind.proofs.Kept.{AnyStand, typed_at, rows_have, column_has}
 use Rattle.ssq_bind.proofs.OnLemmas.{value_in, values_are, same_spot}
+use Rattle.ssq_bind.proofs.Spots.{OfColumns, of_spot, side_source}
 use Rattle.ssq_bind.proofs.TimeBoundLemmas.{unbroken_bound, between_typed}
 use Rattle.ssq_bind.specs.Shapes.{spot_kind}
 use Rattle.ssq_bind.specs.Typed.{column_kinds, source_kinds, row_kinds, PairsOneType, BoundsTimes, IsTypedJoin}
 
 -- ---- a column stands in a row of its own stream, with its type
 
-abbrev side_source : Scope → Side → Option Source
-side_source scope side.Left = scope.left
-side_source scope side.Right = scope.right
-
 module _ (scope : Scope) where
   abbrev pub StandsAside : Spot → Type 0
   StandsAside spot = slice_get (source_kinds (side_source scope spot.side)) spot.index ≡ Some spot.kind
 
-  from_left : (source : Source) (at : ℕ) (got : Option Column) → scope.left ≡ Some source → slice_get source.columns at ≡ got → IfSome (spot_from side.Left at got) StandsAside
-  from_left source at None stands is = tt
-  from_left source at (Some column) stands is = rw stands (slice_get-map (λ (x : Column). x.kind) source.columns at ∙ ap (option_map (λ (x : Column). x.kind)) is)
+  column_aside : OfColumns scope StandsAside
+  column_aside own source at column stands is = rw stands (slice_get-map (λ (x : Column). x.kind) source.columns at ∙ ap (option_map (λ (x : Column). x.kind)) is)
 
-  from_right : (source : Source) (at : ℕ) (got : Option Column) → scope.right ≡ Some source → slice_get source.columns at ≡ got → IfSome (spot_from side.Right at got) StandsAside
-  from_right source at None stands is = tt
-  from_right source at (Some column) stands is = rw stands (slice_get-map (λ (x : Column). x.kind) source.columns at ∙ ap (option_map (λ (x : Column). x.kind)) is)
-
-  left_where : (source : Source) (place : Option ℕ) → scope.left ≡ Some source → IfSome (spot_where side.Left source.columns place) StandsAside
-  left_where source None stands = tt
-  left_where source (Some at) stands = from_left source at (slice_get source.columns at) stands refl
-
-  right_where : (source : Source) (place : Option ℕ) → scope.right ≡ Some source → IfSome (spot_where side.Right source.columns place) StandsAside
-  right_where source None stands = tt
-  right_where source (Some at) stands = from_right source at (slice_get source.columns at) stands refl
-
-  left_aside : (source : Option Source) (name : List ℕ) → scope.left ≡ source → IfSome (in_source side.Left source name) StandsAside
-  left_aside None name is = tt
-  left_aside (Some source) name is = left_where source (position (λ (column : Column). bytes_eq column.name name) source.columns) is
-
-  right_aside : (source : Option Source) (name : List ℕ) → scope.right ≡ source → IfSome (in_source side.Right source name) StandsAside
-  right_aside None name is = tt
-  right_aside (Some source) name is = right_where source (position (λ (column : Column). bytes_eq column.name name) source.columns) is
-
-  only_aside : (left right : Option Spot) (at : ℕ) → IfSome left StandsAside → IfSome right StandsAside → IfSome (spot_in (only_one left right at)) StandsAside
-  only_aside (Some left) (Some right) at p q = tt
-  only_aside (Some left) None at p q = p
-  only_aside None (Some right) at p q = q
-  only_aside None None at p q = tt
-
-  known_aside : (o : Option Spot) (at : ℕ) → IfSome o StandsAside → IfSome (spot_in (known o at)) StandsAside
-  known_aside None at p = tt
-  known_aside (Some spot) at p = p
-
-  one_aside : (a b : Bool) (x y z : Result Spot BindFault) → IfSome (spot_in x) StandsAside → IfSome (spot_in y) StandsAside → IfSome (spot_in z) StandsAside → IfSome (spot_in (if a then x else if b then y else z)) StandsAside
-  one_aside true b x y z p q r = p
-  one_aside false true x y z p q r = q
-  one_aside false false x y z p q r = r
-
-  spot_aside : (stream : Option Ident) (column : Ident) → IfSome (spot_in (spot_by scope stream column)) StandsAside
-  spot_aside None column = only_aside (in_source side.Left scope.left column.text) (in_source side.Right scope.right column.text) column.at (left_aside scope.left column.text refl) (right_aside scope.right column.text refl)
-  spot_aside (Some stream) column =
-      one_aside (source_named scope.left stream.text) (source_named scope.right stream.text) _ _ _
-      (known_aside (in_source side.Left scope.left column.text) column.at (left_aside scope.left column.text refl))
-      (known_aside (in_source side.Right scope.right column.text) column.at (right_aside scope.right column.text refl))
-      tt
+  found_aside : (r : Result Spot BindFault) → IfOk r StandsAside → IfSome (spot_in r) StandsAside
+  found_aside (Ok spot) is = is
+  found_aside (Err f) is = tt
 
   looked_aside : (o : Option ColumnRef) → IfSome (looked scope o) StandsAside
   looked_aside None = tt
-  looked_aside (Some column) = spot_aside column.stream column.column
+  looked_aside (Some column) = found_aside (spot_by scope column.stream column.column) (of_spot scope StandsAside column_aside column.stream column.column)
 
   -- ---- key equalities
 
@@ -204,16 +161,11 @@ low_is : (e : Expr) → is_there (low_column e) ≡ true → shifted_column e �
 unfolding edge_column shifted_column
 low_is (expr.Column column) there = refl
 low_is (expr.Binary' left_at p (only a) o at right_at q (only b)) there = sym (low_by (is_edge edge.Low o && is_interval b) (bare_column a) there)
-low_is (expr.Number n at) there = absurd cc
-low_is (expr.Text text at) there = absurd cc
-low_is (expr.Truth truth at) there = absurd cc
-low_is (expr.Timestamp moment at) there = absurd cc
-low_is (expr.Interval span at) there = absurd cc
-low_is (expr.CountRows at) there = absurd cc
 low_is (expr.Aggregate' f at p (only x)) there = absurd cc
 low_is (expr.Unary' o at p (only x)) there = absurd cc
 low_is (expr.IsNull' p (only x) at test) there = absurd cc
 low_is (expr.Between' p (only a) at q (only b) r (only c)) there = absurd cc
+low_is _ there = absurd cc
 
 -- what the test of a bound says of its sides
 record AreSides (scope : Scope) (r low : Spot) : Type 0 where
@@ -326,17 +278,11 @@ module _ (rows : Scope) where
           let truths = both_truths a b o left_at own right_at joins is in
           all_both (IsTruth rows) (conjuncts left_at a) (conjuncts right_at b) (left truths.0) (right truths.1)
       by false joins left right = (is, tt)
-  parts_truths at (expr.Number n own) is = (is, tt)
-  parts_truths at (expr.Text text own) is = (is, tt)
-  parts_truths at (expr.Truth truth own) is = (is, tt)
-  parts_truths at (expr.Timestamp moment own) is = (is, tt)
-  parts_truths at (expr.Interval span own) is = (is, tt)
-  parts_truths at (expr.Column column) is = (is, tt)
-  parts_truths at (expr.CountRows own) is = (is, tt)
   parts_truths at (expr.Aggregate' f own p (only x)) is = (is, tt)
   parts_truths at (expr.Unary' o own p (only x)) is = (is, tt)
   parts_truths at (expr.IsNull' p (only x) own test) is = (is, tt)
   parts_truths at (expr.Between' p (only a) own q (only b) r (only c)) is = (is, tt)
+  parts_truths at _ is = (is, tt)
 
   -- ---- each part
 

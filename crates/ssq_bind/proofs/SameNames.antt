@@ -21,12 +21,12 @@ use Rattle.ssq_ast.specs.Places.{erased_decl, erased_watermark, erased_stream, e
 use Rattle.ssq_check.specs.declared.fault.BindFault.{BindFault}
 use Rattle.ssq_check.specs.declared.scope.Key.TheVariants as key
 use Rattle.ssq_check.specs.declared.scope.Scope.{Scope}
-use Rattle.ssq_check.specs.declared.scope.Side.TheVariants as side
 use Rattle.ssq_check.specs.declared.scope.Spot.{Spot}
 use Rattle.ssq_check.specs.declared.scope.Within.TheVariants as within
-use Rattle.ssq_check.specs.Joined.{spot_in, spot_by, spot_of}
+use Rattle.ssq_check.specs.Joined.{spot_in, spot_of}
 use Rattle.ssq_check.specs.Names.{declared, column_of, watermark_name, source_of, left_stream, join_stream, right_stream, row_scope, found_key, keys_of, group_keys, scope_of}
-use Rattle.ssq_check.specs.Scope.{in_source, only_one, known, source_named, bare_spot, is_window_here, is_window_key}
+use Rattle.ssq_check.specs.Scope.{bare_spot, is_window_here, is_window_key}
+use Rattle.ssq_check.proofs.Erased.{spot_stays}
 use Rattle.ssq_bind.specs.Bound.{context_of}
 use Rattle.ssq_bind.specs.Shapes.{size_in, window_size, bare_index}
 use Rattle.ssq_bind.specs.Streams.{kept_columns, event_in, delay_of, stream_of, listed, streams_of}
@@ -128,34 +128,11 @@ right_same query = join_same (option_map source_of) found_same query.streams que
 rows_same : (query : Query) → row_scope (erased query) ≡ row_scope query
 rows_same query = λ i. record { left = left_same query i; right = right_same query i; keys = [] }
 
-one_same : (a b : Option Spot) (m n : ℕ) → spot_in (only_one a b m) ≡ spot_in (only_one a b n)
-one_same (Some a) (Some b) m n = refl
-one_same (Some a) None m n = refl
-one_same None (Some b) m n = refl
-one_same None None m n = refl
-
-known_same : (a : Option Spot) (m n : ℕ) → spot_in (known a m) ≡ spot_in (known a n)
-known_same None m n = refl
-known_same (Some a) m n = refl
-
-named_same : (b c : Bool) (x y : Option Spot) (m n k l : ℕ) → spot_in (if b then known x m else if c then known y m else known None k) ≡ spot_in (if b then known x n else if c then known y n else known None l)
-named_same true c x y m n k l = known_same x m n
-named_same false true x y m n k l = known_same y m n
-named_same false false x y m n k l = refl
-
-pub bare_same : (scope : Scope) (ident : Ident) → spot_in (bare_spot scope (erased_ident ident)) ≡ spot_in (bare_spot scope ident)
-bare_same scope ident = one_same (in_source side.Left scope.left ident.text) (in_source side.Right scope.right ident.text) 0 ident.at
-
-spot_by_same : (scope : Scope) (stream : Option Ident) (column : Ident) → spot_in (spot_by scope (option_map erased_ident stream) (erased_ident column)) ≡ spot_in (spot_by scope stream column)
-spot_by_same scope None column = bare_same scope column
-spot_by_same scope (Some stream) column =
-    named_same (source_named scope.left stream.text) (source_named scope.right stream.text) (in_source side.Left scope.left column.text) (in_source side.Right scope.right column.text) 0 column.at 0 stream.at
-
 pub spot_same : (scope : Scope) (column : ColumnRef) → spot_in (spot_of scope (erased_column column)) ≡ spot_in (spot_of scope column)
-spot_same scope column = spot_by_same scope column.stream column.column
+spot_same scope column = spot_stays scope column.stream column.column
 
 pub index_same : (scope : Scope) (ident : Ident) → bare_index scope (erased_ident ident) ≡ bare_index scope ident
-index_same scope ident = ap (row_index scope) (bare_same scope ident)
+index_same scope ident = ap (row_index scope) (spot_stays scope None ident)
 
 -- ---- keys of groups
 
@@ -166,7 +143,7 @@ key_same (Err f) (Ok s) is = absurd cc
 key_same (Err f) (Err g) is = refl
 
 keys_of_same : (scope : Scope) (x : Group) → keys_of scope (erased_group_item x) ≡ keys_of scope x
-keys_of_same scope (group.Column ident) = key_same (bare_spot scope (erased_ident ident)) (bare_spot scope ident) (bare_same scope ident)
+keys_of_same scope (group.Column ident) = key_same (bare_spot scope (erased_ident ident)) (bare_spot scope ident) (spot_stays scope None ident)
 keys_of_same scope (group.Window window) = refl
 
 keys_same : (scope : Scope) (by : Option GroupBy) → group_keys scope (option_map erased_group by) ≡ group_keys scope by

@@ -51,13 +51,6 @@ both_nowhere a b c d one two = (λ i. one i ++ two i) ∙ sym (map-append (λ (a
 
 found_same : (e : Expr) → aggregates (erased_expr e) ≡ nowhere (aggregates e)
 unfolding aggregates
-found_same (expr.Number n at) = refl
-found_same (expr.Text text at) = refl
-found_same (expr.Truth truth at) = refl
-found_same (expr.Timestamp moment at) = refl
-found_same (expr.Interval span at) = refl
-found_same (expr.Column column) = refl
-found_same (expr.CountRows at) = refl
 found_same (expr.Aggregate' f at p (only x)) = refl
 found_same (expr.Unary' u at p (only x)) = found_same x
 found_same (expr.IsNull' p (only x) at test) = found_same x
@@ -65,6 +58,7 @@ found_same (expr.Binary' left_at p (only a) u at right_at q (only b)) = both_now
 found_same (expr.Between' p (only a) at q (only b) r (only c)) =
     both_nowhere (aggregates (erased_expr a)) (aggregates (erased_expr b) ++ aggregates (erased_expr c)) (aggregates a) (aggregates b ++ aggregates c) (found_same a)
     (both_nowhere (aggregates (erased_expr b)) (aggregates (erased_expr c)) (aggregates b) (aggregates c) (found_same b) (found_same c))
+found_same _ = refl
 
 item_found : (x : Item) → places.item_aggregates (erased_item x) ≡ nowhere (places.item_aggregates x)
 item_found (item.Column column at named_at) = refl
@@ -119,25 +113,25 @@ item_kind_same : (scope : Scope) (w : Within) (x : Item) → item_kind scope w (
 item_kind_same scope w (item.Column column at named_at) = column_kind_same scope w column
 item_kind_same scope w (item.Named e at label) = kind_stays scope w e
 
-item_column_same : (x : Item) → item_column (erased_item x) ≡ option_map erased_column (item_column x)
-item_column_same (item.Column column at named_at) = refl
-item_column_same (item.Named e at label) = bare_column_same e
+item_column_same : (context : Context) (x : Item) → item_column (erased_item x) ≡ option_map erased_column (item_column x)
+item_column_same context (item.Column column at named_at) = refl
+item_column_same context (item.Named e at label) = bare_column_same context e
 
 shown_key_by : (scope : Scope) (w : Within) (column : Option ColumnRef) → shown_key scope w (option_map erased_column column) ≡ shown_key scope w column
 shown_key_by scope within.Row column = refl
 shown_key_by scope within.Group None = refl
 shown_key_by scope within.Group (Some column) = key_index_same scope column
 
-shown_key_same : (scope : Scope) (w : Within) (x : Item) → shown_key scope w (item_column (erased_item x)) ≡ shown_key scope w (item_column x)
-shown_key_same scope w x = ap (shown_key scope w) (item_column_same x) ∙ shown_key_by scope w (item_column x)
-
 module _ (context : Context) (w : Within) where
+  shown_key_same : (x : Item) → shown_key context.scope w (item_column (erased_item x)) ≡ shown_key context.scope w (item_column x)
+  shown_key_same x = ap (shown_key context.scope w) (item_column_same context x) ∙ shown_key_by context.scope w (item_column x)
+
   output_same : (n : ℕ) (x : Item) → output_of context w n (erased_item x) ≡ output_of context w n x
   output_same n x = λ i. record {
     name = name_same x i;
     kind = kind_or_bigint (item_kind_same context.scope w x i);
     value = item_value_same context w n x i;
-    key = shown_key_same context.scope w x i;
+    key = shown_key_same x i;
   }
 
   outputs_same : (n : ℕ) (items : List Item) → outputs_of context w n (map erased_item items) ≡ outputs_of context w n items

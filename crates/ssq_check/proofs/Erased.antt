@@ -1,6 +1,7 @@
 -- The type of an expression doesn't depend on places.
 use Rattle.std.proofs.Common.{◌≡◌, refl, ℕ, Bool, true, false, ◌&&◌, List, Option, Some, None, Result, Ok, Err}
 use Rattle.std.specs.Prelude.{if◌then◌else◌}
+use Rattle.std.specs.Option.{option_map}
 use Rattle.ssq_value.specs.declared.column.ColType.{ColType}
 use Rattle.ssq_value.specs.declared.column.ColType.TheVariants as type
 use Rattle.ssq_shape.specs.Kinds.{is_kind}
@@ -18,13 +19,9 @@ use Rattle.ssq_check.specs.declared.scope.Side.TheVariants as side
 use Rattle.ssq_check.specs.declared.scope.Spot.{Spot}
 use Rattle.ssq_check.specs.declared.scope.Within.{Within}
 use Rattle.ssq_check.specs.declared.scope.Within.TheVariants as within
+use Rattle.ssq_check.specs.Joined.{spot_in, spot_by}
 use Rattle.ssq_check.specs.Scope.{in_source, only_one, known, source_named, is_key, is_window_here, grouped, column_kind_by, column_kind}
 use Rattle.ssq_check.specs.Rules.{operands_of, operator_kind, unary_kind, aggregate_kind, between_kind, is_divisor, is_minus, is_nonzero, divides, is_interval, is_sum, may_stand, type_of, of_one, if_divides, together, kind}
-
--- a spot or a fault, wherever it is told
-abbrev spot_in : Result Spot BindFault → Option Spot
-spot_in (Ok spot) = Some spot
-spot_in (Err f) = None
 
 one_stays : (a b : Option Spot) (m n : ℕ) → spot_in (only_one a b m) ≡ spot_in (only_one a b n)
 one_stays (Some a) (Some b) m n = refl
@@ -41,11 +38,17 @@ named_stays true c x y m n k l = known_stays x m n
 named_stays false true x y m n k l = known_stays y m n
 named_stays false false x y m n k l = refl
 
+-- a name means the same column, wherever it is told
+pub spot_stays : (scope : Scope) (stream : Option Ident) (column : Ident) → spot_in (spot_by scope (option_map erased_ident stream) (erased_ident column)) ≡ spot_in (spot_by scope stream column)
+spot_stays scope None column = one_stays (in_source side.Left scope.left column.text) (in_source side.Right scope.right column.text) 0 column.at
+spot_stays scope (Some stream) column =
+    named_stays (source_named scope.left stream.text) (source_named scope.right stream.text) (in_source side.Left scope.left column.text) (in_source side.Right scope.right column.text) 0 column.at 0 stream.at
+
 grouped_stays : (keys : List Key) (w : Within) (m n : ℕ) (r s : Result Spot BindFault) → spot_in r ≡ spot_in s → type_of (grouped keys w m r) ≡ type_of (grouped keys w n s)
 grouped_stays keys w m n (Err f) (Err g) is = refl
 grouped_stays keys w m n (Err f) (Ok s) is = absurd cc
 grouped_stays keys w m n (Ok r) (Err g) is = absurd cc
-grouped_stays keys within.Row m n (Ok r) (Ok s) is = (λ i. Rattle.std.specs.Option.option_map (λ (spot : Spot). spot.kind) (is i))
+grouped_stays keys within.Row m n (Ok r) (Ok s) is = (λ i. option_map (λ (spot : Spot). spot.kind) (is i))
 grouped_stays keys within.Group m n (Ok r) (Ok s) is =
     let same : r ≡ s = cc in
     rw same (key_stays (is_key keys s) s.kind m n)
@@ -61,85 +64,44 @@ bare_stays false own r s is = is
 column_stays : (scope : Scope) (w : Within) (column : ColumnRef) → type_of (column_kind scope w (erased_column column)) ≡ type_of (column_kind scope w column)
 column_stays scope w column = by column.stream
   where
-    by : (stream : Option Ident) → type_of (column_kind_by scope w (Rattle.std.specs.Option.option_map erased_ident stream) (erased_ident column.column)) ≡ type_of (column_kind_by scope w stream column.column)
-    by None =
-        bare_stays (is_window_here scope w column.column.text) type.Timestamp _ _ (grouped_stays scope.keys w 0 column.column.at _ _ (one_stays (in_source side.Left scope.left column.column.text) (in_source side.Right scope.right column.column.text) 0 column.column.at))
-    by (Some stream) =
-        grouped_stays scope.keys w 0 stream.at _ _ (named_stays (source_named scope.left stream.text) (source_named scope.right stream.text) (in_source side.Left scope.left column.column.text) (in_source side.Right scope.right column.column.text) 0 column.column.at 0 stream.at)
+    by : (stream : Option Ident) → type_of (column_kind_by scope w (option_map erased_ident stream) (erased_ident column.column)) ≡ type_of (column_kind_by scope w stream column.column)
+    by None = bare_stays (is_window_here scope w column.column.text) type.Timestamp _ _ (grouped_stays scope.keys w 0 column.column.at _ _ (spot_stays scope None column.column))
+    by (Some stream) = grouped_stays scope.keys w 0 stream.at _ _ (spot_stays scope (Some stream) column.column)
 
-interval_stays : (e : Expr) → is_interval (erased_expr e) ≡ is_interval e
-interval_stays (expr.Number n at) = refl
-interval_stays (expr.Text text at) = refl
-interval_stays (expr.Truth truth at) = refl
-interval_stays (expr.Timestamp moment at) = refl
-interval_stays (expr.Interval span at) = refl
-interval_stays (expr.Column column) = refl
-interval_stays (expr.CountRows at) = refl
-interval_stays (expr.Aggregate' f at p (only x)) = refl
-interval_stays (expr.Unary' o at p (only x)) = refl
-interval_stays (expr.IsNull' p (only x) at test) = refl
-interval_stays (expr.Binary' left_at p (only a) o at right_at q (only b)) = refl
-interval_stays (expr.Between' p (only a) at q (only b) r (only c)) = refl
+divides_stays : (o : BinaryOp) (e same : Expr) → is_divisor same ≡ is_divisor e → divides o same ≡ divides o e
+divides_stays op.Divide e same is = is
+divides_stays op.Remainder e same is = is
+divides_stays _ e same is = refl
 
-nonzero_stays : (e : Expr) → is_nonzero (erased_expr e) ≡ is_nonzero e
-nonzero_stays (expr.Number n at) = refl
-nonzero_stays (expr.Text text at) = refl
-nonzero_stays (expr.Truth truth at) = refl
-nonzero_stays (expr.Timestamp moment at) = refl
-nonzero_stays (expr.Interval span at) = refl
-nonzero_stays (expr.Column column) = refl
-nonzero_stays (expr.CountRows at) = refl
-nonzero_stays (expr.Aggregate' f at p (only x)) = refl
-nonzero_stays (expr.Unary' o at p (only x)) = refl
-nonzero_stays (expr.IsNull' p (only x) at test) = refl
-nonzero_stays (expr.Binary' left_at p (only a) o at right_at q (only b)) = refl
-nonzero_stays (expr.Between' p (only a) at q (only b) r (only c)) = refl
+-- what is asked of an expression, so that another around it has a type
+record Seen : Type 0 where
+  interval : Bool
+  nonzero : Bool
+  divisor : Bool
+  kind : Within → Option ColType
 
-divisor_stays : (e : Expr) → is_divisor (erased_expr e) ≡ is_divisor e
-unfolding is_divisor
-divisor_stays (expr.Number n at) = refl
-divisor_stays (expr.Text text at) = refl
-divisor_stays (expr.Truth truth at) = refl
-divisor_stays (expr.Timestamp moment at) = refl
-divisor_stays (expr.Interval span at) = refl
-divisor_stays (expr.Column column) = refl
-divisor_stays (expr.CountRows at) = refl
-divisor_stays (expr.Aggregate' f at p (only x)) = refl
-divisor_stays (expr.Unary' o at p (only x)) = λ i. is_minus o && nonzero_stays x i
-divisor_stays (expr.IsNull' p (only x) at test) = refl
-divisor_stays (expr.Binary' left_at p (only a) o at right_at q (only b)) = refl
-divisor_stays (expr.Between' p (only a) at q (only b) r (only c)) = refl
+abbrev seen : Scope → Expr → Seen
+seen scope e = record { interval = is_interval e; nonzero = is_nonzero e; divisor = is_divisor e; kind = λ w. kind scope w e }
 
-divides_stays : (o : BinaryOp) (e : Expr) → divides o (erased_expr e) ≡ divides o e
-divides_stays op.Or e = refl
-divides_stays op.And e = refl
-divides_stays op.Equal e = refl
-divides_stays op.NotEqual e = refl
-divides_stays op.Less e = refl
-divides_stays op.AtMost e = refl
-divides_stays op.Greater e = refl
-divides_stays op.AtLeast e = refl
-divides_stays op.Add e = refl
-divides_stays op.Subtract e = refl
-divides_stays op.Concat e = refl
-divides_stays op.Multiply e = refl
-divides_stays op.Divide e = divisor_stays e
-divides_stays op.Remainder e = divisor_stays e
+-- no span and no number
+abbrev other : Bool → (Within → Option ColType) → Seen
+other divisor kind = record { interval = false; nonzero = false; divisor = divisor; kind = kind }
+
+module _ (scope : Scope) where
+  seen_stays : (e : Expr) → seen scope (erased_expr e) ≡ seen scope e
+  unfolding is_divisor kind
+  seen_stays (expr.Column column) = λ i. other false (λ w. column_stays scope w column i)
+  seen_stays (expr.Aggregate' f at p (only x)) = λ i. other false (λ w. may_stand w (of_one (aggregate_kind f) ((seen_stays x i).kind within.Row)))
+  seen_stays (expr.Unary' o at p (only x)) = λ i. other (is_minus o && (seen_stays x i).nonzero) (λ w. of_one (unary_kind o) ((seen_stays x i).kind w))
+  seen_stays (expr.IsNull' p (only x) at test) = λ i. other false (λ w. of_one (λ own. Some type.Bool) ((seen_stays x i).kind w))
+  seen_stays (expr.Binary' left_at p (only a) o at right_at q (only b)) =
+      let divided = divides_stays o b (erased_expr b) (λ i. (seen_stays b i).divisor) in
+      λ i. other false (λ w.
+      if is_sum o && (seen_stays b i).interval && is_kind type.Timestamp ((seen_stays a i).kind w) then Some type.Timestamp
+      else if_divides (divided i) (of_one (λ (pair : ColType × ColType). operator_kind (operands_of o) pair.0 pair.1) (together ((seen_stays a i).kind w) ((seen_stays b i).kind w))))
+  seen_stays (expr.Between' p (only a) at q (only b) r (only c)) = λ i. other false (λ w.
+      of_one (λ (triple : (ColType × ColType) × ColType). between_kind triple.0.0 triple.0.1 triple.1) (together (together ((seen_stays a i).kind w) ((seen_stays b i).kind w)) ((seen_stays c i).kind w)))
+  seen_stays _ = refl
 
 pub kind_stays : (scope : Scope) (w : Within) (e : Expr) → kind scope w (erased_expr e) ≡ kind scope w e
-unfolding kind
-kind_stays scope w (expr.Number n at) = refl
-kind_stays scope w (expr.Text text at) = refl
-kind_stays scope w (expr.Truth truth at) = refl
-kind_stays scope w (expr.Timestamp moment at) = refl
-kind_stays scope w (expr.Interval span at) = refl
-kind_stays scope w (expr.Column column) = column_stays scope w column
-kind_stays scope w (expr.CountRows at) = refl
-kind_stays scope w (expr.Aggregate' f at p (only x)) = λ i. may_stand w (of_one (aggregate_kind f) (kind_stays scope within.Row x i))
-kind_stays scope w (expr.Unary' o at p (only x)) = λ i. of_one (unary_kind o) (kind_stays scope w x i)
-kind_stays scope w (expr.IsNull' p (only x) at test) = λ i. of_one (λ own. Some type.Bool) (kind_stays scope w x i)
-kind_stays scope w (expr.Binary' left_at p (only a) o at right_at q (only b)) = λ i.
-    if is_sum o && interval_stays b i && is_kind type.Timestamp (kind_stays scope w a i) then Some type.Timestamp
-    else if_divides (divides_stays o b i) (of_one (λ (pair : ColType × ColType). operator_kind (operands_of o) pair.0 pair.1) (together (kind_stays scope w a i) (kind_stays scope w b i)))
-kind_stays scope w (expr.Between' p (only a) at q (only b) r (only c)) = λ i.
-    of_one (λ (triple : (ColType × ColType) × ColType). between_kind triple.0.0 triple.0.1 triple.1) (together (together (kind_stays scope w a i) (kind_stays scope w b i)) (kind_stays scope w c i))
+kind_stays scope w e = λ i. (seen_stays scope e i).kind w
