@@ -64,37 +64,17 @@ shelves_stopped last committed stop now s d runs k = record { names = k.names; s
 
 -- ---- files of an epoch
 
-no_state : {A : Type 0} → false ≡ true → A
-no_state h = absurd (true≢false (sym h))
-
-out_names : (d : Desk) (e : ℕ) (q : Name) → is_state q ≡ true → (with_file (name.Out e) d).there q ≡ d.there q
-out_names d e name.Meta h = no_state h
-out_names d e (name.Plan f) h = no_state h
-out_names d e (name.Commit f) h = no_state h
-out_names d e (name.Out f) h = no_state h
-out_names d e (name.Delta p v) h = refl
-out_names d e (name.Snapshot p v) h = refl
-
-plan_names : (d : Desk) (e : ℕ) (q : Name) → is_state q ≡ true → (with_file (name.Plan e) d).there q ≡ d.there q
-plan_names d e name.Meta h = no_state h
-plan_names d e (name.Plan f) h = no_state h
-plan_names d e (name.Commit f) h = no_state h
-plan_names d e (name.Out f) h = no_state h
-plan_names d e (name.Delta p v) h = refl
-plan_names d e (name.Snapshot p v) h = refl
-
-commit_names : (d : Desk) (e : ℕ) (q : Name) → is_state q ≡ true → (with_file (name.Commit e) d).there q ≡ d.there q
-commit_names d e name.Meta h = no_state h
-commit_names d e (name.Plan f) h = no_state h
-commit_names d e (name.Commit f) h = no_state h
-commit_names d e (name.Out f) h = no_state h
-commit_names d e (name.Delta p v) h = refl
-commit_names d e (name.Snapshot p v) h = refl
+other_names : (d : Desk) (n q : Name) → is_state n ≡ false → is_state q ≡ true → (with_file n d).there q ≡ d.there q
+other_names d n q other is = ap (λ (b : Bool). if b then true else d.there q) (by (same_name q n) refl)
+  where
+    by : (b : Bool) → same_name q n ≡ b → b ≡ false
+    by false h = refl
+    by true h = absurd (true≢false (sym is ∙ ap is_state (same_name-true q n h) ∙ other))
 
 -- rows are published
 pub shelves_out : (last : Option ℕ) (committed e : ℕ) (stop : Option Cause) (s : Shelf) (d : Desk) → Shelves last committed stop s d → Shelves last committed stop s (with_file (name.Out e) d)
 shelves_out last committed e stop s d k = record {
-  names = λ q is. out_names d e q is ∙ k.names q is;
+  names = λ q is. other_names d (name.Out e) q refl is ∙ k.names q is;
   sure = k.sure;
   acknowledged = k.acknowledged;
   commits = k.commits;
@@ -107,7 +87,7 @@ shelves_out last committed e stop s d k = record {
 pub shelves_plan : (last : Option ℕ) (committed e : ℕ) (stop now : Option Cause) (s : Shelf) (d : Desk) (cuts : Cuts) → (now ≡ None → stop ≡ None) → Shelves last committed stop s d
     → Shelves last committed now s (with_file (name.Plan e) (with_plan cuts d))
 shelves_plan last committed e stop now s d cuts runs k = record {
-  names = λ q is. plan_names d e q is ∙ k.names q is;
+  names = λ q is. other_names d (name.Plan e) q refl is ∙ k.names q is;
   sure = k.sure;
   acknowledged = k.acknowledged;
   commits = k.commits;
@@ -123,7 +103,7 @@ other_number e f less = grind (arith, rules)
 pub shelves_commit : (last : Option ℕ) (committed e : ℕ) (stop now : Option Cause) (s : Shelf) (d : Desk) → e ≡ committed → (now ≡ None → stop ≡ None) → Shelves last committed stop s d
     → Shelves last (committed + 1) now s (with_file (name.Commit e) (with_commit d))
 shelves_commit last committed e stop now s d is runs k = record {
-  names = λ q state. commit_names d e q state ∙ k.names q state;
+  names = λ q state. other_names d (name.Commit e) q refl state ∙ k.names q state;
   sure = k.sure;
   acknowledged = k.acknowledged;
   commits = λ f above. ap (λ (b : Bool). if b then true else d.there (name.Commit f)) (other_number f e (omega (arith, is, above))) ∙ k.commits f (omega (arith, above));

@@ -18,12 +18,12 @@ use Rattle.ssq_core.specs.Sound.{AreProper}
 use Rattle.ssq_board.specs.declared.front.Place.{Place}
 use Rattle.ssq_board.specs.declared.front.Place.TheVariants as place
 use Rattle.ssq_board.specs.declared.front.Entry.TheVariants as entry
-use Rattle.ssq_board.specs.Core.{Scope, Core, next_ends, is_behind, has_line, has_line_at, is_open, at, tasks_of, extended, May, after}
+use Rattle.ssq_board.specs.Core.{Scope, Core, next_ends, is_behind, has_line, has_line_at, is_open, tasks_of, extended, May, after}
 use Rattle.ssq_board.specs.Shown.{IsSound}
 use Rattle.ssq_board.specs.Follows.{Terms, map_task, change_of, IsDone, ShowsAt, AreThere, Shows, life_of}
 use Rattle.ssq_board.proofs.Lists.{at_length, const_at, map_length, one_at, dealt_at, dealt_length, line_below, not_behind, back_no_more, nat_lt-is, nat_lt-not}
 use Rattle.ssq_board.proofs.Sounds.{open_less, open_not}
-use Rattle.ssq_board.proofs.Placing.{runs}
+use Rattle.ssq_board.proofs.Placing.{runs, same_at}
 
 pub runs_on : (c : Core) → c.front.stop ≡ None → life_of c.front.stop ≡ machine.running
 runs_on c e = ap life_of e
@@ -98,7 +98,7 @@ module _ (job : Job) (r : Scope) (due : Cuts → ℕ → Bool) (terms : Terms jo
       subst (λ (x : ℕ). (out_desk e).there (name.Out x) ≡ true) m.1 (there_now (name.Out e) d),
       s.tasks o (out_task c.front.committed) (place.Back None) refl m.4,
     );
-    tasks = λ o t p epoch here. s.tasks o t p epoch (same_here t p here);
+    tasks = λ o t p epoch here. s.tasks o t p epoch (same_at t.kind c (after r c (entry.OutFile e)).front t.number ∙ here);
     deltas = λ o run i less here. there_still (name.Delta i c.front.committed) (name.Out e) d (s.deltas o m.0 i less here);
     reduced = λ o. elim (s.reduced o) [ inl waits ↦ inl waits | inr all ↦ inr (λ i less. there_still (name.Delta i c.front.committed) (name.Out e) d (all i less)) ];
     mapped = s.mapped;
@@ -108,15 +108,6 @@ module _ (job : Job) (r : Scope) (due : Cuts → ℕ → Bool) (terms : Terms jo
     has_lines = s.has_lines;
     due = s.due;
   }
-    where
-      same_here : (t : TaskId) (p : Place) → at (after r c (entry.OutFile e)) t ≡ some p → at c t ≡ some p
-      same_here t p here = by t.kind here
-        where
-          by : (k : Kind) → get_elem? (tasks_of k (after r c (entry.OutFile e))) t.number ≡ some p → get_elem? (tasks_of k c) t.number ≡ some p
-          by kind.Map h = h
-          by kind.Reduce h = h
-          by kind.Out h = h
-          by kind.Upkeep h = h
 
   pub sync_may_on : (clock : ℕ) → May r c (entry.Sync clock) → MayOn job d (life_of c.front.stop) (event.Sync clock) syncs (with_sync d)
   sync_may_on clock m = (goes_on m, refl, refl)
@@ -133,7 +124,7 @@ module _ (job : Job) (r : Scope) (due : Cuts → ℕ → Bool) (terms : Terms jo
     plan_settled = λ o f. s.plan_there c.front.committed (open_less c o);
     commits = s.commits;
     written = s.written;
-    tasks = λ o t p epoch here. s.tasks o t p epoch (same_here t p here);
+    tasks = λ o t p epoch here. s.tasks o t p epoch (same_at t.kind c (after r c (entry.Sync clock)).front t.number ∙ here);
     deltas = λ o run i less here. s.deltas o m i less here;
     reduced = s.reduced;
     mapped = s.mapped;
@@ -143,15 +134,6 @@ module _ (job : Job) (r : Scope) (due : Cuts → ℕ → Bool) (terms : Terms jo
     has_lines = s.has_lines;
     due = s.due;
   }
-    where
-      same_here : (t : TaskId) (p : Place) → at (after r c (entry.Sync clock)) t ≡ some p → at c t ≡ some p
-      same_here t p here = by t.kind here
-        where
-          by : (k : Kind) → get_elem? (tasks_of k (after r c (entry.Sync clock))) t.number ≡ some p → get_elem? (tasks_of k c) t.number ≡ some p
-          by kind.Map h = h
-          by kind.Reduce h = h
-          by kind.Out h = h
-          by kind.Upkeep h = h
 
   abbrev pub commit_desk : ℕ → Desk
   commit_desk e = with_file (name.Commit e) (with_commit d)

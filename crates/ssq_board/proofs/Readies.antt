@@ -1,5 +1,5 @@
 -- What is next may come.
-use Rattle.std.proofs.Common.{◌≡◌, ◌⊎◌, ◌<◌, ◌≤◌, ◌&&◌, ◌||◌, not, ℕ, Bool, true, false, true≢false, None, if◌then◌else◌, sym, refl, ◌∙◌, inl, inr}
+use Rattle.std.proofs.Common.{◌≡◌, ◌⊎◌, ◌<◌, ◌≤◌, ◌&&◌, ◌||◌, not, ℕ, Bool, true, false, true≢false, None, if◌then◌else◌, sym, refl, ap, ◌∙◌, inl, inr}
 use Rattle.std.specs.List.{list_all, list_any}
 use mathlib.Core.Option.{some}
 use lib.ListN.{get_elem?}
@@ -33,16 +33,44 @@ or_parts : (a b : Bool) → (a || b) ≡ false → (a ≡ false) × (b ≡ false
 or_parts false b e = (refl, e)
 or_parts true b e = absurd (true≢false e)
 
+first_not : (b : Bool) (x y z : Ready) → b ≡ false → (if b then x else y) ≡ z → y ≡ z
+first_not true x y z not_it e = absurd (true≢false not_it)
+first_not false x y z not_it e = e
+
+-- what is next where an epoch runs
+abbrev pub is_of_tasks : Ready → Bool
+is_of_tasks ready.Plan = false
+is_of_tasks ready.Over = false
+is_of_tasks ready.Stopped = false
+is_of_tasks _ = true
+
+either_of : (b : Bool) (x y : Ready) → is_of_tasks x ≡ true → is_of_tasks y ≡ true → is_of_tasks (if b then x else y) ≡ true
+either_of true x y first second = first
+either_of false x y first second = second
+
+tasks_are : (c : Core) → is_of_tasks (ready_tasks c) ≡ true
+tasks_are c =
+    either_of (not c.front.fresh) _ _ refl (either_of (list_any is_waiting c.maps) _ _ refl (either_of (not (list_all is_fine c.maps)) _ _ refl (either_of (list_any is_waiting c.reduces) _ _ refl
+    (either_of (not (list_all is_fine c.reduces)) _ _ refl (either_of (list_any is_waiting c.outs) _ _ refl (either_of (not c.front.written) _ _ refl (either_of c.front.settled ready.Commit ready.Sync refl refl)))))))
+
+pub none_of_tasks : (c : Core) (z : Ready) → is_of_tasks z ≡ false → ready_tasks c ≡ z → ⊥
+none_of_tasks c z other e = true≢false (sym (tasks_are c) ∙ ap is_of_tasks e ∙ other)
+
+-- behind the tests on tasks
+tasks_done : (c : Core) (z : Ready) → ready_tasks c ≡ z → not c.front.fresh ≡ false → (ready.Task ≡ z → ⊥) → (ready.Idle ≡ z → ⊥) → (not c.front.written ≡ false) × ((if c.front.settled then ready.Commit else ready.Sync) ≡ z)
+tasks_done c z e fresh no_task no_idle =
+    let b = past (list_any is_waiting c.maps) _ _ z (first_not (not c.front.fresh) _ _ z fresh e) no_task in
+    let d = past (not (list_all is_fine c.maps)) _ _ z b.1 no_idle in
+    let f = past (list_any is_waiting c.reduces) _ _ z d.1 no_task in
+    let g = past (not (list_all is_fine c.reduces)) _ _ z f.1 no_idle in
+    let h = past (list_any is_waiting c.outs) _ _ z g.1 no_task in
+    past (not c.front.written) _ _ z h.1 no_idle
+
 -- the end of the chain where an epoch runs
 tasks_commit : (c : Core) → ready_tasks c ≡ ready.Commit → (c.front.fresh ≡ true) × (c.front.written ≡ true) × (c.front.settled ≡ true)
 tasks_commit c e =
     let a = past (not c.front.fresh) _ _ _ e (λ x. cc) in
-    let b = past (list_any is_waiting c.maps) _ _ _ a.1 (λ x. cc) in
-    let d = past (not (list_all is_fine c.maps)) _ _ _ b.1 (λ x. cc) in
-    let f = past (list_any is_waiting c.reduces) _ _ _ d.1 (λ x. cc) in
-    let g = past (not (list_all is_fine c.reduces)) _ _ _ f.1 (λ x. cc) in
-    let h = past (list_any is_waiting c.outs) _ _ _ g.1 (λ x. cc) in
-    let k = past (not c.front.written) _ _ _ h.1 (λ x. cc) in
+    let k = tasks_done c ready.Commit e a.0 (λ x. cc) (λ x. cc) in
     elim (chosen c.front.settled ready.Commit ready.Sync ready.Commit k.1) [
       | inl yes_it ↦ (not_false c.front.fresh a.0, not_false c.front.written k.0, yes_it.0)
       | inr no_it ↦ absurd (let x = no_it.1 in cc)
@@ -58,22 +86,11 @@ commit_may r c due e =
           absurd (elim (chosen (is_more r c) ready.Plan ready.Over ready.Commit b.1) [ inl x ↦ (let y = x.1 in cc) | inr x ↦ (let y = x.1 in cc) ])
     ]
 
-tasks_plan : (c : Core) → ready_tasks c ≡ ready.Plan → ⊥
-tasks_plan c e =
-    let a = past (not c.front.fresh) _ _ _ e (λ x. cc) in
-    let b = past (list_any is_waiting c.maps) _ _ _ a.1 (λ x. cc) in
-    let d = past (not (list_all is_fine c.maps)) _ _ _ b.1 (λ x. cc) in
-    let f = past (list_any is_waiting c.reduces) _ _ _ d.1 (λ x. cc) in
-    let g = past (not (list_all is_fine c.reduces)) _ _ _ f.1 (λ x. cc) in
-    let h = past (list_any is_waiting c.outs) _ _ _ g.1 (λ x. cc) in
-    let k = past (not c.front.written) _ _ _ h.1 (λ x. cc) in
-    elim (chosen c.front.settled ready.Commit ready.Sync ready.Plan k.1) [ inl x ↦ (let y = x.1 in cc) | inr x ↦ (let y = x.1 in cc) ]
-
 plan_is : (r : Scope) (c : Core) → ready_of r c ≡ ready.Plan → (c.front.stop ≡ None) × (is_open c ≡ false) × (c.front.settled ≡ true) × (is_more r c ≡ true)
 plan_is r c e =
     let a = past (is_stopped c.front.stop) _ _ _ e (λ x. cc) in
     elim (chosen (is_open c) (ready_tasks c) _ _ a.1) [
-      | inl opened ↦ absurd (tasks_plan c opened.1)
+      | inl opened ↦ absurd (none_of_tasks c ready.Plan refl opened.1)
       | inr closed ↦
           let b = past (not c.front.settled) _ _ _ closed.1 (λ x. cc) in
           elim (chosen (is_more r c) ready.Plan ready.Over ready.Plan b.1) [
@@ -136,24 +153,13 @@ pub over_is : (r : Scope) (c : Core) → ready_of r c ≡ ready.Over → (c.fron
 over_is r c e =
     let a = past (is_stopped c.front.stop) _ _ _ e (λ x. cc) in
     elim (chosen (is_open c) (ready_tasks c) _ _ a.1) [
-      | inl opened ↦ absurd (tasks_over c opened.1)
+      | inl opened ↦ absurd (none_of_tasks c ready.Over refl opened.1)
       | inr closed ↦
           let b = past (not c.front.settled) _ _ _ closed.1 (λ x. cc) in
           let d = past (is_more r c) _ _ _ b.1 (λ x. cc) in
           let o = or_parts (is_behind c.ends r.available) c.front.due d.0 in
           (running_of c.front.stop a.0, open_not c closed.0, not_false c.front.settled b.0, o.0, o.1)
     ]
-  where
-    tasks_over : (c : Core) → ready_tasks c ≡ ready.Over → ⊥
-    tasks_over c e =
-        let a = past (not c.front.fresh) _ _ _ e (λ x. cc) in
-        let b = past (list_any is_waiting c.maps) _ _ _ a.1 (λ x. cc) in
-        let d = past (not (list_all is_fine c.maps)) _ _ _ b.1 (λ x. cc) in
-        let f = past (list_any is_waiting c.reduces) _ _ _ d.1 (λ x. cc) in
-        let g = past (not (list_all is_fine c.reduces)) _ _ _ f.1 (λ x. cc) in
-        let h = past (list_any is_waiting c.outs) _ _ _ g.1 (λ x. cc) in
-        let k = past (not c.front.written) _ _ _ h.1 (λ x. cc) in
-        elim (chosen c.front.settled ready.Commit ready.Sync ready.Over k.1) [ inl x ↦ (let y = x.1 in cc) | inr x ↦ (let y = x.1 in cc) ]
 
 -- where a sync is next
 pub sync_due : (r : Scope) (c : Core) → ready_of r c ≡ ready.Sync → (c.front.stop ≡ None) × ((c.front.settled ≡ false) ⊎ ((is_open c ≡ true) × (c.front.fresh ≡ false)))
@@ -173,12 +179,7 @@ sync_due r c e =
     by_tasks opened e = elim (chosen (not c.front.fresh) _ _ _ e) [
       | inl stale ↦ inr (opened, not_true c.front.fresh stale.0)
       | inr fresh ↦
-          let b = past (list_any is_waiting c.maps) _ _ _ fresh.1 (λ x. cc) in
-          let d = past (not (list_all is_fine c.maps)) _ _ _ b.1 (λ x. cc) in
-          let f = past (list_any is_waiting c.reduces) _ _ _ d.1 (λ x. cc) in
-          let g = past (not (list_all is_fine c.reduces)) _ _ _ f.1 (λ x. cc) in
-          let h = past (list_any is_waiting c.outs) _ _ _ g.1 (λ x. cc) in
-          let k = past (not c.front.written) _ _ _ h.1 (λ x. cc) in
+          let k = tasks_done c ready.Sync e fresh.0 (λ x. cc) (λ x. cc) in
           inl (past c.front.settled _ _ _ k.1 (λ x. cc)).0
     ]
 

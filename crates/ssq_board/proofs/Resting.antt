@@ -127,7 +127,7 @@ back_here (q ∷ qs) zero p f h = (or_false (is_away q) (list_any is_away qs) h)
 back_here (q ∷ qs) (suc i) p f h = let b = or_false (is_away q) (list_any is_away qs) h in (λ j. b.0 j || back_here qs i p f b.1 j)
 
 -- an entry that moves no task
-front_here : (c n : Core) → n.maps ≡ c.maps → n.reduces ≡ c.reduces → n.outs ≡ c.outs → ((k : Kind) → list_any is_away (tasks_of k c) ≡ false) → (k : Kind) → list_any is_away (tasks_of k n) ≡ false
+pub front_here : (c n : Core) → n.maps ≡ c.maps → n.reduces ≡ c.reduces → n.outs ≡ c.outs → ((k : Kind) → list_any is_away (tasks_of k c) ≡ false) → (k : Kind) → list_any is_away (tasks_of k n) ≡ false
 front_here c n m u o h kind.Map = ap (list_any is_away) m ∙ h kind.Map
 front_here c n m u o h kind.Reduce = ap (list_any is_away) u ∙ h kind.Reduce
 front_here c n m u o h kind.Out = ap (list_any is_away) o ∙ h kind.Out
@@ -152,8 +152,8 @@ commit_rests r c e b sound rest = record {
 }
 
 -- a task was claimed and is back: nobody has one
-work_here : (r : Scope) (c : Core) (t : TaskId) (f : Option Cause) → ((k : Kind) → list_any is_away (tasks_of k c) ≡ false) → (k : Kind) → list_any is_away (tasks_of k (after r (after r c (entry.Claim t)) (entry.Report t f))) ≡ false
-work_here r c t f h = front_here (moved (moved c t place.Away) t (place.Back f)) (after r (after r c (entry.Claim t)) (entry.Report t f)) refl refl refl (by t.kind)
+pub back_all : (c : Core) (t : TaskId) (f : Option Cause) → ((k : Kind) → list_any is_away (tasks_of k c) ≡ false) → (k : Kind) → list_any is_away (tasks_of k (moved (moved c t place.Away) t (place.Back f))) ≡ false
+back_all c t f h = by t.kind
   where
     by : (j k : Kind) → list_any is_away (tasks_of k (with_tasks j (with_tasks j c (set (tasks_of j c) t.number place.Away)) (set (tasks_of j (with_tasks j c (set (tasks_of j c) t.number place.Away))) t.number (place.Back f)))) ≡ false
     by kind.Map kind.Map = back_here c.maps t.number place.Away f (h kind.Map)
@@ -169,6 +169,9 @@ work_here r c t f h = front_here (moved (moved c t place.Away) t (place.Back f))
     by kind.Upkeep kind.Map = h kind.Map
     by kind.Upkeep kind.Reduce = h kind.Reduce
     by kind.Upkeep kind.Out = h kind.Out
+
+pub work_here : (r : Scope) (c : Core) (t : TaskId) (f : Option Cause) → ((k : Kind) → list_any is_away (tasks_of k c) ≡ false) → (k : Kind) → list_any is_away (tasks_of k (after r (after r c (entry.Claim t)) (entry.Report t f))) ≡ false
+work_here r c t f h = front_here (moved (moved c t place.Away) t (place.Back f)) (after r (after r c (entry.Claim t)) (entry.Report t f)) refl refl refl (back_all c t f h)
 
 -- an out task that met a fault stops the desk
 out_stops : (ps : List Place) (i : ℕ) (f : Cause) → length ps ≡ 1 → get_elem? ps i ≡ some place.Waits → due_stop (set (set ps i place.Away) i (place.Back (Some f))) ≡ Some f

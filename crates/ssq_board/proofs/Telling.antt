@@ -31,7 +31,7 @@ runs_of tells job r next (e ∷ es) s n l = (l.1.may, subst (λ (c : Core). Runs
 abbrev IsAt : Core → Option ℕ → ℕ → Type 0
 IsAt c p a = ((p ≡ None) × (a ≡ c.front.committed)) ⊎ (((p ≡ Some a) × (a + 1 ≡ c.front.committed) × (c.front.settled ≡ false)) ⊎ ((p ≡ None) × (a + 1 ≡ c.front.committed) × (c.front.settled ≡ false) × (is_stopped c.front.stop ≡ true)))
 
-none_some : {A : Type 0} {a : A} → None ≡ Some a → ⊥
+pub none_some : {A : Type 0} {a : A} → None ≡ Some a → ⊥
 none_some e = cc
 
 some_is : {A : Type 0} (a b : A) → Some a ≡ Some b → a ≡ b
@@ -46,7 +46,7 @@ abbrev pub after_stop : Option Cause → Option ℕ → Option ℕ
 after_stop None p = p
 after_stop (Some f) p = None
 
-ack_report : (k : Kind) (t : TaskId) (f o : Option Cause) (p : Option ℕ) (rest : List Event) → acknowledged p ((seals k t f ++ (event.Report t ∷ stops o)) ++ rest) ≡ acknowledged (after_stop o p) rest
+pub ack_report : (k : Kind) (t : TaskId) (f o : Option Cause) (p : Option ℕ) (rest : List Event) → acknowledged p ((seals k t f ++ (event.Report t ∷ stops o)) ++ rest) ≡ acknowledged (after_stop o p) rest
 ack_report kind.Map t f None p rest = refl
 ack_report kind.Map t f (Some g) p rest = refl
 ack_report kind.Reduce t f None p rest = refl
@@ -58,7 +58,7 @@ ack_report kind.Out t (Some h) (Some g) p rest = refl
 ack_report kind.Upkeep t f None p rest = refl
 ack_report kind.Upkeep t f (Some g) p rest = refl
 
-ack_version : (t : TaskId) (o : Option Cause) (p : Option ℕ) (rest : List Event) → acknowledged p ((event.Seal t ∷ event.Report t ∷ stops o) ++ rest) ≡ acknowledged (after_stop o p) rest
+pub ack_version : (t : TaskId) (o : Option Cause) (p : Option ℕ) (rest : List Event) → acknowledged p ((event.Seal t ∷ event.Report t ∷ stops o) ++ rest) ≡ acknowledged (after_stop o p) rest
 ack_version t None p rest = refl
 ack_version t (Some g) p rest = refl
 

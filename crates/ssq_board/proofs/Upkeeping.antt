@@ -76,6 +76,14 @@ snap_names d p v (name.Snapshot i w) h = absurd (true≢false h)
 none_some : {A : Type 0} (f : Cause) → Some f ≡ None → A
 none_some f e = absurd (some_no f e)
 
+-- the files that entries of an epoch need are as they were
+record AreNeeded (d : Desk) (epoch : ℕ) (there sure : Name → Bool) : Type 0 where
+  plan : (e : ℕ) → there (name.Plan e) ≡ d.there (name.Plan e)
+  plan_sure : (e : ℕ) → sure (name.Plan e) ≡ d.sure (name.Plan e)
+  commit : (e : ℕ) → there (name.Commit e) ≡ d.there (name.Commit e)
+  out : (e : ℕ) → there (name.Out e) ≡ d.there (name.Out e)
+  delta : (i : ℕ) → there (name.Delta i epoch) ≡ d.there (name.Delta i epoch)
+
 module _ (job : Job) (r : Scope) (next : Cuts → ℕ → Bool) (terms : Terms job r next) where
   -- a snapshot's task is elsewhere: it is none of a later epoch
   kept_shows : (c : Core) (d : Desk) (p v : ℕ) (there : machine.Place) (o : Option Cause) → v < c.front.planned → (v ≡ c.front.committed → c.front.fresh ≡ true)
@@ -119,22 +127,23 @@ module _ (job : Job) (r : Scope) (next : Cuts → ℕ → Bool) (terms : Terms j
       whole_at w t true same e = w.1 (sym (ap (λ (b : Bool). if b then there else d.tasks t) same) ∙ e)
       whole_at w t false other e = s.whole w.0 t (sym (ap (λ (b : Bool). if b then there else d.tasks t) other) ∙ e)
 
-  -- its file is there
-  snapshot_shows : (c : Core) (d : Desk) (p v : ℕ) → Shows job r next terms c d → Shows job r next terms c (with_file (name.Snapshot p v) d)
-  snapshot_shows c d p v s = record {
+  -- files come and go that no entry of the epoch needs
+  files_shows : (c : Core) (d : Desk) (there sure : Name → Bool) → AreNeeded d c.front.committed there sure → (c.front.settled ≡ true → (q : Name) → is_snapshot q ≡ false → there q ≡ true → sure q ≡ true)
+      → Shows job r next terms c d → Shows job r next terms c (record { cuts = d.cuts; planned = d.planned; committed = d.committed; there = there; sure = sure; tasks = d.tasks; stores = d.stores })
+  files_shows c d there sure needed settled s = record {
     planned = s.planned;
     committed = s.committed;
     starts = s.starts;
     ends = s.ends;
     proper = s.proper;
-    settled = λ h q other here. s.settled h q other (sym (snap_names d p v q other) ∙ here);
-    plan_there = s.plan_there;
-    plan_settled = s.plan_settled;
-    commits = s.commits;
-    written = s.written;
+    settled = settled;
+    plan_there = λ e less. needed.plan e ∙ s.plan_there e less;
+    plan_settled = λ opened fresh. needed.plan_sure c.front.committed ∙ s.plan_settled opened fresh;
+    commits = λ e less. needed.commit e ∙ s.commits e less;
+    written = λ opened is. (needed.out c.front.committed ∙ (s.written opened is).0, (s.written opened is).1);
     tasks = s.tasks;
-    deltas = s.deltas;
-    reduced = s.reduced;
+    deltas = λ opened run i keeps here. needed.delta i ∙ s.deltas opened run i keeps here;
+    reduced = λ opened. elim (s.reduced opened) [ inl waits ↦ inl waits | inr all ↦ inr (λ i keeps. needed.delta i ∙ all i keeps) ];
     mapped = s.mapped;
     claimed = s.claimed;
     later = s.later;
@@ -142,6 +151,11 @@ module _ (job : Job) (r : Scope) (next : Cuts → ℕ → Bool) (terms : Terms j
     has_lines = s.has_lines;
     due = s.due;
   }
+
+  -- the file of a snapshot is there
+  snapshot_shows : (c : Core) (d : Desk) (p v : ℕ) → Shows job r next terms c d → Shows job r next terms c (with_file (name.Snapshot p v) d)
+  snapshot_shows c d p v s = files_shows c d (with_file (name.Snapshot p v) d).there d.sure (record { plan = λ e. refl; plan_sure = λ e. refl; commit = λ e. refl; out = λ e. refl; delta = λ i. refl })
+      (λ h q other here. s.settled h q other (sym (snap_names d p v q other) ∙ here)) s
 
   -- a snapshot that is with a worker is of an epoch that is planned
   early_of : (c : Core) (d : Desk) (p v : ℕ) → Shows job r next terms c d → d.tasks (upkeep p v) ≡ machine.out → v < c.front.planned
@@ -374,54 +388,17 @@ module _ (c : Core) (d : Desk) (k : Shelf) (held : ShowsShelf c k d) where
       gone_by i w above less_w is old false other = inr (inr (inr (above, less_w, if_not (same_name (name.Snapshot i above) (name.Snapshot p v)) (d.sure (name.Snapshot i above)) other ∙ is, old)))
 
 module _ (job : Job) (r : Scope) (next : Cuts → ℕ → Bool) (terms : Terms job r next) (c : Core) (d : Desk) (s : Shows job r next terms c d) where
+  gone_shows : (q : Name) → AreNeeded d c.front.committed (without_file q d).there (without_file q d).sure → Shows job r next terms c (without_file q d)
+  gone_shows q needed = files_shows job r next terms c d (without_file q d).there (without_file q d).sure needed (λ h x other. still_sure (same_name x q) (d.there x) (d.sure x) (s.settled h x other)) s
+
   delta_shows : (p v : ℕ) → v < c.front.committed → Shows job r next terms c (without_file (name.Delta p v) d)
-  delta_shows p v old = record {
-    planned = s.planned;
-    committed = s.committed;
-    starts = s.starts;
-    ends = s.ends;
-    proper = s.proper;
-    settled = λ h x other. still_sure (same_name x (name.Delta p v)) (d.there x) (d.sure x) (s.settled h x other);
-    plan_there = s.plan_there;
-    plan_settled = s.plan_settled;
-    commits = s.commits;
-    written = s.written;
-    tasks = s.tasks;
-    deltas = λ opened run i keeps here. stays i ∙ s.deltas opened run i keeps here;
-    reduced = λ opened. elim (s.reduced opened) [ inl waits ↦ inl waits | inr all ↦ inr (λ i keeps. stays i ∙ all i keeps) ];
-    mapped = s.mapped;
-    claimed = s.claimed;
-    later = s.later;
-    whole = s.whole;
-    has_lines = s.has_lines;
-    due = s.due;
-  }
+  delta_shows p v old = gone_shows (name.Delta p v) (record { plan = λ e. refl; plan_sure = λ e. refl; commit = λ e. refl; out = λ e. refl; delta = stays })
     where
       stays : (i : ℕ) → (without_file (name.Delta p v) d).there (name.Delta i c.front.committed) ≡ d.there (name.Delta i c.front.committed)
       stays i = if_not (same_name (name.Delta i c.front.committed) (name.Delta p v)) (d.there (name.Delta i c.front.committed)) (other_delta i c.front.committed p v old)
 
   snapshot_dropped : (p v : ℕ) → Shows job r next terms c (without_file (name.Snapshot p v) d)
-  snapshot_dropped p v = record {
-    planned = s.planned;
-    committed = s.committed;
-    starts = s.starts;
-    ends = s.ends;
-    proper = s.proper;
-    settled = λ h x other. still_sure (same_name x (name.Snapshot p v)) (d.there x) (d.sure x) (s.settled h x other);
-    plan_there = s.plan_there;
-    plan_settled = s.plan_settled;
-    commits = s.commits;
-    written = s.written;
-    tasks = s.tasks;
-    deltas = s.deltas;
-    reduced = s.reduced;
-    mapped = s.mapped;
-    claimed = s.claimed;
-    later = s.later;
-    whole = s.whole;
-    has_lines = s.has_lines;
-    due = s.due;
-  }
+  snapshot_dropped p v = gone_shows (name.Snapshot p v) (record { plan = λ e. refl; plan_sure = λ e. refl; commit = λ e. refl; out = λ e. refl; delta = λ i. refl })
 
 module _ (told : Type 0) (job : Job) (r : Scope) (next : Cuts → ℕ → Bool) (terms : Terms job r next) where
   -- A due snapshot is handed out.

@@ -5,6 +5,7 @@ use Rattle.std.specs.Global.{Vec}
 use Rattle.std.specs.Vec.{with_items}
 use Rattle.std.proofs.lemmas.List.{length-map, get_or-map, with_items_is}
 use Rattle.std.proofs.lemmas.Bool.{ltb-true}
+use Rattle.std.proofs.lemmas.Option.{same_Some}
 use Rattle.ssq_outside.specs.History.{History}
 use mathlib.Core.Option.{some, some-ne-none}
 use lib.ListN.{get_elem?}
@@ -42,16 +43,43 @@ use Rattle.ssq_desk.specs.Room.{AreStaged}
 use Rattle.ssq_desk.specs.First.{AreIndexes, held_of}
 use Rattle.ssq_desk.specs.Making.{AreReady}
 use Rattle.ssq_desk.proofs.Staging.{staged_count, staged_keys, staged_ready, held_length, held_at}
-use Rattle.ssq_desk.proofs.Wholes.{never_key}
+use Rattle.ssq_desk.proofs.Holding.{holds_stopped}
 use Rattle.ssq_desk.specs.First.{sources_of, IsMadeOf, first_shown, BeginsAs, BeginsWork}
-use Rattle.ssq_desk.specs.Contents.{IsOutWork, IsHeldOf, IsKeyOf, AreSeen, IsStopOf, key_in, keeping_in}
+use Rattle.ssq_desk.specs.Contents.{IsOutWork, IsHeldOf, IsKeyOf, AreSeen, keeping_in}
 use Rattle.ssq_desk.specs.declared.told.Told.{Told}
 use Rattle.ssq_desk.specs.Closing.{AreTold}
 use Rattle.ssq_desk.specs.Whole.{IsWhole, IsKept, ArePlans}
 use Rattle.ssq_desk.proofs.Firsts.{IsFirstMade, opened_holds}
-use Rattle.ssq_desk.proofs.Settling.{risen_stops, risen_no_log, some_cause}
+use Rattle.ssq_desk.proofs.Settling.{risen_stops, risen_no_log}
 use Rattle.ssq_desk.proofs.Beginnings.{from_count, plans_are, times_are, same_cuts, sources_count, source_at, own_lines, map_at, slice_or, slice_below}
 use Rattle.ssq_desk.proofs.Planned.{at_get}
+
+-- what a desk holds beside its ledger where its round begins
+abbrev pub load_of : {L S F : Type 0} → Round L → Made L S → Vec Plan → Vec (Source L) → Vec (Share S) → Vec (Option Held) → Option (OutWork S F) → Load L S F
+load_of round made plans sources shares held out = record { view = round.view; plans = plans; sources = sources; shares = shares; held = held; out = out; seen = made.seen; pending = None; told = made.told; kept = record { meta = round.opened.meta; lines = made.lines; logs = made.logs; stores = made.stores; closings = made.closings } }
+
+-- the start of a round
+abbrev start_in : {L : Type 0} → (L → List Line) → Round L → Start
+start_in lines round = start_at (first_ends (setting_of lines round)) round.view.bound.now round.opened
+
+module _ {L S : Type 0} (lines : L → List Line) (round : Round L) {r : Scope} {made : Made L S} (is : IsRound (setting_of lines round) round.opened r) (m : IsMadeOf round.view.bound.now round.view.partitions round.opened (length round.logs.items) made) where
+  parts_are : made.parts.items ≡ first_ends (setting_of lines round)
+  parts_are = m.parts ∙ sym is.first
+
+  ends_are : made.ends.items ≡ (start_in lines round).from
+  ends_are = m.ends ∙ ap (λ (ends : Ends). (start_at ends round.view.bound.now round.opened).from) (sym is.first)
+
+  pub start_is : made.start ≡ start_in lines round
+  start_is = m.start ∙ ap (λ (ends : Ends). start_at ends round.view.bound.now round.opened) (sym is.first)
+
+  logs_are : length round.logs.items ≡ length (parts_in (setting_of lines round))
+  logs_are = sym (length-map round.logs.items lines) ∙ is.logs
+
+  pub each_part : length made.parts.items ≡ length round.logs.items
+  each_part = ap length parts_are ∙ length-map (parts_in (setting_of lines round)) (λ (part : Part). end_at part 0) ∙ sym logs_are
+
+  pub each_end : length made.ends.items ≡ length round.logs.items
+  each_end = ap length ends_are ∙ from_count (setting_of lines round) round.opened r is ∙ sym logs_are
 
 module _ {D L S F : Type 0} (stores logs : Type 0) (history : D → History) (lines : L → List Line) (available : L → ℕ) (answers : L → List ℕ) (faults : L → ℕ) (written : S → List ℕ) (sealed : F → List ℕ) (round : Round L) (disk : D) (r : Scope) (made : Made L S)
     (is : IsRound (setting_of lines round) round.opened r)
@@ -73,32 +101,14 @@ module _ {D L S F : Type 0} (stores logs : Type 0) (history : D → History) (li
   cuts = cut_of (first_ends s) round.opened.plans
 
   abbrev start : Start
-  start = start_at (first_ends s) s.job.bound round.opened
-
-  parts_are : made.parts.items ≡ first_ends s
-  parts_are = m.parts ∙ sym is.first
-
-  pub ends_are : made.ends.items ≡ start.from
-  ends_are = m.ends ∙ ap (λ (ends : Ends). (start_at ends s.job.bound round.opened).from) (sym is.first)
-
-  pub start_is : made.start ≡ start
-  start_is = m.start ∙ ap (λ (ends : Ends). start_at ends s.job.bound round.opened) (sym is.first)
-
-  logs_are : length round.logs.items ≡ length (parts_in s)
-  logs_are = sym (length-map round.logs.items lines) ∙ is.logs
-
-  pub each_part : length made.parts.items ≡ length round.logs.items
-  each_part = ap length parts_are ∙ length-map (parts_in s) (λ (part : Part). end_at part 0) ∙ sym logs_are
-
-  pub each_end : length made.ends.items ≡ length round.logs.items
-  each_end = ap length ends_are ∙ from_count s round.opened r is ∙ sym logs_are
+  start = start_in lines round
 
   first_made : IsFirstMade reads lines available went round.logs.items s r start.from (sources_of made.parts.items made.ends.items round.logs.items)
   first_made = record {
-    parts = sources_count made.parts.items made.ends.items round.logs.items each_part each_end ∙ logs_are;
+    parts = sources_count made.parts.items made.ends.items round.logs.items (each_part lines round is m) (each_end lines round is m) ∙ (logs_are lines round is m);
     logs = λ i part source there here. (let p = source_at made.parts.items made.ends.items round.logs.items i source here in
         let at : get_or made.parts.items i (end_at part 0) ≡ end_at part 0 =
-        ap (λ (ends : Ends). get_or ends i (end_at part 0)) parts_are
+        ap (λ (ends : Ends). get_or ends i (end_at part 0)) (parts_are lines round is m)
         ∙ get_or-map (λ (q : Part). end_at q 0) (parts_in s) i part (end_at part 0) (slice_below (parts_in s) i part there)
         ∙ ap (λ (q : Part). end_at q 0) (slice_or (parts_in s) i part part there) in record {
           stream = sym (ap (λ (e : PartEnd). e.stream) at) ∙ p.stream_is (end_at part 0);
@@ -117,7 +127,7 @@ module _ {D L S F : Type 0} (stores logs : Type 0) (history : D → History) (li
         });
     begins = λ i source here. (let p = source_at made.parts.items made.ends.items round.logs.items i source here in
         let none : PartEnd = record { stream = 0; part = 0; end = 0 } in
-        sym (p.from_is none) ∙ sym (get_or-map (λ (e : PartEnd). e.end) made.ends.items i none 0 p.end_below) ∙ ap (λ (ends : Ends). get_or (numbers ends) i 0) ends_are);
+        sym (p.from_is none) ∙ sym (get_or-map (λ (e : PartEnd). e.end) made.ends.items i none 0 p.end_below) ∙ ap (λ (ends : Ends). get_or (numbers ends) i 0) (ends_are lines round is m));
     nothing = λ i source here. (source_at made.parts.items made.ends.items round.logs.items i source here).nothing;
   }
 
@@ -140,10 +150,6 @@ module _ {D L S F : Type 0} (stores logs : Type 0) (history : D → History) (li
   shares_are fewer true held shares old new None before later begun = same_shares shares begun.3
   shares_are fewer true held shares old new (Some work) before later begun =
       (staged_count fewer fewer written (λ t. t) held made.room.shares.items shares begun.4, staged_keys fewer fewer written (λ t. t) (length round.logs.items) held made.room.shares.items shares m.room.fresh begun.4)
-
-  -- what a desk holds beside its ledger then
-  abbrev pub load_of : Vec Plan → Vec (Source L) → Vec (Share S) → Vec (Option Held) → Option (OutWork S F) → Load L S F
-  load_of plans sources shares held out = record { view = round.view; plans = plans; sources = sources; shares = shares; held = held; out = out; seen = made.seen; pending = None; told = made.told; kept = record { meta = round.opened.meta; lines = made.lines; logs = made.logs; stores = made.stores; closings = made.closings } }
 
   module _ (plans : Vec Plan) (sources : Vec (Source L)) (shares : Vec (Share S)) (held : Vec (Option Held)) (closings : List (List Timed)) (indexes : AreIndexes (Unit {0}) s.job.bound round.opened.stores closings) (count : length shares.items ≡ length made.room.shares.items)
       (no_keys : All (λ (x : Share S). x.key ≡ None) shares.items) (held_is : held.items ≡ held_of round.opened.stores closings) (plans_is : plans.items ≡ round.opened.plans) (sources_is : sources.items ≡ sources_of made.parts.items made.ends.items round.logs.items) where
@@ -168,7 +174,7 @@ module _ {D L S F : Type 0} (stores logs : Type 0) (history : D → History) (li
       no_lines = m.no_lines;
       lines_room = m.lines_room;
       no_logs = m.no_logs;
-      logs_room = subst (λ (n : ℕ). n ≤ vec_capacity made.logs) logs_are m.logs_room;
+      logs_room = subst (λ (n : ℕ). n ≤ vec_capacity made.logs) (logs_are lines round is m) m.logs_room;
       no_stores = m.no_stores;
       stores_room = subst (λ (n : ℕ). n ≤ vec_capacity made.stores) is.stores.many m.stores_room;
       no_closings = m.no_closings;
@@ -192,7 +198,7 @@ module _ {D L S F : Type 0} (stores logs : Type 0) (history : D → History) (li
         })
 
     begun_whole : (now : D) (out : Option (OutWork S F)) → (start.is_planned ≡ true → (work : OutWork S F) × (out ≡ Some work) × IsOutWork owned written s cuts start.committed work × AreReady owned written s.job.partitions (length (parts_in s)) (keeping_in s) shares.items)
-        → IsWhole stores logs history lines available answers faults written sealed (did (first_shown lines round disk r) now []) (load_of plans sources shares held out)
+        → IsWhole stores logs history lines available answers faults written sealed (did (first_shown lines round disk r) now []) (load_of round made plans sources shares held out)
     begun_whole now out work = record {
       round = is;
       view = record { bound = refl; partitions = refl; windows = is.runs.windows };
@@ -206,29 +212,21 @@ module _ {D L S F : Type 0} (stores logs : Type 0) (history : D → History) (li
     }
 
     stopped_whole : (now : D) (f : Cause) (before later : ℕ) (out : Option (OutWork S F)) → HasRisen f before later
-        → IsWhole stores logs history lines available answers faults written sealed (did (first_shown lines round disk r) now (entry.Stop f ∷ [])) (load_of plans sources shares held out)
+        → IsWhole stores logs history lines available answers faults written sealed (did (first_shown lines round disk r) now (entry.Stop f ∷ [])) (load_of round made plans sources shares held out)
     stopped_whole now f before later out risen = record {
       round = is;
       view = record { bound = refl; partitions = refl; windows = is.runs.windows };
-      holds = record {
-        parts = placed.parts;
-        partitions = count ∙ m.room.count;
-        keeping = held_count;
-        logs = λ i part at source there here mine. (let p = placed.logs i part source there mine in record { stream = p.stream; number = p.number; log = λ back. p.log (λ away. away) });
-        reduced = λ q g here. absurd (no_fault start.is_planned g (replicate_at r.partitions q (first_place start.is_planned) (place.Back (Some g)) here));
-        dealt = λ opened q here. absurd (no_rest start.is_planned opened (replicate_at r.partitions q (first_place start.is_planned) place.Rests here));
-        keys = λ opened q at share here mine. subst (λ (at : Place). IsKeyOf owned s cuts start.committed q at share.key) (sym (replicate_at r.partitions q (first_place start.is_planned) at here)) (first_key start.is_planned q share (subst (λ (x : Share S). x.key ≡ None) (at_get shares.items q share share mine) (no_keys q share (at_length shares.items q share mine))));
-        still = λ e. absurd (never_key reads owned s cuts start.committed f (risen_stops reads owned s cuts start.committed f before later risen) (some_cause f cause.KeyOverflow e));
-        kept = λ run. absurd (true≢false (ap is_some run));
-        seen_so_far = λ run. absurd (true≢false (ap is_some run));
-        epoch = λ run opened. absurd (true≢false (ap is_some run));
-        commit = λ run opened written_is. absurd (true≢false (ap is_some run));
-        stop = λ g stopped. subst (IsStopOf reads owned s cuts start.committed (key_in shares.items)) (some_cause f g stopped) (risen_stops reads owned s cuts start.committed f before later risen (key_in shares.items));
-      };
+      holds = holds_stopped reads owned lines available went round.logs.items written sealed s cuts r.available (first_shown lines round disk r).core f sources.items shares.items held.items out made.seen None
+          placed.parts (count ∙ m.room.count) held_count
+          (λ i part at source there here mine. (let p = placed.logs i part source there mine in record { stream = p.stream; number = p.number; log = λ back. p.log (λ away. away) }))
+          (λ opened q here. absurd (no_rest start.is_planned opened (replicate_at r.partitions q (first_place start.is_planned) place.Rests here)))
+          (λ q g here. absurd (no_fault start.is_planned g (replicate_at r.partitions q (first_place start.is_planned) (place.Back (Some g)) here)))
+          (λ opened q at share here mine. subst (λ (at : Place). IsKeyOf owned s cuts start.committed q at share.key) (sym (replicate_at r.partitions q (first_place start.is_planned) at here)) (first_key start.is_planned q share (subst (λ (x : Share S). x.key ≡ None) (at_get shares.items q share share mine) (no_keys q share (at_length shares.items q share mine)))))
+          (risen_stops reads owned s cuts start.committed f before later risen);
       plans = own_plans;
       told = nothing_told;
       told_room = room_to_tell _;
-      faulty = λ e. absurd (risen_no_log f before later risen (some_cause f cause.LogFault e));
+      faulty = λ e. absurd (risen_no_log f before later risen (same_Some f cause.LogFault e));
       kept = own_kept;
     }
       where
@@ -248,24 +246,24 @@ module _ {D L S F : Type 0} (stores logs : Type 0) (history : D → History) (li
     first_ready : (fewer : Type 0) → (owned → fewer) → AreStaged fewer written held.items made.room.shares.items shares.items → AreReady owned written s.job.partitions (length (parts_in s)) (keeping_in s) shares.items
     first_ready fewer so staged =
         subst (λ n. AreReady owned written s.job.partitions (length (parts_in s)) n shares.items) held_count
-        (subst (λ n. AreReady owned written s.job.partitions n (length held.items) shares.items) logs_are
+        (subst (λ n. AreReady owned written s.job.partitions n (length held.items) shares.items) (logs_are lines round is m)
         (staged_ready fewer owned written so s.job.partitions (length round.logs.items) held.items made.room.shares.items shares.items m.room.count m.room.fresh staged))
 
     -- whatever came of the files of its tasks
     pub began : (fewer : Type 0) (b : Bool) (old new : Shown D (Round L)) (out : Option (OutWork S F)) (before later : ℕ) → (owned → fewer) → start.is_planned ≡ b → old ≡ first_shown lines round disk r
         → BeginsWork fewer written b made.room.rows made.room.seen held.items made.room.shares.items shares.items before later old new out
-        → BeginsAs before later (first_shown lines round disk r) new × IsWhole stores logs history lines available answers faults written sealed new (load_of plans sources shares held out)
+        → BeginsAs before later (first_shown lines round disk r) new × IsWhole stores logs history lines available answers faults written sealed new (load_of round made plans sources shares held out)
     began fewer false old new out before later so planned old_is begun =
         let same : new ≡ did (first_shown lines round disk r) new.disk [] =
         begun.0 ∙ old_is ∙ ap (λ (d : D). did (first_shown lines round disk r) d []) (sym (ap (λ (x : Shown D (Round L)). x.disk) (begun.0 ∙ old_is))) in (
           inl same,
-          subst (λ (x : Shown D (Round L)). IsWhole stores logs history lines available answers faults written sealed x (load_of plans sources shares held out)) (sym same)
+          subst (λ (x : Shown D (Round L)). IsWhole stores logs history lines available answers faults written sealed x (load_of round made plans sources shares held out)) (sym same)
               (begun_whole new.disk out (λ yes. absurd (true≢false (sym yes ∙ planned)))),
         )
     began fewer true old new None before later so planned old_is begun =
         let same = begun.1 ∙ ap (λ (x : Shown D (Round L)). did x new.disk (entry.Stop begun.0 ∷ [])) old_is in (
           inr (begun.0, same, begun.2),
-          subst (λ (x : Shown D (Round L)). IsWhole stores logs history lines available answers faults written sealed x (load_of plans sources shares held None)) (sym same) (stopped_whole new.disk begun.0 before later None begun.2),
+          subst (λ (x : Shown D (Round L)). IsWhole stores logs history lines available answers faults written sealed x (load_of round made plans sources shares held None)) (sym same) (stopped_whole new.disk begun.0 before later None begun.2),
         )
     began fewer true old new (Some work) before later so planned old_is begun =
         let same = begun.0 ∙ ap (λ (x : Shown D (Round L)). did x new.disk []) old_is in
@@ -277,7 +275,7 @@ module _ {D L S F : Type 0} (stores logs : Type 0) (history : D → History) (li
           commit_empty = λ t. (begun.3 (so t)).1;
         } in (
           inl same,
-          subst (λ (x : Shown D (Round L)). IsWhole stores logs history lines available answers faults written sealed x (load_of plans sources shares held (Some work))) (sym same)
+          subst (λ (x : Shown D (Round L)). IsWhole stores logs history lines available answers faults written sealed x (load_of round made plans sources shares held (Some work))) (sym same)
               (begun_whole new.disk (Some work) (λ yes. (work, refl, own, first_ready fewer so begun.4))),
         )
 
@@ -285,7 +283,7 @@ module _ {D L S F : Type 0} (stores logs : Type 0) (history : D → History) (li
   pub opens : (plans : Vec Plan) (sources : Vec (Source L)) (held : Vec (Option Held)) (closings : List (List Timed)) → AreIndexes (Unit {0}) s.job.bound round.opened.stores closings → held.items ≡ held_of round.opened.stores closings → plans.items ≡ round.opened.plans
       → sources.items ≡ sources_of made.parts.items made.ends.items round.logs.items → (news : List (Share S)) (fewer : Type 0) (b : Bool) (old new : Shown D (Round L)) (out : Option (OutWork S F)) (before later : ℕ) → (owned → fewer) → start.is_planned ≡ b → old ≡ first_shown lines round disk r
       → BeginsWork fewer written b made.room.rows made.room.seen held.items made.room.shares.items news before later old new out
-      → BeginsAs before later (first_shown lines round disk r) new × IsWhole stores logs history lines available answers faults written sealed new (load_of plans sources (with_items made.room.shares news) held out)
+      → BeginsAs before later (first_shown lines round disk r) new × IsWhole stores logs history lines available answers faults written sealed new (load_of round made plans sources (with_items made.room.shares news) held out)
   opens plans sources held closings indexes held_is plans_is sources_is news fewer b old new out before later so planned old_is begun =
       let are = shares_are fewer b held.items news old new out before later begun in
       let all : (with_items made.room.shares news).items ≡ news = with_items_is made.room.shares news (are.0 ∙ sym made.room.shares.ok.0) in

@@ -1,14 +1,13 @@
 -- What a desk holds once a reduce task is back.
-use Rattle.std.proofs.Common.{min, ◌-◌, ◌^◌, ◌≡◌, ◌<◌, ◌≤◌, ◌+◌, ◌++◌, ◌&&◌, [], ◌∷◌, ℕ, ℤ, zero, suc, Bool, true, false, true≢false, List, length, set, Option, Some, None, Result, Ok, Err, inl, inr, refl, sym, ap, ◌∙◌, subst, arith}
+use Rattle.std.proofs.Common.{◌-◌, ◌≡◌, ◌<◌, ◌≤◌, ◌+◌, ◌++◌, ◌&&◌, [], ◌∷◌, ℕ, ℤ, Bool, true, false, true≢false, List, length, set, Option, Some, None, Result, Ok, Err, inl, inr, refl, sym, ap, ◌∙◌, subst, arith}
 use Rattle.std.specs.Prelude.{All, is_some, IfOk, IfSome, IsErrOf, IsSomeAnd, nat_lt, if◌then◌else◌}
 use Rattle.std.specs.Global.{Vec}
 use Rattle.std.proofs.lemmas.List.{append-nil}
-use Rattle.std.proofs.Math.Nat.{le-min}
+use Rattle.std.proofs.lemmas.Option.{same_Some}
 use mathlib.Core.Option.{some}
 use lib.ListN.{get_elem?}
 use Rattle.ssq_time.specs.Time.{IsStampTime}
 use Rattle.ssq_value.specs.Kind.{IfTime}
-use Rattle.ssq_outside.specs.Faults.{Rises}
 use Rattle.ssq_outside.specs.History.{History}
 use Rattle.ssq_outside.specs.declared.gate.Kind.TheVariants as kind
 use Rattle.ssq_outside.specs.declared.name.Name.TheVariants as name
@@ -57,7 +56,8 @@ use Rattle.ssq_desk.proofs.Handing.{moved_whole}
 use Rattle.ssq_desk.proofs.Holding.{holds_reduced, put_both, put_dealt, put_reduced, with_reduce}
 use Rattle.ssq_desk.proofs.Overflows.{key_stops, lines_good}
 use Rattle.ssq_desk.proofs.Phases.{maps_done}
-use Rattle.ssq_desk.proofs.Reducing.{Outcome, back_held, back_rests, back_share, given_empty, given_keeps, none_due, own_brought, own_of, own_cause, own_key, own_reduced, partition_task, reduce_stops, rekeyed, runs_by, same_cause}
+use Rattle.ssq_desk.proofs.Wholes.{rises_some}
+use Rattle.ssq_desk.proofs.Reducing.{Outcome, back_held, back_rests, back_share, given_empty, given_keeps, none_due, own_brought, own_of, own_cause, own_key, own_reduced, partition_task, reduce_stops, rekeyed, runs_by}
 
 -- a Stop that was there, or one that is due now
 by_stop : {P : Type 0} (old more : Option Cause) (g : Cause) → or_stop old (if is_stopped old then None else more) ≡ Some g → (old ≡ Some g → P) → (old ≡ None → more ≡ Some g → P) → P
@@ -77,13 +77,13 @@ module _ {L S F : Type 0} (reads owned : Type 0) (lines : L → List Line) (avai
     partitions = h.partitions;
     keeping = h.keeping;
     logs = h.logs;
+    epoch = λ run is_opened. (let e = h.epoch run is_opened in record { froms = e.froms; mapped = e.mapped; shared = e.shared; last = e.last; outs = e.outs });
     dealt = h.dealt;
     reduced = h.reduced;
     keys = h.keys;
     still = h.still;
     kept = h.kept;
     seen_so_far = h.seen_so_far;
-    epoch = λ run is_opened. (let e = h.epoch run is_opened in record { froms = e.froms; mapped = e.mapped; shared = e.shared; last = e.last; outs = e.outs });
     commit = h.commit;
     stop = h.stop;
   }
@@ -92,22 +92,37 @@ module _ {L S F : Type 0} (reads owned : Type 0) (lines : L → List Line) (avai
 abbrev pub with_share : {L S F : Type 0} → Load L S F → Vec (Share S) → Vec (Option Held) → Load L S F
 with_share load shares held = record { view = load.view; plans = load.plans; sources = load.sources; shares = shares; held = held; out = load.out; seen = load.seen; pending = load.pending; told = load.told; kept = load.kept }
 
-module _ {D L S F : Type 0} (stores logs : Type 0) (history : D → History) (lines : L → List Line) (available : L → ℕ) (answers : L → List ℕ) (faults : L → ℕ) (tells : Type 0) (written : S → List ℕ) (sealed : F → List ℕ) (counts : S → ℕ) (shown : Shown D (Round L)) (load : Load L S F)
+-- A reduce task is back with its outcome, under the number of its partition: what is so of the desk, and of the task.
+pub record IsBackAt {D L S F : Type 0} (stores logs : Type 0) (history : D → History) (lines : L → List Line) (available : L → ℕ) (answers : L → List ℕ) (faults : L → ℕ) (tells : Type 0) (written : S → List ℕ) (sealed : F → List ℕ) (counts : S → ℕ) (shown : Shown D (Round L)) (load : Load L S F)
+    (task : ReduceTask S F) (held : Option Held) (o : Outcome S F) (epoch p : ℕ) : Type 0 where
+  pub whole : IsWhole stores logs history lines available answers faults written sealed shown load
+  pub legal : IsLegal (Owns stores logs history lines shown) history (opening_in lines) shown
+  pub order : IsInOrder shown.scope shown.core
+  pub opened : is_open shown.core ≡ true
+  pub epoch_is : epoch ≡ shown.core.front.committed
+  pub away : get_elem? shown.core.reduces p ≡ some place.Away
+  pub laws : PartitionsAreBrought tells written sealed counts
+  pub leasts : KeysAreLeast
+  pub partition_is : task.partition ≡ p
+  pub of : IsReduceOf stores logs history lines written shown task
+  pub brought : IsReduced tells written sealed counts task (reduced_by task held o)
+
+module _ {D L S F : Type 0} {stores logs : Type 0} {history : D → History} {lines : L → List Line} {available : L → ℕ} {answers : L → List ℕ} {faults : L → ℕ} {written : S → List ℕ} {sealed : F → List ℕ} {shown : Shown D (Round L)} {load : Load L S F}
     (whole : IsWhole stores logs history lines available answers faults written sealed shown load) (legal : IsLegal (Owns stores logs history lines shown) history (opening_in lines) shown) (order : IsInOrder shown.scope shown.core) (opened : is_open shown.core ≡ true) where
   abbrev owned : Type 0
   owned = Owns stores logs history lines shown
 
-  abbrev s : Setting
-  s = setting_of lines shown.opening
-
-  abbrev cuts : Cuts
-  cuts = cuts_of (opening_in lines) shown
-
   abbrev c : Core
   c = shown.core
 
+  abbrev s : Setting
+  s = setting_of lines shown.opening
+
   abbrev e : ℕ
   e = shown.core.front.committed
+
+  abbrev cuts : Cuts
+  cuts = cuts_of (opening_in lines) shown
 
   -- no line of the epoch has a fault, once a reduce task is with a worker
   lines_are_good : (p : ℕ) → c.front.stop ≡ None → get_elem? c.reduces p ≡ some place.Away → owned → fault_between s.job.bound (parts_in s) (cut_of (cuts e)) (cut_of (cuts (e + 1))) ≡ None
@@ -157,7 +172,7 @@ module _ {D L S F : Type 0} (stores logs : Type 0) (history : D → History) (li
         by_stop c.front.stop (due_stop places) cause.LogFault stopped whole.faulty
         (λ run is. absurd (causes cause.LogFault (none_due c.reduces p f cause.LogFault refl (order.sound.calm run kind.Reduce) is)))
 
-  module _ (laws : PartitionsAreBrought tells written sealed counts) (leasts : KeysAreLeast) (task : ReduceTask S F) (held : Option Held) (o : Outcome S F) (of : IsReduceOf stores logs history lines written shown task) (is : IsReduced tells written sealed counts task (reduced_by task held o)) where
+  module _ {tells : Type 0} {counts : S → ℕ} (laws : PartitionsAreBrought tells written sealed counts) (leasts : KeysAreLeast) (task : ReduceTask S F) (held : Option Held) (o : Outcome S F) (of : IsReduceOf stores logs history lines written shown task) (is : IsReduced tells written sealed counts task (reduced_by task held o)) where
     brings : owned → BringsPartition tells written sealed s cuts e task (reduced_by task held o)
     brings t =
         let own = t.1.1 in
@@ -219,7 +234,7 @@ module _ {D L S F : Type 0} (stores logs : Type 0) (history : D → History) (li
           (subst (λ (l : List (Share S)). HoldsIn stores logs history lines available answers faults written sealed shown cuts (after shown.scope c (entry.Report (reduce_id epoch task.partition) f)) load.sources.items l (set load.held.items task.partition held) load.out load.seen load.pending) (sym shares_are) holds))
 
   -- a reduce task is back with its rows
-  module _ (laws : PartitionsAreBrought tells written sealed counts) (leasts : KeysAreLeast) (task : ReduceTask S F) (held : Option Held) (brought : ReducedRows F) (of : IsReduceOf stores logs history lines written shown task) (is : IsReduced tells written sealed counts task (reduced_by task held (Ok brought))) where
+  module _ {tells : Type 0} {counts : S → ℕ} (laws : PartitionsAreBrought tells written sealed counts) (leasts : KeysAreLeast) (task : ReduceTask S F) (held : Option Held) (brought : ReducedRows F) (of : IsReduceOf stores logs history lines written shown task) (is : IsReduced tells written sealed counts task (reduced_by task held (Ok brought))) where
     -- it brings a delta exactly where its partition keeps state
     seals_is : nat_lt task.partition (keeping_in s) ≡ is_some brought.delta
     seals_is = given_keeps owned written s cuts e task.partition task.state of.state ∙ sym is.brought.delta
@@ -252,15 +267,15 @@ module _ {D L S F : Type 0} (stores logs : Type 0) (history : D → History) (li
       pub missed : IsWhole stores logs history lines available answers faults written sealed (did shown disk (entry.Missed (reduce_id epoch task.partition) ∷ [])) (with_share load shares helds)
       missed =
           moved_whole stores logs history lines available answers faults written sealed shown load whole disk (entry.Missed (reduce_id epoch task.partition)) (with_share load shares helds) (λ cuts c. refl) refl refl refl refl whole.told whole.told_room
-          (λ stopped. absurd (subst IsReducedCause (same_cause cause.DiskFault cause.LogFault stopped) tt))
+          (λ stopped. absurd (subst IsReducedCause (same_Some cause.DiskFault cause.LogFault stopped) tt))
           (subst (λ (l : List (Option Held)). HoldsIn stores logs history lines available answers faults written sealed shown cuts (after shown.scope c (entry.Missed (reduce_id epoch task.partition))) load.sources.items shares.items l load.out load.seen load.pending) (sym helds_are)
           (subst (λ (l : List (Share S)). HoldsIn stores logs history lines available answers faults written sealed shown cuts (after shown.scope c (entry.Missed (reduce_id epoch task.partition))) load.sources.items l (set load.held.items task.partition held) load.out load.seen load.pending) (sym shares_are)
           (holds_reduced (stores × logs) owned lines available (LogWent logs lines available answers faults) shown.opening.logs.items written sealed s cuts shown.scope.available c (Some cause.DiskFault) (Some cause.DiskFault) task.partition x held load.sources.items load.shares.items load.held.items load.out load.seen load.pending
           (λ none. absurd (true≢false (ap is_some none))) whole.holds away
           (λ run _. back_share owned written s cuts e task.partition failed (Some cause.DiskFault) x tt tt refl tt)
-          (λ run less here. absurd (here tt)) (λ _. key_is) (λ g met. subst IsReducedCause (same_cause cause.DiskFault g met) tt)
+          (λ run less here. absurd (here tt)) (λ _. key_is) (λ g met. subst IsReducedCause (same_Some cause.DiskFault g met) tt)
           (λ stopped. absurd (true≢false (sym (ap is_key stopped))))
-          (λ g stopped. subst (IsStopOf (stores × logs) owned s cuts e (key_in (set load.shares.items task.partition x))) (same_cause cause.DiskFault g stopped) tt))))
+          (λ g stopped. subst (IsStopOf (stores × logs) owned s cuts e (key_in (set load.shares.items task.partition x))) (same_Some cause.DiskFault g stopped) tt))))
         where
           failed : Outcome S F
           failed = Err (reduce.DiskFault, None)
@@ -269,62 +284,71 @@ module _ {D L S F : Type 0} (stores logs : Type 0) (history : D → History) (li
           is_key (Some cause.KeyOverflow) = true
           is_key _ = false
 
-  -- the share of a task that is with a worker is there, and no key is told of it
-  pub share_away : (p : ℕ) → get_elem? c.reduces p ≡ some place.Away → (old : Share S) × (get_elem? load.shares.items p ≡ some old) × (old.key ≡ None)
-  share_away p away =
-      let less = at_length c.reduces p place.Away away in
-      let old = there_at load.shares.items p (omega (arith, less, order.sound.reduces, whole.round.partitions, whole.holds.partitions)) in
-      (old.0, old.1, whole.holds.keys opened p place.Away old.0 away old.1)
+-- the same, by the number under which a task comes back
+module _ {D L S F : Type 0} {stores logs : Type 0} {history : D → History} {lines : L → List Line} {available : L → ℕ} {answers : L → List ℕ} {faults : L → ℕ} {tells : Type 0} {written : S → List ℕ} {sealed : F → List ℕ} {counts : S → ℕ} {shown : Shown D (Round L)} {load : Load L S F} {task : ReduceTask S F}
+    {held : Option Held} {epoch p : ℕ} where
+  module _ {o : Outcome S F} (back : IsBackAt stores logs history lines available answers faults tells written sealed counts shown load task held o epoch p) where
+    -- the share of a task that is with a worker is there, and no key is told of it
+    pub share_away : (old : Share S) × (get_elem? load.shares.items p ≡ some old) × (old.key ≡ None)
+    share_away =
+        let less = at_length shown.core.reduces p place.Away back.away in
+        let old = there_at load.shares.items p (omega (arith, less, back.order.sound.reduces, back.whole.round.partitions, back.whole.holds.partitions)) in
+        (old.0, old.1, back.whole.holds.keys back.opened p place.Away old.0 back.away old.1)
 
-  -- the same, by the number under which a task comes back
-  module _ (laws : PartitionsAreBrought tells written sealed counts) (leasts : KeysAreLeast) (task : ReduceTask S F) (held : Option Held) (p : ℕ) (same : task.partition ≡ p) (of : IsReduceOf stores logs history lines written shown task) where
-    module _ (o : Outcome S F) (is : IsReduced tells written sealed counts task (reduced_by task held o)) where
-      pub right_at : FaultsAreOfTasks → (epoch : ℕ) → epoch ≡ e → owned → IsTrue (opening_in lines) shown (reduce_id epoch p) (fault_of cause_of_failed o)
-      right_at faulty epoch now t =
-          subst (λ (n : ℕ). IsOwn (course_of s cuts) (reduce_id n p) (fault_of cause_of_failed o)) (sym now)
-          (subst (λ (q : ℕ). IsOwn (course_of s cuts) (reduce_id e q) (fault_of cause_of_failed o)) same (right laws leasts task held o of is faulty t))
+    pub share_below : p < length load.shares.items
+    share_below = at_length load.shares.items p share_away.0 share_away.1
 
-      pub is_there : IfSome held (λ held. p < length load.held.items)
-      is_there = subst (λ (q : ℕ). IfSome held (λ held. q < length load.held.items)) same (keeps_some laws leasts task held o of is)
+    pub right_at : FaultsAreOfTasks → Owns stores logs history lines shown → IsTrue (opening_in lines) shown (reduce_id epoch p) (fault_of cause_of_failed o)
+    right_at faulty t =
+        subst (λ (n : ℕ). IsOwn (course_of (setting_of lines shown.opening) (cuts_of (opening_in lines) shown)) (reduce_id n p) (fault_of cause_of_failed o)) (sym back.epoch_is)
+        (subst (λ (q : ℕ). IsOwn (course_of (setting_of lines shown.opening) (cuts_of (opening_in lines) shown)) (reduce_id shown.core.front.committed q) (fault_of cause_of_failed o)) back.partition_is
+        (right back.whole back.legal back.order back.opened back.laws back.leasts task held o back.of back.brought faulty t))
 
-      pub is_nowhere : held ≡ None → length load.held.items ≤ p
-      is_nowhere none = subst (λ (q : ℕ). length load.held.items ≤ q) same (keeps_nothing laws leasts task held o of is none)
+    pub is_there : IfSome held (λ held. p < length load.held.items)
+    is_there = subst (λ (q : ℕ). IfSome held (λ held. q < length load.held.items)) back.partition_is (keeps_some back.whole back.legal back.order back.opened back.laws back.leasts task held o back.of back.brought)
 
-      pub reported_at : (f : Option Cause) (x : Share S) (disk : D) (epoch : ℕ) (shares : Vec (Share S)) (helds : Vec (Option Held)) → get_elem? c.reduces p ≡ some place.Away → f ≡ fault_of cause_of_failed o → x.key ≡ key_of_outcome o
-          → IfOk o (λ own. x.rows ≡ own.rows) → shares.items ≡ set load.shares.items p x → helds.items ≡ set load.held.items p held
-          → IsWhole stores logs history lines available answers faults written sealed (did shown disk (entry.Report (reduce_id epoch p) f ∷ [])) (with_share load shares helds)
-      reported_at f x disk epoch shares helds away fault key_is rows_are shares_are helds_are =
-          subst (λ (q : ℕ). get_elem? c.reduces q ≡ some place.Away → shares.items ≡ set load.shares.items q x → helds.items ≡ set load.held.items q held
-          → IsWhole stores logs history lines available answers faults written sealed (did shown disk (entry.Report (reduce_id epoch q) f ∷ [])) (with_share load shares helds)) same
-          (λ away shares_are helds_are. reported laws leasts task held o of is f x away fault key_is rows_are disk epoch shares helds shares_are helds_are) away shares_are helds_are
+    pub is_nowhere : held ≡ None → length load.held.items ≤ p
+    is_nowhere none = subst (λ (q : ℕ). length load.held.items ≤ q) back.partition_is (keeps_nothing back.whole back.legal back.order back.opened back.laws back.leasts task held o back.of back.brought none)
 
-    module _ (brought : ReducedRows F) (is : IsReduced tells written sealed counts task (reduced_by task held (Ok brought))) where
-      pub bare_at : (epoch : ℕ) → epoch ≡ e → brought.delta ≡ None → HasNone (opening_in lines) shown (reduce_id epoch p) None
-      bare_at epoch now none =
-          subst (λ (n : ℕ). BringsNone (course_of s cuts) (reduce_id n p) None) (sym now)
-          (subst (λ (q : ℕ). BringsNone (course_of s cuts) (reduce_id e q) None) same (bare laws leasts task held brought of is none))
+    pub reported_at : (f : Option Cause) (x : Share S) (disk : D) (shares : Vec (Share S)) (helds : Vec (Option Held)) → f ≡ fault_of cause_of_failed o → x.key ≡ key_of_outcome o
+        → IfOk o (λ own. x.rows ≡ own.rows) → shares.items ≡ set load.shares.items p x → helds.items ≡ set load.held.items p held
+        → IsWhole stores logs history lines available answers faults written sealed (did shown disk (entry.Report (reduce_id epoch p) f ∷ [])) (with_share load shares helds)
+    reported_at f x disk shares helds fault key_is rows_are shares_are helds_are =
+        subst (λ (q : ℕ). get_elem? shown.core.reduces q ≡ some place.Away → shares.items ≡ set load.shares.items q x → helds.items ≡ set load.held.items q held
+        → IsWhole stores logs history lines available answers faults written sealed (did shown disk (entry.Report (reduce_id epoch q) f ∷ [])) (with_share load shares helds)) back.partition_is
+        (λ away shares_are helds_are. reported back.whole back.legal back.order back.opened back.laws back.leasts task held o back.of back.brought f x away fault key_is rows_are disk epoch shares helds shares_are helds_are) back.away shares_are helds_are
 
-      pub version_at : FaultsAreOfTasks → (owned → tells) → (epoch : ℕ) → epoch ≡ e → (file : F) → brought.delta ≡ Some file → owned → HasVersion (opening_in lines) shown (reduce_id epoch p) (sealed file)
-      version_at faulty so epoch now file there t =
-          subst (λ (n : ℕ). BringsVersion (course_of s cuts) (reduce_id n p) × (sealed file ≡ truth (course_of s cuts) (name.Delta p n))) (sym now)
-          (subst (λ (q : ℕ). BringsVersion (course_of s cuts) (reduce_id e q) × (sealed file ≡ truth (course_of s cuts) (name.Delta q e))) same (version laws leasts task held brought of is faulty so file there t))
+  module _ {brought : ReducedRows F} (back : IsBackAt stores logs history lines available answers faults tells written sealed counts shown load task held (Ok brought) epoch p) where
+    pub bare_at : brought.delta ≡ None → HasNone (opening_in lines) shown (reduce_id epoch p) None
+    bare_at none =
+        subst (λ (n : ℕ). BringsNone (course_of (setting_of lines shown.opening) (cuts_of (opening_in lines) shown)) (reduce_id n p) None) (sym back.epoch_is)
+        (subst (λ (q : ℕ). BringsNone (course_of (setting_of lines shown.opening) (cuts_of (opening_in lines) shown)) (reduce_id shown.core.front.committed q) None) back.partition_is
+        (bare back.whole back.legal back.order back.opened back.laws back.leasts task held brought back.of back.brought none))
 
-      pub versioned_at : (x : Share S) (now : Shown D (Round L)) (epoch : ℕ) (shares : Vec (Share S)) (helds : Vec (Option Held)) (result : Result (Unit {0}) Cause) (risen : Type 0) → get_elem? c.reduces p ≡ some place.Away → x.key ≡ None → x.rows ≡ brought.rows
-          → shares.items ≡ set load.shares.items p x → helds.items ≡ set load.held.items p held → IsVersioned shown now (reduce_id epoch p) result risen
-          → IsWhole stores logs history lines available answers faults written sealed now (with_share load shares helds)
-      versioned_at x now epoch shares helds result risen away key_is rows_are shares_are helds_are did_is =
-          subst (λ (q : ℕ). get_elem? c.reduces q ≡ some place.Away → shares.items ≡ set load.shares.items q x → helds.items ≡ set load.held.items q held → IsVersioned shown now (reduce_id epoch q) result risen
-          → IsWhole stores logs history lines available answers faults written sealed now (with_share load shares helds)) same
-          (λ away shares_are helds_are did_is. elim did_is [
-            | inl d ↦ subst (λ (x : Shown D (Round L)). IsWhole stores logs history lines available answers faults written sealed x (with_share load shares helds)) (sym d.0)
-                (versioned laws leasts task held brought of is x away key_is rows_are now.disk epoch shares helds shares_are helds_are)
-            | inr d ↦ subst (λ (x : Shown D (Round L)). IsWhole stores logs history lines available answers faults written sealed x (with_share load shares helds)) (sym d.1)
-                (missed laws leasts task held brought of is x away key_is rows_are now.disk epoch shares helds shares_are helds_are)
-          ]) away shares_are helds_are did_is
+    pub version_at : FaultsAreOfTasks → (Owns stores logs history lines shown → tells) → (file : F) → brought.delta ≡ Some file → Owns stores logs history lines shown → HasVersion (opening_in lines) shown (reduce_id epoch p) (sealed file)
+    version_at faulty so file there t =
+        let course = course_of (setting_of lines shown.opening) (cuts_of (opening_in lines) shown) in
+        subst (λ (n : ℕ). BringsVersion course (reduce_id n p) × (sealed file ≡ truth course (name.Delta p n))) (sym back.epoch_is)
+        (subst (λ (q : ℕ). BringsVersion course (reduce_id shown.core.front.committed q) × (sealed file ≡ truth course (name.Delta q shown.core.front.committed))) back.partition_is
+        (version back.whole back.legal back.order back.opened back.laws back.leasts task held brought back.of back.brought faulty so file there t))
+
+    pub versioned_at : (x : Share S) (now : Shown D (Round L)) (shares : Vec (Share S)) (helds : Vec (Option Held)) (result : Result (Unit {0}) Cause) (risen : Type 0) → x.key ≡ None → x.rows ≡ brought.rows
+        → shares.items ≡ set load.shares.items p x → helds.items ≡ set load.held.items p held → IsVersioned shown now (reduce_id epoch p) result risen
+        → IsWhole stores logs history lines available answers faults written sealed now (with_share load shares helds)
+    versioned_at x now shares helds result risen key_is rows_are shares_are helds_are did_is =
+        subst (λ (q : ℕ). get_elem? shown.core.reduces q ≡ some place.Away → shares.items ≡ set load.shares.items q x → helds.items ≡ set load.held.items q held → IsVersioned shown now (reduce_id epoch q) result risen
+        → IsWhole stores logs history lines available answers faults written sealed now (with_share load shares helds)) back.partition_is
+        (λ away shares_are helds_are did_is. elim did_is [
+          | inl d ↦ subst (λ (x : Shown D (Round L)). IsWhole stores logs history lines available answers faults written sealed x (with_share load shares helds)) (sym d.0)
+              (versioned back.whole back.legal back.order back.opened back.laws back.leasts task held brought back.of back.brought x away key_is rows_are now.disk epoch shares helds shares_are helds_are)
+          | inr d ↦ subst (λ (x : Shown D (Round L)). IsWhole stores logs history lines available answers faults written sealed x (with_share load shares helds)) (sym d.1)
+              (missed back.whole back.legal back.order back.opened back.laws back.leasts task held brought back.of back.brought x away key_is rows_are now.disk epoch shares helds shares_are helds_are)
+        ]) back.away shares_are helds_are did_is
 
 -- the outcome of a task, with its own number
-pub reduced_as : {S F : Type 0} (tells : Type 0) (written : S → List ℕ) (sealed : F → List ℕ) (counts : S → ℕ) (task : ReduceTask S F) (done : Reduced S F) → IsReduced tells written sealed counts task done → IsReduced tells written sealed counts task (reduced_by task done.held done.outcome)
-reduced_as tells written sealed counts task done is = record { view = refl; epoch = refl; partition = refl; watermark = refl; held = is.held; brought = is.brought; failed = is.failed }
+pub reduced_as : {S F : Type 0} (tells : Type 0) (written : S → List ℕ) (sealed : F → List ℕ) (counts : S → ℕ) (task : ReduceTask S F) (done : Reduced S F) (o : Outcome S F) → done.outcome ≡ o → IsReduced tells written sealed counts task done → IsReduced tells written sealed counts task (reduced_by task done.held o)
+reduced_as {S} {F} tells written sealed counts task done o brought is =
+    subst (λ (o : Outcome S F). IsReduced tells written sealed counts task (reduced_by task done.held o)) brought (record { view = refl; epoch = refl; partition = refl; watermark = refl; held = is.held; brought = is.brought; failed = is.failed })
 
 -- why a Stop is a fault of the disk, that a reduce task without a fault brings about: it is none
 pub none_risen : (c : Core) (epoch p : ℕ) → (c.front.stop ≡ None → due_stop c.reduces ≡ None) → due c (reduce_id epoch p) None ≡ Some cause.DiskFault → ⊥
@@ -339,7 +363,7 @@ pub own_risen : (c : Core) (epoch p : ℕ) (f : Cause) → (c.front.stop ≡ Non
 own_risen c epoch p f calm is = by c.front.stop refl is
   where
     by : (o : Option Cause) → c.front.stop ≡ o → (if is_stopped o then None else due_stop (set c.reduces p (place.Back (Some f)))) ≡ Some cause.DiskFault → f ≡ cause.DiskFault
-    by None run is = same_cause f cause.DiskFault (none_due c.reduces p (Some f) cause.DiskFault refl (calm run) is)
+    by None run is = same_Some f cause.DiskFault (none_due c.reduces p (Some f) cause.DiskFault refl (calm run) is)
     by (Some g) run is = absurd (true≢false (sym (ap is_some is)))
 
 -- the Stop that an answer tells
@@ -364,11 +388,6 @@ module _ (c : Core) (epoch p : ℕ) (calm : c.front.stop ≡ None → due_stop c
 
 pub versioned_risen : {D O : Type 0} (old new : Shown D O) (epoch p : ℕ) → (old.core.front.stop ≡ None → due_stop old.core.reduces ≡ None) → (result : Result (Unit {0}) Cause) (risen : Type 0) → IsErrOf result cause.DiskFault → IsVersioned old new (reduce_id epoch p) result risen → risen
 versioned_risen old new epoch p calm result risen is did_is = elim did_is [ inl d ↦ absurd (never_risen old.core epoch p calm result is d.1) | inr d ↦ d.3 ]
-
-rises_some : (before now : ℕ) → Rises before now → 0 < now
-rises_some before now rises =
-    let low : 1 ≤ min (before + 1) (2 ^ 64 - 1) = le-min (omega arith) (omega arith) in
-    let risen : min (before + 1) (2 ^ 64 - 1) ≤ now = rises in omega (arith, low, risen)
 
 -- where the disk failed the file aside counted it
 pub aside_risen : {S : Type 0} (faults : S → ℕ) (fault : ReduceFault) (state : Option (State S)) (left : Option S) → IsAsideAfter faults fault state left → cause_of_reduce fault ≡ cause.DiskFault → IsSomeAnd left (λ stage. 0 < faults stage)

@@ -110,7 +110,7 @@ module _ {D L S F : Type 0} (stores logs : Type 0) (history : D → History) (li
         → IsWhole stores logs history lines available answers faults written sealed (did shown disk (e ∷ [])) load
     halted e f core cuts no_log right =
         same_whole (entry.Stop f ∷ []) (e ∷ []) disk core (cuts ∙ sym (cuts_then (opening_in lines shown.opening) shown.scope shown.history (entry.Stop f)))
-        (stopped_whole stores logs history lines available answers faults written sealed shown load whole disk f no_log right)
+        (stopped_whole stores logs history lines available answers faults written sealed shown load whole disk f load.pending no_log right)
 
     pub untaken_whole : (p v : ℕ) → IsWhole stores logs history lines available answers faults written sealed (did shown disk (entry.Untaken p v ∷ [])) load
     untaken_whole p v = halted (entry.Untaken p v) cause.DiskFault refl (cuts_then (opening_in lines shown.opening) shown.scope shown.history (entry.Untaken p v)) no (λ key. tt)
@@ -125,7 +125,7 @@ module _ {D L S F : Type 0} (stores logs : Type 0) (history : D → History) (li
         no e = cc
 
     pub memory_whole : IsWhole stores logs history lines available answers faults written sealed (did shown disk (entry.Stop cause.NoMemory ∷ [])) load
-    memory_whole = stopped_whole stores logs history lines available answers faults written sealed shown load whole disk cause.NoMemory no (λ key. tt)
+    memory_whole = stopped_whole stores logs history lines available answers faults written sealed shown load whole disk cause.NoMemory load.pending no (λ key. tt)
       where
         no : cause.NoMemory ≡ cause.LogFault → ⊥
         no e = cc

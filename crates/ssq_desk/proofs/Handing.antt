@@ -17,6 +17,7 @@ use Rattle.ssq_desk.proofs.Feeding.{can_raise, all_times, time_is}
 use Rattle.ssq_desk.proofs.Planned.{at_get}
 use Rattle.std.specs.List.{list_all}
 use Rattle.std.proofs.lemmas.List.{get_or-map, length-map}
+use Rattle.std.proofs.lemmas.Option.{same_Some}
 use mathlib.Core.Option.{some, some-injective, some-ne-none}
 use lib.ListN.{get_elem?}
 use Rattle.ssq_outside.specs.History.{History}
@@ -149,13 +150,6 @@ stream_in : (counts : List ℕ) (lines : List (List Line)) (i : ℕ) (p : Part) 
 stream_in [] lines i p there = absurd (none_there i p there)
 stream_in (count ∷ counts) lines i p there = (let less = stream_from 0 0 count counts lines i p there in omega (arith, less))
 
-abbrev work_or : {S F : Type 0} → OutWork S F → Option (OutWork S F) → OutWork S F
-work_or d None = d
-work_or d (Some w) = w
-
-pub some_work : {S F : Type 0} (a b : OutWork S F) → Some a ≡ Some b → a ≡ b
-some_work a b e = ap (λ o. work_or a o) e
-
 module _ {D L S F : Type 0} (stores logs : Type 0) (history : D → History) (lines : L → List Line) (available : L → ℕ) (answers : L → List ℕ) (faults : L → ℕ) (written : S → List ℕ) (sealed : F → List ℕ) (shown : Shown D (Round L)) (load : Load L S F)
     (whole : IsWhole stores logs history lines available answers faults written sealed shown load) where
   -- after an entry that plans nothing, with what is held then
@@ -224,7 +218,7 @@ module _ {D L S F : Type 0} (stores logs : Type 0) (history : D → History) (li
         subst (λ (c : Core). HoldsIn stores logs history lines available answers faults written sealed shown (cuts_of (opening_in lines) shown) c (set load.sources.items t.number x) load.shares.items load.held.items load.out load.seen load.pending) (sym (map_moved shown.core t place.Away is))
         (holds_map (stores × logs) (Owns stores logs history lines shown) lines available (LogWent logs lines available answers faults) shown.opening.logs.items written sealed (setting_of lines shown.opening) (cuts_of (opening_in lines) shown) shown.scope.available shown.core shown.core.front.stop t.number place.Away x load.sources.items load.shares.items load.held.items load.out load.seen load.pending
         (λ e. e) whole.holds
-        (λ part there. (let same : h.part ≡ part = some_same h.part part (sym h.there ∙ there) in record {
+        (λ part there. (let same : h.part ≡ part = same_Some h.part part (sym h.there ∙ there) in record {
           stream = ap (λ (q : Part). q.stream) (sym same) ∙ h.is.stream ∙ sym (ap (λ (q : Source L). q.stream) x_is);
           number = ap (λ (q : Part). q.part) (sym same) ∙ h.is.number ∙ sym (ap (λ (q : Source L). q.part) x_is);
           log = λ here. absurd (here tt);
@@ -238,13 +232,6 @@ module _ {D L S F : Type 0} (stores logs : Type 0) (history : D → History) (li
         })
         whole.holds.still (λ f stopped. whole.holds.stop f stopped))
       where
-        some_same : (a b : Part) → Some a ≡ Some b → a ≡ b
-        some_same a b e = ap (λ o. part_or a o) e
-          where
-            part_or : Part → Option Part → Part
-            part_or d None = d
-            part_or d (Some x) = x
-
         away_not : place.Away ≡ place.Rests → ⊥
         away_not e = cc
 
@@ -257,7 +244,7 @@ module _ {D L S F : Type 0} (stores logs : Type 0) (history : D → History) (li
         → IsMapOf stores logs history lines available answers faults shown (record { view = view; epoch = t.epoch; number = t.number; stream = h.source.stream; part = h.source.part; from = h.source.from; to = to; log = own })
     map_task t view to own is may h view_is own_is to_is =
         let log = h.is.log (λ away. away) in
-        let same : log.0 ≡ own = some_log log.0 own (sym log.1 ∙ own_is) in
+        let same : log.0 ≡ own = same_Some log.0 own (sym log.1 ∙ own_is) in
         let near = order.sound.near in
         let less = open_less shown.core may.1 in
         let ends : cuts_of (opening_in lines) shown (shown.core.front.committed + 1) ≡ shown.core.ends =
@@ -272,13 +259,6 @@ module _ {D L S F : Type 0} (stores logs : Type 0) (history : D → History) (li
           to = to_is ∙ sym (get_or-map (λ (e : PartEnd). e.end) shown.core.ends t.number (record { stream = 0; part = 0; end = 0 }) 0 h.ends_below) ∙ sym (ap (λ (l : Ends). get_or (cut_of l) t.number 0) ends);
           log = subst (IsLogOf (stores × logs) lines available (LogWent logs lines available answers faults) shown.opening.logs.items t.number h.part (get_or shown.scope.available t.number 0)) same log.2;
         }
-      where
-        some_log : (a b : L) → Some a ≡ Some b → a ≡ b
-        some_log a b e = ap (λ o. log_or a o) e
-          where
-            log_or : L → Option L → L
-            log_or d None = d
-            log_or d (Some x) = x
 
     -- the reduce task that waits in a slot: its partition, and what the parts brought for it
     pub record IsReduceHere (p : ℕ) : Type 0 where

@@ -1,7 +1,8 @@
 -- What a desk holds, after one of its slots was changed.
-use Rattle.std.proofs.Common.{◌≡◌, ◌<◌, ◌⊎◌, ◌+◌, ℕ, ℤ, zero, suc, true≢false, List, [], ◌∷◌, length, get_or, set, Option, Some, None, inl, inr, refl, sym, ap, ◌∙◌, subst, arith}
+use Rattle.std.proofs.Common.{◌≡◌, ◌<◌, ◌⊎◌, ◌+◌, ℕ, ℤ, Bool, zero, suc, true≢false, List, [], ◌∷◌, length, get_or, set, Option, Some, None, inl, inr, refl, sym, ap, ◌∙◌, subst, arith}
 use Rattle.std.specs.Prelude.{All, slice_get, map, is_some, IfSome, true}
 use Rattle.std.proofs.lemmas.List.{length-map}
+use Rattle.std.proofs.lemmas.Option.{same_Some}
 use Rattle.ssq_time.specs.Time.{IsLineTime}
 use Rattle.ssq_terms.specs.Rows.{bucket_in}
 use Rattle.std.proofs.lemmas.List.Elements.{All-set}
@@ -21,7 +22,7 @@ use Rattle.ssq_board.specs.declared.front.Place.{Place}
 use Rattle.ssq_board.specs.declared.front.Place.TheVariants as place
 use Rattle.std.specs.List.{filter_map, list_all}
 use Rattle.ssq_board.specs.declared.front.Cause.TheVariants as cause
-use Rattle.ssq_board.specs.Core.{Core, is_open, is_fine, is_here, fault_at, stopped_front}
+use Rattle.ssq_board.specs.Core.{Core, is_open, is_fine, is_here, fault_at, stopped_front, with_front}
 use Rattle.ssq_board.proofs.Lists.{at_length, put_else, set_length, all_fine}
 use Rattle.ssq_desk.specs.declared.desk.Source.{Source}
 use Rattle.ssq_desk.specs.declared.desk.Share.{Share}
@@ -29,7 +30,7 @@ use Rattle.ssq_desk.specs.declared.desk.OutWork.{OutWork}
 use Rattle.ssq_desk.specs.declared.desk.Pending.{Pending}
 use Rattle.ssq_desk.specs.Handing.{IsTaken}
 use Rattle.ssq_task.specs.declared.partition.Held.{Held}
-use Rattle.ssq_desk.specs.Contents.{IsSourceOf, IsMapped, IsBrought, IsShare, IsKeyOf, IsHeldAt, IsStopOf, Holds, IsReducedCause, key_in}
+use Rattle.ssq_desk.specs.Contents.{IsSourceOf, IsMapped, IsBrought, IsShare, IsKeyOf, IsHeldAt, IsStopOf, Holds, IsPending, IsReducedCause, key_in, keeping_in}
 
 -- what is put into a list is there
 pub put_is : {A : Type 0} (l : List A) (i : ℕ) (a x : A) → get_elem? (set l i a) i ≡ some x → a ≡ x
@@ -159,6 +160,10 @@ put_reduced reduces i p none own q f here = elim (same_or_not i q) [
   | inl same ↦ own f (put_is reduces i p (place.Back (Some f)) (subst (λ (k : ℕ). get_elem? (set reduces i p) k ≡ some (place.Back (Some f))) (sym same) here))
   | inr other ↦ none q f (sym (put_else reduces i q p other) ∙ here)
 ]
+
+-- what stops a desk whatever keys there are is no key's overflow
+pub never_key : (reads owned : Type 0) (s : Setting) (cuts : Cuts) (e : ℕ) (f : Cause) → ((key : Option Values) → IsStopOf reads owned s cuts e key f) → f ≡ cause.KeyOverflow → ⊥
+never_key reads owned s cuts e f right is = subst (IsStopOf reads owned s cuts e None) is (right None)
 
 module _ {L S F : Type 0} (reads owned : Type 0) (lines : L → List Line) (available : L → ℕ) (went : L → L → Type 0) (opened : List L) (written : S → List ℕ) (sealed : F → List ℕ) (s : Setting) (cuts : Cuts) (found : List ℕ) where
   -- a map task is elsewhere
@@ -323,4 +328,50 @@ module _ {L S F : Type 0} (reads owned : Type 0) (lines : L → List Line) (avai
     });
     commit = λ run is_opened written_is. h.commit (runs run) is_opened written_is;
     stop = λ g stopped. subst (λ (keys : List (Option Values)). IsStopOf reads owned s cuts c.front.committed (least_key (filter_map (λ key. key) keys)) g) (sym same) (stops g stopped);
+  }
+
+  -- A desk that stops, for a cause that may stop it whatever keys there are: of its tasks nothing more is said.
+  pub holds_stopped : (c : Core) (f : Cause) (sources : List (Source L)) (shares : List (Share S)) (held : List (Option Held)) (out : Option (OutWork S F)) (times : List (Option ℤ)) (pending : Option (Pending F))
+      → length sources ≡ length (parts_in s) → length shares ≡ s.job.partitions → length held ≡ keeping_in s
+      → ((i : ℕ) (part : Part) (at : Place) (source : Source L) → slice_get (parts_in s) i ≡ Some part → get_elem? c.maps i ≡ some at → get_elem? sources i ≡ some source → IsSourceOf reads lines available went opened i part (get_or found i 0) at source)
+      → (is_open c ≡ true → (p : ℕ) → get_elem? c.reduces p ≡ some place.Rests → ⊥)
+      → ((p : ℕ) (g : Cause) → get_elem? c.reduces p ≡ some (place.Back (Some g)) → IsReducedCause g)
+      → (is_open c ≡ true → (p : ℕ) (at : Place) (share : Share S) → get_elem? c.reduces p ≡ some at → get_elem? shares p ≡ some share → IsKeyOf owned s cuts c.front.committed p at share.key)
+      → ((key : Option Values) → IsStopOf reads owned s cuts c.front.committed key f)
+      → Holds reads owned lines available went opened written sealed s cuts found (with_front c (stopped_front c.front (Some f))) sources shares held out times pending
+  holds_stopped c f sources shares held out times pending parts partitions keeping logs dealt reduced keys right = record {
+    parts = parts;
+    partitions = partitions;
+    keeping = keeping;
+    logs = logs;
+    dealt = dealt;
+    reduced = reduced;
+    keys = keys;
+    still = λ stopped. absurd (never_key reads owned s cuts c.front.committed f right (same_Some f cause.KeyOverflow stopped));
+    kept = λ run. absurd (true≢false (ap is_some run));
+    seen_so_far = λ run. absurd (true≢false (ap is_some run));
+    epoch = λ run is_opened. absurd (true≢false (ap is_some run));
+    commit = λ run is_opened written_is. absurd (true≢false (ap is_some run));
+    stop = λ g stopped. subst (IsStopOf reads owned s cuts c.front.committed (key_in shares)) (same_Some f g stopped) (right (key_in shares));
+  }
+
+  -- A desk that runs on and moves no task: names are synced, or the rows of its epoch are published.
+  pub holds_on : (c : Core) (fresh settled is_written : Bool) (sources : List (Source L)) (shares : List (Share S)) (held : List (Option Held)) (out : Option (OutWork S F)) (times : List (Option ℤ)) (old pending : Option (Pending F))
+      → Holds reads owned lines available went opened written sealed s cuts found c sources shares held out times old → c.front.stop ≡ None
+      → (is_open c ≡ true → is_written ≡ true → (p : Pending F) × (pending ≡ Some p) × IsPending owned sealed s cuts c.front.committed p)
+      → Holds reads owned lines available went opened written sealed s cuts found (with_front c (record { planned = c.front.planned; committed = c.front.committed; fresh = fresh; settled = settled; written = is_written; has_lines = c.front.has_lines; due = c.front.due; stop = None })) sources shares held out times pending
+  holds_on c fresh settled is_written sources shares held out times old pending h runs commit = record {
+    parts = h.parts;
+    partitions = h.partitions;
+    keeping = h.keeping;
+    logs = h.logs;
+    reduced = h.reduced;
+    dealt = h.dealt;
+    keys = h.keys;
+    still = λ stopped. absurd (true≢false (sym (ap is_some stopped)));
+    kept = λ run. h.kept runs;
+    seen_so_far = λ run. h.seen_so_far runs;
+    epoch = λ run is_opened. (let e = h.epoch runs is_opened in record { froms = e.froms; mapped = e.mapped; shared = e.shared; last = e.last; outs = e.outs });
+    commit = λ run is_opened written_is. commit is_opened written_is;
+    stop = λ f stopped. absurd (true≢false (sym (ap is_some stopped)));
   }

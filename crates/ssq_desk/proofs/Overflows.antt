@@ -26,6 +26,7 @@ use Rattle.ssq_desk.specs.declared.desk.Share.{Share}
 use Rattle.ssq_desk.specs.declared.desk.Source.{Source}
 use Rattle.ssq_desk.specs.Contents.{IsKeyOf, IsMapped, IsReducedCause, IsStopOf, key_in}
 use Rattle.ssq_desk.proofs.Planned.{slice_below}
+use Rattle.ssq_desk.proofs.Reducing.{reduced_cases}
 
 -- ---- lines without a fault
 
@@ -84,15 +85,7 @@ keys_are f (share ∷ shares) from each =
 
 -- of the causes of a reduce task the epoch's own is a key
 own_key : (f : Cause) → IsReducedCause f → is_of_epoch f ≡ true → f ≡ cause.KeyOverflow
-own_key cause.KeyOverflow is own = refl
-own_key cause.DiskFault is own = absurd (true≢false (sym own))
-own_key cause.NoMemory is own = absurd (true≢false (sym own))
-own_key (cause.BadLine t p o w) is own = absurd is
-own_key (cause.Overflow t p o) is own = absurd is
-own_key (cause.LogShort t p l w) is own = absurd is
-own_key (cause.Damaged w) is own = absurd is
-own_key cause.LogFault is own = absurd is
-own_key cause.Full is own = absurd is
+own_key = reduced_cases (λ f. is_of_epoch f ≡ true → f ≡ cause.KeyOverflow) (λ own. absurd (true≢false (sym own))) (λ own. absurd (true≢false (sym own))) (λ own. refl)
 
 module _ (owned : Type 0) (s : Setting) (cuts : Cuts) (e p : ℕ) where
   overflow_is : (key : Option Values) → owned → IsKeyOf owned s cuts e p (place.Back (Some cause.KeyOverflow)) key → key ≡ overflow_of s cuts e p

@@ -1,6 +1,7 @@
 -- The out task is taken back, and its rows are published.
 use Rattle.std.proofs.Common.{◌≡◌, ◌≤◌, ◌+◌, ◌++◌, [], ◌∷◌, ℕ, Bool, true, false, true≢false, List, map, length, set, Option, Some, None, Result, Ok, Err, inl, inr, refl, sym, ap, ◌∙◌, subst, arith}
 use Rattle.std.specs.Prelude.{is_some, IfOk, IfErr, IfSome, OnOk, OnErr, if◌then◌else◌}
+use Rattle.std.proofs.lemmas.Option.{same_Some}
 use Rattle.ssq_outside.specs.History.{History}
 use mathlib.Core.Option.{some}
 use lib.ListN.{get_elem?}
@@ -43,11 +44,11 @@ use Rattle.ssq_desk.specs.Results.{cause_of_gather}
 use Rattle.ssq_desk.specs.Contents.{AreSeen, IsPending, IsStopOf, key_in}
 use Rattle.ssq_desk.specs.Whole.{IsWhole, opening_in}
 use Rattle.ssq_desk.specs.Published.{AreRowsOf, IsCommitOf}
-use Rattle.ssq_desk.proofs.Holding.{put_is, holds_out}
+use Rattle.ssq_desk.proofs.Holding.{put_is, holds_on, holds_out, never_key}
 use Rattle.ssq_desk.proofs.Handing.{moved_whole}
-use Rattle.ssq_desk.proofs.Reducing.{same_cause, runs_by, stops_by, faulty_by}
-use Rattle.ssq_desk.proofs.Settling.{with_pending, halted_whole, disk_no_log}
-use Rattle.ssq_desk.proofs.Wholes.{cause_stops, never_key, cuts_then}
+use Rattle.ssq_desk.proofs.Reducing.{runs_by, stops_by, faulty_by}
+use Rattle.ssq_desk.proofs.Settling.{disk_no_log}
+use Rattle.ssq_desk.proofs.Wholes.{cause_stops, cuts_then, stopped_whole, with_pending}
 
 -- ---- the files of the epoch
 
@@ -147,22 +148,9 @@ module _ {D L S F : Type 0} (stores logs : Type 0) (history : D → History) (li
   pub published_whole : (disk : D) (p : Pending F) → May shown.scope shown.core (entry.OutFile shown.core.front.committed) → IsCommitOf stores logs history lines sealed shown p
       → IsWhole stores logs history lines available answers faults written sealed (did shown disk (entry.OutFile shown.core.front.committed ∷ [])) (with_pending load (Some p))
   published_whole disk p may is =
-      let h = whole.holds in
-      moved_whole stores logs history lines available answers faults written sealed shown load whole disk (entry.OutFile shown.core.front.committed) (with_pending load (Some p)) (λ cuts c. refl) refl refl refl refl whole.told whole.told_room (λ e. absurd (true≢false (sym (ap is_some e)))) (record {
-        parts = h.parts;
-        partitions = h.partitions;
-        keeping = h.keeping;
-        logs = h.logs;
-        reduced = h.reduced;
-        dealt = h.dealt;
-        keys = h.keys;
-        still = λ stopped. absurd (true≢false (sym (ap is_some stopped)));
-        kept = λ run. h.kept may.0;
-        seen_so_far = λ run. h.seen_so_far may.0;
-        epoch = λ run opened. (let e = h.epoch may.0 opened in record { froms = e.froms; mapped = e.mapped; shared = e.shared; last = e.last; outs = e.outs });
-        commit = λ run opened written_is. (p, refl, is);
-        stop = λ f stopped. absurd (true≢false (sym (ap is_some stopped)));
-      })
+      moved_whole stores logs history lines available answers faults written sealed shown load whole disk (entry.OutFile shown.core.front.committed) (with_pending load (Some p)) (λ cuts c. refl) refl refl refl refl whole.told whole.told_room (λ e. absurd (true≢false (sym (ap is_some e))))
+      (holds_on (stores × logs) (Owns stores logs history lines shown) lines available (LogWent logs lines available answers faults) shown.opening.logs.items written sealed (setting_of lines shown.opening) (cuts_of (opening_in lines) shown) shown.scope.available shown.core shown.core.front.fresh false true
+      load.sources.items load.shares.items load.held.items load.out load.seen load.pending (Some p) whole.holds may.0 (λ opened written_is. (p, refl, is)))
 
   -- so it is once they are to be published, or that failed
   pub after_rows : {E : Type 0} (now : Shown D (Round L)) (result : Result (Unit {0}) E) (risen : Type 0) (p : Pending F) → May shown.scope shown.core (entry.OutFile shown.core.front.committed) → IsCommitOf stores logs history lines sealed shown p
@@ -170,7 +158,7 @@ module _ {D L S F : Type 0} (stores logs : Type 0) (history : D → History) (li
       → IsWhole stores logs history lines available answers faults written sealed now (with_pending load (Some p))
   after_rows now (Ok x) risen p may is done stopped = subst (λ (x : Shown D (Round L)). IsWhole stores logs history lines available answers faults written sealed x (with_pending load (Some p))) (sym done) (published_whole now.disk p may is)
   after_rows now (Err f) risen p may is done stopped = subst (λ (x : Shown D (Round L)). IsWhole stores logs history lines available answers faults written sealed x (with_pending load (Some p))) (sym stopped.0)
-      (halted_whole stores logs history lines available answers faults written sealed shown load whole now.disk cause.DiskFault (Some p) disk_no_log (λ key. tt))
+      (stopped_whole stores logs history lines available answers faults written sealed shown load whole now.disk cause.DiskFault (Some p) disk_no_log (λ key. tt))
 
 -- ---- how the result is taken
 
@@ -196,7 +184,7 @@ pub left_risen : (c : Core) (epoch : ℕ) (fault : GatherFault) (result : Result
 left_risen c epoch fault result before now few answered rises =
     subst (λ (r : Result (Unit {0}) Cause). IfErr r (λ g. HasRisen g before now)) (sym answered)
     (answered_by (λ g. HasRisen g before now) (due c (out_id epoch) (Some (cause_of_gather fault)))
-    (λ g is. subst (λ (h : Cause). HasRisen h before now) (same_cause (cause_of_gather fault) g (due_is c epoch (Some (cause_of_gather fault)) g few is)) (gather_risen fault before now rises)))
+    (λ g is. subst (λ (h : Cause). HasRisen h before now) (same_Some (cause_of_gather fault) g (due_is c epoch (Some (cause_of_gather fault)) g few is)) (gather_risen fault before now rises)))
 
 pub seal_cause : {S F : Type 0} (faults : S → ℕ) (fault : GatherFault) (before : Stages S) (left : Remnant S F) → GatherCause faults fault before left → fault ≡ gather.DiskFault → SealCause faults before left
 seal_cause faults gather.DiskFault before left has is = has

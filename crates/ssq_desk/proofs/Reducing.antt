@@ -4,6 +4,7 @@ use Rattle.std.specs.Prelude.{All, is_some, not, nat_lt, IfOk, IfErr, IfSome, Is
 use Rattle.std.specs.List.{list_all}
 use Rattle.std.specs.Global.{Vec}
 use Rattle.std.proofs.lemmas.Bool.{cases_eq}
+use Rattle.std.proofs.lemmas.Option.{same_Some}
 use mathlib.Core.Option.{some, some-injective, some-ne-none}
 use lib.ListN.{get_elem?}
 use Rattle.ssq_time.specs.Time.{IsStampTime}
@@ -43,14 +44,6 @@ abbrev pub Outcome : (S F : Type 0) → Type 0
 Outcome S F = Result (ReducedRows F) (ReduceFault × Option S)
 
 -- ---- what a desk keeps of it
-
-cause_or : Cause → Option Cause → Cause
-cause_or d None = d
-cause_or d (Some f) = f
-
-pub same_cause : (f g : Cause) → Some f ≡ Some g → f ≡ g
-unfolding cause_or
-same_cause f g is = ap (cause_or f) is
 
 pub back_rests : (f : Option Cause) → place.Back f ≡ place.Rests → ⊥
 back_rests f e = cc
@@ -117,9 +110,9 @@ own_brought tells written sealed s cuts e p state held (Err (reduce.NoMemory, le
 -- what it met is one of its causes
 pub own_cause : {S F : Type 0} (o : Outcome S F) (g : Cause) → fault_of cause_of_failed o ≡ Some g → IsReducedCause g
 own_cause (Ok rows) g is = absurd (true≢false (sym (ap is_some is)))
-own_cause (Err (reduce.Overflow key, left)) g is = subst IsReducedCause (same_cause cause.KeyOverflow g is) tt
-own_cause (Err (reduce.DiskFault, left)) g is = subst IsReducedCause (same_cause cause.DiskFault g is) tt
-own_cause (Err (reduce.NoMemory, left)) g is = subst IsReducedCause (same_cause cause.NoMemory g is) tt
+own_cause (Err (reduce.Overflow key, left)) g is = subst IsReducedCause (same_Some cause.KeyOverflow g is) tt
+own_cause (Err (reduce.DiskFault, left)) g is = subst IsReducedCause (same_Some cause.DiskFault g is) tt
+own_cause (Err (reduce.NoMemory, left)) g is = subst IsReducedCause (same_Some cause.NoMemory g is) tt
 
 -- which no fault of a log is
 is_logs : Cause → Bool
@@ -129,9 +122,9 @@ is_logs _ = false
 own_no_log : {S F : Type 0} (o : Outcome S F) → fault_of cause_of_failed o ≡ Some cause.LogFault → ⊥
 unfolding is_logs
 own_no_log (Ok rows) is = true≢false (sym (ap is_some is))
-own_no_log (Err (reduce.Overflow key, left)) is = true≢false (sym (ap is_logs (same_cause cause.KeyOverflow cause.LogFault is)))
-own_no_log (Err (reduce.DiskFault, left)) is = true≢false (sym (ap is_logs (same_cause cause.DiskFault cause.LogFault is)))
-own_no_log (Err (reduce.NoMemory, left)) is = true≢false (sym (ap is_logs (same_cause cause.NoMemory cause.LogFault is)))
+own_no_log (Err (reduce.Overflow key, left)) is = true≢false (sym (ap is_logs (same_Some cause.KeyOverflow cause.LogFault is)))
+own_no_log (Err (reduce.DiskFault, left)) is = true≢false (sym (ap is_logs (same_Some cause.DiskFault cause.LogFault is)))
+own_no_log (Err (reduce.NoMemory, left)) is = true≢false (sym (ap is_logs (same_Some cause.NoMemory cause.LogFault is)))
 
 -- ---- what it keeps
 
@@ -216,21 +209,24 @@ not_calm ps i g here out calm = (let h = outside_there ps i g here out in by (li
     by true h out e = true≢false (ap is_some e)
     by false h out e = true≢false (ap is_some (sym (ap (λ (b : Bool). if not b then Some h else None) out) ∙ e))
 
+-- the causes of a reduce task
+pub reduced_cases : (P : Cause → Type 0) → P cause.DiskFault → P cause.NoMemory → P cause.KeyOverflow → (f : Cause) → IsReducedCause f → P f
+reduced_cases P disk memory key cause.DiskFault is = disk
+reduced_cases P disk memory key cause.NoMemory is = memory
+reduced_cases P disk memory key cause.KeyOverflow is = key
+reduced_cases P disk memory key (cause.BadLine t p o w) is = absurd is
+reduced_cases P disk memory key (cause.Overflow t p o) is = absurd is
+reduced_cases P disk memory key (cause.LogShort t p l w) is = absurd is
+reduced_cases P disk memory key (cause.Damaged w) is = absurd is
+reduced_cases P disk memory key cause.LogFault is = absurd is
+reduced_cases P disk memory key cause.Full is = absurd is
+
 -- a desk that ran stops for what its reduce tasks met
 pub reduce_stops : (reads owned : Type 0) (s : Setting) (cuts : Cuts) (e : ℕ) (reduces : List Place) (g : Cause) (key : Option Values) → due_stop reduces ≡ Some g → ((q : ℕ) (h : Cause) → get_elem? reduces q ≡ some (place.Back (Some h)) → IsReducedCause h)
     → (g ≡ cause.KeyOverflow → IsStopOf reads owned s cuts e key cause.KeyOverflow) → IsStopOf reads owned s cuts e key g
-reduce_stops reads owned s cuts e reduces g key is each own = (let c = cause_counts reduces g is in by g (each c.place_of g c.here) own)
-  where
-    by : (g : Cause) → IsReducedCause g → (g ≡ cause.KeyOverflow → IsStopOf reads owned s cuts e key cause.KeyOverflow) → IsStopOf reads owned s cuts e key g
-    by cause.DiskFault is own = tt
-    by cause.NoMemory is own = tt
-    by cause.KeyOverflow is own = own refl
-    by (cause.BadLine t p o w) is own = absurd is
-    by (cause.Overflow t p o) is own = absurd is
-    by (cause.LogShort t p l w) is own = absurd is
-    by (cause.Damaged w) is own = absurd is
-    by cause.LogFault is own = absurd is
-    by cause.Full is own = absurd is
+reduce_stops reads owned s cuts e reduces g key is each own =
+    let c = cause_counts reduces g is in
+    reduced_cases (λ g. (g ≡ cause.KeyOverflow → IsStopOf reads owned s cuts e key cause.KeyOverflow) → IsStopOf reads owned s cuts e key g) (λ own. tt) (λ own. tt) (λ own. own refl) g (each c.place_of g c.here) own
 
 -- any other cause says nothing of keys
 pub rekeyed : (reads owned : Type 0) (s : Setting) (cuts : Cuts) (e : ℕ) (key other : Option Values) (g : Cause) → (g ≡ cause.KeyOverflow → ⊥) → IsStopOf reads owned s cuts e key g → IsStopOf reads owned s cuts e other g

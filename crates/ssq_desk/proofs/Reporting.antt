@@ -31,6 +31,7 @@ use Rattle.ssq_terms.proofs.Showing.{are_quiet}
 use Rattle.ssq_desk.specs.declared.desk.Source.{Source}
 use Rattle.std.proofs.lemmas.List.{get_or_default}
 use Rattle.std.proofs.lemmas.List.Elements.{All-filter}
+use Rattle.std.proofs.lemmas.Option.{same_Some}
 use Rattle.ssq_value.specs.Key.{keys_of}
 use Rattle.ssq_route.specs.Place.{place_of}
 use Rattle.ssq_meaning.specs.Epochs.{bucket}
@@ -81,14 +82,7 @@ first_between query [] froms tos p part at a b there is before = absurd (omega (
 first_between query (x ∷ parts) [] tos p part at a b there is before = absurd (omega (arith, a))
 first_between query (x ∷ parts) (from ∷ froms) [] p part at a b there is before = absurd (omega (arith, b))
 first_between query (x ∷ parts) (from ∷ froms) (to ∷ tos) zero part at a b there is before =
-    ap (λ o. or_else o (fault_between query parts froms tos)) (ap (λ q. fault_in query q from to) (same x part there) ∙ is)
-  where
-    same : (x part : Part) → Some x ≡ Some part → x ≡ part
-    same x part e = ap (λ o. part_or x o) e
-      where
-        part_or : Part → Option Part → Part
-        part_or d None = d
-        part_or d (Some q) = q
+    ap (λ o. or_else o (fault_between query parts froms tos)) (ap (λ q. fault_in query q from to) (same_Some x part there) ∙ is)
 first_between query (x ∷ parts) (from ∷ froms) (to ∷ tos) (suc p) part at a b there is before =
     ap (λ o. or_else o (fault_between query parts froms tos)) (before 0 x (omega arith) refl)
     ∙ first_between query parts froms tos p part at (omega (arith, a)) (omega (arith, b)) there is (λ i q less here. before (suc i) q (omega (arith, less)) here)

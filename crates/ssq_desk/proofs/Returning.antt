@@ -1,13 +1,11 @@
 -- A map task is taken back.
-use Rattle.std.proofs.Common.{min, ◌-◌, ◌^◌, ◌≡◌, ◌<◌, ◌≤◌, ◌+◌, ℕ, Bool, true, false, true≢false, List, length, get_or, set, Option, Some, None, Result, Ok, Err, inl, inr, refl, sym, ap, ◌∙◌, subst, arith}
+use Rattle.std.proofs.Common.{◌-◌, ◌≡◌, ◌<◌, ◌≤◌, ◌+◌, ℕ, Bool, true, false, true≢false, List, length, get_or, set, Option, Some, None, Result, Ok, Err, inl, inr, refl, sym, ap, ◌∙◌, subst, arith}
 use Rattle.std.specs.Prelude.{slice_get, is_some, IfOk, IfErr, if◌then◌else◌}
 use Rattle.std.proofs.lemmas.List.{length-map}
 use Rattle.std.proofs.lemmas.Bool.{cases_eq}
-use Rattle.std.proofs.Math.Nat.{le-min}
 use mathlib.Core.Option.{some}
 use lib.ListN.{get_elem?}
 use Rattle.ssq_outside.specs.History.{History}
-use Rattle.ssq_outside.specs.Faults.{Rises}
 use Rattle.ssq_outside.specs.declared.gate.Kind.TheVariants as kind
 use Rattle.ssq_json.specs.declared.bad_row.BadRow.TheVariants as bad
 use Rattle.ssq_shape.specs.declared.bound.Bound.{Bound}
@@ -15,6 +13,7 @@ use Rattle.ssq_board.specs.declared.front.Cause.TheVariants as cause
 use Rattle.ssq_meaning.specs.Parts.{Part}
 use Rattle.ssq_meaning.specs.Meaning.{Line, Values}
 use Rattle.std.specs.List.{list_all}
+use Rattle.std.proofs.lemmas.Option.{same_Some}
 use Rattle.ssq_meaning.specs.Feeding.{fed_in, time_in, fault_in}
 use Rattle.ssq_plans.specs.declared.part.PartEnd.{PartEnd}
 use Rattle.ssq_feed.specs.declared.task.FedRows.{FedRows}
@@ -50,6 +49,7 @@ use Rattle.ssq_desk.specs.Whole.{IsWhole, HoldsIn, opening_in}
 use Rattle.ssq_desk.proofs.Holding.{holds_map, put_both, put_is}
 use Rattle.ssq_desk.proofs.Reducing.{faulty_by, not_calm}
 use Rattle.ssq_desk.proofs.Handing.{parts_count, tos_count, tos_within}
+use Rattle.ssq_desk.proofs.Wholes.{rises_some}
 use Rattle.ssq_desk.proofs.Reporting.{brought_of, cause_of_fed, map_stops}
 
 -- the rows of a task's lines are those of its part, where the logs tell
@@ -69,29 +69,13 @@ fed_own tells logs query epoch part st pt ls from to partitions fed so stream nu
     same t = (let a = sym stream in let b = sym number in let c = own t in λ i. record { stream = a i; part = b i; lines = c i })
 
 no_fault : (f : Option Cause) (g : Cause) → f ≡ None → place.Back f ≡ place.Back (Some g) → ⊥
-no_fault f g is e = true≢false (ap (λ o. is_some (fault_in_place o)) (sym e) ∙ ap is_some is)
-  where
-    fault_in_place : Place → Option Cause
-    fault_in_place (place.Back o) = o
-    fault_in_place _ = None
+no_fault f g is e = true≢false (ap (λ o. is_some (fault_at o)) (sym e) ∙ ap is_some is)
 
 same_fault : (f : Option Cause) (g h : Cause) → f ≡ Some h → place.Back f ≡ place.Back (Some g) → h ≡ g
-same_fault f g h is e = ap (λ o. cause_or h o) (sym is ∙ ap fault_in_place e)
-  where
-    fault_in_place : Place → Option Cause
-    fault_in_place (place.Back o) = o
-    fault_in_place _ = None
-
-    cause_or : Cause → Option Cause → Cause
-    cause_or d None = d
-    cause_or d (Some c) = c
+same_fault f g h is e = same_Some h g (sym is ∙ ap fault_at e)
 
 has_fault : (f : Option Cause) (h : Cause) → f ≡ Some h → place.Back f ≡ place.Back None → ⊥
-has_fault f h is e = true≢false (ap is_some (sym is) ∙ ap (λ o. is_some (fault_in_place o)) e)
-  where
-    fault_in_place : Place → Option Cause
-    fault_in_place (place.Back o) = o
-    fault_in_place _ = None
+has_fault f h is e = true≢false (ap is_some (sym is) ∙ ap (λ o. is_some (fault_at o)) e)
 
 back_rests : (f : Option Cause) → place.Back f ≡ place.Rests → ⊥
 back_rests f e = cc
@@ -145,32 +129,13 @@ module _ {L : Type 0} (tells logs : Type 0) (lines : L → List Line) (available
       own_cause (cause.Damaged q) c' = tt
       own_cause cause.Full c' = tt
 
-part_same : (a b : Part) → Some a ≡ Some b → a ≡ b
-part_same a b e = ap (λ o. part_or a o) e
-  where
-    part_or : Part → Option Part → Part
-    part_or d None = d
-    part_or d (Some x) = x
-
 first_none : (o p : Option Cause) → or_stop o p ≡ None → o ≡ None
 first_none None p e = refl
 first_none (Some f) p e = e
 
-cause_same : (f g : Cause) → Some f ≡ Some g → f ≡ g
-cause_same f g e = ap (λ o. cause_or f o) e
-  where
-    cause_or : Cause → Option Cause → Cause
-    cause_or d None = d
-    cause_or d (Some c) = c
-
 -- the source whose log is with a worker
 pub old_source : {L : Type 0} (c : Core) (sources : List (Source L)) (i : ℕ) → length c.maps ≡ length sources → get_elem? c.maps i ≡ some place.Away → (old : Source L) × (get_elem? sources i ≡ some old)
 old_source c sources i each away = there_at sources i (let less = at_length c.maps i place.Away away in omega (arith, less, each))
-
-rises_some : (before now : ℕ) → Rises before now → 0 < now
-rises_some before now rises =
-    let low : 1 ≤ min (before + 1) (2 ^ 64 - 1) = le-min (omega arith) (omega arith) in
-    let risen : min (before + 1) (2 ^ 64 - 1) ≤ now = rises in omega (arith, low, risen)
 
 is_logs : Option Cause → Bool
 is_logs (Some cause.LogFault) = true
@@ -259,7 +224,7 @@ module _ {D L S F : Type 0} (stores logs : Type 0) (history : D → History) (li
       let h : IsBackHere = back_here in
       let source : (q : Part) → slice_get (parts_in s) done.number ≡ Some q → IsSourceOf (stores × logs) lines available (LogWent logs lines available answers faults) shown.opening.logs.items done.number q (get_or shown.scope.available done.number 0) (place.Back f) x = λ q there.
       (let was = whole.holds.logs done.number q place.Away old there away here in
-      let same = part_same of.part q (sym h.there ∙ there) in record {
+      let same = same_Some of.part q (sym h.there ∙ there) in record {
         stream = was.stream ∙ sym stream;
         number = was.number ∙ sym part;
         log = λ here. (
@@ -276,7 +241,7 @@ module _ {D L S F : Type 0} (stores logs : Type 0) (history : D → History) (li
       }) in
       let mapped : c.front.stop ≡ None → is_open c ≡ true → (q : Part) → slice_get (parts_in s) done.number ≡ Some q
       → IsMapped (stores × logs) s.job.bound c.front.committed q (get_or (cut_of (cuts c.front.committed)) done.number 0) (get_or (cut_of (cuts (c.front.committed + 1))) done.number 0) s.job.partitions c.reduces (place.Back f) x = λ run opened q there.
-      (let same = part_same of.part q (sym h.there ∙ there) in
+      (let same = same_Some of.part q (sym h.there ∙ there) in
       let was = (whole.holds.epoch run opened).mapped done.number of.part place.Away old h.there away here in
       subst (λ (z : Part). IsMapped (stores × logs) s.job.bound c.front.committed z (get_or (cut_of (cuts c.front.committed)) done.number 0) (get_or (cut_of (cuts (c.front.committed + 1))) done.number 0) s.job.partitions c.reduces (place.Back f) x) same
       (back_mapped (stores × logs) logs lines available answers faults (λ both. both.1) s.job.bound c.front.committed of.part _ _ s.job.partitions c.reduces task.log done.log done.outcome f x

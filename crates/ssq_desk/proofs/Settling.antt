@@ -2,6 +2,7 @@
 use Rattle.std.proofs.Common.{◌≡◌, ◌≤◌, ◌+◌, [], ◌∷◌, ℕ, Bool, true, false, true≢false, List, Option, Some, None, Result, Ok, Err, refl, sym, ap, ◌∙◌, subst, arith}
 use Rattle.std.specs.Prelude.{is_some, OnOk, IfErr}
 use Rattle.std.specs.Global.{Vec}
+use Rattle.std.proofs.lemmas.Option.{same_Some}
 use mathlib.Core.Option.{some}
 use Rattle.ssq_meaning.specs.Meaning.{Line, Values}
 use Rattle.ssq_outside.specs.declared.name.Name.TheVariants as name
@@ -22,9 +23,11 @@ use Rattle.ssq_desk.specs.declared.desk.Load.{Load}
 use Rattle.ssq_desk.specs.declared.desk.Pending.{Pending}
 use Rattle.ssq_desk.specs.declared.round.Round.{Round}
 use Rattle.ssq_desk.specs.Round.{setting_of, Owns}
-use Rattle.ssq_desk.specs.Contents.{IsPending, IsStopOf, IsHeldAt, key_in}
+use Rattle.ssq_desk.specs.Contents.{IsPending, IsStopOf, IsHeldAt}
 use Rattle.ssq_desk.proofs.Keeping.{commit_fine, next_held}
-use Rattle.ssq_desk.proofs.Wholes.{never_key}
+use Rattle.ssq_desk.proofs.Holding.{holds_on}
+use Rattle.ssq_desk.proofs.Wholes.{stopped_whole, with_pending}
+use Rattle.ssq_feed.specs.Causes.{LogWent}
 use Rattle.ssq_desk.specs.declared.told.Told.{Told}
 use Rattle.ssq_desk.specs.Closing.{AreTold}
 use Rattle.ssq_desk.specs.Whole.{IsWhole, opening_in}
@@ -48,29 +51,9 @@ risen_stops reads owned s cuts e (cause.Damaged q) before now has key = absurd h
 pub disk_no_log : cause.DiskFault ≡ cause.LogFault → ⊥
 disk_no_log e = cc
 
-cause_or : Cause → Option Cause → Cause
-cause_or d None = d
-cause_or d (Some f) = f
-
-pub some_cause : (f g : Cause) → Some f ≡ Some g → f ≡ g
-unfolding cause_or
-some_cause f g is = ap (cause_or f) is
-
-pending_or : {F : Type 0} → Pending F → Option (Pending F) → Pending F
-pending_or d None = d
-pending_or d (Some p) = p
-
-pub some_pending : {F : Type 0} (p q : Pending F) → Some p ≡ Some q → p ≡ q
-unfolding pending_or
-some_pending p q is = ap (pending_or p) is
-
 -- with as many epochs committed as are planned, none runs
 closed_then : (c : Core) → c.front.planned ≤ c.front.committed → is_open c ≡ false
 closed_then c near = nat_lt-not c.front.committed c.front.planned near
-
--- with another commit that is to be published
-abbrev pub with_pending : {L S F : Type 0} → Load L S F → Option (Pending F) → Load L S F
-with_pending load pending = record { view = load.view; plans = load.plans; sources = load.sources; shares = load.shares; held = load.held; out = load.out; seen = load.seen; pending = pending; told = load.told; kept = load.kept }
 
 -- with a commit that was published
 abbrev pub with_commit : {L S F : Type 0} → Load L S F → Pending F → Vec Told → Load L S F
@@ -81,43 +64,9 @@ module _ {D L S F : Type 0} (stores logs : Type 0) (history : D → History) (li
   -- names were synced
   pub synced_whole : (clock : ℕ) → shown.core.front.stop ≡ None → IsWhole stores logs history lines available answers faults written sealed (did shown disk (entry.Sync clock ∷ [])) load
   synced_whole clock runs =
-      let h = whole.holds in
-      moved_whole stores logs history lines available answers faults written sealed shown load whole disk (entry.Sync clock) load (λ cuts c. refl) refl refl refl refl whole.told whole.told_room (λ e. absurd (true≢false (sym (ap is_some e)))) (record {
-        parts = h.parts;
-        partitions = h.partitions;
-        keeping = h.keeping;
-        logs = h.logs;
-        reduced = h.reduced;
-        dealt = h.dealt;
-        keys = h.keys;
-        still = λ stopped. absurd (true≢false (sym (ap is_some stopped)));
-        kept = λ run. h.kept runs;
-        seen_so_far = λ run. h.seen_so_far runs;
-        epoch = λ run opened. (let e = h.epoch runs opened in record { froms = e.froms; mapped = e.mapped; shared = e.shared; last = e.last; outs = e.outs });
-        commit = λ run opened written_is. h.commit runs opened written_is;
-        stop = λ f stopped. absurd (true≢false (sym (ap is_some stopped)));
-      })
-
-  -- a Stop, with another commit
-  pub halted_whole : (f : Cause) (pending : Option (Pending F)) → (f ≡ cause.LogFault → ⊥) → ((key : Option Values) → IsStopOf (stores × logs) (Owns stores logs history lines shown) (setting_of lines shown.opening) (cuts_of (opening_in lines) shown) shown.core.front.committed key f)
-      → IsWhole stores logs history lines available answers faults written sealed (did shown disk (entry.Stop f ∷ [])) (with_pending load pending)
-  halted_whole f pending no_log right =
-      let h = whole.holds in
-      moved_whole stores logs history lines available answers faults written sealed shown load whole disk (entry.Stop f) (with_pending load pending) (λ cuts c. refl) refl refl refl refl whole.told whole.told_room (λ e. absurd (no_log (some_cause f cause.LogFault e))) (record {
-        parts = h.parts;
-        partitions = h.partitions;
-        keeping = h.keeping;
-        logs = h.logs;
-        reduced = h.reduced;
-        dealt = h.dealt;
-        keys = h.keys;
-        still = λ e. absurd (never_key (stores × logs) (Owns stores logs history lines shown) (setting_of lines shown.opening) (cuts_of (opening_in lines) shown) shown.core.front.committed f right (some_cause f cause.KeyOverflow e));
-        kept = λ run. absurd (true≢false (ap is_some run));
-        seen_so_far = λ run. absurd (true≢false (ap is_some run));
-        epoch = λ run opened. absurd (true≢false (ap is_some run));
-        commit = λ run opened written_is. absurd (true≢false (ap is_some run));
-        stop = λ g is. subst (IsStopOf (stores × logs) (Owns stores logs history lines shown) (setting_of lines shown.opening) (cuts_of (opening_in lines) shown) shown.core.front.committed (key_in load.shares.items)) (some_cause f g is) (right (key_in load.shares.items));
-      })
+      moved_whole stores logs history lines available answers faults written sealed shown load whole disk (entry.Sync clock) load (λ cuts c. refl) refl refl refl refl whole.told whole.told_room (λ e. absurd (true≢false (sym (ap is_some e))))
+      (holds_on (stores × logs) (Owns stores logs history lines shown) lines available (LogWent logs lines available answers faults) shown.opening.logs.items written sealed (setting_of lines shown.opening) (cuts_of (opening_in lines) shown) shown.scope.available shown.core true true shown.core.front.written
+      load.sources.items load.shares.items load.held.items load.out load.seen load.pending load.pending whole.holds runs (whole.holds.commit runs))
 
   -- the epoch is committed, and no other is planned
   pub committed_whole : (due : Bool) (p : Pending F) (told : Vec Told) → shown.core.front.stop ≡ None → is_open shown.core ≡ true → list_all is_fine shown.core.reduces ≡ true → shown.core.front.planned ≤ shown.core.front.committed + 1
@@ -160,7 +109,7 @@ module _ {D L S F : Type 0} (stores logs : Type 0) (history : D → History) (li
       subst (λ (x : Shown D (Round L)). IsWhole stores logs history lines available answers faults written sealed x load) (sym done.1) (synced_whole stores logs history lines available answers faults written sealed shown load whole now.disk done.0 runs)
   after_sync now (Err f) before later runs done stopped =
       subst (λ (x : Shown D (Round L)). IsWhole stores logs history lines available answers faults written sealed x load) (sym stopped.0)
-      (halted_whole stores logs history lines available answers faults written sealed shown load whole now.disk f load.pending (risen_no_log f before later stopped.1)
+      (stopped_whole stores logs history lines available answers faults written sealed shown load whole now.disk f load.pending (risen_no_log f before later stopped.1)
       (risen_stops (stores × logs) (Owns stores logs history lines shown) (setting_of lines shown.opening) (cuts_of (opening_in lines) shown) shown.core.front.committed f before later stopped.1))
 
   -- the epoch is committed, with what is left of the load
@@ -170,7 +119,7 @@ module _ {D L S F : Type 0} (stores logs : Type 0) (history : D → History) (li
       → IsWhole stores logs history lines available answers faults written sealed now (record { view = load.view; plans = load.plans; sources = load.sources; shares = load.shares; held = load.held; out = load.out; seen = p.seen; pending = none; told = told; kept = load.kept })
   after_commit now p none told near none_is p_is next done are =
       let h = pending_here next in
-      let own = subst (IsPending (Owns stores logs history lines shown) sealed (setting_of lines shown.opening) (cuts_of (opening_in lines) shown) shown.core.front.committed) (some_pending h.0 p (sym h.1 ∙ p_is)) h.2 in
+      let own = subst (IsPending (Owns stores logs history lines shown) sealed (setting_of lines shown.opening) (cuts_of (opening_in lines) shown) shown.core.front.committed) (same_Some h.0 p (sym h.1 ∙ p_is)) h.2 in
       subst (λ (x : Shown D (Round L)). IsWhole stores logs history lines available answers faults written sealed x (record { view = load.view; plans = load.plans; sources = load.sources; shares = load.shares; held = load.held; out = load.out; seen = p.seen; pending = none; told = told; kept = load.kept })) (sym done.1)
       (subst (λ (o : Option (Pending F)). IsWhole stores logs history lines available answers faults written sealed (did shown now.disk (entry.Commit shown.core.front.committed done.0 ∷ [])) (record { view = load.view; plans = load.plans; sources = load.sources; shares = load.shares; held = load.held; out = load.out; seen = p.seen; pending = o; told = told; kept = load.kept })) (sym none_is)
       (let m = commit_may shown.scope shown.core false next in committed_whole stores logs history lines available answers faults written sealed shown load whole now.disk done.0 p told m.0 m.2 (commit_fine shown.scope shown.core next) near are own))
@@ -179,10 +128,10 @@ module _ {D L S F : Type 0} (stores logs : Type 0) (history : D → History) (li
   pub uncommitted : (now : Shown D (Round L)) (none : Option (Pending F)) → now ≡ did shown now.disk (entry.Stop cause.DiskFault ∷ []) → IsWhole stores logs history lines available answers faults written sealed now (with_pending load none)
   uncommitted now none stopped =
       subst (λ (x : Shown D (Round L)). IsWhole stores logs history lines available answers faults written sealed x (with_pending load none)) (sym stopped)
-      (halted_whole stores logs history lines available answers faults written sealed shown load whole now.disk cause.DiskFault none disk_no_log (λ key. tt))
+      (stopped_whole stores logs history lines available answers faults written sealed shown load whole now.disk cause.DiskFault none disk_no_log (λ key. tt))
 
   -- and it is the epoch's
   pub pending_right : (p : Pending F) → load.pending ≡ Some p → ready_of shown.scope shown.core ≡ ready.Commit
       → Owns stores logs history lines shown → sealed p.commit ≡ truth ((opening_in lines shown.opening).job.course (cuts_of (opening_in lines) shown)) (name.Commit shown.core.front.committed)
   pending_right p p_is next t =
-      let h = pending_here next in ap (λ (x : Pending F). sealed x.commit) (some_pending p h.0 (sym p_is ∙ h.1)) ∙ h.2.commit t
+      let h = pending_here next in ap (λ (x : Pending F). sealed x.commit) (same_Some p h.0 (sym p_is ∙ h.1)) ∙ h.2.commit t

@@ -1,7 +1,6 @@
 -- How a snapshot is handed out and taken back.
-use Rattle.std.proofs.Common.{◌≡◌, ◌<◌, ◌≤◌, ◌+◌, ◌-◌, ◌^◌, ◌++◌, ◌||◌, [], ◌∷◌, ℕ, Bool, false, true, List, length, Option, Some, None, Result, Ok, Err, inl, inr, refl, sym, ap, ◌∙◌, subst, arith, min}
+use Rattle.std.proofs.Common.{◌≡◌, ◌<◌, ◌≤◌, ◌+◌, ◌-◌, ◌^◌, ◌++◌, ◌||◌, [], ◌∷◌, ℕ, Bool, false, true, List, length, Option, Some, None, Result, Ok, Err, inl, inr, refl, sym, ap, ◌∙◌, subst, arith}
 use Rattle.std.specs.Prelude.{IfErr, IfOk, IfSome}
-use Rattle.std.proofs.Math.Nat.{le-min}
 use Rattle.std.proofs.lemmas.List.{append-nil}
 use Rattle.ssq_outside.specs.declared.disk.DiskError.{DiskError}
 use Rattle.ssq_outside.specs.declared.disk.DiskError.TheVariants as disk_error
@@ -41,11 +40,11 @@ use Rattle.ssq_desk.specs.Contents.{IsStopOf, keeping_in}
 use Rattle.ssq_desk.specs.Round.{Owns, setting_of}
 use Rattle.ssq_desk.specs.Upkeep.{AreReadFor, FailsFor, IsKept, IsMalformed, IsMissing, IsNextDue, IsUnread, IsUpkeepOf, IsUpkeepTask, NeverDamaged, cause_of_snapshot}
 use Rattle.ssq_desk.specs.Whole.{IsWhole, opening_in}
-use Rattle.ssq_desk.proofs.Entries.{claimed_whole, fails_no_log, fails_stop, memory_whole, unmade_whole}
+use Rattle.ssq_desk.proofs.Entries.{claimed_whole, fails_no_log, fails_so, fails_stop, memory_whole, unmade_whole}
 use Rattle.ssq_desk.proofs.Leaving.{keeping_most}
 use Rattle.ssq_desk.proofs.Readings.{damaged_among, floor_of}
 use Rattle.ssq_desk.proofs.Snapshots.{never_missing, newest_older, read_makes}
-use Rattle.ssq_desk.proofs.Wholes.{cuts_then, did_then}
+use Rattle.ssq_desk.proofs.Wholes.{cuts_then, did_then, rises_some}
 
 -- ---- why it fails
 
@@ -94,11 +93,6 @@ snapshot_stops reads owned s cuts e (snapshot.Damaged q) never key = never
 snapshot_stops reads owned s cuts e snapshot.DiskFault never key = tt
 snapshot_stops reads owned s cuts e snapshot.NoMemory never key = tt
 
-rises_some : (before now : ℕ) → Rises before now → 0 < now
-rises_some before now rises =
-    let low : 1 ≤ min (before + 1) (2 ^ 64 - 1) = le-min (omega arith) (omega arith) in
-    let risen : min (before + 1) (2 ^ 64 - 1) ≤ now = rises in omega (arith, low, risen)
-
 -- ---- names
 
 -- the last of a list is among them
@@ -137,85 +131,104 @@ module _ {D L S F : Type 0} (stores logs : Type 0) (history : D → History) (li
       subst (λ (x : Shown D (Round L)). IsWhole stores logs history lines available answers faults written sealed x load) (sym (none.1 ∙ ap (λ (g : Cause). did shown shown.disk (entry.Stop g ∷ [])) none.0))
       (memory_whole stores logs history lines available answers faults written sealed shown load whole shown.disk)
 
-  module _ (shelf : (disk : D) (e : Entry) → shelf_of (opening_in lines) (did shown disk (e ∷ [])) ≡ shelf_by shown.core (shelf_of (opening_in lines) shown) e)
-      (keeping : ℕ) (keeps : keeping ≡ keeping_in (setting_of lines shown.opening)) (mid : Shown D (Round L)) (p v : ℕ) (claimed : IsClaimed (opening_in lines) keeping shown mid (Ok (Some (p, v)))) (now : Shown D (Round L)) (begun : now ≡ did mid now.disk []) where
-    abbrev owned : Type 0
-    owned = Owns stores logs history lines shown
+-- A snapshot is under way: it is claimed as the one that is due next, and the disk was read for it.
+pub record IsUnderway {D L S F : Type 0} (stores logs : Type 0) (history : D → History) (lines : L → List Line) (available : L → ℕ) (answers : L → List ℕ) (faults : L → ℕ) (written : S → List ℕ) (sealed : F → List ℕ) (shown : Shown D (Round L)) (load : Load L S F)
+    (keeping : ℕ) (mid : Shown D (Round L)) (p v : ℕ) (now : Shown D (Round L)) : Type 0 where
+  pub whole : IsWhole stores logs history lines available answers faults written sealed shown load
+  pub shelf : (disk : D) (e : Entry) → shelf_of (opening_in lines) (did shown disk (e ∷ [])) ≡ shelf_by shown.core (shelf_of (opening_in lines) shown) e
+  pub keeps : keeping ≡ keeping_in (setting_of lines shown.opening)
+  pub claimed : IsClaimed (opening_in lines) keeping shown mid (Ok (Some (p, v)))
+  pub begun : now ≡ did mid now.disk []
 
-    abbrev names : List Name
-    names = there_in (shelf_of (opening_in lines) shown)
+module _ {D L S F : Type 0} {stores logs : Type 0} {history : D → History} {lines : L → List Line} {available : L → ℕ} {answers : L → List ℕ} {faults : L → ℕ} {written : S → List ℕ} {sealed : F → List ℕ} {shown : Shown D (Round L)} {load : Load L S F} {keeping : ℕ} {mid : Shown D (Round L)}
+    {p v : ℕ} {now : Shown D (Round L)} (way : IsUnderway stores logs history lines available answers faults written sealed shown load keeping mid p v now) where
+  abbrev owned : Type 0
+  owned = Owns stores logs history lines shown
 
-    same_names : there_in (shelf_of (opening_in lines) mid) ≡ names
-    same_names = ap (λ (x : Shown D (Round L)). there_in (shelf_of (opening_in lines) x)) claimed.0 ∙ ap there_in (shelf shown.disk (entry.Upkeep p v))
+  abbrev names : List Name
+  names = there_in (shelf_of (opening_in lines) shown)
 
-    same_disk : mid.disk ≡ shown.disk
-    same_disk = ap (λ (x : Shown D (Round L)). x.disk) claimed.0
+  same_names : there_in (shelf_of (opening_in lines) mid) ≡ names
+  same_names = ap (λ (x : Shown D (Round L)). there_in (shelf_of (opening_in lines) x)) way.claimed.0 ∙ ap there_in (way.shelf shown.disk (entry.Upkeep p v))
 
-    -- it was handed out, and nothing else was done
-    pub handed_is : now ≡ did shown now.disk (entry.Upkeep p v ∷ [])
-    handed_is = begun ∙ ap (λ (x : Shown D (Round L)). did x now.disk []) claimed.0 ∙ did_then shown shown.disk now.disk (entry.Upkeep p v ∷ []) []
+  same_disk : mid.disk ≡ shown.disk
+  same_disk = ap (λ (x : Shown D (Round L)). x.disk) way.claimed.0
 
-    pub handed_whole : IsWhole stores logs history lines available answers faults written sealed now load
-    handed_whole = subst (λ (x : Shown D (Round L)). IsWhole stores logs history lines available answers faults written sealed x load) (sym handed_is) (claimed_whole stores logs history lines available answers faults written sealed shown load whole now.disk p v)
+  -- it was handed out, and nothing else was done
+  pub handed_is : now ≡ did shown now.disk (entry.Upkeep p v ∷ [])
+  handed_is = way.begun ∙ ap (λ (x : Shown D (Round L)). did x now.disk []) way.claimed.0 ∙ did_then shown shown.disk now.disk (entry.Upkeep p v ∷ []) []
 
-    -- it is being made
-    pub handed_claimed : is_among (shelf_of (opening_in lines) now).claimed (name.Snapshot p v) ≡ true
-    handed_claimed =
-        ap (λ (x : Shown D (Round L)). is_among (shelf_of (opening_in lines) x).claimed (name.Snapshot p v)) handed_is
-        ∙ ap (λ (k : Shelf). is_among k.claimed (name.Snapshot p v)) (shelf now.disk (entry.Upkeep p v))
-        ∙ among_last (shelf_of (opening_in lines) shown).claimed (name.Snapshot p v)
+  pub handed_whole : IsWhole stores logs history lines available answers faults written sealed now load
+  handed_whole = subst (λ (x : Shown D (Round L)). IsWhole stores logs history lines available answers faults written sealed x load) (sym handed_is) (claimed_whole stores logs history lines available answers faults written sealed shown load way.whole now.disk p v)
 
-    pub handed_next : IsNextDue (opening_in lines) (keeping_in (setting_of lines shown.opening)) shown p v
-    handed_next = (subst (λ (n : ℕ). p < n) keeps claimed.1, claimed.2, claimed.3)
+  -- it is being made
+  pub handed_claimed : is_among (shelf_of (opening_in lines) now).claimed (name.Snapshot p v) ≡ true
+  handed_claimed =
+      ap (λ (x : Shown D (Round L)). is_among (shelf_of (opening_in lines) x).claimed (name.Snapshot p v)) handed_is
+      ∙ ap (λ (k : Shelf). is_among k.claimed (name.Snapshot p v)) (way.shelf now.disk (entry.Upkeep p v))
+      ∙ among_last (shelf_of (opening_in lines) shown).claimed (name.Snapshot p v)
 
-    -- what was read, by what there was before
-    pub read_before : (task : UpkeepTask S) → AreReadFor stores (files_now (history mid.disk)) (there_in (shelf_of (opening_in lines) mid)) task → AreReadFor stores (files_now (history shown.disk)) names task
-    read_before task read =
-        subst (λ (d : D). AreReadFor stores (files_now (history d)) names task) same_disk
-        (subst (λ (l : List Name). AreReadFor stores (files_now (history mid.disk)) l task) same_names read)
+  pub handed_next : IsNextDue (opening_in lines) (keeping_in (setting_of lines shown.opening)) shown p v
+  handed_next = (subst (λ (n : ℕ). p < n) way.keeps way.claimed.1, way.claimed.2, way.claimed.3)
 
-    module _ (have : TasksHaveTerms) (opens : DeskOpensAsFound) (of : StatesAreJobs) (here : Owns stores logs history lines shown → LeadsHere (Owns stores logs history lines shown) history (opening_in lines) shown) (runs : shown.core.front.stop ≡ None) where
-      -- a file that was not found
-      pub missing : (q : Name) → IsUnread stores (files_now (history mid.disk)) p v (there_in (shelf_of (opening_in lines) mid)) q → IsMissing stores owned (files_now (history shown.disk)) p v names q
-      missing q read =
-          let unread = subst (λ (d : D). IsUnread stores (files_now (history d)) p v names q) same_disk (subst (λ (l : List Name). IsUnread stores (files_now (history mid.disk)) p v l q) same_names read) in (
-            unread,
-            (λ t. never_missing stores logs history lines shown whole.round have opens of here runs p v handed_next.0 handed_next.2.due t t.0 q unread),
-          )
+  -- what was read, by what there was before
+  pub read_before : (task : UpkeepTask S) → AreReadFor stores (files_now (history mid.disk)) (there_in (shelf_of (opening_in lines) mid)) task → AreReadFor stores (files_now (history shown.disk)) names task
+  read_before task read =
+      subst (λ (d : D). AreReadFor stores (files_now (history d)) names task) same_disk
+      (subst (λ (l : List Name). AreReadFor stores (files_now (history mid.disk)) l task) same_names read)
 
-      -- all that was read makes the state
-      pub handed_task : (change : (p v : ℕ) (before after : State) → IsState before → IsState after → length (between before after) < 2 ^ 64 → IsDelta (Some (delta_text p v (between before after))) p v before after)
-          → ((files : Files) (p n floor : ℕ) (states : ℕ → State) → AreTrue files p n floor states → Makes files p n (states n))
-          → (stage_faults : S → ℕ) (task : UpkeepTask S) → task.partition ≡ p → task.version ≡ v → AreReadFor stores (files_now (history mid.disk)) (there_in (shelf_of (opening_in lines) mid)) task
-          → (stores → written task.stage ≡ []) → stage_faults task.stage ≡ 0 → IsUpkeepOf stores logs history lines written stage_faults now task
-      handed_task change made stage_faults task p_is v_is read empty fresh =
-          let is = read_before task read in
-          let due = subst (λ (n : ℕ). IsNextDue (opening_in lines) (keeping_in (setting_of lines shown.opening)) shown task.partition n) (sym v_is) (subst (λ (n : ℕ). IsNextDue (opening_in lines) (keeping_in (setting_of lines shown.opening)) shown n v) (sym p_is) handed_next) in
-          let at : IsUpkeepTask owned written stage_faults (course_of (setting_of lines shown.opening) (cuts_of (opening_in lines) shown)) task = record {
-            below = is.below;
-            older = newest_older task.partition task.version names is.below is.newest;
-            are = is.are;
-            state = λ t. read_makes stores logs history lines shown whole.round have opens of here runs task.partition task.version due.0 due.2.due t change made task.files.items is;
-            empty = λ t. empty t.0;
-            fresh = fresh;
-          } in
-          subst (λ (x : Shown D (Round L)). IsUpkeepOf stores logs history lines written stage_faults x task) (sym handed_is)
-          (subst (λ (cuts : Cuts). IsUpkeepTask owned written stage_faults (course_of (setting_of lines shown.opening) cuts) task) (sym (cuts_then (opening_in lines shown.opening) shown.scope shown.history (entry.Upkeep p v))) at)
+  module _ (have : TasksHaveTerms) (opens : DeskOpensAsFound) (of : StatesAreJobs) (here : Owns stores logs history lines shown → LeadsHere (Owns stores logs history lines shown) history (opening_in lines) shown) (runs : shown.core.front.stop ≡ None) where
+    -- a file that was not found
+    pub missing : (q : Name) → IsUnread stores (files_now (history mid.disk)) p v (there_in (shelf_of (opening_in lines) mid)) q → IsMissing stores owned (files_now (history shown.disk)) p v names q
+    missing q read =
+        let unread = subst (λ (d : D). IsUnread stores (files_now (history d)) p v names q) same_disk (subst (λ (l : List Name). IsUnread stores (files_now (history mid.disk)) p v l q) same_names read) in (
+          unread,
+          (λ t. never_missing stores logs history lines shown way.whole.round have opens of here runs p v handed_next.0 handed_next.2.due t t.0 q unread),
+        )
 
-    -- it came back at once
-    pub back_is : (last : Shown D (Round L)) (f : Cause) → last ≡ did now now.disk (entry.Unmade p v f ∷ []) → last ≡ did shown last.disk (entry.Upkeep p v ∷ entry.Unmade p v f ∷ [])
-    back_is last f unmade =
-        let all = unmade ∙ ap (λ (x : Shown D (Round L)). did x now.disk (entry.Unmade p v f ∷ [])) handed_is ∙ did_then shown now.disk now.disk (entry.Upkeep p v ∷ []) (entry.Unmade p v f ∷ []) in
-        all ∙ ap (λ (d : D). did shown d (entry.Upkeep p v ∷ entry.Unmade p v f ∷ [])) (sym (ap (λ (x : Shown D (Round L)). x.disk) all))
+    -- so this is why it came back
+    pub back_fails : (disk_faults : D → ℕ) (last : Shown D (Round L)) (f : Cause) → FailsFor (IsUnread stores (files_now (history mid.disk)) p v (there_in (shelf_of (opening_in lines) mid))) (disk_faults mid.disk) (disk_faults now.disk) f → last ≡ did now now.disk (entry.Unmade p v f ∷ [])
+        → FailsFor (IsMissing stores owned (files_now (history shown.disk)) p v names) (disk_faults shown.disk) (disk_faults last.disk) f
+    back_fails disk_faults last f failed unmade =
+        let bad : Name → Type 0 = IsMissing stores owned (files_now (history shown.disk)) p v names in
+        subst (λ (d : D). FailsFor bad (disk_faults shown.disk) (disk_faults d) f) (sym (ap (λ (x : Shown D (Round L)). x.disk) unmade))
+        (subst (λ (d : D). FailsFor bad (disk_faults d) (disk_faults now.disk) f) same_disk
+        (fails_so (IsUnread stores (files_now (history mid.disk)) p v (there_in (shelf_of (opening_in lines) mid))) bad (disk_faults mid.disk) (disk_faults now.disk) f missing failed))
 
-    pub back_whole : (last : Shown D (Round L)) (f : Cause) (IsBad : Name → Type 0) (before after : ℕ) → ((q : Name) → IsBad q → owned → ⊥) → FailsFor IsBad before after f → last ≡ did now now.disk (entry.Unmade p v f ∷ [])
-        → IsWhole stores logs history lines available answers faults written sealed last load
-    back_whole last f IsBad before after never fails unmade =
-        let at : Shown D (Round L) = did shown now.disk (entry.Upkeep p v ∷ []) in
-        let is = claimed_whole stores logs history lines available answers faults written sealed shown load whole now.disk p v in
-        subst (λ (x : Shown D (Round L)). IsWhole stores logs history lines available answers faults written sealed x load) (sym (unmade ∙ ap (λ (x : Shown D (Round L)). did x now.disk (entry.Unmade p v f ∷ [])) handed_is))
-        (unmade_whole stores logs history lines available answers faults written sealed at load is now.disk p v f (fails_no_log IsBad before after f fails)
-        (fails_stop IsBad (stores × logs) owned never (setting_of lines shown.opening) (cuts_of (opening_in lines) at) shown.core.front.committed before after f fails))
+    -- all that was read makes the state
+    pub handed_task : (change : (p v : ℕ) (before after : State) → IsState before → IsState after → length (between before after) < 2 ^ 64 → IsDelta (Some (delta_text p v (between before after))) p v before after)
+        → ((files : Files) (p n floor : ℕ) (states : ℕ → State) → AreTrue files p n floor states → Makes files p n (states n))
+        → (stage_faults : S → ℕ) (task : UpkeepTask S) → task.partition ≡ p → task.version ≡ v → AreReadFor stores (files_now (history mid.disk)) (there_in (shelf_of (opening_in lines) mid)) task
+        → (stores → written task.stage ≡ []) → stage_faults task.stage ≡ 0 → IsUpkeepOf stores logs history lines written stage_faults now task
+    handed_task change made stage_faults task p_is v_is read empty fresh =
+        let is = read_before task read in
+        let due = subst (λ (n : ℕ). IsNextDue (opening_in lines) (keeping_in (setting_of lines shown.opening)) shown task.partition n) (sym v_is) (subst (λ (n : ℕ). IsNextDue (opening_in lines) (keeping_in (setting_of lines shown.opening)) shown n v) (sym p_is) handed_next) in
+        let at : IsUpkeepTask owned written stage_faults (course_of (setting_of lines shown.opening) (cuts_of (opening_in lines) shown)) task = record {
+          below = is.below;
+          older = newest_older task.partition task.version names is.below is.newest;
+          are = is.are;
+          state = λ t. read_makes stores logs history lines shown way.whole.round have opens of here runs task.partition task.version due.0 due.2.due t change made task.files.items is;
+          empty = λ t. empty t.0;
+          fresh = fresh;
+        } in
+        subst (λ (x : Shown D (Round L)). IsUpkeepOf stores logs history lines written stage_faults x task) (sym handed_is)
+        (subst (λ (cuts : Cuts). IsUpkeepTask owned written stage_faults (course_of (setting_of lines shown.opening) cuts) task) (sym (cuts_then (opening_in lines shown.opening) shown.scope shown.history (entry.Upkeep p v))) at)
+
+  -- it came back at once
+  pub back_is : (last : Shown D (Round L)) (f : Cause) → last ≡ did now now.disk (entry.Unmade p v f ∷ []) → last ≡ did shown last.disk (entry.Upkeep p v ∷ entry.Unmade p v f ∷ [])
+  back_is last f unmade =
+      let all = unmade ∙ ap (λ (x : Shown D (Round L)). did x now.disk (entry.Unmade p v f ∷ [])) handed_is ∙ did_then shown now.disk now.disk (entry.Upkeep p v ∷ []) (entry.Unmade p v f ∷ []) in
+      all ∙ ap (λ (d : D). did shown d (entry.Upkeep p v ∷ entry.Unmade p v f ∷ [])) (sym (ap (λ (x : Shown D (Round L)). x.disk) all))
+
+  pub back_whole : (last : Shown D (Round L)) (f : Cause) (before after : ℕ) → FailsFor (IsMissing stores owned (files_now (history shown.disk)) p v names) before after f → last ≡ did now now.disk (entry.Unmade p v f ∷ [])
+      → IsWhole stores logs history lines available answers faults written sealed last load
+  back_whole last f before after fails unmade =
+      let bad : Name → Type 0 = IsMissing stores owned (files_now (history shown.disk)) p v names in
+      let at : Shown D (Round L) = did shown now.disk (entry.Upkeep p v ∷ []) in
+      let is = claimed_whole stores logs history lines available answers faults written sealed shown load way.whole now.disk p v in
+      subst (λ (x : Shown D (Round L)). IsWhole stores logs history lines available answers faults written sealed x load) (sym (unmade ∙ ap (λ (x : Shown D (Round L)). did x now.disk (entry.Unmade p v f ∷ [])) handed_is))
+      (unmade_whole stores logs history lines available answers faults written sealed at load is now.disk p v f (fails_no_log bad before after f fails)
+      (fails_stop bad (stores × logs) owned (λ q is_bad. is_bad.1) (setting_of lines shown.opening) (cuts_of (opening_in lines) at) shown.core.front.committed before after f fails))
 
 -- ---- a snapshot is taken back
 

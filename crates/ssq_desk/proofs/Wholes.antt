@@ -1,7 +1,9 @@
 -- What is so of each desk stays so after the calls of its ledger.
-use Rattle.std.proofs.Common.{◌≡◌, ◌++◌, [], ◌∷◌, ℕ, ℤ, Bool, false, true≢false, List, length, get_or, Option, Some, None, refl, sym, ap, ◌∙◌, subst}
-use Rattle.std.specs.Prelude.{is_some}
+use Rattle.std.proofs.Common.{◌≡◌, ◌<◌, ◌≤◌, ◌+◌, ◌-◌, ◌^◌, ◌++◌, [], ◌∷◌, ℕ, ℤ, min, Bool, false, true≢false, List, length, get_or, Option, refl, sym, ap, ◌∙◌, subst, arith}
 use Rattle.std.proofs.lemmas.List.{append-nil, append_assoc}
+use Rattle.std.proofs.lemmas.Option.{same_Some}
+use Rattle.std.proofs.Math.Nat.{le-min}
+use Rattle.ssq_outside.specs.Faults.{Rises}
 use Rattle.ssq_meaning.specs.Meaning.{Line, Values}
 use Rattle.ssq_feed.specs.Causes.{LogWent}
 use Rattle.ssq_core.specs.Course.{Cuts, Job}
@@ -26,10 +28,11 @@ use Rattle.ssq_desk.specs.declared.desk.Share.{Share}
 use Rattle.ssq_desk.specs.declared.desk.OutWork.{OutWork}
 use Rattle.ssq_desk.specs.declared.desk.Pending.{Pending}
 use Rattle.ssq_task.specs.declared.partition.Held.{Held}
-use Rattle.ssq_desk.specs.Contents.{IsStopOf, key_in}
+use Rattle.ssq_desk.specs.Contents.{IsStopOf}
 use Rattle.ssq_desk.specs.Room.{AreBegun}
 use Rattle.ssq_desk.specs.Making.{IsUnmade, IsSameLoad, IsMadeFor}
 use Rattle.ssq_desk.specs.Tasks.{IsViewOf}
+use Rattle.ssq_desk.proofs.Holding.{holds_stopped}
 use Rattle.ssq_desk.proofs.Planned.{begun_source}
 use Rattle.ssq_desk.specs.declared.told.Told.{Told}
 use Rattle.ssq_desk.specs.Closing.{AreTold, HasFaulty}
@@ -38,13 +41,6 @@ use Rattle.ssq_desk.specs.Whole.{IsWhole, IsKept, HoldsIn, ArePlans, opening_in}
 cuts_more : (r : Scope) (cuts : Cuts) (c : Core) (es : List Entry) (e : Entry) → cuts_all r cuts c (es ++ e ∷ []) ≡ cuts_by r (cuts_all r cuts c es) (after_all r c es) e
 cuts_more r cuts c [] e = refl
 cuts_more r cuts c (x ∷ es) e = cuts_more r (cuts_by r cuts c x) (after r c x) es e
-
-abbrev cause_or : Cause → Option Cause → Cause
-cause_or d None = d
-cause_or d (Some f) = f
-
-some_same : (f g : Cause) → Some f ≡ Some g → f ≡ g
-some_same f g is = ap (cause_or f) is
 
 -- the cuts after one entry more
 pub cuts_then : (o : Opening) (r : Scope) (es : List Entry) (e : Entry) → cuts_after o r (es ++ e ∷ []) ≡ cuts_by r (cuts_after o r es) (after_all r (first r o.start) es) e
@@ -87,16 +83,18 @@ unmade_stops reads owned s cuts e n cause.KeyOverflow is key = absurd is
 unmade_stops reads owned s cuts e n (cause.LogShort t p l f) is key = absurd is
 unmade_stops reads owned s cuts e n (cause.Damaged q) is key = absurd is
 
--- what stops a desk whatever keys there are is no key's overflow
-pub never_key : (reads owned : Type 0) (s : Setting) (cuts : Cuts) (e : ℕ) (f : Cause) → ((key : Option Values) → IsStopOf reads owned s cuts e key f) → f ≡ cause.KeyOverflow → ⊥
-never_key reads owned s cuts e f right is = subst (IsStopOf reads owned s cuts e None) is (right None)
-
 -- none of them is a fault of a log
 pub cause_no_log : (r : Scope) (c : Core) (f : Cause) → HasCause r c f → f ≡ cause.LogFault → ⊥
 cause_no_log r c f has is = subst (HasCause r c) is has
 
 pub unmade_no_log : (n : ℕ) (f : Cause) → IsUnmade n f → f ≡ cause.LogFault → ⊥
 unmade_no_log n f unmade is = subst (IsUnmade n) is unmade
+
+-- what has risen has been counted
+pub rises_some : (before now : ℕ) → Rises before now → 0 < now
+rises_some before now rises =
+    let low : 1 ≤ min (before + 1) (2 ^ 64 - 1) = le-min (omega arith) (omega arith) in
+    let risen : min (before + 1) (2 ^ 64 - 1) ≤ now = rises in omega (arith, low, risen)
 
 -- a ledger that did nothing
 pub did_nothing : {D O : Type 0} (s : Shown D O) → s ≡ did s s.disk []
@@ -106,6 +104,10 @@ module _ {D O : Type 0} where
   -- entries after entries
   pub did_then : (s : Shown D O) (one other : D) (es more : List Entry) → did (did s one es) other more ≡ did s other (es ++ more)
   did_then s one other es more = (λ i. record { opening = s.opening; opened = s.opened; scope = s.scope; disk = other; core = after_more s.scope s.core es more i; history = append_assoc s.history es more i })
+
+-- with another commit that is to be published
+abbrev pub with_pending : {L S F : Type 0} → Load L S F → Option (Pending F) → Load L S F
+with_pending load pending = record { view = load.view; plans = load.plans; sources = load.sources; shares = load.shares; held = load.held; out = load.out; seen = load.seen; pending = pending; told = load.told; kept = load.kept }
 
 module _ {D L S F : Type 0} (stores logs : Type 0) (history : D → History) (lines : L → List Line) (available : L → ℕ) (answers : L → List ℕ) (faults : L → ℕ) (written : S → List ℕ) (sealed : F → List ℕ) (shown : Shown D (Round L)) (load : Load L S F)
     (whole : IsWhole stores logs history lines available answers faults written sealed shown load) where
@@ -123,36 +125,23 @@ module _ {D L S F : Type 0} (stores logs : Type 0) (history : D → History) (li
         kept = whole.kept;
       }
 
-  -- a Stop for a cause that may stop it
-  pub stopped_whole : (disk : D) (f : Cause) → (f ≡ cause.LogFault → ⊥) → ((key : Option Values) → IsStopOf (stores × logs) (Owns stores logs history lines shown) (setting_of lines shown.opening) (cuts_of (opening_in lines) shown) shown.core.front.committed key f)
-      → IsWhole stores logs history lines available answers faults written sealed (did shown disk (entry.Stop f ∷ [])) load
-  stopped_whole disk f no_log right =
+  -- a Stop for a cause that may stop it, with what commit there is then
+  pub stopped_whole : (disk : D) (f : Cause) (pending : Option (Pending F)) → (f ≡ cause.LogFault → ⊥) → ((key : Option Values) → IsStopOf (stores × logs) (Owns stores logs history lines shown) (setting_of lines shown.opening) (cuts_of (opening_in lines) shown) shown.core.front.committed key f)
+      → IsWhole stores logs history lines available answers faults written sealed (did shown disk (entry.Stop f ∷ [])) (with_pending load pending)
+  stopped_whole disk f pending no_log right =
       let s : Setting = setting_of lines shown.opening in
       let old : Cuts = cuts_of (opening_in lines) shown in
-      let new : Core = after shown.scope shown.core (entry.Stop f) in
-      let same : cuts_of (opening_in lines) (did shown disk (entry.Stop f ∷ [])) ≡ old = cuts_then (opening_in lines shown.opening) shown.scope shown.history (entry.Stop f) in
-      let h : HoldsIn stores logs history lines available answers faults written sealed shown old new load.sources.items load.shares.items load.held.items load.out load.seen load.pending = record {
-        parts = whole.holds.parts;
-        partitions = whole.holds.partitions;
-        keeping = whole.holds.keeping;
-        logs = whole.holds.logs;
-        reduced = whole.holds.reduced;
-        dealt = whole.holds.dealt;
-        keys = whole.holds.keys;
-        still = λ e. absurd (never_key (stores × logs) (Owns stores logs history lines shown) s old shown.core.front.committed f right (some_same f cause.KeyOverflow e));
-        kept = λ running. absurd (true≢false (ap is_some running));
-        seen_so_far = λ running. absurd (true≢false (ap is_some running));
-        epoch = λ running opened. absurd (true≢false (ap is_some running));
-        commit = λ running opened is. absurd (true≢false (ap is_some running));
-        stop = λ g is. subst (IsStopOf (stores × logs) (Owns stores logs history lines shown) s old shown.core.front.committed (key_in load.shares.items)) (some_same f g is) (right (key_in load.shares.items));
-      } in record {
+      let h = whole.holds in
+      let same : cuts_of (opening_in lines) (did shown disk (entry.Stop f ∷ [])) ≡ old = cuts_then (opening_in lines shown.opening) shown.scope shown.history (entry.Stop f) in record {
         round = whole.round;
         view = whole.view;
-        holds = subst (λ (cuts : Cuts). HoldsIn stores logs history lines available answers faults written sealed shown cuts new load.sources.items load.shares.items load.held.items load.out load.seen load.pending) (sym same) h;
+        holds = subst (λ (cuts : Cuts). HoldsIn stores logs history lines available answers faults written sealed shown cuts (after shown.scope shown.core (entry.Stop f)) load.sources.items load.shares.items load.held.items load.out load.seen pending) (sym same)
+            (holds_stopped (stores × logs) (Owns stores logs history lines shown) lines available (LogWent logs lines available answers faults) shown.opening.logs.items written sealed s old shown.scope.available shown.core f load.sources.items load.shares.items load.held.items load.out load.seen pending
+            h.parts h.partitions h.keeping h.logs h.dealt h.reduced h.keys right);
         plans = subst (λ (cuts : Cuts). ArePlans (Owns stores logs history lines shown) shown.opening.opened.plans s cuts shown.core.front.planned load.plans.items) (sym same) whole.plans;
         told = subst (λ (cuts : Cuts). AreTold (Owns stores logs history lines shown) s cuts shown.opening.opened.committed shown.core.front.committed load.told.items) (sym same) whole.told;
         told_room = whole.told_room;
-        faulty = λ e. absurd (no_log (some_same f cause.LogFault e));
+        faulty = λ e. absurd (no_log (same_Some f cause.LogFault e));
         kept = whole.kept;
       }
 
@@ -186,31 +175,19 @@ module _ {D L S F : Type 0} (stores logs : Type 0) (history : D → History) (li
   unplanned_whole disk f made now here no_log closed is view plans sources shares held told kept right =
       let s : Setting = setting_of lines shown.opening in
       let old : Cuts = cuts_of (opening_in lines) shown in
-      let new : Core = after shown.scope shown.core (entry.Stop f) in
       let same : cuts_of (opening_in lines) (did shown disk (entry.Stop f ∷ [])) ≡ old = cuts_then (opening_in lines shown.opening) shown.scope shown.history (entry.Stop f) in
       let begun : AreBegun shown.core.ends load.sources.items now.sources.items = subst (λ (x : List (Source L)). AreBegun shown.core.ends load.sources.items x) (sym sources) is.begun in
-      let h : HoldsIn stores logs history lines available answers faults written sealed shown old new now.sources.items now.shares.items now.held.items now.out now.seen now.pending = record {
-        parts = begun.0 ∙ whole.holds.parts;
-        partitions = shares ∙ is.ready.count ∙ whole.view.partitions;
-        keeping = ap (λ (v : Vec (Option Held)). length v.items) (held ∙ is.held_is) ∙ whole.holds.keeping;
-        logs = λ i part at source there here mine. begun_source (stores × logs) lines available (LogWent logs lines available answers faults) shown.opening.logs.items shown.core.ends load.sources.items now.sources.items begun i part (get_or shown.scope.available i 0) at source mine (λ before was. whole.holds.logs i part at before there here was);
-        reduced = whole.holds.reduced;
-        dealt = λ opened. absurd (true≢false (sym opened ∙ closed));
-        keys = λ opened. absurd (true≢false (sym opened ∙ closed));
-        still = λ e. absurd (never_key (stores × logs) (Owns stores logs history lines shown) s old shown.core.front.committed f right (some_same f cause.KeyOverflow e));
-        kept = λ running. absurd (true≢false (ap is_some running));
-        seen_so_far = λ running. absurd (true≢false (ap is_some running));
-        epoch = λ running opened. absurd (true≢false (ap is_some running));
-        commit = λ running opened written_is. absurd (true≢false (ap is_some running));
-        stop = λ g stopped. subst (IsStopOf (stores × logs) (Owns stores logs history lines shown) s old shown.core.front.committed (key_in now.shares.items)) (some_same f g stopped) (right (key_in now.shares.items));
-      } in record {
+      let h = holds_stopped (stores × logs) (Owns stores logs history lines shown) lines available (LogWent logs lines available answers faults) shown.opening.logs.items written sealed s old shown.scope.available shown.core f now.sources.items now.shares.items now.held.items now.out now.seen now.pending
+      (begun.0 ∙ whole.holds.parts) (shares ∙ is.ready.count ∙ whole.view.partitions) (ap (λ (v : Vec (Option Held)). length v.items) (held ∙ is.held_is) ∙ whole.holds.keeping)
+      (λ i part at source there here mine. begun_source (stores × logs) lines available (LogWent logs lines available answers faults) shown.opening.logs.items shown.core.ends load.sources.items now.sources.items begun i part (get_or shown.scope.available i 0) at source mine (λ before was. whole.holds.logs i part at before there here was))
+      (λ opened. absurd (true≢false (sym opened ∙ closed))) whole.holds.reduced (λ opened. absurd (true≢false (sym opened ∙ closed))) right in record {
         round = whole.round;
         view = subst (IsViewOf s) (sym (view ∙ is.view_is)) whole.view;
-        holds = subst (λ (cuts : Cuts). HoldsIn stores logs history lines available answers faults written sealed shown cuts new now.sources.items now.shares.items now.held.items now.out now.seen now.pending) (sym same) h;
+        holds = subst (λ (cuts : Cuts). HoldsIn stores logs history lines available answers faults written sealed shown cuts (after shown.scope shown.core (entry.Stop f)) now.sources.items now.shares.items now.held.items now.out now.seen now.pending) (sym same) h;
         plans = subst (λ (cuts : Cuts). ArePlans (Owns stores logs history lines shown) shown.opening.opened.plans s cuts shown.core.front.planned now.plans.items) (sym same) (subst (λ (x : List Plan). ArePlans (Owns stores logs history lines shown) shown.opening.opened.plans s old shown.core.front.planned x) (sym (plans ∙ is.plans_are)) whole.plans);
         told = subst (λ (cuts : Cuts). AreTold (Owns stores logs history lines shown) s cuts shown.opening.opened.committed shown.core.front.committed now.told.items) (sym same)
             (subst (λ (x : List Told). AreTold (Owns stores logs history lines shown) s old shown.opening.opened.committed shown.core.front.committed x) (sym (told ∙ is.told_are)) whole.told);
         told_room = λ opened. absurd (true≢false (sym opened ∙ closed));
-        faulty = λ e. absurd (no_log (some_same f cause.LogFault e));
+        faulty = λ e. absurd (no_log (same_Some f cause.LogFault e));
         kept = subst (IsKept s shown.opening.opened) (sym (kept ∙ is.kept_is)) whole.kept;
       }

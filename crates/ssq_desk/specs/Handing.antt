@@ -2,7 +2,7 @@
 use Rattle.std.specs.Prelude.{◌≡◌, ◌<◌, ℕ, ℤ, List, [], ◌∷◌, length, map, set, Option, Some, None, IfSome}
 use Rattle.ssq_time.specs.Time.{IsLineTime}
 use Rattle.ssq_route.specs.Buckets.{bucket_at}
-use Rattle.ssq_meaning.specs.declared.fed_row.FedRow.{FedRow}
+use Rattle.ssq_meaning.specs.FedRows.{FedRow}
 use Rattle.ssq_meaning.specs.Epochs.{joined}
 use Rattle.ssq_feed.specs.declared.task.FedRows.{FedRows}
 use Rattle.ssq_terms.specs.Rows.{raised_by}

@@ -1,21 +1,17 @@
 -- How many epochs a history acknowledged.
-use Rattle.std.proofs.Common.{◌≡◌, ◌⊎◌, ◌+◌, ◌-◌, ◌++◌, ◌||◌, nat_lt, ℕ, Bool, true, false, true≢false, List, [], ◌∷◌, length, Option, Some, None, if◌then◌else◌, sym, refl, ap, ◌∙◌, subst, inl, inr, arith}
-use Rattle.ssq_outside.specs.declared.gate.TaskId.{TaskId}
-use Rattle.ssq_outside.specs.declared.gate.Kind.{Kind}
-use Rattle.ssq_outside.specs.declared.gate.Kind.TheVariants as kind
+use Rattle.std.proofs.Common.{◌≡◌, ◌⊎◌, ◌+◌, ◌-◌, ◌||◌, nat_lt, ℕ, Bool, true, false, true≢false, List, [], ◌∷◌, length, Option, Some, None, if◌then◌else◌, sym, refl, ap, ◌∙◌, subst, inl, inr, arith}
 use Rattle.ssq_core.specs.declared.event.Event.{Event}
-use Rattle.ssq_core.specs.declared.event.Event.TheVariants as event
 use Rattle.ssq_core.specs.Laws.{acknowledged}
 use Rattle.ssq_core.specs.Machine.{upkeep}
 use Rattle.ssq_board.specs.declared.front.Cause.{Cause}
 use Rattle.ssq_board.specs.declared.front.Entry.{Entry}
 use Rattle.ssq_board.specs.declared.front.Entry.TheVariants as entry
-use Rattle.ssq_board.specs.Core.{Scope, Core, after, due, is_open, is_stopped, seals, stops, stops_by, events_all}
+use Rattle.ssq_board.specs.Core.{Scope, Core, after, due, is_open, is_stopped, stops_by, events_all}
 use Rattle.ssq_board.specs.Shown.{Start, IsSound, first}
 use Rattle.ssq_board.specs.Told.{acknowledged_of}
 use Rattle.ssq_board.proofs.Lists.{nat_lt-is, nat_lt-not}
 use Rattle.ssq_board.proofs.Sounds.{step_sound}
-use Rattle.ssq_board.proofs.Telling.{Runs, ack_snapshot, ack_unmade, after_stop, now_stopped}
+use Rattle.ssq_board.proofs.Telling.{Runs, ack_snapshot, ack_unmade, after_stop, now_stopped, ack_report, ack_version, none_some}
 use Rattle.ssq_board.specs.Shelf.{acknowledged_in}
 
 -- So many are acknowledged, and maybe one waits for its sync. All that are committed are, where an epoch is open or names are settled; and
@@ -23,16 +19,6 @@ use Rattle.ssq_board.specs.Shelf.{acknowledged_in}
 abbrev IsAt : Core → Option ℕ → ℕ → Type 0
 IsAt c p a = ((p ≡ None) × (a ≡ c.front.committed) × ((is_open c || c.front.settled) ≡ true))
     ⊎ (((p ≡ Some a) ⊎ ((p ≡ None) × (is_stopped c.front.stop ≡ true))) × (a + 1 ≡ c.front.committed) × (c.front.settled ≡ false) × (is_open c ≡ false))
-
-none_some : {A : Type 0} {a : A} → None ≡ Some a → ⊥
-none_some e = cc
-
-some_is : {A : Type 0} (a b : A) → Some a ≡ Some b → a ≡ b
-some_is {A} a b e = ap or_a e
-  where
-    or_a : Option A → A
-    or_a None = a
-    or_a (Some x) = x
 
 or_right : (a b : Bool) → b ≡ true → (a || b) ≡ true
 or_right true b is = refl
@@ -44,22 +30,6 @@ or_left a b is = ap (λ (x : Bool). x || b) is
 none_waits : (o : Option Cause) (p : Option ℕ) → p ≡ None → after_stop o p ≡ None
 none_waits None p is = is
 none_waits (Some f) p is = refl
-
-of_report : (k : Kind) (t : TaskId) (f o : Option Cause) (p : Option ℕ) (rest : List Event) → acknowledged p ((seals k t f ++ (event.Report t ∷ stops o)) ++ rest) ≡ acknowledged (after_stop o p) rest
-of_report kind.Map t f None p rest = refl
-of_report kind.Map t f (Some g) p rest = refl
-of_report kind.Reduce t f None p rest = refl
-of_report kind.Reduce t f (Some g) p rest = refl
-of_report kind.Out t None None p rest = refl
-of_report kind.Out t None (Some g) p rest = refl
-of_report kind.Out t (Some h) None p rest = refl
-of_report kind.Out t (Some h) (Some g) p rest = refl
-of_report kind.Upkeep t f None p rest = refl
-of_report kind.Upkeep t f (Some g) p rest = refl
-
-of_version : (t : TaskId) (o : Option Cause) (p : Option ℕ) (rest : List Event) → acknowledged p ((event.Seal t ∷ event.Report t ∷ stops o) ++ rest) ≡ acknowledged (after_stop o p) rest
-of_version t None p rest = refl
-of_version t (Some g) p rest = refl
 
 -- what came back in place of a snapshot
 unmade_at : (r : Scope) (c : Core) (i v : ℕ) (f : Cause) (p : Option ℕ) (a : ℕ) (o : Option Cause) → IsAt c p a → IsAt (after r c (entry.Unmade i v f)) (after_stop (stops_by o f) p) a
@@ -92,12 +62,12 @@ module _ (r : Scope) where
   counts (entry.Report t f ∷ es) c n p a sound (inl at) l =
       let o = due c t f in
       let more = counts es (after r c (entry.Report t f)) n (after_stop o p) a (step_sound r c (entry.Report t f) l.0 sound) (inl (none_waits o p at.0, at.1, at.2)) l.1 in
-      subst (λ (x : List ℕ). (q : Option ℕ) × IsAt n q (a + length x)) (sym (of_report t.kind t f o p (events_all r (after r c (entry.Report t f)) es))) more
+      subst (λ (x : List ℕ). (q : Option ℕ) × IsAt n q (a + length x)) (sym (ack_report t.kind t f o p (events_all r (after r c (entry.Report t f)) es))) more
   counts (entry.Report t f ∷ es) c n p a sound (inr at) l = absurd (true≢false (sym l.0.0 ∙ at.3))
   counts (entry.Version t ∷ es) c n p a sound (inl at) l =
       let o = due c t None in
       let more = counts es (after r c (entry.Version t)) n (after_stop o p) a (step_sound r c (entry.Version t) l.0 sound) (inl (none_waits o p at.0, at.1, or_left (is_open c) (after r c (entry.Version t)).front.settled l.0.0)) l.1 in
-      subst (λ (x : List ℕ). (q : Option ℕ) × IsAt n q (a + length x)) (sym (of_version t o p (events_all r (after r c (entry.Version t)) es))) more
+      subst (λ (x : List ℕ). (q : Option ℕ) × IsAt n q (a + length x)) (sym (ack_version t o p (events_all r (after r c (entry.Version t)) es))) more
   counts (entry.Version t ∷ es) c n p a sound (inr at) l = absurd (true≢false (sym l.0.0 ∙ at.3))
   counts (entry.Missed t ∷ es) c n p a sound (inl at) l = counts es (after r c (entry.Missed t)) n None a (step_sound r c (entry.Missed t) l.0 sound) (inl (refl, at.1, at.2)) l.1
   counts (entry.Missed t ∷ es) c n p a sound (inr at) l = absurd (true≢false (sym l.0.0 ∙ at.3))

@@ -2,6 +2,7 @@
 use Rattle.std.proofs.Common.{◌≡◌, ◌≤◌, ℕ, Bool, List, [], ◌∷◌, Option, Some, None, Result, IfSome, IfErr, IsErrOf, sym, refl, ap, ◌∙◌, subst}
 use Rattle.ssq_outside.specs.declared.gate.TaskId.{TaskId}
 use Rattle.ssq_outside.specs.Faults.{Rises}
+use Rattle.ssq_outside.specs.History.{History}
 use Rattle.ssq_meaning.specs.Meaning.{Line}
 use Rattle.ssq_feed.specs.declared.task.MapTask.{MapTask}
 use Rattle.ssq_feed.specs.declared.task.Fed.{Fed}
@@ -23,12 +24,28 @@ use Rattle.ssq_board.specs.Core.{Scope, Core, May}
 use Rattle.ssq_board.specs.Shown.{IsSound}
 use Rattle.ssq_board.specs.Rounds.{IsAtRest}
 use Rattle.ssq_ledger.specs.Shown.{Shown, HasRisen, did}
-use Rattle.ssq_desk.specs.Tasks.{IsReduceTask, IsStateFor, map_id, reduce_id, out_id}
+use Rattle.ssq_desk.specs.declared.round.Round.{Round}
+use Rattle.ssq_desk.specs.declared.task.Task.{Task}
+use Rattle.ssq_desk.specs.Handed.{IsTaskOf}
+use Rattle.ssq_desk.specs.Tasks.{IsReduceTask, IsStateFor, id_of, map_id, reduce_id, out_id}
 use Rattle.ssq_desk.specs.Results.{IsReturned, cause_of_feed, cause_of_failed, delta_of, fault_of}
 use Rattle.ssq_desk.specs.Published.{IsOut, brings, cause_of_left}
 use Rattle.ssq_drive.specs.Driven.{IsTurn}
 use Rattle.ssq_drive.proofs.Working.{reported, returned, published}
 use Rattle.ssq_drive.proofs.Inputs.{fed_stops, reduce_cause}
+
+-- what was claimed, once it is seen of which kind it is
+module _ {D O L S F : Type 0} (one task : Task L S F) (is : one ≡ task) where
+  pub claimed_as : (old mid : Shown D O) → May old.scope old.core (entry.Claim (id_of one)) × (mid ≡ did old old.disk (entry.Claim (id_of one) ∷ [])) → May old.scope old.core (entry.Claim (id_of task)) × (mid ≡ did old old.disk (entry.Claim (id_of task) ∷ []))
+  claimed_as old mid = subst (λ (x : Task L S F). May old.scope old.core (entry.Claim (id_of x)) × (mid ≡ did old old.disk (entry.Claim (id_of x) ∷ []))) is
+
+  pub back_as : (mid : Shown D O) → ((fault : Option Cause) → May mid.scope mid.core (entry.Report (id_of one) fault)) → (fault : Option Cause) → May mid.scope mid.core (entry.Report (id_of task) fault)
+  back_as mid = subst (λ (x : Task L S F). (fault : Option Cause) → May mid.scope mid.core (entry.Report (id_of x) fault)) is
+
+module _ {D L S F : Type 0} (one task : Task L S F) (is : one ≡ task) where
+  pub task_as : (stores logs : Type 0) (history : D → History) (lines : L → List Line) (available : L → ℕ) (answers : L → List ℕ) (faults : L → ℕ) (written : S → List ℕ) (mid : Shown D (Round L)) → IsTaskOf stores logs history lines available answers faults written mid one
+      → IsTaskOf stores logs history lines available answers faults written mid task
+  task_as stores logs history lines available answers faults written mid = subst (IsTaskOf stores logs history lines available answers faults written mid) is
 
 module _ {L : Type 0} (tells : Type 0) (lines : L → List Line) (available : L → ℕ) (answers : L → List ℕ) (counts : L → ℕ) (task : MapTask L) (done : Fed L) (is : IsFed tells lines available answers counts task done) where
   fed_id : map_id done.epoch done.number ≡ map_id task.epoch task.number

@@ -1,10 +1,10 @@
 -- What is due, and what may go, once names are settled, and once a file that may go is removed.
-use Rattle.std.proofs.Common.{◌≡◌, ◌⊎◌, ◌<◌, ◌≤◌, ◌+◌, ◌++◌, ◌||◌, ◌&&◌, not, ℕ, Bool, true, false, true≢false, List, [], ◌∷◌, Option, sym, refl, ap, ◌∙◌, subst, inl, inr, append-nil, if◌then◌else◌, arith}
+use Rattle.std.proofs.Common.{◌≡◌, ◌⊎◌, ◌<◌, ◌+◌, ◌++◌, ◌||◌, not, ℕ, Bool, true, false, true≢false, List, [], ◌∷◌, Option, sym, refl, ap, ◌∙◌, subst, inl, inr, append-nil, if◌then◌else◌, arith}
 use Rattle.ssq_outside.specs.declared.name.Name.{Name}
 use Rattle.ssq_outside.specs.declared.name.Name.TheVariants as name
 use Rattle.ssq_outside.specs.Files.{same_name}
 use Rattle.ssq_outside.proofs.Names.{same_name-true, same_name-same}
-use Rattle.ssq_upkeep.specs.Upkeep.{Goes, IsDue, IsDueAmong, MayGo, is_among, is_sure, is_up_to}
+use Rattle.ssq_upkeep.specs.Upkeep.{Goes, IsDue, MayGo, is_among, is_sure, is_up_to}
 use Rattle.ssq_board.specs.Shelf.{without}
 use Rattle.ssq_board.proofs.Keeping.{among_both, among_end, or_left, or_right}
 

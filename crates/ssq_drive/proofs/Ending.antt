@@ -1,23 +1,11 @@
 -- How a driven desk ends.
 use Rattle.std.proofs.Common.{◌≡◌, ◌≢◌, ◌⊎◌, not, Bool, true, false, true≢false, Option, Some, None, Result, Ok, Err, IfOk, IfErr, OnErr, refl, sym, ap, ◌∙◌, subst, inl, inr}
 use Rattle.std.specs.Prelude.{IsSome, MatchOption, is_some}
-use Rattle.std.specs.List.{list_all, list_any}
 use Rattle.ssq_board.specs.declared.front.Cause.{Cause}
 use Rattle.ssq_board.specs.declared.front.Ready.{Ready}
 use Rattle.ssq_board.specs.declared.front.Ready.TheVariants as ready
-use Rattle.ssq_board.specs.Core.{Scope, Core, is_fine, is_more, is_open, is_stopped, is_waiting, ready_of, ready_tasks}
-use Rattle.ssq_board.proofs.Readies.{past, chosen}
-
-tasks_not_stopped : (c : Core) → ready_tasks c ≡ ready.Stopped → ⊥
-tasks_not_stopped c e =
-    let a = past (not c.front.fresh) _ _ _ e (λ x. cc) in
-    let b = past (list_any is_waiting c.maps) _ _ _ a.1 (λ x. cc) in
-    let d = past (not (list_all is_fine c.maps)) _ _ _ b.1 (λ x. cc) in
-    let f = past (list_any is_waiting c.reduces) _ _ _ d.1 (λ x. cc) in
-    let g = past (not (list_all is_fine c.reduces)) _ _ _ f.1 (λ x. cc) in
-    let h = past (list_any is_waiting c.outs) _ _ _ g.1 (λ x. cc) in
-    let k = past (not c.front.written) _ _ _ h.1 (λ x. cc) in
-    elim (chosen c.front.settled ready.Commit ready.Sync ready.Stopped k.1) [ inl x ↦ (let y = x.1 in cc) | inr x ↦ (let y = x.1 in cc) ]
+use Rattle.ssq_board.specs.Core.{Scope, Core, is_more, is_open, is_stopped, ready_of, ready_tasks}
+use Rattle.ssq_board.proofs.Readies.{past, chosen, none_of_tasks}
 
 some_cause : (o : Option Cause) → is_stopped o ≡ true → IsSome o
 some_cause None is = is
@@ -28,7 +16,7 @@ stopped_is : (r : Scope) (c : Core) → ready_of r c ≡ ready.Stopped → IsSom
 stopped_is r c e = elim (chosen (is_stopped c.front.stop) ready.Stopped _ ready.Stopped e) [
   | inl stops ↦ some_cause c.front.stop stops.0
   | inr runs ↦ absurd (elim (chosen (is_open c) (ready_tasks c) _ _ runs.1) [
-    | inl opened ↦ tasks_not_stopped c opened.1
+    | inl opened ↦ none_of_tasks c ready.Stopped refl opened.1
     | inr closed ↦
         let b = past (not c.front.settled) _ _ _ closed.1 (λ x. cc) in
         elim (chosen (is_more r c) ready.Plan ready.Over ready.Stopped b.1) [ inl x ↦ (let y = x.1 in cc) | inr x ↦ (let y = x.1 in cc) ]

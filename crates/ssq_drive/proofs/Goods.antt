@@ -36,7 +36,7 @@ use Rattle.ssq_board.specs.declared.front.Ready.TheVariants as ready
 use Rattle.ssq_board.specs.Core.{Scope, Core, after, after_all, cuts_by, cuts_all, dealt, extended, has_line_at, next_ends, if_map, tasks_of, is_fine, is_open, is_stopped, is_waiting, ready_of, ready_tasks}
 use Rattle.ssq_board.specs.Shown.{Start, first, first_by, planned_by}
 use Rattle.ssq_board.proofs.Lists.{all_fine, at_length, dealt_at, dealt_length, nat_lt-is, nat_lt-not, set_length, there_at}
-use Rattle.ssq_board.proofs.Readies.{past, chosen, commit_may}
+use Rattle.ssq_board.proofs.Readies.{past, chosen, commit_may, none_of_tasks}
 use Rattle.ssq_ledger.specs.Shown.{Shown, Opening, cuts_of, did}
 use Rattle.ssq_desk.specs.declared.round.Round.{Round}
 use Rattle.ssq_desk.specs.First.{first_shown, BeginsAs}
@@ -226,15 +226,7 @@ cuts_more r (e ∷ es) fs cuts c = cuts_more r es fs (cuts_by r cuts c e) (after
 
 -- where an epoch is to be planned none is open
 pub tasks_no_plan : (c : Core) → ready_tasks c ≡ ready.Plan → ⊥
-tasks_no_plan c e =
-    let a = past (not c.front.fresh) _ _ _ e (λ x. cc) in
-    let b = past (list_any is_waiting c.maps) _ _ _ a.1 (λ x. cc) in
-    let d = past (not (list_all is_fine c.maps)) _ _ _ b.1 (λ x. cc) in
-    let f = past (list_any is_waiting c.reduces) _ _ _ d.1 (λ x. cc) in
-    let g = past (not (list_all is_fine c.reduces)) _ _ _ f.1 (λ x. cc) in
-    let h = past (list_any is_waiting c.outs) _ _ _ g.1 (λ x. cc) in
-    let k = past (not c.front.written) _ _ _ h.1 (λ x. cc) in
-    elim (chosen c.front.settled ready.Commit ready.Sync ready.Plan k.1) [ inl x ↦ (let y = x.1 in cc) | inr x ↦ (let y = x.1 in cc) ]
+tasks_no_plan c = none_of_tasks c ready.Plan refl
 
 plan_closed : (r : Scope) (c : Core) → ready_of r c ≡ ready.Plan → is_open c ≡ false
 plan_closed r c next =

@@ -6,31 +6,31 @@ use Rattle.ssq_outside.specs.declared.name.Name.TheVariants as name
 use Rattle.ssq_outside.specs.Files.{same_name}
 use Rattle.ssq_outside.specs.Faults.{Rises}
 use Rattle.ssq_outside.proofs.Names.{same_name-same}
-use Rattle.ssq_outside.specs.declared.gate.Kind.{Kind}
-use Rattle.ssq_upkeep.specs.Upkeep.{Goes, IsDue, IsNext, IsLeast, is_among, is_up_to}
+use Rattle.ssq_upkeep.specs.Upkeep.{Goes, IsDue, is_among}
 use Rattle.ssq_board.specs.declared.front.Cause.{Cause}
 use Rattle.ssq_board.specs.declared.front.Cause.TheVariants as cause
 use Rattle.ssq_board.specs.declared.front.Entry.{Entry}
 use Rattle.ssq_board.specs.declared.front.Entry.TheVariants as entry
 use Rattle.ssq_board.specs.declared.front.Ready.TheVariants as ready
-use Rattle.ssq_board.specs.Core.{Scope, Core, May, after, after_all, file_need, is_open, is_more, is_stopped, need, need_of, or_stop, ready_of, ready_tasks, total}
+use Rattle.ssq_board.specs.Core.{Scope, Core, after, after_all, is_open, is_more, is_stopped, need, or_stop, ready_of, ready_tasks}
 use Rattle.ssq_board.specs.Rounds.{IsAtRest, epochs_left, left, one_if, weigh, weight}
 use Rattle.ssq_board.specs.Shelf.{Shelf, acknowledged_in, asked_in, last_before, last_of, shelf_all, shelf_by, snapshot_on, there_in, version_on, without}
 use Rattle.ssq_board.specs.Shown.{first}
 use Rattle.ssq_board.proofs.Keeping.{among_both, below_of, or_left, up_to_is}
 use Rattle.ssq_board.proofs.Lists.{nat_lt-not}
 use Rattle.ssq_board.proofs.Readies.{past, over_is}
+use Rattle.ssq_board.proofs.Resting.{front_here}
 use Rattle.ssq_board.proofs.Telling.{Runs}
 use Rattle.ssq_ledger.specs.Shown.{Opening, Shown, HasRisen, did, shelf_of}
 use Rattle.ssq_ledger.specs.Upkept.{NoneIsDue, NoneGoes}
 use Rattle.ssq_ledger.proofs.Ledgers.{shelf_more}
 use Rattle.ssq_desk.specs.Upkeep.{FailsFor}
-use Rattle.ssq_drive.specs.Driven.{StopsFor, IsDriven, IsTidied, KeepsUp, brings_due, lacking_in, rested, unmade}
+use Rattle.ssq_drive.specs.Driven.{StopsFor, IsTidied, KeepsUp, brings_due, lacking_in, rested, unmade}
 use Rattle.ssq_drive.proofs.Dueness.{among_first, among_second, due_before, due_without, either_of, first_of, goes_settled}
 use Rattle.ssq_drive.proofs.Going.{driven_more, shelf_on, undriven}
 use Rattle.ssq_drive.proofs.Goods.{tasks_no_plan}
 use Rattle.ssq_drive.proofs.Lacking.{one_made_in, one_gone, no_longer}
-use Rattle.ssq_drive.proofs.Turning.{rests, same_here}
+use Rattle.ssq_drive.proofs.Turning.{rests}
 
 -- a desk that is stopped does not run
 no_stop : (f : Cause) (o : Option Cause) → o ≡ Some f → o ≡ None → ⊥
@@ -92,8 +92,8 @@ rest_on c n running rest s = by s.same
   where
     by : (n ≡ c) ⊎ ((n ≡ rested c) ⊎ (is_stopped n.front.stop ≡ true)) → IsAtRest n
     by (inl is) = subst IsAtRest (sym is) rest
-    by (inr (inl is)) = subst IsAtRest (sym is) (record { here = same_here c (rested c) refl refl refl rest.here; outs = λ opened run. rest.outs opened running })
-    by (inr (inr stopped)) = rests n (same_here c n s.maps s.reduces s.outs rest.here) (inr stopped)
+    by (inr (inl is)) = subst IsAtRest (sym is) (record { here = front_here c (rested c) refl refl refl rest.here; outs = λ opened run. rest.outs opened running })
+    by (inr (inr stopped)) = rests n (front_here c n s.maps s.reduces s.outs rest.here) (inr stopped)
 
 all_same : (c : Core) → Stays c c
 all_same c = record { maps = refl; reduces = refl; outs = refl; same = inl refl }

@@ -1,32 +1,31 @@
 -- A snapshot that is handed out, and that comes back.
-use Rattle.std.proofs.Common.{◌≡◌, ◌⊎◌, ◌<◌, ◌≤◌, ◌+◌, ◌++◌, ◌||◌, ℕ, Bool, true, false, List, [], ◌∷◌, All, Option, Some, None, IfSome, Result, Ok, Err, IfOk, IfErr, sym, refl, ap, ◌∙◌, subst, inl, inr, arith}
+use Rattle.std.proofs.Common.{◌≡◌, ◌≤◌, ◌+◌, ℕ, Bool, true, false, List, [], ◌∷◌, All, Option, Some, None, IfSome, Result, Ok, Err, IfErr, sym, ap, ◌∙◌, subst, inl, inr, arith}
 use Rattle.ssq_outside.specs.declared.name.Name.{Name}
 use Rattle.ssq_outside.specs.declared.name.Name.TheVariants as name
 use Rattle.ssq_outside.specs.Faults.{Rises}
-use Rattle.ssq_outside.specs.Files.{Files, same_name}
+use Rattle.ssq_outside.specs.Files.{same_name}
 use Rattle.ssq_outside.specs.History.{History, files_now}
 use Rattle.ssq_outside.proofs.Names.{same_name-same}
-use Rattle.ssq_upkeep.specs.Upkeep.{IsDue, IsNext, is_among}
+use Rattle.ssq_upkeep.specs.Upkeep.{is_among}
 use Rattle.ssq_meaning.specs.Meaning.{Line}
 use Rattle.ssq_store.specs.declared.fault.SnapshotFault.{SnapshotFault}
 use Rattle.ssq_store.specs.Loaded.{files_in, IsDamaged}
 use Rattle.ssq_board.specs.declared.front.Cause.{Cause}
-use Rattle.ssq_board.specs.declared.front.Cause.TheVariants as cause
 use Rattle.ssq_board.specs.declared.front.Entry.{Entry}
 use Rattle.ssq_board.specs.declared.front.Entry.TheVariants as entry
-use Rattle.ssq_board.specs.Core.{Scope, Core, is_stopped}
+use Rattle.ssq_board.specs.Core.{is_stopped}
 use Rattle.ssq_board.specs.Rounds.{IsAtRest}
-use Rattle.ssq_board.specs.Shelf.{Shelf, asked_in, last_of, there_in}
+use Rattle.ssq_board.specs.Shelf.{Shelf, there_in}
 use Rattle.ssq_board.proofs.Keeping.{or_left}
-use Rattle.ssq_ledger.specs.Shown.{Opening, Shown, HasRisen, did, shelf_of}
-use Rattle.ssq_ledger.specs.Upkept.{IsTaken, NoneIsDue}
+use Rattle.ssq_ledger.specs.Shown.{Shown, HasRisen, did, shelf_of}
+use Rattle.ssq_ledger.specs.Upkept.{NoneIsDue}
 use Rattle.ssq_desk.specs.declared.round.Round.{Round}
 use Rattle.ssq_desk.specs.declared.upkeep.UpkeepTask.{UpkeepTask}
 use Rattle.ssq_desk.specs.Round.{Owns}
-use Rattle.ssq_desk.specs.Upkeep.{FailsFor, AreReadFor, IsHandedOut, IsMalformed, IsMissing, IsReadBy, IsTakenBack, cause_of_snapshot, names_in}
+use Rattle.ssq_desk.specs.Upkeep.{FailsFor, AreReadFor, IsHandedOut, IsMalformed, IsMissing, IsNextDue, IsTakenBack, cause_of_snapshot, names_in}
 use Rattle.ssq_desk.specs.Whole.{opening_in}
-use Rattle.ssq_drive.specs.Damaged.{HasDamaged, IsDamagedIn}
-use Rattle.ssq_drive.specs.Driven.{StopsFor, IsMade, KeepsUp, unmade}
+use Rattle.ssq_drive.specs.Damaged.{HasDamaged}
+use Rattle.ssq_drive.specs.Driven.{StopsFor, IsMade, KeepsUp}
 use Rattle.ssq_drive.specs.Good.{IsGood}
 use Rattle.ssq_drive.proofs.Dueness.{among_second}
 use Rattle.ssq_drive.proofs.Going.{did_more, earlier}
@@ -98,6 +97,9 @@ module _ {D L : Type 0} (stores logs : Type 0) (history : D → History) (lines 
     pub good : IsGood lines old → IsGood lines new
 
   -- none was due
+  pub none_out : {S : Type 0} (mid : Shown D (Round L)) (one : Option (UpkeepTask S)) → one ≡ None → IsHandedOut (opening_in lines) keeping (λ p v. IsMissing stores (Owns stores logs history lines old) (files_now (history old.disk)) p v (there_in k)) (faults old.disk) (faults mid.disk) old mid (Ok one) → (mid ≡ old) × NoneIsDue keeping old.core k
+  none_out {S} mid one is = subst (λ (o : Option (UpkeepTask S)). IsHandedOut (opening_in lines) keeping (λ p v. IsMissing stores (Owns stores logs history lines old) (files_now (history old.disk)) p v (there_in k)) (faults old.disk) (faults mid.disk) old mid (Ok o)) is
+
   pub none_handed : (mid : Shown D (Round L)) → (mid ≡ old) × NoneIsDue keeping old.core k → KeepsUp faults P closing old mid
   none_handed mid none = keeps_still faults P closing old mid none.0 rest
 
@@ -120,8 +122,17 @@ module _ {D L : Type 0} (stores logs : Type 0) (history : D → History) (lines 
 
   module _ {S : Type 0} (mid : Shown D (Round L)) where
     -- what a snapshot that was handed out came to
-    module _ (task : UpkeepTask S) (claimed : mid ≡ did old mid.disk (entry.Upkeep task.partition task.version ∷ [])) (first : faults old.disk ≤ faults mid.disk) (read : AreReadFor stores (files_now (history old.disk)) (there_in k) task)
-        (same_mid : stores → history mid.disk ≡ history old.disk) where
+    module _ (task : UpkeepTask S) (one : Option (UpkeepTask S)) (is : one ≡ Some task) (handed : IsHandedOut (opening_in lines) keeping (λ p v. IsMissing stores (Owns stores logs history lines old) (files_now (history old.disk)) p v (there_in k)) (faults old.disk) (faults mid.disk) old mid (Ok one)) (first : faults old.disk ≤ faults mid.disk)
+        (all_read : IfSome one (AreReadFor stores (files_now (history old.disk)) (there_in k))) (same_mid : stores → history mid.disk ≡ history old.disk) where
+      out : (mid ≡ did old mid.disk (entry.Upkeep task.partition task.version ∷ [])) × IsNextDue (opening_in lines) keeping old task.partition task.version
+      out = subst (λ (o : Option (UpkeepTask S)). IsHandedOut (opening_in lines) keeping (λ p v. IsMissing stores (Owns stores logs history lines old) (files_now (history old.disk)) p v (there_in k)) (faults old.disk) (faults mid.disk) old mid (Ok o)) is handed
+
+      claimed : mid ≡ did old mid.disk (entry.Upkeep task.partition task.version ∷ [])
+      claimed = out.0
+
+      read : AreReadFor stores (files_now (history old.disk)) (there_in k) task
+      read = subst (λ (o : Option (UpkeepTask S)). IfSome o (AreReadFor stores (files_now (history old.disk)) (there_in k))) is all_read
+
       abbrev pub p : ℕ
       p = task.partition
 
@@ -191,5 +202,5 @@ module _ {D L : Type 0} (stores logs : Type 0) (history : D → History) (lines 
         pub made_good : new ≡ did old new.disk (entry.Upkeep p v ∷ entry.Snapshot p v ∷ []) → IsGood lines old → IsGood lines new
         made_good all good = good_on lines old new (entry.Upkeep p v ∷ entry.Snapshot p v ∷ []) all (tt, (tt, tt)) good
 
-        pub is_made : new ≡ did old new.disk (entry.Upkeep p v ∷ entry.Snapshot p v ∷ []) → IsLed (opening_in lines) old → (p < keeping) × IsNext (asked_in k) k.settled p (last_of old.core) v → IsMade (opening_in lines) keeping old new true
-        is_made all led due = (ap (λ (s : Shown D (Round L)). s.core) all, made_less (opening_in lines) old new keeping p v led running all due.0 due.1.due)
+        pub is_made : new ≡ did old new.disk (entry.Upkeep p v ∷ entry.Snapshot p v ∷ []) → IsLed (opening_in lines) old → IsMade (opening_in lines) keeping old new true
+        is_made all led = (ap (λ (s : Shown D (Round L)). s.core) all, made_less (opening_in lines) old new keeping p v led running all out.1.0 out.1.2.due)

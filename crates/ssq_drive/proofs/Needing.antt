@@ -1,10 +1,10 @@
 -- Where a round is over no upkeep is left: by the names that it knows, and by the files that it leaves.
-use Rattle.std.proofs.Common.{◌≡◌, ◌⊎◌, ◌<◌, ◌++◌, ◌+◌, nat_lt, ℕ, Bool, true, false, true≢false, List, [], Option, sym, refl, ap, ◌∙◌, subst, inl, inr, append-nil}
+use Rattle.std.proofs.Common.{◌≡◌, ◌++◌, ◌+◌, nat_lt, ℕ, Bool, true, false, true≢false, List, [], Option, sym, refl, ap, ◌∙◌, subst, inl, inr, append-nil}
 use Rattle.std.specs.Prelude.{is_some}
 use Rattle.ssq_outside.specs.declared.name.Name.{Name}
 use Rattle.ssq_outside.specs.declared.name.Name.TheVariants as name
 use Rattle.ssq_outside.specs.Files.{Files}
-use Rattle.ssq_upkeep.specs.Upkeep.{Goes, IsDue, MayGo, is_among, is_sure, is_up_to}
+use Rattle.ssq_upkeep.specs.Upkeep.{Goes, IsDue, MayGo, is_sure, is_up_to}
 use Rattle.ssq_core.specs.Course.{Course}
 use Rattle.ssq_core.specs.Standing.{StandsAt}
 use Rattle.ssq_core.specs.Sound.{is_state}

@@ -1,13 +1,11 @@
 -- All of upkeep: snapshots one after another, files that are removed one after another, and names that are settled behind both.
-use Rattle.std.proofs.Common.{◌≡◌, ◌⊎◌, ◌<◌, ◌≤◌, ◌++◌, ℕ, Bool, true, false, List, [], ◌∷◌, Option, Some, None, Result, Ok, Err, IfOk, IfErr, OnOk, OnErr, sym, refl, ap, ◌∙◌, subst, inl, inr}
+use Rattle.std.proofs.Common.{◌≡◌, ◌<◌, ◌≤◌, ℕ, Bool, true, false, List, [], ◌∷◌, None, Result, Ok, Err, IfErr, OnOk, OnErr, sym, refl, ap, ◌∙◌, subst, inl, inr}
 use Rattle.ssq_outside.specs.declared.name.Name.{Name}
 use Rattle.ssq_outside.specs.Faults.{Rises}
 use Rattle.ssq_outside.specs.History.{History}
 use Rattle.ssq_shape.specs.Late.{closes}
 use Rattle.ssq_meaning.specs.Meaning.{Line}
-use Rattle.ssq_upkeep.specs.Upkeep.{Goes}
 use Rattle.ssq_board.specs.declared.front.Cause.{Cause}
-use Rattle.ssq_board.specs.declared.front.Cause.TheVariants as cause
 use Rattle.ssq_board.specs.declared.front.Entry.{Entry}
 use Rattle.ssq_board.specs.declared.front.Entry.TheVariants as entry
 use Rattle.ssq_board.specs.declared.front.Ready.TheVariants as ready
@@ -22,11 +20,11 @@ use Rattle.ssq_desk.specs.declared.round.Round.{Round}
 use Rattle.ssq_desk.specs.Contents.{keeping_in}
 use Rattle.ssq_desk.specs.Round.{setting_of}
 use Rattle.ssq_desk.specs.Whole.{opening_in}
-use Rattle.ssq_drive.specs.Driven.{IsCleared, IsDriven, IsEnded, IsMade, IsTidied, IsUpkept, KeepsUp, rested, unmade}
+use Rattle.ssq_drive.specs.Driven.{IsCleared, IsEnded, IsMade, IsTidied, IsUpkept, KeepsUp, unmade}
 use Rattle.ssq_drive.specs.Good.{IsGood}
 use Rattle.ssq_drive.proofs.Going.{after_more}
-use Rattle.ssq_drive.proofs.Goods.{good_on, synced_good}
-use Rattle.ssq_drive.proofs.KeepLemmas.{IsBetween, IsClearing, IsLed, count_of, fewer_files, keeps_drop, keeps_more, keeps_still, keeps_stop, keeps_sync, keeps_undropped, old_desk, one_cleared, over_kept, runs_core, stopped_ready, tidied_core, tidied_due, tidied_goes, tidied_news, tidied_runs, tidied_settled, tidied_tidy}
+use Rattle.ssq_drive.proofs.Goods.{good_on}
+use Rattle.ssq_drive.proofs.KeepLemmas.{IsBetween, IsClearing, IsLed, count_of, fewer_files, keeps_drop, keeps_more, keeps_stop, keeps_sync, keeps_undropped, old_desk, one_cleared, over_kept, runs_core, stopped_ready, tidied_due, tidied_goes, tidied_news, tidied_runs, tidied_settled, tidied_tidy}
 
 -- a desk's history led to what it knows
 pub led_by : {D O : Type 0} (tells : Type 0) (history : D → History) (opening : O → Opening) (s : Shown D O) → IsLegal tells history opening s → IsLed opening s

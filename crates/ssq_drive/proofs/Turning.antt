@@ -3,7 +3,6 @@ use Rattle.std.proofs.Common.{◌≡◌, ◌⊎◌, ◌<◌, ◌≤◌, ◌+◌,
 use Rattle.std.specs.List.{list_any}
 use Rattle.std.proofs.lemmas.Bool.{cases_lt}
 use Rattle.ssq_outside.specs.declared.gate.Kind.{Kind}
-use Rattle.ssq_outside.specs.declared.gate.Kind.TheVariants as kind
 use Rattle.ssq_outside.specs.declared.disk.DiskFault.{DiskFault}
 use Rattle.ssq_outside.specs.Faults.{Rises}
 use Rattle.ssq_board.specs.declared.front.Cause.{Cause}
@@ -17,7 +16,7 @@ use Rattle.ssq_board.specs.Shown.{IsSound}
 use Rattle.ssq_board.specs.Rounds.{HasCap, IsAtRest, is_away, one_if, weigh, epochs_left, weight, left}
 use Rattle.ssq_board.proofs.Falls.{plan_falls, sync_falls, commit_falls}
 use Rattle.ssq_board.proofs.Readies.{past, plan_may, full_is, commit_may, sync_due}
-use Rattle.ssq_board.proofs.Resting.{plan_turn, sync_turn, commit_turn}
+use Rattle.ssq_board.proofs.Resting.{plan_turn, sync_turn, commit_turn, front_here}
 use Rattle.ssq_board.proofs.Sounds.{running_of}
 use Rattle.ssq_ledger.specs.Shown.{Shown, HasRisen, IsUnplanned, did}
 use Rattle.ssq_drive.specs.Driven.{StopsFor, no_file, IsTurn, brings_due}
@@ -38,13 +37,6 @@ goes_turn faults closing old new es is undue back goes counted =
   where
     both : (f : Cause) → old.core.front.stop ≡ Some f → old.core.front.stop ≡ None → ⊥
     both f stops running = cc
-
--- an entry that moves no task leaves nobody with one
-pub same_here : (c n : Core) → n.maps ≡ c.maps → n.reduces ≡ c.reduces → n.outs ≡ c.outs → ((k : Kind) → list_any is_away (tasks_of k c) ≡ false) → (k : Kind) → list_any is_away (tasks_of k n) ≡ false
-same_here c n m u o h kind.Map = ap (list_any is_away) m ∙ h kind.Map
-same_here c n m u o h kind.Reduce = ap (list_any is_away) u ∙ h kind.Reduce
-same_here c n m u o h kind.Out = ap (list_any is_away) o ∙ h kind.Out
-same_here c n m u o h kind.Upkeep = refl
 
 -- a desk that stopped is at rest where nobody has a task
 pub rests : (n : Core) → ((k : Kind) → list_any is_away (tasks_of k n) ≡ false) → IsAtRest n ⊎ (is_stopped n.front.stop ≡ true) → IsAtRest n
@@ -76,7 +68,7 @@ pub stop_goes : (r : Scope) (c : Core) (f : Cause) (before now : ℕ) → c.fron
 stop_goes r c f before now running rest why = record {
   running = running;
   less = none_left r c (after r c (entry.Stop f)) running refl;
-  rest = rests (after r c (entry.Stop f)) (same_here c (after r c (entry.Stop f)) refl refl refl rest.here) (inr refl);
+  rest = rests (after r c (entry.Stop f)) (front_here c (after r c (entry.Stop f)) refl refl refl rest.here) (inr refl);
   cause = why;
 }
 

@@ -1,5 +1,5 @@
 -- What a task that is done on one thread does to a desk.
-use Rattle.std.proofs.Common.{◌≡◌, ◌≤◌, ◌||◌, ℕ, zero, suc, Bool, true, false, true≢false, List, [], ◌∷◌, set, Option, Some, None, IfSome, Result, Ok, Err, IfErr, IsErrOf, if◌then◌else◌, sym, refl, ap, ◌∙◌, subst, inl, inr, append_assoc, le_refl}
+use Rattle.std.proofs.Common.{◌≡◌, ◌≤◌, ℕ, Bool, true, false, List, [], ◌∷◌, Option, Some, None, IfSome, Result, Ok, Err, IfErr, IsErrOf, if◌then◌else◌, sym, refl, ap, ◌∙◌, subst, inl, inr, append_assoc, le_refl}
 use Rattle.std.specs.List.{list_any}
 use Rattle.ssq_outside.specs.declared.gate.TaskId.{TaskId}
 use Rattle.ssq_outside.specs.declared.gate.Kind.{Kind}
@@ -11,14 +11,13 @@ use Rattle.ssq_board.specs.declared.front.Cause.{Cause}
 use Rattle.ssq_board.specs.declared.front.Cause.TheVariants as cause
 use Rattle.ssq_board.specs.declared.front.Entry.{Entry}
 use Rattle.ssq_board.specs.declared.front.Entry.TheVariants as entry
-use Rattle.ssq_board.specs.declared.front.Place.{Place}
 use Rattle.ssq_board.specs.declared.front.Place.TheVariants as place
-use Rattle.ssq_board.specs.Core.{Scope, Core, May, after, after_all, due, due_stop, is_stopped, moved, or_stop, tasks_of, with_tasks}
+use Rattle.ssq_board.specs.Core.{Scope, Core, May, after, after_all, due, due_stop, is_stopped, moved, or_stop, tasks_of}
 use Rattle.ssq_board.specs.Shelf.{Shelf, version_on}
 use Rattle.ssq_board.specs.Shown.{IsSound}
 use Rattle.ssq_board.specs.Rounds.{IsAtRest, Worked, Versioned, brings_rows, is_away}
 use Rattle.ssq_board.proofs.Falls.{version_falls, work_falls}
-use Rattle.ssq_board.proofs.Resting.{version_turn, work_turn}
+use Rattle.ssq_board.proofs.Resting.{version_turn, work_turn, back_all, front_here, work_here}
 use Rattle.ssq_board.proofs.Sounds.{step_sound}
 use Rattle.ssq_ledger.specs.Shown.{Shown, HasRisen, did, answer}
 use Rattle.ssq_drive.specs.Driven.{StopsFor, no_file, IsTurn}
@@ -26,44 +25,13 @@ use Rattle.ssq_desk.specs.Contents.{IsReducedCause}
 use Rattle.ssq_desk.specs.Published.{IsOut, brings}
 use Rattle.ssq_desk.specs.Results.{IsReturned}
 use Rattle.ssq_drive.proofs.Causes.{report_stops}
-use Rattle.ssq_drive.proofs.Turning.{Goes, goes_turn, same_here, rests, runs_rest, none_left, risen_stops}
-
-or_false : (a b : Bool) → (a || b) ≡ false → (a ≡ false) × (b ≡ false)
-or_false false b h = (refl, h)
-or_false true b h = absurd (true≢false h)
-
--- a task that went and came back is with nobody
-back_here : (ps : List Place) (i : ℕ) (p : Place) (f : Option Cause) → list_any is_away ps ≡ false → list_any is_away (set (set ps i p) i (place.Back f)) ≡ false
-back_here [] i p f h = refl
-back_here (q ∷ qs) zero p f h = (or_false (is_away q) (list_any is_away qs) h).1
-back_here (q ∷ qs) (suc i) p f h = let b = or_false (is_away q) (list_any is_away qs) h in (λ j. b.0 j || back_here qs i p f b.1 j)
-
-back_all : (c : Core) (t : TaskId) (f : Option Cause) → ((k : Kind) → list_any is_away (tasks_of k c) ≡ false) → (k : Kind) → list_any is_away (tasks_of k (moved (moved c t place.Away) t (place.Back f))) ≡ false
-back_all c t f h = by t.kind
-  where
-    by : (j k : Kind) → list_any is_away (tasks_of k (with_tasks j (with_tasks j c (set (tasks_of j c) t.number place.Away)) (set (tasks_of j (with_tasks j c (set (tasks_of j c) t.number place.Away))) t.number (place.Back f)))) ≡ false
-    by kind.Map kind.Map = back_here c.maps t.number place.Away f (h kind.Map)
-    by kind.Reduce kind.Reduce = back_here c.reduces t.number place.Away f (h kind.Reduce)
-    by kind.Out kind.Out = back_here c.outs t.number place.Away f (h kind.Out)
-    by j kind.Upkeep = refl
-    by kind.Map kind.Reduce = h kind.Reduce
-    by kind.Map kind.Out = h kind.Out
-    by kind.Reduce kind.Map = h kind.Map
-    by kind.Reduce kind.Out = h kind.Out
-    by kind.Out kind.Map = h kind.Map
-    by kind.Out kind.Reduce = h kind.Reduce
-    by kind.Upkeep kind.Map = h kind.Map
-    by kind.Upkeep kind.Reduce = h kind.Reduce
-    by kind.Upkeep kind.Out = h kind.Out
-
-work_here : (r : Scope) (c : Core) (t : TaskId) (f : Option Cause) → ((k : Kind) → list_any is_away (tasks_of k c) ≡ false) → (k : Kind) → list_any is_away (tasks_of k (after r (after r c (entry.Claim t)) (entry.Report t f))) ≡ false
-work_here r c t f h = same_here (moved (moved c t place.Away) t (place.Back f)) (after r (after r c (entry.Claim t)) (entry.Report t f)) refl refl refl (back_all c t f h)
+use Rattle.ssq_drive.proofs.Turning.{Goes, goes_turn, rests, runs_rest, none_left, risen_stops}
 
 version_here : (r : Scope) (c : Core) (t : TaskId) → ((k : Kind) → list_any is_away (tasks_of k c) ≡ false) → (k : Kind) → list_any is_away (tasks_of k (after r (after r c (entry.Claim t)) (entry.Version t))) ≡ false
-version_here r c t h = same_here (moved (moved c t place.Away) t (place.Back None)) (after r (after r c (entry.Claim t)) (entry.Version t)) refl refl refl (back_all c t None h)
+version_here r c t h = front_here (moved (moved c t place.Away) t (place.Back None)) (after r (after r c (entry.Claim t)) (entry.Version t)) refl refl refl (back_all c t None h)
 
 missed_here : (r : Scope) (c : Core) (t : TaskId) → ((k : Kind) → list_any is_away (tasks_of k c) ≡ false) → (k : Kind) → list_any is_away (tasks_of k (after r (after r c (entry.Claim t)) (entry.Missed t))) ≡ false
-missed_here r c t h = same_here (moved (moved c t place.Away) t (place.Back (Some cause.DiskFault))) (after r (after r c (entry.Claim t)) (entry.Missed t)) refl refl refl (back_all c t (Some cause.DiskFault) h)
+missed_here r c t h = front_here (moved (moved c t place.Away) t (place.Back (Some cause.DiskFault))) (after r (after r c (entry.Claim t)) (entry.Missed t)) refl refl refl (back_all c t (Some cause.DiskFault) h)
 
 -- a version makes no snapshot
 version_claims : (b : Bool) (q : Name) (s : Shelf) → (version_on b q s).claimed ≡ s.claimed
@@ -129,7 +97,7 @@ module _ (r : Scope) (c : Core) (t : TaskId) (before now : ℕ) (sound : IsSound
   unpublished_goes f g why =
       let mid = after_all r c (entry.Claim t ∷ entry.Report t f ∷ []) in
       let n = after_all r c (entry.Claim t ∷ entry.Report t f ∷ entry.Stop g ∷ []) in
-      record { running = may.0; less = none_left r c n may.0 refl; rest = rests n (same_here mid n refl refl refl (work_here r c t f rest.here)) (inr refl); cause = why }
+      record { running = may.0; less = none_left r c n may.0 refl; rest = rests n (front_here mid n refl refl refl (work_here r c t f rest.here)) (inr refl); cause = why }
 
 module _ {D O : Type 0} where
   -- entries behind a claim

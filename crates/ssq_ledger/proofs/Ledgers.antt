@@ -1,7 +1,9 @@
 -- What is so of each ledger stays so after the entries of a call.
-use Rattle.std.proofs.Common.{◌≡◌, ◌+◌, ◌≤◌, ◌<◌, ◌++◌, ◌∷◌, [], ℕ, Bool, true, true≢false, List, length, length-append, sym, refl, ap, ◌∙◌, subst, arith}
+use Rattle.std.proofs.Common.{◌≡◌, ◌+◌, ◌≤◌, ◌<◌, ◌^◌, ◌++◌, ◌∷◌, [], ℕ, Bool, true, true≢false, List, None, length, length-append, sym, refl, ap, ◌∙◌, subst, arith}
 use Rattle.ssq_outside.specs.History.{History}
 use Rattle.ssq_core.specs.Course.{Cuts, Job}
+use Rattle.ssq_board.specs.declared.front.Cause.TheVariants as cause
+use Rattle.ssq_board.specs.declared.front.Front.{Front}
 use Rattle.ssq_board.specs.declared.front.Entry.{Entry}
 use Rattle.ssq_board.specs.declared.front.Entry.TheVariants as entry
 use Rattle.ssq_board.specs.Core.{Scope, Core, need, May, after, after_all, cuts_by, cuts_all}
@@ -11,7 +13,16 @@ use Rattle.ssq_board.specs.Shown.{IsSound, first}
 use Rattle.ssq_board.specs.Follows.{State, Leads, Moves, IsRight}
 use Rattle.ssq_board.proofs.Needs.{need_falls}
 use Rattle.ssq_board.proofs.Sounds.{run_sound, first_sound}
-use Rattle.ssq_ledger.specs.Shown.{Opening, state, first_state, cuts_after, shelf_after, IsLedger}
+use Rattle.ssq_ledger.specs.Shown.{Opening, Shown, state, first_state, cuts_after, shelf_after, IsLedger}
+
+-- what a call asks of what it is shown is so inside the ledger
+module _ {D O : Type 0} (x y : Shown D O) (same : x ≡ y) where
+  pub runs_inside : y.core.front.stop ≡ None → x.core.front.stop ≡ None
+  runs_inside running = ap (λ (s : Shown D O). s.core.front.stop) same ∙ running
+
+  -- of an entry with the number of an epoch, as the code has it
+  pub may_inside : (of : ℕ → Entry) (number : Front → ℕ) (e : ℕ) → e ≡ number x.core.front → May y.scope y.core (of (number y.core.front)) → May x.scope x.core (of e)
+  may_inside of number e is may = subst (λ n. May x.scope x.core (of n)) (sym is) (subst (λ (s : Shown D O). May s.scope s.core (of (number s.core.front))) (sym same) may)
 
 module _ (tells : Type 0) (job : Job) (r : Scope) (next : Cuts → ℕ → Bool) where
   leads_more : (s : State) (es : List Entry) (mid : State) (fs : List Entry) (n : State) → Leads tells job r next s es mid → Leads tells job r next mid fs n → Leads tells job r next s (es ++ fs) n
@@ -105,3 +116,11 @@ module _ (tells : Type 0) (o : Opening) (opened : History) (r : Scope) (disk : H
       → (tells → IsRight o.job o.due (cuts_after o r entries) e) → n ≡ after r c e → now ≡ entries ++ e ∷ [] → capacity ≤ more → IsLedger tells o opened r new n now more
   spent new n now more e is may moves right to here kept =
       one new n now more e may (keeps_spent r c (shelf_after o r entries) e is) moves right to here (let n = need_falls r c e held may is in let k = d.room in let q = ap need to in omega arith)
+
+  -- and for a Stop where there is more room
+  pub stop_room : (now : List Entry) (more : ℕ) → c.front.stop ≡ None → now ≡ entries → capacity ≤ more → length now < more
+  stop_room now more running same kept = (let a = has_room (entry.Stop cause.NoMemory) (running, tt) refl in let b = ap length same in omega (arith, a, b, kept))
+
+  -- its tasks can be counted
+  pub few_tasks : (n : Core) (count : ℕ) → IsSound r n → count ≡ length n.maps + length n.reduces + length n.outs → count ≤ 2 ^ 40
+  few_tasks n count sound is = (let few = d.few in omega (arith, is, few, sound.maps, sound.reduces, sound.outs))

@@ -11,14 +11,14 @@ use Rattle.ssq_board.specs.declared.front.Cause.{Cause}
 use Rattle.ssq_board.specs.declared.front.Front.{Front}
 use Rattle.ssq_board.specs.declared.front.Entry.{Entry}
 use Rattle.ssq_board.specs.declared.front.Entry.TheVariants as entry
-use Rattle.ssq_board.specs.Core.{Scope, Core, May, need, stop_need, after, is_stopped, or_stop, with_front, stopped_front}
+use Rattle.ssq_board.specs.Core.{Scope, Core, HasCause, May, need, stop_need, after, is_stopped, or_stop, with_front, stopped_front}
 use Rattle.ssq_board.specs.Rounds.{spends}
 use Rattle.ssq_board.specs.Shelf.{Shelf, MayKeep, last_before, last_of, there_in, with_name, without, unclaimed, untidy, shelf_by, snapshot_on, version_on}
 use Rattle.ssq_board.specs.Shown.{first}
 use Rattle.ssq_board.specs.Follows.{Moves, IsRight}
 use Rattle.ssq_board.proofs.Keeping.{among_both}
 use Rattle.ssq_board.proofs.Needs.{need_falls}
-use Rattle.ssq_ledger.specs.Shown.{Opening, IsLedger, cuts_after, shelf_after}
+use Rattle.ssq_ledger.specs.Shown.{Opening, Shown, IsLedger, cuts_after, shelf_after, shelf_of}
 use Rattle.ssq_ledger.specs.Names.{IsShelved, MakesRoom, MakesSettled}
 use Rattle.ssq_ledger.specs.declared.names.Names.{Names}
 use Rattle.ssq_ledger.proofs.Ledgers.{shelf_more, known, held, one, spent}
@@ -75,6 +75,10 @@ pub by_shelf : (P : Option ℕ → Shelf → Type 0) (k : Shelf) (n count capaci
 by_shelf P k n count capacity names c front last held same is so =
     let of_front = ap (λ (f : Front). last_before (if nat_lt f.committed f.planned || f.settled then f.committed else f.committed - 1)) same in
     subst (P (last_of c)) (is_shelf k n count capacity names held) (subst (λ (l : Option ℕ). P l (shelf_in names)) (is ∙ of_front) so)
+
+-- a snapshot that is being made, as a call says it, is one inside the ledger
+pub claimed_inside : {D O : Type 0} (opening : O → Opening) (x y : Shown D O) → x ≡ y → (q : Name) → is_among (shelf_of opening y).claimed q ≡ true → is_among (shelf_of opening x).claimed q ≡ true
+claimed_inside {D} {O} opening x y same q = subst (λ (s : Shown D O). is_among (shelf_of opening s).claimed q ≡ true) (sym same)
 
 -- ---- a name is left out
 
@@ -172,6 +176,12 @@ module _ (tells : Type 0) (o : Opening) (opened : History) (r : Scope) (disk : H
       spent tells o opened r disk c entries capacity d new n now more e is may moves right to here kept,
       still_shelved (shelf_after o r now) (need n) more now e here (shelf_same now e stays here) (let falls = need_falls r c e (held tells o opened r disk c entries capacity d) may is in let same = ap need to in omega (arith, falls, same)) more_kept,
     )
+
+    -- a Stop, where there is more room
+    pub halted_both : (new : History) (n : Core) (made now : List Entry) (more last : ℕ) (g : Cause) → c.front.stop ≡ None → HasCause r c g → (tells → Moves o.job r c (cuts_after o r entries) (entry.Stop g) disk new) → n ≡ after r c (entry.Stop g)
+        → made ≡ entries → now ≡ made ++ entry.Stop g ∷ [] → capacity ≤ more → cap ≤ more → last ≡ more → IsLedger tells o opened r new n now last × IsShelved (shelf_after o r now) (need n) (length now) last names
+    halted_both new n made now more last g running why moves to same here kept more_kept is =
+        spent_both new n now last (entry.Stop g) refl refl (running, why) moves (λ t. tt) to (here ∙ ap (λ (l : List Entry). l ++ entry.Stop g ∷ []) same) (omega (arith, kept, is)) (omega (arith, more_kept, is))
 
     -- there is room for the name of a delta
     pub has_name_room : (t : TaskId) → May r c (entry.Version t) → length names.news.items < vec_capacity names.news
@@ -309,3 +319,20 @@ module _ (tells : Type 0) (o : Opening) (opened : History) (r : Scope) (disk : H
     -- it is among the names that are being made
     pub is_claimed : (q : Name) → is_among kept_shelf.claimed q ≡ true → length (without q names.claimed.items) + 1 ≤ length names.claimed.items
     is_claimed q is = without_less q names.claimed.items (ap (λ (l : List Name). is_among l q) shelved.claimed ∙ is)
+
+    -- there is room for its entry
+    pub claimed_room : (q : Name) → is_among kept_shelf.claimed q ≡ true → length entries < cap
+    claimed_room q is = (let fewer = is_claimed q is in let all = shelved.entries in omega (arith, fewer, all))
+
+    -- and it comes back, with no file
+    pub unclaimed_both : (new : History) (n : Core) (now : List Entry) (more : ℕ) (later : Names) (e : Entry) (q : Name) → is_among kept_shelf.claimed q ≡ true → May r c e → MayKeep r c kept_shelf e
+        → (tells → Moves o.job r c (cuts_after o r entries) e disk new) → (tells → IsRight o.job o.due (cuts_after o r entries) e) → n ≡ after r c e → now ≡ entries ++ e ∷ [] → need n ≤ need c → AreNamesOf (shelf_by c kept_shelf e) later
+        → later.news ≡ names.news → later.claimed.items ≡ without q names.claimed.items → more ≡ cap → IsLedger tells o opened r new n now more × IsShelved (shelf_after o r now) (need n) (length now) more later
+    unclaimed_both new n now more later e q claimed may keeps moves right to here fewer are news left is =
+        let less = is_claimed q claimed in
+        let count = ap length left in
+        let same = ap (λ (v : Vec Name). length v.items) news in
+        let held = ap vec_capacity news in
+        let room = shelved.room in
+        let all = shelved.entries in
+        upkeep_both new n now more later e may keeps moves right to here fewer are (omega (arith, room, less, count, same, held)) (omega (arith, all, less, count, is))

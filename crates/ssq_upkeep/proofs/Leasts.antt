@@ -6,10 +6,11 @@ use Rattle.std.proofs.lemmas.Bool.Decides.{nat_tests}
 use Rattle.ssq_outside.specs.declared.name.Name.{Name}
 use Rattle.ssq_outside.specs.declared.name.Name.TheVariants as name
 use Rattle.ssq_outside.specs.Files.{name_before}
+use Rattle.ssq_outside.proofs.Names.{same_name-true, same_name-same}
 use Rattle.ssq_upkeep.specs.Upkeep.{MayGo, is_among, is_up_to, is_sure, is_of, Goes, IsLeast}
 use Rattle.ssq_upkeep.specs.Steps.{IsFloor, HasNoFloor, is_less, lesser}
 use Rattle.ssq_upkeep.proofs.Among.{Grows, among_both, or_left, or_right, still_among, new_among, old_or_new}
-use Rattle.ssq_upkeep.proofs.Order.{name_before-trans, name_before-below, name_before-itself, same_name-true, same_name-same}
+use Rattle.ssq_upkeep.proofs.Order.{name_before-trans, name_before-below, name_before-itself}
 
 -- what a settled snapshot lets go
 abbrev pub IsLet : List Name → ℕ → ℕ → Name → Type 0
@@ -150,56 +151,40 @@ snapshot_goes settled p last v f floor below = record {
   is = inr (refl, below);
 }
 
+-- the numbers of names that are the same
+delta_numbers : (p v q w : ℕ) → name.Delta p v ≡ name.Delta q w → (p ≡ q) × (v ≡ w)
+delta_numbers p v q w is = (cc, cc)
+
+snapshot_numbers : (p v q w : ℕ) → name.Snapshot p v ≡ name.Snapshot q w → (p ≡ q) × (v ≡ w)
+snapshot_numbers p v q w is = (cc, cc)
+
+apart : (p v q w : ℕ) → name.Delta p v ≡ name.Snapshot q w → ⊥
+apart p v q w is = cc
+
+-- the snapshot that lets a name go is of its partition, and old
+old_enough : (settled : List Name) (p q last s : ℕ) → p ≡ q → is_among settled (name.Snapshot q s) ≡ true → is_up_to (Some last) (s + 20) ≡ true → (s + 20 ≤ last) × (is_among settled (name.Snapshot p s) ≡ true)
+old_enough settled p q last s same there acknowledged = (up_to last (s + 20) acknowledged, subst (λ (x : ℕ). is_among settled (name.Snapshot x s) ≡ true) (sym same) there)
+
 -- what goes lies at the floor or below it
 pub delta_below : (settled : List Name) (p last v : ℕ) → MayGo (is_sure settled (Some last)) (name.Delta p v)
     → (s : ℕ) × (v ≤ s) × (s + 20 ≤ last) × (is_among settled (name.Snapshot p s) ≡ true)
-delta_below settled p last v may = by may.is
-  where
-    there : (q : ℕ) → q ≡ p → is_among settled (name.Snapshot q may.s) ≡ true → is_among settled (name.Snapshot p may.s) ≡ true
-    there q same is = subst (λ (x : ℕ). is_among settled (name.Snapshot x may.s) ≡ true) same is
-
-    by : ((name.Delta p v ≡ name.Delta may.p may.v) × (may.v ≤ may.s)) ⊎ ((name.Delta p v ≡ name.Snapshot may.p may.v) × (may.v < may.s))
-        → (s : ℕ) × (v ≤ s) × (s + 20 ≤ last) × (is_among settled (name.Snapshot p s) ≡ true)
-    by (inl x) =
-        let same_p : p ≡ may.p = partition_of p v may.p may.v x.0 in
-        let same_v : v ≡ may.v = version_of p v may.p may.v x.0 in
-        let low = x.1 in
-        (may.s, omega (arith, same_v, low), up_to last (may.s + 20) may.acknowledged, there may.p (sym same_p) may.snapshot)
-      where
-        partition_of : (p v q w : ℕ) → name.Delta p v ≡ name.Delta q w → p ≡ q
-        partition_of p v q w is = cc
-
-        version_of : (p v q w : ℕ) → name.Delta p v ≡ name.Delta q w → v ≡ w
-        version_of p v q w is = cc
-    by (inr x) = absurd (apart p v may.p may.v x.0)
-      where
-        apart : (p v q w : ℕ) → name.Delta p v ≡ name.Snapshot q w → ⊥
-        apart p v q w is = cc
+delta_below settled p last v may = elim may.is [
+  | inl x ↦
+      let same = delta_numbers p v may.p may.v x.0 in
+      let old = old_enough settled p may.p last may.s same.0 may.snapshot may.acknowledged in
+      (may.s, subst (λ n. n ≤ may.s) (sym same.1) x.1, old.0, old.1)
+  | inr x ↦ absurd (apart p v may.p may.v x.0)
+]
 
 pub snapshot_below : (settled : List Name) (p last v : ℕ) → MayGo (is_sure settled (Some last)) (name.Snapshot p v)
     → (s : ℕ) × (v < s) × (s + 20 ≤ last) × (is_among settled (name.Snapshot p s) ≡ true)
-snapshot_below settled p last v may = by may.is
-  where
-    there : (q : ℕ) → q ≡ p → is_among settled (name.Snapshot q may.s) ≡ true → is_among settled (name.Snapshot p may.s) ≡ true
-    there q same is = subst (λ (x : ℕ). is_among settled (name.Snapshot x may.s) ≡ true) same is
-
-    by : ((name.Snapshot p v ≡ name.Delta may.p may.v) × (may.v ≤ may.s)) ⊎ ((name.Snapshot p v ≡ name.Snapshot may.p may.v) × (may.v < may.s))
-        → (s : ℕ) × (v < s) × (s + 20 ≤ last) × (is_among settled (name.Snapshot p s) ≡ true)
-    by (inl x) = absurd (apart p v may.p may.v x.0)
-      where
-        apart : (p v q w : ℕ) → name.Snapshot p v ≡ name.Delta q w → ⊥
-        apart p v q w is = cc
-    by (inr x) =
-        let same_p : p ≡ may.p = partition_of p v may.p may.v x.0 in
-        let same_v : v ≡ may.v = version_of p v may.p may.v x.0 in
-        let low = x.1 in
-        (may.s, omega (arith, same_v, low), up_to last (may.s + 20) may.acknowledged, there may.p (sym same_p) may.snapshot)
-      where
-        partition_of : (p v q w : ℕ) → name.Snapshot p v ≡ name.Snapshot q w → p ≡ q
-        partition_of p v q w is = cc
-
-        version_of : (p v q w : ℕ) → name.Snapshot p v ≡ name.Snapshot q w → v ≡ w
-        version_of p v q w is = cc
+snapshot_below settled p last v may = elim may.is [
+  | inl x ↦ absurd (apart may.p may.v p v (sym x.0))
+  | inr x ↦
+      let same = snapshot_numbers p v may.p may.v x.0 in
+      let old = old_enough settled p may.p last may.s same.0 may.snapshot may.acknowledged in
+      (may.s, subst (λ n. n < may.s) (sym same.1) x.1, old.0, old.1)
+]
 
 -- without a floor nothing of the partition goes, nor above it
 pub delta_stays : (settled : List Name) (p last v : ℕ) → HasNoFloor settled p last → MayGo (is_sure settled (Some last)) (name.Delta p v) → ⊥

@@ -15,41 +15,33 @@ use Rattle.ssq_desk.proofs.upkeep.read_files.Goals as goal
 
 pub returns-in-Some-clause-read : goal.returns-in-Some-clause-read
 returns-in-Some-clause-read g c =
-    let p = c.args.partition in
-    let v = c.args.version in
     let b = c.in-Some.below in
     let names = there_in (shelf_of g.O.Opening.opening c.args.ledger.now) in
-    all_read g.D.Disk.tells (files_now (g.D.Disk.history c.args.ledger.now.disk)) p v names (Some b) (subst (IsNewestBelow p v names) c.in-Some.is c.snapshot_below.ensures)
-    (name.Snapshot p b ∷ deltas_from p (b + 1) ((v + 1) - (b + 1))) (behind_is p v b (v + 1) refl) c.read_behind.result c.read_behind.ensures.names c.read_behind.ensures.found
+    all_read g.D.Disk.tells (files_now (g.D.Disk.history c.args.ledger.now.disk)) c.args.partition c.args.version names (Some b) (subst (IsNewestBelow c.args.partition c.args.version names) c.in-Some.is c.snapshot_below.ensures)
+    (name.Snapshot c.args.partition b ∷ deltas_from c.args.partition (b + 1) ((c.args.version + 1) - (b + 1))) (behind_is c.args.partition c.args.version b (c.args.version + 1) refl) c.read_behind.result c.read_behind.ensures.names c.read_behind.ensures.found
 
 pub returns-in-Some-clause-cause : goal.returns-in-Some-clause-cause
 returns-in-Some-clause-cause g c =
-    let p = c.args.partition in
-    let v = c.args.version in
     let b = c.in-Some.below in
     let names = there_in (shelf_of g.O.Opening.opening c.args.ledger.now) in
     let files = files_now (g.D.Disk.history c.args.ledger.now.disk) in
-    let list = name.Snapshot p b ∷ deltas_from p (b + 1) ((v + 1) - (b + 1)) in
-    if_fails_later (λ q. (is_among list q ≡ true) × (g.D.Disk.tells → files q ≡ None)) (IsUnread g.D.Disk.tells files p v names) (g.D.Disk.faults c.args.ledger.now.disk) (g.D.Disk.faults c.args.ledger.now.disk) (g.D.Disk.faults c.read_behind.new.ledger.disk)
-    c.read_behind.result (omega arith) (none_read g.D.Disk.tells files p v names (Some b) (subst (IsNewestBelow p v names) c.in-Some.is c.snapshot_below.ensures) list (behind_is p v b (v + 1) refl)) c.read_behind.ensures.cause
+    let list = name.Snapshot c.args.partition b ∷ deltas_from c.args.partition (b + 1) ((c.args.version + 1) - (b + 1)) in
+    if_fails_later (λ q. (is_among list q ≡ true) × (g.D.Disk.tells → files q ≡ None)) (IsUnread g.D.Disk.tells files c.args.partition c.args.version names) (g.D.Disk.faults c.args.ledger.now.disk) (g.D.Disk.faults c.args.ledger.now.disk) (g.D.Disk.faults c.read_behind.new.ledger.disk)
+    c.read_behind.result (omega arith) (none_read g.D.Disk.tells files c.args.partition c.args.version names (Some b) (subst (IsNewestBelow c.args.partition c.args.version names) c.in-Some.is c.snapshot_below.ensures) list (behind_is c.args.partition c.args.version b (c.args.version + 1) refl)) c.read_behind.ensures.cause
 
 pub returns-in-None-clause-read : goal.returns-in-None-clause-read
 returns-in-None-clause-read g c =
-    let p = c.args.partition in
-    let v = c.args.version in
     let names = there_in (shelf_of g.O.Opening.opening c.args.ledger.now) in
     let files = files_now (g.D.Disk.history c.args.ledger.now.disk) in
-    let rest = deltas_from p 0 ((v + 1) - 0) in
+    let rest = deltas_from c.args.partition 0 ((c.args.version + 1) - 0) in
     let begins : names_in c.new.result.items ++ rest ≡ rest = ap (λ (l : List (Name × List ℕ)). names_in l ++ rest) c.new.ensures.items in
-    all_read g.D.Disk.tells files p v names None (subst (IsNewestBelow p v names) c.in-None.is c.snapshot_below.ensures) (names_in c.new.result.items ++ rest) (begins ∙ whole_is p v (v + 1) refl) c.with_deltas.result c.with_deltas.ensures.names
+    all_read g.D.Disk.tells files c.args.partition c.args.version names None (subst (IsNewestBelow c.args.partition c.args.version names) c.in-None.is c.snapshot_below.ensures) (names_in c.new.result.items ++ rest) (begins ∙ whole_is c.args.partition c.args.version (c.args.version + 1) refl) c.with_deltas.result c.with_deltas.ensures.names
     (λ t. c.with_deltas.ensures.found t (subst (All (λ (file : Name × List ℕ). files file.0 ≡ Some file.1)) (sym c.new.ensures.items) (All-nil (λ (file : Name × List ℕ). files file.0 ≡ Some file.1))))
 
 pub returns-in-None-clause-cause : goal.returns-in-None-clause-cause
 returns-in-None-clause-cause g c =
-    let p = c.args.partition in
-    let v = c.args.version in
     let names = there_in (shelf_of g.O.Opening.opening c.args.ledger.now) in
     let files = files_now (g.D.Disk.history c.args.ledger.now.disk) in
-    let list = deltas_from p 0 ((v + 1) - 0) in
-    if_fails_later (λ q. (is_among list q ≡ true) × (g.D.Disk.tells → files q ≡ None)) (IsUnread g.D.Disk.tells files p v names) (g.D.Disk.faults c.args.ledger.now.disk) (g.D.Disk.faults c.args.ledger.now.disk) (g.D.Disk.faults c.with_deltas.new.ledger.disk)
-    c.with_deltas.result (omega arith) (none_read g.D.Disk.tells files p v names None (subst (IsNewestBelow p v names) c.in-None.is c.snapshot_below.ensures) list (whole_is p v (v + 1) refl)) c.with_deltas.ensures.cause
+    let list = deltas_from c.args.partition 0 ((c.args.version + 1) - 0) in
+    if_fails_later (λ q. (is_among list q ≡ true) × (g.D.Disk.tells → files q ≡ None)) (IsUnread g.D.Disk.tells files c.args.partition c.args.version names) (g.D.Disk.faults c.args.ledger.now.disk) (g.D.Disk.faults c.args.ledger.now.disk) (g.D.Disk.faults c.with_deltas.new.ledger.disk)
+    c.with_deltas.result (omega arith) (none_read g.D.Disk.tells files c.args.partition c.args.version names None (subst (IsNewestBelow c.args.partition c.args.version names) c.in-None.is c.snapshot_below.ensures) list (whole_is c.args.partition c.args.version (c.args.version + 1) refl)) c.with_deltas.ensures.cause

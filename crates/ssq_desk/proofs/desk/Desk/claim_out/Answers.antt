@@ -2,6 +2,7 @@ use Rattle.std.proofs.Common.{List, ◌≡◌, ◌++◌, ℕ, map, length, refl,
 use Rattle.std.specs.Prelude.{All}
 use Rattle.std.specs.Vec.{with_items}
 use Rattle.std.proofs.lemmas.List.{with_items_is}
+use Rattle.std.proofs.lemmas.Option.{same_Some}
 use Rattle.ssq_time.specs.Time.{IsStampTime}
 use Rattle.ssq_value.specs.Kind.{IfTime}
 use Rattle.ssq_meaning.specs.Epochs.{joined}
@@ -26,7 +27,7 @@ use Rattle.ssq_desk.specs.Handing.{CanRaise, raised_in}
 use Rattle.ssq_desk.specs.Handed.{IsOutOf}
 use Rattle.ssq_desk.specs.Tasks.{IsOutTask, out_id}
 use Rattle.ssq_desk.specs.Whole.{IsWhole, HoldsIn, opening_in}
-use Rattle.ssq_desk.proofs.Handing.{out_here, out_claimed, some_work, moved_whole, runs_without, after_claim, may_report}
+use Rattle.ssq_desk.proofs.Handing.{out_here, out_claimed, moved_whole, runs_without, after_claim, may_report}
 use Rattle.ssq_desk.proofs.desk.Desk.claim_out.Goals as goal
 
 pub raise_all-requires : goal.raise_all-requires
@@ -34,7 +35,7 @@ raise_all-requires g c =
     let s = c.self.inside in
     let m = subst (λ (x : Shown g.row.D.Denot (Round g.row.L.Denot)). May x.scope x.core (entry.Claim c.args.id)) (sym c.self.view_is) c.requires.may in
     let h = out_here _ _ _ _ _ _ _ _ _ _ _ c.self.invariant c.is_legal.ensures.legal c.is_in_order.ensures c.args.id c.requires.out.0 c.requires.out.1 m in
-    let same = some_work h.work c.in-Some.work (sym h.here ∙ sym c.replace.ensures.value ∙ c.in-Some.is) in
+    let same = same_Some h.work c.in-Some.work (sym h.here ∙ sym c.replace.ensures.value ∙ c.in-Some.is) in
     subst (λ (w : OutWork g.row.D-Stage.Denot g.row.D-Stage-Sealed.Denot). CanRaise (length w.seen) c.as_slice.result.now) same
     (subst (λ (l : List (Source g.row.L.Denot)). CanRaise (length h.work.seen) l) (sym c.as_slice.ensures.value) h.raise)
 
@@ -57,7 +58,7 @@ returns-clause-task g c =
     let s = c.self.inside in
     let m = subst (λ (x : Shown g.row.D.Denot (Round g.row.L.Denot)). May x.scope x.core (entry.Claim c.args.id)) (sym c.self.view_is) c.requires.may in
     let h = out_here _ _ _ _ _ _ _ _ _ _ _ c.self.invariant c.is_legal.ensures.legal c.is_in_order.ensures c.args.id c.requires.out.0 c.requires.out.1 m in
-    let same = some_work h.work c.in-Some.work (sym h.here ∙ sym c.replace.ensures.value ∙ c.in-Some.is) in
+    let same = same_Some h.work c.in-Some.work (sym h.here ∙ sym c.replace.ensures.value ∙ c.in-Some.is) in
     let is = subst (λ (w : OutWork g.row.D-Stage.Denot g.row.D-Stage-Sealed.Denot). IsOutWork (Owns g.D.Disk.tells g.L.Log.tells g.D.Disk.history g.L.Log.lines s.ledger) g.D.Stage.Stage.written (setting_of g.L.Log.lines s.ledger.opening) (cuts_of (opening_in g.L.Log.lines) s.ledger) s.ledger.core.front.committed w) same h.is in
     let rows : map (λ v. v.items) c.take_rows.new.into.items ≡ map (λ (x : Share g.row.D-Stage.Denot). x.rows.items) s.load.shares.items = c.take_rows.ensures.rows ∙ (λ i. map (λ v. v.items) (is.none i) ++ map (λ (x : Share g.row.D-Stage.Denot). x.rows.items) (c.deref_mut.ensures.value i)) in
     let handed : OutTask g.row.D-Stage.Denot g.row.D-Stage-Sealed.Denot = (record { view = s.load.view; epoch = c.args.id.epoch; seen = c.raise_all.new.seen; rows = c.take_rows.new.into; stages = c.in-Some.work.stages }) in

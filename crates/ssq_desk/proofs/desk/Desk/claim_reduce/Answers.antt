@@ -18,7 +18,7 @@ use Rattle.ssq_desk.specs.declared.desk.Load.{Load}
 use Rattle.ssq_desk.specs.declared.desk.Share.{Share}
 use Rattle.ssq_desk.specs.declared.desk.Source.{Source}
 use Rattle.ssq_desk.specs.declared.round.Round.{Round}
-use Rattle.ssq_meaning.specs.declared.fed_row.FedRow.{FedRow}
+use Rattle.ssq_meaning.specs.FedRows.{FedRow}
 use Rattle.ssq_ledger.specs.Shown.{cuts_of}
 use Rattle.ssq_board.specs.Core.{after}
 use Rattle.ssq_desk.specs.Round.{setting_of, Owns}

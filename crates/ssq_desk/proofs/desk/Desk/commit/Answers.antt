@@ -1,5 +1,6 @@
 use Rattle.std.proofs.Common.{◌&&◌, ◌≡◌, ◌<◌, ◌+◌, ◌^◌, ℕ, map, get_or, false, sym, ap, ◌∙◌, subst, arith}
 use Rattle.std.specs.Prelude.{vec_capacity}
+use Rattle.std.proofs.lemmas.Option.{same_Some}
 use Rattle.ssq_plans.specs.declared.plan.Plan.{Plan}
 use Rattle.ssq_plans.specs.declared.part.PartEnd.{PartEnd}
 use Rattle.ssq_board.specs.declared.front.Front.{Front}
@@ -10,16 +11,31 @@ use Rattle.ssq_ledger.specs.Shown.{Shown, cuts_of}
 use Rattle.ssq_desk.specs.declared.desk.Pending.{Pending}
 use Rattle.ssq_desk.specs.declared.desk.Source.{Source}
 use Rattle.ssq_desk.specs.declared.round.Round.{Round}
-use Rattle.ssq_desk.specs.Closing.{AreTold, lines_between}
+use Rattle.ssq_desk.specs.Closing.{AreTold, IsToldOf, lines_between}
 use Rattle.ssq_meaning.specs.Times.{delays, is_above, watermark_by}
 use Rattle.ssq_water.specs.Water.{seen_at}
 use Rattle.ssq_course.specs.Setting.{closes}
 use Rattle.ssq_desk.specs.Round.{setting_of, Owns, is_due}
 use Rattle.ssq_desk.specs.Whole.{opening_in}
 use Rattle.ssq_desk.proofs.Closings.{plan_below, few_lines, told_right}
-use Rattle.ssq_desk.proofs.Settling.{pending_here, pending_right, after_commit, uncommitted, some_pending}
+use Rattle.ssq_desk.proofs.Settling.{pending_here, pending_right, after_commit, uncommitted}
 use Rattle.ssq_desk.proofs.Telling.{told_more}
+use Rattle.ssq_desk.proofs.desk.Desk.commit.Given.{Over}
 use Rattle.ssq_desk.proofs.desk.Desk.commit.Goals as goal
+use Rattle.ssq_desk.proofs.desk.Desk.commit.Goals.{After-tell-told}
+
+-- what is told of the epoch
+told_is : (g : Over) (c : After-tell-told g) → IsToldOf (Owns g.D.Disk.tells g.L.Log.tells g.D.Disk.history g.L.Log.lines c.self.inside.ledger) (setting_of g.L.Log.lines c.self.inside.ledger.opening) (cuts_of (opening_in g.L.Log.lines) c.self.inside.ledger) c.self.inside.ledger.core.front.committed c.tell-told.result
+told_is g c =
+    let s = c.self.inside in
+    let next = subst (λ (x : Shown g.row.D.Denot (Round g.row.L.Denot)). ready_of x.scope x.core ≡ ready.Commit) (sym c.self.view_is) c.requires in
+    let h = pending_here _ _ _ _ _ _ _ _ _ s.ledger s.load c.self.invariant next in
+    let mine : h.0 ≡ c.take_pending-pending.result = same_Some h.0 c.take_pending-pending.result (sym h.1 ∙ c.take_pending-pending.ensures.is) in
+    told_right g.D.Disk.tells g.L.Log.tells g.D.Disk.history g.L.Log.lines g.L.Log.available g.L.Log.answers g.L.Log.faults g.D.Stage.Stage.written g.D.Stage.Stage.sealed s.ledger s.load c.self.invariant c.is_legal.ensures.legal c.is_in_order.ensures next c.tell-told.result
+    (c.tell-told.ensures.epoch ∙ ap (λ (f : Front). f.committed) c.front-epoch.ensures)
+    (c.tell-told.ensures.lines ∙ (λ i. lines_between (map (λ (x : Source g.row.L.Denot). x.from) s.load.sources.items) (map (λ (e : PartEnd). e.end) (c.ends.ensures i))))
+    (λ (d : Plan). c.tell-told.ensures.watermark d ∙ (λ i. (get_or s.load.plans.items ((c.front-epoch.ensures i).committed) d).watermark))
+    (λ t. c.tell-told.ensures.rows ∙ ap (λ (p : Pending g.row.D-Stage-Sealed.Denot). p.count) (sym mine) ∙ h.2.rows t)
 
 pub take_pending-pending-requires : goal.take_pending-pending-requires
 take_pending-pending-requires g c =
@@ -55,14 +71,9 @@ commit-requires-clause-due g c = λ t. (
     let cuts = cuts_of (opening_in g.L.Log.lines) s.ledger in
     let told = c.tell-told.result in
     let h = pending_here _ _ _ _ _ _ _ _ _ s.ledger s.load c.self.invariant next in
-    let mine : h.0 ≡ c.take_pending-pending.result = some_pending h.0 c.take_pending-pending.result (sym h.1 ∙ c.take_pending-pending.ensures.is) in
-    let is = told_right g.D.Disk.tells g.L.Log.tells g.D.Disk.history g.L.Log.lines g.L.Log.available g.L.Log.answers g.L.Log.faults g.D.Stage.Stage.written g.D.Stage.Stage.sealed s.ledger s.load c.self.invariant c.is_legal.ensures.legal c.is_in_order.ensures next told
-    (c.tell-told.ensures.epoch ∙ ap (λ (f : Front). f.committed) c.front-epoch.ensures)
-    (c.tell-told.ensures.lines ∙ (λ i. lines_between (map (λ (x : Source g.row.L.Denot). x.from) s.load.sources.items) (map (λ (e : PartEnd). e.end) (c.ends.ensures i))))
-    (λ (d : Plan). c.tell-told.ensures.watermark d ∙ (λ i. (get_or s.load.plans.items ((c.front-epoch.ensures i).committed) d).watermark))
-    (λ t. c.tell-told.ensures.rows ∙ ap (λ (p : Pending g.row.D-Stage-Sealed.Denot). p.count) (sym mine) ∙ h.2.rows t) in
+    let mine : h.0 ≡ c.take_pending-pending.result = same_Some h.0 c.take_pending-pending.result (sym h.1 ∙ c.take_pending-pending.ensures.is) in
     let times = h.2.times.are t in
-    let mark = is.watermark_is t in
+    let mark = (told_is g (goal.at.commit-requires-clause-due g c).After-tell-told).watermark_is t in
     let bound = c.self.invariant.view.bound in
     c.is_due-due.ensures
     ∙ ap (λ (p : Pending g.row.D-Stage-Sealed.Denot). is_due s.load.view.bound.now (seen_at p.seen) told.watermark) (sym mine)
@@ -86,13 +97,7 @@ invariant_of-self-2 g c =
     let next = subst (λ (x : Shown g.row.D.Denot (Round g.row.L.Denot)). ready_of x.scope x.core ≡ ready.Commit) (sym c.self.view_is) c.requires in
     let owned = Owns g.D.Disk.tells g.L.Log.tells g.D.Disk.history g.L.Log.lines s.ledger in
     let told = c.tell-told.result in
-    let h = pending_here _ _ _ _ _ _ _ _ _ s.ledger s.load c.self.invariant next in
-    let mine : h.0 ≡ c.take_pending-pending.result = some_pending h.0 c.take_pending-pending.result (sym h.1 ∙ c.take_pending-pending.ensures.is) in
-    let is = told_right g.D.Disk.tells g.L.Log.tells g.D.Disk.history g.L.Log.lines g.L.Log.available g.L.Log.answers g.L.Log.faults g.D.Stage.Stage.written g.D.Stage.Stage.sealed s.ledger s.load c.self.invariant c.is_legal.ensures.legal c.is_in_order.ensures next told
-    (c.tell-told.ensures.epoch ∙ ap (λ (f : Front). f.committed) c.front-epoch.ensures)
-    (c.tell-told.ensures.lines ∙ (λ i. lines_between (map (λ (x : Source g.row.L.Denot). x.from) s.load.sources.items) (map (λ (e : PartEnd). e.end) (c.ends.ensures i))))
-    (λ (d : Plan). c.tell-told.ensures.watermark d ∙ (λ i. (get_or s.load.plans.items ((c.front-epoch.ensures i).committed) d).watermark))
-    (λ t. c.tell-told.ensures.rows ∙ ap (λ (p : Pending g.row.D-Stage-Sealed.Denot). p.count) (sym mine) ∙ h.2.rows t) in
+    let is = told_is g (goal.at.invariant_of-self-2 g c).After-tell-told in
     after_commit _ _ _ _ _ _ _ _ _ s.ledger s.load c.self.invariant c.commit.new.self c.take_pending-pending.result c.take_pending-pending.new.pending c.push_reserved.new.self
     c.is_in_order.ensures.sound.near c.take_pending-pending.ensures.none c.take_pending-pending.ensures.is next (c.is_due-due.result, c.in_ok-commit.ensures.done)
     (subst (λ l. AreTold owned (setting_of g.L.Log.lines s.ledger.opening) (cuts_of (opening_in g.L.Log.lines) s.ledger) s.ledger.opening.opened.committed (s.ledger.core.front.committed + 1) l) (sym c.push_reserved.ensures.items)

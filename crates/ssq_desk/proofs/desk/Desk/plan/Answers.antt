@@ -32,7 +32,7 @@ invariant_of-self g c =
     let next : ready_of old.scope old.core ≡ ready.Plan = subst (λ (x : Shown g.row.D.Denot (Round g.row.L.Denot)). ready_of x.scope x.core ≡ ready.Plan) (sym c.self.view_is) c.requires in
     let same = same_load g.D.Disk.tells g.L.Log.tells g.D.Disk.history g.L.Log.lines g.L.Log.available g.L.Log.answers g.L.Log.faults g.D.Stage.Stage.written g.D.Stage.Stage.sealed old c.self.inside.load c.self.invariant c.make.new.load (plan_runs old.scope old.core next).1 c.in-Err.ensures.kept in
     let right = unmade_stops (g.D.Disk.tells × g.L.Log.tells) tells (setting_of g.L.Log.lines old.opening) (cuts_of (opening_in g.L.Log.lines) old) old.core.front.committed old.core.front.planned c.in-Err.cause c.in-Err.ensures.unmade.0 in
-    let whole = stopped_whole g.D.Disk.tells g.L.Log.tells g.D.Disk.history g.L.Log.lines g.L.Log.available g.L.Log.answers g.L.Log.faults g.D.Stage.Stage.written g.D.Stage.Stage.sealed old c.make.new.load same c.make.new.ledger.disk c.in-Err.cause (unmade_no_log old.core.front.planned c.in-Err.cause c.in-Err.ensures.unmade.0) right in
+    let whole = stopped_whole g.D.Disk.tells g.L.Log.tells g.D.Disk.history g.L.Log.lines g.L.Log.available g.L.Log.answers g.L.Log.faults g.D.Stage.Stage.written g.D.Stage.Stage.sealed old c.make.new.load same c.make.new.ledger.disk c.in-Err.cause c.make.new.load.pending (unmade_no_log old.core.front.planned c.in-Err.cause c.in-Err.ensures.unmade.0) right in
     subst (λ (x : Shown g.row.D.Denot (Round g.row.L.Denot)). IsWhole g.D.Disk.tells g.L.Log.tells g.D.Disk.history g.L.Log.lines g.L.Log.available g.L.Log.answers g.L.Log.faults g.D.Stage.Stage.written g.D.Stage.Stage.sealed x c.make.new.load)
     (sym (c.stop.ensures ∙ ap (λ (x : Shown g.row.D.Denot (Round g.row.L.Denot)). did x c.make.new.ledger.disk es) c.make.ensures.did ∙ did_then old c.make.new.ledger.disk c.make.new.ledger.disk [] es)) whole
 

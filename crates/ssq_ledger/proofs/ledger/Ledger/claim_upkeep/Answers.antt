@@ -1,4 +1,4 @@
-use Rattle.std.proofs.Common.{◌≡◌, ◌≤◌, ◌+◌, ◌++◌, [], ◌∷◌, List, ◌-◌, None, length, length-append, sym, ap, ◌∙◌, refl, subst, inl, le_refl, arith}
+use Rattle.std.proofs.Common.{◌≤◌, ◌++◌, [], ◌∷◌, List, length, length-append, sym, ap, ◌∙◌, refl, subst, inl, le_refl, arith}
 use Rattle.std.specs.Global.{Vec}
 use Rattle.ssq_outside.specs.declared.name.Name.{Name}
 use Rattle.ssq_outside.specs.declared.name.Name.TheVariants as name
@@ -11,36 +11,25 @@ use Rattle.ssq_board.specs.Shelf.{asked_in}
 use Rattle.ssq_ledger.specs.Shown.{Shown, cuts_of}
 use Rattle.ssq_board.proofs.Needs.{need_bound}
 use Rattle.ssq_core.specs.Machine.{nothing}
-use Rattle.ssq_ledger.proofs.Ledgers.{held, has_room}
-use Rattle.ssq_ledger.proofs.Shelves.{by_shelf, claim_are, made_room, spent_both, upkeep_both}
+use Rattle.ssq_ledger.proofs.Ledgers.{held, few_tasks, runs_inside, stop_room}
+use Rattle.ssq_ledger.proofs.Shelves.{by_shelf, claim_are, halted_both, made_room, upkeep_both}
 use Rattle.ssq_ledger.proofs.ledger.Ledger.claim_upkeep.Goals as goal
 
 pub count-requires : goal.count-requires
-count-requires g c =
-    let d = held _ _ _ _ _ _ _ _ c.self.invariant.0 in
-    let few = c.self.invariant.0.few in
-    omega (arith, d.maps, d.reduces, d.outs)
+count-requires g c = few_tasks _ _ _ _ _ _ _ _ c.self.invariant.0 _ _ (held _ _ _ _ _ _ _ _ c.self.invariant.0) refl
 
 pub make_upkeep_room-requires : goal.make_upkeep_room-requires
-make_upkeep_room-requires g c =
-    let d = held _ _ _ _ _ _ _ _ c.self.invariant.0 in
-    let few = c.self.invariant.0.few in
-    let n = c.count.ensures in
-    omega (arith, d.maps, d.reduces, d.outs)
+make_upkeep_room-requires g c = few_tasks _ _ _ _ _ _ _ _ c.self.invariant.0 _ _ (held _ _ _ _ _ _ _ _ c.self.invariant.0) c.count.ensures
 
 pub halt-requires : goal.halt-requires
-halt-requires g c =
-    let s = c.self.inside in
-    let running : s.board.front.stop ≡ None = ap (λ (x : Shown g.row.D.Denot g.row.O.Denot). x.core.front.stop) c.self.view_is ∙ c.requires.running in
-    (let a = has_room _ _ _ _ _ _ _ _ c.self.invariant.0 (entry.Stop cause.NoMemory) (running, tt) refl in let b = ap length c.make_upkeep_room.ensures.items in let k : s.entries.cap ≤ c.make_upkeep_room.new.entries.cap = c.make_upkeep_room.ensures.kept in omega arith)
+halt-requires g c = stop_room _ _ _ _ _ _ _ _ c.self.invariant.0 _ _ (runs_inside _ _ c.self.view_is c.requires.running) c.make_upkeep_room.ensures.items c.make_upkeep_room.ensures.kept
 
 pub invariant_of-self : goal.invariant_of-self
 invariant_of-self g c =
     let s = c.self.inside in
-    let running : s.board.front.stop ≡ None = ap (λ (x : Shown g.row.D.Denot g.row.O.Denot). x.core.front.stop) c.self.view_is ∙ c.requires.running in
-    let items = c.halt.ensures.items ∙ ap (λ (l : List Entry). l ++ entry.Stop cause.NoMemory ∷ []) c.make_upkeep_room.ensures.items in
-    let kept : s.entries.cap ≤ c.halt.new.entries.cap = (let k = c.halt.ensures.capacity in let q : s.entries.cap ≤ c.make_upkeep_room.new.entries.cap = c.make_upkeep_room.ensures.kept in omega arith) in
-    spent_both _ _ _ _ _ _ _ _ c.self.invariant.0 _ _ (made_room _ _ _ _ _ _ _ _ _ c.self.invariant.1 c.make_upkeep_room.ensures.names (le_refl s.entries.cap)) _ _ _ _ (entry.Stop cause.NoMemory) refl refl (running, tt) (λ t. (nothing, inl refl, refl)) (λ t. tt) c.halt.ensures.board items kept kept
+    let kept : s.entries.cap ≤ c.make_upkeep_room.new.entries.cap = c.make_upkeep_room.ensures.kept in
+    halted_both _ _ _ _ _ _ _ _ c.self.invariant.0 _ _ (made_room _ _ _ _ _ _ _ _ _ c.self.invariant.1 c.make_upkeep_room.ensures.names (le_refl s.entries.cap)) _ _ _ _ _ _ cause.NoMemory (runs_inside _ _ c.self.view_is c.requires.running) tt (λ t. (nothing, inl refl, refl)) c.halt.ensures.board
+    c.make_upkeep_room.ensures.items c.halt.ensures.items kept kept c.halt.ensures.capacity
 
 pub invariant_of-self-2 : goal.invariant_of-self-2
 invariant_of-self-2 g c =
@@ -48,7 +37,7 @@ invariant_of-self-2 g c =
     let o = g.O.Opening.opening s.opening.value in
     let p = c.in-Some.partition in
     let v = c.in-Some.version in
-    let running : s.board.front.stop ≡ None = ap (λ (x : Shown g.row.D.Denot g.row.O.Denot). x.core.front.stop) c.self.view_is ∙ c.requires.running in
+    let running = runs_inside _ _ c.self.view_is c.requires.running in
     let next = by_shelf (λ l x. IsNext (asked_in x) x.settled p l v) _ _ _ _ s.names s.board c.front.result c.last_of-last.result c.self.invariant.1 c.front.ensures c.last_of-last.ensures c.in-Some.ensures.2 in
     let keeping : g.D.Disk.tells × g.O.Opening.tells s.opening.value s.scope (g.D.Disk.history s.opened.value) → _ =
     subst (λ (x : Shown g.row.D.Denot g.row.O.Denot). g.D.Disk.tells × g.O.Opening.tells x.opening x.scope (g.D.Disk.history x.opened) → c.args.keeping ≤ ((g.O.Opening.opening x.opening).job.course (cuts_of g.O.Opening.opening x)).keeping) (sym c.self.view_is) c.requires.keeping in

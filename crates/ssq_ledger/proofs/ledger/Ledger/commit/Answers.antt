@@ -1,6 +1,5 @@
-use Rattle.std.proofs.Common.{◌≡◌, ◌≤◌, ◌<◌, ◌+◌, sym, ap, ◌∙◌, refl, subst, inr, arith}
+use Rattle.std.proofs.Common.{◌≡◌, ◌≤◌, ◌<◌, ◌+◌, sym, ap, ◌∙◌, refl, subst, inr, le_refl, arith}
 use Rattle.ssq_outside.specs.declared.name.Name.TheVariants as name
-use Rattle.ssq_core.specs.Course.{truth}
 use Rattle.ssq_core.specs.Machine.{publishes}
 use Rattle.ssq_board.specs.declared.front.Front.{Front}
 use Rattle.ssq_board.specs.declared.front.Cause.TheVariants as cause
@@ -11,8 +10,8 @@ use Rattle.ssq_board.proofs.Readies.{commit_may}
 use Rattle.ssq_board.proofs.Sounds.{open_less}
 use Rattle.ssq_ledger.specs.Shown.{Shown, cuts_of, cuts_after}
 use Rattle.ssq_ledger.proofs.Ledgers.{held, has_room}
-use Rattle.ssq_ledger.proofs.Shelves.{spent_both}
-use Rattle.ssq_ledger.proofs.Moves.{went, tried}
+use Rattle.ssq_ledger.proofs.Shelves.{halted_both, spent_both}
+use Rattle.ssq_ledger.proofs.Moves.{right_inside, tried, went}
 use Rattle.ssq_ledger.proofs.ledger.Ledger.commit.Goals as goal
 
 pub commit-requires-clause-running : goal.commit-requires-clause-running
@@ -49,9 +48,7 @@ invariant_of-self g c =
     let epoch = ap (λ (f : Front). f.committed) c.front-epoch.ensures in
     let e = entry.Commit c.front-epoch.result.committed c.args.due in
     let m' : May s.scope s.board e = (m.0, epoch, m.2, m.3, m.4, m.5) in
-    let right : g.D.Disk.tells × g.O.Opening.tells s.opening.value s.scope (g.D.Disk.history s.opened.value) → g.D.Stage.Stage.sealed c.args.file ≡ truth (o.job.course (cuts_after o s.scope s.entries.items)) (name.Commit c.front-epoch.result.committed) =
-    (λ t. subst (λ (x : Shown g.row.D.Denot g.row.O.Denot). g.D.Disk.tells × g.O.Opening.tells x.opening x.scope (g.D.Disk.history x.opened) → g.D.Stage.Stage.sealed c.args.file ≡ truth ((g.O.Opening.opening x.opening).job.course (cuts_of g.O.Opening.opening x)) (name.Commit x.core.front.committed)) (sym c.self.view_is) c.requires.right t
-    ∙ ap (λ n. truth (o.job.course (cuts_after o s.scope s.entries.items)) (name.Commit n)) (sym epoch)) in
+    let right = right_inside g.D.Disk.tells g.D.Disk.history g.O.Opening.tells g.O.Opening.opening (cuts_of g.O.Opening.opening) _ _ c.self.view_is name.Commit (λ f. f.committed) _ epoch _ c.requires.right in
     let due : g.D.Disk.tells × g.O.Opening.tells s.opening.value s.scope (g.D.Disk.history s.opened.value) → c.args.due ≡ o.due (cuts_after o s.scope s.entries.items) (c.front-epoch.result.committed + 1) =
     (λ t. subst (λ (x : Shown g.row.D.Denot g.row.O.Denot). g.D.Disk.tells × g.O.Opening.tells x.opening x.scope (g.D.Disk.history x.opened) → c.args.due ≡ (g.O.Opening.opening x.opening).due (cuts_of g.O.Opening.opening x) (x.core.front.committed + 1)) (sym c.self.view_is) c.requires.due t
     ∙ ap (λ n. o.due (cuts_after o s.scope s.entries.items) (n + 1)) (sym epoch)) in
@@ -62,14 +59,10 @@ pub invariant_of-self-in-Err : goal.invariant_of-self-in-Err
 invariant_of-self-in-Err g c =
     let s = c.self.inside in
     let m = commit_may s.scope s.board c.args.due (subst (λ (x : Shown g.row.D.Denot g.row.O.Denot). ready_of x.scope x.core ≡ ready.Commit) (sym c.self.view_is) c.requires.ready) in
-    let o = g.O.Opening.opening s.opening.value in
     let epoch = ap (λ (f : Front). f.committed) c.front-epoch.ensures in
     let e = entry.Commit c.front-epoch.result.committed c.args.due in
     let m' : May s.scope s.board e = (m.0, epoch, m.2, m.3, m.4, m.5) in
-    let right : g.D.Disk.tells × g.O.Opening.tells s.opening.value s.scope (g.D.Disk.history s.opened.value) → g.D.Stage.Stage.sealed c.args.file ≡ truth (o.job.course (cuts_after o s.scope s.entries.items)) (name.Commit c.front-epoch.result.committed) =
-    (λ t. subst (λ (x : Shown g.row.D.Denot g.row.O.Denot). g.D.Disk.tells × g.O.Opening.tells x.opening x.scope (g.D.Disk.history x.opened) → g.D.Stage.Stage.sealed c.args.file ≡ truth ((g.O.Opening.opening x.opening).job.course (cuts_of g.O.Opening.opening x)) (name.Commit x.core.front.committed)) (sym c.self.view_is) c.requires.right t
-    ∙ ap (λ n. truth (o.job.course (cuts_after o s.scope s.entries.items)) (name.Commit n)) (sym epoch)) in
-    let kept : s.entries.cap ≤ c.halt.new.entries.cap = (let k = c.halt.ensures.capacity in omega arith) in
-    spent_both _ _ _ _ _ _ _ _ c.self.invariant.0 _ _ c.self.invariant.1 _ _ _ _ (entry.Stop cause.DiskFault) refl refl (m.0, tt)
-    (λ t. (publishes (name.Commit c.front-epoch.result.committed) (truth (o.job.course (cuts_after o s.scope s.entries.items)) (name.Commit c.front-epoch.result.committed)), inr (e, m', refl, refl), tried (name.Commit c.front-epoch.result.committed) _ _ _ _ (right t) (c.publish.ensures.steps t.0)))
-    (λ t. tt) c.halt.ensures.board c.halt.ensures.items kept kept
+    let right = right_inside g.D.Disk.tells g.D.Disk.history g.O.Opening.tells g.O.Opening.opening (cuts_of g.O.Opening.opening) _ _ c.self.view_is name.Commit (λ f. f.committed) _ epoch _ c.requires.right in
+    halted_both _ _ _ _ _ _ _ _ c.self.invariant.0 _ _ c.self.invariant.1 _ _ _ _ _ _ cause.DiskFault m.0 tt
+    (λ t. (publishes (name.Commit c.front-epoch.result.committed) _, inr (e, m', refl, refl), tried (name.Commit c.front-epoch.result.committed) _ _ _ _ (right t) (c.publish.ensures.steps t.0)))
+    c.halt.ensures.board refl c.halt.ensures.items (le_refl _) (le_refl _) c.halt.ensures.capacity

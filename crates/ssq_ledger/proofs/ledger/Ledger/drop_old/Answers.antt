@@ -9,28 +9,18 @@ use Rattle.ssq_board.specs.Shelf.{there_in}
 use Rattle.ssq_ledger.specs.Shown.{Shown}
 use Rattle.ssq_board.proofs.Needs.{need_bound}
 use Rattle.ssq_core.specs.Machine.{nothing}
-use Rattle.ssq_ledger.proofs.Ledgers.{held, has_room}
-use Rattle.ssq_ledger.proofs.Shelves.{by_shelf, dropped_are, same_are, spent_both, stop_most, stops_need, upkeep_both, without_most}
+use Rattle.ssq_ledger.proofs.Ledgers.{held, few_tasks, runs_inside, stop_room}
+use Rattle.ssq_ledger.proofs.Shelves.{by_shelf, dropped_are, halted_both, same_are, stop_most, stops_need, upkeep_both, without_most}
 use Rattle.ssq_ledger.proofs.ledger.Ledger.drop_old.Goals as goal
 
 pub count-requires : goal.count-requires
-count-requires g c =
-    let d = held _ _ _ _ _ _ _ _ c.self.invariant.0 in
-    let few = c.self.invariant.0.few in
-    omega (arith, d.maps, d.reduces, d.outs)
+count-requires g c = few_tasks _ _ _ _ _ _ _ _ c.self.invariant.0 _ _ (held _ _ _ _ _ _ _ _ c.self.invariant.0) refl
 
 pub make_drop_room-requires : goal.make_drop_room-requires
-make_drop_room-requires g c =
-    let d = held _ _ _ _ _ _ _ _ c.self.invariant.0 in
-    let few = c.self.invariant.0.few in
-    let n = c.count.ensures in
-    omega (arith, d.maps, d.reduces, d.outs)
+make_drop_room-requires g c = few_tasks _ _ _ _ _ _ _ _ c.self.invariant.0 _ _ (held _ _ _ _ _ _ _ _ c.self.invariant.0) c.count.ensures
 
 pub halt-requires : goal.halt-requires
-halt-requires g c =
-    let s = c.self.inside in
-    let running : s.board.front.stop ≡ None = ap (λ (x : Shown g.row.D.Denot g.row.O.Denot). x.core.front.stop) c.self.view_is ∙ c.requires in
-    (let a = has_room _ _ _ _ _ _ _ _ c.self.invariant.0 (entry.Stop cause.NoMemory) (running, tt) refl in let b = ap length c.make_drop_room.ensures.items in let k : s.entries.cap ≤ c.make_drop_room.new.entries.cap = c.make_drop_room.ensures.kept in omega arith)
+halt-requires g c = stop_room _ _ _ _ _ _ _ _ c.self.invariant.0 _ _ (runs_inside _ _ c.self.view_is c.requires) c.make_drop_room.ensures.items c.make_drop_room.ensures.kept
 
 pub push_reserved-requires : goal.push_reserved-requires
 push_reserved-requires g c =
@@ -48,16 +38,14 @@ push_reserved-requires-in-Err g c =
 pub invariant_of-self : goal.invariant_of-self
 invariant_of-self g c =
     let s = c.self.inside in
-    let running : s.board.front.stop ≡ None = ap (λ (x : Shown g.row.D.Denot g.row.O.Denot). x.core.front.stop) c.self.view_is ∙ c.requires in
-    let items = c.halt.ensures.items ∙ ap (λ (l : List Entry). l ++ entry.Stop cause.NoMemory ∷ []) c.make_drop_room.ensures.items in
-    let kept : s.entries.cap ≤ c.halt.new.entries.cap = (let k = c.halt.ensures.capacity in let q : s.entries.cap ≤ c.make_drop_room.new.entries.cap = c.make_drop_room.ensures.kept in omega arith) in
-    spent_both _ _ _ _ _ _ _ _ c.self.invariant.0 _ _ c.self.invariant.1 _ _ _ _ (entry.Stop cause.NoMemory) refl refl (running, tt) (λ t. (nothing, inl refl, refl)) (λ t. tt) c.halt.ensures.board items kept kept
+    let kept : s.entries.cap ≤ c.make_drop_room.new.entries.cap = c.make_drop_room.ensures.kept in
+    halted_both _ _ _ _ _ _ _ _ c.self.invariant.0 _ _ c.self.invariant.1 _ _ _ _ _ _ cause.NoMemory (runs_inside _ _ c.self.view_is c.requires) tt (λ t. (nothing, inl refl, refl)) c.halt.ensures.board c.make_drop_room.ensures.items c.halt.ensures.items kept kept c.halt.ensures.capacity
 
 pub invariant_of-self-in-Ok : goal.invariant_of-self-in-Ok
 invariant_of-self-in-Ok g c =
     let s = c.self.inside in
     let q = c.in-Some.name in
-    let running : s.board.front.stop ≡ None = ap (λ (x : Shown g.row.D.Denot g.row.O.Denot). x.core.front.stop) c.self.view_is ∙ c.requires in
+    let running = runs_inside _ _ c.self.view_is c.requires in
     let least = by_shelf (λ l x. IsLeast (there_in x) x.settled s.scope.partitions l q) _ _ _ _ s.names s.board c.front.result c.last_of-last.result c.self.invariant.1 c.front.ensures c.last_of-last.ensures c.in-Some.ensures in
     let items = c.push_reserved.ensures.items ∙ ap (λ (l : List Entry). l ++ entry.Drop q ∷ []) c.make_drop_room.ensures.items in
     let n = c.count.ensures in
@@ -77,7 +65,7 @@ pub invariant_of-self-in-Err : goal.invariant_of-self-in-Err
 invariant_of-self-in-Err g c =
     let s = c.self.inside in
     let q = c.in-Some.name in
-    let running : s.board.front.stop ≡ None = ap (λ (x : Shown g.row.D.Denot g.row.O.Denot). x.core.front.stop) c.self.view_is ∙ c.requires in
+    let running = runs_inside _ _ c.self.view_is c.requires in
     let least = by_shelf (λ l x. IsLeast (there_in x) x.settled s.scope.partitions l q) _ _ _ _ s.names s.board c.front.result c.last_of-last.result c.self.invariant.1 c.front.ensures c.last_of-last.ensures c.in-Some.ensures in
     let items = c.push_reserved-in-Err.ensures.items ∙ ap (λ (l : List Entry). l ++ entry.Undropped q ∷ []) c.make_drop_room.ensures.items in
     let n = c.count.ensures in

@@ -1,4 +1,4 @@
-use Rattle.std.proofs.Common.{◌≡◌, ◌≤◌, ◌<◌, ◌+◌, ◌++◌, ◌||◌, [], ◌∷◌, true, false, Some, None, is_some, length, if◌then◌else◌, sym, ap, ◌∙◌, refl, subst, inl, inr, le_refl, arith}
+use Rattle.std.proofs.Common.{◌≡◌, ◌≤◌, ◌<◌, ◌++◌, ◌||◌, [], ◌∷◌, true, Some, None, is_some, length, if◌then◌else◌, sym, ap, ◌∙◌, refl, subst, inl, inr, le_refl, arith}
 use Rattle.ssq_outside.specs.Faults.{Rises}
 use Rattle.ssq_outside.specs.declared.name.Name.TheVariants as name
 use Rattle.ssq_core.specs.Course.{truth}
@@ -7,42 +7,24 @@ use Rattle.ssq_board.specs.declared.front.Cause.TheVariants as cause
 use Rattle.ssq_board.specs.declared.front.Front.{Front}
 use Rattle.ssq_board.specs.declared.front.Entry.TheVariants as entry
 use Rattle.ssq_board.specs.Core.{Core, need}
-use Rattle.ssq_ledger.specs.Shown.{Shown, did, cuts_of, cuts_after, shelf_of}
+use Rattle.ssq_ledger.specs.Shown.{Shown, did, cuts_of, cuts_after}
 use Rattle.ssq_ledger.proofs.Moves.{went, tried, snapshot_went, snapshot_kept, none_of}
-use Rattle.ssq_ledger.proofs.Shelves.{is_claimed, one_more, published_are, running_by, stop_most, stopped_by, stops_need, unclaimed_are, upkeep_both}
+use Rattle.ssq_ledger.proofs.Shelves.{claimed_inside, claimed_room, is_claimed, one_more, published_are, running_by, stop_most, stopped_by, stops_need, unclaimed_are, unclaimed_both, upkeep_both}
 use Rattle.ssq_ledger.proofs.ledger.Ledger.report_snapshot.Goals as goal
 
 pub push_reserved-requires : goal.push_reserved-requires
-push_reserved-requires g c =
-    let s = c.self.inside in
-    let q = name.Snapshot c.args.partition c.args.version in
-    let claimed = subst (λ (x : Shown g.row.D.Denot g.row.O.Denot). is_among (shelf_of g.O.Opening.opening x).claimed q ≡ true) (sym c.self.view_is) c.requires.claimed in
-    let fewer = is_claimed _ _ _ _ _ _ _ _ c.self.invariant.0 _ _ c.self.invariant.1 q claimed in
-    let all = c.self.invariant.1.entries in
-    subst (λ n. n < s.entries.cap) (sym s.entries.ok.0) (omega (arith, fewer, all))
+push_reserved-requires g c = subst (λ n. n < c.self.inside.entries.cap) (sym c.self.inside.entries.ok.0) (claimed_room _ _ _ _ _ _ _ _ c.self.invariant.0 _ _ c.self.invariant.1 _ (claimed_inside g.O.Opening.opening _ _ c.self.view_is _ c.requires.claimed))
 
 pub push_reserved-requires-in-Ok : goal.push_reserved-requires-in-Ok
-push_reserved-requires-in-Ok g c =
-    let s = c.self.inside in
-    let q = name.Snapshot c.args.partition c.args.version in
-    let claimed = subst (λ (x : Shown g.row.D.Denot g.row.O.Denot). is_among (shelf_of g.O.Opening.opening x).claimed q ≡ true) (sym c.self.view_is) c.requires.claimed in
-    let fewer = is_claimed _ _ _ _ _ _ _ _ c.self.invariant.0 _ _ c.self.invariant.1 q claimed in
-    let all = c.self.invariant.1.entries in
-    subst (λ n. n < s.entries.cap) (sym s.entries.ok.0) (omega (arith, fewer, all))
+push_reserved-requires-in-Ok g c = subst (λ n. n < c.self.inside.entries.cap) (sym c.self.inside.entries.ok.0) (claimed_room _ _ _ _ _ _ _ _ c.self.invariant.0 _ _ c.self.invariant.1 _ (claimed_inside g.O.Opening.opening _ _ c.self.view_is _ c.requires.claimed))
 
 pub push_reserved-requires-in-Err : goal.push_reserved-requires-in-Err
-push_reserved-requires-in-Err g c =
-    let s = c.self.inside in
-    let q = name.Snapshot c.args.partition c.args.version in
-    let claimed = subst (λ (x : Shown g.row.D.Denot g.row.O.Denot). is_among (shelf_of g.O.Opening.opening x).claimed q ≡ true) (sym c.self.view_is) c.requires.claimed in
-    let fewer = is_claimed _ _ _ _ _ _ _ _ c.self.invariant.0 _ _ c.self.invariant.1 q claimed in
-    let all = c.self.invariant.1.entries in
-    subst (λ n. n < s.entries.cap) (sym s.entries.ok.0) (omega (arith, fewer, all))
+push_reserved-requires-in-Err g c = subst (λ n. n < c.self.inside.entries.cap) (sym c.self.inside.entries.ok.0) (claimed_room _ _ _ _ _ _ _ _ c.self.invariant.0 _ _ c.self.invariant.1 _ (claimed_inside g.O.Opening.opening _ _ c.self.view_is _ c.requires.claimed))
 
 pub add-requires : goal.add-requires
 add-requires g c =
     let q = name.Snapshot c.args.partition c.args.version in
-    let claimed = subst (λ (x : Shown g.row.D.Denot g.row.O.Denot). is_among (shelf_of g.O.Opening.opening x).claimed q ≡ true) (sym c.self.view_is) c.requires.claimed in
+    let claimed = claimed_inside g.O.Opening.opening _ _ c.self.view_is _ c.requires.claimed in
     let fewer = is_claimed _ _ _ _ _ _ _ _ c.self.invariant.0 _ _ c.self.invariant.1 q claimed in
     let room = c.self.invariant.1.room in
     omega (arith, fewer, room)
@@ -54,17 +36,12 @@ invariant_of-self g c =
     let p = c.args.partition in
     let v = c.args.version in
     let q = name.Snapshot p v in
-    let claimed = subst (λ (x : Shown g.row.D.Denot g.row.O.Denot). is_among (shelf_of g.O.Opening.opening x).claimed q ≡ true) (sym c.self.view_is) c.requires.claimed in
+    let claimed = claimed_inside g.O.Opening.opening _ _ c.self.view_is _ c.requires.claimed in
     let stopped : is_some s.board.front.stop ≡ true = ap (λ (f : Front). is_some f.stop) (sym c.front.ensures) ∙ sym c.is_some.ensures ∙ c.if-is_some.true in
-    let fewer = is_claimed _ _ _ _ _ _ _ _ c.self.invariant.0 _ _ c.self.invariant.1 q claimed in
-    let count = ap length c.leave_out.ensures.items in
-    let room = c.self.invariant.1.room in
-    let all = c.self.invariant.1.entries in
-    let k = c.push_reserved.ensures.capacity in
-    upkeep_both _ _ _ _ _ _ _ _ c.self.invariant.0 _ _ c.self.invariant.1 _ s.board _ _ _ (entry.Snapshot p v) tt claimed
+    unclaimed_both _ _ _ _ _ _ _ _ c.self.invariant.0 _ _ c.self.invariant.1 _ s.board _ _ _ (entry.Snapshot p v) q claimed tt claimed
     (λ t. snapshot_kept o.job (cuts_after o s.scope s.entries.items) p v s.board.front.stop (g.D.Disk.history s.disk) stopped) (λ t. tt) refl c.push_reserved.ensures.items (le_refl (need s.board))
     (stopped_by _ _ _ s.board.front.stop stopped (unclaimed_are _ _ _ _ _ _ _ _ c.self.invariant.0 _ _ c.self.invariant.1 q _ refl refl c.leave_out.ensures.items refl))
-    (omega (arith, room, fewer, count)) (omega (arith, all, fewer, count, k))
+    refl c.leave_out.ensures.items c.push_reserved.ensures.capacity
 
 pub invariant_of-self-in-Ok : goal.invariant_of-self-in-Ok
 invariant_of-self-in-Ok g c =
@@ -73,7 +50,7 @@ invariant_of-self-in-Ok g c =
     let p = c.args.partition in
     let v = c.args.version in
     let q = name.Snapshot p v in
-    let claimed = subst (λ (x : Shown g.row.D.Denot g.row.O.Denot). is_among (shelf_of g.O.Opening.opening x).claimed q ≡ true) (sym c.self.view_is) c.requires.claimed in
+    let claimed = claimed_inside g.O.Opening.opening _ _ c.self.view_is _ c.requires.claimed in
     let running : s.board.front.stop ≡ None = none_of s.board.front.stop (ap (λ (f : Front). is_some f.stop) (sym c.front.ensures) ∙ sym c.is_some.ensures ∙ c.if-is_some.false) in
     let right : g.D.Disk.tells × g.O.Opening.tells s.opening.value s.scope (g.D.Disk.history s.opened.value) → _ =
     subst (λ (x : Shown g.row.D.Denot g.row.O.Denot). g.D.Disk.tells × g.O.Opening.tells x.opening x.scope (g.D.Disk.history x.opened) → g.D.Stage.Stage.sealed c.args.file ≡ truth ((g.O.Opening.opening x.opening).job.course (cuts_of g.O.Opening.opening x)) q) (sym c.self.view_is) c.requires.right in
@@ -98,19 +75,14 @@ invariant_of-self-in-Err g c =
     let p = c.args.partition in
     let v = c.args.version in
     let q = name.Snapshot p v in
-    let claimed = subst (λ (x : Shown g.row.D.Denot g.row.O.Denot). is_among (shelf_of g.O.Opening.opening x).claimed q ≡ true) (sym c.self.view_is) c.requires.claimed in
+    let claimed = claimed_inside g.O.Opening.opening _ _ c.self.view_is _ c.requires.claimed in
     let running : s.board.front.stop ≡ None = none_of s.board.front.stop (ap (λ (f : Front). is_some f.stop) (sym c.front.ensures) ∙ sym c.is_some.ensures ∙ c.if-is_some.false) in
     let right : g.D.Disk.tells × g.O.Opening.tells s.opening.value s.scope (g.D.Disk.history s.opened.value) → _ =
     subst (λ (x : Shown g.row.D.Denot g.row.O.Denot). g.D.Disk.tells × g.O.Opening.tells x.opening x.scope (g.D.Disk.history x.opened) → g.D.Stage.Stage.sealed c.args.file ≡ truth ((g.O.Opening.opening x.opening).job.course (cuts_of g.O.Opening.opening x)) q) (sym c.self.view_is) c.requires.right in
-    let fewer = is_claimed _ _ _ _ _ _ _ _ c.self.invariant.0 _ _ c.self.invariant.1 q claimed in
-    let count = ap length c.leave_out.ensures.items in
-    let room = c.self.invariant.1.room in
-    let all = c.self.invariant.1.entries in
-    let k = c.push_reserved-in-Err.ensures.capacity in
-    upkeep_both _ _ _ _ _ _ _ _ c.self.invariant.0 _ _ c.self.invariant.1 _ _ _ _ _ (entry.Untaken p v) running claimed
+    unclaimed_both _ _ _ _ _ _ _ _ c.self.invariant.0 _ _ c.self.invariant.1 _ _ _ _ _ (entry.Untaken p v) q claimed running claimed
     (λ t. tried q _ _ _ _ (right t) (c.publish.ensures.steps t.0)) (λ t. tt) c.stop.ensures c.push_reserved-in-Err.ensures.items (subst (λ (x : Core). need x ≤ need s.board) (sym c.stop.ensures) (stops_need s.board (Some cause.DiskFault) (stop_most s.board.front.stop cause.DiskFault)))
     (unclaimed_are _ _ _ _ _ _ _ _ c.self.invariant.0 _ _ c.self.invariant.1 q _ refl refl c.leave_out.ensures.items refl)
-    (omega (arith, room, fewer, count)) (omega (arith, all, fewer, count, k))
+    refl c.leave_out.ensures.items c.push_reserved-in-Err.ensures.capacity
 
 pub returns-then-is_some-clause-did : goal.returns-then-is_some-clause-did
 returns-then-is_some-clause-did g c =

@@ -5,17 +5,11 @@ use Rattle.ssq_board.specs.declared.front.Cause.TheVariants as cause
 use Rattle.ssq_board.specs.declared.front.Entry.TheVariants as entry
 use Rattle.ssq_board.specs.Core.{Core, need}
 use Rattle.ssq_ledger.specs.Shown.{Shown, shelf_of}
-use Rattle.ssq_ledger.proofs.Shelves.{is_claimed, or_stop_most, stops_need, unclaimed_are, upkeep_both}
+use Rattle.ssq_ledger.proofs.Shelves.{claimed_inside, claimed_room, or_stop_most, stops_need, unclaimed_are, unclaimed_both}
 use Rattle.ssq_ledger.proofs.ledger.Ledger.report_unmade.Goals as goal
 
 pub push_reserved-requires : goal.push_reserved-requires
-push_reserved-requires g c =
-    let s = c.self.inside in
-    let q = name.Snapshot c.args.partition c.args.version in
-    let claimed = subst (λ (x : Shown g.row.D.Denot g.row.O.Denot). is_among (shelf_of g.O.Opening.opening x).claimed q ≡ true) (sym c.self.view_is) c.requires.claimed in
-    let fewer = is_claimed _ _ _ _ _ _ _ _ c.self.invariant.0 _ _ c.self.invariant.1 q claimed in
-    let all = c.self.invariant.1.entries in
-    subst (λ n. n < s.entries.cap) (sym s.entries.ok.0) (omega (arith, fewer, all))
+push_reserved-requires g c = subst (λ n. n < c.self.inside.entries.cap) (sym c.self.inside.entries.ok.0) (claimed_room _ _ _ _ _ _ _ _ c.self.invariant.0 _ _ c.self.invariant.1 _ (claimed_inside g.O.Opening.opening _ _ c.self.view_is _ c.requires.claimed))
 
 pub invariant_of-self : goal.invariant_of-self
 invariant_of-self g c =
@@ -23,13 +17,8 @@ invariant_of-self g c =
     let p = c.args.partition in
     let v = c.args.version in
     let q = name.Snapshot p v in
-    let claimed = subst (λ (x : Shown g.row.D.Denot g.row.O.Denot). is_among (shelf_of g.O.Opening.opening x).claimed q ≡ true) (sym c.self.view_is) c.requires.claimed in
-    let fewer = is_claimed _ _ _ _ _ _ _ _ c.self.invariant.0 _ _ c.self.invariant.1 q claimed in
-    let count = ap length c.leave_out.ensures.items in
-    let room = c.self.invariant.1.room in
-    let all = c.self.invariant.1.entries in
-    let k = c.push_reserved.ensures.capacity in
-    upkeep_both _ _ _ _ _ _ _ _ c.self.invariant.0 _ _ c.self.invariant.1 _ _ _ _ _ (entry.Unmade p v c.args.cause) c.requires.outside claimed (λ t. refl) (λ t. tt) c.stop_by.ensures c.push_reserved.ensures.items
+    let claimed = claimed_inside g.O.Opening.opening _ _ c.self.view_is _ c.requires.claimed in
+    unclaimed_both _ _ _ _ _ _ _ _ c.self.invariant.0 _ _ c.self.invariant.1 _ _ _ _ _ (entry.Unmade p v c.args.cause) q claimed c.requires.outside claimed (λ t. refl) (λ t. tt) c.stop_by.ensures c.push_reserved.ensures.items
     (subst (λ (x : Core). need x ≤ need s.board) (sym c.stop_by.ensures) (stops_need s.board _ (or_stop_most s.board.front.stop (Some c.args.cause))))
     (unclaimed_are _ _ _ _ _ _ _ _ c.self.invariant.0 _ _ c.self.invariant.1 q _ refl refl c.leave_out.ensures.items refl)
-    (omega (arith, room, fewer, count)) (omega (arith, all, fewer, count, k))
+    refl c.leave_out.ensures.items c.push_reserved.ensures.capacity

@@ -1,4 +1,4 @@
-use Rattle.std.proofs.Common.{◌≡◌, ◌≤◌, ◌<◌, length, List, ◌++◌, ◌∷◌, [], None, sym, ap, ◌∙◌, refl, subst, inl, inr, le_refl, arith}
+use Rattle.std.proofs.Common.{◌≤◌, ◌<◌, length, List, ◌++◌, ◌∷◌, [], sym, ap, ◌∙◌, refl, subst, inl, inr, le_refl, arith}
 use Rattle.std.specs.Global.{Vec}
 use Rattle.ssq_outside.specs.declared.name.Name.{Name}
 use Rattle.ssq_core.specs.Machine.{nothing, syncs}
@@ -7,61 +7,39 @@ use Rattle.ssq_board.specs.declared.front.Entry.{Entry}
 use Rattle.ssq_board.specs.declared.front.Entry.TheVariants as entry
 use Rattle.ssq_board.specs.Core.{need}
 use Rattle.ssq_board.proofs.Needs.{need_bound, need_sync}
-use Rattle.ssq_ledger.specs.Shown.{Shown}
-use Rattle.ssq_ledger.proofs.Ledgers.{held, has_room, one}
-use Rattle.ssq_ledger.proofs.Shelves.{made_settled, spent_both, sync_shelved}
+use Rattle.ssq_ledger.proofs.Ledgers.{held, few_tasks, one, runs_inside, stop_room}
+use Rattle.ssq_ledger.proofs.Shelves.{halted_both, made_settled, sync_shelved}
 use Rattle.ssq_ledger.proofs.ledger.Ledger.sync.Goals as goal
 
 pub count-requires : goal.count-requires
-count-requires g c =
-    let d = held _ _ _ _ _ _ _ _ c.self.invariant.0 in
-    let few = c.self.invariant.0.few in
-    omega (arith, d.maps, d.reduces, d.outs)
+count-requires g c = few_tasks _ _ _ _ _ _ _ _ c.self.invariant.0 _ _ (held _ _ _ _ _ _ _ _ c.self.invariant.0) refl
 
 pub make_sync_room-requires : goal.make_sync_room-requires
-make_sync_room-requires g c =
-    let d = held _ _ _ _ _ _ _ _ c.self.invariant.0 in
-    let few = c.self.invariant.0.few in
-    let n = c.count.ensures in
-    omega (arith, d.maps, d.reduces, d.outs)
+make_sync_room-requires g c = few_tasks _ _ _ _ _ _ _ _ c.self.invariant.0 _ _ (held _ _ _ _ _ _ _ _ c.self.invariant.0) c.count.ensures
 
 pub halt-requires : goal.halt-requires
-halt-requires g c =
-    let s = c.self.inside in
-    let running : s.board.front.stop ≡ None = ap (λ (x : Shown g.row.D.Denot g.row.O.Denot). x.core.front.stop) c.self.view_is ∙ c.requires in
-    (let a = has_room _ _ _ _ _ _ _ _ c.self.invariant.0 (entry.Stop cause.NoMemory) (running, tt) refl in let b = ap length c.make_sync_room.ensures.items in let k : s.entries.cap ≤ c.make_sync_room.new.entries.cap = c.make_sync_room.ensures.kept in omega arith)
+halt-requires g c = stop_room _ _ _ _ _ _ _ _ c.self.invariant.0 _ _ (runs_inside _ _ c.self.view_is c.requires) c.make_sync_room.ensures.items c.make_sync_room.ensures.kept
 
 pub halt-requires-in-Err : goal.halt-requires-in-Err
-halt-requires-in-Err g c =
-    let s = c.self.inside in
-    let running : s.board.front.stop ≡ None = ap (λ (x : Shown g.row.D.Denot g.row.O.Denot). x.core.front.stop) c.self.view_is ∙ c.requires in
-    (let a = has_room _ _ _ _ _ _ _ _ c.self.invariant.0 (entry.Stop cause.NoMemory) (running, tt) refl in let b = ap length c.make_sync_room.ensures.items in let k : s.entries.cap ≤ c.make_sync_room.new.entries.cap = c.make_sync_room.ensures.kept in omega arith)
+halt-requires-in-Err g c = stop_room _ _ _ _ _ _ _ _ c.self.invariant.0 _ _ (runs_inside _ _ c.self.view_is c.requires) c.make_sync_room.ensures.items c.make_sync_room.ensures.kept
 
 pub push_reserved-requires : goal.push_reserved-requires
-push_reserved-requires g c =
-    let s = c.self.inside in
-    let running : s.board.front.stop ≡ None = ap (λ (x : Shown g.row.D.Denot g.row.O.Denot). x.core.front.stop) c.self.view_is ∙ c.requires in
-    let less : length c.make_sync_room.new.entries.items < c.make_sync_room.new.entries.cap = (let a = has_room _ _ _ _ _ _ _ _ c.self.invariant.0 (entry.Stop cause.NoMemory) (running, tt) refl in let b = ap length c.make_sync_room.ensures.items in let k : s.entries.cap ≤ c.make_sync_room.new.entries.cap = c.make_sync_room.ensures.kept in omega arith) in
-    subst (λ n. n < c.make_sync_room.new.entries.cap) (sym c.make_sync_room.new.entries.ok.0) less
+push_reserved-requires g c = subst (λ n. n < c.make_sync_room.new.entries.cap) (sym c.make_sync_room.new.entries.ok.0) (stop_room _ _ _ _ _ _ _ _ c.self.invariant.0 _ _ (runs_inside _ _ c.self.view_is c.requires) c.make_sync_room.ensures.items c.make_sync_room.ensures.kept)
 
 pub settle-requires : goal.settle-requires
-settle-requires g c =
-    let s = c.self.inside in
-    let running : s.board.front.stop ≡ None = ap (λ (x : Shown g.row.D.Denot g.row.O.Denot). x.core.front.stop) c.self.view_is ∙ c.requires in
-    running
+settle-requires g c = runs_inside _ _ c.self.view_is c.requires
 
 pub invariant_of-self : goal.invariant_of-self
 invariant_of-self g c =
     let s = c.self.inside in
-    let running : s.board.front.stop ≡ None = ap (λ (x : Shown g.row.D.Denot g.row.O.Denot). x.core.front.stop) c.self.view_is ∙ c.requires in
-    let items = c.halt.ensures.items ∙ ap (λ (l : List Entry). l ++ entry.Stop cause.NoMemory ∷ []) c.make_sync_room.ensures.items in
-    let kept : s.entries.cap ≤ c.halt.new.entries.cap = (let k = c.halt.ensures.capacity in let q : s.entries.cap ≤ c.make_sync_room.new.entries.cap = c.make_sync_room.ensures.kept in omega arith) in
-    spent_both _ _ _ _ _ _ _ _ c.self.invariant.0 _ _ (made_settled _ _ _ _ _ _ _ _ c.self.invariant.1 c.make_sync_room.ensures.names (le_refl s.entries.cap)) _ _ _ _ (entry.Stop cause.NoMemory) refl refl (running, tt) (λ t. (nothing, inl refl, refl)) (λ t. tt) c.halt.ensures.board items kept kept
+    let running = runs_inside _ _ c.self.view_is c.requires in
+    let kept : s.entries.cap ≤ c.make_sync_room.new.entries.cap = c.make_sync_room.ensures.kept in
+    halted_both _ _ _ _ _ _ _ _ c.self.invariant.0 _ _ (made_settled _ _ _ _ _ _ _ _ c.self.invariant.1 c.make_sync_room.ensures.names (le_refl s.entries.cap)) _ _ _ _ _ _ cause.NoMemory running tt (λ t. (nothing, inl refl, refl)) c.halt.ensures.board c.make_sync_room.ensures.items c.halt.ensures.items kept kept c.halt.ensures.capacity
 
 pub invariant_of-self-in-Ok : goal.invariant_of-self-in-Ok
 invariant_of-self-in-Ok g c =
     let s = c.self.inside in
-    let running : s.board.front.stop ≡ None = ap (λ (x : Shown g.row.D.Denot g.row.O.Denot). x.core.front.stop) c.self.view_is ∙ c.requires in
+    let running = runs_inside _ _ c.self.view_is c.requires in
     let e = entry.Sync c.clock-clock.result in
     let items = c.push_reserved.ensures.items ∙ ap (λ (l : List Entry). l ++ e ∷ []) c.make_sync_room.ensures.items in
     let q = c.in-Some.ensures.room in
@@ -77,10 +55,9 @@ invariant_of-self-in-Ok g c =
 pub invariant_of-self-in-Err : goal.invariant_of-self-in-Err
 invariant_of-self-in-Err g c =
     let s = c.self.inside in
-    let running : s.board.front.stop ≡ None = ap (λ (x : Shown g.row.D.Denot g.row.O.Denot). x.core.front.stop) c.self.view_is ∙ c.requires in
-    let items = c.halt-in-Err.ensures.items ∙ ap (λ (l : List Entry). l ++ entry.Stop cause.DiskFault ∷ []) c.make_sync_room.ensures.items in
-    let kept : s.entries.cap ≤ c.halt-in-Err.new.entries.cap = (let k = c.halt-in-Err.ensures.capacity in let q : s.entries.cap ≤ c.make_sync_room.new.entries.cap = c.make_sync_room.ensures.kept in omega arith) in
-    spent_both _ _ _ _ _ _ _ _ c.self.invariant.0 _ _ (made_settled _ _ _ _ _ _ _ _ c.self.invariant.1 c.make_sync_room.ensures.names (le_refl s.entries.cap)) _ _ _ _ (entry.Stop cause.DiskFault) refl refl (running, tt) (λ t. (syncs, inr (entry.Sync 0, running, refl, refl), c.sync_names.ensures.steps t.0)) (λ t. tt) c.halt-in-Err.ensures.board items kept kept
+    let running = runs_inside _ _ c.self.view_is c.requires in
+    let kept : s.entries.cap ≤ c.make_sync_room.new.entries.cap = c.make_sync_room.ensures.kept in
+    halted_both _ _ _ _ _ _ _ _ c.self.invariant.0 _ _ (made_settled _ _ _ _ _ _ _ _ c.self.invariant.1 c.make_sync_room.ensures.names (le_refl s.entries.cap)) _ _ _ _ _ _ cause.DiskFault running tt (λ t. (syncs, inr (entry.Sync 0, running, refl, refl), c.sync_names.ensures.steps t.0)) c.halt-in-Err.ensures.board c.make_sync_room.ensures.items c.halt-in-Err.ensures.items kept kept c.halt-in-Err.ensures.capacity
 
 pub settle-requires-in-Ok : goal.settle-requires-in-Ok
 settle-requires-in-Ok g c = c.in-Some.ensures.names.room
