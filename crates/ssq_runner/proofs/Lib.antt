@@ -15,3 +15,5 @@ pub mod Growing
 pub mod Resuming
 pub mod Faultless
 pub mod Completing
+pub mod Overs
+pub mod Begins

@@ -1,12 +1,12 @@
 -- A text that was not written.
-use Rattle.std.proofs.Common.{◌≡◌, ◌++◌, ◌∙◌, ℕ, List, [], take, refl, sym, ap}
+use Rattle.std.proofs.Common.{◌≡◌, ◌≤◌, ◌++◌, ◌∙◌, ℕ, List, [], take, Result, Ok, Err, refl, sym, ap, arith}
 use Rattle.std.proofs.lemmas.List.{append-nil}
 use Rattle.ssq_desk.specs.declared.told.Told.{Told}
 use Rattle.ssq_drive.specs.Rounds.{Ended}
 use Rattle.ssq_runner.specs.declared.fault.RunFault.{RunFault}
 use Rattle.ssq_runner.specs.declared.fault.RunFault.TheVariants as fault
 use Rattle.ssq_runner.specs.Told.{told_text}
-use Rattle.ssq_runner.specs.Putting.{IsUntold, OutCause, failed, starved}
+use Rattle.ssq_runner.specs.Putting.{IsUntold, OutCause, OutRises, failed, starved}
 
 pub put_untold : (Tells : Type 0) (old new : List ℕ) (before now : ℕ) (text left : List ℕ) (told : List Told) (end : Ended) (why : RunFault) → OutCause before now why → text ≡ told_text told
     → (why ≡ fault.OutFault → (left ≡ []) × (Tells → (n : ℕ) × (new ≡ old ++ take n text))) → (why ≡ fault.NoMemory → (left ≡ text) × (Tells → new ≡ old)) → IsUntold Tells old new before now left told end why
@@ -19,3 +19,14 @@ put_untold Tells old new before now text left told end (fault.Lines f) cause is 
 put_untold Tells old new before now text left told end (fault.Open f) cause is fails starves = absurd cause
 put_untold Tells old new before now text left told end (fault.Round f) cause is fails starves = absurd cause
 put_untold Tells old new before now text left told end (fault.KeyOverflow key) cause is fails starves = absurd cause
+
+-- where the output failed since then, it failed since before
+pub put_since : (before mid now : ℕ) (end : Result (Unit {0}) RunFault) → before ≤ mid → OutRises mid now end → OutRises before now end
+put_since before mid now (Ok done) le risen = tt
+put_since before mid now (Err fault.OutFault) le risen = omega (arith, le, risen)
+put_since before mid now (Err fault.NoMemory) le risen = tt
+put_since before mid now (Err (fault.Parts f)) le risen = tt
+put_since before mid now (Err (fault.Lines f)) le risen = tt
+put_since before mid now (Err (fault.Open f)) le risen = tt
+put_since before mid now (Err (fault.Round f)) le risen = tt
+put_since before mid now (Err (fault.KeyOverflow key)) le risen = tt

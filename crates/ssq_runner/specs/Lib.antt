@@ -8,4 +8,5 @@ pub mod Putting
 pub mod Stops
 pub mod Running
 pub mod Sources
+pub mod Between
 pub mod Complete

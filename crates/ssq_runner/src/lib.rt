@@ -2,8 +2,8 @@
 //! of which is told on the output when it is over.
 //!
 //! The definitions are in `specs/`: `Rounds` says how rounds cut the logs, `Told` what is told of epochs, `Faults` why a run stops whose round
-//! did, `Ending` how rounds end, `Going` what holds between two of them, `Running` how a run goes from its logs on, `Sources` how a whole run over inputs does, and `Complete` when it
-//! is never refused, meets no limit and finds no fault.
+//! did, `Ending` how rounds end, `Going` what holds between two of them, `Running` how a run goes from its logs on, `Sources` how a whole run over inputs does,
+//! `Between` what a run is at between its steps, and `Complete` when it is never refused, meets no limit and finds no fault.
 #![tactic(auto)]
 
 mod ask;

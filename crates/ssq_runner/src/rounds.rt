@@ -1,105 +1,50 @@
-//! The rounds of a run, each told when it is over.
+//! What stands between the rounds of a run: each is told when it is over, and the logs are asked for the next.
 
-ghost use Rattle.std.specs.Prelude.{◌≡◌, ◌<◌, ◌≤◌, ◌+◌, ◌++◌, ℕ, [], length, get_or, None, IfOk, IfErr, OnOk};
+ghost use Rattle.std.specs.Prelude.{◌≡◌, ◌<◌, ◌≤◌, ◌+◌, ◌++◌, ℕ, [], true, false, get_or, All, None, IfOk, IfErr, OnOk};
 ghost use mathlib.Core.Option.{some};
 ghost use lib.ListN.{get_elem?};
+ghost use Rattle.std.specs.Option.{ForSome};
+ghost use Rattle.ssq_time.specs.Time.{IsStampTime};
 ghost use Rattle.ssq_logs.specs.Asked.{AreAsked, IsStopped};
-ghost use Rattle.ssq_drive.specs.Rounds.{CanBegin, HaveIndexes};
-ghost use Rattle.ssq_runner.specs.Ending.{Begun, Ends};
-ghost use Rattle.ssq_runner.specs.Going.{SoFar, IsReady, Fits, scope_of};
+ghost use Rattle.ssq_runner.specs.Running.{Given};
+ghost use Rattle.ssq_runner.specs.Between.{AreUnderWay, HasGone, IsOver};
 ghost use Rattle.ssq_runner.specs.Putting.{OutRises};
 ghost use Rattle.ssq_runner.specs.declared.fault.RunFault.TheVariants as fault;
 ghost use Rattle.ssq_runner.specs.Told.{done_line};
 ghost use Rattle.ssq_runner.specs.Stops.{short_of, planned_ends, IsUnready};
 
-use crate::ask::Ask;
 use crate::fault::RunFault;
-use crate::index::closings_of;
 use crate::line::push_done;
 use crate::put::tell_round;
 use ssq_board::Cause;
-use ssq_drive::{Went, run_round};
+use ssq_drive::Went;
 use ssq_logs::{LengthFault, count_lines};
 use ssq_meaning::epochs_hang_on_their_cuts;
 use ssq_open::Opened;
-use ssq_outside::{Disk, Gate, Log, Output};
+use ssq_outside::{Disk, Log, Output};
 use ssq_plans::PartEnd;
 use ssq_promise::rounds;
-use ssq_shape::Bound;
 use ssq_step::Closing;
 use std::alloc::Global;
 
-/// What the rounds of a run go on from, between two of them.
+/// What a round begins on.
 #[derive(Drop)]
-pub(crate) struct Standing<D: Disk, L: Log> {
+pub(crate) struct Ready<D: Disk, L: Log> {
     pub(crate) disk: D,
     pub(crate) logs: Vec<L>,
     pub(crate) opened: Opened,
     /// The index of each store, in order.
     pub(crate) closings: Vec<Closing>,
+    /// The lines that were found of each part.
+    pub(crate) found: Vec<u64>,
 }
 
-/// What is left where rounds end, and why they do.
+/// What is left where a run is over, and why it is.
 #[derive(Drop)]
 pub(crate) struct Left<D: Disk, L: Log> {
     pub(crate) disk: D,
     pub(crate) logs: Vec<L>,
     pub(crate) end: Result<(), RunFault>,
-}
-
-/// Runs a round, in which so many lines were found of each part, and writes what it told.
-fn one_round<D: Disk, L: Log, O: Output, G: Gate>(
-    alloc: Global,
-    gate: &G,
-    bound: &Bound,
-    cap: Option<u64>,
-    out: &mut O,
-    standing: Standing<D, L>,
-    found: Vec<u64>,
-    text: &mut Vec<u8>,
-) -> Result<Standing<D, L>, Left<D, L>>
-    requires can { CanBegin bound.now (length standing.logs.items) standing.opened (scope_of standing.opened found.items cap) }
-    requires few { length standing.logs.items ≤ 128 }
-    requires long { L.tells → (i : ℕ) (own : _) → get_elem? standing.logs.items i ≡ some own → get_or found.items i 0 ≤ L.available own }
-    requires indexes { HaveIndexes bound.now standing.opened.stores standing.closings.items }
-    requires empty { text.old.items ≡ [] }
-    ensures over { (b : Begun L) (n : ℕ) → b.bound ≡ bound.now → b.cap ≡ cap → IsReady (D.tells × L.tells) L.lines L.available L.answers L.faults b n (D.history standing.disk) (D.faults standing.disk) standing.logs.items O.tells (O.content out.old) standing.opened found.items →
-        IfOk result (λ next. SoFar (D.tells × L.tells) L.lines L.available L.answers L.faults b (n + 1) (D.history next.disk) (D.faults next.disk) next.logs.items O.tells (O.content out.new) next.opened) }
-    ensures ended { (b : Begun L) (n : ℕ) → b.bound ≡ bound.now → b.cap ≡ cap → n < b.rounds → IsReady (D.tells × L.tells) L.lines L.available L.answers L.faults b n (D.history standing.disk) (D.faults standing.disk) standing.logs.items O.tells (O.content out.old) standing.opened found.items →
-        IfErr result (λ left. Ends (D.tells × L.tells) L.lines L.available L.answers L.faults b (D.history left.disk) (D.faults left.disk) left.logs.items O.tells (O.content out.new) text.new.items left.end) }
-    ensures empty { OnOk result (text.new.items ≡ []) }
-    ensures fits { IfOk result (λ next. Fits bound.now cap (length next.logs.items) next.opened) }
-    ensures indexes { IfOk result (λ next. HaveIndexes bound.now next.opened.stores next.closings.items) }
-    ensures counted { O.faults out.old ≤ O.faults out.new }
-    ensures cause { IfErr result (λ left. OutRises (O.faults out.old) (O.faults out.new) left.end) }
-{
-    rounds::<D, L>();
-    epochs_hang_on_their_cuts();
-    let Standing {
-        disk,
-        logs,
-        opened,
-        closings,
-    } = standing;
-    let Went {
-        disk,
-        logs,
-        told,
-        end,
-    } = run_round(alloc, gate, bound, disk, logs, opened, closings, found, cap);
-    match tell_round(alloc, out, text, told.as_slice(), end) {
-        Ok((opened, closings)) => Ok(Standing {
-            disk,
-            logs,
-            opened,
-            closings,
-        }),
-        Err(fault) => Err(Left {
-            disk,
-            logs,
-            end: Err(fault),
-        }),
-    }
 }
 
 /// The first part that has fewer lines than are planned of it.
@@ -155,59 +100,6 @@ fn count_again<L: Log>(
     }
 }
 
-/// Runs a round that is not the first.
-fn next_round<D: Disk, L: Log, O: Output, G: Gate>(
-    alloc: Global,
-    gate: &G,
-    bound: &Bound,
-    cap: Option<u64>,
-    out: &mut O,
-    standing: Standing<D, L>,
-    text: &mut Vec<u8>,
-) -> Result<Standing<D, L>, Left<D, L>>
-    requires fits { Fits bound.now cap (length standing.logs.items) standing.opened }
-    requires indexes { HaveIndexes bound.now standing.opened.stores standing.closings.items }
-    requires empty { text.old.items ≡ [] }
-    ensures over { (b : Begun L) (n : ℕ) → 0 < n → b.bound ≡ bound.now → b.cap ≡ cap → SoFar (D.tells × L.tells) L.lines L.available L.answers L.faults b n (D.history standing.disk) (D.faults standing.disk) standing.logs.items O.tells (O.content out.old) standing.opened →
-        IfOk result (λ next. SoFar (D.tells × L.tells) L.lines L.available L.answers L.faults b (n + 1) (D.history next.disk) (D.faults next.disk) next.logs.items O.tells (O.content out.new) next.opened) }
-    ensures ended { (b : Begun L) (n : ℕ) → 0 < n → b.bound ≡ bound.now → b.cap ≡ cap → n < b.rounds → SoFar (D.tells × L.tells) L.lines L.available L.answers L.faults b n (D.history standing.disk) (D.faults standing.disk) standing.logs.items O.tells (O.content out.old) standing.opened →
-        IfErr result (λ left. Ends (D.tells × L.tells) L.lines L.available L.answers L.faults b (D.history left.disk) (D.faults left.disk) left.logs.items O.tells (O.content out.new) text.new.items left.end) }
-    ensures empty { OnOk result (text.new.items ≡ []) }
-    ensures fits { IfOk result (λ next. Fits bound.now cap (length next.logs.items) next.opened) }
-    ensures indexes { IfOk result (λ next. HaveIndexes bound.now next.opened.stores next.closings.items) }
-    ensures counted { O.faults out.old ≤ O.faults out.new }
-    ensures cause { IfErr result (λ left. OutRises (O.faults out.old) (O.faults out.new) left.end) }
-{
-    let Standing {
-        disk,
-        mut logs,
-        opened,
-        closings,
-    } = standing;
-    match count_again(alloc, &opened, &mut logs) {
-        Ok(found) => one_round(
-            alloc,
-            gate,
-            bound,
-            cap,
-            out,
-            Standing {
-                disk,
-                logs,
-                opened,
-                closings,
-            },
-            found,
-            text,
-        ),
-        Err(fault) => Err(Left {
-            disk,
-            logs,
-            end: Err(fault),
-        }),
-    }
-}
-
 /// Says how many epochs there are.
 fn tell_done(alloc: Global, text: &mut Vec<u8>, epochs: u32) -> Result<(), RunFault>
     ensures ok { OnOk result (text.new.items ≡ text.old.items ++ done_line epochs) }
@@ -217,60 +109,61 @@ fn tell_done(alloc: Global, text: &mut Vec<u8>, epochs: u32) -> Result<(), RunFa
     Ok(())
 }
 
-/// Runs all rounds on what was opened: the first, in which so many lines were found, and then the others, each of which asks the logs again.
-/// Before the first the index of each store is made.
-pub(crate) fn run_rounds<D: Disk, L: Log, O: Output, G: Gate>(
+/// Tells a round that was run, and asks the logs for the next one, where more are to come; else it is left to say how many epochs there are.
+pub(crate) fn next_round<D: Disk, L: Log, O: Output>(
     alloc: Global,
-    gate: &G,
-    bound: &Bound,
-    ask: Ask,
     out: &mut O,
-    disk: D,
-    logs: Vec<L>,
-    opened: Opened,
-    found: Vec<u64>,
     text: &mut Vec<u8>,
-) -> Left<D, L>
-    requires can { CanBegin bound.now (length logs.items) opened (scope_of opened found.items ask.cap) }
-    requires few { length logs.items ≤ 128 }
-    requires long { L.tells → (i : ℕ) (own : _) → get_elem? logs.items i ≡ some own → get_or found.items i 0 ≤ L.available own }
-    requires rounds { 1 ≤ ask.rounds }
+    went: Went<D, L>,
+    more: bool,
+) -> Result<Ready<D, L>, Left<D, L>>
+    requires stamps { All (λ told. ForSome told.watermark IsStampTime) went.told.items }
     requires empty { text.old.items ≡ [] }
-    ensures ended { (b : Begun L) → b.bound ≡ bound.now → b.cap ≡ ask.cap → b.rounds ≡ ask.rounds → IsReady (D.tells × L.tells) L.lines L.available L.answers L.faults b 0 (D.history disk) (D.faults disk) logs.items O.tells (O.content out.old) opened found.items →
-        Ends (D.tells × L.tells) L.lines L.available L.answers L.faults b (D.history result.disk) (D.faults result.disk) result.logs.items O.tells (O.content out.new) text.new.items result.end }
+    ensures ready { (g : Given L) (n : ℕ) → HasGone (D.tells × L.tells) L.lines L.available L.answers L.faults g n (D.history went.disk) (D.faults went.disk) went.logs.items O.tells (O.content out.old) went.told.items went.end →
+        IfOk result (λ next. AreUnderWay (D.tells × L.tells) L.lines L.available L.answers L.faults g (n + 1) (D.history next.disk) (D.faults next.disk) next.logs.items O.tells (O.content out.new) next.opened next.closings.items next.found.items) }
+    ensures over { (g : Given L) (n : ℕ) → n < g.rounds → (more ≡ true → n + 1 < g.rounds) → (more ≡ false → n + 1 ≡ g.rounds) →
+        HasGone (D.tells × L.tells) L.lines L.available L.answers L.faults g n (D.history went.disk) (D.faults went.disk) went.logs.items O.tells (O.content out.old) went.told.items went.end →
+        IfErr result (λ left. IsOver (D.tells × L.tells) L.lines L.available L.answers L.faults g (D.history left.disk) (D.faults left.disk) left.logs.items O.tells (O.content out.new) text.new.items left.end) }
+    ensures long { IfOk result (λ next. L.tells → (i : ℕ) (own : _) → get_elem? next.logs.items i ≡ some own → get_or next.found.items i 0 ≤ L.available own) }
+    ensures empty { OnOk result (text.new.items ≡ []) }
+    ensures more { OnOk result (more ≡ true) }
     ensures counted { O.faults out.old ≤ O.faults out.new }
-    ensures cause { OutRises (O.faults out.old) (O.faults out.new) result.end }
+    ensures cause { IfErr result (λ left. OutRises (O.faults out.old) (O.faults out.new) left.end) }
 {
-    let Ok(closings) = closings_of(alloc, bound, opened.stores.as_slice()) else {
-        return Left {
+    rounds::<D, L>();
+    epochs_hang_on_their_cuts();
+    let Went {
+        disk,
+        mut logs,
+        told,
+        end,
+    } = went;
+    let (opened, closings) = match tell_round(alloc, out, text, told.as_slice(), end) {
+        Ok(next) => next,
+        Err(fault) => {
+            return Err(Left {
+                disk,
+                logs,
+                end: Err(fault),
+            });
+        }
+    };
+    if !more {
+        let end = tell_done(alloc, text, opened.committed);
+        return Err(Left { disk, logs, end });
+    }
+    match count_again(alloc, &opened, &mut logs) {
+        Ok(found) => Ok(Ready {
             disk,
             logs,
-            end: Err(RunFault::NoMemory),
-        };
-    };
-    let standing = Standing {
-        disk,
-        logs,
-        opened,
-        closings,
-    };
-    let first = one_round(alloc, gate, bound, ask.cap, out, standing, found, text);
-    let mut standing = match first {
-        Ok(next) => next,
-        Err(left) => return left,
-    };
-    for _ in 1..ask.rounds {
-        standing = match next_round(alloc, gate, bound, ask.cap, out, standing, text) {
-            Ok(next) => next,
-            Err(left) => return left,
-        };
+            opened,
+            closings,
+            found,
+        }),
+        Err(fault) => Err(Left {
+            disk,
+            logs,
+            end: Err(fault),
+        }),
     }
-    let Standing {
-        disk,
-        logs,
-        opened,
-        ..
-    } = standing;
-    let end = tell_done(alloc, text, opened.committed);
-    Left { disk, logs, end }
 }

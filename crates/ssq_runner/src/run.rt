@@ -1,27 +1,25 @@
-//! A run from its logs on: their lines, the checkpoint, the rounds.
+//! How a run begins, from its logs on: their lines, the checkpoint, the indexes.
 
-ghost use Rattle.std.specs.Prelude.{◌≡◌, ◌<◌, ◌≤◌, ◌^◌, ℕ, [], length, get_or, sum, All, IfOk, IfErr};
+ghost use Rattle.std.specs.Prelude.{◌≡◌, ◌≤◌, ◌<◌, ◌^◌, ℕ, [], length, get_or, sum, All, IfOk, IfErr};
 ghost use mathlib.Core.Option.{some};
 ghost use lib.ListN.{get_elem?};
 ghost use Rattle.std.specs.Option.{ForSome};
-ghost use Rattle.ssq_outside.specs.History.{LeavesNow, LeavesOnly};
-ghost use Rattle.ssq_core.specs.Standing.{Stands};
-ghost use Rattle.ssq_core.specs.Sound.{StandsOrEmpty};
-ghost use Rattle.ssq_course.specs.Setting.{Setting as SettingOf, job_of};
 ghost use Rattle.ssq_open.specs.Lens.{CanBeAsked};
 ghost use Rattle.ssq_logs.specs.Asked.{AreAsked};
 ghost use Rattle.ssq_board.specs.Rounds.{HasCap};
 ghost use Rattle.ssq_terms.specs.Setting.{CanRun};
+ghost use Rattle.ssq_runner.specs.Between.{AreUnderWay, IsOver};
 ghost use Rattle.ssq_runner.specs.Lens.{lens_of};
 ghost use Rattle.ssq_runner.specs.Putting.{OutRises};
-ghost use Rattle.ssq_runner.specs.Running.{Given, IsOf, IsOpenedOn, IsUnopened, IsRunOf, KeepsStanding, LeavesStanding, RunEnd};
+ghost use Rattle.ssq_runner.specs.Running.{Given, IsOf, IsOpenedOn, IsUnopened, KeepsStanding, LeavesStanding};
 
 use crate::ask::Ask;
 use crate::fault::RunFault;
+use crate::index::closings_of;
 use crate::lens::lens_of;
-use crate::rounds::{Left, count_all, run_rounds};
+use crate::rounds::{Left, Ready, count_all};
 use ssq_open::{Opened, open};
-use ssq_outside::{Disk, Gate, Log, Output};
+use ssq_outside::{Disk, Log, Output};
 use ssq_promise::{rounds, run as promise};
 use ssq_shape::Bound;
 use ssq_terms::{job_is_wanted, round_begins_as_found};
@@ -49,19 +47,17 @@ fn open_found<D: Disk>(
     Ok(opened)
 }
 
-/// Opens the checkpoint and runs the rounds, over logs in which so many lines were found.
-fn run_found<D: Disk, L: Log, O: Output, G: Gate>(
+/// Opens the checkpoint, over logs in which so many lines were found, and makes the index of each store. Nothing is written, on the output `O`
+/// neither.
+fn begin_found<D: Disk, L: Log, O: Output>(
     alloc: Global,
-    gate: &G,
     bound: &Bound,
     ask: Ask,
     disk: D,
     logs: Vec<L>,
     counts: &[u32],
     found: Vec<u64>,
-    out: &mut O,
-    text: &mut Vec<u8>,
-) -> Left<D, L>
+) -> Result<Ready<D, L>, Left<D, L>>
     requires asked { CanBeAsked bound.now ask.partitions (lens_of counts.now found.items) }
     requires runs { CanRun bound.now }
     requires each { length found.items ≡ sum counts.now }
@@ -70,25 +66,19 @@ fn run_found<D: Disk, L: Log, O: Output, G: Gate>(
     requires small { sum found.items < 2 ^ 64 }
     requires there { L.tells → (i : ℕ) (own : _) → get_elem? logs.items i ≡ some own → get_or found.items i 0 ≤ L.available own }
     requires cap { HasCap ask.cap }
-    requires rounds { 1 ≤ ask.rounds }
-    requires empty { text.old.items ≡ [] }
-    ensures end { (g : Given L) → IsOf bound.now ask counts.now g → g.start ≡ D.history disk → g.disk_faults ≡ D.faults disk → g.written ≡ O.content out.old → AreAsked L.tells L.lines L.available L.answers L.faults g.logs logs.items found.items →
-        RunEnd (D.tells × L.tells) L.lines L.available L.answers L.faults g (D.history result.disk) (D.faults result.disk) result.logs.items O.tells (O.content out.new) text.new.items result.end }
-    // Where each image stands for the run's job, or stands empty, so does each image of each moment of the run.
-    ensures stands { D.tells → L.tells → (g : Given L) (s : SettingOf) → IsOf bound.now ask counts.now g → g.start ≡ D.history disk → AreAsked L.tells L.lines L.available L.answers L.faults g.logs logs.items found.items → IsRunOf L.lines g s →
-        LeavesNow g.start (StandsOrEmpty (job_of s)) → LeavesOnly g.start (D.history result.disk) (StandsOrEmpty (job_of s)) }
-    // And where each image stands, so does each of each moment: none is empty.
-    ensures stay { D.tells → L.tells → (g : Given L) (s : SettingOf) → IsOf bound.now ask counts.now g → g.start ≡ D.history disk → AreAsked L.tells L.lines L.available L.answers L.faults g.logs logs.items found.items → IsRunOf L.lines g s →
-        LeavesNow g.start (Stands (job_of s)) → LeavesOnly g.start (D.history result.disk) (Stands (job_of s)) }
-    ensures counted { O.faults out.old ≤ O.faults out.new }
-    ensures cause { OutRises (O.faults out.old) (O.faults out.new) result.end }
+    ensures begun { (g : Given L) → IsOf bound.now ask counts.now g → g.start ≡ D.history disk → g.disk_faults ≡ D.faults disk → AreAsked L.tells L.lines L.available L.answers L.faults g.logs logs.items found.items →
+        IfOk result (λ next. AreUnderWay (D.tells × L.tells) L.lines L.available L.answers L.faults g 0 (D.history next.disk) (D.faults next.disk) next.logs.items O.tells g.written next.opened next.closings.items next.found.items) }
+    ensures over { (g : Given L) → IsOf bound.now ask counts.now g → g.start ≡ D.history disk → g.disk_faults ≡ D.faults disk → AreAsked L.tells L.lines L.available L.answers L.faults g.logs logs.items found.items →
+        IfErr result (λ left. IsOver (D.tells × L.tells) L.lines L.available L.answers L.faults g (D.history left.disk) (D.faults left.disk) left.logs.items O.tells g.written [] left.end) }
+    ensures long { IfOk result (λ next. L.tells → (i : ℕ) (own : _) → get_elem? next.logs.items i ≡ some own → get_or next.found.items i 0 ≤ L.available own) }
+    ensures cause { IfErr result (λ left. (faults : ℕ) → OutRises faults faults left.end) }
 {
     job_is_wanted();
     round_begins_as_found();
     rounds::<D, L>();
     promise::<D, L>();
     let mut disk = disk;
-    match open_found(
+    let opened = match open_found(
         alloc,
         &mut disk,
         bound,
@@ -96,29 +86,41 @@ fn run_found<D: Disk, L: Log, O: Output, G: Gate>(
         counts,
         found.as_slice(),
     ) {
-        Ok(opened) => run_rounds(
-            alloc, gate, bound, ask, out, disk, logs, opened, found, text,
-        ),
-        Err(fault) => Left {
+        Ok(opened) => opened,
+        Err(fault) => {
+            return Err(Left {
+                disk,
+                logs,
+                end: Err(fault),
+            });
+        }
+    };
+    match closings_of(alloc, bound, opened.stores.as_slice()) {
+        Ok(closings) => Ok(Ready {
             disk,
             logs,
-            end: Err(fault),
-        },
+            opened,
+            closings,
+            found,
+        }),
+        Err(_) => Err(Left {
+            disk,
+            logs,
+            end: Err(RunFault::NoMemory),
+        }),
     }
 }
 
-/// Counts the lines of the logs, opens the checkpoint, and runs the rounds: over one log for each of so many parts of each stream.
-pub(crate) fn run_logs<D: Disk, L: Log, O: Output, G: Gate>(
+/// Counts the lines of the logs, of which there is one for each of so many parts of each stream, opens the checkpoint, and makes the index of each
+/// store: what the first round begins on. Nothing is written, on the output `O` neither.
+pub(crate) fn begin<D: Disk, L: Log, O: Output>(
     alloc: Global,
-    gate: &G,
     bound: &Bound,
     ask: Ask,
     disk: D,
     logs: Vec<L>,
     counts: &[u32],
-    out: &mut O,
-    text: &mut Vec<u8>,
-) -> Left<D, L>
+) -> Result<Ready<D, L>, Left<D, L>>
     requires partitions { ForSome ask.partitions (λ count. (1 ≤ count) × (count ≤ 64)) }
     requires counts { All (λ count. count ≤ 64) counts.now }
     requires streams { length counts.now ≡ length bound.now.streams }
@@ -126,28 +128,20 @@ pub(crate) fn run_logs<D: Disk, L: Log, O: Output, G: Gate>(
     requires runs { CanRun bound.now }
     requires log_each { length logs.items ≡ sum counts.now }
     requires cap { HasCap ask.cap }
-    requires rounds { 1 ≤ ask.rounds }
-    requires empty { text.old.items ≡ [] }
-    ensures end { (g : Given L) → IsOf bound.now ask counts.now g → g.start ≡ D.history disk → g.disk_faults ≡ D.faults disk → g.written ≡ O.content out.old → g.logs ≡ logs.items →
-        RunEnd (D.tells × L.tells) L.lines L.available L.answers L.faults g (D.history result.disk) (D.faults result.disk) result.logs.items O.tells (O.content out.new) text.new.items result.end }
-    // Where each image stands for the run's job, or stands empty, so does each image of each moment of the run.
-    ensures stands { D.tells → L.tells → (g : Given L) (s : SettingOf) → IsOf bound.now ask counts.now g → g.start ≡ D.history disk → g.logs ≡ logs.items → IsRunOf L.lines g s →
-        LeavesNow g.start (StandsOrEmpty (job_of s)) → LeavesOnly g.start (D.history result.disk) (StandsOrEmpty (job_of s)) }
-    // And where each image stands, so does each of each moment: none is empty.
-    ensures stay { D.tells → L.tells → (g : Given L) (s : SettingOf) → IsOf bound.now ask counts.now g → g.start ≡ D.history disk → g.logs ≡ logs.items → IsRunOf L.lines g s →
-        LeavesNow g.start (Stands (job_of s)) → LeavesOnly g.start (D.history result.disk) (Stands (job_of s)) }
-    ensures counted { O.faults out.old ≤ O.faults out.new }
-    ensures cause { OutRises (O.faults out.old) (O.faults out.new) result.end }
+    ensures begun { (g : Given L) → IsOf bound.now ask counts.now g → g.start ≡ D.history disk → g.disk_faults ≡ D.faults disk → g.logs ≡ logs.items →
+        IfOk result (λ next. AreUnderWay (D.tells × L.tells) L.lines L.available L.answers L.faults g 0 (D.history next.disk) (D.faults next.disk) next.logs.items O.tells g.written next.opened next.closings.items next.found.items) }
+    ensures over { (g : Given L) → IsOf bound.now ask counts.now g → g.start ≡ D.history disk → g.disk_faults ≡ D.faults disk → g.logs ≡ logs.items →
+        IfErr result (λ left. IsOver (D.tells × L.tells) L.lines L.available L.answers L.faults g (D.history left.disk) (D.faults left.disk) left.logs.items O.tells g.written [] left.end) }
+    ensures long { IfOk result (λ next. L.tells → (i : ℕ) (own : _) → get_elem? next.logs.items i ≡ some own → get_or next.found.items i 0 ≤ L.available own) }
+    ensures cause { IfErr result (λ left. (faults : ℕ) → OutRises faults faults left.end) }
 {
     let mut logs = logs;
     match count_all(alloc, &mut logs) {
-        Ok(found) => run_found(
-            alloc, gate, bound, ask, disk, logs, counts, found, out, text,
-        ),
-        Err(fault) => Left {
+        Ok(found) => begin_found::<D, L, O>(alloc, bound, ask, disk, logs, counts, found),
+        Err(fault) => Err(Left {
             disk,
             logs,
             end: Err(RunFault::Lines(fault)),
-        },
+        }),
     }
 }

@@ -1,4 +1,4 @@
-//! A run over the parts of its streams.
+//! A run over the parts of its streams, with the loop over its rounds.
 
 ghost use Rattle.std.specs.Prelude.{◌≡◌, ◌≤◌, ◌-◌, ◌^◌, [], length, map, min, sum, All, Err, IfOk, IfErr, OnOk};
 ghost use Rattle.std.specs.Option.{ForSome};
@@ -16,8 +16,9 @@ ghost use Rattle.ssq_runner.specs.Sources.{HasCount, IsSettingFor, IsUnparted, R
 
 use crate::ask::Ask;
 use crate::fault::RunFault;
-use crate::rounds::Left;
-use crate::run::run_logs;
+use crate::rounds::{Left, Ready, next_round};
+use crate::run::begin;
+use ssq_drive::run_round;
 use ssq_logs::{count_parts, give_back, open_logs, room};
 use ssq_outside::{Disk, Gate, Inputs, Output};
 use ssq_shape::{Bound, Stream};
@@ -98,32 +99,45 @@ pub fn run_query<D: Disk, I: Inputs, O: Output, G: Gate>(
     ensures counted { O.faults out.old ≤ O.faults out.new }
 {
     let mut text = Vec::new(alloc);
-    match open_parts(alloc, inputs, bound.streams.as_slice()) {
-        Ok((counts, logs)) => {
-            let Left { disk, logs, end } = run_logs(
-                alloc,
-                gate,
-                bound,
-                ask,
-                disk,
-                logs,
-                counts.as_slice(),
-                out,
-                &mut text,
-            );
-            give_back(inputs, logs);
-            Ran {
+    let (counts, logs) = match open_parts(alloc, inputs, bound.streams.as_slice()) {
+        Ok(opened) => opened,
+        Err(fault) => {
+            return Ran {
                 disk,
                 text,
-                counts,
-                end,
+                counts: Sequence::new(alloc),
+                end: Err(fault),
+            };
+        }
+    };
+    let mut run = begin::<D, I::Log, O>(alloc, bound, ask, disk, logs, counts.as_slice());
+    let mut done = 0;
+    loop {
+        match run {
+            Ok(ready) => {
+                let Ready {
+                    disk,
+                    logs,
+                    opened,
+                    closings,
+                    found,
+                } = ready;
+                let went = run_round(
+                    alloc, gate, bound, disk, logs, opened, closings, found, ask.cap,
+                );
+                done += 1;
+                run = next_round(alloc, out, &mut text, went, done < ask.rounds);
+            }
+            Err(left) => {
+                let Left { disk, logs, end } = left;
+                give_back(inputs, logs);
+                return Ran {
+                    disk,
+                    text,
+                    counts,
+                    end,
+                };
             }
         }
-        Err(fault) => Ran {
-            disk,
-            text,
-            counts: Sequence::new(alloc),
-            end: Err(fault),
-        },
     }
 }
