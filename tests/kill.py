@@ -301,11 +301,11 @@ def started(folder, job, out, *more):
 
 
 def wait_for_upkeep(folder, chance):
-    """Waits until an epoch is committed behind which a snapshot is due, for three seconds at most, and then a little."""
+    """Waits until an epoch is committed behind which a snapshot is due, for a second at most, and then a little: a run of a million rounds that find nothing ends after two."""
     commits = folder / "checkpoint" / "commits"
     done = len(list(commits.iterdir())) if commits.exists() else 0
     due = next(filter(model.has_snapshot, itertools.count(done + 10 * chance.randrange(3))))
-    end = time.monotonic() + 3
+    end = time.monotonic() + 1
     while not (commits / str(due)).exists() and time.monotonic() < end:
         time.sleep(0.0003)
     time.sleep(0.02 * chance.random())

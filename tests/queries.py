@@ -281,7 +281,7 @@ def made_line(chance, number, wild):
 
 def wanted_files(epochs):
     """Each file that a run leaves that was let end, and the number of commits. Of an epoch that stops by a key the partitions in which
-    no key overflows have written what changed."""
+    no key overflows have written what changed. Of the state there is what upkeep leaves of the committed epochs."""
     files, commits = {"metadata": epochs.meta()}, 0
     for e in range(len(epochs.cuts)):
         if epochs.fault(e):
@@ -291,9 +291,11 @@ def wanted_files(epochs):
                 stopped = {model.partition_of(model.key_bytes(key), epochs.partitions) for key in keys}
                 files |= {f"state/{p}/{e}.delta": delta for p, delta in enumerate(epochs.deltas(e)) if p not in stopped}
             break
-        files |= {name: content for name, content in epochs.files(e).items() if not name.endswith("snapshot")}
+        files |= epochs.files(e)
         commits += 1
-    return files, commits
+    deltas, snapshots = model.state_at_end(commits)
+    left = {f"{version}.{kind}" for kind, versions in (("delta", [*deltas, commits]), ("snapshot", snapshots)) for version in versions}
+    return {name: content for name, content in files.items() if not name.startswith("state/") or name.rsplit("/", 1)[1] in left}, commits
 
 
 def found_files(root):
