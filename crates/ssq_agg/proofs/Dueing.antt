@@ -1,8 +1,8 @@
 -- The groups that are shown are those that are due.
-use Rattle.std.proofs.Common.{◌≡◌, ◌+◌, ◌++◌, ℕ, suc, ℤ, [], ◌∷◌, Some, None, List, Option, Result, Ok, Err, Bool, true, false, refl, ap, sym, ◌∙◌, subst, arith, map, filter, length}
+use Rattle.std.proofs.Common.{◌≡◌, ◌+◌, ◌++◌, ℕ, suc, ℤ, [], ◌∷◌, Some, None, List, Option, Result, Ok, Err, Bool, true, false, cond, refl, ap, sym, ◌∙◌, subst, arith, map, filter, length}
 use Rattle.std.specs.Prelude.{◌&&◌, ◌||◌, not, IfOk, All, if◌then◌else◌, is_some, is_err}
 use Rattle.std.specs.declared.cmp.Ordering.TheVariants.{Less}
-use Rattle.std.specs.BTreeMap.{is_at}
+use Rattle.std.specs.BTreeMap.{BTreeMap, get, is_at}
 use Rattle.std.specs.List.{AllByRecursion}
 use Rattle.std.specs.List.Sorted.{IsStrictlySortedBy}
 use Rattle.std.specs.Map.{lookup}
@@ -26,7 +26,7 @@ use Rattle.ssq_agg.specs.Closed.{is_ended, AreClosed, AreAll}
 use Rattle.ssq_agg.specs.Groups.{Held}
 use Rattle.ssq_agg.specs.Shown.{Pair, Shows, shown_rows, least_fault, row_if, shown_of, fault_if, pairs_of, others_of}
 use Rattle.ssq_agg.specs.Steps.{AreDue, ShowsDue, keys_of_groups, or_kept}
-use Rattle.ssq_agg.proofs.Taking.{same_is}
+use Rattle.ssq_agg.proofs.Taking.{same_back, same_is}
 
 pub if_ok : {T E : Type 0} {P Q : T → Type 0} (r : Result T E) → IfOk r P → ((x : T) → P x → Q x) → IfOk r Q
 if_ok (Ok x) holds give = give x holds
@@ -78,6 +78,33 @@ others_keys found (group ∷ groups) = by (not (is_some (found group.key))) (oth
         ≡ (if b then group.key ∷ filter (λ key. not (is_some (found key))) (keys_of_groups groups) else filter (λ key. not (is_some (found key))) (keys_of_groups groups))
     by true rest = ap (λ l. group.key ∷ l) rest
     by false rest = rest
+
+pub others_are : (has : Values → Bool) (found : Held) → ((key : Values) → has key ≡ is_some (found key)) → (groups : List Group) → filter (λ (group : Group). not (has group.key)) groups ≡ others_of found groups
+others_are has found same [] = refl
+others_are has found same (group ∷ groups) = λ i. if not (same group.key i) then group ∷ others_are has found same groups i else others_are has found same groups i
+
+-- the keys so far, with those of the entries that are left, are those of a map
+pub keys_more : (touched : BTreeMap Values (List Total)) (old new : Values → Bool) (left rest : List Pair) (own : Values) (totals : List Total) (key : Values) → key ≡ own
+    → ((q : Values) → new q ≡ cond (is_same key q) true (old q)) → left ≡ (own, totals) ∷ rest → ((q : Values) → (old q || is_some (lookup (is_at (values_cmp q)) left)) ≡ is_some (get values_cmp touched q))
+    → (q : Values) → (new q || is_some (lookup (is_at (values_cmp q)) rest)) ≡ is_some (get values_cmp touched q)
+keys_more touched old new left rest own totals key same put steps was q =
+    ap (λ b. b || is_some (lookup (is_at (values_cmp q)) rest)) (put q ∙ ap (λ b. cond b true (old q)) (ap (λ k. is_same k q) same ∙ same_back own q))
+    ∙ by (is_same q own) (old q) (lookup (is_at (values_cmp q)) rest)
+    ∙ ap (λ l. old q || is_some (lookup (is_at (values_cmp q)) l)) (sym steps)
+    ∙ was q
+  where
+    by : (b old : Bool) (found : Option (List Total)) → (cond b true old || is_some found) ≡ (old || is_some (if b then Some totals else found))
+    by true true found = refl
+    by true false found = refl
+    by false old found = refl
+
+pub keys_all : (touched : BTreeMap Values (List Total)) (keys : Values → Bool) (left : List Pair) → left ≡ [] → ((q : Values) → (keys q || is_some (lookup (is_at (values_cmp q)) left)) ≡ is_some (get values_cmp touched q))
+    → (q : Values) → keys q ≡ is_some (get values_cmp touched q)
+keys_all touched keys left none was q = by (keys q) ∙ ap (λ l. keys q || is_some (lookup (is_at (values_cmp q)) l)) (sym none) ∙ was q
+  where
+    by : (b : Bool) → b ≡ (b || false)
+    by true = refl
+    by false = refl
 
 -- a test decides how often a key is left
 pub times_left : (key : Values) (p : Values → Bool) (keys : List Values) → times key (filter p keys) ≡ (if p key then times key keys else 0)

@@ -41,39 +41,31 @@ use Rattle.ssq_agg.proofs.Taking.{same_is}
 
 -- ---- totals that can be read back
 
+-- one of two values
+chosen_fits : (a b c : Bool) (left right : Value) → IsFit left → IsFit right → IsFit (if a then left else if b then right else if c then right else left)
+chosen_fits true b c left right one other = one
+chosen_fits false true c left right one other = other
+chosen_fits false false true left right one other = other
+chosen_fits false false false left right one other = one
+
 lesser_fits : (left right : Value) → IsFit left → IsFit right → IsFit (lesser left right)
 unfolding lesser
-lesser_fits left right one other = by (is_null right) (is_null left) (is_gt (value_cmp left right))
-  where
-    by : (a b c : Bool) → IsFit (if a then left else if b then right else if c then right else left)
-    by true b c = one
-    by false true c = other
-    by false false true = other
-    by false false false = one
+lesser_fits left right = chosen_fits (is_null right) (is_null left) (is_gt (value_cmp left right)) left right
 
 greater_fits : (left right : Value) → IsFit left → IsFit right → IsFit (greater left right)
 unfolding greater
-greater_fits left right one other = by (is_null right) (is_null left) (is_gt (value_cmp right left))
-  where
-    by : (a b c : Bool) → IsFit (if a then left else if b then right else if c then right else left)
-    by true b c = one
-    by false true c = other
-    by false false true = other
-    by false false false = one
+greater_fits left right = chosen_fits (is_null right) (is_null left) (is_gt (value_cmp right left)) left right
 
-least_fits : (start : Value) (values : List Value) → IsFit start → AllByRecursion IsFit values → IsFit (fold lesser start values)
-least_fits start [] one all = one
-least_fits start (v ∷ values) one all = least_fits (lesser start v) values (lesser_fits start v one all.0) all.1
-
-greatest_fits : (start : Value) (values : List Value) → IsFit start → AllByRecursion IsFit values → IsFit (fold greater start values)
-greatest_fits start [] one all = one
-greatest_fits start (v ∷ values) one all = greatest_fits (greater start v) values (greater_fits start v one all.0) all.1
+-- one of many
+folded_fits : (choose : Value → Value → Value) → ((left right : Value) → IsFit left → IsFit right → IsFit (choose left right)) → (start : Value) (values : List Value) → IsFit start → AllByRecursion IsFit values → IsFit (fold choose start values)
+folded_fits choose fits start [] one all = one
+folded_fits choose fits start (v ∷ values) one all = folded_fits choose fits (choose start v) values (fits start v one all.0) all.1
 
 total_reads_back : (own : Function) (values : List Value) → AllByRecursion IsFit values → Fits (total_of own values) → IsTotalOf own (total_of own values)
 total_reads_back function.Count values all fits = fits
 total_reads_back function.Sum values all fits = fits
-total_reads_back function.Min values all fits = least_fits value.Null values tt all
-total_reads_back function.Max values all fits = greatest_fits value.Null values tt all
+total_reads_back function.Min values all fits = folded_fits lesser lesser_fits value.Null values tt all
+total_reads_back function.Max values all fits = folded_fits greater greater_fits value.Null values tt all
 
 cell_fits : (row : List Value) (at : ℕ) → AllByRecursion IsFit row → IsFit (cell_at row at)
 cell_fits [] at all = tt

@@ -1,5 +1,6 @@
 pub mod Spellings
 pub mod Totalling
+pub mod Ahead
 pub mod Reading
 pub mod Hashed
 pub mod Taking

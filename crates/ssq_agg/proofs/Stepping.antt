@@ -1,7 +1,7 @@
 -- A step gives the state and the rows of its epoch.
-use Rattle.std.proofs.Common.{◌≡◌, ◌+◌, ◌++◌, ℕ, ℤ, [], ◌∷◌, Some, None, List, Option, Result, Ok, Err, Bool, true, false, refl, ap, sym, ◌∙◌, subst, arith, map, filter, length}
+use Rattle.std.proofs.Common.{◌≡◌, ◌+◌, ◌++◌, ℕ, ℤ, [], ◌∷◌, Some, None, List, Option, Result, Ok, Err, Bool, true, false, refl, ap, sym, ◌∙◌, subst, arith, map, filter}
 use Rattle.std.specs.Prelude.{◌&&◌, ◌||◌, not, if◌then◌else◌, is_some, is_err, fold, filter_map, option_and_then}
-use Rattle.std.specs.List.{AllByRecursion, list_any, cons_option}
+use Rattle.std.specs.List.{AllByRecursion, cons_option}
 use Rattle.std.specs.List.Sorted.{IsPermutation}
 use Rattle.std.specs.Result.{result_ok}
 use Rattle.ssq_value.specs.declared.value.Value.{Value}
@@ -18,25 +18,13 @@ use Rattle.ssq_meaning.specs.Meaning.{Values}
 use Rattle.ssq_meaning.specs.Operator.{group}
 use Rattle.ssq_meaning.specs.Times.{is_past}
 use Rattle.ssq_meaning.specs.Totals.{with_row}
+use Rattle.ssq_meaning.proofs.Coding.{any_by}
 use Rattle.ssq_agg.specs.declared.kept.Group.{Group}
 use Rattle.ssq_agg.specs.Closed.{is_ended, AreClosed}
 use Rattle.ssq_agg.specs.Groups.{Held, touched}
 use Rattle.ssq_agg.specs.Shown.{Pair, row_if, fault_if, shown_of, shown_rows, least_fault}
 use Rattle.ssq_agg.specs.Steps.{after_if, keys_of_groups, is_among, or_kept, IsShownOf, AreDue}
 use Rattle.ssq_agg.proofs.Dueing.{keys_of_pairs, times-append, times_left}
-
--- ---- among keys
-
-among_by : (key : Values) (keys : List Values) (b : Bool) → times key keys ≡ (if b then 1 else 0) → list_any (is_same key) keys ≡ b
-among_by key [] true is = absurd (omega (arith, is))
-among_by key [] false is = refl
-among_by key (other ∷ keys) b is = by (is_same key other) b (among_by key keys) is
-  where
-    by : (s c : Bool) → ((c : Bool) → times key keys ≡ (if c then 1 else 0) → list_any (is_same key) keys ≡ c)
-        → length (if s then other ∷ filter (is_same key) keys else filter (is_same key) keys) ≡ (if c then 1 else 0) → (s || list_any (is_same key) keys) ≡ c
-    by true true rest is = refl
-    by true false rest is = absurd (omega (arith, is))
-    by false c rest is = rest c is
 
 -- ---- what members say
 
@@ -108,7 +96,7 @@ module _ (query : Bound) (grouping : Grouping) (old new : List FedRow) (before n
   pub state_is : (closed : List Group) → AreClosed (held query grouping old before) (closing_time query grouping) now closed → (key : Values) → after_if (found key) (is_among closed key) (held query grouping old before key) ≡ held query grouping (old ++ new) now key
   state_is closed are key =
       let among : is_among closed key ≡ flag (is_closed query grouping now key) (held query grouping old before key) =
-      among_by key (keys_of_groups closed) (is_ended now (closing_time query grouping key) (held query grouping old before key)) (are.once key)
+      any_by key (keys_of_groups closed) (is_ended now (closing_time query grouping key) (held query grouping old before key)) (are.once key)
       ∙ flag_is (closing_time query grouping key) (held query grouping old before key) in
       (λ i. after_if (found_is key i) (among i) (held query grouping old before key))
       ∙ state_by (held query grouping old before key) (members new key) (is_closed query grouping now key) (ended key)

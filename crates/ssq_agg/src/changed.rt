@@ -14,8 +14,8 @@ use crate::kept::Group;
 use crate::total_bytes::bytes_of;
 use crate::totals::Totals;
 use ssq_field::Bytes;
-use ssq_step::{bytes_of_key, short};
-use ssq_value::{Row, keys_are_apart};
+use ssq_step::{Key, bytes_of_key, short};
+use ssq_value::keys_are_apart;
 use ssq_version::Change;
 use std::alloc::{AllocError, Global};
 use std::collections::BTreeMap;
@@ -24,14 +24,14 @@ use std::collections::BTreeMap;
 fn put_group(
     alloc: Global,
     entries: &mut Vec<(Bytes, Option<Bytes>)>,
-    key: &Row,
+    key: &Key<'_>,
     totals: &Totals,
 ) -> Result<(), AllocError>
     requires { IsFitGroup key.now totals.now }
     ensures said { OnOk result (entries.new.items ≡ entries.old.items ++ (keys_of key.now, Some (totals_bytes totals.now)) ∷ []) }
     ensures short { All IsShortEntry entries.old.items → OnOk result (All IsShortEntry entries.new.items) }
 {
-    let key = bytes_of_key(alloc, key.as_slice())?;
+    let key = bytes_of_key(alloc, key.values())?;
     let value = short(bytes_of(alloc, totals.as_slice())?)?;
     entries.push((key, Some(value)))?;
     Ok(())
@@ -73,7 +73,7 @@ fn removed(
 /// in order once.
 pub(crate) fn changed(
     alloc: Global,
-    touched: &BTreeMap<Row, Totals>,
+    touched: &BTreeMap<Key<'_>, Totals>,
     closed: &[Group],
 ) -> Result<Change, AllocError>
     requires touched { AreFitGroups touched.now }

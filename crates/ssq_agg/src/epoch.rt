@@ -1,13 +1,15 @@
 //! The step of an epoch.
 
-ghost use Rattle.std.specs.Prelude.{◌≡◌, [], ℤ, List, Option, All, IfOk, IfErr};
+ghost use Rattle.std.specs.Prelude.{◌≡◌, [], ℤ, List, Option, All, filter, is_some, not, IfOk, IfErr};
 ghost use Rattle.std.specs.BTreeMap.{get};
+ghost use Rattle.std.specs.HashSet.{contains};
+ghost use Rattle.ssq_value.specs.declared.value.Value.{Value as Cell};
 ghost use Rattle.ssq_value.specs.Order.{values_cmp};
 ghost use Rattle.ssq_shape.specs.declared.bound.Bound.{Bound as Query};
 ghost use Rattle.ssq_shape.specs.declared.bound.Grouping.{Grouping as Groups};
 ghost use Rattle.ssq_meaning.specs.FedRows.{FedRow as Fed};
 ghost use Rattle.ssq_meaning.specs.Fit.{IsFitRow};
-ghost use Rattle.ssq_meaning.specs.Group.{closing_time};
+ghost use Rattle.ssq_meaning.specs.Group.{closing_time, is_same};
 ghost use Rattle.ssq_agg.specs.Closed.{AreClosed};
 ghost use Rattle.ssq_agg.specs.Groups.{Held as Own};
 ghost use Rattle.ssq_agg.specs.Holding.{Holds};
@@ -26,17 +28,17 @@ use ssq_meaning::{
     kept_groups_are_found,
 };
 use ssq_shape::{Bound, Grouping, Mode, Shape};
-use ssq_step::{Closing, StepFault, Stepped};
-use ssq_value::Row;
+use ssq_step::{Closing, Key, StepFault, Stepped};
+use ssq_value::{Row, Value};
 use ssq_version::{Change, StateMap, states_are_kept};
 use std::alloc::{AllocError, Global};
-use std::collections::BTreeMap;
+use std::collections::{BTreeMap, HashSet};
 
 /// What becomes of groups in an epoch.
-#[derive(Debug, Drop)]
-pub(crate) struct Moved {
+#[derive(Drop)]
+pub(crate) struct Moved<'a> {
     /// The groups that have new rows, each with its totals after them.
-    pub touched: BTreeMap<Row, Totals>,
+    pub touched: BTreeMap<Key<'a>, Totals>,
     /// The groups that were kept and are closed, and so are kept no more.
     pub closed: Vec<Group>,
     /// The rows that the epoch shows, in no order.
@@ -59,21 +61,53 @@ fn closed_groups(
     groups_at(alloc, grouping, state, keys.as_slice())
 }
 
-/// Those of the groups that were not touched.
-fn others(
+/// The keys that were touched, lent.
+fn touched_keys<'a>(
+    alloc: Global,
+    touched: &BTreeMap<Key<'a>, Totals>,
+) -> Result<HashSet<Key<'a>>, AllocError>
+    ensures { IfOk result (λ keys. (key : List Cell) → contains is_same keys key ≡ is_some (get values_cmp touched.now key)) }
+{
+    let mut keys = HashSet::with_capacity(alloc, touched.len())?;
+    for (key, _totals) in touched.iter() {
+        keys.insert(Key::of(key.values()))?;
+    }
+    Ok(keys)
+}
+
+fn is_among(keys: &HashSet<Key<'_>>, key: &[Value]) -> bool
+    ensures { result ≡ contains is_same keys.now key.now }
+{
+    keys.contains(&Key::of(key))
+}
+
+/// Those of the groups whose keys are not among these.
+fn without(
     alloc: Global,
     groups: Vec<Group>,
-    touched: &BTreeMap<Row, Totals>,
+    keys: &HashSet<Key<'_>>,
 ) -> Result<Vec<Group>, AllocError>
-    ensures { IfOk result (λ others. others.items ≡ others_of (get values_cmp touched.now) groups.items) }
+    ensures { IfOk result (λ others. others.items ≡ filter (λ group. not (contains is_same keys.now group.key)) groups.items) }
 {
     let mut others = Vec::new(alloc);
     for group in groups {
-        if !touched.contains_key(&group.key) {
+        if !is_among(keys, group.key.as_slice()) {
             others.push(group)?;
         }
     }
     Ok(others)
+}
+
+/// Those of the groups that were not touched.
+fn others(
+    alloc: Global,
+    groups: Vec<Group>,
+    touched: &BTreeMap<Key<'_>, Totals>,
+) -> Result<Vec<Group>, AllocError>
+    ensures { IfOk result (λ others. others.items ≡ others_of (get values_cmp touched.now) groups.items) }
+{
+    let keys = touched_keys(alloc, touched)?;
+    without(alloc, groups, &keys)
 }
 
 /// Shows the groups that are due: in Append those that are closed, in Update those that were touched, in Complete all.
@@ -83,7 +117,7 @@ fn show_due(
     grouping: &Grouping,
     state: &StateMap,
     now: Option<i64>,
-    touched: &BTreeMap<Row, Totals>,
+    touched: &BTreeMap<Key<'_>, Totals>,
     closed: &[Group],
 ) -> Result<Shown, AllocError>
     requires touched { AreFitGroups touched.now }
@@ -106,15 +140,15 @@ fn show_due(
 }
 
 /// What becomes of groups in an epoch, and what it shows.
-fn move_groups(
+fn move_groups<'a>(
     alloc: Global,
     bound: &Bound,
     grouping: &Grouping,
     state: &StateMap,
     closing: &Closing,
-    rows: &[FedRow],
+    rows: &'a [FedRow],
     now: Option<i64>,
-) -> Result<Moved, StepFault>
+) -> Result<Moved<'a>, StepFault>
     requires { All IsFitRow rows.now }
     ensures moved { (old : List Fed) (before : Option ℤ) → GivenGroups bound.now grouping.now state.now closing.now old rows.now before now →
         IfOk result (IsMove bound.now grouping.now old rows.now before now) }

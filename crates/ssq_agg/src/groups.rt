@@ -19,7 +19,7 @@ use crate::totals::Totals;
 use ssq_meaning::FedRow;
 use ssq_shape::Grouping;
 use ssq_step::Key;
-use ssq_value::{Row, Value};
+use ssq_value::Value;
 use ssq_version::StateMap;
 use std::alloc::{AllocError, Global};
 use std::collections::{BTreeMap, HashMap};
@@ -68,26 +68,26 @@ fn take_row<'a>(
 }
 
 /// The groups in the order of their keys.
-fn in_order(
+fn in_order<'a>(
     alloc: Global,
-    groups: HashMap<Key<'_>, Totals>,
-) -> Result<BTreeMap<Row, Totals>, AllocError>
+    groups: HashMap<Key<'a>, Totals>,
+) -> Result<BTreeMap<Key<'a>, Totals>, AllocError>
     ensures { IfOk result (λ ordered. (key : List Cell) → get values_cmp ordered key ≡ found is_same groups.entry key) }
 {
-    let mut entries = Vec::new(alloc);
+    let mut entries = Vec::with_capacity(alloc, groups.len())?;
     for (key, totals) in groups {
-        entries.push((key.to_row(alloc)?, totals))?;
+        entries.push((key, totals))?;
     }
     entries.into_iter().collect(alloc)
 }
 
 /// The groups that the rows touch, each with its totals after them, by the order of keys. A group that was touched is looked up once.
-pub(crate) fn touched(
+pub(crate) fn touched<'a>(
     alloc: Global,
     grouping: &Grouping,
     state: &StateMap,
-    rows: &[FedRow],
-) -> Result<BTreeMap<Row, Totals>, AllocError>
+    rows: &'a [FedRow],
+) -> Result<BTreeMap<Key<'a>, Totals>, AllocError>
     requires { All IsFitRow rows.now }
     ensures groups { (own : Own) → Holds grouping.now state.now own → AllByRecursion (λ row. IsKey grouping.now row.key) rows.now →
         AreSteady grouping.now.aggregates own rows.now →

@@ -12,7 +12,8 @@ use crate::show::show;
 use crate::totals::Totals;
 use ssq_expr::EvalFault;
 use ssq_shape::{Bound, Grouping};
-use ssq_value::{Row, order_rows};
+use ssq_step::{Key, copied_row};
+use ssq_value::{Row, Value, order_rows};
 use std::alloc::{AllocError, Global};
 use std::collections::BTreeMap;
 
@@ -34,18 +35,18 @@ pub(crate) fn nothing_shown(alloc: Global) -> Shown
     }
 }
 
-fn lesser_key(key: &Row, least: Option<Row>) -> Result<Row, AllocError>
+fn lesser_key(alloc: Global, key: &[Value], least: Option<Row>) -> Result<Row, AllocError>
     ensures { IfOk result (λ own. own ≡ lesser_key key.now least) }
 {
     match least {
         Some(other) => {
-            if order_rows(key.as_slice(), other.as_slice()).is_gt() {
+            if order_rows(key, other.as_slice()).is_gt() {
                 Ok(other)
             } else {
-                key.clone()
+                copied_row(alloc, key)
             }
         }
-        None => key.clone(),
+        None => copied_row(alloc, key),
     }
 }
 
@@ -58,12 +59,12 @@ fn with_row(shown: Shown, row: Row) -> Result<Shown, AllocError>
     Ok(Shown { rows, fault })
 }
 
-fn with_fault(shown: Shown, key: &Row) -> Result<Shown, AllocError>
+fn with_fault(alloc: Global, shown: Shown, key: &[Value]) -> Result<Shown, AllocError>
     ensures rows { IfOk result (λ now. now.rows.items ≡ shown.rows.items) }
     ensures fault { IfOk result (λ now. now.fault ≡ Some (lesser_key key.now shown.fault)) }
 {
     let Shown { rows, fault } = shown;
-    let least = lesser_key(key, fault)?;
+    let least = lesser_key(alloc, key, fault)?;
     Ok(Shown {
         rows,
         fault: Some(least),
@@ -76,7 +77,7 @@ fn show_group(
     bound: &Bound,
     grouping: &Grouping,
     shown: Shown,
-    key: &Row,
+    key: &[Value],
     totals: &Totals,
 ) -> Result<Shown, AllocError>
     requires fit { IsFitGroup key.now totals.now }
@@ -84,10 +85,10 @@ fn show_group(
     ensures shown { IfOk result (λ now. Shows bound.now grouping.now ((key.now, totals.now) ∷ []) shown now) }
     ensures printable { IfOk result (λ now. ArePrintable now.rows.items) }
 {
-    match show(alloc, bound, grouping, key.as_slice(), totals.as_slice()) {
+    match show(alloc, bound, grouping, key, totals.as_slice()) {
         Ok(Some(row)) => with_row(shown, row),
         Ok(None) => Ok(shown),
-        Err(EvalFault::Overflow) => with_fault(shown, key),
+        Err(EvalFault::Overflow) => with_fault(alloc, shown, key),
         Err(EvalFault::NoMemory) => Err(AllocError),
     }
 }
@@ -98,7 +99,7 @@ pub(crate) fn show_touched(
     bound: &Bound,
     grouping: &Grouping,
     shown: Shown,
-    groups: &BTreeMap<Row, Totals>,
+    groups: &BTreeMap<Key<'_>, Totals>,
 ) -> Result<Shown, AllocError>
     requires fit { AreFitGroups groups.now }
     requires printable { ArePrintable shown.rows.items }
@@ -110,7 +111,7 @@ pub(crate) fn show_touched(
 {
     let mut shown = shown;
     for (key, totals) in groups.iter() {
-        shown = show_group(alloc, bound, grouping, shown, key, totals)?;
+        shown = show_group(alloc, bound, grouping, shown, key.values(), totals)?;
     }
     Ok(shown)
 }
@@ -130,7 +131,14 @@ pub(crate) fn show_each(
 {
     let mut shown = shown;
     for group in groups {
-        shown = show_group(alloc, bound, grouping, shown, &group.key, &group.totals)?;
+        shown = show_group(
+            alloc,
+            bound,
+            grouping,
+            shown,
+            group.key.as_slice(),
+            &group.totals,
+        )?;
     }
     Ok(shown)
 }

@@ -1,6 +1,6 @@
 -- The rows whose keys a watermark closes.
 use Rattle.std.proofs.Common.{◌≡◌, ◌+◌, ◌++◌, ℕ, [], ◌∷◌, List, Some, Bool, true, false, refl, ap, sym, ◌∙◌, subst, arith, filter, length, map}
-use Rattle.std.specs.Prelude.{◌||◌, if◌then◌else◌}
+use Rattle.std.specs.Prelude.{if◌then◌else◌}
 use Rattle.std.specs.BTreeMap.{is_at}
 use Rattle.std.proofs.lemmas.List.{length-append, map-append}
 use Rattle.std.proofs.lemmas.List.Elements.{filter-append}
@@ -11,7 +11,6 @@ use Rattle.ssq_meaning.specs.Join.{row_key}
 use Rattle.ssq_meaning.specs.JoinLaws.{AreApart, IsReordered}
 use Rattle.ssq_step.specs.Indexing.{stands}
 use Rattle.ssq_join.specs.Changing.{find_row}
-use Rattle.ssq_join.specs.Telling.{among}
 use Rattle.ssq_join.proofs.Finding.{none_found}
 use Rattle.ssq_join.proofs.Saying.{over_at}
 
@@ -48,18 +47,6 @@ stands_middle q key front back =
   where
     sums : (whole front more back both one : ℕ) → whole ≡ front + more → more ≡ one + back → both ≡ front + back → whole ≡ one + both
     sums whole front more back both one a b c = omega (arith, a, b, c)
-
--- whether one stands in the list
-pub any_by : (q : List ℕ) (keys : List (List ℕ)) (b : Bool) → stands q keys ≡ (if b then 1 else 0) → among keys q ≡ b
-any_by q [] true is = absurd (omega (arith, is))
-any_by q [] false is = refl
-any_by q (other ∷ keys) b is = by (is_at (by_bytes q) other) b (any_by q keys) is
-  where
-    by : (s c : Bool) → ((c : Bool) → stands q keys ≡ (if c then 1 else 0) → among keys q ≡ c)
-        → length (if s then other ∷ filter (is_at (by_bytes q)) keys else filter (is_at (by_bytes q)) keys) ≡ (if c then 1 else 0) → (s || among keys q) ≡ c
-    by true true rest is = refl
-    by true false rest is = absurd (omega (arith, is))
-    by false c rest is = rest c is
 
 -- ---- the rows of the keys
 

@@ -1,17 +1,13 @@
 -- What a change says, one loop after the other.
-use Rattle.std.proofs.Common.{◌≡◌, ◌<◌, ◌+◌, ◌-◌, ◌++◌, ℕ, zero, suc, [], ◌∷◌, List, Option, Some, None, Bool, true, false, refl, ap, sym, ◌∙◌, subst, arith, length, take, get_or, map}
+use Rattle.std.proofs.Common.{◌≡◌, ◌<◌, ◌+◌, ◌-◌, ◌++◌, ℕ, zero, suc, [], ◌∷◌, List, Option, Some, None, Bool, true, false, refl, ap, sym, ◌∙◌, subst, arith, length, take, map}
 use Rattle.std.specs.Prelude.{◌&&◌, ◌||◌, not, if◌then◌else◌, option_map}
-use Rattle.std.specs.Borrow.{Bor}
 use Rattle.std.specs.BTreeMap.{is_at}
-use Rattle.std.proofs.lemmas.List.{map-append, take_more}
-use Rattle.std.proofs.lemmas.List.Folds.{list_any-append}
 use Rattle.ssq_value.specs.Key.{keys_of}
 use Rattle.ssq_version.specs.State.{Ascends, Change, IsToldAt, State, by_bytes, value_at}
 use Rattle.ssq_version.proofs.Values.{by_case, first_at, is_itself, none_behind, one_key, other_way, others_at}
 use Rattle.ssq_meaning.specs.FedRows.{FedRow}
 use Rattle.ssq_meaning.specs.Feeding.{or_else}
 use Rattle.ssq_meaning.specs.Join.{met_byte, row_key, row_value}
-use Rattle.ssq_step.specs.Indexing.{seen}
 use Rattle.ssq_join.specs.Changing.{IsGone, SaysBytes, SaysFlags, SaysFresh, SaysIf, SaysRows, find_row, flag_of, flag_said, flagged, flagged_if, fresh_said, is_flagged, said_of, said_of_row}
 use Rattle.ssq_join.specs.Meeting.{entry_with}
 use Rattle.ssq_join.specs.Telling.{among}
@@ -125,33 +121,6 @@ module _ (old : State) (met : List (List ℕ)) (before : Change) where
 
   pub flags_all : (left : List (List ℕ)) (after : Change) → left ≡ [] → FlagsTo left after → SaysFlags old met before after
   flags_all left after none was key = sym (ap (λ (l : List (List ℕ)). or_else (flag_said (among l key) (value_at old key)) (value_at after key)) none) ∙ was key
-
--- ---- keys that go
-
-either_way : (q k : List ℕ) → is_at (by_bytes q) k ≡ is_at (by_bytes k) q
-either_way q k = by_case (is_at (by_bytes q) k)
-    (λ at. at ∙ sym (ap (λ x. is_at (by_bytes k) x) (one_key q k at) ∙ is_itself k))
-    (λ apart. apart ∙ sym (other_way q k apart))
-
-gone_more : (keys : List (List ℕ)) (key : List ℕ) (before old new : Change) → IsToldAt key None old new → IsGone keys before old → IsGone (keys ++ key ∷ []) before new
-gone_more keys key before old new told was q =
-    told q
-    ∙ (λ i. if either_way key q i then Some None else was q i)
-    ∙ by (is_at (by_bytes q) key) (among keys q)
-    ∙ ap (λ b. if b then Some None else value_at before q) (sym (list_any-append (is_at (by_bytes q)) keys (key ∷ [])))
-  where
-    by : (a b : Bool) → (if a then Some None else (if b then Some None else value_at before q)) ≡ (if (b || (a || false)) then Some None else value_at before q)
-    by true true = refl
-    by true false = refl
-    by false true = refl
-    by false false = refl
-
-pub gone_at : (keys : List (Bor (List ℕ))) (at : ℕ) (key : Bor (List ℕ)) → at < length keys → key ≡ get_or keys at key → (before old new : Change) → IsToldAt key.now None old new
-    → IsGone (seen (take at keys)) before old → IsGone (seen (take (at + 1) keys)) before new
-gone_at keys at key inside is before old new told was =
-    let took : take (at + 1) keys ≡ take at keys ++ key ∷ [] = take_more keys at key inside ∙ ap (λ k. take at keys ++ k ∷ []) (sym is) in
-    subst (λ (l : List (List ℕ)). IsGone l before new) (sym (ap seen took ∙ map-append (λ (key : Bor (List ℕ)). key.now) (take at keys) (key ∷ [])))
-    (gone_more (seen (take at keys)) key.now before old new told was)
 
 -- ---- all of it
 

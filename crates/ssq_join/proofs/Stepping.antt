@@ -23,6 +23,7 @@ use Rattle.ssq_meaning.proofs.Shuffled.{least_shuffled, shown_shuffled}
 use Rattle.ssq_meaning.proofs.Together.{filter_both}
 use Rattle.ssq_step.specs.Indexing.{IsIndexBy, Timed, stands}
 use Rattle.ssq_step.specs.Rows.{IndexesRows, StandsAt}
+use Rattle.ssq_step.proofs.ByBytes.{any_by}
 use Rattle.ssq_join.specs.declared.found.Found.{Found}
 use Rattle.ssq_join.specs.Changing.{SaysBytes, SaysRows, find_row}
 use Rattle.ssq_join.specs.Meeting.{AreKept}
@@ -31,7 +32,7 @@ use Rattle.ssq_join.specs.Steps.{Given, IsKept}
 use Rattle.ssq_join.specs.Telling.{Meets, Pair, among, considered_of, touches}
 use Rattle.ssq_join.specs.Turning.{AreFresh, turns}
 use Rattle.ssq_join.proofs.After as After
-use Rattle.ssq_join.proofs.Dueing.{any_by, due_rows}
+use Rattle.ssq_join.proofs.Dueing.{due_rows}
 use Rattle.ssq_join.proofs.Ends.{over_at_is}
 use Rattle.ssq_join.proofs.Finding.{found_key, found_reordered, value_found}
 use Rattle.ssq_join.proofs.MetRows.{any_turned, front_apart, held_met, new_met, none_elsewhere, others_elsewhere}

@@ -7,7 +7,7 @@ ghost use Rattle.ssq_join.specs.Changing.{IsGone, SaysBytes, SaysFlags, SaysFres
 
 use ssq_field::Bytes;
 use ssq_step::short;
-use ssq_version::{Change, StateMap};
+use ssq_version::{Change, Draft, StateMap};
 use std::alloc::{AllocError, Global};
 use std::collections::{BTreeMap, BTreeSet};
 
@@ -73,18 +73,18 @@ fn keys_ascend(fresh: &BTreeMap<Bytes, Bytes>)
     let _count = fresh.len();
 }
 
-/// Says that each new row is kept. The change takes over what is kept of the rows.
+/// Says that each new row is kept. The draft takes over what is kept of the rows.
 fn put_fresh(
-    change: &mut Change,
+    draft: &mut Draft,
     fresh: BTreeMap<Bytes, Bytes>,
     met: &BTreeSet<Bytes>,
 ) -> Result<(), AllocError>
-    ensures { OnOk result (SaysFresh fresh.entries met.now.keys change.old change.new) }
+    ensures { OnOk result (SaysFresh fresh.entries met.now.keys draft.old draft.new) }
 {
     keys_ascend(&fresh);
     for (key, value) in fresh {
         let value = flagged_if(met.contains(&key), value)?;
-        change.put(kept(key)?, value)?;
+        draft.put(kept(key)?, value)?;
     }
     Ok(())
 }
@@ -107,31 +107,31 @@ fn flag_of(value: Option<&Bytes>) -> Result<Option<Bytes>, AllocError>
 }
 
 /// Says of a row that met a partner that it did, where it met its first.
-fn put_flag(change: &mut Change, state: &StateMap, key: &Bytes) -> Result<(), AllocError>
-    ensures { OnOk result (SaysIf key.now (flag_of (value_at state.now key.now)) change.old change.new) }
+fn put_flag(draft: &mut Draft, state: &StateMap, key: &Bytes) -> Result<(), AllocError>
+    ensures { OnOk result (SaysIf key.now (flag_of (value_at state.now key.now)) draft.old draft.new) }
 {
     if let Some(value) = flag_of(state.get(key))? {
-        change.put(copied(key)?, value)?;
+        draft.put(copied(key)?, value)?;
     }
     Ok(())
 }
 
 /// Says of the kept rows that met a partner first that they did.
-fn put_flags(change: &mut Change, state: &StateMap, met: &BTreeSet<Bytes>) -> Result<(), AllocError>
-    ensures { OnOk result (SaysFlags state.now met.now.keys change.old change.new) }
+fn put_flags(draft: &mut Draft, state: &StateMap, met: &BTreeSet<Bytes>) -> Result<(), AllocError>
+    ensures { OnOk result (SaysFlags state.now met.now.keys draft.old draft.new) }
 {
     for key in met.iter() {
-        put_flag(change, state, key)?;
+        put_flag(draft, state, key)?;
     }
     Ok(())
 }
 
 /// Says that these keys are kept no more.
-fn forget(change: &mut Change, keys: &[&Bytes]) -> Result<(), AllocError>
-    ensures { OnOk result (IsGone (seen keys.now) change.old change.new) }
+fn forget(draft: &mut Draft, keys: &[&Bytes]) -> Result<(), AllocError>
+    ensures { OnOk result (IsGone (seen keys.now) draft.old draft.new) }
 {
     for key in keys {
-        change.remove(copied(key)?)?;
+        draft.remove(copied(key)?)?;
     }
     Ok(())
 }
@@ -146,9 +146,9 @@ pub(crate) fn changed(
 ) -> Result<Change, AllocError>
     ensures { IfOk result (SaysBytes state.now fresh.entries met.now.keys (seen over.now)) }
 {
-    let mut change = Change::new(alloc);
-    put_fresh(&mut change, fresh, met)?;
-    put_flags(&mut change, state, met)?;
-    forget(&mut change, over)?;
-    Ok(change)
+    let mut draft = Draft::new(alloc);
+    put_fresh(&mut draft, fresh, met)?;
+    put_flags(&mut draft, state, met)?;
+    forget(&mut draft, over)?;
+    draft.into_change(alloc)
 }

@@ -38,7 +38,7 @@ is_equal Equal is = refl
 is_equal Greater is = absurd cc
 
 -- a key that stands at most once
-any_by : (key : Values) (keys : List Values) (b : Bool) → times key keys ≡ (if b then 1 else 0) → list_any (is_same key) keys ≡ b
+pub any_by : (key : Values) (keys : List Values) (b : Bool) → times key keys ≡ (if b then 1 else 0) → list_any (is_same key) keys ≡ b
 any_by key [] true is = absurd (omega (arith, is))
 any_by key [] false is = refl
 any_by key (other ∷ keys) b is = by (is_same key other) b (any_by key keys) is

@@ -35,3 +35,4 @@ pub mod Following
 pub mod Handing
 pub mod FitRows
 pub mod FewRows
+pub mod Untimed

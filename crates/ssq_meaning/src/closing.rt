@@ -1,8 +1,9 @@
 //! When keys are closed.
 
-ghost use Rattle.std.specs.Prelude.{◌≡◌, ◌+ℤ◌};
+ghost use Rattle.std.specs.Prelude.{◌≡◌, ◌+ℤ◌, List, None, false};
 ghost use Rattle.std.specs.List.{AllByRecursion};
 ghost use Rattle.ssq_time.specs.Time.{IsSpan, IsStampTime};
+ghost use Rattle.ssq_value.specs.declared.value.Value.{Value as Cell};
 ghost use Rattle.ssq_value.specs.Kind.{IfTime};
 ghost use Rattle.ssq_shape.specs.Evaluation.{cell_at, time_in};
 ghost use Rattle.ssq_shape.specs.Late.{event_of, is_column_of, is_event, is_window_of};
@@ -214,6 +215,13 @@ pub fn key_length(bound: &Bound) -> usize
         Shape::Dedup(columns) => columns.len(),
         Shape::Plain | Shape::Join(_) => 0,
     }
+}
+
+/// Whether keys of the query have times. Where they have none, each key stays open, and is kept for good.
+pub fn keys_have_times(bound: &Bound) -> bool
+    ensures { result ≡ false → (key : List Cell) → key_time bound.now key ≡ None }
+{
+    time_key(bound).is_some()
 }
 
 /// The time of a key of the query, in microseconds since 1970: where the watermark is at or above it, rows of the key are late and the key is

@@ -1,3 +1,4 @@
 pub mod Timing
 pub mod RowTimes
 pub mod Hashed
+pub mod ByBytes

@@ -15,7 +15,7 @@ use Rattle.std.proofs.lemmas.List.{length-append}
 use Rattle.std.proofs.lemmas.List.Elements.{filter-append}
 use Rattle.ssq_value.specs.Key.{keys_of}
 use Rattle.ssq_version.specs.State.{Ascends, Change, IsAfter, State, by_bytes, value_after, value_at}
-use Rattle.ssq_version.proofs.Values.{IsRest, by_case, is_itself, less_rest, none_behind, one_key, others_at, first_at, other_way}
+use Rattle.ssq_version.proofs.Values.{IsRest, by_case, is_itself, less_rest, none_behind, one_key, others_at, first_at, other_way, whole_rest}
 use Rattle.ssq_meaning.specs.Meaning.{Values}
 use Rattle.ssq_meaning.specs.Times.{is_past}
 use Rattle.ssq_step.specs.Indexing.{AreDueKeys, Indexes, IsReadableKey, Timed, Turns, TurnsIf, by_time, has, is_time, stands}
@@ -147,6 +147,14 @@ index_all size time_of all left entries none was key readable t =
     or_false true = refl
     or_false false = refl
 
+-- ---- a walk through entries
+
+pub walk_begins : {X P : Type 0} (all left : List (List ℕ × X)) → left ≡ all → Ascends all → P → Unit {0} × Unit {0} × IsRest all left × P
+walk_begins all left same ascend known = (tt, tt, whole_rest all left same ascend, known)
+
+pub walk_on : {X P : Type 0} (all left rest : List (List ℕ × X)) (key : List ℕ) (x : X) → left ≡ (key, x) ∷ rest → IsRest all left → P → Unit {0} × Unit {0} × IsRest all rest × P
+walk_on all left rest key x step of known = (tt, tt, (less_rest all left rest key x step of).0, known)
+
 -- ---- the index through a change
 
 -- what a key has on the way: what it had, where the change is yet to be followed at it
@@ -188,13 +196,13 @@ follow_on size time_of old new change left rest bytes said before after step of 
     turn_here : (w i : Bool) → is_at (by_bytes bytes) (keys_of key) ≡ true → TurnsIf size time_of bytes w i before after → has before (t, keys_of key) ≡ (w && is_time t (time_of key))
         → has after (t, keys_of key) ≡ (i && is_time t (time_of key))
     turn_here true true mine turns had = ap (λ l. has l (t, keys_of key)) turns ∙ had
-    turn_here false false mine turns had = ap (λ l. has l (t, keys_of key)) turns ∙ had
-    turn_here true false mine turns had =
-        turns key readable t ∙ (λ j. if mine j && is_time t (time_of key) then false else had j) ∙ by (is_time t (time_of key))
+    turn_here w false mine turns had =
+        turns key readable t ∙ (λ j. if mine j && is_time t (time_of key) then false else had j) ∙ by w (is_time t (time_of key))
       where
-        by : (c : Bool) → (if true && c then false else (true && c)) ≡ (false && c)
-        by true = refl
-        by false = refl
+        by : (w c : Bool) → (if true && c then false else (w && c)) ≡ (false && c)
+        by w true = refl
+        by true false = refl
+        by false false = refl
     turn_here false true mine turns had =
         turns key readable t ∙ (λ j. if mine j && is_time t (time_of key) then true else had j) ∙ by (is_time t (time_of key))
       where
@@ -204,8 +212,7 @@ follow_on size time_of old new change left rest bytes said before after step of 
 
     turn_there : (w i : Bool) → is_at (by_bytes bytes) (keys_of key) ≡ false → TurnsIf size time_of bytes w i before after → has after (t, keys_of key) ≡ has before (t, keys_of key)
     turn_there true true apart turns = ap (λ l. has l (t, keys_of key)) turns
-    turn_there false false apart turns = ap (λ l. has l (t, keys_of key)) turns
-    turn_there true false apart turns = turns key readable t ∙ ap (λ b. if b && is_time t (time_of key) then false else has before (t, keys_of key)) apart
+    turn_there w false apart turns = turns key readable t ∙ ap (λ b. if b && is_time t (time_of key) then false else has before (t, keys_of key)) apart
     turn_there false true apart turns = turns key readable t ∙ ap (λ b. if b && is_time t (time_of key) then true else has before (t, keys_of key)) apart
 
     here : is_at (by_bytes (keys_of key)) bytes ≡ true

@@ -39,11 +39,11 @@ abbrev pub Turns : ℕ → (Values → Option ℤ) → List ℕ → Bool → (be
 Turns count time bytes is_there before after = (key : Values) → IsReadableKey count key → (t : ℤ) →
     has after (t, keys_of key) ≡ (if is_at (by_bytes bytes) (keys_of key) && is_time t (time key) then is_there else has before (t, keys_of key))
 
--- the same, where it was there or not as is said
+-- the same, where it was there or not as is said: nothing is to be done where it was there and stays
 abbrev pub TurnsIf : ℕ → (Values → Option ℤ) → List ℕ → (was_there is_there : Bool) → (before after : List Timed) → Type 0
-TurnsIf count time bytes true false before after = Turns count time bytes false before after
+TurnsIf count time bytes true true before after = after ≡ before
 TurnsIf count time bytes false true before after = Turns count time bytes true before after
-TurnsIf count time bytes _ _ before after = after ≡ before
+TurnsIf count time bytes was_there false before after = Turns count time bytes false before after
 
 -- ---- the keys that a watermark closes
 

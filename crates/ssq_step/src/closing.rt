@@ -1,9 +1,9 @@
 //! The keys of a state by their times.
 
-ghost use Rattle.std.specs.Prelude.{◌≡◌, Some, true, false, if◌then◌else◌, ℕ, ℤ, List, Option, option_map, IfOk, IfSome, OnOk};
+ghost use Rattle.std.specs.Prelude.{◌≡◌, Some, true, false, if◌then◌else◌, ℕ, ℤ, List, Option, is_some, option_map, IfOk, IfSome, OnOk};
 ghost use Rattle.ssq_value.specs.declared.value.Value.{Value as Cell};
 ghost use Rattle.ssq_value.specs.Key.{keys_of};
-ghost use Rattle.ssq_version.specs.State.{IsAfter, State as Kept};
+ghost use Rattle.ssq_version.specs.State.{IsAfter, State as Kept, value_at};
 ghost use Rattle.ssq_meaning.specs.Keyed.{key_length, key_time};
 ghost use Rattle.ssq_meaning.specs.Times.{is_past};
 ghost use Rattle.ssq_meaning.specs.Windows.{HasWindows};
@@ -13,7 +13,7 @@ ghost use Rattle.ssq_step.specs.Rows.{StandsAt};
 use crate::row_index::{follow_rows, row_entries};
 use ssq_field::Bytes;
 use ssq_keys::read_key;
-use ssq_meaning::{key_length, key_time};
+use ssq_meaning::{key_length, key_time, keys_have_times};
 use ssq_shape::{Bound, Shape};
 use ssq_version::{Change, StateMap, changes_are_kept, states_are_kept};
 use std::alloc::{AllocError, Global};
@@ -142,7 +142,7 @@ fn remove_key(
     Ok(())
 }
 
-/// All keys of the state by their times.
+/// All keys of the state by their times: none where they have no times.
 fn entries_of(
     alloc: Global,
     bound: &Bound,
@@ -151,6 +151,9 @@ fn entries_of(
     requires { HasWindows bound.now }
     ensures { IfOk result (λ entries. Indexes (key_length bound.now) (key_time bound.now) state.now entries.keys) }
 {
+    if !keys_have_times(bound) {
+        return Ok(BTreeSet::new(alloc));
+    }
     states_are_kept(state);
     let mut entries = BTreeSet::new(alloc);
     for (key, _) in state.iter() {
@@ -159,22 +162,24 @@ fn entries_of(
     Ok(entries)
 }
 
-/// Follows what a change says of a key, by whether the state had it before.
-fn turn(
+/// Follows what a change says of a key of the state: whether it stays, or comes, or goes.
+fn follow_key(
     alloc: Global,
     bound: &Bound,
     entries: &mut BTreeSet<(i64, Bytes)>,
+    state: &StateMap,
     key: &Bytes,
-    was_there: bool,
     is_there: bool,
 ) -> Result<(), AllocError>
     requires { HasWindows bound.now }
-    ensures { OnOk result (TurnsIf (key_length bound.now) (key_time bound.now) key.now was_there is_there entries.old.keys entries.new.keys) }
+    ensures { OnOk result (TurnsIf (key_length bound.now) (key_time bound.now) key.now (is_some (value_at state.now key.now)) is_there entries.old.keys entries.new.keys) }
 {
-    match (was_there, is_there) {
-        (false, true) => put_key(alloc, bound, entries, key),
-        (true, false) => remove_key(alloc, bound, entries, key),
-        _ => Ok(()),
+    if !is_there {
+        return remove_key(alloc, bound, entries, key);
+    }
+    match state.get(key) {
+        Some(_) => Ok(()),
+        None => put_key(alloc, bound, entries, key),
     }
 }
 
@@ -189,10 +194,12 @@ fn follow_change(
     ensures { (new : Kept) → IsAfter change.now state.now new → Indexes (key_length bound.now) (key_time bound.now) state.now entries.old.keys →
         OnOk result (Indexes (key_length bound.now) (key_time bound.now) new entries.new.keys) }
 {
+    if !keys_have_times(bound) {
+        return Ok(());
+    }
     changes_are_kept(change);
     for (key, value) in change.iter() {
-        let was_there = state.get(key).is_some();
-        turn(alloc, bound, entries, key, was_there, value.is_some())?;
+        follow_key(alloc, bound, entries, state, key, value.is_some())?;
     }
     Ok(())
 }

@@ -1,4 +1,5 @@
 pub mod Collected
+pub mod Drafted
 pub mod Filling
 mod Kept
 pub mod Leading

@@ -31,7 +31,7 @@ are_none state it none = subst (AreNews state) (sym none) tt
 
 -- ---- by what keys have
 
-bytes_decide : (one other : List ℕ) → Decides (pointwise nat_eq one other) (one ≡ other)
+pub bytes_decide : (one other : List ℕ) → Decides (pointwise nat_eq one other) (one ≡ other)
 bytes_decide one other = slice_eq-Decides Decides-eqb one other (pointwise nat_eq one other) refl
 
 pub is_same-itself : (value : Option (List ℕ)) → is_same value value ≡ true

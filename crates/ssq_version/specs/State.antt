@@ -1,5 +1,5 @@
 -- What a partition keeps, and what a version changes of it. Both are lists of keys, each with what it has, in the order of the keys.
-use Rattle.std.specs.Prelude.{◌≡◌, ◌≢◌, ℕ, ◌<◌, ◌^◌, Bool, true, false, not, ◌&&◌, ◌==◌, nat_eq, List, [], ◌∷◌, map, length, filter, All, Option, Some, None, IfSome, IsSome, is_some, if◌then◌else◌}
+use Rattle.std.specs.Prelude.{◌≡◌, ◌≢◌, ℕ, ◌<◌, ◌^◌, Bool, true, false, not, ◌&&◌, ◌==◌, nat_eq, List, [], ◌∷◌, ◌++◌, map, length, filter, All, Option, Some, None, IfSome, IsSome, is_some, if◌then◌else◌}
 use Rattle.std.specs.Ordering.{nat_cmp, is_le}
 use Rattle.std.specs.declared.cmp.Ordering.{Ordering}
 use Rattle.std.specs.Option.{option_or}
@@ -85,6 +85,11 @@ IsToldAt key value old new = (other : List ℕ) → value_at new other ≡ (if i
 abbrev pub last_at : {X : Type 0} → List (List ℕ × X) → List ℕ → Option X
 last_at [] key = None
 last_at (entry ∷ entries) key = option_or (last_at entries key) (if is_at (by_bytes key) entry.0 then Some entry.1 else None)
+
+-- the entries, the last one first
+abbrev pub last_first : {X : Type 0} → List (List ℕ × X) → List (List ℕ × X)
+last_first [] = []
+last_first (entry ∷ entries) = last_first entries ++ entry ∷ []
 
 -- a change can hold the entry: its key and its value are short
 abbrev pub IsShortEntry : List ℕ × Option (List ℕ) → Type 0

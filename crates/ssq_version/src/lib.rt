@@ -4,6 +4,7 @@
 mod applied;
 mod change;
 mod delta;
+mod draft;
 mod entries;
 mod entry;
 mod file;
@@ -16,6 +17,7 @@ mod state;
 pub use applied::{apply, apply_owned};
 pub use change::{Change, changes_are_kept};
 pub use delta::{read_delta, write_delta};
+pub use draft::Draft;
 pub use entry::{Entry, entry_and_rest};
 pub use file::{StateFile, read_file};
 pub use form::Form;

@@ -1,58 +1,83 @@
-use Rattle.std.proofs.Common.{◌≡◌, sym, ◌∙◌, subst}
+use Rattle.std.proofs.Common.{◌≡◌, ◌++◌, [], ℤ, true, List, None, Option, sym, ◌∙◌, subst}
 use Rattle.std.specs.BTreeMap.{get}
 use Rattle.std.specs.List.Sorted.{IsPermutation}
 use Rattle.ssq_value.specs.Order.{values_cmp}
-use Rattle.ssq_meaning.specs.Group.{closing_time, members}
-use Rattle.ssq_meaning.specs.GroupLaws.{held}
+use Rattle.ssq_shape.specs.declared.bound.Bound.{Bound}
+use Rattle.ssq_shape.specs.declared.bound.Grouping.{Grouping}
+use Rattle.ssq_meaning.specs.FedRows.{FedRow}
+use Rattle.ssq_meaning.specs.Group.{closing_time, is_closed, members}
+use Rattle.ssq_meaning.specs.GroupLaws.{held, next_held}
 use Rattle.ssq_meaning.specs.Meaning.{Values}
 use Rattle.ssq_meaning.specs.Operator.{group}
 use Rattle.ssq_agg.specs.Closed.{AreClosed, is_ended}
-use Rattle.ssq_agg.specs.Groups.{touched}
+use Rattle.ssq_agg.specs.Groups.{Held, touched}
+use Rattle.ssq_agg.specs.Shown.{Pair, least_fault, shown_rows}
+use Rattle.ssq_agg.specs.Steps.{AreDue, GivenGroups}
 use Rattle.ssq_agg.proofs.Found.{held_keys, touched_keys}
 use Rattle.ssq_agg.proofs.Stepping.{state_is, rows_are, fault_are}
 use Rattle.ssq_agg.proofs.epoch.move_groups.Goals as goal
+use Rattle.ssq_agg.proofs.epoch.move_groups.Goals.{After-show_due}
+
+-- what is known once the due groups are shown, by the rows that were taken before
+module _ (c : After-show_due) (old : List FedRow) (before : Option ℤ) (given : GivenGroups c.args.bound.now c.args.grouping.now c.args.state.now c.args.closing.now old c.args.rows.now before c.args.now) where
+  abbrev query : Bound
+  query = c.args.bound.now
+
+  abbrev grouping : Grouping
+  grouping = c.args.grouping.now
+
+  abbrev own : Held
+  own = held query grouping old before
+
+  abbrev found : Held
+  found = get values_cmp c.in_ok-touched.touched
+
+  -- what was touched of a key
+  found_is : (key : Values) → found key ≡ touched grouping.aggregates (own key) (members c.args.rows.now key)
+  found_is = c.in_ok-touched.ensures.groups own given.holds given.keys given.steady
+
+  closed_are : AreClosed own (closing_time query grouping) c.args.now c.in_ok-closed.closed.items
+  closed_are = c.in_ok-closed.ensures.closed query own given.holds given.indexes
+
+  shown_closed : AreClosed own (closing_time query grouping) c.args.now c.as_slice.result.now
+  shown_closed = subst (AreClosed own (closing_time query grouping) c.args.now) (sym c.as_slice.ensures.value) closed_are
+
+  whole : (key : Values) → held query grouping (old ++ c.args.rows.now) c.args.now key ≡ next_held grouping.aggregates (is_closed query grouping c.args.now key) (own key) (members c.args.rows.now key)
+  whole = c.groups_are_kept_whole.ensures query grouping old c.args.rows.now before c.args.now given.follows
+
+  ended : (key : Values) → is_closed query grouping c.args.now key ≡ true → members c.args.rows.now key ≡ []
+  ended = c.groups_are_due_by_what_is_kept.ensures.ended query grouping old c.args.rows.now before c.args.now given.follows
+
+  -- the rows and the fault of the epoch
+  module _ (pairs : List Pair) (are : AreDue own (closing_time query grouping) c.args.now found query.mode pairs) where
+    rows_told : IsPermutation (shown_rows query grouping pairs) ((group query grouping).added old c.args.rows.now before c.args.now)
+    rows_told =
+        rows_are query grouping old c.args.rows.now before c.args.now found found_is whole ended (c.groups_are_due_by_what_is_kept.ensures.totals grouping old c.args.rows.now) pairs are
+        (c.groups_are_due_by_what_is_kept.ensures.due query grouping old c.args.rows.now before c.args.now given.follows) c.groups_come_in_any_order.ensures.rows
+
+    fault_told : least_fault query grouping None pairs ≡ (group query grouping).fault old c.args.rows.now before c.args.now
+    fault_told =
+        fault_are query grouping old c.args.rows.now before c.args.now found found_is whole ended (c.groups_are_due_by_what_is_kept.ensures.totals grouping old c.args.rows.now) pairs are
+        (c.groups_are_due_by_what_is_kept.ensures.due query grouping old c.args.rows.now before c.args.now given.follows) c.groups_come_in_any_order.ensures.least
 
 pub returns-in-Some-clause-cause : goal.returns-in-Some-clause-cause
 returns-in-Some-clause-cause c = λ old before given.
-    let query = c.args.bound.now in
-    let grouping = c.args.grouping.now in
-    let own = held query grouping old before in
-    let new = c.args.rows.now in
-    let now = c.args.now in
-    let found = get values_cmp c.in_ok-touched.touched in
-    let found_is : (key : Values) → found key ≡ touched grouping.aggregates (own key) (members new key) = c.in_ok-touched.ensures.groups own given.holds given.keys given.steady in
-    let shown = c.in_ok-shown.ensures.due own given.holds (subst (AreClosed own (closing_time query grouping) now) (sym c.as_slice.ensures.value) (c.in_ok-closed.ensures.closed query own given.holds given.indexes)) in
-    sym (fault_are query grouping old new before now found found_is
-    (c.groups_are_kept_whole.ensures query grouping old new before now given.follows)
-    (c.groups_are_due_by_what_is_kept.ensures.ended query grouping old new before now given.follows)
-    (c.groups_are_due_by_what_is_kept.ensures.totals grouping old new)
-    shown.pairs shown.are
-    (c.groups_are_due_by_what_is_kept.ensures.due query grouping old new before now given.follows)
-    c.groups_come_in_any_order.ensures.least)
-    ∙ sym shown.fault ∙ c.in-Some.is
+    let at = (goal.at.returns-in-Some-clause-cause c).After-show_due in
+    let shown = c.in_ok-shown.ensures.due (own at old before given) given.holds (shown_closed at old before given) in
+    sym (fault_told at old before given shown.pairs shown.are) ∙ sym shown.fault ∙ c.in-Some.is
 
-pub returns-in-None-clause-moved : goal.returns-in-None-clause-moved
-returns-in-None-clause-moved c = λ old before given.
+pub returns-clause-moved : goal.returns-clause-moved
+returns-clause-moved c = λ old before given.
+    let at = (goal.at.returns-clause-moved c).After-show_due in
     let query = c.args.bound.now in
     let grouping = c.args.grouping.now in
-    let own = held query grouping old before in
-    let new = c.args.rows.now in
-    let now = c.args.now in
-    let found = get values_cmp c.in_ok-touched.touched in
-    let found_is : (key : Values) → found key ≡ touched grouping.aggregates (own key) (members new key) = c.in_ok-touched.ensures.groups own given.holds given.keys given.steady in
-    let closed = c.in_ok-closed.ensures.closed query own given.holds given.indexes in
-    let whole = c.groups_are_kept_whole.ensures query grouping old new before now given.follows in
-    let ended = c.groups_are_due_by_what_is_kept.ensures.ended query grouping old new before now given.follows in
-    let totals = c.groups_are_due_by_what_is_kept.ensures.totals grouping old new in
-    let due = c.groups_are_due_by_what_is_kept.ensures.due query grouping old new before now given.follows in
-    let shown = c.in_ok-shown.ensures.due own given.holds (subst (AreClosed own (closing_time query grouping) now) (sym c.as_slice.ensures.value) closed) in
+    let kept = own at old before given in
+    let shown = c.in_ok-shown.ensures.due kept given.holds (shown_closed at old before given) in
+    let closed = closed_are at old before given in
     record {
-      held_after = λ key. state_is query grouping old new before now found found_is whole ended c.in_ok-closed.closed.items closed key;
-      touched_keys = λ key totals there. touched_keys grouping own new key totals given.keys (sym (found_is key) ∙ there);
-      closed_keys = held_keys grouping c.args.state.now own (λ key. is_ended now (closing_time query grouping key) (own key)) c.in_ok-closed.closed.items given.holds closed.each;
-      shown = subst (λ l. IsPermutation l ((group query grouping).added old new before now)) (sym shown.rows)
-          (rows_are query grouping old new before now found found_is whole ended totals shown.pairs shown.are due c.groups_come_in_any_order.ensures.rows);
-      faultless =
-          sym (fault_are query grouping old new before now found found_is whole ended totals shown.pairs shown.are due c.groups_come_in_any_order.ensures.least)
-          ∙ sym shown.fault ∙ c.in-None.is;
+      held_after = state_is query grouping old c.args.rows.now before c.args.now (found at old before given) (found_is at old before given) (whole at old before given) (ended at old before given) c.in_ok-closed.closed.items closed;
+      touched_keys = λ key totals there. touched_keys grouping kept c.args.rows.now key totals given.keys (sym (found_is at old before given key) ∙ there);
+      closed_keys = held_keys grouping c.args.state.now kept (λ key. is_ended c.args.now (closing_time query grouping key) (kept key)) c.in_ok-closed.closed.items given.holds closed.each;
+      shown = subst (λ l. IsPermutation l ((group query grouping).added old c.args.rows.now before c.args.now)) (sym shown.rows) (rows_told at old before given shown.pairs shown.are);
+      faultless = sym (fault_told at old before given shown.pairs shown.are) ∙ sym shown.fault ∙ c.in-None.is;
     }

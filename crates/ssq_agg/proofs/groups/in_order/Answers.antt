@@ -1,4 +1,4 @@
-use Rattle.std.proofs.Common.{◌≡◌, ◌++◌, ◌∙◌, [], rules, ap, subst}
+use Rattle.std.proofs.Common.{◌≡◌, ◌++◌, ◌∙◌, [], rules, ap, refl, subst}
 use Rattle.std.specs.BTreeMap.{IsFromIterResult}
 use Rattle.std.proofs.lemmas.Iterator.Adapters.{fact_from_collect, YieldsList-from_vec}
 use Rattle.std.proofs.lemmas.Result.{IfOk-weaker}
@@ -9,15 +9,15 @@ use Rattle.ssq_agg.proofs.groups.in_order.Goals as goal
 pub loop-key-init : goal.loop-key-init
 loop-key-init c =
     let same : c.into_iter-key-iterator.result ≡ c.args.groups.entries = search rules in
-    let none : c.new-entries.result.items ≡ [] = search rules in
+    let none : c.in_ok-entries.entries.items ≡ [] = c.in_ok-entries.ensures.items in
     (tt, tt, ap (λ l. l ++ c.into_iter-key-iterator.result) none ∙ same)
 
 pub loop-key-preserved : goal.loop-key-preserved
 loop-key-preserved c = (
   tt,
   tt,
-  one_on c.loop-key.entries.items c.loop-key.key-iterator c.args.groups.entries c.push.new.self.items c.next.new.self (c.in_ok-to_row.field-0, c.in-Some.totals) (c.in-Some.key, c.in-Some.totals)
-      c.in_ok-push.ensures.items (ap (λ k. (k, c.in-Some.totals)) c.in_ok-to_row.ensures) c.in-Some.ensures.steps c.loop-key.invariant.2,
+  one_on c.loop-key.entries.items c.loop-key.key-iterator c.args.groups.entries c.push.new.self.items c.next.new.self (c.in-Some.key, c.in-Some.totals) (c.in-Some.key, c.in-Some.totals)
+      c.in_ok-push.ensures.items refl c.in-Some.ensures.steps c.loop-key.invariant.2,
 )
 
 pub returns : goal.returns

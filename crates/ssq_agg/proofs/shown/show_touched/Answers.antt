@@ -1,6 +1,7 @@
-use Rattle.std.proofs.Common.{All, sym, subst, ◌∙◌, rules}
+use Rattle.std.proofs.Common.{All, [], ◌∷◌, sym, subst, ◌∙◌, rules}
 use Rattle.std.proofs.lemmas.List.Elements.{All-head, All-tail}
 use Rattle.ssq_agg.specs.Readable.{IsFitGroup}
+use Rattle.ssq_agg.specs.Shown.{Shows}
 use Rattle.ssq_agg.proofs.Finishing.{finishes_on}
 use Rattle.ssq_agg.proofs.Fitting.{entries_fit}
 use Rattle.ssq_agg.proofs.shown.show_touched.Goals as goal
@@ -14,12 +15,12 @@ loop-key-init c = (
 )
 
 pub show_group-requires-clause-fit : goal.show_group-requires-clause-fit
-show_group-requires-clause-fit c = All-head (λ entry. IsFitGroup entry.0 entry.1) (c.in-Some.key.now, c.in-Some.totals.now) c.next.new.self (subst (All (λ entry. IsFitGroup entry.0 entry.1)) c.in-Some.ensures.steps c.loop-key.invariant.2)
+show_group-requires-clause-fit c = subst (λ key. IsFitGroup key c.in-Some.totals.now) (sym c.values.ensures) (All-head (λ entry. IsFitGroup entry.0 entry.1) (c.in-Some.key.now, c.in-Some.totals.now) c.next.new.self (subst (All (λ entry. IsFitGroup entry.0 entry.1)) c.in-Some.ensures.steps c.loop-key.invariant.2))
 
 pub loop-key-preserved : goal.loop-key-preserved
 loop-key-preserved c = (
   finishes_on c.args.bound.now c.args.grouping.now c.loop-key.key-iterator c.next.new.self c.args.groups.now.entries (c.in-Some.key.now, c.in-Some.totals.now) c.args.shown c.loop-key.shown c.in_ok-shown.shown
-      c.in-Some.ensures.steps c.in_ok-shown.ensures.shown c.loop-key.invariant.0,
+      c.in-Some.ensures.steps (subst (λ key. Shows c.args.bound.now c.args.grouping.now ((key, c.in-Some.totals.now) ∷ []) c.loop-key.shown c.in_ok-shown.shown) c.values.ensures c.in_ok-shown.ensures.shown) c.loop-key.invariant.0,
   c.in_ok-shown.ensures.printable,
   All-tail (λ entry. IsFitGroup entry.0 entry.1) (c.in-Some.key.now, c.in-Some.totals.now) c.next.new.self (subst (All (λ entry. IsFitGroup entry.0 entry.1)) c.in-Some.ensures.steps c.loop-key.invariant.2),
 )

@@ -4,4 +4,4 @@ use Rattle.ssq_join.specs.Changing.{IsGone}
 use Rattle.ssq_join.proofs.changed.forget.Given as goal
 
 abbrev pub invariant-loop-key : goal.invariant-loop-key
-invariant-loop-key l = IsGone (seen (take l.key-index l.keys)) l.fn.change l.change
+invariant-loop-key l = IsGone (seen (take l.key-index l.keys)) l.fn.draft l.draft

@@ -7,4 +7,4 @@ invariant-loop-key l =
     (goal.iterator-loop-key).can_next l.key-iterator
     × (goal.iterator-loop-key).is_finite l.key-iterator
     × Ascends l.key-iterator
-    × FreshTo l.fn.fresh.entries l.met.keys l.fn.change l.key-iterator l.change
+    × FreshTo l.fn.fresh.entries l.met.keys l.fn.draft l.key-iterator l.draft

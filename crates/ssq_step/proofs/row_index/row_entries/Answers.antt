@@ -1,25 +1,19 @@
 use Rattle.std.proofs.Common.{◌∙◌}
-use Rattle.ssq_version.proofs.Values.{whole_rest, less_rest}
 use Rattle.ssq_step.proofs.RowTimes.{rows_all, rows_begin, rows_on}
+use Rattle.ssq_step.proofs.Timing.{walk_begins, walk_on}
 use Rattle.ssq_step.proofs.row_index.row_entries.Goals as goal
 
 pub loop-key-init : goal.loop-key-init
 loop-key-init c =
-    let same = c.into_iter-key-iterator.ensures.into_iter_gives ∙ c.iter-key-items.ensures in (
-      tt,
-      tt,
-      whole_rest c.args.state.now c.into_iter-key-iterator.result same c.states_are_kept.ensures.kept.ascend,
-      rows_begin c.args.bound.now c.args.joining.now c.args.state.now c.into_iter-key-iterator.result c.new-entries.result.keys same c.new-entries.ensures.empty,
-    )
+    let same = c.into_iter-key-iterator.ensures.into_iter_gives ∙ c.iter-key-items.ensures in
+    walk_begins c.args.state.now c.into_iter-key-iterator.result same c.states_are_kept.ensures.kept.ascend
+    (rows_begin c.args.bound.now c.args.joining.now c.args.state.now c.into_iter-key-iterator.result c.new-entries.result.keys same c.new-entries.ensures.empty)
 
 pub loop-key-preserved : goal.loop-key-preserved
-loop-key-preserved c = (
-  tt,
-  tt,
-  (less_rest c.args.state.now c.loop-key.key-iterator c.next.new.self c.in-Some.key.now c.in-Some.value.now c.in-Some.ensures.steps c.loop-key.invariant.2).0,
-  rows_on c.args.bound.now c.args.joining.now c.args.state.now c.loop-key.key-iterator c.next.new.self c.in-Some.key.now c.in-Some.value.now c.loop-key.entries.keys c.put_under.new.entries.keys
-      c.in_ok-time.time c.in-Some.ensures.steps c.loop-key.invariant.2 c.in_ok-time.ensures c.in_ok-put_under.ensures c.loop-key.invariant.3,
-)
+loop-key-preserved c =
+    walk_on c.args.state.now c.loop-key.key-iterator c.next.new.self c.in-Some.key.now c.in-Some.value.now c.in-Some.ensures.steps c.loop-key.invariant.2
+    (rows_on c.args.bound.now c.args.joining.now c.args.state.now c.loop-key.key-iterator c.next.new.self c.in-Some.key.now c.in-Some.value.now c.loop-key.entries.keys c.put_under.new.entries.keys
+    c.in_ok-time.time c.in-Some.ensures.steps c.loop-key.invariant.2 c.in_ok-time.ensures c.in_ok-put_under.ensures c.loop-key.invariant.3)
 
 pub returns : goal.returns
 returns c = rows_all c.args.bound.now c.args.joining.now c.args.state.now c.loop-key.key-iterator c.loop-key.entries.keys c.in-None.ensures.steps.0 c.loop-key.invariant.3

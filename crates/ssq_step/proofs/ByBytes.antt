@@ -1,0 +1,54 @@
+-- Keys by their bytes: which of them are due, and those that go, one after the other.
+use Rattle.std.proofs.Common.{◌≡◌, ◌<◌, ◌≤◌, ◌+◌, ◌++◌, ℕ, [], ◌∷◌, List, Some, None, Bool, true, false, refl, ap, sym, ◌∙◌, subst, take, length, get_or, filter, arith}
+use Rattle.std.specs.Prelude.{◌||◌, if◌then◌else◌}
+use Rattle.std.specs.Borrow.{Bor}
+use Rattle.std.specs.BTreeMap.{is_at}
+use Rattle.std.specs.List.{list_any}
+use Rattle.std.proofs.lemmas.List.{map-append, take_all, take_more}
+use Rattle.std.proofs.lemmas.List.Folds.{list_any-append}
+use Rattle.ssq_version.specs.State.{Change, IsToldAt, by_bytes, value_at}
+use Rattle.ssq_version.proofs.Values.{either_way}
+use Rattle.ssq_step.specs.Indexing.{seen, stands}
+
+-- whether a key that stands among others at most once does so
+pub any_by : (q : List ℕ) (keys : List (List ℕ)) (b : Bool) → stands q keys ≡ (if b then 1 else 0) → list_any (is_at (by_bytes q)) keys ≡ b
+any_by q [] true is = absurd (omega (arith, is))
+any_by q [] false is = refl
+any_by q (other ∷ keys) b is = by (is_at (by_bytes q) other) b (any_by q keys) is
+  where
+    by : (s c : Bool) → ((c : Bool) → stands q keys ≡ (if c then 1 else 0) → list_any (is_at (by_bytes q)) keys ≡ c)
+        → length (if s then other ∷ filter (is_at (by_bytes q)) keys else filter (is_at (by_bytes q)) keys) ≡ (if c then 1 else 0) → (s || list_any (is_at (by_bytes q)) keys) ≡ c
+    by true true rest is = refl
+    by true false rest is = absurd (omega (arith, is))
+    by false c rest is = rest c is
+
+-- ---- keys that go
+
+-- it is said of each of these keys that it goes, and of each other what was said
+abbrev pub AreGone : List (List ℕ) → (before after : Change) → Type 0
+AreGone keys before after = (q : List ℕ) → value_at after q ≡ (if list_any (is_at (by_bytes q)) keys then Some None else value_at before q)
+
+gone_more : (keys : List (List ℕ)) (key : List ℕ) (before old new : Change) → IsToldAt key None old new → AreGone keys before old → AreGone (keys ++ key ∷ []) before new
+gone_more keys key before old new told was q =
+    told q
+    ∙ (λ i. if either_way key q i then Some None else was q i)
+    ∙ by (is_at (by_bytes q) key) (list_any (is_at (by_bytes q)) keys)
+    ∙ ap (λ b. if b then Some None else value_at before q) (sym (list_any-append (is_at (by_bytes q)) keys (key ∷ [])))
+  where
+    by : (a b : Bool) → (if a then Some None else (if b then Some None else value_at before q)) ≡ (if (b || (a || false)) then Some None else value_at before q)
+    by true true = refl
+    by true false = refl
+    by false true = refl
+    by false false = refl
+
+-- one key more goes, by its bytes
+pub gone_on : (keys : List (Bor (List ℕ))) (at : ℕ) (key : Bor (List ℕ)) {bytes : List ℕ} → at < length keys → key ≡ get_or keys at key → bytes ≡ key.now → (before old new : Change) → IsToldAt bytes None old new
+    → AreGone (seen (take at keys)) before old → AreGone (seen (take (at + 1) keys)) before new
+gone_on keys at key inside is same before old new told was =
+    let took : take (at + 1) keys ≡ take at keys ++ key ∷ [] = take_more keys at key inside ∙ ap (λ k. take at keys ++ k ∷ []) (sym is) in
+    subst (λ (l : List (List ℕ)). AreGone l before new) (sym (ap seen took ∙ map-append (λ (key : Bor (List ℕ)). key.now) (take at keys) (key ∷ [])))
+    (gone_more (seen (take at keys)) key.now before old new (subst (λ (k : List ℕ). IsToldAt k None old new) same told) was)
+
+-- none is left
+pub gone_all : (keys : List (Bor (List ℕ))) (at : ℕ) (before after : Change) → length keys ≤ at → AreGone (seen (take at keys)) before after → AreGone (seen keys) before after
+gone_all keys at before after most was = subst (λ (l : List (Bor (List ℕ))). AreGone (seen l) before after) (take_all at keys most) was
