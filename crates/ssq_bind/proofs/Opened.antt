@@ -1,5 +1,5 @@
 -- What an expression is once its names are bound, by what stands in its boxes.
-use Rattle.std.proofs.Common.{◌≡◌, ◌∙◌, ap, sym, refl, ℕ, ◌+◌, ℤ, List, [], ◌++◌, length, Option, Some, append_assoc, arith, Result, Ok, Err}
+use Rattle.std.proofs.Common.{◌≡◌, ◌∙◌, ap, sym, refl, ℕ, ◌+◌, ℤ, List, ◌++◌, length, Option, Some, append_assoc, arith, Result, Ok, Err}
 use Rattle.std.specs.Prelude.{OnOk, IfOk}
 use Rattle.std.proofs.lemmas.List.{length-append}
 use Rattle.ssq_shape.specs.declared.bound.Aggregate.{Aggregate}
@@ -17,7 +17,7 @@ use Rattle.ssq_ast.proofs.Boxes.{aggregate_is, unary_is, is_null_is, binary_is, 
 use Rattle.ssq_check.specs.declared.scope.Within.{Within}
 use Rattle.ssq_check.specs.declared.scope.Within.TheVariants as within
 use Rattle.ssq_bind.specs.declared.context.Context.{Context}
-use Rattle.ssq_bind.specs.Value.{unary_value, null_value, binary_value, between_value, shift_of, shifted_or, function_of, numbered, given, count, value_of, aggregates_of}
+use Rattle.ssq_bind.specs.Value.{unary_value, null_value, binary_value, between_value, shift_of, shifted_or, function_of, numbered, given, count, value_of, aggregates_of, row_value}
 
 length_both : {A : Type 0} (xs ys : List A) → length (xs ++ ys) ≡ length xs + length ys
 length_both xs ys = length-append xs ys
@@ -29,10 +29,9 @@ pub on_ok : {A E : Type 0} (r : Result A E) (P : Type 0) → P → OnOk r P
 on_ok (Ok a) P p = p
 on_ok (Err e) P p = tt
 
--- what a call made of three operands, by what each of them is
-pub three_values : {E : Type 0} (r : Result Typed E) (x x' y y' z z' : Typed) → x ≡ x' → y ≡ y' → z ≡ z' → IfOk r (λ t. t ≡ between_value x y z) → IfOk r (λ t. t ≡ between_value x' y' z')
-three_values (Ok t) x x' y y' z z' p q s is = is ∙ (λ i. between_value (p i) (q i) (s i))
-three_values (Err e) x x' y y' z z' p q s is = tt
+-- what is made of three operands, by what each of them is
+pub three_values : (t x x' y y' z z' : Typed) → x ≡ x' → y ≡ y' → z ≡ z' → t ≡ between_value x y z → t ≡ between_value x' y' z'
+three_values t x x' y y' z z' p q s is = is ∙ (λ i. between_value (p i) (q i) (s i))
 
 -- what a call made of one operand, by what the operand is
 pub one_value : {E : Type 0} (r : Result Typed E) (f : Typed → Typed) (own x x' : Typed) → own ≡ f x' → x ≡ x' → IfOk r (λ t. t ≡ f x) → IfOk r (λ t. t ≡ own)
@@ -49,13 +48,13 @@ two_values (Err e) o own s s' x x' y y' opened by p q is = tt
 pub found_one : {A : Type 0} (old new xs own : List A) → new ≡ old ++ xs → own ≡ xs → new ≡ old ++ own
 found_one old new xs own is same = is ∙ (λ i. old ++ sym same i)
 
--- an aggregate of an argument on rows, where no aggregate stands in front of it
-pub found_given : {E : Type 0} (r : Result Typed E) (context : Context) (w : Within) (new old own none : List Aggregate) (f : Function) (called : Called) (t : Typed) (x : Expr) →
-    own ≡ given w (record { function = function_of f; argument = Some (value_of context within.Row 0 x) }) → called ≡ function_of f → none ≡ [] → t ≡ value_of context within.Row (length none) x →
+-- an aggregate of an argument on rows
+pub found_given : {E : Type 0} (r : Result Typed E) (context : Context) (w : Within) (new old own : List Aggregate) (f : Function) (called : Called) (t : Typed) (x : Expr) →
+    own ≡ given w (record { function = function_of f; argument = Some (row_value context x) }) → called ≡ function_of f → t ≡ row_value context x →
     OnOk r (new ≡ old ++ given w (record { function = called; argument = Some t })) → OnOk r (new ≡ old ++ own)
-found_given (Ok a) context w new old own none f called t x opened same no_other is found =
-    found ∙ (λ i. old ++ ((λ j. given w (record { function = same j; argument = Some ((is ∙ ap (λ xs. value_of context within.Row (length xs) x) no_other) j) })) ∙ sym opened) i)
-found_given (Err e) context w new old own none f called t x opened same no_other is found = tt
+found_given (Ok a) context w new old own f called t x opened same is found =
+    found ∙ (λ i. old ++ ((λ j. given w (record { function = same j; argument = Some (is j) })) ∙ sym opened) i)
+found_given (Err e) context w new old own f called t x opened same is found = tt
 
 -- what was found in the left operand, and then in the right one
 pub found_both : {A : Type 0} (old mid new xs ys own : List A) → mid ≡ old ++ xs → new ≡ mid ++ ys → own ≡ xs ++ ys → new ≡ old ++ own

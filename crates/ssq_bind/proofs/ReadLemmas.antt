@@ -9,7 +9,7 @@ use Rattle.ssq_ast.specs.declared.query.Deduplicate.{Deduplicate}
 use Rattle.ssq_ast.specs.declared.query.Join.{Join}
 use Rattle.ssq_ast.specs.declared.query.Query.{Query}
 use Rattle.ssq_ast.specs.declared.query.Stream.{Stream as Declared}
-use Rattle.ssq_check.specs.Names.{is_there, join_stream, left_stream, right_stream, row_scope, source_of}
+use Rattle.ssq_check.specs.Names.{is_there, left_stream, right_stream, row_scope, source_of}
 use Rattle.ssq_check.specs.Shown.{is_group}
 use Rattle.ssq_check.specs.Sound.{IsSound, IsSoundJoin}
 use Rattle.ssq_check.proofs.SoundLemmas.{sound_where_none}

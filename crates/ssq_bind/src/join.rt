@@ -207,9 +207,9 @@ fn put(alloc: Global, context: &Context, parts: &mut Parts, value: &Expr) -> Res
     let pair = key_pair(&context.scope, value);
     let bound = time_bound(&context.scope, value);
     let rest = rest_of(alloc, context, pair, bound, value)?;
+    push_some(&mut parts.rest, rest)?;
     push_some(&mut parts.keys, pair)?;
-    push_some(&mut parts.bounds, bound)?;
-    push_some(&mut parts.rest, rest)
+    push_some(&mut parts.bounds, bound)
 }
 
 /// Takes ON apart where it joins by AND.

@@ -180,9 +180,9 @@ fn known_source(alloc: Global, stream: &ssq_ast::Stream) -> Result<Source, Alloc
     ensures { IfOk result (λ source. source ≡ source_of stream.now) }
 {
     let name = stream.name.text.clone()?;
+    let watermark = watermark_name(&stream.watermark)?;
     let list = columns_of(alloc, stream.columns.as_slice())?;
     let columns = Columns::new(alloc, Sequence::from_vec(list))?;
-    let watermark = watermark_name(&stream.watermark)?;
     Ok(Source {
         name,
         columns,

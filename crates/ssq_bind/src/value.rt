@@ -23,11 +23,10 @@ pub(crate) fn or_zero(index: Option<usize>) -> usize
 
 /// A time, so many microseconds later.
 #[tactic(auto, using(ssq_shape::specs::Boxes::boxes))]
-fn shifted(alloc: Global, time: Typed, by: i64) -> Result<Typed, AllocError>
-    ensures { IfOk result (λ typed. typed ≡ shifted_value time by) }
+fn shifted(time: Boxed<Typed>, by: i64) -> Typed
+    ensures { result ≡ shifted_value time by }
 {
-    let boxed = Boxed::new(alloc, time)?;
-    Ok(Typed::Shifted(boxed, by))
+    Typed::Shifted(time, by)
 }
 
 /// The start of a window, which is kept of it, or its end.
@@ -35,7 +34,8 @@ fn window_value(alloc: Global, size: i64, at: usize, name: &str) -> Result<Typed
     ensures { IfOk result (λ typed. typed ≡ window_value size at name.now) }
 {
     if name == "window_end" {
-        shifted(alloc, Typed::Column(at), size)
+        let start = Boxed::new(alloc, Typed::Column(at))?;
+        Ok(shifted(start, size))
     } else {
         Ok(Typed::Column(at))
     }
@@ -64,21 +64,20 @@ pub(crate) fn column_value(
 }
 
 #[tactic(auto, using(ssq_shape::specs::Boxes::boxes))]
-fn unary_value(alloc: Global, op: UnaryOp, operand: Typed) -> Result<Typed, AllocError>
-    ensures { IfOk result (λ typed. typed ≡ unary_value op operand) }
+fn unary_value(op: UnaryOp, operand: Boxed<Typed>) -> Typed
+    ensures { result ≡ unary_value op operand }
 {
-    let boxed = Boxed::new(alloc, operand)?;
     match op {
-        UnaryOp::Not => Ok(Typed::Not(boxed)),
-        UnaryOp::Minus => Ok(Typed::Negated(boxed)),
+        UnaryOp::Not => Typed::Not(operand),
+        UnaryOp::Minus => Typed::Negated(operand),
     }
 }
 
 #[tactic(auto, using(ssq_shape::specs::Boxes::boxes))]
-fn null_value(alloc: Global, test: NullTest, operand: Typed) -> Result<Typed, AllocError>
+fn null_value(alloc: Global, test: NullTest, operand: Boxed<Typed>) -> Result<Typed, AllocError>
     ensures { IfOk result (λ typed. typed ≡ null_value test operand) }
 {
-    let is_null = Typed::IsNull(Boxed::new(alloc, operand)?);
+    let is_null = Typed::IsNull(operand);
     match test {
         NullTest::Null => Ok(is_null),
         NullTest::NotNull => Ok(Typed::Not(Boxed::new(alloc, is_null)?)),
@@ -122,37 +121,38 @@ fn operated(op: BinaryOp, a: Boxed<Typed>, b: Boxed<Typed>) -> Typed
     }
 }
 
-fn operator(alloc: Global, op: BinaryOp, left: Typed, right: Typed) -> Result<Typed, AllocError>
+fn operator(
+    alloc: Global,
+    op: BinaryOp,
+    left: Boxed<Typed>,
+    right: Typed,
+) -> Result<Typed, AllocError>
     ensures { IfOk result (λ typed. typed ≡ binary_value op left right) }
 {
-    let a = Boxed::new(alloc, left)?;
-    let b = Boxed::new(alloc, right)?;
-    Ok(operated(op, a, b))
+    let right = Boxed::new(alloc, right)?;
+    Ok(operated(op, left, right))
 }
 
 fn shifted_or(
     alloc: Global,
     shift: Option<i64>,
     op: BinaryOp,
-    left: Typed,
+    left: Boxed<Typed>,
     right: Typed,
 ) -> Result<Typed, AllocError>
     ensures { IfOk result (λ typed. typed ≡ shifted_or shift left (binary_value op left right)) }
 {
     match shift {
-        Some(by) => shifted(alloc, left, by),
+        Some(by) => Ok(shifted(left, by)),
         None => operator(alloc, op, left, right),
     }
 }
 
 #[tactic(auto, using(ssq_shape::specs::Boxes::boxes))]
-fn between_value(alloc: Global, value: Typed, low: Typed, high: Typed) -> Result<Typed, AllocError>
-    ensures { IfOk result (λ typed. typed ≡ between_value value low high) }
+fn between_value(value: Boxed<Typed>, low: Boxed<Typed>, high: Boxed<Typed>) -> Typed
+    ensures { result ≡ between_value value low high }
 {
-    let a = Boxed::new(alloc, value)?;
-    let b = Boxed::new(alloc, low)?;
-    let c = Boxed::new(alloc, high)?;
-    Ok(Typed::Between(a, b, c))
+    Typed::Between(value, low, high)
 }
 
 fn shift_by(op: BinaryOp, span: i64) -> Option<i64>
@@ -217,6 +217,7 @@ fn numbered(
 }
 
 /// The expression whose names are bound. Its aggregates go behind those that were found in front of it.
+#[cycle(bound)]
 #[tactic(auto, using(ssq_ast::proofs::Boxes::boxes), unfolding(crate::specs::Value::value_of, crate::specs::Value::aggregates_of))]
 pub(crate) fn value_of(
     alloc: Global,
@@ -248,8 +249,7 @@ pub(crate) fn value_of(
             argument,
             ..
         } => {
-            let mut none = Sequence::new(alloc);
-            let argument = value_of(alloc, context, Within::Row, &mut none, argument.get())?;
+            let argument = row_value(alloc, context, argument.get())?;
             numbered(
                 within,
                 found,
@@ -260,11 +260,11 @@ pub(crate) fn value_of(
             )
         }
         Expr::Unary { op, operand, .. } => {
-            let operand = value_of(alloc, context, within, found, operand.get())?;
-            unary_value(alloc, *op, operand)
+            let operand = operand_of(alloc, context, within, found, operand.get())?;
+            Ok(unary_value(*op, operand))
         }
         Expr::IsNull { operand, test, .. } => {
-            let operand = value_of(alloc, context, within, found, operand.get())?;
+            let operand = operand_of(alloc, context, within, found, operand.get())?;
             null_value(alloc, *test, operand)
         }
         Expr::Binary {
@@ -273,7 +273,7 @@ pub(crate) fn value_of(
             right,
             ..
         } => {
-            let a = value_of(alloc, context, within, found, left.get())?;
+            let a = operand_of(alloc, context, within, found, left.get())?;
             let b = value_of(alloc, context, within, found, right.get())?;
             shifted_or(alloc, shift_of(*op, right.get()), *op, a, b)
         }
@@ -283,15 +283,32 @@ pub(crate) fn value_of(
             high,
             ..
         } => {
-            let tested = value_of(alloc, context, within, found, operand.get())?;
-            let least = value_of(alloc, context, within, found, low.get())?;
-            let most = value_of(alloc, context, within, found, high.get())?;
-            between_value(alloc, tested, least, most)
+            let tested = operand_of(alloc, context, within, found, operand.get())?;
+            let least = operand_of(alloc, context, within, found, low.get())?;
+            let most = operand_of(alloc, context, within, found, high.get())?;
+            Ok(between_value(tested, least, most))
         }
     }
 }
 
+/// As [`value_of`], in a box.
+#[cycle(bound)]
+fn operand_of(
+    alloc: Global,
+    context: &Context,
+    within: Within,
+    found: &mut Sequence<Aggregate>,
+    value: &Expr,
+) -> Result<Boxed<Typed>, AllocError>
+    ensures value { IfOk result (λ typed. typed ≡ value_of context.now within (length found.old) value.now) }
+    ensures found { OnOk result (found.new ≡ found.old ++ aggregates_of context.now within value.now) }
+{
+    let typed = value_of(alloc, context, within, found, value)?;
+    Boxed::new(alloc, typed)
+}
+
 /// The expression on rows.
+#[cycle(bound)]
 pub(crate) fn row_value(alloc: Global, context: &Context, value: &Expr) -> Result<Typed, AllocError>
     ensures { IfOk result (λ typed. typed ≡ row_value context.now value.now) }
 {

@@ -3,7 +3,7 @@
 ghost use Rattle.std.specs.Prelude.{◌≡◌, ◌++◌, length, IfOk, IfErr, OnOk};
 ghost use Rattle.std.specs.Option.{option_copied, option_map};
 ghost use Rattle.ssq_check.specs.Fault.{AreNone};
-ghost use Rattle.ssq_check.specs.Names.{left_stream, right_stream, row_scope, scope_of};
+ghost use Rattle.ssq_check.specs.Names.{left_stream, right_stream, row_scope, group_keys, with_keys, scope_of};
 ghost use Rattle.ssq_check.specs.Whole.{QueryFaults, IsRefusedBy};
 ghost use Rattle.ssq_bind.specs.Bound.{context_of, shown_of, grouping_of, kept_by, shape_of, mode_of, filter_value, bound_of};
 ghost use Rattle.ssq_bind.specs.Limits.{HasLimits};
@@ -20,8 +20,8 @@ use crate::output::{having_of, outputs_of};
 use crate::shown::{is_group, shown_within};
 use crate::stream::{declared, list, source_of};
 use crate::value::row_value;
-use ssq_ast::{Condition, Deduplicate, Join, Query, text};
-use ssq_check::{Keys, Refusal, Scope, check};
+use ssq_ast::{Condition, Deduplicate, GroupBy, Join, Query, text};
+use ssq_check::{Keys, Refusal, Scope, Source, check};
 use ssq_shape::{Aggregate, Bound, Grouping, Mode, Output, Shape, Stream, Typed};
 use ssq_value::{Sequence, texts_are_utf8};
 use std::alloc::{AllocError, Global};
@@ -50,21 +50,46 @@ fn streams_of(alloc: Global, query: &Query) -> Result<Sequence<Stream>, AllocErr
     Ok(streams)
 }
 
-fn row_scope(alloc: Global, query: &Query) -> Result<Scope, AllocError>
-    ensures { IfOk result (λ scope. scope ≡ row_scope query.now) }
+/// The streams of FROM and JOIN, where they are declared.
+fn sources_of(alloc: Global, query: &Query) -> Result<(Option<Source>, Option<Source>), AllocError>
+    ensures left { IfOk result (λ sources. sources.0 ≡ (row_scope query.now).left) }
+    ensures right { IfOk result (λ sources. sources.1 ≡ (row_scope query.now).right) }
 {
     let left = source_of(alloc, left_stream(query))?;
     let right = source_of(alloc, right_stream(query))?;
+    Ok((left, right))
+}
+
+fn row_scope(alloc: Global, query: &Query) -> Result<Scope, AllocError>
+    ensures { IfOk result (λ scope. scope ≡ row_scope query.now) }
+{
     let keys = Keys::new(alloc, Sequence::new(alloc))?;
+    let (left, right) = sources_of(alloc, query)?;
     Ok(Scope { left, right, keys })
+}
+
+fn with_keys(names: Scope, keys: Keys) -> Scope
+    ensures { result ≡ with_keys names keys }
+{
+    Scope {
+        left: names.left,
+        right: names.right,
+        keys,
+    }
+}
+
+fn group_scope(alloc: Global, names: Scope, group: &Option<GroupBy>) -> Result<Scope, AllocError>
+    ensures { IfOk result (λ scope. scope ≡ with_keys names (group_keys names group.now)) }
+{
+    let keys = group_keys(alloc, &names, group)?;
+    Ok(with_keys(names, keys))
 }
 
 fn scope_of(alloc: Global, query: &Query) -> Result<Scope, AllocError>
     ensures { IfOk result (λ scope. scope ≡ scope_of query.now) }
 {
-    let mut scope = row_scope(alloc, query)?;
-    scope.keys = group_keys(alloc, &scope, &query.select.group)?;
-    Ok(scope)
+    let names = row_scope(alloc, query)?;
+    group_scope(alloc, names, &query.select.group)
 }
 
 #[tactic(auto, unfolding(crate::specs::Bound::context_of))]
@@ -234,7 +259,9 @@ pub fn build(alloc: Global, query: &Query) -> Result<Bound, AllocError>
     ensures bound { IfOk result (λ bound. bound ≡ bound_of query.now) }
 {
     let context = context_of(alloc, query)?;
-    bound_in(alloc, query, &context)
+    let bound = bound_in(alloc, query, &context);
+    drop(context);
+    bound
 }
 
 /// The bound query that a query is, where it breaks no rule of binding.

@@ -12,17 +12,16 @@ use Rattle.ssq_ast.specs.declared.query.Select.{Select}
 use Rattle.ssq_ast.specs.declared.query.Stream.{Stream}
 use Rattle.ssq_check.specs.declared.fault.BindFault.{BindFault}
 use Rattle.ssq_check.specs.declared.fault.Cause.TheVariants as cause
-use Rattle.ssq_check.specs.declared.scope.Key.{Key}
 use Rattle.ssq_check.specs.declared.scope.Scope.{Scope}
 use Rattle.ssq_check.specs.declared.scope.Within.{Within}
 use Rattle.ssq_check.specs.declared.scope.Within.TheVariants as within
 use Rattle.ssq_check.specs.Fault.{Faults, FirstOf, sooner}
 use Rattle.ssq_check.specs.Broken.{Either, Rule}
 use Rattle.ssq_check.specs.Lists.{Where, Each, Doubled, Past, Beyond, item_first, ItemsFaults}
-use Rattle.ssq_check.specs.Names.{is_there, row_scope, group_keys, scope_of}
+use Rattle.ssq_check.specs.Names.{is_there, row_scope, group_keys, with_keys, scope_of}
 use Rattle.ssq_check.specs.Shown.{item_aggregates, having_aggregates, shown_aggregates, group_place_by, group_place, within_by}
 use Rattle.ssq_check.specs.Clauses.{ConditionFaults, HavingFaults, StreamsFaults, JoinedFaults, OnFaults, JoinFaults, ident_name, ident_place, IdentFaults, DeduplicateFaults, GroupItemFaults, group_columns, group_windows, group_first, GroupFaults, OrderFaults}
-use Rattle.ssq_check.specs.Whole.{DistinctFaults, LimitFaults, StatefulFaults, WordFaults, RowFaults, ShownFaults, QueryFaults}
+use Rattle.ssq_check.specs.Whole.{DistinctFaults, LimitFaults, StatefulFaults, WordFaults, RowFaults, ShownFaults, OwnFaults, QueryFaults}
 use Rattle.ssq_check.proofs.First.{first_sooner}
 
 pub first_of_two : (P Q : Faults) (a b o : Option BindFault) → o ≡ sooner a b → FirstOf P a → FirstOf Q b → FirstOf (Either P Q) o
@@ -107,31 +106,26 @@ shown_first scope grouped places select is_group w xs ys zs os a b c d e p q r o
     (subst (λ (v : List OrderBy). FirstOf (Each (OrderFaults select.items) v) e) os_is
     (subst (λ (v : List Item). FirstOf (Each (OrderFaults v) os) e) zs_is he)))))
 
-scope_is : (query : Query) (names scope : Scope) (keys : List Key) → names ≡ row_scope query → keys ≡ group_keys names query.select.group
-    → scope ≡ record { left = names.left; right = names.right; keys = keys } → scope ≡ scope_of query
-scope_is query names scope keys names_is keys_is is =
-    let keys_are : keys ≡ group_keys (row_scope query) query.select.group = keys_is ∙ ap (λ (v : Scope). group_keys v query.select.group) names_is in
-    is ∙ ap (λ (v : Scope). record { left = v.left; right = v.right; keys = keys }) names_is
-    ∙ ap (λ (v : List Key). record { left = (row_scope query).left; right = (row_scope query).right; keys = v }) keys_are
-
-pub query_first : (query : Query) (streams : List Stream) (names scope : Scope) (keys : List Key) (items : List Item) (places ps qs : List ℕ) (grouped : Option ℕ) (a b c d p q o : Option BindFault)
-    → streams ≡ query.streams → names ≡ row_scope query → keys ≡ group_keys names query.select.group
-    → scope ≡ record { left = names.left; right = names.right; keys = keys }
+pub own_first : (scope : Scope) (query : Query) (items : List Item) (places ps qs : List ℕ) (grouped : Option ℕ) (a b o : Option BindFault)
     → items ≡ query.select.items → places ≡ flat_map item_aggregates items ++ having_aggregates query.select.having
-    → ps ≡ places → grouped ≡ group_place_by query.select.group ps → qs ≡ places
-    → p ≡ sooner c d → q ≡ sooner b p → o ≡ sooner a q
-    → FirstOf (StreamsFaults streams) a → FirstOf (RowFaults names query.select) b → FirstOf (ShownFaults scope grouped qs query.select) c → FirstOf (WordFaults query.select grouped) d
-    → FirstOf (QueryFaults query) o
-query_first query streams names scope keys items places ps qs grouped a b c d p q o streams_is names_is keys_is is items_is places_is ps_is grouped_is qs_is p_is q_is o_is ha hb hc hd =
+    → ps ≡ places → grouped ≡ group_place_by query.select.group ps → qs ≡ places → o ≡ sooner a b
+    → FirstOf (ShownFaults scope grouped qs query.select) a → FirstOf (WordFaults query.select grouped) b
+    → FirstOf (OwnFaults scope query) o
+own_first scope query items places ps qs grouped a b o items_is places_is ps_is grouped_is qs_is o_is ha hb =
     let places_are : places ≡ shown_aggregates query = places_is ∙ ap (λ (v : List Item). flat_map item_aggregates v ++ having_aggregates query.select.having) items_is in
     let grouped_at : grouped ≡ group_place query = grouped_is ∙ ap (group_place_by query.select.group) (ps_is ∙ places_are) in
-    let own : scope ≡ scope_of query = scope_is query names scope keys names_is keys_is is in
-    first_of_two (StreamsFaults query.streams) _ a q o o_is
+    first_of_two (ShownFaults scope (group_place query) (shown_aggregates query) query.select) (WordFaults query.select (group_place query)) a b o o_is
+    (subst (λ (v : Option ℕ). FirstOf (ShownFaults scope v (shown_aggregates query) query.select) a) grouped_at
+    (subst (λ (v : List ℕ). FirstOf (ShownFaults scope grouped v query.select) a) (qs_is ∙ places_are) ha))
+    (subst (λ (v : Option ℕ). FirstOf (WordFaults query.select v) b) grouped_at hb)
+
+pub query_first : (query : Query) (streams : List Stream) (names : Scope) (a b c p o : Option BindFault)
+    → streams ≡ query.streams → names ≡ row_scope query → p ≡ sooner b c → o ≡ sooner a p
+    → FirstOf (StreamsFaults streams) a → FirstOf (RowFaults names query.select) b → FirstOf (OwnFaults (with_keys names (group_keys names query.select.group)) query) c
+    → FirstOf (QueryFaults query) o
+query_first query streams names a b c p o streams_is names_is p_is o_is ha hb hc =
+    first_of_two (StreamsFaults query.streams) _ a p o o_is
     (subst (λ (v : List Stream). FirstOf (StreamsFaults v) a) streams_is ha)
-    (first_of_two (RowFaults (row_scope query) query.select) _ b p q q_is
+    (first_of_two (RowFaults (row_scope query) query.select) (OwnFaults (scope_of query) query) b c p p_is
     (subst (λ (v : Scope). FirstOf (RowFaults v query.select) b) names_is hb)
-    (first_of_two (ShownFaults (scope_of query) (group_place query) (shown_aggregates query) query.select) (WordFaults query.select (group_place query)) c d p p_is
-    (subst (λ (v : Scope). FirstOf (ShownFaults v (group_place query) (shown_aggregates query) query.select) c) own
-    (subst (λ (v : Option ℕ). FirstOf (ShownFaults scope v (shown_aggregates query) query.select) c) grouped_at
-    (subst (λ (v : List ℕ). FirstOf (ShownFaults scope grouped v query.select) c) (qs_is ∙ places_are) hc)))
-    (subst (λ (v : Option ℕ). FirstOf (WordFaults query.select v) d) grouped_at hd)))
+    (subst (λ (v : Scope). FirstOf (OwnFaults (with_keys v (group_keys v query.select.group)) query) c) names_is hc))

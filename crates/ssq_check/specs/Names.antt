@@ -1,5 +1,5 @@
 -- The streams of a query, and the names that its expressions may use.
-use Rattle.std.specs.Prelude.{ℕ, Bool, true, false, if◌then◌else◌, List, [], ◌∷◌, map, Option, Some, None, Result, Ok, Err}
+use Rattle.std.specs.Prelude.{ℕ, Bool, if◌then◌else◌, List, [], ◌∷◌, map, Option, Some, None, Result, Ok, Err}
 use Rattle.std.specs.List.{flat_map}
 use Rattle.std.specs.Option.{is_some, option_map}
 use Rattle.std.specs.Str.{bytes_eq}
@@ -75,10 +75,10 @@ abbrev pub group_keys : Scope → Option GroupBy → List Key
 group_keys scope None = []
 group_keys scope (Some by) = flat_map (keys_of scope) by.items
 
+-- the names of rows, with what GROUP BY lists
+abbrev pub with_keys : Scope → List Key → Scope
+with_keys names keys = record { left = names.left; right = names.right; keys = keys }
+
 -- the names of rows and of groups
 abbrev pub scope_of : Query → Scope
-scope_of query = record {
-  left = option_map source_of (left_stream query);
-  right = option_map source_of (right_stream query);
-  keys = group_keys (row_scope query) query.select.group;
-}
+scope_of query = with_keys (row_scope query) (group_keys (row_scope query) query.select.group)

@@ -60,14 +60,19 @@ ShownFaults scope grouped places select =
     (Either (Where (HavingFaults scope (within_by (is_there grouped)) (is_there grouped)) select.having)
     (Each (OrderFaults select.items) select.order))))
 
+-- what is broken in what a query shows, whose names are those of groups, and in its words
+abbrev pub OwnFaults : Scope → Query → Faults
+OwnFaults scope query =
+    Either (ShownFaults scope (group_place query) (shown_aggregates query) query.select)
+    (WordFaults query.select (group_place query))
+
 -- The rules that a query breaks. No order of reading is in it: of several faults the one with the least place is
 -- told, and at one place the one whose cause comes first.
 abbrev pub QueryFaults : Query → Faults
 QueryFaults query =
     Either (StreamsFaults query.streams)
     (Either (RowFaults (row_scope query) query.select)
-    (Either (ShownFaults (scope_of query) (group_place query) (shown_aggregates query) query.select)
-    (WordFaults query.select (group_place query))))
+    (OwnFaults (scope_of query) query))
 
 -- the first of the faults, or want of memory
 abbrev pub IsRefusedBy : Faults → Refusal → Type 0

@@ -1,12 +1,12 @@
 //! Lists of a query: names that are given twice, and what stands beyond a limit.
 
-ghost use Rattle.std.specs.Prelude.{◌≡◌, ℕ, None, [], map, slice_get, IfOk};
+ghost use Rattle.std.specs.Prelude.{◌≡◌, ℕ, None, [], map, not, slice_get, IfOk, OnOk};
 ghost use Rattle.std.specs.List.{flat_map};
 ghost use Rattle.ssq_check.specs.Fault.{sooner, FirstOf};
 ghost use Rattle.ssq_check.specs.Broken.{Rule};
 ghost use Rattle.ssq_check.specs.declared.fault.Cause.TheVariants as cause;
 ghost use Rattle.ssq_check.specs.Firsts.{fault_at, past_fault};
-ghost use Rattle.ssq_check.specs.Lists.{doubled_from, fault_if, Where, Doubled, Past, Beyond};
+ghost use Rattle.ssq_check.specs.Lists.{has_name, with_name, doubled_from, fault_if, Where, Doubled, Past, Beyond};
 ghost use Rattle.ssq_check.specs.Clauses.{ident_name, ident_place, group_columns};
 
 use crate::fault::{BindFault, Cause, sooner};
@@ -185,6 +185,16 @@ fn fault_if(is_new: bool, at: usize) -> Option<BindFault>
     }
 }
 
+/// Notes a name, and tells whether it is new.
+fn note(alloc: Global, seen: &mut IndexSet<Text>, name: &str) -> Result<bool, AllocError>
+    ensures is_new { IfOk result (λ is_new. is_new ≡ not (has_name name.now seen.old.keys)) }
+    ensures seen { OnOk result (seen.new.keys ≡ with_name seen.old.keys name.now) }
+{
+    let name = Text::from_str(alloc, name)?;
+    let (_, is_new) = seen.insert_full(name)?;
+    Ok(is_new)
+}
+
 #[tactic(auto, unfolding(crate::specs::Lists::doubled_from))]
 pub(crate) fn first_double_of<N: Named>(
     alloc: Global,
@@ -195,8 +205,7 @@ pub(crate) fn first_double_of<N: Named>(
     let mut seen: IndexSet<Text> = IndexSet::new(alloc);
     let mut first = None;
     for item in items {
-        let name = Text::from_str(alloc, item.name())?;
-        let (_, is_new) = seen.insert_full(name)?;
+        let is_new = note(alloc, &mut seen, item.name())?;
         first = sooner(first, fault_if(is_new, item.named_at()));
     }
     Ok(first)
@@ -224,8 +233,7 @@ fn first_double_column_of(alloc: Global, items: &[Group]) -> Result<Option<BindF
     for item in items {
         match item {
             Group::Column(ident) => {
-                let name = Text::from_str(alloc, ident.text.as_str())?;
-                let (_, is_new) = seen.insert_full(name)?;
+                let is_new = note(alloc, &mut seen, ident.text.as_str())?;
                 first = sooner(first, fault_if(is_new, ident.at));
             }
             Group::Window(_) => {}

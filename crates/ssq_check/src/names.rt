@@ -92,14 +92,23 @@ fn joined(
     }
 }
 
-/// The names of a query's rows.
-pub(crate) fn row_scope(alloc: Global, query: &Query) -> Result<Scope, AllocError>
-    ensures { IfOk result (λ scope. scope ≡ row_scope query.now) }
+/// The streams of FROM and JOIN, where they are declared.
+fn sources_of(alloc: Global, query: &Query) -> Result<(Option<Source>, Option<Source>), AllocError>
+    ensures left { IfOk result (λ sources. sources.0 ≡ (row_scope query.now).left) }
+    ensures right { IfOk result (λ sources. sources.1 ≡ (row_scope query.now).right) }
 {
     let streams = query.streams.as_slice();
     let left = declared(alloc, streams, query.select.from.text.as_str())?;
     let right = joined(alloc, streams, &query.select.join)?;
+    Ok((left, right))
+}
+
+/// The names of a query's rows.
+pub(crate) fn row_scope(alloc: Global, query: &Query) -> Result<Scope, AllocError>
+    ensures { IfOk result (λ scope. scope ≡ row_scope query.now) }
+{
     let keys = Keys::new(alloc, Sequence::new(alloc))?;
+    let (left, right) = sources_of(alloc, query)?;
     Ok(Scope { left, right, keys })
 }
 

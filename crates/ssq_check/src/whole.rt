@@ -5,9 +5,9 @@ ghost use Rattle.ssq_check.specs.Erased.{TypesStay};
 ghost use Rattle.ssq_check.specs.Worked.{AreWorked};
 ghost use Rattle.ssq_check.specs.Fault.{AreNone, FirstOf};
 ghost use Rattle.ssq_check.specs.Lists.{Where};
-ghost use Rattle.ssq_check.specs.Names.{is_there};
+ghost use Rattle.ssq_check.specs.Names.{is_there, group_keys, with_keys};
 ghost use Rattle.ssq_check.specs.Sound.{IsSound};
-ghost use Rattle.ssq_check.specs.Whole.{LimitFaults, DeduplicatedTwice, GroupedTwice, StatefulFaults, WordFaults, RowFaults, ShownFaults, QueryFaults, IsRefusedBy};
+ghost use Rattle.ssq_check.specs.Whole.{LimitFaults, DeduplicatedTwice, GroupedTwice, StatefulFaults, WordFaults, RowFaults, ShownFaults, OwnFaults, QueryFaults, IsRefusedBy};
 
 use crate::clause::{
     check_deduplicate, check_filter, check_group, check_having, check_join, check_order,
@@ -20,15 +20,15 @@ use crate::names::{group_keys, row_scope};
 use crate::scope::Scope;
 use crate::shown::{group_place, shown_aggregates, within};
 use crate::stream::check_streams;
-use ssq_ast::{Deduplicate, Limit, Query, Select};
+use ssq_ast::{Deduplicate, GroupBy, Limit, Query, Select};
 use std::alloc::{AllocError, Global};
 
-fn with_keys(scope: Scope, keys: Keys) -> Scope
-    ensures { result ≡ record { left = scope.left; right = scope.right; keys = keys } }
+fn with_keys(names: Scope, keys: Keys) -> Scope
+    ensures { result ≡ with_keys names keys }
 {
     Scope {
-        left: scope.left,
-        right: scope.right,
+        left: names.left,
+        right: names.right,
         keys,
     }
 }
@@ -137,22 +137,45 @@ fn check_shown(
     ))
 }
 
+/// The first fault of what a query shows, and of its words.
+#[tactic(auto, using(crate::proofs::First::first_sooner))]
+fn check_own(alloc: Global, scope: &Scope, query: &Query) -> Result<Option<BindFault>, AllocError>
+    ensures { IfOk result (FirstOf (OwnFaults scope.now query.now)) }
+{
+    let select = &query.select;
+    let places = shown_aggregates(alloc, select.items.as_slice(), &select.having)?;
+    let grouped = group_place(&select.group, places.as_slice());
+    let shown = check_shown(alloc, scope, grouped, places.as_slice(), select)?;
+    let words = check_words(select, grouped);
+    Ok(sooner(shown, words))
+}
+
+fn group_scope(alloc: Global, names: Scope, group: &Option<GroupBy>) -> Result<Scope, AllocError>
+    ensures { IfOk result (λ scope. scope ≡ with_keys names (group_keys names group.now)) }
+{
+    let keys = group_keys(alloc, &names, group)?;
+    Ok(with_keys(names, keys))
+}
+
+/// The same, from the names of rows.
+fn check_own_of(alloc: Global, names: Scope, query: &Query) -> Result<Option<BindFault>, AllocError>
+    ensures { IfOk result (FirstOf
+        (OwnFaults (with_keys names (group_keys names query.now.select.group)) query.now)) }
+{
+    let scope = group_scope(alloc, names, &query.select.group)?;
+    check_own(alloc, &scope, query)
+}
+
 /// The first fault of a query.
 #[tactic(auto, using(crate::proofs::First::first_sooner))]
 fn check_query(alloc: Global, query: &Query) -> Result<Option<BindFault>, AllocError>
     ensures { IfOk result (FirstOf (QueryFaults query.now)) }
 {
-    let select = &query.select;
     let streams = check_streams(alloc, query.streams.as_slice())?;
     let names = row_scope(alloc, query)?;
-    let rows = check_rows(alloc, &names, select)?;
-    let keys = group_keys(alloc, &names, &select.group)?;
-    let scope = with_keys(names, keys);
-    let places = shown_aggregates(alloc, select.items.as_slice(), &select.having)?;
-    let grouped = group_place(&select.group, places.as_slice());
-    let shown = check_shown(alloc, &scope, grouped, places.as_slice(), select)?;
-    let words = check_words(select, grouped);
-    Ok(sooner(streams, sooner(rows, sooner(shown, words))))
+    let rows = check_rows(alloc, &names, &query.select)?;
+    let own = check_own_of(alloc, names, query)?;
+    Ok(sooner(streams, sooner(rows, own)))
 }
 
 /// Whether a query breaks no rule of binding.

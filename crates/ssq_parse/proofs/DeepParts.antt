@@ -16,7 +16,7 @@ use Rattle.ssq_time.specs.Time.{span_of, time_of}
 use Rattle.ssq_parse.specs.declared.fault.ParseCause.TheVariants.{TooDeep}
 use Rattle.ssq_parse.specs.Deep.{open_after, DeepBy, too_many}
 use Rattle.ssq_parse.specs.Expressions.{Reader, column_by, column_at, timestamp_at, interval_at, inside_at, bracketed_at, argument_at, aggregate_at, rows_by, count_at, worded_at, primary_by, primary_at}
-use Rattle.ssq_parse.specs.Reading.{Ahead, ◌>>=◌, before, refused, place, first, needed, seen, is_keyword, is_symbol, keyword_at, symbol_at, ident_by, name_at, quoted_by, quoted_at, number_by, number_at, as_span, span_at, as_moment, moment_at}
+use Rattle.ssq_parse.specs.Reading.{Ahead, ◌>>=◌, before, refused, place, first, needed, seen, is_keyword, is_symbol, keyword_at, symbol_at, ident_by, name_at, quoted_by, quoted_at, number_by, number_at, as_micros, micros_at, span_by, span_at, moment_by, moment_at}
 use Rattle.ssq_parse.specs.Trees.{tree_of, leaf}
 use Rattle.ssq_parse.specs.Written.{says, Took, IfRead}
 use Rattle.ssq_parse.proofs.DeepLemmas.{open_append, Tells, tells_then, tells_behind, Quiet, quiet_tells, quiet_then, tells_quiet}
@@ -48,25 +48,22 @@ pub number_quiet : (tokens : Ahead) → Quiet (number_at tokens)
 unfolding number_at
 number_quiet tokens = needed_quiet (first (λ token. number_by token.said) tokens) tokens
 
-span_made : (at : ℕ) (text : List ℕ) (micros : Option ℤ) (rest : Ahead) → Quiet (before (as_span at text micros) rest)
-span_made at text None rest = tt
-span_made at text (Some micros) rest = tt
+micros_made : {A : Type 0} (make : List ℕ → ℤ → A) (at : ℕ) (text : List ℕ) (micros : Option ℤ) (rest : Ahead) → Quiet (before (as_micros make at text micros) rest)
+micros_made make at text None rest = tt
+micros_made make at text (Some micros) rest = tt
+
+micros_quiet : {A : Type 0} (make : List ℕ → ℤ → A) (of : List ℕ → Option ℤ) (tokens : Ahead) → Quiet (micros_at make of tokens)
+micros_quiet make of tokens =
+    quiet_then (quoted_at tokens) (λ found. before (as_micros make found.0.0 found.0.1 (of found.0.1)) found.1) (quoted_quiet tokens)
+    (λ found. micros_made make found.0.0 found.0.1 (of found.0.1) found.1)
 
 pub span_quiet : (tokens : Ahead) → Quiet (span_at tokens)
 unfolding span_at
-span_quiet tokens =
-    quiet_then (quoted_at tokens) (λ found. before (as_span found.0.0 found.0.1 (span_of found.0.1)) found.1) (quoted_quiet tokens)
-    (λ found. span_made found.0.0 found.0.1 (span_of found.0.1) found.1)
-
-moment_made : (at : ℕ) (text : List ℕ) (micros : Option ℤ) (rest : Ahead) → Quiet (before (as_moment at text micros) rest)
-moment_made at text None rest = tt
-moment_made at text (Some micros) rest = tt
+span_quiet tokens = micros_quiet span_by span_of tokens
 
 moment_quiet : (tokens : Ahead) → Quiet (moment_at tokens)
 unfolding moment_at
-moment_quiet tokens =
-    quiet_then (quoted_at tokens) (λ found. before (as_moment found.0.0 found.0.1 (time_of found.0.1)) found.1) (quoted_quiet tokens)
-    (λ found. moment_made found.0.0 found.0.1 (time_of found.0.1) found.1)
+moment_quiet tokens = micros_quiet moment_by time_of tokens
 
 column_made : (text : Ident) (d : Lexed) (us : Ahead) (b : Bool) → Quiet (column_by text (if b then Some d.start else None) (d ∷ us))
 column_made text d us true = quiet_then (name_at us) (λ column. Ok (leaf text.at (e.Column (record { stream = Some text; column = column.0 })), column.1)) (name_quiet us) (λ column. tt)

@@ -5,7 +5,7 @@ use Rattle.std.proofs.lemmas.Bool.Decides.{nat_tests}
 use Rattle.ssq_ast.specs.declared.expr.BinaryOp.{BinaryOp}
 use Rattle.ssq_ast.specs.declared.expr.NullTest.{NullTest}
 use Rattle.ssq_ast.specs.declared.expr.UnaryOp.{UnaryOp}
-use Rattle.ssq_ast.specs.Expression.{Written, words, unary_word, binary_word, unary_level, level, left_level, binary_level, IsRegular, height, tallest, infixed, of_number, of_text, of_truth, of_moment, of_span, of_column, of_rows, of_function, bracketed, prefixed, null_tested}
+use Rattle.ssq_ast.specs.Expression.{Written, unary_word, binary_word, unary_level, level, height, tallest, infixed, of_function, bracketed, prefixed}
 use Rattle.ssq_ast.specs.Expression as spec
 use Rattle.ssq_lex.specs.declared.keyword.Keyword.TheVariants as key
 use Rattle.ssq_lex.specs.Lexeme.{Lexed, keyword}
@@ -22,42 +22,18 @@ use Rattle.ssq_parse.proofs.Words.{took_none, took_one, took_more}
 
 -- no expression is higher than the highest in it
 low : (w : Written) → height w ≤ tallest w
-low (of_number k) = omega arith
-low (of_text text) = omega arith
-low (of_truth truth) = omega arith
-low (of_moment moment) = omega arith
-low (of_span span) = omega arith
-low (of_column column) = omega arith
-low of_rows = omega arith
 low (of_function f x) = some_high x
   where
     some_high : (w : Written) → 1 ≤ tallest w
-    some_high (of_number k) = omega arith
-    some_high (of_text text) = omega arith
-    some_high (of_truth truth) = omega arith
-    some_high (of_moment moment) = omega arith
-    some_high (of_span span) = omega arith
-    some_high (of_column column) = omega arith
-    some_high of_rows = omega arith
     some_high (of_function f x) = some_high x
     some_high (bracketed x) = some_high x
-    some_high (prefixed o x) = omega arith
-    some_high (null_tested x t) = omega arith
-    some_high (infixed o a b) = omega arith
-    some_high (spec.between a b c) = omega arith
+    some_high _ = omega arith
 low (bracketed x) = low x
-low (prefixed o x) = omega arith
-low (null_tested x t) = omega arith
-low (infixed o a b) = omega arith
-low (spec.between a b c) = omega arith
+low _ = omega arith
 
 -- a tree that is read is 64 high at most
 low_tree : {asked depth : ℕ} {tokens rest : Ahead} {found : Tree} → Spelled asked depth tokens found rest → found.height ≤ 64
-low_tree sp =
-    let high = sp.high in
-    let tall = sp.tall in
-    let below = low sp.written in
-    omega arith
+low_tree sp = omega (arith, sp.high, sp.tall, low sp.written)
 
 risen_tells : (many : ℕ) (tokens : Ahead) (at h : ℕ) (f : ℕ → Tree) (rest : Ahead) → (64 ≤ h → HighFrom tokens at)
     → Tells many tokens (before (risen at h and_then (λ height. Ok (f height))) rest)
@@ -73,15 +49,13 @@ pub unary_tells : (many : ℕ) (o : UnaryOp) (depth : ℕ) (ts rest : Ahead) (t 
     → Spelled (unary_level o) depth ts operand rest → t.said ≡ unary_word o → Tells many (t ∷ ts) (before (unary o t.start operand) rest)
 unfolding unary
 unary_tells many o depth ts rest t operand sp word =
-    let oh = sp.high in
-    let ol = low_tree sp in
     risen_tells many (t ∷ ts) t.start operand.height (λ height. tree_of _ t.start height) rest
     (λ high. operator_too_high (record {
       written = prefixed o sp.written;
       rest = rest;
       took = took_more (took_one t ts (unary_word o) word) sp.took;
       regular = (sp.tight, sp.regular);
-      high = omega arith;
+      high = omega (arith, high, sp.high, low_tree sp);
       here = refl;
     }))
 
@@ -90,21 +64,13 @@ pub binary_tells : (many : ℕ) (l : Level) (o : BinaryOp) (a b depth : ℕ) (st
     → Tells many start (before (binary o t.start left right) rest)
 unfolding binary
 binary_tells many l o a b depth start ts rest t left right sl sr is la rb =
-    let lh = sl.high in
-    let rh = sr.high in
-    let lt = low_tree sl in
-    let rt = low_tree sr in
-    let ltight = sl.tight in
-    let rtight = sr.tight in
-    let lv = is.level in
-    let ll = is.left in
     risen_tells many start t.start (max left.height right.height) (λ height. tree_of _ left.at height) rest
     (λ high. operator_too_high (record {
       written = infixed o sl.written sr.written;
       rest = rest;
       took = took_more sl.took (took_more (took_one t ts (binary_word o) is.spelt) sr.took);
-      regular = (omega arith, sl.regular, omega arith, sr.regular);
-      high = omega arith;
+      regular = (omega (arith, sl.tight, is.left, la), sl.regular, omega (arith, sr.tight, is.level, rb), sr.regular);
+      high = omega (arith, high, sl.high, sr.high, low_tree sl, low_tree sr);
       here = ap (λ places. Some (spec.first places)) sl.took.left;
     }))
 
@@ -112,8 +78,6 @@ pub test_tells : (many : ℕ) (what : NullTest) (depth : ℕ) (start ts us : Ahe
     → Spelled 4 depth start left (t ∷ ts) → t.said ≡ keyword key.Is → Tells many start (before (null_test what t.start left) us)
 unfolding null_test
 test_tells many what depth start ts us t left sl word =
-    let lh = sl.high in
-    let lt = low_tree sl in
     risen_tells many start t.start left.height (λ height. tree_of _ left.at height) us
     (λ high. test_too_high (record {
       operand = sl.written;
@@ -121,7 +85,7 @@ test_tells many what depth start ts us t left sl word =
       took = sl.took;
       regular = sl.regular;
       tight = sl.tight;
-      high = omega arith;
+      high = omega (arith, high, sl.high, low_tree sl);
       others = says ts;
       is = ap (λ w. w ∷ says ts) word;
       here = refl;
@@ -132,18 +96,12 @@ pub between_tells : (many depth : ℕ) (start ts : Ahead) (t : Lexed) (left : Tr
     → (high : Tree × Ahead) → Spelled 4 depth us high.0 high.1 → Tells many start (before (between t.start left low.0 high.0) high.1)
 unfolding between
 between_tells many depth start ts t left sl word middle sm us and last sh =
-    let lh = sl.high in
-    let mh = sm.high in
-    let hh = sh.high in
-    let lt = low_tree sl in
-    let mt = low_tree sm in
-    let ht = low_tree sh in
     risen_tells many start t.start (max (max left.height middle.0.height) last.0.height) (λ height. tree_of _ left.at height) last.1
     (λ high. operator_too_high (record {
       written = spec.between sl.written sm.written sh.written;
       rest = last.1;
       took = took_more (took_more sl.took (took_more (took_one t ts (keyword key.Between) word) sm.took)) (took_more and sh.took);
       regular = (sl.tight, sl.regular, sm.tight, sm.regular, sh.tight, sh.regular);
-      high = omega arith;
+      high = omega (arith, high, sl.high, sm.high, sh.high, low_tree sl, low_tree sm, low_tree sh);
       here = ap (λ places. Some (spec.first places)) sl.took.left;
     }))

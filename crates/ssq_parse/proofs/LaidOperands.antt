@@ -13,7 +13,7 @@ use Rattle.ssq_lex.specs.Lexeme.{quoted, symbol}
 use Rattle.ssq_time.specs.Time.{span_of, time_of}
 use Rattle.ssq_parse.specs.declared.fault.ParseCause.TheVariants.{TooDeep}
 use Rattle.ssq_parse.specs.Expressions.{Reader, inside_at, bracketed_at, argument_at, aggregate_at, rows_by, count_at, column_by, column_at, timestamp_at, interval_at, worded_at, primary_at, expr_at}
-use Rattle.ssq_parse.specs.Reading.{Ahead, ◌>>=◌, before, refused, seen, is_symbol, symbol_at, name_at, quoted_at, as_span, span_at, as_moment, moment_at}
+use Rattle.ssq_parse.specs.Reading.{Ahead, ◌>>=◌, before, refused, seen, is_symbol, symbol_at, name_at, quoted_at, as_micros, span_by, span_at, moment_by, moment_at}
 use Rattle.ssq_parse.specs.Trees.{tree_of, leaf}
 use Rattle.ssq_parse.proofs.Laid.{Where, next, skip, laid, two, skip_more, no_symbol}
 use Rattle.ssq_parse.proofs.LaidHeads.{no_star}
@@ -23,12 +23,12 @@ use Rattle.ssq_parse.proofs.Operands.{aggregate_is}
 pub span_reads : (span : Span) → span_of span.text ≡ Some span.micros → (more : Words) (p : Where)
     → span_at (laid (quoted span.text ∷ more) p) ≡ Ok (span, laid more (next p))
 unfolding span_at quoted_at
-span_reads span is more p = ap (λ micros. before (as_span (first p.starts) span.text micros) (laid more (next p))) is
+span_reads span is more p = ap (λ micros. before (as_micros span_by (first p.starts) span.text micros) (laid more (next p))) is
 
 pub moment_reads : (moment : Moment) → time_of moment.text ≡ Some moment.micros → (more : Words) (p : Where)
     → moment_at (laid (quoted moment.text ∷ more) p) ≡ Ok (moment, laid more (next p))
 unfolding moment_at quoted_at
-moment_reads moment is more p = ap (λ micros. before (as_moment (first p.starts) moment.text micros) (laid more (next p))) is
+moment_reads moment is more p = ap (λ micros. before (as_micros moment_by (first p.starts) moment.text micros) (laid more (next p))) is
 
 module _ (depth : ℕ) (inner : Reader) where
   pub number_reads : (n : ℤ) → Reads 7 (primary_at depth inner) (of_number n)

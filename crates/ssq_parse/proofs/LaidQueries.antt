@@ -1,5 +1,5 @@
 -- Each query that is written is read.
-use Rattle.std.proofs.Common.{◌≡◌, ℕ, ℤ, ◌≤◌, Bool, true, false, sym, ap, ◌∙◌, arith, List, [], ◌∷◌, ◌++◌, map, drop, length, refl, Option, Some, None, Ok, append_assoc, append-nil, length-append}
+use Rattle.std.proofs.Common.{◌≡◌, ℕ, zero, suc, ℤ, ◌≤◌, Bool, true, false, sym, ap, ◌∙◌, arith, List, [], ◌∷◌, ◌++◌, map, take, drop, length, refl, Option, Some, None, Ok, append_assoc, append-nil, length-append}
 use Rattle.std.specs.List.{flat_map}
 use Rattle.std.specs.Option.{option_map}
 use Rattle.ssq_ast.specs.declared.query.Query.{Query}
@@ -77,6 +77,39 @@ filter_later : (c : Option Written) (more : Words) → Later 3 more → Later 2 
 filter_later None more l = later more (omega arith) l
 filter_later (Some c) more l = (omega arith, omega arith)
 
+-- parts one behind another, and more words behind them
+abbrev onto : List Words → Words → Words
+onto [] more = more
+onto (part ∷ parts) more = part ++ onto parts more
+
+-- the place behind parts, and the starts from there on
+abbrev past : List Words → Where → Where
+past [] p = p
+past (part ∷ parts) p = past parts (skip part p)
+
+abbrev starts_past : List Words → List ℕ → List ℕ
+starts_past [] starts = starts
+starts_past (part ∷ parts) starts = starts_past parts (behind part starts)
+
+past_starts : (parts : List Words) (p : Where) (starts : List ℕ) → p.starts ≡ starts → (past parts p).starts ≡ starts_past parts starts
+past_starts [] p starts is = is
+past_starts (part ∷ parts) p starts is = past_starts parts (skip part p) (behind part starts) (sym (skip_starts part p) ∙ ap (behind part) is)
+
+abbrev further_on : ℕ → ℕ → ℕ
+further_on n zero = n
+further_on n (suc k) = further_on (suc n) k
+
+-- what begins with the n-th part or a later one, for each of these parts
+abbrev AreLater : ℕ → List Words → Type 0
+AreLater n [] = Unit {0}
+AreLater n (part ∷ parts) = ((more : Words) → Later (suc n) more → Later n (part ++ more)) × AreLater (suc n) parts
+
+later_from : (k n : ℕ) (parts : List Words) → AreLater n parts → (more : Words) → Later (further_on n (length parts)) more → k ≤ length parts → Later (further_on n k) (onto (drop k parts) more)
+later_from zero n [] all more last short = last
+later_from zero n (part ∷ parts) all more last short = all.0 (onto parts more) (later_from zero (suc n) parts all.1 more last (omega arith))
+later_from (suc k) n [] all more last short = absurd (omega (arith, short))
+later_from (suc k) n (part ∷ parts) all more last short = later_from k (suc n) parts all.1 more last (omega (arith, short))
+
 select_parts : (D I J F U G H O L more : Words) (w n o m e : Lexeme)
     → ((((D ++ I) ++ w ∷ n ∷ J) ++ F) ++ (((((U ++ G) ++ H) ++ O) ++ L) ++ o ∷ m ∷ e ∷ [])) ++ more
     ≡ D ++ (I ++ (w ∷ n ∷ (J ++ (F ++ (U ++ (G ++ (H ++ (O ++ (L ++ o ∷ m ∷ e ∷ more)))))))))
@@ -86,29 +119,17 @@ module _ (s : WrittenSelect) (regular : IsRegularSelect s) (more : Words) where
   abbrev Shown : Words
   Shown = keyword key.Output ∷ keyword (mode_key s.mode) ∷ symbol mark.Semicolon ∷ more
 
-  abbrev Limited : Words
-  Limited = limit_words s.limit ++ Shown
+  -- what stands behind JOIN
+  abbrev Others : List Words
+  Others =
+      condition_words key.Where s.filter ∷ deduplicate_words s.deduplicate ∷ group_words s.group ∷ condition_words key.Having s.having ∷ order_words s.order ∷ limit_words s.limit ∷ []
 
-  abbrev Ordered : Words
-  Ordered = order_words s.order ++ Limited
-
-  abbrev Havings : Words
-  Havings = condition_words key.Having s.having ++ Ordered
-
-  abbrev Grouped : Words
-  Grouped = group_words s.group ++ Havings
-
-  abbrev Deduplicated : Words
-  Deduplicated = deduplicate_words s.deduplicate ++ Grouped
-
-  abbrev Filtered : Words
-  Filtered = condition_words key.Where s.filter ++ Deduplicated
-
-  abbrev Joined : Words
-  Joined = join_words s.join ++ Filtered
+  -- from the k-th of them on
+  abbrev From : ℕ → Words
+  From k = onto (drop k Others) Shown
 
   abbrev Sourced : Words
-  Sourced = keyword key.From ∷ name s.from ∷ Joined
+  Sourced = keyword key.From ∷ name s.from ∷ (join_words s.join ++ From 0)
 
   abbrev Listed : Words
   Listed = distinct_words s.distinct ++ (Items s.items ++ Sourced)
@@ -116,23 +137,9 @@ module _ (s : WrittenSelect) (regular : IsRegularSelect s) (more : Words) where
   shown : Later 8 Shown
   shown = (omega arith, omega arith)
 
-  limited : Later 7 Limited
-  limited = limit_later s.limit Shown shown
-
-  ordered : Later 6 Ordered
-  ordered = order_later s.order Limited limited
-
-  havings : Later 5 Havings
-  havings = having_later s.having Ordered ordered
-
-  grouped : Later 4 Grouped
-  grouped = group_later s.group Havings havings
-
-  deduplicated : Later 3 Deduplicated
-  deduplicated = deduplicate_later s.deduplicate Grouped grouped
-
-  filtered : Later 2 Filtered
-  filtered = filter_later s.filter Deduplicated deduplicated
+  stands : (k : ℕ) → k ≤ 6 → Later (further_on 2 k) (From k)
+  stands k short =
+      later_from k 2 Others (filter_later s.filter, (deduplicate_later s.deduplicate, (group_later s.group, (having_later s.having, (order_later s.order, (limit_later s.limit, tt)))))) Shown shown short
 
   -- by the places of its parts
   abbrev select_by : List ℕ → List ℕ → List ℕ → List ℕ → List ℕ → List ℕ → List ℕ → List ℕ → List ℕ → List ℕ → Select
@@ -163,50 +170,34 @@ module _ (s : WrittenSelect) (regular : IsRegularSelect s) (more : Words) where
     abbrev p3 : Where
     p3 = next (next p2)
 
-    abbrev p4 : Where
-    p4 = skip (join_words s.join) p3
-
-    abbrev p5 : Where
-    p5 = skip (condition_words key.Where s.filter) p4
-
-    abbrev p6 : Where
-    p6 = skip (deduplicate_words s.deduplicate) p5
-
-    abbrev p7 : Where
-    p7 = skip (group_words s.group) p6
-
-    abbrev p8 : Where
-    p8 = skip (condition_words key.Having s.having) p7
-
-    abbrev p9 : Where
-    p9 = skip (order_words s.order) p8
-
-    abbrev p10 : Where
-    p10 = skip (limit_words s.limit) p9
+    -- the place of the k-th part behind JOIN
+    abbrev at_part : ℕ → Where
+    at_part k = past (take k Others) (skip (join_words s.join) p3)
 
     abbrev Found : Select
-    Found = select_by p0.starts p1.starts (next p2).starts p3.starts p4.starts p5.starts p6.starts p7.starts (drop 2 p8.starts) p9.starts
+    Found =
+        select_by p0.starts p1.starts (next p2).starts p3.starts (at_part 0).starts (at_part 1).starts (at_part 2).starts (at_part 3).starts (drop 2 (at_part 4).starts) (at_part 5).starts
 
     items_read : list_at item_at (laid (Items s.items ++ Sourced) p1) ≡ Ok (each_tree item_words item_tree 1 s.items p1.starts, laid Sourced p2)
     items_read =
         list_reads item_at item_words item_tree IsRegularItem ItemEnd item_reads (λ more. record { stops = omega arith; no_as = refl })
         s.items regular.some_items regular.items Sourced (omega arith) (record { stops = omega arith; no_as = refl }) refl p1
 
-    select_found : select_at (laid (keyword key.Select ∷ Listed) p) ≡ Ok (Found, laid more (next (next (next p10))))
+    select_found : select_at (laid (keyword key.Select ∷ Listed) p) ≡ Ok (Found, laid more (next (next (next (at_part 6)))))
     unfolding select_at keyword_at name_at symbol_at
     select_found =
         rw (
           distinct_read s.distinct s.items regular.some_items Sourced p0,
           distinct_behind s.distinct (Items s.items ++ Sourced) p0,
           items_read,
-          join_reads s.join regular.on Filtered filtered p3,
-          condition_reads key.Where 3 refl (omega arith) s.filter regular.filter Deduplicated deduplicated p4,
-          deduplicate_reads s.deduplicate regular.deduplicate Grouped grouped p5,
-          group_reads s.group regular.some_group regular.group Havings havings p6,
-          condition_reads key.Having 6 refl (omega arith) s.having regular.having Ordered ordered p7,
-          order_reads s.order Limited limited p8,
-          limit_reads s.limit Shown shown p9,
-          mode_reads s.mode (symbol mark.Semicolon ∷ more) p10,
+          join_reads s.join regular.on (From 0) (stands 0 (omega arith)) p3,
+          condition_reads key.Where 3 refl (omega arith) s.filter regular.filter (From 1) (stands 1 (omega arith)) (at_part 0),
+          deduplicate_reads s.deduplicate regular.deduplicate (From 2) (stands 2 (omega arith)) (at_part 1),
+          group_reads s.group regular.some_group regular.group (From 3) (stands 3 (omega arith)) (at_part 2),
+          condition_reads key.Having 6 refl (omega arith) s.having regular.having (From 4) (stands 4 (omega arith)) (at_part 3),
+          order_reads s.order (From 5) (stands 5 (omega arith)) (at_part 4),
+          limit_reads s.limit Shown shown (at_part 5),
+          mode_reads s.mode (symbol mark.Semicolon ∷ more) (at_part 6),
         )
 
     -- the places, as the grammar counts them
@@ -216,14 +207,10 @@ module _ (s : WrittenSelect) (regular : IsRegularSelect s) (more : Words) where
         let e2 : p2.starts ≡ behind (Items s.items) (behind (distinct_words s.distinct) p0.starts) = sym (skip_starts (Items s.items) p1) ∙ ap (behind (Items s.items)) e1 in
         let e3 : p3.starts ≡ drop 2 (behind (Items s.items) (behind (distinct_words s.distinct) p0.starts)) = two p2.starts ∙ ap (drop 2) e2 in
         let e4 = sym (skip_starts (join_words s.join) p3) ∙ ap (behind (join_words s.join)) e3 in
-        let e5 = sym (skip_starts (condition_words key.Where s.filter) p4) ∙ ap (behind (condition_words key.Where s.filter)) e4 in
-        let e6 = sym (skip_starts (deduplicate_words s.deduplicate) p5) ∙ ap (behind (deduplicate_words s.deduplicate)) e5 in
-        let e7 = sym (skip_starts (group_words s.group) p6) ∙ ap (behind (group_words s.group)) e6 in
-        let e8 = sym (skip_starts (condition_words key.Having s.having) p7) ∙ ap (behind (condition_words key.Having s.having)) e7 in
-        let e9 = sym (skip_starts (order_words s.order) p8) ∙ ap (behind (order_words s.order)) e8 in
-        λ i. select_by p0.starts (e1 i) (drop 1 (e2 i)) (e3 i) (e4 i) (e5 i) (e6 i) (e7 i) (drop 2 (e8 i)) (e9 i)
+        let e : (k : ℕ) → (at_part k).starts ≡ starts_past (take k Others) (behind (join_words s.join) (drop 2 (behind (Items s.items) (behind (distinct_words s.distinct) p0.starts)))) = λ k. past_starts (take k Others) (skip (join_words s.join) p3) _ e4 in
+        λ i. select_by p0.starts (e1 i) (drop 1 (e2 i)) (e3 i) (e 0 i) (e 1 i) (e 2 i) (e 3 i) (drop 2 (e 4 i)) (e 5 i)
 
-    behind_select : next (next (next p10)) ≡ skip (select_words s) p
+    behind_select : next (next (next (at_part 6))) ≡ skip (select_words s) p
     behind_select = sym (simp skip_more)
 
     pub select_reads : select_at (laid (select_words s ++ more) p) ≡ Ok (select_tree s p.starts, laid more (skip (select_words s) p))

@@ -25,6 +25,7 @@ pub mod Operands
 pub mod Parts
 pub mod Prefixes
 pub mod Primary
+pub mod Readers
 pub mod Selects
 pub mod Sound
 pub mod Texts

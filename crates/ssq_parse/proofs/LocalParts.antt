@@ -11,7 +11,7 @@ use Rattle.ssq_lex.specs.Lexeme.{Lexeme, keyword, name, number, quoted, symbol, 
 use Rattle.ssq_time.specs.Time.{span_of, time_of}
 use Rattle.ssq_parse.specs.declared.fault.ParseCause.TheVariants as cause
 use Rattle.ssq_parse.specs.Faults.{next_word, IsBadBehind, IsBadNext}
-use Rattle.ssq_parse.specs.Reading.{Ahead, Made, Read, Refusal, ◌>>=◌, before, place, expected, first, needed, seen, is_keyword, is_symbol, keyword_at, symbol_at, ident_by, name_at, quoted_by, quoted_at, number_by, number_at, as_span, span_at, as_moment, moment_at}
+use Rattle.ssq_parse.specs.Reading.{Ahead, Made, Read, Refusal, ◌>>=◌, before, place, expected, first, needed, seen, is_keyword, is_symbol, keyword_at, symbol_at, ident_by, name_at, quoted_by, quoted_at, number_by, number_at, as_micros, micros_at, span_by, span_at, moment_by, moment_at}
 use Rattle.ssq_parse.specs.Written.{says}
 use Rattle.ssq_parse.proofs.Local.{Local, Told, told_as, behind_told, first_same, then_told, nothing_then, pure, skip, maybe, needs}
 use Rattle.ssq_parse.proofs.Words.{is_keyword-found, is_symbol-found}
@@ -111,37 +111,37 @@ module _ {A : Type 0} (made : ℕ → List ℕ → Made A) (t : Lexed) where
       by_found (Some found) is = by_made found is (made found.0 found.1) refl
 
 -- behind this token a text has to be a span, or a time
+abbrev pub Asks : (List ℕ → Option ℤ) → Lexed → Type 0
+Asks of t = (text : List ℕ) → of text ≡ None → IsBadBehind (Some t.said) text
+
 abbrev pub AsksSpan : Lexed → Type 0
-AsksSpan t = (text : List ℕ) → span_of text ≡ None → IsBadBehind (Some t.said) text
+AsksSpan t = Asks span_of t
 
 abbrev pub AsksTime : Lexed → Type 0
-AsksTime t = (text : List ℕ) → time_of text ≡ None → IsBadBehind (Some t.said) text
+AsksTime t = Asks time_of t
 
-span_bad : (t : Lexed) → AsksSpan t → (at : ℕ) (text : List ℕ) (found : Option ℤ) → span_of text ≡ found → (refusal : Refusal) → as_span at text found ≡ Err refusal
-    → (refusal ≡ record { at = Some at; cause = cause.BadText }) × IsBadBehind (Some t.said) text
-span_bad t asks at text None none refusal is = (cc, asks text none)
-span_bad t asks at text (Some micros) some refusal is = absurd cc
+micros_bad : {A : Type 0} (make : List ℕ → ℤ → A) (of : List ℕ → Option ℤ) (t : Lexed) → Asks of t → (at : ℕ) (text : List ℕ) (found : Option ℤ) → of text ≡ found
+    → (refusal : Refusal) → as_micros make at text found ≡ Err refusal → (refusal ≡ record { at = Some at; cause = cause.BadText }) × IsBadBehind (Some t.said) text
+micros_bad make of t asks at text None none refusal is = (cc, asks text none)
+micros_bad make of t asks at text (Some micros) some refusal is = absurd cc
 
-time_bad : (t : Lexed) → AsksTime t → (at : ℕ) (text : List ℕ) (found : Option ℤ) → time_of text ≡ found → (refusal : Refusal) → as_moment at text found ≡ Err refusal
-    → (refusal ≡ record { at = Some at; cause = cause.BadText }) × IsBadBehind (Some t.said) text
-time_bad t asks at text None none refusal is = (cc, asks text none)
-time_bad t asks at text (Some micros) some refusal is = absurd cc
+micros_then : {A B : Type 0} (make : List ℕ → ℤ → A) (of : List ℕ → Option ℤ) (f : A → Ahead → Read B) → ((x : A) → Local (f x)) → (t : Lexed) → Asks of t → (ts : Ahead)
+    → Told (λ us. micros_at make of (drop 1 us) >>= (λ found. f found.0 found.1)) (t ∷ ts) (micros_at make of ts >>= (λ found. f found.0 found.1))
+unfolding quoted_at
+micros_then make of f more t asks ts =
+    then_told (λ us. micros_at make of (drop 1 us)) (λ found. f found.0 found.1) (t ∷ ts) (micros_at make of ts)
+    (text_told (λ at text. as_micros make at text (of text)) t (record { bad = λ at text. micros_bad make of t asks at text (of text) refl }) ts)
+    (λ found s. (more found.0).told found.1)
 
 pub span_then : {B : Type 0} (f : Span → Ahead → Read B) → ((x : Span) → Local (f x)) → (t : Lexed) → AsksSpan t → (ts : Ahead)
     → Told (λ us. span_at (drop 1 us) >>= (λ found. f found.0 found.1)) (t ∷ ts) (span_at ts >>= (λ found. f found.0 found.1))
-unfolding span_at quoted_at
-span_then f more t asks ts =
-    then_told (λ us. span_at (drop 1 us)) (λ found. f found.0 found.1) (t ∷ ts) (span_at ts)
-    (text_told (λ at text. as_span at text (span_of text)) t (record { bad = λ at text. span_bad t asks at text (span_of text) refl }) ts)
-    (λ found s. (more found.0).told found.1)
+unfolding span_at
+span_then f more t asks ts = micros_then span_by span_of f more t asks ts
 
 pub moment_then : {B : Type 0} (f : Moment → Ahead → Read B) → ((x : Moment) → Local (f x)) → (t : Lexed) → AsksTime t → (ts : Ahead)
     → Told (λ us. moment_at (drop 1 us) >>= (λ found. f found.0 found.1)) (t ∷ ts) (moment_at ts >>= (λ found. f found.0 found.1))
-unfolding moment_at quoted_at
-moment_then f more t asks ts =
-    then_told (λ us. moment_at (drop 1 us)) (λ found. f found.0 found.1) (t ∷ ts) (moment_at ts)
-    (text_told (λ at text. as_moment at text (time_of text)) t (record { bad = λ at text. time_bad t asks at text (time_of text) refl }) ts)
-    (λ found s. (more found.0).told found.1)
+unfolding moment_at
+moment_then f more t asks ts = micros_then moment_by time_of f more t asks ts
 
 -- ---- the words that ask for a span or a time
 

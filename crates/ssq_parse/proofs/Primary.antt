@@ -7,7 +7,7 @@ use Rattle.ssq_ast.specs.declared.expr.Function.TheVariants as function
 use Rattle.ssq_ast.specs.declared.expr.Ident.{Ident}
 use Rattle.ssq_ast.specs.declared.expr.Moment.{Moment}
 use Rattle.ssq_ast.specs.declared.expr.Span.{Span}
-use Rattle.ssq_ast.specs.Expression.{Words, Written, words, function_key, level, IsRegular, opens, height, tallest, only, tree, of_number, of_text, of_truth, of_moment, of_span, of_column, of_rows, of_function}
+use Rattle.ssq_ast.specs.Expression.{Written, words, level, IsRegular, opens, height, tallest, tree, of_number, of_text, of_truth, of_moment, of_span, of_column, of_rows}
 use Rattle.ssq_ast.specs.Expression as spec
 use Rattle.ssq_lex.specs.declared.keyword.Keyword.{Keyword}
 use Rattle.ssq_lex.specs.declared.keyword.Keyword.TheVariants as key
@@ -17,7 +17,7 @@ use Rattle.ssq_time.specs.Time.{span_of, time_of}
 use Rattle.ssq_parse.specs.declared.fault.ParseCause.TheVariants.{TooDeep}
 use Rattle.ssq_parse.specs.declared.tree.Tree.{Tree}
 use Rattle.ssq_parse.specs.Expressions.{Reader, rows_by, count_at, column_by, column_at, timestamp_at, interval_at, worded_at, primary_by, primary_at}
-use Rattle.ssq_parse.specs.Reading.{Ahead, ◌>>=◌, before, refused, needed, seen, is_symbol, symbol_at, name_at, ident_by, quoted_at, quoted_by, as_span, span_at, as_moment, moment_at}
+use Rattle.ssq_parse.specs.Reading.{Ahead, Made, ◌>>=◌, before, refused, needed, seen, is_symbol, symbol_at, name_at, ident_by, quoted_at, quoted_by, as_micros, span_by, span_at, moment_by, moment_at}
 use Rattle.ssq_parse.specs.Trees.{leaf}
 use Rattle.ssq_parse.proofs.Operands.{above_zero, symbol_sound, argument_sound, aggregate_sound, bracketed_sound}
 use Rattle.ssq_parse.specs.Written.{starts, Took, IfRead, Spelled, Sound}
@@ -29,10 +29,7 @@ Named tokens found = Took tokens found.1 (name found.0.text ∷ []) × (spec.fir
 
 named_by : (t : Lexed) (ts : Ahead) (word : Lexeme) → t.said ≡ word → IfRead (needed (ident_by t.start word) (t ∷ ts)) (Named (t ∷ ts))
 named_by t ts (name text) is = (took_one t ts (name text) is, refl)
-named_by t ts (keyword k) is = tt
-named_by t ts (number n) is = tt
-named_by t ts (quoted text) is = tt
-named_by t ts (symbol s) is = tt
+named_by t ts _ is = tt
 
 pub name_sound : (tokens : Ahead) → IfRead (name_at tokens) (Named tokens)
 unfolding name_at
@@ -42,46 +39,41 @@ name_sound (t ∷ ts) = named_by t ts t.said refl
 quoted_sound_by : (t : Lexed) (ts : Ahead) (word : Lexeme) → t.said ≡ word
     → IfRead (needed (quoted_by t.start word) (t ∷ ts)) (λ found. Took (t ∷ ts) found.1 (quoted found.0.1 ∷ []))
 quoted_sound_by t ts (quoted text) is = took_one t ts (quoted text) is
-quoted_sound_by t ts (keyword k) is = tt
-quoted_sound_by t ts (number n) is = tt
-quoted_sound_by t ts (name text) is = tt
-quoted_sound_by t ts (symbol s) is = tt
+quoted_sound_by t ts _ is = tt
 
 pub quoted_sound : (tokens : Ahead) → IfRead (quoted_at tokens) (λ found. Took tokens found.1 (quoted found.0.1 ∷ []))
 unfolding quoted_at
 quoted_sound [] = tt
 quoted_sound (t ∷ ts) = quoted_sound_by t ts t.said refl
 
+-- a text that is read as a value
+module _ {V : Type 0} (P : Ahead → V × Ahead → Type 0) (of : List ℕ → Option ℤ) (made : ℕ → List ℕ → Option ℤ → Made V)
+    (none : (tokens rest : Ahead) (at : ℕ) (text : List ℕ) → IfRead (before (made at text None) rest) (P tokens))
+    (some : (tokens rest : Ahead) (at : ℕ) (text : List ℕ) (micros : ℤ) → Took tokens rest (quoted text ∷ []) → of text ≡ Some micros → IfRead (before (made at text (Some micros)) rest) (P tokens)) where
+  text_by : (tokens rest : Ahead) (at : ℕ) (text : List ℕ) → Took tokens rest (quoted text ∷ []) → (micros : Option ℤ) → of text ≡ micros → IfRead (before (made at text micros) rest) (P tokens)
+  text_by tokens rest at text took None is = none tokens rest at text
+  text_by tokens rest at text took (Some micros) is = some tokens rest at text micros took is
+
+  text_sound : (tokens : Ahead) → IfRead (quoted_at tokens >>= (λ found. before (made found.0.0 found.0.1 (of found.0.1)) found.1)) (P tokens)
+  text_sound tokens =
+      then_holds (λ found. Took tokens found.1 (quoted found.0.1 ∷ [])) (P tokens) (quoted_at tokens)
+      (λ found. before (made found.0.0 found.0.1 (of found.0.1)) found.1) (quoted_sound tokens)
+      (λ found took. text_by tokens found.1 found.0.0 found.0.1 took (of found.0.1) refl)
+
 -- a span with its value
 abbrev pub Spanned : Ahead → Span × Ahead → Type 0
 Spanned tokens found = Took tokens found.1 (quoted found.0.text ∷ []) × (span_of found.0.text ≡ Some found.0.micros)
 
-span_by : (tokens rest : Ahead) (at : ℕ) (text : List ℕ) → Took tokens rest (quoted text ∷ []) → (micros : Option ℤ) → span_of text ≡ micros
-    → IfRead (before (as_span at text micros) rest) (Spanned tokens)
-span_by tokens rest at text took None is = tt
-span_by tokens rest at text took (Some micros) is = (took, is)
-
 pub span_sound : (tokens : Ahead) → IfRead (span_at tokens) (Spanned tokens)
 unfolding span_at
-span_sound tokens =
-    then_holds (λ found. Took tokens found.1 (quoted found.0.1 ∷ [])) (Spanned tokens) (quoted_at tokens)
-    (λ found. before (as_span found.0.0 found.0.1 (span_of found.0.1)) found.1) (quoted_sound tokens)
-    (λ found took. span_by tokens found.1 found.0.0 found.0.1 took (span_of found.0.1) refl)
+span_sound = text_sound Spanned span_of (as_micros span_by) (λ tokens rest at text. tt) (λ tokens rest at text micros took is. (took, is))
 
 abbrev pub Timed : Ahead → Moment × Ahead → Type 0
 Timed tokens found = Took tokens found.1 (quoted found.0.text ∷ []) × (time_of found.0.text ≡ Some found.0.micros)
 
-moment_by : (tokens rest : Ahead) (at : ℕ) (text : List ℕ) → Took tokens rest (quoted text ∷ []) → (micros : Option ℤ) → time_of text ≡ micros
-    → IfRead (before (as_moment at text micros) rest) (Timed tokens)
-moment_by tokens rest at text took None is = tt
-moment_by tokens rest at text took (Some micros) is = (took, is)
-
 pub moment_sound : (tokens : Ahead) → IfRead (moment_at tokens) (Timed tokens)
 unfolding moment_at
-moment_sound tokens =
-    then_holds (λ found. Took tokens found.1 (quoted found.0.1 ∷ [])) (Timed tokens) (quoted_at tokens)
-    (λ found. before (as_moment found.0.0 found.0.1 (time_of found.0.1)) found.1) (quoted_sound tokens)
-    (λ found took. moment_by tokens found.1 found.0.0 found.0.1 took (time_of found.0.1) refl)
+moment_sound = text_sound Timed time_of (as_micros moment_by) (λ tokens rest at text. tt) (λ tokens rest at text micros took is. (took, is))
 
 -- an operand that is no operator
 leafed : (w : Written) (depth : ℕ) (t : Lexed) (ts rest : Ahead) (value : Expr) → Took (t ∷ ts) rest (words w) → IsRegular w → level w ≡ 7 → height w ≡ 1

@@ -27,8 +27,8 @@ use Rattle.ssq_parse.specs.declared.fault.ParseFault.TheVariants.{Refused, NoMem
 use Rattle.ssq_parse.specs.declared.tree.Tree.{Tree}
 use Rattle.ssq_parse.specs.Expressions.{whole_at}
 use Rattle.ssq_parse.specs.File.{Fault, Answers, judged, judged_cut, query_of, IsQuery}
-use Rattle.ssq_parse.specs.Queries.{list_at, stream_at, streams_then, streams_from, streams_at, bare_at, item_by, item_at, join_at, condition_at, deduplicate_at, group_at, order_at, limit_at, mode_at, select_at, alone, whole_query, query_at}
-use Rattle.ssq_parse.specs.Reading.{Ahead, Made, Read, ◌>>=◌, place, behind, seen, sees, is_keyword, is_name, symbol_at, name_at}
+use Rattle.ssq_parse.specs.Queries.{list_at, stream_at, streams_then, streams_from, streams_at, bare_at, item_by, item_at, join_at, condition_at, deduplicate_at, group_at, order_at, limit_at, mode_at, select_at, alone, whole_query, query_from, query_at}
+use Rattle.ssq_parse.specs.Reading.{Ahead, Made, Read, place, behind, seen, sees, is_keyword, is_name, symbol_at, name_at}
 use Rattle.ssq_parse.specs.Written.{starts, Took, IfRead, Spelled}
 use Rattle.ssq_parse.proofs.Clauses.{clause, thus, sure, hence, keyword_sure, name_sure, onward, name_there, Listed, listed, Conditioned, condition_sound, Ordered, order_sound, Limited, limit_sound, Moded, mode_sound, Streamed, stream_sound, Joined, join_sound, Deduplicated, deduplicate_sound, GroupedBy, group_sound}
 use Rattle.ssq_parse.proofs.Parts.{Part, keep}
@@ -193,22 +193,7 @@ select_sound tokens =
     hence (sure (order_at having.1) (Ordered having.1) (order_sound having.1)) (Selected tokens) _ (λ ordered o.
     hence (sure (limit_at ordered.1) (Limited ordered.1) (limit_sound ordered.1)) (Selected tokens) _ (λ limited l.
     hence (sure (mode_at limited.1) (Moded limited.1) (mode_sound limited.1)) (Selected tokens) _ (λ shown m.
-    thus (Selected tokens) (symbol_at mark.Semicolon shown.1) (λ ended. Ok (
-      record {
-        distinct = seen (is_keyword key.Distinct) word.1;
-        items = items.0;
-        from = stream.0;
-        join = joined.0;
-        filter = filter.0;
-        deduplicate = deduplicated.0;
-        group = grouped.0;
-        having = having.0;
-        order = ordered.0;
-        limit = limited.0;
-        mode = shown.0;
-      },
-      ended.1,
-    )) (symbol_sound mark.Semicolon shown.1) (λ ended e.
+    thus (Selected tokens) (symbol_at mark.Semicolon shown.1) _ (symbol_sound mark.Semicolon shown.1) (λ ended e.
     let made : WrittenSelect = record {
       distinct = d.stands;
       items = its.written;
@@ -300,7 +285,7 @@ whole_holds tokens (Err refusal) none = tt
 
 pub query_sound : (tokens : Ahead) → IfRead (query_at tokens) (IsWritten tokens)
 unfolding query_at
-query_sound tokens = whole_holds tokens (streams_at tokens >>= (λ streams. select_at streams.1 >>= (λ select. Ok (record { streams = streams.0; select = select.0 }, select.1))))
+query_sound tokens = whole_holds tokens (query_from tokens)
     (hence (sure (streams_at tokens) (Streams [] tokens) (streams_sound tokens)) (Whole tokens) _ (λ streams s.
     thus (Whole tokens) (select_at streams.1) (λ select. Ok (record { streams = streams.0; select = select.0 }, select.1)) (select_sound streams.1) (λ select p.
     let streams_are : each_tree declared_words declared_tree 0 s.written (starts tokens) ≡ streams.0 = s.meant ∙ sym s.whole in

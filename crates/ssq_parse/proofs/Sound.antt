@@ -5,7 +5,7 @@ use Rattle.std.proofs.lemmas.Bool.Decides.{nat_tests}
 use Rattle.ssq_ast.specs.declared.expr.BinaryOp.{BinaryOp}
 use Rattle.ssq_ast.specs.declared.expr.Expr.{Expr}
 use Rattle.ssq_ast.specs.declared.expr.Expr.TheVariants as e
-use Rattle.ssq_ast.specs.Expression.{Words, Written, infixed, prefixed, words, binary_word, binary_level, left_level, right_level, level, IsRegular, opens, height, tallest, only, tree}
+use Rattle.ssq_ast.specs.Expression.{infixed, binary_word, binary_level, left_level, right_level, level, height, only, tree}
 use Rattle.ssq_ast.specs.Expression as spec
 use Rattle.ssq_lex.specs.Lexeme.{Lexed}
 use Rattle.ssq_parse.specs.declared.operators.Level.{Level}
@@ -44,22 +44,14 @@ joined : (o : BinaryOp) (n a b depth : ℕ) (start ts rest : Ahead) (t : Lexed) 
     → left_level o ≤ a → right_level o ≤ b → n ≤ binary_level o → max left.height right.height < 64
     → Spelled n depth start (tree_of (e.Binary left.at left.value o t.start right.at right.value) left.at (max left.height right.height + 1)) rest
 joined o n a b depth start ts rest t left right sl sr word la rb nl low =
-    let lt = sl.tight in
-    let rt = sr.tight in
-    let lh = sl.high in
-    let rh = sr.high in
-    let ltall = sl.tall in
-    let rtall = sr.tall in
-    let lopen = sl.opened in
-    let ropen = sr.opened in
     record {
       written = infixed o sl.written sr.written;
       took = took_more sl.took (took_more (took_one t ts (binary_word o) word) sr.took);
-      regular = (omega arith, sl.regular, omega arith, sr.regular);
+      regular = (omega (arith, sl.tight, la), sl.regular, omega (arith, sr.tight, rb), sr.regular);
       tight = nl;
       high = λ i. max (sl.high i) (sr.high i) + 1;
-      tall = omega arith;
-      opened = omega arith;
+      tall = omega (arith, sl.high, sr.high, sl.tall, sr.tall, low);
+      opened = omega (arith, sl.opened, sr.opened);
       meant =
           ap (λ from_op. e.Binary' (spec.first (starts start)) tt (only (tree sl.written (starts start))) o (spec.first from_op) (spec.first (drop 1 from_op)) tt (only (tree sr.written (drop 1 from_op)))) sl.took.left
           ∙ (λ i. e.Binary' (sl.at i) tt (only (sl.meant i)) o t.start (sr.at i) tt (only (sr.meant i)))

@@ -7,7 +7,7 @@ use Rattle.ssq_ast.specs.declared.expr.Expr.TheVariants as e
 use Rattle.ssq_ast.specs.declared.expr.NullTest.{NullTest}
 use Rattle.ssq_ast.specs.declared.expr.NullTest.TheVariants as test
 use Rattle.ssq_ast.specs.declared.expr.UnaryOp.TheVariants as prefix
-use Rattle.ssq_ast.specs.Expression.{Words, Written, words, test_words, level, IsRegular, opens, height, tallest, only, tree, null_tested}
+use Rattle.ssq_ast.specs.Expression.{words, test_words, height, only, tree, null_tested}
 use Rattle.ssq_ast.specs.Expression as spec
 use Rattle.ssq_lex.specs.declared.keyword.Keyword.TheVariants as key
 use Rattle.ssq_lex.specs.Lexeme.{keyword, Lexed}
@@ -100,23 +100,14 @@ ranged_so : (depth : ℕ) (start ts : Ahead) (t : Lexed) (left : Tree) → Spell
     → (high : Tree × Ahead) → Spelled 4 depth us high.0 high.1 → max (max left.height low.0.height) high.0.height < 64
     → Spelled 3 depth start (tree_of (e.Between left.value t.start low.0.value high.0.value) left.at (max (max left.height low.0.height) high.0.height + 1)) high.1
 ranged_so depth start ts t left sl word low sm us and high sh below =
-    let lh = sl.high in
-    let mh = sm.high in
-    let hh = sh.high in
-    let lt = sl.tall in
-    let mt = sm.tall in
-    let ht = sh.tall in
-    let lo = sl.opened in
-    let mo = sm.opened in
-    let ho = sh.opened in
     record {
       written = spec.between sl.written sm.written sh.written;
       took = took_more (took_more sl.took (took_more (took_one t ts (keyword key.Between) word) sm.took)) (took_more and sh.took);
       regular = (sl.tight, sl.regular, sm.tight, sm.regular, sh.tight, sh.regular);
       tight = omega arith;
-      high = omega arith;
-      tall = omega arith;
-      opened = omega arith;
+      high = omega (arith, sl.high, sm.high, sh.high);
+      tall = omega (arith, sl.high, sm.high, sh.high, sl.tall, sm.tall, sh.tall, below);
+      opened = omega (arith, sl.opened, sm.opened, sh.opened);
       meant =
           ap (λ from_between. e.Between' tt (only (tree sl.written (starts start))) (spec.first from_between) tt (only (tree sm.written (drop 1 from_between))) tt (only (tree sh.written (drop 1 (drop (length (words sm.written)) (drop 1 from_between)))))) sl.took.left
           ∙ ap (λ from_and. e.Between' tt (only (tree sl.written (starts start))) t.start tt (only (tree sm.written (starts ts))) tt (only (tree sh.written (drop 1 from_and)))) sm.took.left

@@ -27,9 +27,9 @@ abbrev pub or_end : ℕ → Option ℕ → ℕ
 or_end end None = end
 or_end end (Some at) = at
 
--- The token at this place is the first that no query has there: no file is a query whose words begin with those in front
--- of it and go on with this one, whatever stands behind it and wherever the words stand. At the file's end, no file is a
--- query whose words are these.
+-- No query has this token behind those in front of it: no file is a query whose words begin with those in front of it and
+-- go on with this one, whatever stands behind it and wherever the words stand. At the file's end, no file is a query whose
+-- words are these.
 pub record IsFirst (file : List ℕ) (at : ℕ) : Type 0 where
   pub taken : Ahead
   pub rest : Ahead
@@ -57,8 +57,7 @@ abbrev pub IsBadNext : Option Lexeme → Option Lexeme → Type 0
 IsBadNext front (Some (quoted text)) = IsBadBehind front text
 IsBadNext front other = ⊥
 
--- The token at this place is a text that is no span or no time where one has to stand, and it is the first token that no
--- query has there.
+-- The token at this place is a text that is no span or no time where one has to stand, and no query has it there.
 pub record IsMisread (file : List ℕ) (at : ℕ) : Type 0 where
   pub first : IsFirst file at
   pub bad : IsBadNext (last_word (says first.taken)) (next_word (says first.rest))

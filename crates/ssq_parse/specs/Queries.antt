@@ -267,10 +267,10 @@ mode_at tokens = keyword_at key.Output tokens >>= (λ output. mode_by output.1)
 
 -- ---- queries
 
-unfoldable pub select_at : Ahead → Read Select
-select_at tokens = do
-  word ← keyword_at key.Select tokens
-  items ← list_at item_at (behind (seen (is_keyword key.Distinct) word.1) word.1)
+-- behind SELECT and DISTINCT
+abbrev pub select_from : Option ℕ → Ahead → Read Select
+select_from distinct tokens = do
+  items ← list_at item_at tokens
   from ← keyword_at key.From items.1
   stream ← name_at from.1
   joined ← join_at stream.1
@@ -284,7 +284,7 @@ select_at tokens = do
   ended ← symbol_at mark.Semicolon shown.1
   Ok (
     record {
-      distinct = seen (is_keyword key.Distinct) word.1;
+      distinct = distinct;
       items = items.0;
       from = stream.0;
       join = joined.0;
@@ -299,6 +299,11 @@ select_at tokens = do
     ended.1,
   )
 
+unfoldable pub select_at : Ahead → Read Select
+select_at tokens = do
+  word ← keyword_at key.Select tokens
+  select_from (seen (is_keyword key.Distinct) word.1) (behind (seen (is_keyword key.Distinct) word.1) word.1)
+
 -- nothing stands behind a query
 abbrev pub alone : Query → Option ℕ → Ahead → Made Query
 alone query None tokens = Ok query
@@ -308,8 +313,11 @@ abbrev pub whole_query : Read Query → Made Query
 whole_query (Ok found) = alone found.0 (place found.1) found.1
 whole_query (Err refusal) = Err refusal
 
-unfoldable pub query_at : Ahead → Made Query
-query_at tokens = whole_query (do
+abbrev pub query_from : Ahead → Read Query
+query_from tokens = do
   streams ← streams_at tokens
   select ← select_at streams.1
-  Ok (record { streams = streams.0; select = select.0 }, select.1))
+  Ok (record { streams = streams.0; select = select.0 }, select.1)
+
+unfoldable pub query_at : Ahead → Made Query
+query_at tokens = whole_query (query_from tokens)

@@ -55,6 +55,11 @@ Reads read (Ok x) rest = read ≡ Ok (x, rest)
 Reads read (Err (Refused at cause)) rest = read ≡ Err (record { at = at; cause = cause })
 Reads read (Err NoMemory) rest = Unit {0}
 
+-- what was read is kept beside what comes behind it, unless that is a stop
+abbrev pub Keeps : {A B : Type 0} → A → Result B Stop → Result (A × B) Stop → Type 0
+Keeps kept next (Ok both) = (both.0 ≡ kept) × (next ≡ Ok both.1)
+Keeps kept next (Err stop) = next ≡ Err stop
+
 abbrev pub stop_at : Option ℕ → ParseCause → Stop
 stop_at at cause = Refused at cause
 
@@ -143,22 +148,26 @@ number_by other = None
 unfoldable pub number_at : Ahead → Read ℤ
 number_at tokens = needed (first (λ token. number_by token.said) tokens) tokens
 
--- a text that is a span of time
-abbrev pub as_span : ℕ → List ℕ → Option ℤ → Made Span
-as_span at text None = refused (Some at) BadText
-as_span at text (Some micros) = Ok (record { text = text; micros = micros })
+-- a text that says a number of microseconds, and what is made of both
+abbrev pub as_micros : {A : Type 0} → (List ℕ → ℤ → A) → ℕ → List ℕ → Option ℤ → Made A
+as_micros make at text None = refused (Some at) BadText
+as_micros make at text (Some micros) = Ok (make text micros)
 
-unfoldable pub span_at : Ahead → Read Span
-span_at tokens = do
+abbrev pub micros_at : {A : Type 0} → (List ℕ → ℤ → A) → (List ℕ → Option ℤ) → Ahead → Read A
+micros_at make of tokens = do
   found ← quoted_at tokens
-  before (as_span found.0.0 found.0.1 (span_of found.0.1)) found.1
+  before (as_micros make found.0.0 found.0.1 (of found.0.1)) found.1
+
+abbrev pub span_by : List ℕ → ℤ → Span
+span_by text micros = record { text = text; micros = micros }
+
+-- a text that is a span of time
+unfoldable pub span_at : Ahead → Read Span
+span_at tokens = micros_at span_by span_of tokens
+
+abbrev pub moment_by : List ℕ → ℤ → Moment
+moment_by text micros = record { text = text; micros = micros }
 
 -- a text that is a moment
-abbrev pub as_moment : ℕ → List ℕ → Option ℤ → Made Moment
-as_moment at text None = refused (Some at) BadText
-as_moment at text (Some micros) = Ok (record { text = text; micros = micros })
-
 unfoldable pub moment_at : Ahead → Read Moment
-moment_at tokens = do
-  found ← quoted_at tokens
-  before (as_moment found.0.0 found.0.1 (time_of found.0.1)) found.1
+moment_at tokens = micros_at moment_by time_of tokens

@@ -8,7 +8,7 @@ ghost use Rattle.ssq_parse.specs.Reading.{Reads, Makes};
 ghost use Rattle.ssq_parse.specs.Trees.{wrapped};
 ghost use Rattle.ssq_parse.specs.Written.{EachIsWritten};
 
-use crate::fault::{ParseCause, Stop};
+use crate::fault::{ParseCause, Stop, kept};
 use crate::operators::Level;
 use crate::reader::Reader;
 use crate::tree::{MOST_HEIGHT, Tree, between, binary, leaf, null_test, unary};
@@ -78,8 +78,8 @@ fn chain<F: Fn(&mut Reader<'_>) -> Result<Tree, Stop>>(
         let Some((op, at)) = reader.eat_operator(level) else {
             return Ok(left);
         };
-        let right = operand(reader)?;
-        left = binary(alloc, op, at, left, right)?;
+        let (first, right) = kept(left, operand(reader))?;
+        left = binary(alloc, op, at, first, right)?;
     }
     Ok(left)
 }
@@ -136,12 +136,12 @@ impl<F: Fn(Global, &mut Reader<'_>, usize) -> Result<Tree, Stop>> Grammar<F> {
         requires { Nests self.now.depth (F.pre self.now.inner) (F.post self.now.inner) }
         ensures { Reads (spec.bracketed_at self.now.depth (spec.expr_at self.now.depth) bracket reader.old) result reader.new }
     {
-        let Tree { value, height, .. } = self.inside(reader, bracket)?;
-        reader.symbol(Symbol::RightParen)?;
+        let inside = self.inside(reader, bracket)?;
+        let (inside, _close) = kept(inside, reader.symbol(Symbol::RightParen))?;
         Ok(Tree {
-            value,
+            value: inside.value,
             at: bracket,
-            height,
+            height: inside.height,
         })
     }
 
@@ -156,9 +156,9 @@ impl<F: Fn(Global, &mut Reader<'_>, usize) -> Result<Tree, Stop>> Grammar<F> {
         requires { Nests self.now.depth (F.pre self.now.inner) (F.post self.now.inner) }
         ensures { Reads (spec.argument_at self.now.depth (spec.expr_at self.now.depth) function at bracket reader.old) result reader.new }
     {
-        let Tree { value, .. } = self.inside(reader, bracket)?;
-        reader.symbol(Symbol::RightParen)?;
-        let argument = Boxed::new(self.alloc, value)?;
+        let inside = self.inside(reader, bracket)?;
+        let (inside, _close) = kept(inside, reader.symbol(Symbol::RightParen))?;
+        let argument = Boxed::new(self.alloc, inside.value)?;
         Ok(leaf(
             at,
             Expr::Aggregate {
@@ -293,7 +293,7 @@ impl<F: Fn(Global, &mut Reader<'_>, usize) -> Result<Tree, Stop>> Grammar<F> {
             Some(_) => NullTest::NotNull,
         };
         let tested = null_test(self.alloc, test, at, left)?;
-        reader.keyword(Keyword::Null)?;
+        let (tested, _null) = kept(tested, reader.keyword(Keyword::Null))?;
         Ok(tested)
     }
 
@@ -302,9 +302,9 @@ impl<F: Fn(Global, &mut Reader<'_>, usize) -> Result<Tree, Stop>> Grammar<F> {
         requires { Nests self.now.depth (F.pre self.now.inner) (F.post self.now.inner) }
         ensures { Reads (spec.between_at self.now.depth (spec.expr_at self.now.depth) at left reader.old) result reader.new }
     {
-        let low = self.sum(reader)?;
-        reader.keyword(Keyword::And)?;
-        let high = self.sum(reader)?;
+        let (left, low) = kept(left, self.sum(reader))?;
+        let (operands, _and) = kept((left, low), reader.keyword(Keyword::And))?;
+        let ((left, low), high) = kept(operands, self.sum(reader))?;
         between(self.alloc, at, left, low, high)
     }
 
@@ -315,7 +315,7 @@ impl<F: Fn(Global, &mut Reader<'_>, usize) -> Result<Tree, Stop>> Grammar<F> {
     {
         let left = self.sum(reader)?;
         if let Some((op, at)) = reader.eat_operator(Level::Comparison) {
-            let right = self.sum(reader)?;
+            let (left, right) = kept(left, self.sum(reader))?;
             return binary(self.alloc, op, at, left, right);
         }
         if let Some(at) = reader.eat_keyword(Keyword::Is) {

@@ -65,7 +65,10 @@ fn judged(
         Err(Stop::NoMemory) => Err(ParseFault::NoMemory),
         Ok(query) => match fault {
             None => Ok(query),
-            Some(_) => Err(ended(len, fault)),
+            Some(_) => {
+                drop(query);
+                Err(ended(len, fault))
+            }
         },
     }
 }

@@ -5,7 +5,7 @@ ghost use Rattle.ssq_parse.specs.Queries as spec;
 ghost use Rattle.ssq_parse.specs.Reading.{Reads, Makes};
 
 use crate::expr::expr;
-use crate::fault::Stop;
+use crate::fault::{Stop, kept};
 use crate::reader::Reader;
 use ssq_ast::{
     ColumnDecl, ColumnRef, Condition, Deduplicate, Direction, Expr, Group, GroupBy, Ident, Item,
@@ -163,6 +163,7 @@ fn bare(value: Expr, at: usize, is_name: bool, expected: Stop) -> Result<Item, S
     ensures { result ≡ spec.bare_by is_name value at expected }
 {
     if !is_name {
+        drop(value);
         return Err(expected);
     }
     match value {
@@ -174,7 +175,10 @@ fn bare(value: Expr, at: usize, is_name: bool, expected: Stop) -> Result<Item, S
                 named_at,
             })
         }
-        _other => Err(expected),
+        other => {
+            drop(other);
+            Err(expected)
+        }
     }
 }
 
@@ -188,7 +192,7 @@ impl Part for Item {
         let begins_with_name = reader.sees_name();
         let tree = expr(alloc, reader)?;
         if reader.eat_keyword(Keyword::As).is_some() {
-            let name = reader.name(alloc)?;
+            let (tree, name) = kept(tree, reader.name(alloc))?;
             return Ok(named(tree.value, tree.at, name));
         }
         bare(tree.value, tree.at, begins_with_name, reader.expected())
@@ -419,6 +423,9 @@ pub(crate) fn query(alloc: Global, reader: &mut Reader<'_>) -> Result<Query, Sto
     let select = select(alloc, reader)?;
     match reader.place() {
         None => Ok(Query { streams, select }),
-        Some(_) => Err(reader.expected()),
+        Some(_) => {
+            drop(select);
+            Err(reader.expected())
+        }
     }
 }

@@ -1,13 +1,13 @@
 //! Trees of expressions, and how high they are.
 
-ghost use Rattle.std.specs.Prelude.{◌≡◌, max};
+ghost use Rattle.std.specs.Prelude.{◌≡◌, max, IfOk};
 ghost use Rattle.ssq_parse.specs.Reading.{Makes};
 ghost use Rattle.ssq_parse.specs.Trees as spec;
 
-use crate::fault::{ParseCause, Stop};
+use crate::fault::{ParseCause, Stop, kept};
 use sqlite_items::Boxed;
 use ssq_ast::{BinaryOp, Expr, NullTest, UnaryOp};
-use std::alloc::Global;
+use std::alloc::{AllocError, Global};
 
 /// No tree is higher.
 pub(crate) const MOST_HEIGHT: usize = 64;
@@ -45,11 +45,21 @@ fn risen(at: usize, height: usize) -> Result<usize, Stop>
     }
 }
 
+/// Two operands in boxes.
+fn boxed(alloc: Global, left: Expr, right: Expr) -> Result<(Boxed<Expr>, Boxed<Expr>), AllocError>
+    ensures { IfOk result (λ both. (both.0 ≡ left) × (both.1 ≡ right)) }
+{
+    let left = Boxed::new(alloc, left);
+    let right = Boxed::new(alloc, right);
+    Ok((left?, right?))
+}
+
 #[tactic(auto, unfolding(crate::specs::Trees::unary))]
 pub(crate) fn unary(alloc: Global, op: UnaryOp, at: usize, operand: Tree) -> Result<Tree, Stop>
     ensures { Makes (spec.unary op at operand) result }
 {
-    let height = risen(at, operand.height)?;
+    let height = risen(at, operand.height);
+    let (operand, height) = kept(operand, height)?;
     Ok(Tree {
         value: Expr::Unary {
             op,
@@ -71,17 +81,20 @@ pub(crate) fn binary(
 ) -> Result<Tree, Stop>
     ensures { Makes (spec.binary op at left right) result }
 {
-    let height = risen(at, left.height.max(right.height))?;
+    let height = risen(at, left.height.max(right.height));
+    let ((left, right), height) = kept((left, right), height)?;
+    let (left_at, right_at) = (left.at, right.at);
+    let (left, right) = boxed(alloc, left.value, right.value)?;
     Ok(Tree {
         value: Expr::Binary {
-            left_at: left.at,
-            left: Boxed::new(alloc, left.value)?,
+            left_at,
+            left,
             op,
             at,
-            right_at: right.at,
-            right: Boxed::new(alloc, right.value)?,
+            right_at,
+            right,
         },
-        at: left.at,
+        at: left_at,
         height,
     })
 }
@@ -95,7 +108,8 @@ pub(crate) fn null_test(
 ) -> Result<Tree, Stop>
     ensures { Makes (spec.null_test test at operand) result }
 {
-    let height = risen(at, operand.height)?;
+    let height = risen(at, operand.height);
+    let (operand, height) = kept(operand, height)?;
     Ok(Tree {
         value: Expr::IsNull {
             operand: Boxed::new(alloc, operand.value)?,
@@ -117,15 +131,19 @@ pub(crate) fn between(
 ) -> Result<Tree, Stop>
     ensures { Makes (spec.between at operand low high) result }
 {
-    let height = risen(at, operand.height.max(low.height).max(high.height))?;
+    let height = risen(at, operand.height.max(low.height).max(high.height));
+    let ((operand, low, high), height) = kept((operand, low, high), height)?;
+    let operand_at = operand.at;
+    let operand = Boxed::new(alloc, operand.value);
+    let (low, high) = boxed(alloc, low.value, high.value)?;
     Ok(Tree {
         value: Expr::Between {
-            operand: Boxed::new(alloc, operand.value)?,
+            operand: operand?,
             at,
-            low: Boxed::new(alloc, low.value)?,
-            high: Boxed::new(alloc, high.value)?,
+            low,
+            high,
         },
-        at: operand.at,
+        at: operand_at,
         height,
     })
 }

@@ -3,4 +3,4 @@ use Rattle.ssq_bind.proofs.Boxed.{shifted_made}
 use Rattle.ssq_bind.proofs.value.shifted.Goals as goal
 
 pub returns : goal.returns
-returns c = shifted_made c.args.time c.in_ok-boxed.boxed c.args.by _ c.in_ok-boxed.ensures (search rules)
+returns c = shifted_made c.args.time c.args.by _ (search rules)

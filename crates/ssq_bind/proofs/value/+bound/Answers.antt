@@ -1,0 +1,56 @@
+use Rattle.std.proofs.Common.{◌∙◌, ap, sym, refl, length}
+use Rattle.ssq_bind.specs.Value.{unary_value, null_value, shift_of, value_of, aggregates_of}
+use Rattle.ssq_bind.proofs.Opened.{on_ok, one_value, two_values, three_values, found_one, found_given, found_both, found_three, value_aggregate, found_aggregate, value_unary, found_unary, value_null, found_null, value_binary, found_binary, value_between, found_between}
+use Rattle.ssq_bind.proofs.value.+bound.Goals as goal
+
+pub value_of-returns-in_ok-argument-in-Aggregate-clause-value : goal.value_of-returns-in_ok-argument-in-Aggregate-clause-value
+value_of-returns-in_ok-argument-in-Aggregate-clause-value t c =
+    rw (value_aggregate c.args.context.now c.args.within (length c.args.found.now) c.args.value.now c.in-Aggregate.function c.in-Aggregate.at c.in-Aggregate.argument c.in-Aggregate.is) c.numbered-in-Aggregate.ensures.value
+
+pub value_of-returns-in_ok-argument-in-Aggregate-clause-found : goal.value_of-returns-in_ok-argument-in-Aggregate-clause-found
+value_of-returns-in_ok-argument-in-Aggregate-clause-found t c =
+    found_given c.numbered-in-Aggregate.result c.args.context.now c.args.within c.numbered-in-Aggregate.new.found c.args.found.now (aggregates_of c.args.context.now c.args.within c.args.value.now) c.in-Aggregate.function c.function_of.result c.in_ok-argument-in-Aggregate.argument c.get.result.now
+    (found_aggregate c.args.context.now c.args.within (length c.args.found.now) c.args.value.now c.in-Aggregate.function c.in-Aggregate.at c.in-Aggregate.argument c.get.result.now c.in-Aggregate.is c.get.ensures)
+    c.function_of.ensures c.in_ok-argument-in-Aggregate.ensures c.numbered-in-Aggregate.ensures.found
+
+pub value_of-returns-in_ok-operand-in-Unary-clause-value : goal.value_of-returns-in_ok-operand-in-Unary-clause-value
+value_of-returns-in_ok-operand-in-Unary-clause-value t c =
+    c.unary_value.ensures ∙ (ap (unary_value c.in-Unary.op) c.in_ok-operand-in-Unary.ensures.value
+    ∙ sym (value_unary c.args.context.now c.args.within (length c.args.found.now) c.args.value.now c.in-Unary.op c.in-Unary.at c.in-Unary.operand c.get-in-Unary.result.now c.in-Unary.is c.get-in-Unary.ensures))
+
+pub value_of-returns-in_ok-operand-in-Unary-clause-found : goal.value_of-returns-in_ok-operand-in-Unary-clause-found
+value_of-returns-in_ok-operand-in-Unary-clause-found t c =
+    found_one c.args.found.now c.operand_of.new.found _ (aggregates_of c.args.context.now c.args.within c.args.value.now) c.in_ok-operand-in-Unary.ensures.found
+    (found_unary c.args.context.now c.args.within (length c.args.found.now) c.args.value.now c.in-Unary.op c.in-Unary.at c.in-Unary.operand c.get-in-Unary.result.now c.in-Unary.is c.get-in-Unary.ensures)
+
+pub value_of-returns-in_ok-operand-in-IsNull-clause-value : goal.value_of-returns-in_ok-operand-in-IsNull-clause-value
+value_of-returns-in_ok-operand-in-IsNull-clause-value t c =
+    one_value c.null_value.result (null_value c.in-IsNull.test) (value_of c.args.context.now c.args.within (length c.args.found.now) c.args.value.now) c.in_ok-operand-in-IsNull.operand (value_of c.args.context.now c.args.within (length c.args.found.now) c.get-in-IsNull.result.now)
+    (value_null c.args.context.now c.args.within (length c.args.found.now) c.args.value.now c.in-IsNull.operand c.get-in-IsNull.result.now c.in-IsNull.at c.in-IsNull.test c.in-IsNull.is c.get-in-IsNull.ensures)
+    c.in_ok-operand-in-IsNull.ensures.value c.null_value.ensures
+
+pub value_of-returns-in_ok-operand-in-IsNull-clause-found : goal.value_of-returns-in_ok-operand-in-IsNull-clause-found
+value_of-returns-in_ok-operand-in-IsNull-clause-found t c =
+    on_ok c.null_value.result _ (found_one c.args.found.now c.operand_of-in-IsNull.new.found _ (aggregates_of c.args.context.now c.args.within c.args.value.now) c.in_ok-operand-in-IsNull.ensures.found
+    (found_null c.args.context.now c.args.within (length c.args.found.now) c.args.value.now c.in-IsNull.operand c.get-in-IsNull.result.now c.in-IsNull.at c.in-IsNull.test c.in-IsNull.is c.get-in-IsNull.ensures))
+
+pub value_of-returns-in_ok-b-in-Binary-clause-value : goal.value_of-returns-in_ok-b-in-Binary-clause-value
+value_of-returns-in_ok-b-in-Binary-clause-value t c =
+    two_values c.shifted_or.result c.in-Binary.op (value_of c.args.context.now c.args.within (length c.args.found.now) c.args.value.now) c.shift_of.result (shift_of c.in-Binary.op c.get-in-Binary-3.result.now) c.in_ok-a-in-Binary.a _ c.in_ok-b-in-Binary.b _
+    (value_binary c.args.context.now c.args.within (length c.args.found.now) c.args.value.now c.args.found.now c.operand_of-in-Binary.new.found c.in-Binary.left_at c.in-Binary.left c.get-in-Binary.result.now c.in-Binary.op c.in-Binary.at c.in-Binary.right_at c.in-Binary.right c.get-in-Binary-2.result.now c.get-in-Binary-3.result.now c.in-Binary.is c.get-in-Binary.ensures c.get-in-Binary-2.ensures c.get-in-Binary-3.ensures refl c.in_ok-a-in-Binary.ensures.found)
+    c.shift_of.ensures c.in_ok-a-in-Binary.ensures.value c.in_ok-b-in-Binary.ensures.value c.shifted_or.ensures
+
+pub value_of-returns-in_ok-b-in-Binary-clause-found : goal.value_of-returns-in_ok-b-in-Binary-clause-found
+value_of-returns-in_ok-b-in-Binary-clause-found t c =
+    on_ok c.shifted_or.result _ (found_both c.args.found.now c.operand_of-in-Binary.new.found c.value_of.new.found _ _ (aggregates_of c.args.context.now c.args.within c.args.value.now) c.in_ok-a-in-Binary.ensures.found c.in_ok-b-in-Binary.ensures.found
+    (found_binary c.args.context.now c.args.within (length c.args.found.now) c.args.value.now c.in-Binary.left_at c.in-Binary.left c.get-in-Binary.result.now c.in-Binary.op c.in-Binary.at c.in-Binary.right_at c.in-Binary.right c.get-in-Binary-2.result.now c.in-Binary.is c.get-in-Binary.ensures c.get-in-Binary-2.ensures))
+
+pub value_of-returns-in_ok-most-in-Between-clause-value : goal.value_of-returns-in_ok-most-in-Between-clause-value
+value_of-returns-in_ok-most-in-Between-clause-value t c =
+    rw (value_between c.args.context.now c.args.within (length c.args.found.now) c.args.value.now c.args.found.now c.operand_of-in-Between.new.found c.operand_of-in-Between-2.new.found c.in-Between.operand c.get-in-Between.result.now c.in-Between.at c.in-Between.low c.get-in-Between-2.result.now c.in-Between.high c.get-in-Between-3.result.now c.in-Between.is c.get-in-Between.ensures c.get-in-Between-2.ensures c.get-in-Between-3.ensures refl c.in_ok-tested-in-Between.ensures.found c.in_ok-least-in-Between.ensures.found)
+    (three_values c.between_value.result _ _ _ _ _ _ c.in_ok-tested-in-Between.ensures.value c.in_ok-least-in-Between.ensures.value c.in_ok-most-in-Between.ensures.value c.between_value.ensures)
+
+pub value_of-returns-in_ok-most-in-Between-clause-found : goal.value_of-returns-in_ok-most-in-Between-clause-found
+value_of-returns-in_ok-most-in-Between-clause-found t c =
+    found_three c.args.found.now c.operand_of-in-Between.new.found c.operand_of-in-Between-2.new.found c.operand_of-in-Between-3.new.found _ _ _ (aggregates_of c.args.context.now c.args.within c.args.value.now) c.in_ok-tested-in-Between.ensures.found c.in_ok-least-in-Between.ensures.found c.in_ok-most-in-Between.ensures.found
+    (found_between c.args.context.now c.args.within (length c.args.found.now) c.args.value.now c.in-Between.operand c.get-in-Between.result.now c.in-Between.at c.in-Between.low c.get-in-Between-2.result.now c.in-Between.high c.get-in-Between-3.result.now c.in-Between.is c.get-in-Between.ensures c.get-in-Between-2.ensures c.get-in-Between-3.ensures)
