@@ -26,6 +26,28 @@ use Rattle.ssq_ast.specs.Places.{erased_decl, erased_watermark, erased_stream, e
 use Rattle.ssq_ast.specs.Statement.{WrittenStream, WrittenItem, bare_item, named_item, WrittenGroup, column_group, window_group, WrittenSelect, WrittenQuery, decl_words, declared_words, item_words, name_words, separated, distinct_words, join_words, condition_words, deduplicate_words, group_words, order_words, group_item_words, order_item_words, each_tree, decl_tree, watermark_tree, declared_tree, item_of, item_tree, condition_tree, join_tree, deduplicate_tree, group_item_tree, group_tree, order_item_tree, limit_tree, distinct_tree, select_tree, query_tree, query_words, kind_words, IsFilled, Each, IsSpanText, IsFit, IsRegularStream, IsRegularItem, IsRegularGroup, IsRegularSelect, IsRegularQuery, IsWritten}
 use Rattle.ssq_ast.proofs.Plain.{regular_plain, narrow, tallest_plain, erased_tree, erased_column_tree}
 
+-- where the parts of a SELECT stand, by the words in front of them
+pub record PartsAt : Type 0 where
+  pub items : List ℕ
+  pub join : List ℕ
+  pub filter : List ℕ
+  pub deduplicate : List ℕ
+  pub group : List ℕ
+  pub having : List ℕ
+  pub order : List ℕ
+  pub limit : List ℕ
+
+abbrev pub parts_at : WrittenSelect → List ℕ → PartsAt
+parts_at select places =
+    let items = behind (distinct_words select.distinct) (drop 1 places) in
+    let join = drop 2 (behind (separated (map item_words select.items)) items) in
+    let filter = behind (join_words select.join) join in
+    let deduplicate = behind (condition_words key.Where select.filter) filter in
+    let group = behind (deduplicate_words select.deduplicate) deduplicate in
+    let having = behind (group_words select.group) group in
+    let order = behind (condition_words key.Having select.having) having in
+    record { items = items; join = join; filter = filter; deduplicate = deduplicate; group = group; having = having; order = order; limit = behind (order_words select.order) order }
+
 -- The grammar.
 
 fit : (w : Written) (places : List ℕ) → IsFit w → IsFit (plain (tree w places))
@@ -88,27 +110,22 @@ regular_group (window_group window) places h = h
 
 regular_select : (select : WrittenSelect) (places : List ℕ) → IsRegularSelect select → IsRegularSelect (plain_select (select_tree select places))
 regular_select select places h =
-    let from_items = behind (distinct_words select.distinct) (drop 1 places) in
-    let from_join = drop 2 (behind (separated (map item_words select.items)) from_items) in
-    let from_filter = behind (join_words select.join) from_join in
-    let from_deduplicate = behind (condition_words key.Where select.filter) from_filter in
-    let from_group = behind (deduplicate_words select.deduplicate) from_deduplicate in
-    let from_having = behind (group_words select.group) from_group in
+    let at = parts_at select places in
     let condition : (w : Written) (p : List ℕ) → IsFit w → IsFit (plain (condition_tree w p).value) = λ w p is. fit w (drop 1 p) is in
     record {
-      some_items = filled item_words item_tree 1 plain_item select.items from_items h.some_items;
-      items = each IsRegularItem IsRegularItem item_words item_tree 1 plain_item regular_item select.items from_items h.items;
+      some_items = filled item_words item_tree 1 plain_item select.items at.items h.some_items;
+      items = each IsRegularItem IsRegularItem item_words item_tree 1 plain_item regular_item select.items at.items h.items;
       on = maybe (λ join. IsFit join.on) (λ join. IsFit join.on) join_tree plain_join
-          (λ join p is. fit join.on (drop 1 (drop 2 (behind (kind_words join.kind join.has_word) p))) is) select.join from_join h.on;
-      filter = maybe IsFit IsFit condition_tree (λ made. plain made.value) condition select.filter from_filter h.filter;
+          (λ join p is. fit join.on (drop 1 (drop 2 (behind (kind_words join.kind join.has_word) p))) is) select.join at.join h.on;
+      filter = maybe IsFit IsFit condition_tree (λ made. plain made.value) condition select.filter at.filter h.filter;
       deduplicate = maybe IsFilled IsFilled deduplicate_tree plain_deduplicate
-          (λ columns p is. filled name_words ident 1 (λ column. column.text) columns (drop 2 p) is) select.deduplicate from_deduplicate h.deduplicate;
+          (λ columns p is. filled name_words ident 1 (λ column. column.text) columns (drop 2 p) is) select.deduplicate at.deduplicate h.deduplicate;
       some_group = maybe IsFilled IsFilled group_tree plain_group_by
-          (λ items p is. filled group_item_words group_item_tree 1 plain_group items (drop 2 p) is) select.group from_group h.some_group;
+          (λ items p is. filled group_item_words group_item_tree 1 plain_group items (drop 2 p) is) select.group at.group h.some_group;
       group = maybe (Each IsRegularGroup) (Each IsRegularGroup) group_tree plain_group_by
           (λ items p is. each IsRegularGroup IsRegularGroup group_item_words group_item_tree 1 plain_group regular_group items (drop 2 p) is)
-          select.group from_group h.group;
-      having = maybe IsFit IsFit condition_tree (λ made. plain made.value) condition select.having from_having h.having;
+          select.group at.group h.group;
+      having = maybe IsFit IsFit condition_tree (λ made. plain made.value) condition select.having at.having h.having;
     }
 
 regular_query : (query : WrittenQuery) (places : List ℕ) → IsRegularQuery query → IsRegularQuery (plain_query (query_tree query places))
@@ -231,24 +248,16 @@ same_distinct (Some at) places = refl
 same_select : (select : Select) → Each (Same item_tree plain_item erased_item) select.items → Same select_tree plain_select erased_select select
 same_select select items_same places =
     let printed = plain_select select in
-    let from_distinct = drop 1 places in
-    let from_items = behind (distinct_words printed.distinct) from_distinct in
-    let from_join = drop 2 (behind (separated (map item_words printed.items)) from_items) in
-    let from_filter = behind (join_words printed.join) from_join in
-    let from_deduplicate = behind (condition_words key.Where printed.filter) from_filter in
-    let from_group = behind (deduplicate_words printed.deduplicate) from_deduplicate in
-    let from_having = behind (group_words printed.group) from_group in
-    let from_order = behind (condition_words key.Having printed.having) from_having in
-    let from_limit = behind (order_words printed.order) from_order in
-    let distinct = same_distinct select.distinct from_distinct in
-    let items = same_each item_words item_tree 1 plain_item erased_item select.items items_same from_items in
-    let join = same_maybe join_tree plain_join erased_join same_join select.join from_join in
-    let filter = same_maybe condition_tree (λ made. plain made.value) erased_condition same_condition select.filter from_filter in
-    let deduplicate = same_maybe deduplicate_tree plain_deduplicate erased_deduplicate same_deduplicate select.deduplicate from_deduplicate in
-    let group = same_maybe group_tree plain_group_by erased_group same_group select.group from_group in
-    let having = same_maybe condition_tree (λ made. plain made.value) erased_condition same_condition select.having from_having in
-    let order = same_each order_item_words order_item_tree 1 plain_order erased_order select.order (every (Same order_item_tree plain_order erased_order) (λ by p. refl) select.order) (drop 2 from_order) in
-    let limit = same_maybe limit_tree (λ most. most.most) erased_limit (λ most p. refl) select.limit from_limit in
+    let at = parts_at (plain_select select) places in
+    let distinct = same_distinct select.distinct (drop 1 places) in
+    let items = same_each item_words item_tree 1 plain_item erased_item select.items items_same at.items in
+    let join = same_maybe join_tree plain_join erased_join same_join select.join at.join in
+    let filter = same_maybe condition_tree (λ made. plain made.value) erased_condition same_condition select.filter at.filter in
+    let deduplicate = same_maybe deduplicate_tree plain_deduplicate erased_deduplicate same_deduplicate select.deduplicate at.deduplicate in
+    let group = same_maybe group_tree plain_group_by erased_group same_group select.group at.group in
+    let having = same_maybe condition_tree (λ made. plain made.value) erased_condition same_condition select.having at.having in
+    let order = same_each order_item_words order_item_tree 1 plain_order erased_order select.order (every (Same order_item_tree plain_order erased_order) (λ by p. refl) select.order) (drop 2 at.order) in
+    let limit = same_maybe limit_tree (λ most. most.most) erased_limit (λ most p. refl) select.limit at.limit in
     λ i. record {
       distinct = distinct i;
       items = items i;
@@ -267,9 +276,8 @@ same_query : (query : WrittenQuery) (places : List ℕ) → Same query_tree plai
 same_query query places again =
     let made = query_tree query places in
     let from_select = behind (flat_map declared_words query.streams) places in
-    let from_items = behind (distinct_words query.select.distinct) (drop 1 from_select) in
     let streams = same_each declared_words declared_tree 0 plain_stream erased_stream made.streams (every (Same declared_tree plain_stream erased_stream) same_stream made.streams) again in
-    let select = same_select made.select (same_items query.select.items from_items) (behind (flat_map declared_words (map plain_stream made.streams)) again) in
+    let select = same_select made.select (same_items query.select.items (parts_at query.select from_select).items) (behind (flat_map declared_words (map plain_stream made.streams)) again) in
     λ i. record { streams = streams i; select = select i }
 
 again_of : (query : WrittenQuery) (places : List ℕ) → IsRegularQuery query → (made : Query) → query_tree query places ≡ made → (tokens : List Lexed) → map (λ token. token.said) tokens ≡ query_words (plain_query made) → (same : Query) × IsWritten tokens same × (erased same ≡ erased made)

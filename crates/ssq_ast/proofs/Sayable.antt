@@ -27,7 +27,7 @@ use Rattle.ssq_ast.specs.Canonical.{is_some, plain_decl, plain_watermark, plain_
 use Rattle.ssq_ast.specs.Expression.{Words, Written, WrittenColumn, of_number, of_text, of_truth, of_moment, of_span, of_column, of_rows, of_function, bracketed, prefixed, null_tested, infixed, between, words, in_brackets, column_words, binary_word, test_words, unary_level, left_level, right_level, first, behind, ident, column_tree, tree, within, plain, plain_column}
 use Rattle.ssq_ast.specs.Statement.{WrittenStream, WrittenWatermark, WrittenItem, bare_item, named_item, WrittenJoin, WrittenGroup, column_group, window_group, WrittenOrder, WrittenSelect, WrittenQuery, comma, separated, decl_words, watermark_words, declared_words, distinct_words, item_words, kind_words, join_words, condition_words, deduplicate_words, name_words, group_item_words, group_words, direction_words, order_item_words, order_words, limit_words, mode_key, front_words, back_words, select_words, query_words, each_tree, decl_tree, watermark_tree, declared_tree, item_of, item_tree, condition_tree, join_tree, deduplicate_tree, group_item_tree, group_tree, order_item_tree, limit_tree, distinct_tree, select_tree, query_tree, Each}
 use Rattle.ssq_ast.proofs.Plain.{within_cases}
-use Rattle.ssq_ast.proofs.Queries.{each}
+use Rattle.ssq_ast.proofs.Queries.{each, parts_at}
 
 module _ (P : Lexeme → Type 0) (K : (k : Keyword) → P (keyword k)) (S : (s : Symbol) → P (symbol s)) where
   abbrev Has : Words → Type 0
@@ -250,9 +250,7 @@ module _ (P : Lexeme → Type 0) (K : (k : Keyword) → P (keyword k)) (S : (s :
   front_has : (select : WrittenSelect) (places : List ℕ) → Has (front_words select) → Has (front_words (plain_select (select_tree select places)))
   front_has select places h =
       let made = plain_select (select_tree select places) in
-      let from_items = behind (distinct_words select.distinct) (drop 1 places) in
-      let from_join = drop 2 (behind (separated (map item_words select.items)) from_items) in
-      let from_filter = behind (join_words select.join) from_join in
+      let at = parts_at select places in
       let a = keyword key.Select ∷ distinct_words select.distinct in
       let b = separated (map item_words select.items) in
       let c = keyword key.From ∷ name select.from ∷ join_words select.join in
@@ -267,21 +265,14 @@ module _ (P : Lexeme → Type 0) (K : (k : Keyword) → P (keyword k)) (S : (s :
       append (a' ++ b' ++ c') d'
       (append (a' ++ b') c'
       (append a' b' (K key.Select, distinct_has select.distinct (drop 1 places) (left a b ab).1)
-      (parts item_words item_tree plain_item item_has select.items from_items (right a b ab)))
-      (K key.From, (said.1.0, join_has select.join from_join said.1.1)))
-      (condition_has key.Where select.filter from_filter (right (a ++ b ++ c) d h))
+      (parts item_words item_tree plain_item item_has select.items at.items (right a b ab)))
+      (K key.From, (said.1.0, join_has select.join at.join said.1.1)))
+      (condition_has key.Where select.filter at.filter (right (a ++ b ++ c) d h))
 
   back_has : (select : WrittenSelect) (places : List ℕ) → Has (back_words select) → Has (back_words (plain_select (select_tree select places)))
   back_has select places h =
       let made = plain_select (select_tree select places) in
-      let from_items = behind (distinct_words select.distinct) (drop 1 places) in
-      let from_join = drop 2 (behind (separated (map item_words select.items)) from_items) in
-      let from_filter = behind (join_words select.join) from_join in
-      let from_deduplicate = behind (condition_words key.Where select.filter) from_filter in
-      let from_group = behind (deduplicate_words select.deduplicate) from_deduplicate in
-      let from_having = behind (group_words select.group) from_group in
-      let from_order = behind (condition_words key.Having select.having) from_having in
-      let from_limit = behind (order_words select.order) from_order in
+      let at = parts_at select places in
       let a = deduplicate_words select.deduplicate in
       let b = group_words select.group in
       let c = condition_words key.Having select.having in
@@ -301,10 +292,10 @@ module _ (P : Lexeme → Type 0) (K : (k : Keyword) → P (keyword k)) (S : (s :
       (append (a' ++ b' ++ c' ++ d') e'
       (append (a' ++ b' ++ c') d'
       (append (a' ++ b') c'
-      (append a' b' (deduplicate_has select.deduplicate from_deduplicate (left a b ab)) (group_has select.group from_group (right a b ab)))
-      (condition_has key.Having select.having from_having (right (a ++ b) c abc)))
-      (order_has select.order (drop 2 from_order) (right (a ++ b ++ c) d abcd)))
-      (limit_has select.limit from_limit (right (a ++ b ++ c ++ d) e abcde)))
+      (append a' b' (deduplicate_has select.deduplicate at.deduplicate (left a b ab)) (group_has select.group at.group (right a b ab)))
+      (condition_has key.Having select.having at.having (right (a ++ b) c abc)))
+      (order_has select.order (drop 2 at.order) (right (a ++ b ++ c) d abcd)))
+      (limit_has select.limit at.limit (right (a ++ b ++ c ++ d) e abcde)))
       (right (a ++ b ++ c ++ d ++ e) f h)
 
   pub query_has : (query : WrittenQuery) (places : List ℕ) → Each P (query_words query) → Each P (query_words (plain_query (query_tree query places)))

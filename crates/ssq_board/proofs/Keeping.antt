@@ -1,5 +1,5 @@
 -- The files of the state, and the snapshots that are being made, after each entry.
-use Rattle.std.proofs.Common.{◌≡◌, ◌<◌, ◌≤◌, ◌+◌, ◌-◌, ◌++◌, ◌==◌, ◌&&◌, ◌||◌, nat_lt, ℕ, zero, suc, Bool, true, false, true≢false, List, [], ◌∷◌, Option, Some, None, if◌then◌else◌, sym, refl, ap, ◌∙◌, subst, inl, inr, arith, rules}
+use Rattle.std.proofs.Common.{◌≡◌, ◌⊎◌, ◌<◌, ◌≤◌, ◌+◌, ◌-◌, ◌++◌, ◌==◌, ◌&&◌, ◌||◌, nat_lt, ℕ, zero, suc, Bool, true, false, true≢false, List, [], ◌∷◌, Option, Some, None, if◌then◌else◌, sym, refl, ap, ◌∙◌, subst, inl, inr, arith, rules}
 use Rattle.std.proofs.lemmas.Bool.{cases_lt}
 use Rattle.std.proofs.lemmas.Bool.Decides.{nat_tests}
 use Rattle.std.proofs.lemmas.List.Folds.{list_any-append}
@@ -71,30 +71,28 @@ other_names d n q other is = ap (λ (b : Bool). if b then true else d.there q) (
     by false h = refl
     by true h = absurd (true≢false (sym is ∙ ap is_state (same_name-true q n h) ∙ other))
 
--- rows are published
-pub shelves_out : (last : Option ℕ) (committed e : ℕ) (stop : Option Cause) (s : Shelf) (d : Desk) → Shelves last committed stop s d → Shelves last committed stop s (with_file (name.Out e) d)
-shelves_out last committed e stop s d k = record {
-  names = λ q is. other_names d (name.Out e) q refl is ∙ k.names q is;
+-- A file is there that is none of the state, and perhaps counts and cuts are others, and there was a Stop.
+shelves_filed : (last : Option ℕ) (committed more : ℕ) (stop now : Option Cause) (s : Shelf) (d n : Desk) (file : Name) → is_state file ≡ false → ((f : ℕ) → more ≤ f → (with_file file d).there (name.Commit f) ≡ false) → (now ≡ None → stop ≡ None)
+    → Shelves last committed stop s d → Shelves last more now s (with_file file (record { cuts = n.cuts; planned = n.planned; committed = n.committed; there = d.there; sure = d.sure; tasks = d.tasks; stores = n.stores }))
+shelves_filed last committed more stop now s d n file other commits runs k = record {
+  names = λ q is. other_names d file q other is ∙ k.names q is;
   sure = k.sure;
   acknowledged = k.acknowledged;
-  commits = k.commits;
-  tidy = k.tidy;
+  commits = commits;
+  tidy = λ is p v here. k.tidy is p v (sym (other_names d file (name.Snapshot p v) other refl) ∙ here);
   claimed = k.claimed;
-  kept = k.kept;
+  kept = λ run p v. subst (λ (here : Bool). (d.tasks (upkeep p v) ≡ machine.waits) ⊎ ((is_among s.claimed (name.Snapshot p v) ≡ true)
+      ⊎ ((here ≡ true) ⊎ ((w : ℕ) × (v < w) × (d.sure (name.Snapshot p w) ≡ true) × (d.sure (name.Commit (w + 20)) ≡ true))))) (sym (other_names d file (name.Snapshot p v) other refl)) (k.kept (runs run) p v);
 }
+
+-- rows are published
+pub shelves_out : (last : Option ℕ) (committed e : ℕ) (stop : Option Cause) (s : Shelf) (d : Desk) → Shelves last committed stop s d → Shelves last committed stop s (with_file (name.Out e) d)
+shelves_out last committed e stop s d k = shelves_filed last committed committed stop stop s d d (name.Out e) refl k.commits (λ run. run) k
 
 -- an epoch is planned
 pub shelves_plan : (last : Option ℕ) (committed e : ℕ) (stop now : Option Cause) (s : Shelf) (d : Desk) (cuts : Cuts) → (now ≡ None → stop ≡ None) → Shelves last committed stop s d
     → Shelves last committed now s (with_file (name.Plan e) (with_plan cuts d))
-shelves_plan last committed e stop now s d cuts runs k = record {
-  names = λ q is. other_names d (name.Plan e) q refl is ∙ k.names q is;
-  sure = k.sure;
-  acknowledged = k.acknowledged;
-  commits = k.commits;
-  tidy = k.tidy;
-  claimed = k.claimed;
-  kept = λ run. k.kept (runs run);
-}
+shelves_plan last committed e stop now s d cuts runs k = shelves_filed last committed committed stop now s d (with_plan cuts d) (name.Plan e) refl k.commits runs k
 
 other_number : (e f : ℕ) → f < e → (e == f) ≡ false
 other_number e f less = grind (arith, rules)
@@ -102,15 +100,8 @@ other_number e f less = grind (arith, rules)
 -- an epoch is committed
 pub shelves_commit : (last : Option ℕ) (committed e : ℕ) (stop now : Option Cause) (s : Shelf) (d : Desk) → e ≡ committed → (now ≡ None → stop ≡ None) → Shelves last committed stop s d
     → Shelves last (committed + 1) now s (with_file (name.Commit e) (with_commit d))
-shelves_commit last committed e stop now s d is runs k = record {
-  names = λ q state. other_names d (name.Commit e) q refl state ∙ k.names q state;
-  sure = k.sure;
-  acknowledged = k.acknowledged;
-  commits = λ f above. ap (λ (b : Bool). if b then true else d.there (name.Commit f)) (other_number f e (omega (arith, is, above))) ∙ k.commits f (omega (arith, above));
-  tidy = k.tidy;
-  claimed = k.claimed;
-  kept = λ run. k.kept (runs run);
-}
+shelves_commit last committed e stop now s d is runs k = shelves_filed last committed (committed + 1) stop now s d (with_commit d) (name.Commit e) refl
+    (λ f above. ap (λ (b : Bool). if b then true else d.there (name.Commit f)) (other_number f e (omega (arith, is, above))) ∙ k.commits f (omega (arith, above))) runs k
 
 -- ---- names are synced
 

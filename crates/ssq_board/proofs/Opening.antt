@@ -1,5 +1,5 @@
 -- What the machine's Open leaves is shown by the first state.
-use Rattle.std.proofs.Common.{◌≡◌, ◌+◌, ◌<◌, ◌++◌, nat_lt, ℕ, Bool, true, false, true≢false, replicate, List, Option, None, is_some, sym, refl, ap, ◌∙◌, subst, inl, inr, arith}
+use Rattle.std.proofs.Common.{◌≡◌, ◌+◌, ◌<◌, ◌++◌, nat_lt, ℕ, Bool, true, false, true≢false, replicate, List, length, Option, None, is_some, sym, refl, ap, ◌∙◌, subst, inl, inr, arith}
 use mathlib.Core.Option.{some, some-ne-none}
 use lib.ListN.{get_elem?}
 use Rattle.ssq_outside.specs.declared.name.Name.{Name}
@@ -10,17 +10,17 @@ use Rattle.ssq_outside.specs.declared.gate.Kind.TheVariants as kind
 use Rattle.ssq_outside.specs.Files.{Files}
 use Rattle.ssq_upkeep.specs.Upkeep.{is_among, is_up_to}
 use Rattle.ssq_core.specs.Course.{Cuts, Job}
-use Rattle.ssq_core.specs.Machine.{Desk, opened, out_task, upkeep}
+use Rattle.ssq_core.specs.Machine.{Desk, opened, out_task, reduce, upkeep}
 use Rattle.ssq_core.specs.Machine as machine
 use Rattle.ssq_core.specs.Sound.{AreProper, is_state}
 use Rattle.ssq_board.specs.declared.front.Place.{Place}
 use Rattle.ssq_board.specs.declared.front.Place.TheVariants as place
-use Rattle.ssq_board.specs.Core.{Scope, has_line, has_line_at, tasks_of}
+use Rattle.ssq_board.specs.Core.{Scope, Core, at, has_line, has_line_at, is_open, tasks_of}
 use Rattle.ssq_board.specs.Shown.{Start, planned_by, first_place, first_by}
 use Rattle.ssq_board.specs.Shelf.{Shelf, IsFirstShelf, there_in}
 use Rattle.ssq_board.specs.Follows.{Terms, map_task, ShowsAt, Shows, ShowsShelf}
 use Rattle.ssq_board.proofs.Keeping.{among_end, settled_last, up_to_is}
-use Rattle.ssq_board.proofs.Lists.{at_length, replicate_length, replicate_at, one_at, dealt_at, dealt_length, line_below, back_no_more, nat_lt-is, nat_lt-not}
+use Rattle.ssq_board.proofs.Lists.{at_length, replicate_length, replicate_at, one_at, dealt_at, dealt_length, line_below, back_no_more, nat_lt-is, nat_lt-less, nat_lt-not}
 
 module _ (job : Job) (r : Scope) (next : Cuts → ℕ → Bool) (terms : Terms job r next) (s : Start) (files : Files) (d : Desk) (committed : d.committed ≡ s.committed)
     (begins : d.cuts 0 ≡ terms.start) (from : d.cuts s.committed ≡ s.from) (op : opened job files d) where
@@ -42,51 +42,19 @@ module _ (job : Job) (r : Scope) (next : Cuts → ℕ → Bool) (terms : Terms j
   shows_it : (t : TaskId) (p : Place) → p ≡ place.Waits → (job.course d.cuts).is_task t ≡ true → ShowsAt (job.course d.cuts) t (d.tasks t) p
   shows_it t p is task = subst (ShowsAt (job.course d.cuts) t (d.tasks t)) (sym is) (task, op.4 t)
 
-  pub shows_first : (b : Bool) → d.planned ≡ planned_by b s.committed → d.cuts (planned_by b s.committed) ≡ s.to → (b ≡ false → s.due ≡ next d.cuts s.committed) → Shows job r next terms (first_by b r s) d
-  shows_first false planned to due = record {
-    planned = planned;
-    committed = committed;
-    starts = begins;
-    ends = to;
-    proper = subst (λ (n : ℕ). AreProper job d.cuts n) planned op.1;
-    settled = λ h q other there. op.3 q ∙ sym (op.2 q) ∙ there;
-    plan_there = λ e less. there_of (name.Plan e) (plan_file false planned e less);
-    plan_settled = λ o. absurd (true≢false (sym o ∙ closed));
-    commits = λ e less. there_of (name.Commit e) (commit_file e less);
-    written = λ o. absurd (true≢false (sym o ∙ closed));
-    tasks = λ o. absurd (true≢false (sym o ∙ closed));
-    deltas = λ o. absurd (true≢false (sym o ∙ closed));
-    reduced = λ o. absurd (true≢false (sym o ∙ closed));
-    mapped = λ o. absurd (true≢false (sym o ∙ closed));
-    claimed = λ t epoch. inl (op.4 t);
-    later = λ t le. op.4 t;
-    whole = λ run t e. waits_failed (sym (op.4 t) ∙ e);
-    has_lines = λ o. absurd (true≢false (sym o ∙ closed));
-    due = λ h. due refl;
-  }
-    where
-      closed : nat_lt s.committed s.committed ≡ false
-      closed = nat_lt-not s.committed s.committed (omega arith)
-  shows_first true planned to due = record {
-    planned = planned;
-    committed = committed;
-    starts = begins;
-    ends = to;
-    proper = subst (λ (n : ℕ). AreProper job d.cuts n) planned op.1;
-    settled = λ h q other there. op.3 q ∙ sym (op.2 q) ∙ there;
-    plan_there = λ e less. there_of (name.Plan e) (plan_file true planned e less);
-    plan_settled = λ o f. sure_of (name.Plan s.committed) (plan_file true planned s.committed (omega arith));
-    commits = λ e less. there_of (name.Commit e) (commit_file e less);
-    written = λ o w. absurd (true≢false (sym w));
-    tasks = λ o t p epoch here. by_kind t.kind t p refl epoch here;
-    deltas = λ o run i less here. absurd (back_no_more (replicate_at r.partitions i (first_place true) (place.Back None) here));
-    reduced = λ o. inl (op.4 (out_task s.committed));
-    mapped = λ o i is. (let b = line_below s.from s.to i (sym (map_is i) ∙ is) in let l = dealt_length s.from s.to in omega arith);
-    claimed = λ t epoch. inl (op.4 t);
-    later = λ t le. op.4 t;
-    whole = λ run t e. waits_failed (sym (op.4 t) ∙ e);
-    has_lines = λ o h. (λ i. has_line (from i) (to i)) ∙ h;
-    due = λ h. absurd (true≢false (sym (nat_lt-is s.committed (s.committed + 1) (omega arith)) ∙ h));
+  -- the tasks that are dealt out
+  record AreDealt (c : Core) : Type 0 where
+    tasks : (t : TaskId) (p : Place) → t.epoch ≡ s.committed → at c t ≡ some p → ShowsAt (job.course d.cuts) t (d.tasks t) p
+    deltas : (i : ℕ) → at c (reduce s.committed i) ≡ some (place.Back None) → ⊥
+    mapped : (i : ℕ) → (job.course d.cuts).is_task (map_task s.committed i) ≡ true → i < length c.maps
+
+  -- those of an epoch that runs
+  dealt_first : (b : Bool) → d.cuts (planned_by b s.committed) ≡ s.to → is_open (first_by b r s) ≡ true → AreDealt (first_by b r s)
+  dealt_first false to open_ = absurd (true≢false (sym open_ ∙ nat_lt-not s.committed s.committed (omega arith)))
+  dealt_first true to open_ = record {
+    tasks = λ t p epoch here. by_kind t.kind t p refl epoch here;
+    deltas = λ i here. back_no_more (replicate_at r.partitions i (first_place true) (place.Back None) here);
+    mapped = λ i is. (let b = line_below s.from s.to i (sym (map_is i) ∙ is) in let l = dealt_length s.from s.to in omega arith);
   }
     where
       map_is : (i : ℕ) → (job.course d.cuts).is_task (map_task s.committed i) ≡ has_line_at s.from s.to i
@@ -113,6 +81,33 @@ module _ (job : Job) (r : Scope) (next : Cuts → ℕ → Bool) (terms : Terms j
           let it : t ≡ out_task s.committed = (λ i. record { epoch = epoch i; kind = same i; number = o.0 i }) in
           shows_it t p o.1 (ap (job.course d.cuts).is_task it ∙ terms.outs d.cuts s.committed)
       by_kind kind.Upkeep t p same epoch here = absurd (some-ne-none p (sym here))
+
+  pub shows_first : (b : Bool) → d.planned ≡ planned_by b s.committed → d.cuts (planned_by b s.committed) ≡ s.to → (b ≡ false → s.due ≡ next d.cuts s.committed) → Shows job r next terms (first_by b r s) d
+  shows_first b planned to due = record {
+    planned = planned;
+    committed = committed;
+    starts = begins;
+    ends = to;
+    proper = subst (λ (n : ℕ). AreProper job d.cuts n) planned op.1;
+    settled = λ h q other there. op.3 q ∙ sym (op.2 q) ∙ there;
+    plan_there = λ e less. there_of (name.Plan e) (plan_file b planned e less);
+    plan_settled = λ o f. sure_of (name.Plan s.committed) (plan_file b planned s.committed (nat_lt-less s.committed (planned_by b s.committed) o));
+    commits = λ e less. there_of (name.Commit e) (commit_file e less);
+    written = λ o w. absurd (true≢false (sym w));
+    tasks = λ o. (dealt_first b to o).tasks;
+    deltas = λ o run i less here. absurd ((dealt_first b to o).deltas i here);
+    reduced = λ o. inl (op.4 (out_task s.committed));
+    mapped = λ o. (dealt_first b to o).mapped;
+    claimed = λ t epoch. inl (op.4 t);
+    later = λ t le. op.4 t;
+    whole = λ run t e. waits_failed (sym (op.4 t) ∙ e);
+    has_lines = λ o h. (λ i. has_line (from i) (to i)) ∙ h;
+    due = due_by b due;
+  }
+    where
+      due_by : (b : Bool) → (b ≡ false → s.due ≡ next d.cuts s.committed) → is_open (first_by b r s) ≡ false → s.due ≡ next d.cuts (planned_by b s.committed)
+      due_by false due h = due refl
+      due_by true due h = absurd (true≢false (sym (nat_lt-is s.committed (s.committed + 1) (omega arith)) ∙ h))
 
 -- The shelf of all files of the state that are there shows what was opened.
 module _ (job : Job) (r : Scope) (s : Start) (files : Files) (d : Desk) (shelf : Shelf) (committed : d.committed ≡ s.committed) (op : opened job files d) (begins : IsFirstShelf files shelf) where

@@ -1,8 +1,9 @@
 -- A task that leaves the desk or comes back: the desk still shows the machine's.
-use Rattle.std.proofs.Common.{◌≡◌, ◌≢◌, ◌⊎◌, ◌≤◌, ◌<◌, ◌&&◌, ◌==◌, ℕ, Bool, true, false, true≢false, List, length, set, Option, Some, None, is_some, if◌then◌else◌, sym, refl, ap, ◌∙◌, subst, inl, inr, arith, rules}
+use Rattle.std.proofs.Common.{◌≡◌, ◌≢◌, ◌⊎◌, ◌≤◌, ◌<◌, ◌&&◌, ◌==◌, nat_lt, ℕ, Bool, true, false, true≢false, List, length, set, Option, Some, None, is_some, if◌then◌else◌, sym, refl, ap, ◌∙◌, subst, inl, inr, arith, rules}
 use Rattle.std.specs.List.{list_all}
 use mathlib.Core.Option.{some, some-injective, some-ne-none}
 use lib.ListN.{get_elem?}
+use Rattle.ssq_outside.specs.declared.name.Name.{Name}
 use Rattle.ssq_outside.specs.declared.name.Name.TheVariants as name
 use Rattle.ssq_outside.specs.declared.gate.TaskId.{TaskId}
 use Rattle.ssq_outside.specs.declared.gate.Kind.{Kind}
@@ -17,7 +18,7 @@ use Rattle.ssq_board.specs.declared.front.Place.{Place}
 use Rattle.ssq_board.specs.declared.front.Place.TheVariants as place
 use Rattle.ssq_board.specs.Core.{Scope, Core, tasks_of, if_map, with_tasks, at, moved, with_front, is_open, is_fine, stopped_front}
 use Rattle.ssq_board.specs.Shown.{IsSound}
-use Rattle.ssq_board.specs.Follows.{Terms, map_task, IsDone, ShowsAt, AreThere, Shows}
+use Rattle.ssq_board.specs.Follows.{Terms, map_task, IsDone, ShowsAt, AreThere, is_snapshot, Shows}
 use Rattle.ssq_board.proofs.Lists.{put_here, put_else, set_length, there_at, all_fine, nat_lt-less}
 use Rattle.ssq_board.proofs.Sounds.{open_less}
 
@@ -99,22 +100,74 @@ pub record HasBrought (course : Course) (c : Core) (d : Desk) (t : TaskId) (p : 
   pub own : (i : ℕ) → reduce c.front.committed i ≡ t → p ≡ place.Back None → o ≡ None → i < course.keeping → d.there (name.Delta i c.front.committed) ≡ true
   pub all : out_task c.front.committed ≡ t → AreThere course d c.front.committed
 
+-- ---- what changes of a desk that is shown
+
+-- a core with the counts of another, and a desk with the cuts of another
+abbrev pub counted : Core → Core → Core
+counted c n = record {
+  front = record { planned = c.front.planned; committed = c.front.committed; fresh = n.front.fresh; settled = n.front.settled; written = n.front.written; has_lines = c.front.has_lines; due = c.front.due; stop = n.front.stop };
+  ends = c.ends;
+  maps = n.maps;
+  reduces = n.reduces;
+  outs = n.outs;
+}
+
+abbrev pub cut_as : Desk → Desk → Desk
+cut_as d n = record { cuts = d.cuts; planned = d.planned; committed = d.committed; there = n.there; sure = n.sure; tasks = n.tasks; stores = n.stores }
+
+-- what is shown of the files: which of them are settled, and those of plans and commits
+pub record ShowsFiles (planned committed : ℕ) (fresh all : Bool) (there sure : Name → Bool) : Type 0 where
+  pub settled : all ≡ true → (q : Name) → is_snapshot q ≡ false → there q ≡ true → sure q ≡ true
+  pub plan_there : (e : ℕ) → e < planned → there (name.Plan e) ≡ true
+  pub plan_settled : nat_lt committed planned ≡ true → fresh ≡ true → sure (name.Plan committed) ≡ true
+  pub commits : (e : ℕ) → e < committed → there (name.Commit e) ≡ true
+
+-- and of the tasks, and of what these brought
+pub record ShowsTasks (job : Job) (c : Core) (d : Desk) : Type 0 where
+  pub written : is_open c ≡ true → c.front.written ≡ true → (d.there (name.Out c.front.committed) ≡ true) × IsDone (job.course d.cuts) (out_task c.front.committed) (d.tasks (out_task c.front.committed))
+  pub tasks : is_open c ≡ true → (t : TaskId) (p : Place) → t.epoch ≡ c.front.committed → at c t ≡ some p → ShowsAt (job.course d.cuts) t (d.tasks t) p
+  pub deltas : is_open c ≡ true → c.front.stop ≡ None → (p : ℕ) → p < (job.course d.cuts).keeping → at c (reduce c.front.committed p) ≡ some (place.Back None) → d.there (name.Delta p c.front.committed) ≡ true
+  pub reduced : is_open c ≡ true → (d.tasks (out_task c.front.committed) ≡ machine.waits) ⊎ AreThere (job.course d.cuts) d c.front.committed
+  pub mapped : is_open c ≡ true → (i : ℕ) → (job.course d.cuts).is_task (map_task c.front.committed i) ≡ true → i < length c.maps
+  pub claimed : (t : TaskId) → t.epoch ≡ c.front.committed → (d.tasks t ≡ machine.waits) ⊎ (c.front.fresh ≡ true)
+  pub later : (t : TaskId) → c.front.planned ≤ t.epoch → d.tasks t ≡ machine.waits
+  pub whole : c.front.stop ≡ None → (t : TaskId) → d.tasks t ≡ machine.failed → ⊥
+
 module _ (job : Job) (r : Scope) (due : Cuts → ℕ → Bool) (terms : Terms job r due) where
-  -- A task of the epoch that runs goes from one place to another, where it wasn't done, and perhaps brings about a Stop: it does where
-  -- it comes back after a fault of the outside.
-  pub placed_shows : (c : Core) (d : Desk) (t : TaskId) (q p : Place) (there : machine.Place) (o : Option Cause) → is_open c ≡ true → t.epoch ≡ c.front.committed → c.front.fresh ≡ true → at c t ≡ some q
-      → (IsDone (job.course d.cuts) t (d.tasks t) → ⊥) → ShowsAt (job.course d.cuts) t there p → HasBrought (job.course d.cuts) c d t p o → (o ≡ None → (c.front.stop ≡ None) × (there ≡ machine.failed → ⊥))
-      → Shows job r due terms c d → Shows job r due terms (with_front (moved c t p) (stopped_front c.front o)) (placed t there d)
-  placed_shows c d t q p there o opened epoch fresh here never shows has whole s = record {
+  pub files_shown : (c : Core) (d : Desk) → Shows job r due terms c d → ShowsFiles c.front.planned c.front.committed c.front.fresh c.front.settled d.there d.sure
+  files_shown c d s = record { settled = s.settled; plan_there = s.plan_there; plan_settled = s.plan_settled; commits = s.commits }
+
+  -- where the counts and the cuts stay, files and tasks are all that has to be shown again
+  pub shows_else : (c : Core) (d : Desk) (n : Core) (m : Desk) → Shows job r due terms c d → ShowsFiles c.front.planned c.front.committed n.front.fresh n.front.settled m.there m.sure → ShowsTasks job (counted c n) (cut_as d m)
+      → Shows job r due terms (counted c n) (cut_as d m)
+  shows_else c d n m s files tasks = record {
     planned = s.planned;
     committed = s.committed;
     starts = s.starts;
     ends = s.ends;
     proper = s.proper;
-    settled = s.settled;
-    plan_there = s.plan_there;
-    plan_settled = s.plan_settled;
-    commits = s.commits;
+    settled = files.settled;
+    plan_there = files.plan_there;
+    plan_settled = files.plan_settled;
+    commits = files.commits;
+    written = tasks.written;
+    tasks = tasks.tasks;
+    deltas = tasks.deltas;
+    reduced = tasks.reduced;
+    mapped = tasks.mapped;
+    claimed = tasks.claimed;
+    later = tasks.later;
+    whole = tasks.whole;
+    has_lines = s.has_lines;
+    due = s.due;
+  }
+
+  -- A task of the epoch that runs goes from one place to another, where it wasn't done, and perhaps brings about a Stop: it does where
+  -- it comes back after a fault of the outside.
+  pub placed_shows : (c : Core) (d : Desk) (t : TaskId) (q p : Place) (there : machine.Place) (o : Option Cause) → is_open c ≡ true → t.epoch ≡ c.front.committed → c.front.fresh ≡ true → at c t ≡ some q
+      → (IsDone (job.course d.cuts) t (d.tasks t) → ⊥) → ShowsAt (job.course d.cuts) t there p → HasBrought (job.course d.cuts) c d t p o → (o ≡ None → (c.front.stop ≡ None) × (there ≡ machine.failed → ⊥))
+      → Shows job r due terms c d → Shows job r due terms (with_front (moved c t p) (stopped_front c.front o)) (placed t there d)
+  placed_shows c d t q p there o opened epoch fresh here never shows has whole s = shows_else c d (with_front (moved c t p) (stopped_front c.front o)) (placed t there d) s (files_shown c d s) (record {
     written = λ o w. ((s.written o w).0, still (s.written o w).1);
     tasks = λ o' u x at_epoch found. by_task u x at_epoch (same_at u.kind (moved c t p) (stopped_front c.front o) u.number ∙ found) (same_task u t) refl;
     deltas = λ o' run i less found. delta run i less (same_at kind.Reduce (moved c t p) (stopped_front c.front o) i ∙ found) (same_task (reduce c.front.committed i) t) refl;
@@ -123,9 +176,7 @@ module _ (job : Job) (r : Scope) (due : Cuts → ℕ → Bool) (terms : Terms jo
     claimed = λ u at_epoch. inr fresh;
     later = λ u le. later u le (same_task u t) refl;
     whole = λ run u. whole_at (whole run) u (same_task u t) refl;
-    has_lines = s.has_lines;
-    due = s.due;
-  }
+  })
     where
       course : Course
       course = job.course d.cuts
@@ -169,16 +220,7 @@ module _ (job : Job) (r : Scope) (due : Cuts → ℕ → Bool) (terms : Terms jo
 
   -- a Stop is no other place
   pub stopped_shows : (c : Core) (d : Desk) (g : Cause) → Shows job r due terms c d → Shows job r due terms (with_front c (stopped_front c.front (Some g))) d
-  stopped_shows c d g s = record {
-    planned = s.planned;
-    committed = s.committed;
-    starts = s.starts;
-    ends = s.ends;
-    proper = s.proper;
-    settled = s.settled;
-    plan_there = s.plan_there;
-    plan_settled = s.plan_settled;
-    commits = s.commits;
+  stopped_shows c d g s = shows_else c d (with_front c (stopped_front c.front (Some g))) d s (files_shown c d s) (record {
     written = s.written;
     tasks = λ opened t p epoch here. s.tasks opened t p epoch (same_at t.kind c (stopped_front c.front (Some g)) t.number ∙ here);
     deltas = λ opened run. absurd (some_none run);
@@ -187,9 +229,7 @@ module _ (job : Job) (r : Scope) (due : Cuts → ℕ → Bool) (terms : Terms jo
     claimed = s.claimed;
     later = s.later;
     whole = λ run. absurd (some_none run);
-    has_lines = s.has_lines;
-    due = s.due;
-  }
+  })
     where
       some_none : Some g ≡ None → ⊥
       some_none e = cc

@@ -23,7 +23,7 @@ use Rattle.ssq_board.specs.Shown.{IsSound}
 use Rattle.ssq_board.specs.Follows.{Terms, map_task, change_of, IsDone, ShowsAt, AreThere, Shows, life_of}
 use Rattle.ssq_board.proofs.Lists.{at_length, const_at, map_length, one_at, dealt_at, dealt_length, line_below, not_behind, back_no_more, nat_lt-is, nat_lt-not}
 use Rattle.ssq_board.proofs.Sounds.{open_less, open_not}
-use Rattle.ssq_board.proofs.Placing.{runs, same_at}
+use Rattle.ssq_board.proofs.Placing.{runs, same_at, shows_else}
 
 pub runs_on : (c : Core) → c.front.stop ≡ None → life_of c.front.stop ≡ machine.running
 runs_on c e = ap life_of e
@@ -84,16 +84,12 @@ module _ (job : Job) (r : Scope) (due : Cuts → ℕ → Bool) (terms : Terms jo
       )
 
   pub out_shows : (e : ℕ) → May r c (entry.OutFile e) → Shows job r due terms (after r c (entry.OutFile e)) (out_desk e)
-  out_shows e m = record {
-    planned = s.planned;
-    committed = s.committed;
-    starts = s.starts;
-    ends = s.ends;
-    proper = s.proper;
+  out_shows e m = shows_else job r due terms c d (after r c (entry.OutFile e)) (out_desk e) s (record {
     settled = λ h. absurd (true≢false (sym h));
     plan_there = λ k less. there_still (name.Plan k) (name.Out e) d (s.plan_there k less);
     plan_settled = s.plan_settled;
     commits = λ k less. there_still (name.Commit k) (name.Out e) d (s.commits k less);
+  }) (record {
     written = λ o w. (
       subst (λ (x : ℕ). (out_desk e).there (name.Out x) ≡ true) m.1 (there_now (name.Out e) d),
       s.tasks o (out_task c.front.committed) (place.Back None) refl m.4,
@@ -105,24 +101,18 @@ module _ (job : Job) (r : Scope) (due : Cuts → ℕ → Bool) (terms : Terms jo
     claimed = s.claimed;
     later = s.later;
     whole = λ run. s.whole m.0;
-    has_lines = s.has_lines;
-    due = s.due;
-  }
+  })
 
   pub sync_may_on : (clock : ℕ) → May r c (entry.Sync clock) → MayOn job d (life_of c.front.stop) (event.Sync clock) syncs (with_sync d)
   sync_may_on clock m = (goes_on m, refl, refl)
 
   pub sync_shows : (clock : ℕ) → May r c (entry.Sync clock) → Shows job r due terms (after r c (entry.Sync clock)) (with_sync d)
-  sync_shows clock m = record {
-    planned = s.planned;
-    committed = s.committed;
-    starts = s.starts;
-    ends = s.ends;
-    proper = s.proper;
+  sync_shows clock m = shows_else job r due terms c d (after r c (entry.Sync clock)) (with_sync d) s (record {
     settled = λ h q other there. there;
     plan_there = s.plan_there;
     plan_settled = λ o f. s.plan_there c.front.committed (open_less c o);
     commits = s.commits;
+  }) (record {
     written = s.written;
     tasks = λ o t p epoch here. s.tasks o t p epoch (same_at t.kind c (after r c (entry.Sync clock)).front t.number ∙ here);
     deltas = λ o run i less here. s.deltas o m i less here;
@@ -131,9 +121,7 @@ module _ (job : Job) (r : Scope) (due : Cuts → ℕ → Bool) (terms : Terms jo
     claimed = λ t epoch. inr refl;
     later = s.later;
     whole = λ run. s.whole m;
-    has_lines = s.has_lines;
-    due = s.due;
-  }
+  })
 
   abbrev pub commit_desk : ℕ → Desk
   commit_desk e = with_file (name.Commit e) (with_commit d)

@@ -27,7 +27,7 @@ use Rattle.ssq_board.specs.Shown.{IsSound}
 use Rattle.ssq_board.specs.Shelf.{Shelf, there_in, asked_in, without, unclaimed, untidy, with_name, snapshot_on, last_of, acknowledged_in, MayKeep, shelf_by}
 use Rattle.ssq_board.specs.Follows.{Terms, Goes as Done, Moves, makes_by, ShowsAt, is_snapshot, Shows, IsKept, Shelves, ShowsShelf, life_of, shown}
 use Rattle.ssq_board.proofs.Sounds.{some_no}
-use Rattle.ssq_board.proofs.Placing.{placed_at, placed_twice, same_at, stopped_shows}
+use Rattle.ssq_board.proofs.Placing.{placed_at, placed_twice, same_at, files_shown, shows_else, stopped_shows}
 use Rattle.ssq_board.proofs.Planning.{runs_on, goes_on}
 use Rattle.ssq_board.proofs.Leading.{elapses_same, owes_none, not_over, went, tried, report_stops, Follows}
 use Rattle.ssq_board.proofs.Keeping.{shelves_stopped, no_upkeep, acknowledged_few, added_names, among_both, or_left, or_right, up_to_is, below_of}
@@ -88,16 +88,7 @@ module _ (job : Job) (r : Scope) (next : Cuts → ℕ → Bool) (terms : Terms j
   -- a snapshot's task is elsewhere: it is none of a later epoch
   kept_shows : (c : Core) (d : Desk) (p v : ℕ) (there : machine.Place) (o : Option Cause) → v < c.front.planned → (v ≡ c.front.committed → c.front.fresh ≡ true)
       → (o ≡ None → (c.front.stop ≡ None) × (there ≡ machine.failed → ⊥)) → Shows job r next terms c d → Shows job r next terms (with_front c (stopped_front c.front o)) (placed (upkeep p v) there d)
-  kept_shows c d p v there o early fresh whole s = record {
-    planned = s.planned;
-    committed = s.committed;
-    starts = s.starts;
-    ends = s.ends;
-    proper = s.proper;
-    settled = s.settled;
-    plan_there = s.plan_there;
-    plan_settled = s.plan_settled;
-    commits = s.commits;
+  kept_shows c d p v there o early fresh whole s = shows_else job r next terms c d (with_front c (stopped_front c.front o)) (placed (upkeep p v) there d) s (files_shown job r next terms c d s) (record {
     written = s.written;
     tasks = λ opened t q epoch found.
         let here = same_at t.kind c (stopped_front c.front o) t.number ∙ found in
@@ -108,9 +99,7 @@ module _ (job : Job) (r : Scope) (next : Cuts → ℕ → Bool) (terms : Terms j
     claimed = λ t epoch. claimed_at t epoch (same_task t (upkeep p v)) refl;
     later = λ t le. later_at t le (same_task t (upkeep p v)) refl;
     whole = λ run t. whole_at (whole run) t (same_task t (upkeep p v)) refl;
-    has_lines = s.has_lines;
-    due = s.due;
-  }
+  })
     where
       claimed_at : (t : TaskId) → t.epoch ≡ c.front.committed → (b : Bool) → same_task t (upkeep p v) ≡ b → ((if same_task t (upkeep p v) then there else d.tasks t) ≡ machine.waits) ⊎ (c.front.fresh ≡ true)
       claimed_at t epoch true same = inr (fresh (sym (ap (λ (x : TaskId). x.epoch) (same_task-true t (upkeep p v) same)) ∙ epoch))
@@ -130,16 +119,12 @@ module _ (job : Job) (r : Scope) (next : Cuts → ℕ → Bool) (terms : Terms j
   -- files come and go that no entry of the epoch needs
   files_shows : (c : Core) (d : Desk) (there sure : Name → Bool) → AreNeeded d c.front.committed there sure → (c.front.settled ≡ true → (q : Name) → is_snapshot q ≡ false → there q ≡ true → sure q ≡ true)
       → Shows job r next terms c d → Shows job r next terms c (record { cuts = d.cuts; planned = d.planned; committed = d.committed; there = there; sure = sure; tasks = d.tasks; stores = d.stores })
-  files_shows c d there sure needed settled s = record {
-    planned = s.planned;
-    committed = s.committed;
-    starts = s.starts;
-    ends = s.ends;
-    proper = s.proper;
+  files_shows c d there sure needed settled s = shows_else job r next terms c d c (record { cuts = d.cuts; planned = d.planned; committed = d.committed; there = there; sure = sure; tasks = d.tasks; stores = d.stores }) s (record {
     settled = settled;
     plan_there = λ e less. needed.plan e ∙ s.plan_there e less;
     plan_settled = λ opened fresh. needed.plan_sure c.front.committed ∙ s.plan_settled opened fresh;
     commits = λ e less. needed.commit e ∙ s.commits e less;
+  }) (record {
     written = λ opened is. (needed.out c.front.committed ∙ (s.written opened is).0, (s.written opened is).1);
     tasks = s.tasks;
     deltas = λ opened run i keeps here. needed.delta i ∙ s.deltas opened run i keeps here;
@@ -148,9 +133,7 @@ module _ (job : Job) (r : Scope) (next : Cuts → ℕ → Bool) (terms : Terms j
     claimed = s.claimed;
     later = s.later;
     whole = s.whole;
-    has_lines = s.has_lines;
-    due = s.due;
-  }
+  })
 
   -- the file of a snapshot is there
   snapshot_shows : (c : Core) (d : Desk) (p v : ℕ) → Shows job r next terms c d → Shows job r next terms c (with_file (name.Snapshot p v) d)

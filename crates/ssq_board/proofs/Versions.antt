@@ -22,7 +22,7 @@ use Rattle.ssq_board.specs.Shelf.{Shelf, last_of, version_on, shelf_by}
 use Rattle.ssq_board.proofs.Keeping.{shelves_placed, shelves_stored, shelves_stopped, shelves_delta, open_last, or_stop_none}
 use Rattle.ssq_board.proofs.Lists.{nat_lt-less}
 use Rattle.ssq_board.proofs.Sounds.{due_none}
-use Rattle.ssq_board.proofs.Placing.{placed_at, placed_twice, same_at, HasBrought, placed_shows}
+use Rattle.ssq_board.proofs.Placing.{placed_at, placed_twice, same_at, shows_else, HasBrought, placed_shows}
 use Rattle.ssq_board.proofs.Planning.{runs_on, there_still, there_now}
 use Rattle.ssq_board.proofs.Leading.{elapses_same, owes_none, went, tried, out_not_done, out_back, back_failed, report_stops, due_why, Follows}
 
@@ -49,16 +49,12 @@ module _ (told : Type 0) (job : Job) (r : Scope) (next : Cuts → ℕ → Bool) 
   -- files that come are no other tasks, and stores are not shown
   grown_shows : (c : Core) (d : Desk) (names : Name → Bool) (stores : ℕ → List ℕ) (settled : Bool) → ((q : Name) → d.there q ≡ true → names q ≡ true) → (settled ≡ true → (q : Name) → is_snapshot q ≡ false → names q ≡ true → d.sure q ≡ true)
       → Shows job r next terms c d → Shows job r next terms (with_front c (settled_as c.front settled)) (grown names stores d)
-  grown_shows c d names stores settled more sure s = record {
-    planned = s.planned;
-    committed = s.committed;
-    starts = s.starts;
-    ends = s.ends;
-    proper = s.proper;
+  grown_shows c d names stores settled more sure s = shows_else job r next terms c d (with_front c (settled_as c.front settled)) (grown names stores d) s (record {
     settled = sure;
     plan_there = λ k less. more (name.Plan k) (s.plan_there k less);
     plan_settled = s.plan_settled;
     commits = λ k less. more (name.Commit k) (s.commits k less);
+  }) (record {
     written = λ o w. (more (name.Out c.front.committed) (s.written o w).0, (s.written o w).1);
     tasks = λ o t p epoch here. s.tasks o t p epoch (same_at t.kind c (settled_as c.front settled) t.number ∙ here);
     deltas = λ o run i less here. more (name.Delta i c.front.committed) (s.deltas o run i less here);
@@ -67,9 +63,7 @@ module _ (told : Type 0) (job : Job) (r : Scope) (next : Cuts → ℕ → Bool) 
     claimed = s.claimed;
     later = s.later;
     whole = s.whole;
-    has_lines = s.has_lines;
-    due = s.due;
-  }
+  })
 
   -- the reduce task t of partition p in epoch e is away
   module _ (c : Core) (d : Desk) (e p : ℕ) (s : Shows job r next terms c d) (opened : is_open c ≡ true) (epoch : e ≡ c.front.committed) (here : at c (reduce e p) ≡ some place.Away) (k : Shelf) (held : ShowsShelf c k d) where

@@ -136,59 +136,61 @@ module _ (laws : RowLaws) where
   unfolding operator_of
   ascends s shape is rows now = subst (λ (own : Shape). Ascends ((operator_for own s.job.bound).state rows now)) is (laws.ascend s.job.bound rows now)
 
-  groups_are_small : (s : Setting) (cuts : Cuts) (n : ℕ) (grouping : Grouping) → s.job.bound.shape ≡ Group grouping → AreWithinLimits grouping → CoverFewLines s cuts n → (p e : ℕ) → e ≤ n
-      → IsSmall (kept s.job.bound grouping (bucket s.job.partitions p (accepted s.job.bound (parts_in s) (cuts_of cuts) e)) (watermark_before s.job.bound (parts_in s) (cuts_of cuts) e))
-  groups_are_small s cuts n grouping is limits lines p e le =
-      let query = s.job.bound in
-      let parts = parts_in s in
-      let windows : HasWindows query = subst HasWindowsBy (sym is) limits.windows in
-      let rows = accepted query parts (cuts_of cuts) e in
-      let own = bucket s.job.partitions p rows in
-      let now = watermark_before query parts (cuts_of cuts) e in (
-        kept_is_state query grouping own now limits (laws.own_fit rows s.job.partitions p (laws.fit query windows parts (cuts_of cuts) e))
-            (All-filter (λ (row : FedRow). place_of (keys_of row.key) s.job.partitions == p) (HasKeyOf grouping) rows (laws.lengths query grouping is parts (cuts_of cuts) e)) (ascends s (Group grouping) is own now),
-        omega (arith, kept_few query grouping own now, laws.own_few rows s.job.partitions p, accepted_grow query parts (cuts_of cuts) e n le, laws.few query windows parts (cuts_of cuts) n lines.are_cuts, lines.few),
-      )
+  module _ (s : Setting) (cuts : Cuts) (n : ℕ) (lines : CoverFewLines s cuts n) (p e : ℕ) (le : e ≤ n) where
+    abbrev query : Bound
+    query = s.job.bound
 
-  repeats_are_small : (s : Setting) (cuts : Cuts) (n : ℕ) (columns : List ℕ) → s.job.bound.shape ≡ Dedup columns → length columns ≤ 64 → CoverFewLines s cuts n → (p e : ℕ) → e ≤ n
-      → IsSmall (repeats.kept s.job.bound columns (bucket s.job.partitions p (accepted s.job.bound (parts_in s) (cuts_of cuts) e)) (watermark_before s.job.bound (parts_in s) (cuts_of cuts) e))
-  repeats_are_small s cuts n columns is limit lines p e le =
-      let query = s.job.bound in
-      let parts = parts_in s in
-      let windows : HasWindows query = subst HasWindowsBy (sym is) tt in
-      let rows = accepted query parts (cuts_of cuts) e in
-      let own = bucket s.job.partitions p rows in
-      let now = watermark_before query parts (cuts_of cuts) e in
-      let lengths : All (λ (row : FedRow). length row.key ≡ length columns) rows =
-      All-weaker (IsDedupRow query columns) (λ (row : FedRow). length row.key ≡ length columns) (λ row own. own.key) rows (laws.repeats_lengths query columns is parts (cuts_of cuts) e) in (
-        repeats_are_state query columns own now limit (laws.own_fit rows s.job.partitions p (laws.fit query windows parts (cuts_of cuts) e))
-            (All-filter (λ (row : FedRow). place_of (keys_of row.key) s.job.partitions == p) (λ (row : FedRow). length row.key ≡ length columns) rows lengths) (ascends s (Dedup columns) is own now),
-        omega (arith, repeats_few query columns own now, laws.own_few rows s.job.partitions p, accepted_grow query parts (cuts_of cuts) e n le, laws.few query windows parts (cuts_of cuts) n lines.are_cuts, lines.few),
-      )
+    -- the rows that were accepted before epoch e, those of partition p, and the watermark behind them
+    abbrev rows : List FedRow
+    rows = accepted query (parts_in s) (cuts_of cuts) e
 
-  joins_are_small : (s : Setting) (cuts : Cuts) (n : ℕ) (joining : Joining) → s.job.bound.shape ≡ Join joining → HasFewCells s.job.bound joining → CoverFewLines s cuts n → (p e : ℕ) → e ≤ n
-      → IsSmall (pairs.kept joining (bucket s.job.partitions p (accepted s.job.bound (parts_in s) (cuts_of cuts) e)) (watermark_before s.job.bound (parts_in s) (cuts_of cuts) e))
-  joins_are_small s cuts n joining is few lines p e le =
-      let query = s.job.bound in
-      let parts = parts_in s in
-      let windows : HasWindows query = subst HasWindowsBy (sym is) tt in
-      let rows = accepted query parts (cuts_of cuts) e in
-      let own = bucket s.job.partitions p rows in
-      let now = watermark_before query parts (cuts_of cuts) e in
-      let joined = laws.joined query joining is parts (cuts_of cuts) e in
-      let wide = laws.joined_wide query joining is parts (cuts_of cuts) e in
-      let narrow : All IsNarrow rows = λ k d less. narrow_row query joining few (get_or rows k d) (joined k d less) (wide k d less) in (
-        joined_are_state joining own now (laws.own_fit rows s.job.partitions p (laws.fit query windows parts (cuts_of cuts) e))
-            (All-filter (λ (row : FedRow). place_of (keys_of row.key) s.job.partitions == p) IsNarrow rows narrow) (ascends s (Join joining) is own now),
-        omega (arith, joined_few joining own now, laws.own_few rows s.job.partitions p, accepted_grow query parts (cuts_of cuts) e n le, laws.few query windows parts (cuts_of cuts) n lines.are_cuts, lines.few),
-      )
+    abbrev own : List FedRow
+    own = bucket s.job.partitions p rows
+
+    abbrev now : Option ℤ
+    now = watermark_before query (parts_in s) (cuts_of cuts) e
+
+    own_all : (P : FedRow → Type 0) → All P rows → All P own
+    own_all P all = All-filter (λ (row : FedRow). place_of (keys_of row.key) s.job.partitions == p) P rows all
+
+    own_fit : HasWindows query → All IsFitRow own
+    own_fit windows = laws.own_fit rows s.job.partitions p (laws.fit query windows (parts_in s) (cuts_of cuts) e)
+
+    few_kept : HasWindows query → (state : State) → length state ≤ length own → length state < 2 ^ 63
+    few_kept windows state few = omega (arith, few, laws.own_few rows s.job.partitions p, accepted_grow query (parts_in s) (cuts_of cuts) e n le, laws.few query windows (parts_in s) (cuts_of cuts) n lines.are_cuts, lines.few)
+
+    groups_are_small : (grouping : Grouping) → query.shape ≡ Group grouping → AreWithinLimits grouping → IsSmall (kept query grouping own now)
+    groups_are_small grouping is limits =
+        let windows : HasWindows query = subst HasWindowsBy (sym is) limits.windows in (
+          kept_is_state query grouping own now limits (own_fit windows) (own_all (HasKeyOf grouping) (laws.lengths query grouping is (parts_in s) (cuts_of cuts) e)) (ascends s (Group grouping) is own now),
+          few_kept windows (kept query grouping own now) (kept_few query grouping own now),
+        )
+
+    repeats_are_small : (columns : List ℕ) → query.shape ≡ Dedup columns → length columns ≤ 64 → IsSmall (repeats.kept query columns own now)
+    repeats_are_small columns is limit =
+        let windows : HasWindows query = subst HasWindowsBy (sym is) tt in
+        let IsLong : FedRow → Type 0 = λ row. length row.key ≡ length columns in
+        let lengths : All IsLong rows = All-weaker (IsDedupRow query columns) IsLong (λ row is_own. is_own.key) rows (laws.repeats_lengths query columns is (parts_in s) (cuts_of cuts) e) in (
+          repeats_are_state query columns own now limit (own_fit windows) (own_all IsLong lengths) (ascends s (Dedup columns) is own now),
+          few_kept windows (repeats.kept query columns own now) (repeats_few query columns own now),
+        )
+
+    joins_are_small : (joining : Joining) → query.shape ≡ Join joining → HasFewCells query joining → IsSmall (pairs.kept joining own now)
+    joins_are_small joining is few =
+        let windows : HasWindows query = subst HasWindowsBy (sym is) tt in
+        let joined = laws.joined query joining is (parts_in s) (cuts_of cuts) e in
+        let wide = laws.joined_wide query joining is (parts_in s) (cuts_of cuts) e in
+        let narrow : All IsNarrow rows = λ k d less. narrow_row query joining few (get_or rows k d) (joined k d less) (wide k d less) in (
+          joined_are_state joining own now (own_fit windows) (own_all IsNarrow narrow) (ascends s (Join joining) is own now),
+          few_kept windows (pairs.kept joining own now) (joined_few joining own now),
+        )
 
   small_by : (s : Setting) (cuts : Cuts) (n : ℕ) (shape : Shape) → s.job.bound.shape ≡ shape → CanHoldBy shape s cuts n → (p e : ℕ) → e ≤ n
       → IsSmall ((operator_for shape s.job.bound).state (bucket s.job.partitions p (accepted s.job.bound (parts_in s) (cuts_of cuts) e)) (watermark_before s.job.bound (parts_in s) (cuts_of cuts) e))
   small_by s cuts n Plain is can p e le = none_is_small
-  small_by s cuts n (Group grouping) is can p e le = groups_are_small s cuts n grouping is can.0 can.1 p e le
-  small_by s cuts n (Dedup columns) is can p e le = repeats_are_small s cuts n columns is can.0 can.1 p e le
-  small_by s cuts n (Join joining) is can p e le = joins_are_small s cuts n joining is can.0 can.1 p e le
+  small_by s cuts n (Group grouping) is can p e le = groups_are_small s cuts n can.1 p e le grouping is can.0
+  small_by s cuts n (Dedup columns) is can p e le = repeats_are_small s cuts n can.1 p e le columns is can.0
+  small_by s cuts n (Join joining) is can p e le = joins_are_small s cuts n can.1 p e le joining is can.0
 
   is_small : (s : Setting) (cuts : Cuts) (n : ℕ) → CanHold s cuts n → (p e : ℕ) → e ≤ n → IsSmall (state_at s cuts p e)
   unfolding operator_of

@@ -1,5 +1,5 @@
 -- The step leads to the state over its rows too, and shows the epoch's rows.
-use Rattle.std.proofs.Common.{◌≡◌, ◌++◌, ℕ, ℤ, [], ◌∷◌, Some, None, List, Option, Bool, true, false, All, refl, ap, sym, subst, ◌∙◌, arith, filter, length}
+use Rattle.std.proofs.Common.{◌≡◌, ◌++◌, ℕ, ℤ, [], ◌∷◌, Some, None, List, Option, Bool, true, false, All, refl, ap, sym, subst, ◌∙◌, length}
 use Rattle.std.specs.Prelude.{◌&&◌, ◌||◌, not, if◌then◌else◌, is_some}
 use Rattle.std.specs.BTreeMap.{is_at}
 use Rattle.std.specs.Cmp.Lexicographic.{slice_cmp}
@@ -26,8 +26,9 @@ use Rattle.ssq_meaning.specs.Operator.{dedup}
 use Rattle.ssq_meaning.proofs.FitRows.{spelled}
 use Rattle.ssq_meaning.proofs.Keys.{same_is}
 use Rattle.ssq_step.specs.declared.stepped.Stepped.{Stepped}
-use Rattle.ssq_step.specs.Indexing.{AreDueKeys, Indexes, IsIndexBy, IsReadableKey, Timed, stands}
+use Rattle.ssq_step.specs.Indexing.{AreDueKeys, Indexes, IsIndexBy, IsReadableKey, Timed}
 use Rattle.ssq_step.specs.Steps.{IsStep}
+use Rattle.ssq_step.proofs.ByBytes.{any_by}
 use Rattle.ssq_dedup.specs.Firsts.{HoldsKeys, IsGone, IsKeyed, SaysFirsts, first_among, said_if}
 use Rattle.ssq_dedup.specs.Steps.{Given, IsKept}
 use Rattle.ssq_dedup.proofs.Taking.{among_are}
@@ -91,17 +92,6 @@ module _ (columns : List ℕ) where
       (subst (λ n. AllByRecursion (λ (row : FedRow). IsKeySpelled n row.key) rows) (sym is.many) (spelled_rows rows all))
 
 -- ---- keys that are due
-
-any_by : (q : List ℕ) (keys : List (List ℕ)) (b : Bool) → stands q keys ≡ (if b then 1 else 0) → list_any (is_at (by_bytes q)) keys ≡ b
-any_by q [] true is = absurd (omega (arith, is))
-any_by q [] false is = refl
-any_by q (other ∷ keys) b is = by (is_at (by_bytes q) other) b (any_by q keys) is
-  where
-    by : (s c : Bool) → ((c : Bool) → stands q keys ≡ (if c then 1 else 0) → list_any (is_at (by_bytes q)) keys ≡ c)
-        → length (if s then other ∷ filter (is_at (by_bytes q)) keys else filter (is_at (by_bytes q)) keys) ≡ (if c then 1 else 0) → (s || list_any (is_at (by_bytes q)) keys) ≡ c
-    by true true rest is = refl
-    by true false rest is = absurd (omega (arith, is))
-    by false c rest is = rest c is
 
 some_entry : (b : Bool) → is_some (entry_if b) ≡ b
 some_entry true = refl

@@ -1,21 +1,19 @@
--- One row more, and one key that goes.
+-- One row more.
 use Rattle.std.proofs.Common.{◌≡◌, ◌<◌, ◌+◌, ◌++◌, ℕ, [], ◌∷◌, Some, None, List, Option, Bool, true, false, cond, All, refl, ap, sym, subst, ◌∙◌, take, length, get_or, map, arith}
 use Rattle.std.specs.Prelude.{◌&&◌, ◌||◌, not, if◌then◌else◌, is_some}
-use Rattle.std.specs.Borrow.{Bor}
 use Rattle.std.specs.BTreeMap.{is_at}
-use Rattle.std.specs.List.{AllByRecursion, list_any}
+use Rattle.std.specs.List.{AllByRecursion}
 use Rattle.std.specs.Option.{option_or}
 use Rattle.std.proofs.lemmas.List.{append_assoc, append-nil, map-append, take_more}
 use Rattle.std.proofs.lemmas.List.Elements.{All-get_or, All-push, All-weaker, recursion_from_All}
-use Rattle.std.proofs.lemmas.List.Folds.{list_any-append}
 use Rattle.ssq_time.specs.Time.{IsStampTime}
 use Rattle.ssq_value.specs.declared.value.Value.{Value}
 use Rattle.ssq_value.specs.declared.value.Value.TheVariants as value
 use Rattle.ssq_value.specs.Kind.{IfTime}
 use Rattle.ssq_value.specs.Key.{IsSpelled, keys_of}
-use Rattle.ssq_version.specs.State.{Change, IsShort, IsShortEntry, IsToldAt, State, by_bytes, last_at, value_at}
+use Rattle.ssq_version.specs.State.{Change, IsShort, IsShortEntry, State, by_bytes, last_at, value_at}
 use Rattle.ssq_version.proofs.LastSaid.{last_has}
-use Rattle.ssq_version.proofs.Values.{either_way, is_itself, one_key}
+use Rattle.ssq_version.proofs.Values.{is_itself, one_key}
 use Rattle.ssq_meaning.specs.FedRows.{FedRow}
 use Rattle.ssq_meaning.specs.Dedup.{firsts, values_in}
 use Rattle.ssq_meaning.specs.DedupLaws.{entry_if}
@@ -26,8 +24,8 @@ use Rattle.ssq_meaning.proofs.Coding.{AreApart}
 use Rattle.ssq_meaning.proofs.Counted.{has_key-append}
 use Rattle.ssq_meaning.proofs.FitRows.{spelled}
 use Rattle.ssq_meaning.proofs.Keys.{same_back, same_is, same_itself}
-use Rattle.ssq_step.specs.Indexing.{IsReadableKey, seen}
-use Rattle.ssq_dedup.specs.Firsts.{HoldsKeys, IsGone, IsKeyed, SaysFirsts, Takes, TakesIf, first_among, kept_entry, said_if}
+use Rattle.ssq_step.specs.Indexing.{IsReadableKey}
+use Rattle.ssq_dedup.specs.Firsts.{HoldsKeys, IsKeyed, SaysFirsts, Takes, TakesIf, first_among, kept_entry, said_if}
 
 or_false : (b : Bool) → (b || false) ≡ b
 or_false true = refl
@@ -265,29 +263,3 @@ printed_by false row before after shown more takes fit was =
 pub printed_more : (state : State) (row : FedRow) (has_row : Bool) (before after : Change) (shown more : List Values) → Takes state row has_row before after shown more → IsFitRow row
     → All (All (IfTime IsStampTime)) shown → All (All (IfTime IsStampTime)) more
 printed_more state row has_row before after shown more takes fit was = printed_by (has_row || is_some (value_at state (keys_of row.key))) row before after shown more takes fit was
-
--- ---- a key that goes
-
-pub none_gone : (keys : List (List ℕ)) (before after : Change) → keys ≡ [] → after ≡ before → IsGone keys before after
-none_gone keys before after none same q =
-    ap (λ (c : Change). value_at c q) same ∙ ap (λ l. if list_any (is_at (by_bytes q)) l then Some None else value_at before q) (sym none)
-
-gone_more : (keys : List (List ℕ)) (key : List ℕ) (before old new : Change) → IsToldAt key None old new → IsGone keys before old → IsGone (keys ++ key ∷ []) before new
-gone_more keys key before old new told was q =
-    told q
-    ∙ (λ i. if either_way key q i then Some None else was q i)
-    ∙ by (is_at (by_bytes q) key) (list_any (is_at (by_bytes q)) keys)
-    ∙ ap (λ b. if b then Some None else value_at before q) (sym (list_any-append (is_at (by_bytes q)) keys (key ∷ []) ∙ ap (λ b. list_any (is_at (by_bytes q)) keys || b) (or_false (is_at (by_bytes q) key))))
-  where
-    by : (a b : Bool) → (if a then Some None else (if b then Some None else value_at before q)) ≡ (if (b || a) then Some None else value_at before q)
-    by true true = refl
-    by true false = refl
-    by false true = refl
-    by false false = refl
-
-pub gone_at : (keys : List (Bor (List ℕ))) (at : ℕ) (key : Bor (List ℕ)) → at < length keys → key ≡ get_or keys at key → (before old new : Change) → IsToldAt key.now None old new
-    → IsGone (seen (take at keys)) before old → IsGone (seen (take (at + 1) keys)) before new
-gone_at keys at key inside is before old new told was =
-    let took : take (at + 1) keys ≡ take at keys ++ key ∷ [] = one_more keys at key inside is in
-    subst (λ (l : List (List ℕ)). IsGone l before new) (sym (ap seen took ∙ map-append (λ (key : Bor (List ℕ)). key.now) (take at keys) (key ∷ [])))
-    (gone_more (seen (take at keys)) key.now before old new told was)

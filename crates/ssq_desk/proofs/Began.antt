@@ -56,29 +56,29 @@ use Rattle.ssq_desk.proofs.Planned.{at_get}
 
 -- what a desk holds beside its ledger where its round begins
 abbrev pub load_of : {L S F : Type 0} → Round L → Made L S → Vec Plan → Vec (Source L) → Vec (Share S) → Vec (Option Held) → Option (OutWork S F) → Load L S F
-load_of round made plans sources shares held out = record { view = round.view; plans = plans; sources = sources; shares = shares; held = held; out = out; seen = made.seen; pending = None; told = made.told; kept = record { meta = round.opened.meta; lines = made.lines; logs = made.logs; stores = made.stores; closings = made.closings } }
+load_of round made plans sources shares held out = record { view = round.view; plans = plans; sources = sources; shares = shares; held = held; out = out; seen = made.seen; pending = None; told = made.rooms.told; kept = record { meta = round.opened.meta; lines = made.rooms.lines; logs = made.rooms.logs; stores = made.rooms.stores; closings = made.rooms.closings } }
 
 -- the start of a round
 abbrev start_in : {L : Type 0} → (L → List Line) → Round L → Start
 start_in lines round = start_at (first_ends (setting_of lines round)) round.view.bound.now round.opened
 
 module _ {L S : Type 0} (lines : L → List Line) (round : Round L) {r : Scope} {made : Made L S} (is : IsRound (setting_of lines round) round.opened r) (m : IsMadeOf round.view.bound.now round.view.partitions round.opened (length round.logs.items) made) where
-  parts_are : made.parts.items ≡ first_ends (setting_of lines round)
-  parts_are = m.parts ∙ sym is.first
+  parts_are : made.begun.parts.items ≡ first_ends (setting_of lines round)
+  parts_are = m.begun.parts ∙ sym is.first
 
-  ends_are : made.ends.items ≡ (start_in lines round).from
-  ends_are = m.ends ∙ ap (λ (ends : Ends). (start_at ends round.view.bound.now round.opened).from) (sym is.first)
+  ends_are : made.begun.ends.items ≡ (start_in lines round).from
+  ends_are = m.begun.ends ∙ ap (λ (ends : Ends). (start_at ends round.view.bound.now round.opened).from) (sym is.first)
 
-  pub start_is : made.start ≡ start_in lines round
-  start_is = m.start ∙ ap (λ (ends : Ends). start_at ends round.view.bound.now round.opened) (sym is.first)
+  pub start_is : made.begun.start ≡ start_in lines round
+  start_is = m.begun.start ∙ ap (λ (ends : Ends). start_at ends round.view.bound.now round.opened) (sym is.first)
 
   logs_are : length round.logs.items ≡ length (parts_in (setting_of lines round))
   logs_are = sym (length-map round.logs.items lines) ∙ is.logs
 
-  pub each_part : length made.parts.items ≡ length round.logs.items
+  pub each_part : length made.begun.parts.items ≡ length round.logs.items
   each_part = ap length parts_are ∙ length-map (parts_in (setting_of lines round)) (λ (part : Part). end_at part 0) ∙ sym logs_are
 
-  pub each_end : length made.ends.items ≡ length round.logs.items
+  pub each_end : length made.begun.ends.items ≡ length round.logs.items
   each_end = ap length ends_are ∙ from_count (setting_of lines round) round.opened r is ∙ sym logs_are
 
 module _ {D L S F : Type 0} (stores logs : Type 0) (history : D → History) (lines : L → List Line) (available : L → ℕ) (answers : L → List ℕ) (faults : L → ℕ) (written : S → List ℕ) (sealed : F → List ℕ) (round : Round L) (disk : D) (r : Scope) (made : Made L S)
@@ -103,11 +103,11 @@ module _ {D L S F : Type 0} (stores logs : Type 0) (history : D → History) (li
   abbrev start : Start
   start = start_in lines round
 
-  first_made : IsFirstMade reads lines available went round.logs.items s r start.from (sources_of made.parts.items made.ends.items round.logs.items)
+  first_made : IsFirstMade reads lines available went round.logs.items s r start.from (sources_of made.begun.parts.items made.begun.ends.items round.logs.items)
   first_made = record {
-    parts = sources_count made.parts.items made.ends.items round.logs.items (each_part lines round is m) (each_end lines round is m) ∙ (logs_are lines round is m);
-    logs = λ i part source there here. (let p = source_at made.parts.items made.ends.items round.logs.items i source here in
-        let at : get_or made.parts.items i (end_at part 0) ≡ end_at part 0 =
+    parts = sources_count made.begun.parts.items made.begun.ends.items round.logs.items (each_part lines round is m) (each_end lines round is m) ∙ (logs_are lines round is m);
+    logs = λ i part source there here. (let p = source_at made.begun.parts.items made.begun.ends.items round.logs.items i source here in
+        let at : get_or made.begun.parts.items i (end_at part 0) ≡ end_at part 0 =
         ap (λ (ends : Ends). get_or ends i (end_at part 0)) (parts_are lines round is m)
         ∙ get_or-map (λ (q : Part). end_at q 0) (parts_in s) i part (end_at part 0) (slice_below (parts_in s) i part there)
         ∙ ap (λ (q : Part). end_at q 0) (slice_or (parts_in s) i part part there) in record {
@@ -125,10 +125,10 @@ module _ {D L S F : Type 0} (stores logs : Type 0) (history : D → History) (li
             },
           );
         });
-    begins = λ i source here. (let p = source_at made.parts.items made.ends.items round.logs.items i source here in
+    begins = λ i source here. (let p = source_at made.begun.parts.items made.begun.ends.items round.logs.items i source here in
         let none : PartEnd = record { stream = 0; part = 0; end = 0 } in
-        sym (p.from_is none) ∙ sym (get_or-map (λ (e : PartEnd). e.end) made.ends.items i none 0 p.end_below) ∙ ap (λ (ends : Ends). get_or (numbers ends) i 0) (ends_are lines round is m));
-    nothing = λ i source here. (source_at made.parts.items made.ends.items round.logs.items i source here).nothing;
+        sym (p.from_is none) ∙ sym (get_or-map (λ (e : PartEnd). e.end) made.begun.ends.items i none 0 p.end_below) ∙ ap (λ (ends : Ends). get_or (numbers ends) i 0) (ends_are lines round is m));
+    nothing = λ i source here. (source_at made.begun.parts.items made.begun.ends.items round.logs.items i source here).nothing;
   }
 
   next_is : start.is_planned ≡ true → cuts (start.committed + 1) ≡ start.to
@@ -152,33 +152,33 @@ module _ {D L S F : Type 0} (stores logs : Type 0) (history : D → History) (li
       (staged_count fewer fewer written (λ t. t) held made.room.shares.items shares begun.4, staged_keys fewer fewer written (λ t. t) (length round.logs.items) held made.room.shares.items shares m.room.fresh begun.4)
 
   module _ (plans : Vec Plan) (sources : Vec (Source L)) (shares : Vec (Share S)) (held : Vec (Option Held)) (closings : List (List Timed)) (indexes : AreIndexes (Unit {0}) s.job.bound round.opened.stores closings) (count : length shares.items ≡ length made.room.shares.items)
-      (no_keys : All (λ (x : Share S). x.key ≡ None) shares.items) (held_is : held.items ≡ held_of round.opened.stores closings) (plans_is : plans.items ≡ round.opened.plans) (sources_is : sources.items ≡ sources_of made.parts.items made.ends.items round.logs.items) where
+      (no_keys : All (λ (x : Share S). x.key ≡ None) shares.items) (held_is : held.items ≡ held_of round.opened.stores closings) (plans_is : plans.items ≡ round.opened.plans) (sources_is : sources.items ≡ sources_of made.begun.parts.items made.begun.ends.items round.logs.items) where
     placed : IsFirstMade reads lines available went round.logs.items s r start.from sources.items
     placed = subst (λ (l : List (Source L)). IsFirstMade reads lines available went round.logs.items s r start.from l) (sym sources_is) first_made
 
     own_plans : ArePlans owned round.opened.plans s cuts (planned_by start.is_planned start.committed) plans.items
     own_plans = subst (λ (l : List Plan). ArePlans owned round.opened.plans s cuts (planned_by start.is_planned start.committed) l) (sym plans_is) (plans_are owned s round.opened r is (λ t. t.1.1))
 
-    nothing_told : AreTold owned s cuts round.opened.committed round.opened.committed made.told.items
+    nothing_told : AreTold owned s cuts round.opened.committed round.opened.committed made.rooms.told.items
     nothing_told = record {
-      count = (let none = ap length m.no_told in omega (arith, none));
-      each = λ i t here. absurd (some-ne-none t (sym (subst (λ (l : List Told). get_elem? l i ≡ some t) m.no_told here)));
+      count = (let none = ap length m.rooms.no_told in omega (arith, none));
+      each = λ i t here. absurd (some-ne-none t (sym (subst (λ (l : List Told). get_elem? l i ≡ some t) m.rooms.no_told here)));
     }
 
-    room_to_tell : (b : Bool) → b ≡ true → length made.told.items < vec_capacity made.told
-    room_to_tell b opened = (let none = ap length m.no_told in let room = m.told_room in omega (arith, none, room))
+    room_to_tell : (b : Bool) → b ≡ true → length made.rooms.told.items < vec_capacity made.rooms.told
+    room_to_tell b opened = (let none = ap length m.rooms.no_told in let room = m.rooms.told_room in omega (arith, none, room))
 
-    own_kept : IsKept s round.opened (record { meta = round.opened.meta; lines = made.lines; logs = made.logs; stores = made.stores; closings = made.closings })
+    own_kept : IsKept s round.opened (record { meta = round.opened.meta; lines = made.rooms.lines; logs = made.rooms.logs; stores = made.rooms.stores; closings = made.rooms.closings })
     own_kept = record {
       meta_is = refl;
-      no_lines = m.no_lines;
-      lines_room = m.lines_room;
-      no_logs = m.no_logs;
-      logs_room = subst (λ (n : ℕ). n ≤ vec_capacity made.logs) (logs_are lines round is m) m.logs_room;
-      no_stores = m.no_stores;
-      stores_room = subst (λ (n : ℕ). n ≤ vec_capacity made.stores) is.stores.many m.stores_room;
-      no_closings = m.no_closings;
-      closings_room = subst (λ (n : ℕ). n ≤ vec_capacity made.closings) is.stores.many m.closings_room;
+      no_lines = m.rooms.no_lines;
+      lines_room = m.rooms.lines_room;
+      no_logs = m.rooms.no_logs;
+      logs_room = subst (λ (n : ℕ). n ≤ vec_capacity made.rooms.logs) (logs_are lines round is m) m.rooms.logs_room;
+      no_stores = m.rooms.no_stores;
+      stores_room = subst (λ (n : ℕ). n ≤ vec_capacity made.rooms.stores) is.stores.many m.rooms.stores_room;
+      no_closings = m.rooms.no_closings;
+      closings_room = subst (λ (n : ℕ). n ≤ vec_capacity made.rooms.closings) is.stores.many m.rooms.closings_room;
     }
 
     held_count : length held.items ≡ keeping_in s
@@ -281,7 +281,7 @@ module _ {D L S F : Type 0} (stores logs : Type 0) (history : D → History) (li
 
   -- So a desk is whole that holds what was made, with whatever came of the files of its tasks.
   pub opens : (plans : Vec Plan) (sources : Vec (Source L)) (held : Vec (Option Held)) (closings : List (List Timed)) → AreIndexes (Unit {0}) s.job.bound round.opened.stores closings → held.items ≡ held_of round.opened.stores closings → plans.items ≡ round.opened.plans
-      → sources.items ≡ sources_of made.parts.items made.ends.items round.logs.items → (news : List (Share S)) (fewer : Type 0) (b : Bool) (old new : Shown D (Round L)) (out : Option (OutWork S F)) (before later : ℕ) → (owned → fewer) → start.is_planned ≡ b → old ≡ first_shown lines round disk r
+      → sources.items ≡ sources_of made.begun.parts.items made.begun.ends.items round.logs.items → (news : List (Share S)) (fewer : Type 0) (b : Bool) (old new : Shown D (Round L)) (out : Option (OutWork S F)) (before later : ℕ) → (owned → fewer) → start.is_planned ≡ b → old ≡ first_shown lines round disk r
       → BeginsWork fewer written b made.room.rows made.room.seen held.items made.room.shares.items news before later old new out
       → BeginsAs before later (first_shown lines round disk r) new × IsWhole stores logs history lines available answers faults written sealed new (load_of round made plans sources (with_items made.room.shares news) held out)
   opens plans sources held closings indexes held_is plans_is sources_is news fewer b old new out before later so planned old_is begun =

@@ -137,7 +137,7 @@ module _ {L : Type 0} where
 
 -- ---- the greatest times
 
-abbrev line_by : (ℕ → Option ℤ) → Delay → SeenBy
+abbrev pub line_by : (ℕ → Option ℤ) → Delay → SeenBy
 line_by of stream = record { stream = stream.0; time = of stream.0 }
 
 own_streams : (of : ℕ → Option ℤ) (ds : List Delay) → streams_of (map (line_by of) ds) ≡ places_of ds
@@ -145,7 +145,7 @@ own_streams of [] = refl
 own_streams of (d ∷ ds) = ap (λ (l : List ℕ). d.0 ∷ l) (own_streams of ds)
 
 -- a commit's lines tell the greatest times of all streams, where those without a line have none
-told_from : (of : ℕ → Option ℤ) (at : ℕ) (streams : List Stream) (stream : ℕ) → at ≤ stream → ((j : ℕ) → at + j ≡ stream → IfSome (slice_get streams j) (λ s. s.delay ≡ None) → of stream ≡ None)
+pub told_from : (of : ℕ → Option ℤ) (at : ℕ) (streams : List Stream) (stream : ℕ) → at ≤ stream → ((j : ℕ) → at + j ≡ stream → IfSome (slice_get streams j) (λ s. s.delay ≡ None) → of stream ≡ None)
     → told (map (line_by of) (delays_from at streams)) stream ≡ of stream
 unfolding delays_from
 told_from of at [] stream le none = (let m = minus at stream le in sym (none m.0 m.1 tt))
@@ -171,7 +171,7 @@ told_from of at (s ∷ streams) stream le none = elim (cases_lt at stream) [
         ∙ ap (later (of at)) (none_before (at + 1) stream streams (map (line_by of) (delays_from (at + 1) streams)) (omega (arith, same)) (own_streams of (delays_from (at + 1) streams)))
         ∙ later_none (of at) ∙ ap of same
 
-nothing_seen : (query : Bound) (parts : List Part) (cuts : Offsets) (stream : ℕ) → told [] stream ≡ seen query parts cuts stream 0
+pub nothing_seen : (query : Bound) (parts : List Part) (cuts : Offsets) (stream : ℕ) → told [] stream ≡ seen query parts cuts stream 0
 unfolding seen
 nothing_seen query parts cuts stream = refl
 
@@ -203,7 +203,7 @@ followed : (before ends : Ends) → IsTrue (follows before ends) → length ends
 followed before ends is = (let both = both_are (length before == length ends) (list_all keeps_up (zip before ends)) is in sym (eqb-true (length before) (length ends) both.0))
 
 -- each cut that was opened has one end for each part
-long_ends : (firsts : Ends) (plans : List Plan) (n k : ℕ) → length firsts ≡ n → ((e : ℕ) → e < length plans → IsTrue (follows (cut_of firsts plans e) (cut_of firsts plans (e + 1)))) → k ≤ length plans
+pub long_ends : (firsts : Ends) (plans : List Plan) (n k : ℕ) → length firsts ≡ n → ((e : ℕ) → e < length plans → IsTrue (follows (cut_of firsts plans e) (cut_of firsts plans (e + 1)))) → k ≤ length plans
     → length (cut_of firsts plans k) ≡ n
 long_ends firsts plans n zero count follow le = count
 long_ends firsts plans n (suc k) count follow le =

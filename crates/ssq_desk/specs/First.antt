@@ -20,7 +20,9 @@ use Rattle.ssq_ledger.specs.Shown.{Shown, HasRisen, did}
 use Rattle.ssq_desk.specs.declared.desk.Source.{Source}
 use Rattle.ssq_desk.specs.declared.desk.Share.{Share}
 use Rattle.ssq_desk.specs.declared.desk.OutWork.{OutWork}
+use Rattle.ssq_desk.specs.declared.first.Begun.{Begun}
 use Rattle.ssq_desk.specs.declared.first.Made.{Made}
+use Rattle.ssq_desk.specs.declared.first.Rooms.{Rooms}
 use Rattle.ssq_desk.specs.declared.round.Round.{Round}
 use Rattle.ssq_desk.specs.Room.{HasRoom, AreStaged}
 use Rattle.ssq_desk.specs.Round.{start_at}
@@ -44,28 +46,36 @@ pub record AreIndexes (owned : Type 0) (bound : Bound) (stores : List Store) (cl
   pub count : length closings ≡ length stores
   pub each : owned → (p : ℕ) (store : Store) (closing : List Timed) → slice_get stores p ≡ Some store → slice_get closings p ≡ Some closing → IsIndex bound store.state closing
 
+-- there is room for so many logs, streams and stores
+pub record HasRooms {L : Type 0} (logs streams stores : ℕ) (rooms : Rooms L) : Type 0 where
+  pub no_sources : rooms.sources.items ≡ []
+  pub sources_room : logs ≤ vec_capacity rooms.sources
+  pub no_told : rooms.told.items ≡ []
+  pub told_room : 0 < vec_capacity rooms.told
+  pub no_lines : rooms.lines.items ≡ []
+  pub lines_room : streams ≤ vec_capacity rooms.lines
+  pub no_logs : rooms.logs.items ≡ []
+  pub logs_room : logs ≤ vec_capacity rooms.logs
+  pub no_held : rooms.held.items ≡ []
+  pub held_room : stores ≤ vec_capacity rooms.held
+  pub no_stores : rooms.stores.items ≡ []
+  pub stores_room : stores ≤ vec_capacity rooms.stores
+  pub no_closings : rooms.closings.items ≡ []
+  pub closings_room : stores ≤ vec_capacity rooms.closings
+
+-- where a round and its parts begin on what was found
+pub record IsBegunOn (bound : Bound) (found : Opened) (begun : Begun) : Type 0 where
+  pub parts : begun.parts.items ≡ begins found.meta.parts
+  pub ends : begun.ends.items ≡ (start_at (begins found.meta.parts) bound found).from
+  pub start : begun.start ≡ start_at (begins found.meta.parts) bound found
+
 -- what is made for a round with so many logs
 pub record IsMadeOf {L S : Type 0} (bound : Bound) (partitions : ℕ) (found : Opened) (logs : ℕ) (made : Made L S) : Type 0 where
-  pub parts : made.parts.items ≡ begins found.meta.parts
-  pub ends : made.ends.items ≡ (start_at (begins found.meta.parts) bound found).from
-  pub start : made.start ≡ start_at (begins found.meta.parts) bound found
-  pub no_sources : made.sources.items ≡ []
-  pub sources_room : logs ≤ vec_capacity made.sources
+  pub begun : IsBegunOn bound found made.begun
   pub times : (stream : ℕ) → seen_at made.seen stream ≡ told found.seen stream
   pub streams : length made.seen ≡ length bound.streams
   pub room : HasRoom partitions logs made.seen made.room
-  pub no_told : made.told.items ≡ []
-  pub told_room : 0 < vec_capacity made.told
-  pub no_lines : made.lines.items ≡ []
-  pub lines_room : length bound.streams ≤ vec_capacity made.lines
-  pub no_logs : made.logs.items ≡ []
-  pub logs_room : logs ≤ vec_capacity made.logs
-  pub no_held : made.held.items ≡ []
-  pub held_room : length found.stores ≤ vec_capacity made.held
-  pub no_stores : made.stores.items ≡ []
-  pub stores_room : length found.stores ≤ vec_capacity made.stores
-  pub no_closings : made.closings.items ≡ []
-  pub closings_room : length found.stores ≤ vec_capacity made.closings
+  pub rooms : HasRooms logs (length bound.streams) (length found.stores) made.rooms
 
 module _ {D L : Type 0} where
   -- the first of a round

@@ -1,11 +1,12 @@
 //! What a desk holds where its round begins, made before it takes the disk.
 
-ghost use Rattle.std.specs.Prelude.{◌≡◌, ◌≤◌, ◌<◌, ◌^◌, ◌&&◌, not, nat_lt, [], length, vec_capacity, All, IfOk};
+ghost use Rattle.std.specs.Prelude.{◌≡◌, ℕ, ◌≤◌, ◌<◌, ◌^◌, ◌&&◌, not, nat_lt, [], length, vec_capacity, All, IfOk};
 ghost use Rattle.ssq_plans.specs.Records.{HasLineTime};
 ghost use Rattle.ssq_open.specs.Epochs.{cut_of};
 ghost use Rattle.ssq_water.specs.Water.{HasDelays, seen_at};
 ghost use Rattle.ssq_desk.specs.Round.{is_due, mark_of};
-ghost use Rattle.ssq_desk.specs.First.{sources_of, held_of, IsMadeOf};
+ghost use Rattle.ssq_task.specs.Committing.{told};
+ghost use Rattle.ssq_desk.specs.First.{sources_of, held_of, HasRooms, IsBegunOn, IsMadeOf};
 
 use crate::desk::Source;
 use crate::due::is_due;
@@ -23,32 +24,44 @@ use ssq_value::Sequence;
 use ssq_water::Seen;
 use std::alloc::{AllocError, Global};
 
-/// All that a desk needs where its round begins.
+/// Room for what a desk comes to hold, beside what the tasks of an epoch take.
 #[derive(Drop)]
-pub(crate) struct Made<L: Log, S> {
+pub(crate) struct Rooms<L: Log> {
+    /// For the parts with their logs.
+    pub(crate) sources: Vec<Source<L>>,
+    /// To tell of one epoch.
+    pub(crate) told: Vec<Told>,
+    /// For the greatest times of the watermarked streams.
+    pub(crate) lines: Vec<SeenBy>,
+    /// For the logs.
+    pub(crate) logs: Vec<L>,
+    /// For what partitions keep.
+    pub(crate) held: Vec<Option<Held>>,
+    /// For the stores in it.
+    pub(crate) stores: Vec<Store>,
+    /// For their indexes.
+    pub(crate) closings: Vec<Closing>,
+}
+
+/// Where a round begins, and where its parts do.
+#[derive(Drop)]
+pub(crate) struct Begun {
     pub(crate) start: Start,
     /// The parts, where they begin.
     pub(crate) parts: Vec<PartEnd>,
     /// Where the lines of the committed epochs end.
     pub(crate) ends: Vec<PartEnd>,
-    /// Room for the parts with their logs.
-    pub(crate) sources: Vec<Source<L>>,
+}
+
+/// All that a desk needs where its round begins.
+#[derive(Drop)]
+pub(crate) struct Made<L: Log, S> {
+    pub(crate) begun: Begun,
     /// The greatest times over the committed epochs.
     pub(crate) seen: Seen,
     /// Room for the tasks of an epoch.
     pub(crate) room: Room<S>,
-    /// Room to tell of one epoch.
-    pub(crate) told: Vec<Told>,
-    /// Room for the greatest times of the watermarked streams.
-    pub(crate) lines: Vec<SeenBy>,
-    /// Room for the logs.
-    pub(crate) logs: Vec<L>,
-    /// Room for what partitions keep.
-    pub(crate) held: Vec<Option<Held>>,
-    /// Room for the stores in it.
-    pub(crate) stores: Vec<Store>,
-    /// Room for their indexes.
-    pub(crate) closings: Vec<Closing>,
+    pub(crate) rooms: Rooms<L>,
 }
 
 /// Where the lines of the first epochs end, of parts that begin there.
@@ -87,6 +100,69 @@ fn is_due_on(bound: &Bound, seen: &Seen, plans: &[Plan], committed: usize) -> bo
     committed == plans.len() && is_due(bound, seen, mark_at(plans, committed))
 }
 
+/// Where the round begins, with these greatest times.
+fn begin_parts(
+    alloc: Global,
+    bound: &Bound,
+    opened: &Opened,
+    seen: &Seen,
+) -> Result<Begun, AllocError>
+    requires few { length opened.now.meta.parts ≤ 2 ^ 32 }
+    requires before { opened.now.committed ≤ length opened.now.plans }
+    requires streams { length seen.now ≡ length bound.now.streams }
+    requires times { (stream : ℕ) → seen_at seen.now stream ≡ told opened.now.seen stream }
+    requires delays { HasDelays bound.now }
+    ensures { IfOk result (IsBegunOn bound.now opened.now) }
+{
+    let parts = begins(alloc, opened.meta.parts.as_slice())?;
+    let plans = opened.plans.as_slice();
+    let committed = opened.committed as usize;
+    let from = ends_at(&parts, plans, committed);
+    let ends = from.clone()?;
+    let from = from.clone()?;
+    let to = ends_at(&parts, plans, plans.len()).clone()?;
+    let due = is_due_on(bound, seen, plans, committed);
+    let start = Start {
+        committed: opened.committed,
+        is_planned: committed < plans.len(),
+        from: from.into_vec(),
+        to: to.into_vec(),
+        due,
+    };
+    Ok(Begun {
+        start,
+        parts: parts.into_vec(),
+        ends: ends.into_vec(),
+    })
+}
+
+/// Makes room for so many logs, streams and stores.
+fn make_rooms<L: Log>(
+    alloc: Global,
+    logs: usize,
+    streams: usize,
+    stores: usize,
+) -> Result<Rooms<L>, AllocError>
+    ensures { IfOk result (HasRooms logs streams stores) }
+{
+    let sources = Vec::with_capacity(alloc, logs)?;
+    let told = Vec::with_capacity(alloc, 1)?;
+    let lines = Vec::with_capacity(alloc, streams)?;
+    let logs = Vec::with_capacity(alloc, logs)?;
+    let held = Vec::with_capacity(alloc, stores)?;
+    let closings = Vec::with_capacity(alloc, stores)?;
+    let stores = Vec::with_capacity(alloc, stores)?;
+    Ok(Rooms {
+        sources,
+        told,
+        lines,
+        logs,
+        held,
+        stores,
+        closings,
+    })
+}
+
 /// Makes it, for so many logs.
 pub(crate) fn make_first<L: Log, S: Drop>(
     alloc: Global,
@@ -102,44 +178,15 @@ pub(crate) fn make_first<L: Log, S: Drop>(
     requires delays { HasDelays bound.now }
     ensures { IfOk result (IsMadeOf bound.now partitions opened.now logs) }
 {
-    let parts = begins(alloc, opened.meta.parts.as_slice())?;
-    let plans = opened.plans.as_slice();
-    let committed = opened.committed as usize;
-    let from = ends_at(&parts, plans, committed);
-    let ends = from.clone()?;
-    let from = from.clone()?;
-    let to = ends_at(&parts, plans, plans.len()).clone()?;
     let seen = seen_from(alloc, bound, opened.seen.as_slice())?;
+    let begun = begin_parts(alloc, bound, opened, &seen)?;
     let room = make_room(alloc, partitions, logs, &seen)?;
-    let sources = Vec::with_capacity(alloc, logs)?;
-    let told = Vec::with_capacity(alloc, 1)?;
-    let lines = Vec::with_capacity(alloc, bound.streams.len())?;
-    let logs = Vec::with_capacity(alloc, logs)?;
-    let keeping = opened.stores.len();
-    let held = Vec::with_capacity(alloc, keeping)?;
-    let stores = Vec::with_capacity(alloc, keeping)?;
-    let closings = Vec::with_capacity(alloc, keeping)?;
-    let due = is_due_on(bound, &seen, plans, committed);
-    let start = Start {
-        committed: opened.committed,
-        is_planned: committed < plans.len(),
-        from: from.into_vec(),
-        to: to.into_vec(),
-        due,
-    };
+    let rooms = make_rooms(alloc, logs, bound.streams.len(), opened.stores.len())?;
     Ok(Made {
-        start,
-        parts: parts.into_vec(),
-        ends: ends.into_vec(),
-        sources,
+        begun,
         seen,
         room,
-        told,
-        lines,
-        logs,
-        held,
-        stores,
-        closings,
+        rooms,
     })
 }
 

@@ -7,7 +7,7 @@ ghost use Rattle.ssq_desk.specs.Round.{IsRound, setting_of};
 ghost use Rattle.ssq_desk.specs.First.{AreIndexes, BeginsAs, BeginsWork, first_shown};
 
 use crate::desk::{Desk, Kept, Load, OutWork, Share};
-use crate::first::{Made, make_first, with_closings, with_logs};
+use crate::first::{Begun, Made, Rooms, make_first, with_closings, with_logs};
 use crate::make::cause_of;
 use crate::room::{Room, begin_files};
 use crate::round::Round;
@@ -65,19 +65,12 @@ impl<'a, D: Disk, L: Log> Desk<'a, D, L> {
             cap,
         };
         let Made {
-            start,
-            parts,
-            ends,
-            sources,
+            begun,
             seen,
             room,
-            told,
-            lines,
-            logs: room_for_logs,
-            held,
-            stores: room_for_stores,
-            closings: room_for_closings,
+            rooms,
         } = made;
+        let Begun { start, parts, ends } = begun;
         let is_planned = start.is_planned;
         let Opened {
             meta,
@@ -91,6 +84,15 @@ impl<'a, D: Disk, L: Log> Desk<'a, D, L> {
             Ok(ledger) => ledger,
             Err(disk) => return Err((disk, logs)),
         };
+        let Rooms {
+            sources,
+            told,
+            lines,
+            logs: room_for_logs,
+            held,
+            stores: room_for_stores,
+            closings: room_for_closings,
+        } = rooms;
         let sources = with_logs(sources, parts.as_slice(), ends.as_slice(), logs);
         let Room {
             mut shares,

@@ -1,13 +1,8 @@
 -- When an epoch without lines is due, where a round begins.
-use Rattle.std.proofs.Common.{◌≡◌, ◌<◌, ◌≤◌, ◌+◌, ◌-◌, ◌⊎◌, ◌&&◌, not, nat_lt, ℕ, ℤ, zero, suc, Bool, true, false, List, [], ◌∷◌, map, length, get_or, Option, Some, None, IfSome, inl, inr, refl, sym, ap, ◌∙◌, subst, arith}
+use Rattle.std.proofs.Common.{◌≡◌, ◌<◌, ◌≤◌, ◌⊎◌, ◌&&◌, not, nat_lt, ℕ, ℤ, zero, suc, Bool, true, false, List, [], ◌∷◌, length, get_or, Option, Some, None, IfSome, inl, inr, refl, sym, ap, ◌∙◌, subst, arith}
 use Rattle.std.specs.Prelude.{slice_get, option_and_then}
-use Rattle.std.specs.List.{cons_option}
-use Rattle.std.proofs.lemmas.Bool.{cases_lt, eq-eqb, ne_eqb}
 use Rattle.ssq_shape.specs.declared.bound.Bound.{Bound}
-use Rattle.ssq_shape.specs.declared.bound.Stream.{Stream}
-use Rattle.ssq_meaning.specs.Parts.{Part}
-use Rattle.ssq_meaning.specs.Cut.{Cuts as Offsets}
-use Rattle.ssq_meaning.specs.Times.{Delay, delay_of, delays, delays_from, is_above, later, watermark_by}
+use Rattle.ssq_meaning.specs.Times.{delays, is_above, watermark_by}
 use Rattle.ssq_meaning.specs.Epochs.{seen, watermark_before}
 use Rattle.ssq_plans.specs.declared.plan.Plan.{Plan}
 use Rattle.ssq_plans.specs.declared.seen.SeenBy.{SeenBy}
@@ -15,50 +10,10 @@ use Rattle.ssq_core.specs.Course.{Cuts, plan_of}
 use Rattle.ssq_course.specs.Setting.{Setting, parts_in, course_of, job_of, closes, cuts_of as offsets, watermark_at}
 use Rattle.ssq_open.specs.declared.wanted.Opened.{Opened}
 use Rattle.ssq_task.specs.Committing.{told}
-use Rattle.ssq_task.proofs.Commits.{told_more, none_before, later_none, streams_of, places_of}
 use Rattle.ssq_terms.specs.Setting.{CanRun}
 use Rattle.ssq_terms.specs.Laws.{UnmarkedHaveNoTimes, due_at}
 use Rattle.ssq_desk.specs.Round.{is_due, is_due_on, mark_of}
-
--- ---- the greatest times that were found
-
-abbrev line_by : (ℕ → Option ℤ) → Delay → SeenBy
-line_by of stream = record { stream = stream.0; time = of stream.0 }
-
-own_streams : (of : ℕ → Option ℤ) (ds : List Delay) → streams_of (map (line_by of) ds) ≡ places_of ds
-own_streams of [] = refl
-own_streams of (d ∷ ds) = ap (λ (l : List ℕ). d.0 ∷ l) (own_streams of ds)
-
--- lines of the watermarked streams tell the greatest times of all streams, where those without a line have none
-told_from : (of : ℕ → Option ℤ) (at : ℕ) (streams : List Stream) (stream : ℕ) → at ≤ stream → ((j : ℕ) → at + j ≡ stream → IfSome (slice_get streams j) (λ s. s.delay ≡ None) → of stream ≡ None)
-    → told (map (line_by of) (delays_from at streams)) stream ≡ of stream
-unfolding delays_from
-told_from of at [] stream le none = (let m = minus at stream le in sym (none m.0 m.1 tt))
-  where
-    minus : (m n : ℕ) → m ≤ n → (j : ℕ) × (m + j ≡ n)
-    minus m n le = (n - m, omega (arith, le))
-told_from of at (s ∷ streams) stream le none = elim (cases_lt at stream) [
-  | inl less ↦ there s.delay less (told_from of (at + 1) streams stream (omega (arith, less)) (λ j e unmarked. none (suc j) (omega (arith, e)) unmarked))
-  | inr not ↦ here s.delay refl (omega (arith, le, not))
-]
-  where
-    there : (delay : Option ℤ) → at < stream → told (map (line_by of) (delays_from (at + 1) streams)) stream ≡ of stream
-        → told (map (line_by of) (cons_option (delay_of at delay) (delays_from (at + 1) streams))) stream ≡ of stream
-    there None less rest = rest
-    there (Some delay) less rest = told_more (record { stream = at; time = of at }) (map (line_by of) (delays_from (at + 1) streams)) stream false (ne_eqb at stream (λ same. omega (arith, less, same))) ∙ rest
-
-    here : (delay : Option ℤ) → s.delay ≡ delay → at ≡ stream → told (map (line_by of) (cons_option (delay_of at delay) (delays_from (at + 1) streams))) stream ≡ of stream
-    here None is same =
-        none_before (at + 1) stream streams (map (line_by of) (delays_from (at + 1) streams)) (omega (arith, same)) (own_streams of (delays_from (at + 1) streams))
-        ∙ sym (none 0 (omega (arith, same)) is)
-    here (Some delay) is same =
-        told_more (record { stream = at; time = of at }) (map (line_by of) (delays_from (at + 1) streams)) stream true (eq-eqb at stream same)
-        ∙ ap (later (of at)) (none_before (at + 1) stream streams (map (line_by of) (delays_from (at + 1) streams)) (omega (arith, same)) (own_streams of (delays_from (at + 1) streams)))
-        ∙ later_none (of at) ∙ ap of same
-
-nothing_seen : (query : Bound) (parts : List Part) (cuts : Offsets) (stream : ℕ) → told [] stream ≡ seen query parts cuts stream 0
-unfolding seen
-nothing_seen query parts cuts stream = refl
+use Rattle.ssq_desk.proofs.Beginnings.{told_from, nothing_seen}
 
 -- ---- the last watermark
 

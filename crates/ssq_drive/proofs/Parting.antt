@@ -1,23 +1,18 @@
 -- Where the parts of a setting begin.
-use Rattle.std.proofs.Common.{◌≡◌, ◌<◌, ◌≤◌, ◌+◌, ◌++◌, ◌==◌, ℕ, zero, suc, List, [], ◌∷◌, length, map, refl, sym, ap, ◌∙◌, subst, add-one, length-append, arith}
-use Rattle.std.specs.Prelude.{IsTrue}
-use Rattle.std.specs.List.{list_all, zip}
-use Rattle.std.proofs.lemmas.Bool.{eqb-true}
+use Rattle.std.proofs.Common.{◌≡◌, ◌+◌, ◌++◌, ℕ, zero, suc, List, [], ◌∷◌, length, map, refl, sym, ap, ◌∙◌, add-one, length-append, arith}
 use Rattle.std.proofs.lemmas.List.{append_assoc, length-map}
 use Rattle.ssq_plans.specs.declared.part.PartEnd.{PartEnd}
-use Rattle.ssq_plans.specs.declared.plan.Plan.{Plan}
 use Rattle.ssq_meaning.specs.Meaning.{Line}
 use Rattle.ssq_meaning.specs.Parts.{Part, parts_from, parts_of}
 use Rattle.ssq_core.specs.Course.{Ends}
-use Rattle.ssq_core.proofs.Holding.{both_are}
 use Rattle.ssq_course.specs.Setting.{Setting, parts_in, first_ends, end_at}
 use Rattle.ssq_open.specs.declared.wanted.Opened.{Opened}
-use Rattle.ssq_open.specs.Epochs.{cut_of, follows, keeps_up}
 use Rattle.ssq_open.specs.Numbers.{HasNumbers}
 use Rattle.ssq_open.specs.Watermarks.{watermarked}
 use Rattle.ssq_board.specs.Core.{Scope}
 use Rattle.ssq_board.specs.Shown.{IsStart}
 use Rattle.ssq_desk.specs.Round.{start_at}
+use Rattle.ssq_desk.proofs.Beginnings.{long_ends}
 use Rattle.ssq_open.specs.Looking.{begins, begins_from, parts_of as first_parts}
 
 -- they begin with no line
@@ -67,18 +62,6 @@ begin_as_counted (own ∷ counts) lines count =
     parts_begin 0 0 own counts lines (count ∙ whole) ∙ ap (λ (n : ℕ). first_parts 0 n ++ begins_from 1 counts) (let e : 0 + own ≡ own = omega arith in e)
 
 -- ---- where a round begins
-
--- the same parts have as many ends
-followed : (before ends : Ends) → IsTrue (follows before ends) → length ends ≡ length before
-followed before ends is = (let both = both_are (length before == length ends) (list_all keeps_up (zip before ends)) is in sym (eqb-true (length before) (length ends) both.0))
-
--- each cut that was opened has one end for each part
-long_ends : (firsts : Ends) (plans : List Plan) (n k : ℕ) → length firsts ≡ n → ((e : ℕ) → e < length plans → IsTrue (follows (cut_of firsts plans e) (cut_of firsts plans (e + 1)))) → k ≤ length plans
-    → length (cut_of firsts plans k) ≡ n
-long_ends firsts plans n zero count follow le = count
-long_ends firsts plans n (suc k) count follow le =
-    subst (λ (m : ℕ). length (cut_of firsts plans m) ≡ n) (add-one k)
-    (followed (cut_of firsts plans k) (cut_of firsts plans (k + 1)) (follow k (omega (arith, le))) ∙ long_ends firsts plans n k count follow (omega (arith, le)))
 
 -- so what was opened is a start
 pub start_is : (s : Setting) (r : Scope) (found : Opened) → HasNumbers (watermarked s.job.bound.streams) (first_ends s) found → length r.available ≡ length (parts_in s) → IsStart r (start_at (first_ends s) s.job.bound found)

@@ -1,5 +1,5 @@
 -- Logs that are asked one after the other.
-use Rattle.std.proofs.Common.{◌≡◌, ◌≤◌, ◌+◌, ◌++◌, ◌∷◌, [], ℕ, List, length, length-append, Result, Ok, Err, OnOk, IfErr, refl, sym, ap, ◌∙◌, subst, inl, inr, arith}
+use Rattle.std.proofs.Common.{◌≡◌, ◌≤◌, ◌<◌, ◌+◌, ◌-◌, ◌^◌, ◌++◌, ◌∷◌, [], ℕ, List, length, length-append, Result, Ok, Err, OnOk, IfErr, refl, sym, ap, ◌∙◌, subst, inl, inr, arith}
 use Rattle.std.proofs.lemmas.List.{append-nil, append_assoc}
 use Rattle.ssq_outside.specs.Logs.{Line}
 use Rattle.ssq_logs.specs.declared.fault.LengthFault.{LengthFault}
@@ -10,6 +10,18 @@ module _ {L : Type 0} (tells : Type 0) (lines : L → List Line) (available : L 
   pub asked_none : (acc : List ℕ) (logs : List L) → length logs ≡ 0 → (x : List ℕ) × (acc ≡ acc ++ x) × AreAsked tells lines available answers faults logs logs x
   asked_none acc [] none = ([], sym (append-nil acc), tt)
   asked_none acc (log ∷ logs) none = absurd (omega (arith, none))
+
+  -- what a log answered, from what it tells of that
+  pub answered : (old new : L) (found : ℕ) → (tells → lines new ≡ lines old) → (tells → available old ≤ available new) → (tells → (available new ≡ found) × (found ≤ length (lines new)))
+      → (tells → length (answers old) < 2 ^ 64 - 1 → answers new ≡ answers old ++ found ∷ []) → faults old ≤ faults new → IsAnswered tells lines available answers faults old new found
+  answered old new found same grown are told counted = record {
+    same = same;
+    there = λ x. (are x).0;
+    within = λ x. (are x).1;
+    grown = λ x. subst (λ (n : ℕ). available old ≤ n) (are x).0 (grown x);
+    told = told;
+    counted = counted;
+  }
 
   -- one log more is asked
   pub asked_next : (r : Result (Unit {0}) LengthFault) (acc mid all : List ℕ) (old new : L) (logs olds news : List L) (n : ℕ) → logs ≡ old ∷ olds → mid ≡ acc ++ n ∷ [] → IsAnswered tells lines available answers faults old new n → n ≤ most_lines

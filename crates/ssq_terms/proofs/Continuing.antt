@@ -38,13 +38,15 @@ use Rattle.ssq_dedup.specs.Steps as once
 use Rattle.ssq_join.specs.Steps as pairs
 use Rattle.ssq_step.specs.Rows.{stream_of}
 use Rattle.ssq_core.specs.Course.{Cuts}
-use Rattle.ssq_course.specs.Setting.{Setting, parts_in, cuts_of, watermark_at, keeping_of}
+use Rattle.ssq_course.specs.Setting.{Setting, parts_in, cuts_of, state_at, watermark_at, keeping_of}
 use Rattle.ssq_course.specs.Laws.{IsFit as IsFitPart}
 use Rattle.ssq_course.specs.States.{CoverFewLines}
 use Rattle.ssq_course.specs.Wide.{IsWide, JoinedRowsAreWide}
+use Rattle.ssq_task.specs.declared.partition.Held.{Held as Own}
 use Rattle.ssq_task.specs.declared.partition.State.{State}
 use Rattle.ssq_task.specs.declared.partition.ReduceTask.{ReduceTask}
-use Rattle.ssq_task.specs.Reducing.{IsGiven, IsGivenBy, IsGivenState, timely_in}
+use Rattle.ssq_task.specs.Reducing.{IsGiven, IsGivenBy, IsGivenState, IsIndexed, timely_in}
+use Rattle.ssq_task.specs.Stepping.{CanStepBy}
 use Rattle.ssq_open.specs.declared.wanted.Lens.{Lens}
 use Rattle.ssq_terms.specs.Setting.{AreFound, IsSettingOf, Runs, found_lines}
 use Rattle.ssq_terms.specs.Partitions.{accepted_by, fed_to, on_time_to, mark_before, HoldsPartition, held_in, IsReduceOf, IsGivenPartition, PartitionsContinue}
@@ -229,78 +231,71 @@ module _ (laws : PartitionLaws) (s : Setting) (cuts : Cuts) (e p : ℕ) (below :
   none_kept : keeping_of s.job.bound.shape s.job.partitions ≡ s.job.partitions → HoldsPartition s cuts e p None → ⊥
   none_kept keeping there = omega (arith, there.store, keeping, below)
 
+  -- what partition p of epoch e is stepped with
+  abbrev query : Bound
+  query = s.job.bound
+
+  abbrev offsets : Offsets
+  offsets = cuts_of cuts
+
+  abbrev old : List FedRow
+  old = accepted_by s cuts e p
+
+  abbrev new : List FedRow
+  new = on_time_to s cuts e p
+
   module _ {S : Type 0} where
-    given_groups : (grouping : Grouping) → s.job.bound.shape ≡ Group grouping → (state : Option (State S)) → HoldsPartition s cuts e p (held_in state)
-        → IsSomeAnd state (IsGivenState (Group grouping) s.job.bound p (accepted_by s cuts e p) (on_time_to s cuts e p) (mark_before s cuts e) (watermark_at s cuts e))
-    given_groups grouping is None there = absurd (none_kept (ap (λ (shape : Shape). keeping_of shape s.job.partitions) is) there)
-    given_groups grouping is (Some state) there =
-        let query = s.job.bound in
-        let parts = parts_in s in
-        let offsets = cuts_of cuts in
-        let old = accepted_by s cuts e p in
-        let new = on_time_to s cuts e p in
-        record {
-          own = there.store.1;
-          given = record {
-            groups = is;
-            kept = there.store.2 ∙ kept_is query grouping is old (mark_before s cuts e);
-            indexed = there.indexed;
-            follows = laws.follows query grouping is parts offsets s.job.partitions p e;
-            steady = laws.steady query grouping (held query grouping old (mark_before s cuts e)) old new (mark_before s cuts e) (λ key. refl) (few_rows laws s cuts e p windows covers)
-                (have_bigints old (recursion_from_All IsFitRow old fit_old)) (have_bigints new (recursion_from_All IsFitRow new fit_new));
-            rows = All-append (IsKept grouping) old new
-                (kept_rows grouping old fit_old (lengths_of query grouping s.job.partitions p (accepted query parts offsets e) (laws.grouped_accepted query grouping is parts offsets e)))
-                (kept_rows grouping new fit_new (lengths_of query grouping s.job.partitions p (on_time query parts offsets e) (laws.grouped_on_time query grouping is parts offsets e)));
-          };
-        }
+    -- a state that the shape keeps is the partition's own, and what the operator needs follows from what it holds
+    given_kept : (shape : Shape) → query.shape ≡ shape → keeping_of shape s.job.partitions ≡ s.job.partitions
+        → ((own : Own) → own.store.state ≡ state_at s cuts p e → IsIndexed query own → CanStepBy shape query own.store.state own.closing old new (mark_before s cuts e) (watermark_at s cuts e))
+        → (state : Option (State S)) → HoldsPartition s cuts e p (held_in state) → IsSomeAnd state (IsGivenState shape query p old new (mark_before s cuts e) (watermark_at s cuts e))
+    given_kept shape is keeps steps None there = absurd (none_kept (ap (λ (shape : Shape). keeping_of shape s.job.partitions) is ∙ keeps) there)
+    given_kept shape is keeps steps (Some state) there = record { own = there.store.1; given = steps state.held there.store.2 there.indexed }
 
-    given_repeats : (columns : List ℕ) → s.job.bound.shape ≡ Dedup columns → (state : Option (State S)) → HoldsPartition s cuts e p (held_in state)
-        → IsSomeAnd state (IsGivenState (Dedup columns) s.job.bound p (accepted_by s cuts e p) (on_time_to s cuts e p) (mark_before s cuts e) (watermark_at s cuts e))
-    given_repeats columns is None there = absurd (none_kept (ap (λ (shape : Shape). keeping_of shape s.job.partitions) is) there)
-    given_repeats columns is (Some state) there =
-        let query = s.job.bound in
-        let parts = parts_in s in
-        let offsets = cuts_of cuts in
-        let old = accepted_by s cuts e p in
-        let new = on_time_to s cuts e p in
+    given_groups : (grouping : Grouping) → query.shape ≡ Group grouping → (state : Option (State S)) → HoldsPartition s cuts e p (held_in state)
+        → IsSomeAnd state (IsGivenState (Group grouping) query p old new (mark_before s cuts e) (watermark_at s cuts e))
+    given_groups grouping is = given_kept (Group grouping) is refl (λ own same indexed.
         record {
-          own = there.store.1;
-          given = record {
-            repeats = is;
-            kept = there.store.2 ∙ repeats_kept_is query columns is old (mark_before s cuts e);
-            indexed = there.indexed;
-            follows = laws.repeats_follow query columns is parts offsets s.job.partitions p e;
-            rows = All-append (once.IsKept columns) old new
-                (kept_repeats columns old fit_old (keys_of_columns query columns s.job.partitions p (accepted query parts offsets e) (laws.keyed_accepted query columns is parts offsets e)))
-                (kept_repeats columns new fit_new (keys_of_columns query columns s.job.partitions p (on_time query parts offsets e) (laws.keyed_on_time query columns is parts offsets e)));
-          };
-        }
+          groups = is;
+          kept = same ∙ kept_is query grouping is old (mark_before s cuts e);
+          indexed = indexed;
+          follows = laws.follows query grouping is (parts_in s) offsets s.job.partitions p e;
+          steady = laws.steady query grouping (held query grouping old (mark_before s cuts e)) old new (mark_before s cuts e) (λ key. refl) (few_rows laws s cuts e p windows covers)
+              (have_bigints old (recursion_from_All IsFitRow old fit_old)) (have_bigints new (recursion_from_All IsFitRow new fit_new));
+          rows = All-append (IsKept grouping) old new
+              (kept_rows grouping old fit_old (lengths_of query grouping s.job.partitions p (accepted query (parts_in s) offsets e) (laws.grouped_accepted query grouping is (parts_in s) offsets e)))
+              (kept_rows grouping new fit_new (lengths_of query grouping s.job.partitions p (on_time query (parts_in s) offsets e) (laws.grouped_on_time query grouping is (parts_in s) offsets e)));
+        })
 
-    given_joins : e < 2 ^ 32 → HasFewStreams s → (joining : Joining) → s.job.bound.shape ≡ Join joining → IsBounded joining → (state : Option (State S)) → HoldsPartition s cuts e p (held_in state)
-        → IsSomeAnd state (IsGivenState (Join joining) s.job.bound p (accepted_by s cuts e p) (on_time_to s cuts e p) (mark_before s cuts e) (watermark_at s cuts e))
-    given_joins few streams joining is bounded None there = absurd (none_kept (ap (λ (shape : Shape). keeping_of shape s.job.partitions) is) there)
-    given_joins few streams joining is bounded (Some state) there =
-        let query = s.job.bound in
-        let parts = parts_in s in
-        let offsets = cuts_of cuts in
-        let old = accepted_by s cuts e p in
-        let new = on_time_to s cuts e p in
+    given_repeats : (columns : List ℕ) → query.shape ≡ Dedup columns → (state : Option (State S)) → HoldsPartition s cuts e p (held_in state)
+        → IsSomeAnd state (IsGivenState (Dedup columns) query p old new (mark_before s cuts e) (watermark_at s cuts e))
+    given_repeats columns is = given_kept (Dedup columns) is refl (λ own same indexed.
+        record {
+          repeats = is;
+          kept = same ∙ repeats_kept_is query columns is old (mark_before s cuts e);
+          indexed = indexed;
+          follows = laws.repeats_follow query columns is (parts_in s) offsets s.job.partitions p e;
+          rows = All-append (once.IsKept columns) old new
+              (kept_repeats columns old fit_old (keys_of_columns query columns s.job.partitions p (accepted query (parts_in s) offsets e) (laws.keyed_accepted query columns is (parts_in s) offsets e)))
+              (kept_repeats columns new fit_new (keys_of_columns query columns s.job.partitions p (on_time query (parts_in s) offsets e) (laws.keyed_on_time query columns is (parts_in s) offsets e)));
+        })
+
+    given_joins : e < 2 ^ 32 → HasFewStreams s → (joining : Joining) → query.shape ≡ Join joining → IsBounded joining → (state : Option (State S)) → HoldsPartition s cuts e p (held_in state)
+        → IsSomeAnd state (IsGivenState (Join joining) query p old new (mark_before s cuts e) (watermark_at s cuts e))
+    given_joins few streams joining is bounded = given_kept (Join joining) is refl (λ own same indexed.
         let of_old = laws.wide_accepted query joining is in
         let of_new = laws.wide_on_time query joining is in
         record {
-          own = there.store.1;
-          given = record {
-            joins = is;
-            bounded = bounded;
-            kept = there.store.2 ∙ joined_kept_is query joining is old (mark_before s cuts e);
-            indexed = there.indexed;
-            follows = laws.joins_follow query joining is parts offsets s.job.partitions p e;
-            rows = All-append (pairs.IsKept query joining) old new
-                (own_rows laws s cuts e p windows covers few streams joining is (accepted query parts offsets e) (laws.fit_accepted query windows parts offsets e) (laws.joined_accepted query joining is parts offsets e) (of_old.stream s.job.parts s.lines offsets e) (of_old.wide parts offsets e))
-                (own_rows laws s cuts e p windows covers few streams joining is (on_time query parts offsets e) (laws.fit_on_time query windows parts offsets e) (laws.joined_on_time query joining is parts offsets e) (of_new.stream s.job.parts s.lines offsets e) (of_new.wide parts offsets e));
-            apart = rows_apart laws s cuts e p windows covers few streams joining is;
-          };
-        }
+          joins = is;
+          bounded = bounded;
+          kept = same ∙ joined_kept_is query joining is old (mark_before s cuts e);
+          indexed = indexed;
+          follows = laws.joins_follow query joining is (parts_in s) offsets s.job.partitions p e;
+          rows = All-append (pairs.IsKept query joining) old new
+              (own_rows laws s cuts e p windows covers few streams joining is (accepted query (parts_in s) offsets e) (laws.fit_accepted query windows (parts_in s) offsets e) (laws.joined_accepted query joining is (parts_in s) offsets e) (of_old.stream s.job.parts s.lines offsets e) (of_old.wide (parts_in s) offsets e))
+              (own_rows laws s cuts e p windows covers few streams joining is (on_time query (parts_in s) offsets e) (laws.fit_on_time query windows (parts_in s) offsets e) (laws.joined_on_time query joining is (parts_in s) offsets e) (of_new.stream s.job.parts s.lines offsets e) (of_new.wide (parts_in s) offsets e));
+          apart = rows_apart laws s cuts e p windows covers few streams joining is;
+        })
 
     given_nothing : (state : Option (State S)) → HoldsPartition s cuts e p (held_in state) → keeping_of s.job.bound.shape s.job.partitions ≡ 0 → state ≡ None
     given_nothing None there none = refl

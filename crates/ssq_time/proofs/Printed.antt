@@ -1,11 +1,11 @@
 -- A text that is read as a printed time is the text of that time.
-use Rattle.std.proofs.Common.{◌≡◌, ℕ, zero, suc, ◌+◌, ◌-◌, ◌*◌, ◌/◌, ◌%◌, ◌<◌, ◌≤◌, ◌&&◌, ◌==◌, inl, inr, sym, ◌∙◌, ap, subst, refl, arith, ℤ, pos, neg_ℤ, ◌≤ℤ◌, ◌<ℤ◌, Option, Some, None, IfSome, List, length, slice_index, nat_lt, nat_le, if◌then◌else◌}
+use Rattle.std.proofs.Common.{◌≡◌, ℕ, zero, suc, ◌+◌, ◌-◌, ◌*◌, ◌/◌, ◌%◌, ◌<◌, ◌≤◌, ◌&&◌, ◌==◌, inl, inr, sym, ◌∙◌, ap, subst, refl, arith, ℤ, pos, neg_ℤ, ◌≤ℤ◌, ◌<ℤ◌, Option, Some, None, IfSome, List, [], ◌∷◌, ◌++◌, length, slice_index, nat_lt, nat_le, if◌then◌else◌}
 use Rattle.std.proofs.lemmas.Bool.Decides.{nat_tests}
 use Rattle.std.proofs.lemmas.Option.{option_and_then_some}
 use Rattle.jiff_core.specs.Calendar.{days_from_civil, days_in_month, IsCivilDate}
 use Rattle.jiff_core.proofs.SignedLemmas.{signed_arith}
-use Rattle.ssq_time.specs.Time.{digit_of, two_at, decimal_at, day_number, day_at_head, second_number, second_behind_day, micros_written, six_micros_of, stamp_micros_of, stamp_of, micros_of, time_of, moment, parts_text, stamp_text, IsStampTime, IsLineTime}
-use Rattle.std.proofs.lemmas.Slice.Eq.{text_from_reads}
+use Rattle.ssq_time.specs.Time.{digit_of, two_digits, second_text, two_at, decimal_at, day_number, day_at_head, second_number, second_behind_day, micros_written, six_micros_of, stamp_micros_of, stamp_of, micros_of, time_of, moment, parts_text, stamp_text, IsStampTime, IsLineTime}
+use Rattle.std.proofs.lemmas.Slice.Eq.{HasBytesAt, text_from_reads}
 use Rattle.jiff_core.proofs.CalendarLemmas.{days_from_civil-day_count, day_count-lt_year, days_in_month_bounds}
 use Rattle.jiff_core.proofs.MarchLemmas.{day_count-early}
 use Rattle.std.proofs.lemmas.Bool.{cases_order}
@@ -211,100 +211,18 @@ stamp_micros_is text micro e =
     let six = six_is text micro t.1 in
     full micro size (rw size at last) six.1 six.0)
 
+-- the first nineteen bytes of a text are those of its day and its second
+head_reads : (text rest : List ℕ) (day : ℤ) (second : ℕ) (d : HasDay 1 9999 text day) → HasSecond text second → HasBytesAt text 19 rest → HasBytesAt text 0 (second_text d.year d.month d.date second ++ rest)
+head_reads text rest day second d s behind =
+    (d.century_at.tens, (d.century_at.units, (d.year_at.tens, (d.year_at.units, (d.minus, (d.month_at.tens, (d.month_at.units, (d.minus_after, (d.date_at.tens, (d.date_at.units, (s.letter, (s.hour_at.tens, (s.hour_at.units, (s.colon, (s.minute_at.tens, (s.minute_at.units, (s.colon_after, (s.second_at.tens, (s.second_at.units, behind)))))))))))))))))))
+
 plain_is : (text : List ℕ) (day : ℤ) (second : ℕ) (d : HasDay 1 9999 text day) (s : HasSecond text second) → length text ≡ 20 → slice_index text 19 ≡ 90 → text ≡ plain_text d.year d.month d.date second
-plain_is text day second d s size last =
-    text_from_reads text (plain_text d.year d.month d.date second) size (
-      d.century_at.tens,
-      (
-        d.century_at.units,
-        (
-          d.year_at.tens,
-          (
-            d.year_at.units,
-            (
-              d.minus,
-              (
-                d.month_at.tens,
-                (
-                  d.month_at.units,
-                  (
-                    d.minus_after,
-                    (
-                      d.date_at.tens,
-                      (
-                        d.date_at.units,
-                        (s.letter, (s.hour_at.tens, (s.hour_at.units, (s.colon, (s.minute_at.tens, (s.minute_at.units, (s.colon_after, (s.second_at.tens, (s.second_at.units, (last, tt)))))))))),
-                      ),
-                    ),
-                  ),
-                ),
-              ),
-            ),
-          ),
-        ),
-      ),
-    )
+plain_is text day second d s size last = text_from_reads text (plain_text d.year d.month d.date second) size (head_reads text (90 ∷ []) day second d s (last, tt))
 
 full_is : (text : List ℕ) (day : ℤ) (second micro : ℕ) (d : HasDay 1 9999 text day) (s : HasSecond text second) (m : HasMicros text micro) → length text ≡ 27 → slice_index text 26 ≡ 90 → text ≡ full_text d.year d.month d.date second micro
 full_is text day second micro d s m size last =
-    text_from_reads text (full_text d.year d.month d.date second micro) size (
-      d.century_at.tens,
-      (
-        d.century_at.units,
-        (
-          d.year_at.tens,
-          (
-            d.year_at.units,
-            (
-              d.minus,
-              (
-                d.month_at.tens,
-                (
-                  d.month_at.units,
-                  (
-                    d.minus_after,
-                    (
-                      d.date_at.tens,
-                      (
-                        d.date_at.units,
-                        (
-                          s.letter,
-                          (
-                            s.hour_at.tens,
-                            (
-                              s.hour_at.units,
-                              (
-                                s.colon,
-                                (
-                                  s.minute_at.tens,
-                                  (
-                                    s.minute_at.units,
-                                    (
-                                      s.colon_after,
-                                      (
-                                        s.second_at.tens,
-                                        (
-                                          s.second_at.units,
-                                          (m.point, (m.a, (m.b, (m.c, (m.d, (m.e, (m.f, (last, tt)))))))),
-                                        ),
-                                      ),
-                                    ),
-                                  ),
-                                ),
-                              ),
-                            ),
-                          ),
-                        ),
-                      ),
-                    ),
-                  ),
-                ),
-              ),
-            ),
-          ),
-        ),
-      ),
-    )
+    text_from_reads text (full_text d.year d.month d.date second micro) size
+    (head_reads text (46 ∷ two_digits (micro / 10000) ++ two_digits (micro / 100 % 100) ++ two_digits (micro % 100) ++ 90 ∷ []) day second d s (m.point, (m.a, (m.b, (m.c, (m.d, (m.e, (m.f, (last, tt)))))))))
 
 -- the text of a day, a second and an end is the text of their moment
 text_is : (text : List ℕ) (day : ℤ) (second micro : ℕ) (d : HasDay 1 9999 text day) → HasSecond text second → HasEnd text micro → (text ≡ parts_text d.year d.month d.date second micro) × (micro < 1_000_000)

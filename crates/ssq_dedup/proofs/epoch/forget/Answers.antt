@@ -1,16 +1,9 @@
-use Rattle.std.proofs.Common.{None, arith, subst}
-use Rattle.std.proofs.lemmas.List.{take_all}
-use Rattle.ssq_version.specs.State.{IsToldAt}
-use Rattle.ssq_step.specs.Indexing.{seen}
-use Rattle.ssq_dedup.specs.Firsts.{IsGone}
-use Rattle.ssq_dedup.proofs.Taking.{gone_at}
+use Rattle.std.proofs.Common.{arith}
+use Rattle.ssq_step.proofs.ByBytes.{gone_all, gone_on}
 use Rattle.ssq_dedup.proofs.epoch.forget.Goals as goal
 
 pub loop-key-preserved : goal.loop-key-preserved
-loop-key-preserved c =
-    gone_at c.args.keys.now c.loop-key.key-index c.key-item.result (omega (arith, c.loop-key-test.true)) c.key-item.is c.args.change.now c.loop-key.change c.remove.new.self
-    (subst (λ key. IsToldAt key None c.loop-key.change c.remove.new.self) c.in_ok-copied.ensures.bytes c.in_ok-remove.ensures.told) c.loop-key.invariant
+loop-key-preserved c = gone_on c.args.keys.now c.loop-key.key-index c.key-item.result (omega (arith, c.loop-key-test.true)) c.key-item.is c.in_ok-copied.ensures.bytes c.args.change.now c.loop-key.change c.remove.new.self c.in_ok-remove.ensures.told c.loop-key.invariant
 
 pub returns : goal.returns
-returns c =
-    subst (λ keys. IsGone (seen keys) c.args.change.now c.loop-key.change) (take_all c.loop-key.key-index c.args.keys.now (omega (arith, c.loop-key-test.false))) c.loop-key.invariant
+returns c = gone_all c.args.keys.now c.loop-key.key-index c.args.change.now c.loop-key.change (omega (arith, c.loop-key-test.false)) c.loop-key.invariant

@@ -36,7 +36,7 @@ made_of : (g : Over) (c : In-Ok g) → IsMadeOf c.args.view.bound.now c.args.vie
 made_of g c = subst (λ (n : ℕ). IsMadeOf c.args.view.bound.now c.args.view.partitions c.args.opened n c.in-Ok.made) (ap length c.as_slice.ensures.value) c.in-Ok.ensures
 
 -- the start that was made is the round's own
-start_made : (g : Over) (c : In-Ok g) → c.in-Ok.made.start ≡ (opening_in g.L.Log.lines (round_by g c.args.view c.args.opened c.args.logs)).start
+start_made : (g : Over) (c : In-Ok g) → c.in-Ok.made.begun.start ≡ (opening_in g.L.Log.lines (round_by g c.args.view c.args.opened c.args.logs)).start
 start_made g c = start_is g.L.Log.lines (round_by g c.args.view c.args.opened c.args.logs) c.requires.round (made_of g c)
 
 -- the desk is whole, whatever came of the files of its tasks
@@ -96,7 +96,7 @@ with_logs-sources-requires-clause-ends g c =
 
 pub with_closings-held-requires-clause-fits : goal.with_closings-held-requires-clause-fits
 with_closings-held-requires-clause-fits g c =
-    subst (λ (stores : List Store). length stores ≤ vec_capacity c.in-Ok.made.held) (sym c.into_vec-2.ensures) c.in-Ok.ensures.held_room
+    subst (λ (stores : List Store). length stores ≤ vec_capacity c.in-Ok.made.rooms.held) (sym c.into_vec-2.ensures) c.in-Ok.ensures.rooms.held_room
 
 pub invariant_of-result : goal.invariant_of-result
 invariant_of-result g c = (let at = goal.at.invariant_of-result g c in (begun g at.After-into_vec-3 (made_of g at.In-Ok)).1)

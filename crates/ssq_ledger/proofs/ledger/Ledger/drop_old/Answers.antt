@@ -1,12 +1,10 @@
-use Rattle.std.proofs.Common.{◌≡◌, ◌≤◌, ◌<◌, ◌+◌, ◌++◌, [], ◌∷◌, List, ◌-◌, Some, None, length, sym, ap, ◌∙◌, refl, subst, inl, le_refl, arith}
-use Rattle.ssq_outside.specs.declared.name.Name.TheVariants as name
+use Rattle.std.proofs.Common.{◌≤◌, ◌<◌, ◌+◌, ◌++◌, [], ◌∷◌, List, ◌-◌, Some, length, sym, ap, ◌∙◌, refl, subst, inl, le_refl, arith}
 use Rattle.ssq_upkeep.specs.Upkeep.{IsLeast}
 use Rattle.ssq_board.specs.declared.front.Cause.TheVariants as cause
 use Rattle.ssq_board.specs.declared.front.Entry.{Entry}
 use Rattle.ssq_board.specs.declared.front.Entry.TheVariants as entry
 use Rattle.ssq_board.specs.Core.{Core, need}
 use Rattle.ssq_board.specs.Shelf.{there_in}
-use Rattle.ssq_ledger.specs.Shown.{Shown}
 use Rattle.ssq_board.proofs.Needs.{need_bound}
 use Rattle.ssq_core.specs.Machine.{nothing}
 use Rattle.ssq_ledger.proofs.Ledgers.{held, few_tasks, runs_inside, stop_room}

@@ -1,4 +1,4 @@
-use Rattle.std.proofs.Common.{◌≡◌, ◌≤◌, ◌<◌, ℕ, List, ◌++◌, ◌∷◌, [], sym, ap, ◌∙◌, refl, subst, inl, inr, le_refl, arith}
+use Rattle.std.proofs.Common.{◌≡◌, ◌≤◌, List, ◌++◌, ◌∷◌, [], sym, ap, ◌∙◌, refl, subst, inl, inr, le_refl, arith}
 use Rattle.ssq_outside.specs.declared.name.Name.TheVariants as name
 use Rattle.ssq_core.specs.Course.{Cuts}
 use Rattle.ssq_core.specs.Machine.{nothing, publishes}

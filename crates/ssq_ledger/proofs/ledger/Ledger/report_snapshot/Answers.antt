@@ -47,13 +47,10 @@ pub invariant_of-self-in-Ok : goal.invariant_of-self-in-Ok
 invariant_of-self-in-Ok g c =
     let s = c.self.inside in
     let o = g.O.Opening.opening s.opening.value in
-    let p = c.args.partition in
-    let v = c.args.version in
-    let q = name.Snapshot p v in
+    let q = name.Snapshot c.args.partition c.args.version in
     let claimed = claimed_inside g.O.Opening.opening _ _ c.self.view_is _ c.requires.claimed in
     let running : s.board.front.stop ≡ None = none_of s.board.front.stop (ap (λ (f : Front). is_some f.stop) (sym c.front.ensures) ∙ sym c.is_some.ensures ∙ c.if-is_some.false) in
-    let right : g.D.Disk.tells × g.O.Opening.tells s.opening.value s.scope (g.D.Disk.history s.opened.value) → _ =
-    subst (λ (x : Shown g.row.D.Denot g.row.O.Denot). g.D.Disk.tells × g.O.Opening.tells x.opening x.scope (g.D.Disk.history x.opened) → g.D.Stage.Stage.sealed c.args.file ≡ truth ((g.O.Opening.opening x.opening).job.course (cuts_of g.O.Opening.opening x)) q) (sym c.self.view_is) c.requires.right in
+    let right = subst (λ (x : Shown g.row.D.Denot g.row.O.Denot). g.D.Disk.tells × g.O.Opening.tells x.opening x.scope (g.D.Disk.history x.opened) → g.D.Stage.Stage.sealed c.args.file ≡ truth ((g.O.Opening.opening x.opening).job.course (cuts_of g.O.Opening.opening x)) q) (sym c.self.view_is) c.requires.right in
     let fewer = is_claimed _ _ _ _ _ _ _ _ c.self.invariant.0 _ _ c.self.invariant.1 q claimed in
     let count = ap length c.leave_out.ensures.items in
     let news_is = c.add.ensures.items ∙ (λ i. if is_among (c.as_slice.ensures.value i) q || is_among s.names.news.items q then s.names.news.items else s.names.news.items ++ q ∷ []) in
@@ -63,23 +60,19 @@ invariant_of-self-in-Ok g c =
     let all = c.self.invariant.1.entries in
     let cap = c.add.ensures.capacity in
     let k = c.push_reserved-in-Ok.ensures.capacity in
-    upkeep_both _ _ _ _ _ _ _ _ c.self.invariant.0 _ _ c.self.invariant.1 _ s.board _ _ _ (entry.Snapshot p v) tt claimed
-    (λ t. snapshot_went o.job (cuts_after o s.scope s.entries.items) p v s.board.front.stop _ _ running (went q _ _ _ _ (right t) (c.publish.ensures.steps t.0) (c.in-Ok.ensures.ok t.0))) (λ t. tt) refl c.push_reserved-in-Ok.ensures.items (le_refl (need s.board))
+    upkeep_both _ _ _ _ _ _ _ _ c.self.invariant.0 _ _ c.self.invariant.1 _ s.board _ _ _ (entry.Snapshot c.args.partition c.args.version) tt claimed
+    (λ t. snapshot_went o.job (cuts_after o s.scope s.entries.items) c.args.partition c.args.version s.board.front.stop _ _ running (went q _ _ _ _ (right t) (c.publish.ensures.steps t.0) (c.in-Ok.ensures.ok t.0))) (λ t. tt) refl c.push_reserved-in-Ok.ensures.items (le_refl (need s.board))
     (running_by _ _ _ s.board.front.stop running (published_are _ _ _ _ _ _ _ _ c.self.invariant.0 _ _ c.self.invariant.1 q _ refl news_is c.leave_out.ensures.items refl))
     (omega (arith, room, fewer, count, more, news_count, cap)) (omega (arith, all, fewer, count, k))
 
 pub invariant_of-self-in-Err : goal.invariant_of-self-in-Err
 invariant_of-self-in-Err g c =
     let s = c.self.inside in
-    let o = g.O.Opening.opening s.opening.value in
-    let p = c.args.partition in
-    let v = c.args.version in
-    let q = name.Snapshot p v in
+    let q = name.Snapshot c.args.partition c.args.version in
     let claimed = claimed_inside g.O.Opening.opening _ _ c.self.view_is _ c.requires.claimed in
     let running : s.board.front.stop ≡ None = none_of s.board.front.stop (ap (λ (f : Front). is_some f.stop) (sym c.front.ensures) ∙ sym c.is_some.ensures ∙ c.if-is_some.false) in
-    let right : g.D.Disk.tells × g.O.Opening.tells s.opening.value s.scope (g.D.Disk.history s.opened.value) → _ =
-    subst (λ (x : Shown g.row.D.Denot g.row.O.Denot). g.D.Disk.tells × g.O.Opening.tells x.opening x.scope (g.D.Disk.history x.opened) → g.D.Stage.Stage.sealed c.args.file ≡ truth ((g.O.Opening.opening x.opening).job.course (cuts_of g.O.Opening.opening x)) q) (sym c.self.view_is) c.requires.right in
-    unclaimed_both _ _ _ _ _ _ _ _ c.self.invariant.0 _ _ c.self.invariant.1 _ _ _ _ _ (entry.Untaken p v) q claimed running claimed
+    let right = subst (λ (x : Shown g.row.D.Denot g.row.O.Denot). g.D.Disk.tells × g.O.Opening.tells x.opening x.scope (g.D.Disk.history x.opened) → g.D.Stage.Stage.sealed c.args.file ≡ truth ((g.O.Opening.opening x.opening).job.course (cuts_of g.O.Opening.opening x)) q) (sym c.self.view_is) c.requires.right in
+    unclaimed_both _ _ _ _ _ _ _ _ c.self.invariant.0 _ _ c.self.invariant.1 _ _ _ _ _ (entry.Untaken c.args.partition c.args.version) q claimed running claimed
     (λ t. tried q _ _ _ _ (right t) (c.publish.ensures.steps t.0)) (λ t. tt) c.stop.ensures c.push_reserved-in-Err.ensures.items (subst (λ (x : Core). need x ≤ need s.board) (sym c.stop.ensures) (stops_need s.board (Some cause.DiskFault) (stop_most s.board.front.stop cause.DiskFault)))
     (unclaimed_are _ _ _ _ _ _ _ _ c.self.invariant.0 _ _ c.self.invariant.1 q _ refl refl c.leave_out.ensures.items refl)
     refl c.leave_out.ensures.items c.push_reserved-in-Err.ensures.capacity

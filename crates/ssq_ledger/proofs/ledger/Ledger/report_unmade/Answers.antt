@@ -1,10 +1,7 @@
-use Rattle.std.proofs.Common.{◌≡◌, ◌≤◌, ◌<◌, true, Some, length, sym, ap, refl, subst, arith}
+use Rattle.std.proofs.Common.{◌≤◌, ◌<◌, Some, sym, refl, subst}
 use Rattle.ssq_outside.specs.declared.name.Name.TheVariants as name
-use Rattle.ssq_upkeep.specs.Upkeep.{is_among}
-use Rattle.ssq_board.specs.declared.front.Cause.TheVariants as cause
 use Rattle.ssq_board.specs.declared.front.Entry.TheVariants as entry
 use Rattle.ssq_board.specs.Core.{Core, need}
-use Rattle.ssq_ledger.specs.Shown.{Shown, shelf_of}
 use Rattle.ssq_ledger.proofs.Shelves.{claimed_inside, claimed_room, or_stop_most, stops_need, unclaimed_are, unclaimed_both}
 use Rattle.ssq_ledger.proofs.ledger.Ledger.report_unmade.Goals as goal
 

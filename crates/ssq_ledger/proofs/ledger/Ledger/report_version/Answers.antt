@@ -32,8 +32,7 @@ invariant_of-self-in-Ok g c =
     let id = c.args.id in
     let m : May s.scope s.board (entry.Version id) = subst (λ (x : Shown g.row.D.Denot g.row.O.Denot). May x.scope x.core (entry.Version id)) (sym c.self.view_is) c.requires.may in
     let running : s.board.front.stop ≡ None = none_of s.board.front.stop (ap (λ (f : Front). is_some f.stop) (sym c.front.ensures) ∙ sym c.is_some.ensures ∙ c.if-is_some.false) in
-    let right : g.D.Disk.tells × g.O.Opening.tells s.opening.value s.scope (g.D.Disk.history s.opened.value) → _ =
-    subst (λ (x : Shown g.row.D.Denot g.row.O.Denot). g.D.Disk.tells × g.O.Opening.tells x.opening x.scope (g.D.Disk.history x.opened) → HasVersion g.O.Opening.opening x id (g.D.Stage.Stage.sealed c.args.file)) (sym c.self.view_is) c.requires.right in
+    let right = subst (λ (x : Shown g.row.D.Denot g.row.O.Denot). g.D.Disk.tells × g.O.Opening.tells x.opening x.scope (g.D.Disk.history x.opened) → HasVersion g.O.Opening.opening x id (g.D.Stage.Stage.sealed c.args.file)) (sym c.self.view_is) c.requires.right in
     let kept : s.entries.cap ≤ c.note_version-in-Ok.new.entries.cap = (let k = c.note_version-in-Ok.ensures.capacity in omega arith) in (
       spent _ _ _ _ _ _ _ _ c.self.invariant.0 _ _ _ _ (entry.Version id) refl m
           (λ t. version_went o.job (cuts_after o s.scope s.entries.items) id s.board.front.stop _ _ running (went (name.Delta id.number id.epoch) _ _ _ _ (right t).1 (c.publish.ensures.steps t.0) (c.in-Ok.ensures.ok t.0)))
@@ -45,12 +44,10 @@ invariant_of-self-in-Ok g c =
 pub invariant_of-self-in-Err : goal.invariant_of-self-in-Err
 invariant_of-self-in-Err g c =
     let s = c.self.inside in
-    let o = g.O.Opening.opening s.opening.value in
     let id = c.args.id in
     let m : May s.scope s.board (entry.Version id) = subst (λ (x : Shown g.row.D.Denot g.row.O.Denot). May x.scope x.core (entry.Version id)) (sym c.self.view_is) c.requires.may in
     let running : s.board.front.stop ≡ None = none_of s.board.front.stop (ap (λ (f : Front). is_some f.stop) (sym c.front.ensures) ∙ sym c.is_some.ensures ∙ c.if-is_some.false) in
-    let right : g.D.Disk.tells × g.O.Opening.tells s.opening.value s.scope (g.D.Disk.history s.opened.value) → _ =
-    subst (λ (x : Shown g.row.D.Denot g.row.O.Denot). g.D.Disk.tells × g.O.Opening.tells x.opening x.scope (g.D.Disk.history x.opened) → HasVersion g.O.Opening.opening x id (g.D.Stage.Stage.sealed c.args.file)) (sym c.self.view_is) c.requires.right in
+    let right = subst (λ (x : Shown g.row.D.Denot g.row.O.Denot). g.D.Disk.tells × g.O.Opening.tells x.opening x.scope (g.D.Disk.history x.opened) → HasVersion g.O.Opening.opening x id (g.D.Stage.Stage.sealed c.args.file)) (sym c.self.view_is) c.requires.right in
     let kept : s.entries.cap ≤ c.note_missed.new.entries.cap = (let k = c.note_missed.ensures.capacity in omega arith) in
     spent_both _ _ _ _ _ _ _ _ c.self.invariant.0 _ _ c.self.invariant.1 _ _ _ _ (entry.Missed id) refl refl (m.0, m.1, m.2, m.3, running) (λ t. tried (name.Delta id.number id.epoch) _ _ _ _ (right t).1 (c.publish.ensures.steps t.0))
     (λ t. (right t).0) (c.note_missed.ensures.board s.scope) c.note_missed.ensures.items kept kept
