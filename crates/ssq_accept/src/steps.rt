@@ -11,7 +11,7 @@ use ssq_shape::Bound;
 use std::alloc::Global;
 
 /// A query file that can be run.
-#[derive(Debug, Drop)]
+#[derive(Drop)]
 pub struct Accepted {
     /// The query that the file is.
     pub query: Query,
@@ -59,7 +59,10 @@ fn allowed(alloc: Global, query: &Query) -> Result<Bound, Refusal>
     let bound = bound(alloc, query)?;
     match may_run(&bound) {
         Ok(()) => Ok(bound),
-        Err(refusal) => Err(refusal),
+        Err(refusal) => {
+            drop(bound);
+            Err(refusal)
+        }
     }
 }
 
@@ -79,7 +82,10 @@ pub fn accept(alloc: Global, bytes: &[u8]) -> Result<Accepted, Refusal>
     let query = read(alloc, bytes)?;
     match allowed(alloc, &query) {
         Ok(bound) => Ok(Accepted { query, bound }),
-        Err(refusal) => Err(refusal),
+        Err(refusal) => {
+            drop(query);
+            Err(refusal)
+        }
     }
 }
 

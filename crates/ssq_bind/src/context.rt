@@ -1,28 +1,27 @@
 //! What names mean where expressions are built.
 
 ghost use Rattle.std.specs.Prelude.{◌≡◌, ◌<◌, ◌^◌};
-ghost use Rattle.ssq_check.specs.Scope.{in_source, bare_spot, source_named, named_spot, is_window_name};
+ghost use Rattle.ssq_check.specs.Scope.{bare_spot};
 ghost use Rattle.ssq_check.specs.Joined.{spot_in, spot_of};
 ghost use Rattle.ssq_bind.specs.Value.{width, behind, row_index, is_window_column, key_spot, key_index};
 
 use ssq_ast::{ColumnRef, Ident};
-use ssq_check::{Scope, Side, Source, Spot};
-use ssq_value::Text;
+use ssq_check::{BindFault, Scope, Side, Source, Spot, is_window_name};
 
 /// What expressions rest on: the names that they may use, and the size of the query's window in microseconds.
-#[derive(Debug, Drop)]
+#[derive(Drop)]
 pub struct Context {
     pub scope: Scope,
     /// 0 where rows are not grouped by a window.
     pub size: i64,
 }
 
-fn in_source(side: Side, source: &Option<Source>, name: &Text) -> Option<Spot>
-    ensures { result ≡ in_source side source.now name.now }
+fn spot_in(found: Result<Spot, BindFault>) -> Option<Spot>
+    ensures { result ≡ spot_in found }
 {
-    match source {
-        Some(source) => source.columns.spot(side, name),
-        None => None,
+    match found {
+        Ok(spot) => Some(spot),
+        Err(_) => None,
     }
 }
 
@@ -30,45 +29,14 @@ fn in_source(side: Side, source: &Option<Source>, name: &Text) -> Option<Spot>
 pub(crate) fn bare_spot(scope: &Scope, name: &Ident) -> Option<Spot>
     ensures { result ≡ spot_in (bare_spot scope.now name.now) }
 {
-    let left = in_source(Side::Left, &scope.left, &name.text);
-    let right = in_source(Side::Right, &scope.right, &name.text);
-    match (left, right) {
-        (Some(_), Some(_)) => None,
-        (Some(spot), None) => Some(spot),
-        (None, Some(spot)) => Some(spot),
-        (None, None) => None,
-    }
-}
-
-fn is_named(source: &Option<Source>, name: &str) -> bool
-    ensures { result ≡ source_named source.now name.now }
-{
-    match source {
-        Some(source) => source.name.as_str() == name,
-        None => false,
-    }
-}
-
-fn named_spot(scope: &Scope, stream: &Ident, column: &Ident) -> Option<Spot>
-    ensures { result ≡ spot_in (named_spot scope.now stream.now column.now) }
-{
-    if is_named(&scope.left, stream.text.as_str()) {
-        in_source(Side::Left, &scope.left, &column.text)
-    } else if is_named(&scope.right, stream.text.as_str()) {
-        in_source(Side::Right, &scope.right, &column.text)
-    } else {
-        None
-    }
+    spot_in(ssq_check::bare_spot(scope, name))
 }
 
 /// The column that is meant.
 pub(crate) fn spot_of(scope: &Scope, column: &ColumnRef) -> Option<Spot>
     ensures { result ≡ spot_in (spot_of scope.now column.now) }
 {
-    match &column.stream {
-        Some(stream) => named_spot(scope, stream, &column.column),
-        None => bare_spot(scope, &column.column),
-    }
+    spot_in(ssq_check::spot_of(scope, column))
 }
 
 fn width(source: &Option<Source>) -> usize
@@ -100,12 +68,6 @@ pub(crate) fn row_index(scope: &Scope, spot: Option<Spot>) -> usize
         },
         None => 0,
     }
-}
-
-fn is_window_name(name: &str) -> bool
-    ensures { result ≡ is_window_name name.now }
-{
-    name == "window_start" || name == "window_end"
 }
 
 fn key_spot(scope: &Scope, spot: Option<Spot>) -> Option<usize>

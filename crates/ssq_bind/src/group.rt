@@ -1,62 +1,19 @@
 //! GROUP BY, DEDUPLICATE and ORDER BY.
 
 ghost use Rattle.std.specs.Prelude.{◌≡◌, map, position, IfOk};
-ghost use Rattle.std.specs.List.{flat_map};
 ghost use Rattle.std.specs.Str.{bytes_eq};
 ghost use Rattle.ssq_check.specs.Clauses.{slide_of};
 ghost use Rattle.ssq_check.specs.Lists.{item_name};
-ghost use Rattle.ssq_check.specs.Names.{keys_of, group_keys};
-ghost use Rattle.ssq_bind.specs.Lists.{listed};
 ghost use Rattle.ssq_bind.specs.Shapes.{order_of, sort_key, size_in, window_size, group_items, bare_index, key_of};
 
 use crate::context::{bare_spot, row_index};
-use crate::list::push_some;
 use crate::output::item_name;
 use crate::value::or_zero;
 use ssq_ast::{Group, GroupBy, Ident, Item, OrderBy, Window};
-use ssq_check::{Key, Keys, Scope};
+use ssq_check::Scope;
 use ssq_shape::{Direction, GroupKey, SortKey};
 use ssq_value::Sequence;
 use std::alloc::{AllocError, Global};
-
-/// What a column or a window is as a key, where its name is known.
-fn key_in(scope: &Scope, group: &Group) -> Option<Key>
-    ensures { listed result ≡ keys_of scope.now group.now }
-{
-    match group {
-        Group::Column(column) => match bare_spot(scope, column) {
-            Some(spot) => Some(Key::Column(spot)),
-            None => None,
-        },
-        Group::Window(_) => Some(Key::Window),
-    }
-}
-
-#[tactic(auto, unfolding(crate::specs::Lists::gathered))]
-fn keys_in(alloc: Global, scope: &Scope, groups: &[Group]) -> Result<Sequence<Key>, AllocError>
-    ensures { IfOk result (λ keys. keys ≡ flat_map (keys_of scope.now) groups.now) }
-{
-    let mut keys = Sequence::new(alloc);
-    for group in groups {
-        push_some(&mut keys, key_in(scope, group))?;
-    }
-    Ok(keys)
-}
-
-/// What rows are grouped by, as far as names are known.
-pub(crate) fn group_keys(
-    alloc: Global,
-    scope: &Scope,
-    group: &Option<GroupBy>,
-) -> Result<Keys, AllocError>
-    ensures { IfOk result (λ keys. keys ≡ group_keys scope.now group.now) }
-{
-    let list = match group {
-        Some(by) => keys_in(alloc, scope, by.items.as_slice())?,
-        None => Sequence::new(alloc),
-    };
-    Keys::new(alloc, list)
-}
 
 fn size_in(groups: &[Group]) -> i64
     ensures { result ≡ size_in groups.now }

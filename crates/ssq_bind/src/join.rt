@@ -18,7 +18,7 @@ use ssq_value::Sequence;
 use std::alloc::{AllocError, Global};
 
 /// What ON joins by AND, by its kind.
-#[derive(Debug, Drop)]
+#[derive(Drop)]
 pub struct Parts {
     pub keys: Sequence<KeyPair>,
     /// The BETWEENs. A query without a fault has one at most.

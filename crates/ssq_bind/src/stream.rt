@@ -5,13 +5,13 @@ ghost use Rattle.std.specs.Str.{bytes_eq};
 ghost use Rattle.std.specs.Option.{ForSome, option_copied, option_map};
 ghost use Rattle.ssq_value.specs.Layout.{IsEvent};
 ghost use Rattle.ssq_check.specs.Scope.{spot_at, in_columns};
-ghost use Rattle.ssq_check.specs.Names.{declared, column_of, source_of, watermark_name};
+ghost use Rattle.ssq_check.specs.Names.{declared, column_of};
 ghost use Rattle.ssq_bind.specs.Streams.{kept_columns, timed, event_in, delay_of, stream_of, listed};
 
 use ssq_ast::{ColumnDecl, Watermark};
-use ssq_check::{Columns, Side, Source, Spot};
+use ssq_check::{Side, Spot};
 use ssq_shape::Stream;
-use ssq_value::{ColType, Column, Schema, Sequence, Text};
+use ssq_value::{ColType, Column, Schema, Sequence};
 use std::alloc::{AllocError, Global};
 
 /// The first stream that is declared under the name.
@@ -165,40 +165,4 @@ pub(crate) fn list(
         streams.push(stream_of(alloc, stream)?)?;
     }
     Ok(())
-}
-
-fn watermark_name(watermark: &Option<Watermark>) -> Result<Option<Text>, AllocError>
-    ensures { IfOk result (λ name. name ≡ option_map watermark_name watermark.now) }
-{
-    match watermark {
-        Some(watermark) => Ok(Some(watermark.column.text.clone()?)),
-        None => Ok(None),
-    }
-}
-
-fn known_source(alloc: Global, stream: &ssq_ast::Stream) -> Result<Source, AllocError>
-    ensures { IfOk result (λ source. source ≡ source_of stream.now) }
-{
-    let name = stream.name.text.clone()?;
-    let watermark = watermark_name(&stream.watermark)?;
-    let list = columns_of(alloc, stream.columns.as_slice())?;
-    let columns = Columns::new(alloc, Sequence::from_vec(list))?;
-    Ok(Source {
-        name,
-        columns,
-        watermark,
-    })
-}
-
-/// What expressions see of a stream.
-pub(crate) fn source_of(
-    alloc: Global,
-    stream: Option<&ssq_ast::Stream>,
-) -> Result<Option<Source>, AllocError>
-    ensures { IfOk result (λ source. source ≡ option_map source_of (option_copied stream.entry)) }
-{
-    match stream {
-        Some(stream) => Ok(Some(known_source(alloc, stream)?)),
-        None => Ok(None),
-    }
 }

@@ -143,7 +143,10 @@ fn shifted_or(
     ensures { IfOk result (λ typed. typed ≡ shifted_or shift left (binary_value op left right)) }
 {
     match shift {
-        Some(by) => Ok(shifted(left, by)),
+        Some(by) => {
+            drop(right);
+            Ok(shifted(left, by))
+        }
         None => operator(alloc, op, left, right),
     }
 }
@@ -207,7 +210,10 @@ fn numbered(
     ensures found { OnOk result (found.new ≡ found.old ++ given within aggregate) }
 {
     match within {
-        Within::Row => Ok(Typed::Constant(Value::Null)),
+        Within::Row => {
+            drop(aggregate);
+            Ok(Typed::Constant(Value::Null))
+        }
         Within::Group => {
             let number = found.len();
             found.push(aggregate)?;

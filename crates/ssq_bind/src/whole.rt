@@ -3,7 +3,7 @@
 ghost use Rattle.std.specs.Prelude.{◌≡◌, ◌++◌, length, IfOk, IfErr, OnOk};
 ghost use Rattle.std.specs.Option.{option_copied, option_map};
 ghost use Rattle.ssq_check.specs.Fault.{AreNone};
-ghost use Rattle.ssq_check.specs.Names.{left_stream, right_stream, row_scope, group_keys, with_keys, scope_of};
+ghost use Rattle.ssq_check.specs.Names.{left_stream, right_stream};
 ghost use Rattle.ssq_check.specs.Whole.{QueryFaults, IsRefusedBy};
 ghost use Rattle.ssq_bind.specs.Bound.{context_of, shown_of, grouping_of, kept_by, shape_of, mode_of, filter_value, bound_of};
 ghost use Rattle.ssq_bind.specs.Limits.{HasLimits};
@@ -14,14 +14,14 @@ ghost use Rattle.ssq_bind.specs.Typed.{IsTyped};
 ghost use Rattle.ssq_bind.specs.Windows.{HasWindowsIfWritten};
 
 use crate::context::Context;
-use crate::group::{columns_by, group_keys, keys_by, order_by, window_size};
+use crate::group::{columns_by, keys_by, order_by, window_size};
 use crate::join::joining_of;
 use crate::output::{having_of, outputs_of};
 use crate::shown::{is_group, shown_within};
-use crate::stream::{declared, list, source_of};
+use crate::stream::{declared, list};
 use crate::value::row_value;
-use ssq_ast::{Condition, Deduplicate, GroupBy, Join, Query, text};
-use ssq_check::{Keys, Refusal, Scope, Source, check};
+use ssq_ast::{Condition, Deduplicate, Join, Query, text};
+use ssq_check::{Refusal, check, scope_of};
 use ssq_shape::{Aggregate, Bound, Grouping, Mode, Output, Shape, Stream, Typed};
 use ssq_value::{Sequence, texts_are_utf8};
 use std::alloc::{AllocError, Global};
@@ -48,48 +48,6 @@ fn streams_of(alloc: Global, query: &Query) -> Result<Sequence<Stream>, AllocErr
     list(alloc, &mut streams, left_stream(query))?;
     list(alloc, &mut streams, right_stream(query))?;
     Ok(streams)
-}
-
-/// The streams of FROM and JOIN, where they are declared.
-fn sources_of(alloc: Global, query: &Query) -> Result<(Option<Source>, Option<Source>), AllocError>
-    ensures left { IfOk result (λ sources. sources.0 ≡ (row_scope query.now).left) }
-    ensures right { IfOk result (λ sources. sources.1 ≡ (row_scope query.now).right) }
-{
-    let left = source_of(alloc, left_stream(query))?;
-    let right = source_of(alloc, right_stream(query))?;
-    Ok((left, right))
-}
-
-fn row_scope(alloc: Global, query: &Query) -> Result<Scope, AllocError>
-    ensures { IfOk result (λ scope. scope ≡ row_scope query.now) }
-{
-    let keys = Keys::new(alloc, Sequence::new(alloc))?;
-    let (left, right) = sources_of(alloc, query)?;
-    Ok(Scope { left, right, keys })
-}
-
-fn with_keys(names: Scope, keys: Keys) -> Scope
-    ensures { result ≡ with_keys names keys }
-{
-    Scope {
-        left: names.left,
-        right: names.right,
-        keys,
-    }
-}
-
-fn group_scope(alloc: Global, names: Scope, group: &Option<GroupBy>) -> Result<Scope, AllocError>
-    ensures { IfOk result (λ scope. scope ≡ with_keys names (group_keys names group.now)) }
-{
-    let keys = group_keys(alloc, &names, group)?;
-    Ok(with_keys(names, keys))
-}
-
-fn scope_of(alloc: Global, query: &Query) -> Result<Scope, AllocError>
-    ensures { IfOk result (λ scope. scope ≡ scope_of query.now) }
-{
-    let names = row_scope(alloc, query)?;
-    group_scope(alloc, names, &query.select.group)
 }
 
 #[tactic(auto, unfolding(crate::specs::Bound::context_of))]
@@ -122,7 +80,7 @@ fn kept_by(
 }
 
 /// What is shown, and what groups must meet.
-#[derive(Debug, Drop)]
+#[derive(Drop)]
 pub struct Shown {
     pub outputs: Sequence<Output>,
     /// Those of SELECT, then those of HAVING.
@@ -159,12 +117,17 @@ fn grouping_of(
     requires having { having ≡ (shown_of query.now).having }
     ensures { IfOk result (λ grouping. grouping ≡ grouping_of query.now) }
 {
-    let keys = keys_by(alloc, &context.scope, &query.select.group)?;
-    Ok(Grouping {
-        keys,
-        aggregates,
-        having,
-    })
+    match keys_by(alloc, &context.scope, &query.select.group) {
+        Ok(keys) => Ok(Grouping {
+            keys,
+            aggregates,
+            having,
+        }),
+        Err(error) => {
+            drop(having);
+            Err(error)
+        }
+    }
 }
 
 /// What the query keeps. `aggregates` are those of SELECT and HAVING.
@@ -184,6 +147,7 @@ fn shape_of(
     if is_group(query) {
         Ok(Shape::Group(grouping_of(alloc, query, context, aggregates, having)?))
     } else {
+        drop(having);
         let select = &query.select;
         kept_by(alloc, context, &select.join, &select.deduplicate)
     }

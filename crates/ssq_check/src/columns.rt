@@ -10,7 +10,6 @@ use crate::scope::{Side, Spot};
 use indexmap::IndexMap;
 use ssq_value::{Column, Sequence, Text};
 use std::alloc::{AllocError, Global};
-use std::fmt;
 use std::marker::Model;
 
 /// The columns of a stream, with the first of each name at hand. Contracts see the list of the columns.
@@ -99,11 +98,5 @@ impl Columns {
             Some(at) => spot_at(side, self.list.as_slice(), at),
             None => None,
         }
-    }
-}
-
-impl fmt::Debug for Columns {
-    fn fmt<W: fmt::Write>(&self, f: &mut fmt::Formatter<W>) -> fmt::Result {
-        self.list.fmt(f)
     }
 }

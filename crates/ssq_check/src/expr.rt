@@ -13,7 +13,7 @@ use ssq_ast::{BinaryOp, Expr, Function, UnaryOp};
 use ssq_value::ColType;
 
 /// What an operator asks of its two operands.
-#[derive(Clone, Copy, Debug, PartialEq, Eq)]
+#[derive(Clone, Copy)]
 pub enum Asks {
     /// Truth values, for a truth value.
     Truths,

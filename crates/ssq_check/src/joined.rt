@@ -19,7 +19,7 @@ use ssq_ast::{BinaryOp, ColumnRef, Condition, Expr};
 use ssq_value::{ColType, Text};
 
 /// What was met on the way through ON.
-#[derive(Clone, Copy, Debug, PartialEq, Eq)]
+#[derive(Clone, Copy)]
 pub struct Walk {
     /// Whether a BETWEEN was met.
     pub seen: bool,
@@ -32,7 +32,7 @@ pub struct Walk {
 }
 
 /// A side of a bound on times.
-#[derive(Clone, Copy, Debug, PartialEq, Eq)]
+#[derive(Clone, Copy)]
 pub enum Edge {
     /// `l.t - INTERVAL 'a'`
     Low,
@@ -68,7 +68,8 @@ fn is_edge(edge: Edge, op: BinaryOp) -> bool
     }
 }
 
-fn spot_of(scope: &Scope, column: &ColumnRef) -> Result<Spot, BindFault>
+/// The column that is meant, or what is wrong with its name.
+pub fn spot_of(scope: &Scope, column: &ColumnRef) -> Result<Spot, BindFault>
     ensures { result ≡ on.spot_of scope.now column.now }
 {
     match &column.stream {

@@ -8,7 +8,6 @@ use crate::scope::{Key, Side, Spot, is_same_side};
 use indexmap::IndexMap;
 use ssq_value::Sequence;
 use std::alloc::{AllocError, Global};
-use std::fmt;
 use std::marker::Model;
 
 /// What GROUP BY lists, with its columns at hand. Contracts see the list.
@@ -127,11 +126,5 @@ impl Keys {
         ensures { result ≡ is_key self.now spot }
     {
         self.place(spot).is_some()
-    }
-}
-
-impl fmt::Debug for Keys {
-    fn fmt<W: fmt::Write>(&self, f: &mut fmt::Formatter<W>) -> fmt::Result {
-        self.list.fmt(f)
     }
 }

@@ -3,7 +3,7 @@
 ghost use Rattle.std.specs.Prelude.{◌≡◌, ◌++◌, map, IfOk, OnOk};
 ghost use Rattle.std.specs.List.{flat_map};
 ghost use Rattle.std.specs.Option.{option_map};
-ghost use Rattle.ssq_check.specs.Names.{column_of, watermark_name, source_of, declared, join_stream, row_scope, keys_of, group_keys};
+ghost use Rattle.ssq_check.specs.Names.{column_of, watermark_name, source_of, declared, join_stream, row_scope, keys_of, group_keys, with_keys, scope_of};
 
 use crate::columns::Columns;
 use crate::keys::Keys;
@@ -57,8 +57,8 @@ fn source_of(alloc: Global, stream: &Stream) -> Result<Source, AllocError>
     ensures { IfOk result (λ source. source ≡ source_of stream.now) }
 {
     let name = stream.name.text.clone()?;
-    let columns = columns_of(alloc, stream.columns.as_slice())?;
     let watermark = watermark_name(&stream.watermark)?;
+    let columns = columns_of(alloc, stream.columns.as_slice())?;
     Ok(Source {
         name,
         columns,
@@ -99,8 +99,13 @@ fn sources_of(alloc: Global, query: &Query) -> Result<(Option<Source>, Option<So
 {
     let streams = query.streams.as_slice();
     let left = declared(alloc, streams, query.select.from.text.as_str())?;
-    let right = joined(alloc, streams, &query.select.join)?;
-    Ok((left, right))
+    match joined(alloc, streams, &query.select.join) {
+        Ok(right) => Ok((left, right)),
+        Err(error) => {
+            drop(left);
+            Err(error)
+        }
+    }
 }
 
 /// The names of a query's rows.
@@ -135,11 +140,7 @@ fn keys_in(alloc: Global, scope: &Scope, items: &[Group]) -> Result<Sequence<Key
 }
 
 /// What GROUP BY lists, as far as its names are known.
-pub(crate) fn group_keys(
-    alloc: Global,
-    scope: &Scope,
-    group: &Option<GroupBy>,
-) -> Result<Keys, AllocError>
+fn group_keys(alloc: Global, scope: &Scope, group: &Option<GroupBy>) -> Result<Keys, AllocError>
     ensures { IfOk result (λ keys. keys ≡ group_keys scope.now group.now) }
 {
     let list = match group {
@@ -147,4 +148,39 @@ pub(crate) fn group_keys(
         None => Sequence::new(alloc),
     };
     Keys::new(alloc, list)
+}
+
+fn with_keys(names: Scope, keys: Keys) -> Scope
+    ensures { result ≡ with_keys names keys }
+{
+    Scope {
+        left: names.left,
+        right: names.right,
+        keys,
+    }
+}
+
+/// The names of rows, with what GROUP BY lists.
+pub(crate) fn group_scope(
+    alloc: Global,
+    names: Scope,
+    group: &Option<GroupBy>,
+) -> Result<Scope, AllocError>
+    ensures { IfOk result (λ scope. scope ≡ with_keys names (group_keys names group.now)) }
+{
+    match group_keys(alloc, &names, group) {
+        Ok(keys) => Ok(with_keys(names, keys)),
+        Err(error) => {
+            drop(names);
+            Err(error)
+        }
+    }
+}
+
+/// The names that the expressions of a query may use.
+pub fn scope_of(alloc: Global, query: &Query) -> Result<Scope, AllocError>
+    ensures { IfOk result (λ scope. scope ≡ scope_of query.now) }
+{
+    let names = row_scope(alloc, query)?;
+    group_scope(alloc, names, &query.select.group)
 }

@@ -10,7 +10,7 @@ use ssq_ast::{ColumnRef, Ident};
 use ssq_value::{ColType, Text};
 
 /// A stream of FROM or JOIN that is declared.
-#[derive(Debug, Drop)]
+#[derive(Drop)]
 pub struct Source {
     pub name: Text,
     pub columns: Columns,
@@ -19,14 +19,14 @@ pub struct Source {
 }
 
 /// The stream of FROM or that of JOIN.
-#[derive(Clone, Copy, Debug, PartialEq, Eq)]
+#[derive(Clone, Copy, PartialEq, Eq)]
 pub enum Side {
     Left,
     Right,
 }
 
 /// A column: its stream, its index there, and its type.
-#[derive(Clone, Copy, Debug, PartialEq, Eq)]
+#[derive(Clone, Copy, PartialEq, Eq)]
 pub struct Spot {
     pub side: Side,
     pub index: usize,
@@ -34,7 +34,7 @@ pub struct Spot {
 }
 
 /// What rows are grouped by.
-#[derive(Clone, Copy, Debug, PartialEq, Eq)]
+#[derive(Clone, Copy, PartialEq, Eq)]
 pub enum Key {
     Column(Spot),
     /// A window.
@@ -42,7 +42,7 @@ pub enum Key {
 }
 
 /// The names of a query.
-#[derive(Debug, Drop)]
+#[derive(Drop)]
 pub struct Scope {
     /// The stream of FROM, where it is declared.
     pub left: Option<Source>,
@@ -53,7 +53,7 @@ pub struct Scope {
 }
 
 /// Where an expression stands.
-#[derive(Clone, Copy, Debug, PartialEq, Eq)]
+#[derive(Clone, Copy, PartialEq, Eq)]
 pub enum Within {
     /// In WHERE, in ON, in an aggregate, and in SELECT of a query that isn't Group: no aggregate may stand here.
     Row,
@@ -70,7 +70,8 @@ fn in_source(side: Side, source: &Option<Source>, name: &Text) -> Option<Spot>
     }
 }
 
-pub(crate) fn bare_spot(scope: &Scope, name: &Ident) -> Result<Spot, BindFault>
+/// The column of a bare name, or what is wrong with the name.
+pub fn bare_spot(scope: &Scope, name: &Ident) -> Result<Spot, BindFault>
     ensures { result ≡ bare_spot scope.now name.now }
 {
     let left = in_source(Side::Left, &scope.left, &name.text);
@@ -134,7 +135,8 @@ pub(crate) fn is_same_side(left: Side, right: Side) -> bool
     left == right
 }
 
-pub(crate) fn is_window_name(name: &str) -> bool
+/// Whether a column of this name is the start or the end of a window.
+pub fn is_window_name(name: &str) -> bool
     ensures { result ≡ is_window_name name.now }
 {
     name == "window_start" || name == "window_end"

@@ -14,24 +14,13 @@ use crate::clause::{
 };
 use crate::fault::{BindFault, Cause, Refusal, rule, sooner, unless};
 use crate::item::check_items;
-use crate::keys::Keys;
 use crate::list::{beyond, past_places, standing};
-use crate::names::{group_keys, row_scope};
+use crate::names::{group_scope, row_scope};
 use crate::scope::Scope;
 use crate::shown::{group_place, shown_aggregates, within};
 use crate::stream::check_streams;
-use ssq_ast::{Deduplicate, GroupBy, Limit, Query, Select};
+use ssq_ast::{Deduplicate, Limit, Query, Select};
 use std::alloc::{AllocError, Global};
-
-fn with_keys(names: Scope, keys: Keys) -> Scope
-    ensures { result ≡ with_keys names keys }
-{
-    Scope {
-        left: names.left,
-        right: names.right,
-        keys,
-    }
-}
 
 fn is_either(is_join: bool, deduplicate: &Option<Deduplicate>) -> bool
     ensures { result ≡ (is_join || is_there deduplicate.now) }
@@ -148,13 +137,6 @@ fn check_own(alloc: Global, scope: &Scope, query: &Query) -> Result<Option<BindF
     let shown = check_shown(alloc, scope, grouped, places.as_slice(), select)?;
     let words = check_words(select, grouped);
     Ok(sooner(shown, words))
-}
-
-fn group_scope(alloc: Global, names: Scope, group: &Option<GroupBy>) -> Result<Scope, AllocError>
-    ensures { IfOk result (λ scope. scope ≡ with_keys names (group_keys names group.now)) }
-{
-    let keys = group_keys(alloc, &names, group)?;
-    Ok(with_keys(names, keys))
 }
 
 /// The same, from the names of rows.
