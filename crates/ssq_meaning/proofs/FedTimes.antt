@@ -1,7 +1,7 @@
 -- The time of a fed row is that of its key, its key has a value for each part, a time where that is a window, and it has a value for each
 -- aggregate.
-use Rattle.std.proofs.Common.{◌≡◌, [], ◌∷◌, ℕ, suc, ℤ, List, Option, Some, None, Ok, Err, Bool, true, false, refl, ap, sym, ◌∙◌, subst, map, filter, length}
-use Rattle.std.specs.Prelude.{All, IfOk, IfSome, not, if◌then◌else◌}
+use Rattle.std.proofs.Common.{◌≡◌, [], ◌∷◌, ℕ, suc, ℤ, List, Option, Some, None, Ok, Err, Bool, true, false, refl, ap, sym, subst, map, filter, length}
+use Rattle.std.specs.Prelude.{All, IfOk, IfSome, not}
 use Rattle.std.specs.List.{AllByRecursion, flat_map}
 use Rattle.std.proofs.lemmas.List.Elements.{All-from_recursion}
 use Rattle.std.proofs.lemmas.Result.{IfOk-weaker}
@@ -25,8 +25,7 @@ use Rattle.ssq_meaning.specs.Handed.{Handed}
 use Rattle.ssq_meaning.specs.Meaning.{Line, Values}
 use Rattle.ssq_meaning.specs.Operator.{operator_for, operator_of}
 use Rattle.ssq_meaning.specs.Parts.{Part}
-use Rattle.ssq_meaning.proofs.Handing.{Gives, IsGiven, IsFed, all_append, any_read, cons_ok, line_has, part_all, fed_all, on_time_all, accepted_all, weaker}
-use Rattle.ssq_meaning.specs.Times.{is_past}
+use Rattle.ssq_meaning.proofs.Handing.{Gives, IsGiven, IsFed, all_append, any_read, cons_ok, line_has, part_all, fed_all, on_time_all, accepted_all, timely_open, weaker}
 
 -- a key has a value for each part, a time where that is a window
 abbrev pub IsKeyOf : List GroupKey → Values → Type 0
@@ -117,17 +116,6 @@ module _ (query : Bound) (grouping : Grouping) where
   group_rows : (rows : List FedRow) → AllByRecursion (IsFed query IsMade) rows → All (IsGroupRow query grouping) rows
   group_rows rows all = All-from_recursion (IsGroupRow query grouping) rows (weaker (IsFed query IsMade) (IsGroupRow query grouping) is_group_row rows all)
 
-  timely_open : (now : Option ℤ) (rows : List FedRow) → AllByRecursion (IsFed query IsMade) rows
-      → AllByRecursion (λ row. is_closed query grouping now row.key ≡ false) (filter (λ (row : FedRow). not (is_past now row.time)) rows)
-  timely_open now [] all = tt
-  timely_open now (row ∷ rows) all = by (timely_open now rows all.1) (is_past now row.time) refl
-    where
-      by : AllByRecursion (λ row. is_closed query grouping now row.key ≡ false) (filter (λ (row : FedRow). not (is_past now row.time)) rows) → (b : Bool) → is_past now row.time ≡ b
-          → AllByRecursion (λ row. is_closed query grouping now row.key ≡ false)
-          (if not b then row ∷ filter (λ (row : FedRow). not (is_past now row.time)) rows else filter (λ (row : FedRow). not (is_past now row.time)) rows)
-      by rest true late = rest
-      by rest false late = (ap (is_past now) (sym all.0.0) ∙ late, rest)
-
   module _ (is : query.shape ≡ Group grouping) where
     line_made : (stream : ℕ) (line : Line) → IfOk (line_handed query stream line) AreMade
     line_made stream line =
@@ -154,7 +142,7 @@ module _ (query : Bound) (grouping : Grouping) where
           let now = watermark query parts cuts e in
           let rows = fed query parts cuts e in
           subst (λ (shape : Shape). AllByRecursion (λ row. is_closed query grouping now row.key ≡ false) (filter (λ (row : FedRow). not ((operator_for shape query).is_late now row)) rows)) (sym is)
-          (timely_open now rows (fed_all query IsMade line_made parts cuts e))
+          (timely_open query IsMade (closing_time query grouping) (λ row made. made.0) now rows (fed_all query IsMade line_made parts cuts e))
 
       -- the key of each row that is on time is one
       pub on_time_keyed : AllByRecursion (λ row. IsKeyOf grouping.keys row.key) (on_time query parts cuts e)

@@ -1,5 +1,5 @@
 -- What holds of all that is handed on of each line, and of each row that is fed.
-use Rattle.std.proofs.Common.{◌+◌, ◌++◌, [], ◌∷◌, ℕ, zero, suc, ℤ, List, Option, Some, None, Result, Ok, Err, Bool, true, false, map}
+use Rattle.std.proofs.Common.{◌≡◌, ◌+◌, ◌++◌, [], ◌∷◌, ℕ, zero, suc, ℤ, List, Option, Some, None, Result, Ok, Err, Bool, true, false, refl, ap, sym, ◌∙◌, map, filter}
 use Rattle.std.specs.Prelude.{IfOk, IfSome, not, if◌then◌else◌}
 use Rattle.std.specs.List.{AllByRecursion, flat_map}
 use Rattle.ssq_value.specs.declared.value.Value.{Value}
@@ -22,6 +22,7 @@ use Rattle.ssq_meaning.specs.Join.{handed_to_join}
 use Rattle.ssq_meaning.specs.Meaning.{Line, Values}
 use Rattle.ssq_meaning.specs.Operator.{operator_of}
 use Rattle.ssq_meaning.specs.Parts.{Part}
+use Rattle.ssq_meaning.specs.Times.{is_past}
 use Rattle.ssq_meaning.proofs.Keys.{All-by}
 
 -- ---- lists
@@ -154,3 +155,17 @@ module _ (query : Bound) (P : (stream : ℕ) → (key : Values) → (time : Opti
       unfolding accepted
       accepted_all zero = tt
       accepted_all (suc e) = all_append IsFed (accepted query parts cuts e) (on_time query parts cuts e) (accepted_all e) (on_time_all e)
+
+-- The key of no row that is on time is closed, where the time of a row is that when its key closes.
+module _ (query : Bound) (P : (stream : ℕ) → (key : Values) → (time : Option ℤ) → (values : Values) → Type 0) (closing : Values → Option ℤ)
+    (closes : (row : FedRow) → IsFed query P row → row.time ≡ closing row.key) (now : Option ℤ) where
+  pub timely_open : (rows : List FedRow) → AllByRecursion (IsFed query P) rows
+      → AllByRecursion (λ row. is_past now (closing row.key) ≡ false) (filter (λ (row : FedRow). not (is_past now row.time)) rows)
+  timely_open [] all = tt
+  timely_open (row ∷ rows) all = by (timely_open rows all.1) (is_past now row.time) refl
+    where
+      by : AllByRecursion (λ row. is_past now (closing row.key) ≡ false) (filter (λ (row : FedRow). not (is_past now row.time)) rows) → (b : Bool) → is_past now row.time ≡ b
+          → AllByRecursion (λ row. is_past now (closing row.key) ≡ false)
+          (if not b then row ∷ filter (λ (row : FedRow). not (is_past now row.time)) rows else filter (λ (row : FedRow). not (is_past now row.time)) rows)
+      by rest true late = rest
+      by rest false late = (ap (is_past now) (sym (closes row all.0)) ∙ late, rest)

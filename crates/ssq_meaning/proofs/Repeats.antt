@@ -1,6 +1,6 @@
 -- Rows without repeats over the epochs of a job: how they are fed, that epochs follow one another, what they show, and that no row is lost.
 use Rattle.std.proofs.Common.{◌≡◌, ◌++◌, [], ◌∷◌, ℕ, zero, suc, ℤ, List, Option, Result, Ok, Err, Bool, true, false, refl, ap, sym, ◌∙◌, subst, filter, length}
-use Rattle.std.specs.Prelude.{◌&&◌, ◌||◌, ◌==◌, All, IfOk, IfSome, not, if◌then◌else◌}
+use Rattle.std.specs.Prelude.{◌&&◌, ◌||◌, ◌==◌, All, IfOk, IfSome, not}
 use Rattle.std.specs.List.{AllByRecursion}
 use Rattle.std.proofs.lemmas.List.{length-map}
 use Rattle.std.proofs.lemmas.List.Elements.{All-filter, All-from_recursion, All-weaker, recursion_from_All}
@@ -23,11 +23,10 @@ use Rattle.ssq_meaning.specs.Laws.{outs}
 use Rattle.ssq_meaning.specs.Meaning.{Line, Values}
 use Rattle.ssq_meaning.specs.Operator.{operator_for, operator_of}
 use Rattle.ssq_meaning.specs.Parts.{Part}
-use Rattle.ssq_meaning.specs.Times.{is_past}
 use Rattle.ssq_meaning.proofs.Counted.{has_key-append}
 use Rattle.ssq_meaning.proofs.Firsts.{meant-append}
 use Rattle.ssq_meaning.proofs.Grouped.{past_stays}
-use Rattle.ssq_meaning.proofs.Handing.{Gives, IsFed, IsGiven, any_read, line_has, part_all, fed_all, on_time_all, accepted_all, weaker}
+use Rattle.ssq_meaning.proofs.Handing.{Gives, IsFed, IsGiven, any_read, line_has, part_all, fed_all, on_time_all, accepted_all, timely_open, weaker}
 use Rattle.ssq_meaning.proofs.Keys.{same_is}
 use Rattle.ssq_meaning.proofs.Water.{water_rose, water_stays}
 
@@ -52,17 +51,6 @@ module _ (query : Bound) (columns : List ℕ) where
 
   dedup_rows : (rows : List FedRow) → AllByRecursion (IsFed query IsMade) rows → All (IsDedupRow query columns) rows
   dedup_rows rows all = All-from_recursion (IsDedupRow query columns) rows (weaker (IsFed query IsMade) (IsDedupRow query columns) is_dedup_row rows all)
-
-  timely_open : (now : Option ℤ) (rows : List FedRow) → AllByRecursion (IsFed query IsMade) rows
-      → AllByRecursion (λ row. is_closed query columns now row.key ≡ false) (filter (λ (row : FedRow). not (is_past now row.time)) rows)
-  timely_open now [] all = tt
-  timely_open now (row ∷ rows) all = by (timely_open now rows all.1) (is_past now row.time) refl
-    where
-      by : AllByRecursion (λ row. is_closed query columns now row.key ≡ false) (filter (λ (row : FedRow). not (is_past now row.time)) rows) → (b : Bool) → is_past now row.time ≡ b
-          → AllByRecursion (λ row. is_closed query columns now row.key ≡ false)
-          (if not b then row ∷ filter (λ (row : FedRow). not (is_past now row.time)) rows else filter (λ (row : FedRow). not (is_past now row.time)) rows)
-      by rest true late = rest
-      by rest false late = (ap (is_past now) (sym all.0.0) ∙ late, rest)
 
   -- ---- what is kept
 
@@ -143,7 +131,7 @@ module _ (query : Bound) (columns : List ℕ) where
           let now = watermark query parts cuts e in
           let rows = fed query parts cuts e in
           subst (λ (shape : Shape). AllByRecursion (λ row. is_closed query columns now row.key ≡ false) (filter (λ (row : FedRow). not ((operator_for shape query).is_late now row)) rows)) (sym is)
-          (timely_open now rows (fed_all query IsMade line_made parts cuts e))
+          (timely_open query IsMade (closing_time query columns) (λ row made. made.0) now rows (fed_all query IsMade line_made parts cuts e))
 
       pub follows_at : (e : ℕ) → Follows query columns (on_time query parts cuts e) (watermark_before query parts cuts e) (watermark query parts cuts e)
       follows_at e = record {

@@ -175,7 +175,7 @@ impl FedRow {
 }
 
 /// What all tasks of a job share.
-#[derive(Clone, Copy, Debug)]
+#[derive(Clone, Copy)]
 pub struct View<'a> {
     /// The query.
     pub bound: &'a Bound,
