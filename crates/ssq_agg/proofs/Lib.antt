@@ -8,6 +8,7 @@ pub mod Fitting
 pub mod Saying
 pub mod Found
 pub mod Finishing
+pub mod Showing
 pub mod Dueing
 pub mod Stepping
 pub mod Given

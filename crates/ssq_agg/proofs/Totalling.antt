@@ -1,9 +1,11 @@
 -- Totals that are read one after the other.
-use Rattle.std.proofs.Common.{◌≡◌, ◌+◌, ◌<◌, ◌++◌, ℕ, suc, [], ◌∷◌, List, ap, sym, subst, ◌∙◌, drop, drop-cons, add-one, length, get_or, append_assoc, append-nil}
+use Rattle.std.proofs.Common.{◌≡◌, ◌==◌, ◌+◌, ◌<◌, ◌++◌, ℕ, suc, true, false, refl, arith, [], ◌∷◌, List, ap, sym, subst, ◌∙◌, drop, drop-cons, take, add-one, length, get_or, append_assoc, append-nil}
+use Rattle.std.proofs.Math.Seq.{take-suc}
+use Rattle.std.proofs.lemmas.Bool.{eqb-true, eqb-false}
 use Rattle.std.proofs.lemmas.Grind.{flat_map-append}
 use Rattle.ssq_shape.specs.declared.bound.Aggregate.{Aggregate}
 use Rattle.ssq_meaning.specs.declared.total.Total.{Total}
-use Rattle.ssq_meaning.specs.Totals.{total_bytes, totals_bytes}
+use Rattle.ssq_meaning.specs.Totals.{total_bytes, total_of, totals_bytes, totals_from}
 use Rattle.ssq_agg.specs.Readable.{IsTotalOf, AreTotalsOf}
 
 -- ---- those that were read
@@ -99,6 +101,39 @@ all_read all bytes so_far rest was totals are is =
     let left = was totals are is in
     nothing_left totals so_far left.left rest left.parts left.are left.bytes
 
--- the aggregate that comes next
-pub step_is : (all : List Aggregate) (at : ℕ) (aggregate : Aggregate) → at < length all → aggregate ≡ get_or all at aggregate → drop at all ≡ aggregate ∷ drop (at + 1) all
-step_is all at aggregate inside is = rw (add-one, drop-cons all at aggregate inside) (ap (λ a. a ∷ drop (suc at) all) (sym is))
+-- the item that comes next
+pub step_is : {T : Type 0} (all : List T) (at : ℕ) (item : T) → at < length all → item ≡ get_or all at item → drop at all ≡ item ∷ drop (at + 1) all
+step_is all at item inside is = rw (add-one, drop-cons all at item inside) (ap (λ a. a ∷ drop (suc at) all) (sym is))
+
+-- ---- where nothing follows
+
+pub no_items : {T : Type 0} (xs : List T) → (length xs == 0) ≡ true → xs ≡ []
+no_items [] is = refl
+no_items (x ∷ xs) is = absurd (omega (arith, eqb-true (length (x ∷ xs)) 0 is))
+
+pub some_item : {T : Type 0} (xs : List T) → (length xs == 0) ≡ false → xs ≡ [] → ⊥
+some_item xs is none = absurd (omega (arith, eqb-false (length xs) 0 is, ap length none))
+
+-- ---- those that are written
+
+-- the bytes of the totals up to and with the next one
+pub bytes_taken : (totals : List Total) (at : ℕ) (own : Total) (before after : List ℕ) → at < length totals → own ≡ get_or totals at own → before ≡ totals_bytes (take at totals)
+    → after ≡ before ++ total_bytes own → after ≡ totals_bytes (take (at + 1) totals)
+bytes_taken totals at own before after inside is was wrote =
+    wrote ∙ ap (λ l. l ++ total_bytes own) was
+    ∙ ap (λ t. totals_bytes (take at totals) ++ total_bytes t) is
+    ∙ ap (λ l. totals_bytes (take at totals) ++ l) (sym (append-nil (total_bytes (get_or totals at own))))
+    ∙ sym (flat_map-append total_bytes (take at totals) (get_or totals at own ∷ []))
+    ∙ ap totals_bytes (sym (ap (λ n. take n totals) (add-one at) ∙ take-suc totals at own inside))
+
+-- ---- those of no row
+
+pub none_on : (all left : List Aggregate) (aggregate : Aggregate) (at : ℕ) (so_far pushed whole : List Total) (own : Total) → drop at all ≡ aggregate ∷ left → own ≡ total_of aggregate.function []
+    → pushed ≡ so_far ++ own ∷ [] → so_far ++ totals_from at (drop at all) [] ≡ whole → pushed ++ totals_from (at + 1) left [] ≡ whole
+unfolding totals_from
+none_on all left aggregate at so_far pushed whole own step is push was =
+    ap (λ l. l ++ totals_from (at + 1) left []) push
+    ∙ append_assoc so_far (own ∷ []) (totals_from (at + 1) left [])
+    ∙ ap (λ t. so_far ++ t ∷ totals_from (at + 1) left []) is
+    ∙ ap (λ l. so_far ++ totals_from at l []) (sym step)
+    ∙ was

@@ -18,7 +18,7 @@ use std::alloc::{AllocError, Global};
 use std::collections::btree_map::Range;
 
 /// A key with its totals.
-#[derive(Debug, Drop)]
+#[derive(Drop)]
 pub(crate) struct Group {
     pub key: Row,
     pub totals: Totals,

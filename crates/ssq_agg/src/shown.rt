@@ -18,7 +18,7 @@ use std::alloc::{AllocError, Global};
 use std::collections::BTreeMap;
 
 /// The rows that are shown so far, and the least key so far that overflows.
-#[derive(Debug, Drop)]
+#[derive(Drop)]
 pub(crate) struct Shown {
     pub rows: Vec<Row>,
     pub fault: Option<Row>,

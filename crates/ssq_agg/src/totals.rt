@@ -14,7 +14,7 @@ use std::alloc::{AllocError, Global};
 use std::marker::Model;
 
 /// The totals of a group, in the order of the query's aggregates. Contracts see the list of these.
-#[derive(Debug, Drop)]
+#[derive(Drop)]
 pub(crate) struct Totals(Vec<Total>);
 
 impl Model for Totals {

@@ -4,21 +4,21 @@ use sqlite_items::Boxed;
 use ssq_value::Text;
 
 /// A name and the place where it stands.
-#[derive(Debug, Drop)]
+#[derive(Drop)]
 pub struct Ident {
     pub text: Text,
     pub at: usize,
 }
 
 /// A column, `s.v` or `v`.
-#[derive(Debug, Drop)]
+#[derive(Drop)]
 pub struct ColumnRef {
     pub stream: Option<Ident>,
     pub column: Ident,
 }
 
 /// A span of time.
-#[derive(Debug, Drop)]
+#[derive(Drop)]
 pub struct Span {
     /// As it was written.
     pub text: Text,
@@ -27,7 +27,7 @@ pub struct Span {
 }
 
 /// A moment.
-#[derive(Debug, Drop)]
+#[derive(Drop)]
 pub struct Moment {
     /// As it was written.
     pub text: Text,
@@ -36,7 +36,7 @@ pub struct Moment {
 }
 
 /// A function of a group's rows.
-#[derive(Clone, Copy, Debug, PartialEq, Eq)]
+#[derive(Clone, Copy, PartialEq, Eq)]
 pub enum Function {
     Count,
     Sum,
@@ -45,14 +45,14 @@ pub enum Function {
 }
 
 /// An operator before its operand.
-#[derive(Clone, Copy, Debug, PartialEq, Eq)]
+#[derive(Clone, Copy, PartialEq, Eq)]
 pub enum UnaryOp {
     Not,
     Minus,
 }
 
 /// An operator between two operands.
-#[derive(Clone, Copy, Debug, PartialEq, Eq)]
+#[derive(Clone, Copy, PartialEq, Eq)]
 pub enum BinaryOp {
     Or,
     And,
@@ -74,7 +74,7 @@ pub enum BinaryOp {
 }
 
 /// What `IS` asks.
-#[derive(Clone, Copy, Debug, PartialEq, Eq)]
+#[derive(Clone, Copy, PartialEq, Eq)]
 pub enum NullTest {
     /// `IS NULL`
     Null,
@@ -83,7 +83,7 @@ pub enum NullTest {
 }
 
 /// An expression, without its brackets. Each `at` is the place of the token that it is named by.
-#[derive(Debug, Drop)]
+#[derive(Drop)]
 pub enum Expr {
     /// A number from 0 to 9223372036854775807.
     Number {

@@ -4,7 +4,7 @@ use crate::expr::{ColumnRef, Expr, Ident, Span};
 use ssq_value::{ColType, Sequence, Text};
 
 /// A query file. Every `at` in it is the place of a token in the file: of its first byte, counted from 0.
-#[derive(Debug, Drop)]
+#[derive(Drop)]
 pub struct Query {
     /// The declarations, in the file's order.
     pub streams: Sequence<Stream>,
@@ -12,7 +12,7 @@ pub struct Query {
 }
 
 /// `CREATE STREAM s (id BIGINT, ts TIMESTAMP) FROM 's' WATERMARK FOR ts DELAY '1 hour';`
-#[derive(Debug, Drop)]
+#[derive(Drop)]
 pub struct Stream {
     pub at: usize,
     pub name: Ident,
@@ -22,21 +22,21 @@ pub struct Stream {
 }
 
 /// A column of a declaration.
-#[derive(Debug, Drop)]
+#[derive(Drop)]
 pub struct ColumnDecl {
     pub name: Ident,
     pub kind: ColType,
 }
 
 /// `WATERMARK FOR ts DELAY '1 hour'`
-#[derive(Debug, Drop)]
+#[derive(Drop)]
 pub struct Watermark {
     pub column: Ident,
     pub delay: Span,
 }
 
 /// What is asked of the streams.
-#[derive(Debug, Drop)]
+#[derive(Drop)]
 pub struct Select {
     /// The place of DISTINCT, where it stands.
     pub distinct: Option<usize>,
@@ -55,7 +55,7 @@ pub struct Select {
 }
 
 /// What SELECT gives for each row.
-#[derive(Debug, Drop)]
+#[derive(Drop)]
 pub enum Item {
     /// A column under its own name, `v`, `s.v` or `(v) AS v`.
     Column {
@@ -75,13 +75,13 @@ pub enum Item {
 }
 
 /// A condition, at the keyword before it: WHERE, ON or HAVING.
-#[derive(Debug, Drop)]
+#[derive(Drop)]
 pub struct Condition {
     pub at: usize,
     pub value: Expr,
 }
 
-#[derive(Clone, Copy, Debug, PartialEq, Eq)]
+#[derive(Clone, Copy, PartialEq, Eq)]
 pub enum JoinKind {
     Inner,
     Left,
@@ -89,7 +89,7 @@ pub enum JoinKind {
 }
 
 /// `LEFT JOIN r ON l.id = r.id`, at JOIN.
-#[derive(Debug, Drop)]
+#[derive(Drop)]
 pub struct Join {
     pub kind: JoinKind,
     pub at: usize,
@@ -98,27 +98,27 @@ pub struct Join {
 }
 
 /// `DEDUPLICATE BY id, ts`
-#[derive(Debug, Drop)]
+#[derive(Drop)]
 pub struct Deduplicate {
     pub at: usize,
     pub columns: Sequence<Ident>,
 }
 
 /// `GROUP BY k, WINDOW(ts, '5 minutes')`
-#[derive(Debug, Drop)]
+#[derive(Drop)]
 pub struct GroupBy {
     pub at: usize,
     pub items: Sequence<Group>,
 }
 
-#[derive(Debug, Drop)]
+#[derive(Drop)]
 pub enum Group {
     Column(Ident),
     Window(Window),
 }
 
 /// `WINDOW(ts, '10 minutes', '5 minutes')`
-#[derive(Debug, Drop)]
+#[derive(Drop)]
 pub struct Window {
     pub at: usize,
     pub column: Ident,
@@ -126,28 +126,28 @@ pub struct Window {
     pub slide: Option<Span>,
 }
 
-#[derive(Clone, Copy, Debug, PartialEq, Eq)]
+#[derive(Clone, Copy, PartialEq, Eq)]
 pub enum Direction {
     Ascending,
     Descending,
 }
 
 /// `n DESC`
-#[derive(Debug, Drop)]
+#[derive(Drop)]
 pub struct OrderBy {
     pub name: Ident,
     pub direction: Direction,
 }
 
 /// `LIMIT 3`
-#[derive(Debug, Drop)]
+#[derive(Drop)]
 pub struct Limit {
     pub at: usize,
     pub most: i64,
 }
 
 /// Which rows of the result an epoch shows.
-#[derive(Clone, Copy, Debug, PartialEq, Eq)]
+#[derive(Clone, Copy, PartialEq, Eq)]
 pub enum Mode {
     Append,
     Update,

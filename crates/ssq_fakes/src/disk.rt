@@ -210,13 +210,8 @@ impl MemDisk {
     {
         if let Some(bytes) = content {
             let bytes = bytes.to_vec(alloc)?;
-            let Room {
-                publish,
-                sync,
-                removal,
-                last_sync,
-            } = Room::new(alloc)?;
-            self.keep_room(sync, removal, last_sync);
+            let room = Room::new(alloc)?;
+            let publish = self.keep_room(room);
             self.record.push(Event::Put(name, bytes), publish);
         }
         Ok(())
@@ -279,17 +274,24 @@ impl MemDisk {
         }
     }
 
-    /// Keeps the room that a file brings beside that of its publishing.
-    fn keep_room(&mut self, sync: Box<Record>, removal: Box<Record>, last_sync: Box<Record>)
+    /// Keeps the room that a file brings, but for that of its publishing, which it hands out.
+    fn keep_room(&mut self, room: Room) -> Box<Record>
         ensures spare { length (events_of self.new.spare) ≡ length (events_of self.old.spare) + 3 }
         ensures record { self.new.record ≡ self.old.record }
         ensures clock { self.new.clock ≡ self.old.clock }
         ensures faults { self.new.faults ≡ self.old.faults }
         ensures stages { disk_stages self.new ≡ disk_stages self.old }
     {
+        let Room {
+            publish,
+            sync,
+            removal,
+            last_sync,
+        } = room;
         self.spare.push(Event::Synced, sync);
         self.spare.push(Event::Synced, removal);
         self.spare.push(Event::Synced, last_sync);
+        publish
     }
 }
 
@@ -369,13 +371,7 @@ impl Disk for MemDisk {
             return Err(DiskFault);
         }
         let MemFile { bytes, room } = file;
-        let Room {
-            publish,
-            sync,
-            removal,
-            last_sync,
-        } = room;
-        self.keep_room(sync, removal, last_sync);
+        let publish = self.keep_room(room);
         self.advance(Event::Put(name, bytes), publish)
     }
 

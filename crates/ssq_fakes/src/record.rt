@@ -192,26 +192,18 @@ impl Record {
     pub fn present(&self, alloc: Global) -> Result<Vec<Name>, AllocError>
         ensures { IfOk result (λ names. names.items ≡ filter (λ q. is_some (content_in (events_of self.now) q)) (names_from [] (events_of self.now))) }
     {
-        let mut present = Vec::new(alloc);
-        for name in &self.names(alloc)? {
-            if self.has(*name) {
-                present.push(*name)?;
-            }
-        }
-        Ok(present)
+        let mut names = self.names(alloc)?;
+        names.retain(|name| self.has(*name));
+        Ok(names)
     }
 
     /// The names that changed since the last sync, each once, in their order.
     pub fn changed(&self, alloc: Global) -> Result<Vec<Name>, AllocError>
         ensures { IfOk result (λ names. names.items ≡ filter (λ q. is_changed_in (events_of self.now) q) (names_from [] (events_of self.now))) }
     {
-        let mut changed = Vec::new(alloc);
-        for name in &self.names(alloc)? {
-            if self.is_changed(*name) {
-                changed.push(*name)?;
-            }
-        }
-        Ok(changed)
+        let mut names = self.names(alloc)?;
+        names.retain(|name| self.is_changed(*name));
+        Ok(names)
     }
 
     /// What stands at the name after only so many of its changes since the last sync, the oldest first, and how many

@@ -1,8 +1,9 @@
 -- The windows that hold a time, as values of a key.
-use Rattle.std.proofs.Common.{◌≡◌, ℕ, ◌<◌, ℤ, pos, ◌+ℤ◌, ◌*ℤ◌, ◌≤ℤ◌, Some, refl, ap, sym, ◌∙◌, arith, subst, map, length, zero-add}
-use Rattle.std.specs.Prelude.{All, slice_get, option_map, ◌<ℤ◌}
+use Rattle.std.proofs.Common.{◌≡◌, ℕ, ◌<◌, ◌≤◌, ℤ, pos, ◌+ℤ◌, ◌*ℤ◌, ◌≤ℤ◌, Some, refl, ap, sym, ◌∙◌, arith, subst, map, length, zero-add}
+use Rattle.std.specs.Prelude.{All, FitsSigned, slice_get, option_map, unsigned_abs, ◌<ℤ◌}
+use Rattle.std.specs.Int.{w64}
 use Rattle.std.specs.List.{range_with_len}
-use Rattle.std.proofs.lemmas.Int.{ints}
+use Rattle.std.proofs.lemmas.Int.{fits_signed_mul, ints}
 use Rattle.std.proofs.lemmas.List.{length-map}
 use Rattle.std.proofs.lemmas.List.Elements.{All-map}
 use Rattle.std.proofs.lemmas.List.FromFn.{length-range_with_len, get_or-range_with_len, length-map-range_with_len}
@@ -53,3 +54,30 @@ start_at starts nth below =
     let number : slice_get numbers nth ≡ Some nth = slice_get-get_or numbers nth 0 (omega (arith, less, length-range_with_len 0 starts.count))
     ∙ ap Some (get_or-range_with_len 0 starts.count nth 0 less ∙ zero-add nth) in
     slice_get-map Time (map start numbers) nth ∙ ap (option_map Time) (slice_get-map start numbers nth ∙ ap (option_map start) number)
+
+-- ---- the numbers of a start have 64 bits
+
+stamp_fits : (t : ℤ) → IsStampTime t → FitsSigned w64 t
+stamp_fits t years = record { sfits = grind (arith, ints, years.0, years.1) }
+
+span_fits : (t : ℤ) → IsSpan t → FitsSigned w64 t
+span_fits t span = record { sfits = grind (arith, ints, span.0, span.1) }
+
+span_is_short : (t : ℤ) → IsSpan t → unsigned_abs t ≤ 31_622_400_000_000
+span_is_short t span = grind (arith, ints, span.0, span.1)
+
+pub record StartFits (first slide : ℤ) (nth : ℕ) : Type 0 where
+  pub first_fits : FitsSigned w64 first
+  pub slide_fits : FitsSigned w64 slide
+  pub distance_fits : FitsSigned w64 (pos nth *ℤ slide)
+  pub start_fits : FitsSigned w64 (first +ℤ (pos nth *ℤ slide))
+
+pub start_numbers_fit : (starts : Starts) (nth : ℕ) → nth < starts.count → StartFits starts.first starts.slide nth
+start_numbers_fit starts nth below =
+    let zero = starts.years 0 (omega (arith, below)) in
+    record {
+      first_fits = record { sfits = grind (arith, ints, zero.0, zero.1) };
+      slide_fits = span_fits starts.slide starts.slide_is;
+      distance_fits = fits_signed_mul w64 (pos nth) starts.slide 64 31_622_400_000_000 (omega (arith, below, starts.few)) (span_is_short starts.slide starts.slide_is) (omega arith);
+      start_fits = stamp_fits (starts.first +ℤ (pos nth *ℤ starts.slide)) (starts.years nth below);
+    }

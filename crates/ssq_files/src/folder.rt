@@ -5,7 +5,7 @@ use ssq_outside::Name;
 use std::fmt;
 
 /// A folder of a checkpoint, or the one that it lies in.
-#[derive(Clone, Copy, Debug, Default, PartialEq, Eq)]
+#[derive(Clone, Copy, Default, PartialEq, Eq)]
 pub enum Folder {
     /// The one that the checkpoint lies in.
     Parent,

@@ -4,7 +4,7 @@ use std::alloc::Global;
 use std::io;
 
 /// A place where a line begins.
-#[derive(Clone, Copy, Debug, PartialEq, Eq)]
+#[derive(Clone, Copy)]
 pub struct Place {
     /// How many lines are before it.
     pub line: u64,

@@ -23,7 +23,7 @@ use ssq_version::{Change, StateMap};
 use std::alloc::{AllocError, Global};
 
 /// What an epoch comes to.
-#[derive(Debug, Drop)]
+#[derive(Drop)]
 struct Moved {
     change: Change,
     found: Found,

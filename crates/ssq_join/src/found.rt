@@ -12,7 +12,7 @@ use ssq_value::{Row, Value, order_rows};
 use std::alloc::{AllocError, Global};
 
 /// What was considered so far: the rows that are shown, in no order, and the least join key of what overflowed.
-#[derive(Debug, Drop)]
+#[derive(Drop)]
 pub(crate) struct Found {
     pub(crate) rows: Vec<Row>,
     pub(crate) fault: Option<Row>,

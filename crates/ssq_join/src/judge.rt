@@ -15,7 +15,7 @@ use ssq_value::{Row, Value};
 use std::alloc::{AllocError, Global};
 
 /// What is shown of a joined row.
-#[derive(Debug, Drop)]
+#[derive(Drop)]
 pub(crate) enum Shown {
     Row(Row),
     Nothing,
@@ -24,7 +24,7 @@ pub(crate) enum Shown {
 }
 
 /// What a candidate comes to.
-#[derive(Debug, Drop)]
+#[derive(Drop)]
 pub(crate) struct Judged {
     /// Whether ON is TRUE.
     pub(crate) met: bool,

@@ -27,7 +27,7 @@ use std::collections::{BTreeMap, BTreeSet};
 use std::ops::Bound as End;
 
 /// What the rows of an epoch come to.
-#[derive(Debug, Drop)]
+#[derive(Drop)]
 pub(crate) struct Taken {
     pub(crate) found: Found,
     /// The bytes of the rows, kept ones and new ones, that met a partner.

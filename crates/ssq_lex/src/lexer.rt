@@ -29,7 +29,7 @@ fn add<'a>(found: &mut Vec<Token<'a>>, at: usize, front: &Front<'a>) -> Result<(
 }
 
 /// The tokens of a text in order, up to its first fault.
-#[derive(Debug, Drop)]
+#[derive(Drop)]
 pub struct Lexical<'a> {
     /// All tokens in front of the fault.
     pub tokens: Vec<Token<'a>>,

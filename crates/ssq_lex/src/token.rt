@@ -16,7 +16,7 @@ pub enum Kind<'a> {
 }
 
 /// A token, and the bytes from `start` up to `end` that it takes.
-#[derive(Clone, Copy, Debug)]
+#[derive(Clone, Copy)]
 pub struct Token<'a> {
     pub start: usize,
     pub end: usize,

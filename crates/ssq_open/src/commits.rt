@@ -58,7 +58,7 @@ fn own_commit<D: Disk>(
 }
 
 /// What the commits of the first epochs say.
-#[derive(Debug, Drop)]
+#[derive(Drop)]
 pub(crate) struct Committed {
     /// The watermark of each epoch up to the one after them.
     pub(crate) marks: Sequence<Option<i128>>,

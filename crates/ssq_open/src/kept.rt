@@ -20,7 +20,7 @@ use ssq_value::Sequence;
 use std::alloc::Global;
 
 /// The epochs of a checkpoint.
-#[derive(Debug, Drop)]
+#[derive(Drop)]
 pub(crate) struct Epochs {
     /// The plans of the planned ones.
     pub(crate) plans: Sequence<Plan>,

@@ -38,7 +38,7 @@ use ssq_value::Sequence;
 use std::alloc::{AllocError, Global};
 
 /// What a checkpoint holds beside the states of its partitions.
-#[derive(Debug, Drop)]
+#[derive(Drop)]
 struct Checked {
     meta: Meta,
     epochs: Epochs,
@@ -136,7 +136,7 @@ pub(crate) fn open_wanted<D: Disk>(
 }
 
 /// What an opening asks of the query and the logs.
-#[derive(Debug, Drop)]
+#[derive(Drop)]
 struct Asked {
     streams: Sequence<Watermarked>,
     parts: Sequence<u32>,

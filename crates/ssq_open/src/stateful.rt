@@ -6,7 +6,7 @@ ghost use Rattle.ssq_open.specs.Stateful.{keeps_state, keeping_in};
 use ssq_shape::Shape;
 
 /// What a query keeps from epoch to epoch.
-#[derive(Clone, Copy, Debug, PartialEq, Eq)]
+#[derive(Clone, Copy)]
 pub enum Keeps {
     /// Nothing.
     Nothing,

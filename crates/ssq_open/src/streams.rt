@@ -9,7 +9,7 @@ use ssq_value::Sequence;
 use std::alloc::{AllocError, Global};
 
 /// A watermarked stream.
-#[derive(Clone, Copy, Debug)]
+#[derive(Clone, Copy)]
 pub struct Watermarked {
     /// The stream's place in the query's order, from 0.
     pub stream: u32,

@@ -15,7 +15,7 @@ pub struct Lens {
 }
 
 /// The job that is wanted, and what was found of its logs.
-#[derive(Clone, Copy, Debug)]
+#[derive(Clone, Copy)]
 pub(crate) struct Wanted<'a> {
     /// The query's canonical text.
     pub(crate) query: &'a Text,

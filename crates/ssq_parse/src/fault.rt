@@ -48,7 +48,7 @@ impl From<AllocError> for ParseFault {
 }
 
 /// Why the tokens of a file were not read as a query.
-#[derive(Debug, Drop)]
+#[derive(Drop)]
 pub(crate) enum Stop {
     /// The first place of a fault, which is none where the tokens end too early.
     Refused {

@@ -9,7 +9,7 @@ use ssq_ast::{BinaryOp, UnaryOp};
 use ssq_lex::{Keyword, Kind, Symbol};
 
 /// The levels of operators between two operands, the loosest first.
-#[derive(Clone, Copy, Debug, PartialEq, Eq)]
+#[derive(Clone, Copy)]
 pub(crate) enum Level {
     Or,
     And,

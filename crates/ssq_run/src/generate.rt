@@ -35,10 +35,12 @@ fn counted(alloc: Global, bound: &Bound, disk: MemDisk, lines: u32) -> Result<St
     ensures bad { IfErr result (IfDamaged (IsBadSink bound.now (files_now (disk_history disk)))) }
 {
     let mut disk = disk;
-    let mut table = MemOut::new(alloc);
     let names = disk.names(alloc)?;
     let epochs = count_sinks(names.as_slice());
-    match write_table(alloc, &mut disk, &mut table, bound, epochs) {
+    let mut table = MemOut::new(alloc);
+    let written = write_table(alloc, &mut disk, &mut table, bound, epochs);
+    drop(disk);
+    match written {
         Ok(()) => match counts_line(
             alloc,
             lines,
@@ -97,6 +99,8 @@ pub(crate) fn generate<G: Gate>(
         &mut out,
         ASK,
     );
+    drop(inputs);
+    drop(out);
     let Done { disk, text: _, end } = named(alloc, bound, ran);
     match end {
         Ok(()) => match counted(alloc, bound, disk, lines) {

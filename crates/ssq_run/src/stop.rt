@@ -13,7 +13,7 @@ use std::alloc::AllocError;
 use std::fmt;
 
 /// What is wrong with a bad line: the first cause.
-#[derive(Debug, Drop)]
+#[derive(Drop)]
 pub enum Wrong {
     /// It has more than 1,048,576 bytes.
     TooLong,
@@ -44,7 +44,7 @@ impl fmt::Display for Wrong {
 
 /// Why the program stops before its job is done. Each cause has a status and a line of its own. A stream is told by its declared
 /// name, and parts, lines and epochs are counted from 0.
-#[derive(Debug, Drop)]
+#[derive(Drop)]
 pub enum Stop {
     /// The words are no command.
     Usage,

@@ -4,7 +4,7 @@ use crate::typed::Typed;
 use ssq_value::{ColType, Schema, Sequence, Text};
 
 /// Which rows an epoch shows.
-#[derive(Clone, Copy, Debug, PartialEq, Eq)]
+#[derive(Clone, Copy, PartialEq, Eq)]
 pub enum Mode {
     /// Those that will not change any more.
     Append,
@@ -15,7 +15,7 @@ pub enum Mode {
 }
 
 /// What a query keeps from epoch to epoch, and what it does with its rows.
-#[derive(Debug, Drop)]
+#[derive(Drop)]
 pub enum Shape {
     /// Nothing is kept: each row is filtered and shown by itself.
     Plain,
@@ -32,7 +32,7 @@ pub enum Shape {
 ///
 /// WHERE, the keys and the arguments of aggregates are evaluated on rows. SELECT and HAVING are evaluated on groups: a
 /// column is the key of this index, where a window's value is its start, and [`Typed::Aggregate`] names an aggregate.
-#[derive(Debug, Drop)]
+#[derive(Drop)]
 pub struct Grouping {
     /// What rows are grouped by, in the order of GROUP BY; empty where there is none, and all rows are one group.
     pub keys: Sequence<GroupKey>,
@@ -42,7 +42,7 @@ pub struct Grouping {
 }
 
 /// What rows are grouped by. A column is named by its index in the row.
-#[derive(Clone, Copy, Debug, PartialEq, Eq)]
+#[derive(Clone, Copy, PartialEq, Eq)]
 pub enum GroupKey {
     Column(usize),
     /// The windows that hold the column's time. Sizes are in microseconds, and `slide` is not above `size`.
@@ -54,7 +54,7 @@ pub enum GroupKey {
 }
 
 /// A function of a group's rows.
-#[derive(Clone, Copy, Debug, PartialEq, Eq)]
+#[derive(Clone, Copy, PartialEq, Eq)]
 pub enum Function {
     Count,
     Sum,
@@ -63,14 +63,14 @@ pub enum Function {
 }
 
 /// A function of a group's rows, with its argument, which is evaluated on each row. `COUNT(*)` has none.
-#[derive(Debug, Drop)]
+#[derive(Drop)]
 pub struct Aggregate {
     pub function: Function,
     pub argument: Option<Typed>,
 }
 
 /// Which rows without a partner are shown, joined with NULLs.
-#[derive(Clone, Copy, Debug, PartialEq, Eq)]
+#[derive(Clone, Copy, PartialEq, Eq)]
 pub enum JoinKind {
     Inner,
     /// Those of the left stream.
@@ -80,7 +80,7 @@ pub enum JoinKind {
 }
 
 /// `l.c = r.c`: the columns' indices, each in the row of its own stream.
-#[derive(Clone, Copy, Debug, PartialEq, Eq)]
+#[derive(Clone, Copy, PartialEq, Eq)]
 pub struct KeyPair {
     pub left: usize,
     pub right: usize,
@@ -88,7 +88,7 @@ pub struct KeyPair {
 
 /// `r.t BETWEEN l.t + lo AND l.t + hi`: the columns' indices, each in the row of its own stream, and microseconds. `lo`
 /// is not above 0, and `hi` not below.
-#[derive(Clone, Copy, Debug, PartialEq, Eq)]
+#[derive(Clone, Copy, PartialEq, Eq)]
 pub struct TimeBound {
     pub left: usize,
     pub right: usize,
@@ -98,7 +98,7 @@ pub struct TimeBound {
 
 /// JOIN and ON. A joined row has the columns of the left row, and then those of the right one; WHERE and SELECT are
 /// evaluated on it.
-#[derive(Debug, Drop)]
+#[derive(Drop)]
 pub struct Joining {
     pub kind: JoinKind,
     /// The key equalities, in the order of ON.
@@ -109,21 +109,21 @@ pub struct Joining {
 }
 
 /// Whether the least comes first or the greatest.
-#[derive(Clone, Copy, Debug, PartialEq, Eq)]
+#[derive(Clone, Copy, PartialEq, Eq)]
 pub enum Direction {
     Ascending,
     Descending,
 }
 
 /// What ORDER BY sorts by: the output of this index.
-#[derive(Clone, Copy, Debug, PartialEq, Eq)]
+#[derive(Clone, Copy, PartialEq, Eq)]
 pub struct SortKey {
     pub output: usize,
     pub direction: Direction,
 }
 
 /// A stream that the query reads.
-#[derive(Debug, Drop)]
+#[derive(Drop)]
 pub struct Stream {
     /// The name under which it was declared.
     pub name: Text,
@@ -136,7 +136,7 @@ pub struct Stream {
 }
 
 /// A column of the result.
-#[derive(Debug, Drop)]
+#[derive(Drop)]
 pub struct Output {
     pub name: Text,
     pub kind: ColType,
@@ -148,7 +148,7 @@ pub struct Output {
 }
 
 /// A query whose names are bound and whose types were checked.
-#[derive(Debug, Drop)]
+#[derive(Drop)]
 pub struct Bound {
     /// The canonical text of the query.
     pub text: Text,
@@ -165,7 +165,7 @@ pub struct Bound {
 }
 
 /// A query with how its work is divided.
-#[derive(Debug, Drop)]
+#[derive(Drop)]
 pub struct Job {
     pub bound: Bound,
     /// The number of partitions of the state.

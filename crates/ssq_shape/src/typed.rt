@@ -4,7 +4,7 @@ use sqlite_items::Boxed;
 use ssq_value::Value;
 
 /// An operator on two whole numbers.
-#[derive(Clone, Copy, Debug, PartialEq, Eq)]
+#[derive(Clone, Copy, PartialEq, Eq)]
 pub enum Arithmetic {
     Plus,
     Minus,
@@ -16,7 +16,7 @@ pub enum Arithmetic {
 }
 
 /// How two values of one type are compared.
-#[derive(Clone, Copy, Debug, PartialEq, Eq)]
+#[derive(Clone, Copy, PartialEq, Eq)]
 pub enum Comparison {
     Equal,
     NotEqual,
@@ -27,7 +27,7 @@ pub enum Comparison {
 }
 
 /// An expression whose names are bound and whose types were checked.
-#[derive(Debug, Drop)]
+#[derive(Drop)]
 pub enum Typed {
     /// The column of this index in the row.
     Column(usize),

@@ -1,8 +1,8 @@
 //! The one command of the command line, built as `specs/Program.antt` has it.
-ghost use Rattle.std.specs.Prelude.{◌≡◌, IfOk, false};
-ghost use Rattle.clap.specs.Words.{app_of, rule_of};
+ghost use Rattle.std.specs.Prelude.{◌≡◌, IfOk, codes, false};
+ghost use Rattle.clap.specs.Words.{app_of, new_app, rule_of, with_rule, with_subcommand};
 ghost use Rattle.clap.specs.declared.builder.command.Command.TheViews.{out-Command};
-ghost use Rattle.ssq_words.specs.Program.{count_rule, explain_app, gen_app, max_lines_rule, number_rule, partitions_rule, program, query_rule, rounds_rule, run_app, show_app, status_app, tables_app, top_app};
+ghost use Rattle.ssq_words.specs.Program.{count_rule, gen_app, max_lines_rule, number_rule, partitions_rule, program, query_rule, rounds_rule, run_app, tables_app, top_app};
 
 use clap::builder::ValueParser;
 use clap::{Arg, Command};
@@ -75,40 +75,34 @@ fn lines<'a>(alloc: Global) -> Arg<'a>
         .value_parser(ValueParser::unsigned(1, MOST_GENERATED))
 }
 
-#[tactic(auto, unfolding(crate::specs::Program::run_app))]
-fn run<'a>(alloc: Global) -> Result<Command<'a>, AllocError>
-    ensures app { IfOk result (λ c. app_of c ≡ run_app) }
+/// What a run takes but its rounds.
+fn cut_run<'a>(alloc: Global) -> Result<Command<'a>, AllocError>
+    ensures app { IfOk result (λ c. app_of c ≡ with_rule (with_rule (with_rule (new_app (codes "run")) query_rule) partitions_rule) max_lines_rule) }
     ensures local { IfOk result (λ c. (out-Command c).has_globals ≡ false) }
 {
     Command::new(alloc, "run")
         .arg(query(alloc))?
         .arg(partitions(alloc))?
-        .arg(max_lines(alloc))?
-        .arg(rounds(alloc))
+        .arg(max_lines(alloc))
 }
 
-#[tactic(auto, unfolding(crate::specs::Program::show_app))]
-fn show<'a>(alloc: Global) -> Result<Command<'a>, AllocError>
-    ensures app { IfOk result (λ c. app_of c ≡ show_app) }
+#[tactic(auto, unfolding(crate::specs::Program::run_app))]
+fn run<'a>(alloc: Global) -> Result<Command<'a>, AllocError>
+    ensures app { IfOk result (λ c. app_of c ≡ run_app) }
     ensures local { IfOk result (λ c. (out-Command c).has_globals ≡ false) }
 {
-    Command::new(alloc, "show").arg(query(alloc))
+    cut_run(alloc)?.arg(rounds(alloc))
 }
 
-#[tactic(auto, unfolding(crate::specs::Program::explain_app))]
-fn explain<'a>(alloc: Global) -> Result<Command<'a>, AllocError>
-    ensures app { IfOk result (λ c. app_of c ≡ explain_app) }
-    ensures local { IfOk result (λ c. (out-Command c).has_globals ≡ false) }
+/// The command with a subcommand of this name, which takes a query's file and nothing else.
+fn about_query<'a>(
+    alloc: Global,
+    command: Command<'a>,
+    name: &'a str,
+) -> Result<Command<'a>, AllocError>
+    ensures { IfOk result (λ c. app_of c ≡ with_subcommand (app_of command.entry) (with_rule (new_app name.now) query_rule).top) }
 {
-    Command::new(alloc, "explain").arg(query(alloc))
-}
-
-#[tactic(auto, unfolding(crate::specs::Program::status_app))]
-fn status<'a>(alloc: Global) -> Result<Command<'a>, AllocError>
-    ensures app { IfOk result (λ c. app_of c ≡ status_app) }
-    ensures local { IfOk result (λ c. (out-Command c).has_globals ≡ false) }
-{
-    Command::new(alloc, "status").arg(query(alloc))
+    command.subcommand(Command::new(alloc, name).arg(query(alloc))?)
 }
 
 #[tactic(auto, unfolding(crate::specs::Program::gen_app))]
@@ -132,20 +126,21 @@ fn top<'a>(alloc: Global) -> Command<'a>
 }
 
 /// The command with those that make a table and show it.
-#[tactic(auto, unfolding(crate::specs::Program::tables_app))]
+#[tactic(auto, unfolding(crate::specs::Program::tables_app, crate::specs::Program::show_app))]
 fn tables<'a>(alloc: Global) -> Result<Command<'a>, AllocError>
     ensures { IfOk result (λ c. app_of c ≡ tables_app) }
 {
-    top(alloc).subcommand(run(alloc)?)?.subcommand(show(alloc)?)
+    let running = top(alloc).subcommand(run(alloc)?)?;
+    about_query(alloc, running, "show")
 }
 
 /// The command with all its subcommands.
-#[tactic(auto, unfolding(crate::specs::Program::program))]
+#[tactic(auto, unfolding(crate::specs::Program::program, crate::specs::Program::explain_app, crate::specs::Program::status_app))]
 pub(crate) fn program<'a>(alloc: Global) -> Result<Command<'a>, AllocError>
     ensures { IfOk result (λ c. app_of c ≡ program) }
 {
-    tables(alloc)?
-        .subcommand(explain(alloc)?)?
-        .subcommand(status(alloc)?)?
-        .subcommand(generate(alloc)?)
+    let tables = tables(alloc)?;
+    let explaining = about_query(alloc, tables, "explain")?;
+    let telling = about_query(alloc, explaining, "status")?;
+    telling.subcommand(generate(alloc)?)
 }

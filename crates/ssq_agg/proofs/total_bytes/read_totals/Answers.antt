@@ -1,9 +1,9 @@
-use Rattle.std.proofs.Common.{◌≡◌, ◌++◌, ◌+◌, arith, sym, ap, subst, drop}
+use Rattle.std.proofs.Common.{◌≡◌, ◌++◌, ◌+◌, ◌∙◌, Some, arith, sym, ap, subst, drop, append-nil}
 use Rattle.std.proofs.lemmas.List.{drop_all}
 use Rattle.ssq_keys.proofs.ReadLemmas.{some_has, some_and_has, none_has}
 use Rattle.ssq_meaning.specs.Totals.{total_bytes, totals_bytes}
 use Rattle.ssq_agg.specs.Readable.{IsTotalOf, AreTotalsOf}
-use Rattle.ssq_agg.proofs.Totalling.{AreFront, EachIsLeft, step_is, front_begins, front_on, front_all, bytes_on, left_begins, left_on, nothing_in_front}
+use Rattle.ssq_agg.proofs.Totalling.{all_read, AreFront, EachIsLeft, step_is, front_begins, front_on, front_all, bytes_on, left_begins, left_on, no_items, nothing_in_front, some_item}
 use Rattle.ssq_agg.proofs.total_bytes.read_totals.Goals as goal
 
 pub loop-aggregate-init : goal.loop-aggregate-init
@@ -44,3 +44,25 @@ returns-then-is_empty-clause-readable c =
     let all = c.args.aggregates.now in
     let ended = drop_all c.loop-aggregate.aggregate-index all (omega (arith, c.loop-aggregate-test.false)) in
     subst (AreTotalsOf all) (sym c.from_vec.ensures) (front_all all c.loop-aggregate.totals.items (subst (AreFront all c.loop-aggregate.totals.items) ended c.loop-aggregate.invariant.1))
+
+pub returns-then-is_empty-clause-found : goal.returns-then-is_empty-clause-found
+returns-then-is_empty-clause-found c =
+    let front = totals_bytes c.loop-aggregate.totals.items in
+    let none = no_items c.loop-aggregate.rest.now (sym c.is_empty.ensures ∙ c.if-is_empty.true) in
+    ap totals_bytes c.from_vec.ensures ∙ sym (append-nil front) ∙ ap (λ l. front ++ l) (sym none) ∙ c.loop-aggregate.invariant.0
+
+pub returns-then-is_empty-clause-each : goal.returns-then-is_empty-clause-each
+returns-then-is_empty-clause-each c totals are is =
+    let all = c.args.aggregates.now in
+    let ended = drop_all c.loop-aggregate.aggregate-index all (omega (arith, c.loop-aggregate-test.false)) in
+    let same = all_read all c.args.bytes.now c.loop-aggregate.totals.items c.loop-aggregate.rest.now
+    (subst (λ l. EachIsLeft all c.args.bytes.now l c.loop-aggregate.totals.items c.loop-aggregate.rest.now) ended c.loop-aggregate.invariant.2) totals are is in
+    ap Some (c.from_vec.ensures ∙ sym same.0)
+
+pub returns-else-is_empty-clause-each : goal.returns-else-is_empty-clause-each
+returns-else-is_empty-clause-each c totals are is =
+    let all = c.args.aggregates.now in
+    let ended = drop_all c.loop-aggregate.aggregate-index all (omega (arith, c.loop-aggregate-test.false)) in
+    let same = all_read all c.args.bytes.now c.loop-aggregate.totals.items c.loop-aggregate.rest.now
+    (subst (λ l. EachIsLeft all c.args.bytes.now l c.loop-aggregate.totals.items c.loop-aggregate.rest.now) ended c.loop-aggregate.invariant.2) totals are is in
+    absurd (some_item c.loop-aggregate.rest.now (sym c.is_empty.ensures ∙ c.if-is_empty.false) same.1)

@@ -18,16 +18,16 @@ returns-clause-bad c =
     let files = files_now (disk_history c.args.disk) in
     let N : List Name → Type 0 = λ names. AreNames files names in
     let counted = c.count_sinks-epochs.ensures.counted files (subst N (sym c.as_slice.ensures.value) (c.in_ok-names.ensures.found)) in
-    table_bad c.args.bound.now (disk_history c.args.disk) _ c.count_sinks-epochs.result _ _ (fault_in c.write_table.result) c.in-Err.fault (c.names.ensures.same) counted
-    (c.write_table.ensures.ended tt tt) (ap fault_in c.in-Err.is)
+    table_bad c.args.bound.now (disk_history c.args.disk) _ c.count_sinks-epochs.result _ _ (fault_in c.write_table-written.result) c.in-Err.fault (c.names.ensures.same) counted
+    (c.write_table-written.ensures.ended tt tt) (ap fault_in c.in-Err.is)
 
 pub returns-in-Ok-counts_line-clause-told : goal.returns-in-Ok-counts_line-clause-told
 returns-in-Ok-counts_line-clause-told c =
     let files = files_now (disk_history c.args.disk) in
     let N : List Name → Type 0 = λ names. AreNames files names in
     let counted = c.count_sinks-epochs.ensures.counted files (subst N (sym c.as_slice.ensures.value) (c.in_ok-names.ensures.found)) in
-    let so = table_written c.args.bound.now (disk_history c.args.disk) _ c.count_sinks-epochs.result _ _ (fault_in c.write_table.result) (c.names.ensures.same) counted
-    (c.write_table.ensures.ended tt tt) (ap fault_in c.in-Ok.is) c.new-table.ensures.bytes in
+    let so = table_written c.args.bound.now (disk_history c.args.disk) _ c.count_sinks-epochs.result _ _ (fault_in c.write_table-written.result) (c.names.ensures.same) counted
+    (c.write_table-written.ensures.ended tt tt) (ap fault_in c.in-Ok.is) c.new-table.ensures.bytes in
     written_told c.args.bound.now files c.args.lines c.count_sinks-epochs.result _ (string_bytes c.in-Ok-counts_line.line) so counted
     (λ rows are.
     let T : List ℕ → Type 0 = λ table. AreRows (map (λ output. output.name) c.args.bound.now.outputs) (map (λ output. output.kind) c.args.bound.now.outputs) table rows in
@@ -39,7 +39,7 @@ unreachable-requires c =
     let files = files_now (disk_history c.args.disk) in
     let N : List Name → Type 0 = λ names. AreNames files names in
     let counted = c.count_sinks-epochs.ensures.counted files (subst N (sym c.as_slice.ensures.value) (c.in_ok-names.ensures.found)) in
-    let so = table_written c.args.bound.now (disk_history c.args.disk) _ c.count_sinks-epochs.result _ _ (fault_in c.write_table.result) (c.names.ensures.same) counted
-    (c.write_table.ensures.ended tt tt) (ap fault_in c.in-Ok.is) c.new-table.ensures.bytes in
+    let so = table_written c.args.bound.now (disk_history c.args.disk) _ c.count_sinks-epochs.result _ _ (fault_in c.write_table-written.result) (c.names.ensures.same) counted
+    (c.write_table-written.ensures.ended tt tt) (ap fault_in c.in-Ok.is) c.new-table.ensures.bytes in
     let C : CountsFault → Type 0 = IsCause (map (λ output. output.name) c.as_slice-in-Ok.result.now) (map (λ output. output.kind) c.as_slice-in-Ok.result.now) c.bytes.result.now in
     subst C c.in-Err-NotRows.field-0-is c.in-Err-NotRows.ensures.cause (written_rows c.args.bound.now files c.as_slice-in-Ok.result.now _ c.bytes.result.now c.as_slice-in-Ok.ensures c.bytes.ensures so)
