@@ -1,4 +1,4 @@
-# make           proves every crate with all processors (JOBS=2: with two), a line for each, and leaves the program at bin/ssq
+# make           proves the program and each crate below it with all processors (JOBS=2: with two), a line for each, and leaves it at bin/ssq
 # make demo      runs a filter and a windowed count on fresh copies of their examples, in demo/
 # make examples  runs each folder of examples/ in a fresh copy, and compares its sink files with those that it keeps
 # make check     proves every crate, and no more
@@ -15,18 +15,9 @@ SOURCES := $(shell find crates/*/src crates/*/specs crates/*/proofs) crates.txt 
 
 all: bin/ssq
 
-# `rt run` proves and links. Only then it says that it is running the program, which without words touches nothing and
-# stops. So that line, and not the status, tells that the program is built. Until then the old one stays.
 bin/ssq: $(SOURCES)
 	@mkdir -p bin
 	@tools/prove.py $(JOBS)
-	@cd crates/ssq_main && rt run 2>&1 | { \
-		while IFS= read -r line; do \
-			case $$line in "rt: running "*) cat > /dev/null; exit 0;; esac; \
-			printf '%s\n' "$$line"; \
-		done; \
-		exit 1; \
-	}
 	@cp crates/ssq_main/out/ssq_main bin/ssq.new
 	@mv -f bin/ssq.new bin/ssq
 
@@ -49,7 +40,7 @@ examples: bin/ssq
 	done; rm -rf demo
 
 check:
-	@tools/prove.py $(JOBS)
+	@tools/prove.py --all $(JOBS)
 
 test:
 	@rt ci

@@ -20,6 +20,14 @@ sys.dont_write_bytecode = True
 sys.path.insert(0, str(pathlib.Path(os.path.realpath(shutil.which("rt"))).parent))
 import rtlib  # noqa: E402
 
+RATTLE = rtlib.RATTLE
+
+
+def crate_here():
+    """The crate of the current folder."""
+    here = os.getcwd()
+    return rtlib.Crate(here, rtlib.root_above(here) or here, {})
+
 
 def files(crate):
     """The files of a crate by their paths in it."""
@@ -61,12 +69,12 @@ def main():
         clone, names = pathlib.Path(names[1]).resolve(), names[2:]
     if not names:
         sys.exit(__doc__)
-    here = os.getcwd()
-    crate = rtlib.Crate(here, rtlib.root_above(here) or here, {})
+    crate = crate_here()
     built = libraries(crate, clone) if clone else {}
     print("over sources:", *[dep.name for dep in crate.below() if dep.name not in built], flush=True)
     only = [word for name in names for word in ("--only", name)]
-    return subprocess.call([rtlib.RATTLE, "check", *words(crate, built), *only])
+    return subprocess.call([RATTLE, "check", *words(crate, built), *only])
 
 
-sys.exit(main())
+if __name__ == "__main__":
+    sys.exit(main())

@@ -1,49 +1,112 @@
 #!/usr/bin/env python3
-"""Proves all crates of this checkout, with all processors or as many as are named, and says so, a line for each crate:
+"""Proves the program with all crates below it, and links it, or proves every crate, and says so, a line for each crate:
 
-    tools/prove.py [PROCESSORS]
+    tools/prove.py [--all] [PROCESSORS]
 
-It is `rt all check`, whose libraries `rt run` then links. A crate that fails is shown with what the prover said of it.
+It takes all processors, or as many as are named. What is proved stays in crates/NAME/out, where `rt check`, `rt run` and this find it; the program is
+crates/ssq_main/out/ssq_main. A crate that fails is shown with what the prover said of it.
+
+It calls the toolchain's own steps (`rtlib` beside `rt`). `rt all check` with `rt run` does the same, but reads the sources of the whole tree anew for each
+crate that no other uses, and for each sum of a crate those of all crates below it, which near the top takes longer than a proof.
 """
+import functools
 import os
 import pathlib
-import subprocess
+import shutil
+import signal
 import sys
+import tempfile
 import time
+from concurrent.futures import FIRST_COMPLETED, ThreadPoolExecutor, wait
+
+sys.dont_write_bytecode = True
+sys.path.insert(0, str(pathlib.Path(os.path.realpath(shutil.which("rt"))).parent))
+import rtlib  # noqa: E402
 
 TOP = pathlib.Path(__file__).resolve().parent.parent
+PROGRAM = "ssq_main"
+
+# A crate's sum is made once: a file that is edited while this runs is proved by the next run.
+rtlib.Crate.stamp = functools.cache(rtlib.Crate.stamp)
 
 
-def names():
-    """The crates of the checkout."""
-    lines = (line.split("#")[0].partition(":")[0].split() for line in open(TOP / "crates.txt"))
-    return [words[0] for words in lines if words]
+def spelled(seconds):
+    return f"{int(seconds) // 60} min {int(seconds) % 60} s" if seconds >= 60 else f"{int(seconds)} s"
 
 
-def main(processors):
-    crates, began = set(names()), time.monotonic()
-    command = ["rt", "all", "check", "--jobs", str(processors)]
-    said, current = {}, None
-    with subprocess.Popen(command, cwd=TOP, stdout=subprocess.PIPE, text=True, errors="replace") as proving:
-        for line in proving.stdout:
-            name = line[3:].strip() if line.startswith("== ") else ""
-            if name in crates:
-                current = name
-                said[name] = []
-                passed = int(time.monotonic() - began)
-                print(f"{len(said):3} of {len(crates)}  {name}, {passed // 60} min {passed % 60} s after the start", flush=True)
-            elif current:
-                said[current].append(line)
-            else:
-                print(line, end="", flush=True)
-    if proving.returncode:
-        # What was said of the last crate ends with a line for each crate.
-        ends = dict(line.split(": ", 1) for line in said.get(current, []) if line.partition(":")[0] in crates and ": " in line)
-        for name, lines in said.items():
-            if ends.get(name, "failed").startswith("failed"):
-                print(f"== {name}", *map(str.rstrip, lines), sep="\n")
-    return proving.returncode
+def link(crate, flags):
+    """Proves, compiles and links a program, as `rt run` does, and leaves it in its folder out/."""
+    program = f"out/{crate.name}"
+    status = crate.compile(flags, f"{program}.o")
+    if status:
+        return status
+    words = ["--target", "x86_64-unknown-linux-gnu", "--toolchain", f"{rtlib.KIT}/toolchain", "-o", program, f"{program}.o"]
+    return crate.call(f"{rtlib.KIT}/bin/rattle-link", *words, f"{rtlib.KIT}/c/libos_c.a", f"{rtlib.KIT}/c/liblibc_c.a")
+
+
+def prove(crate, is_used, links):
+    """Proves a crate over the libraries below it: its status, what was said, and the seconds that it took."""
+    began = time.monotonic()
+    os.makedirs(f"{crate.folder}/out", exist_ok=True)
+    one_job = ["--jobs", "1"]
+    with tempfile.TemporaryFile("w+", errors="replace") as crate.out:
+        if is_used:
+            status = crate.build_rlib(one_job, anew=False)
+        elif links and crate.is_program:
+            status = link(crate, one_job)
+        else:
+            status = crate.check(one_job)
+        crate.out.seek(0)
+        return status, crate.out.read(), time.monotonic() - began
+
+
+def prove_all(crates, links, processors):
+    """Proves the crates, each when those below it are; of those that can begin, the one with most crates above it first."""
+    began, used = time.monotonic(), {below for it in crates for below in it.deps}
+    above = {crate: sum(crate in it.below() for it in crates) for crate in crates}
+    waiting, running, proved, failed = set(crates), {}, set(), []
+    with ThreadPoolExecutor(processors) as pool:
+        while waiting or running:
+            ready = [it for it in waiting if proved.issuperset(it.below())]
+            while ready and len(running) < processors:
+                crate = max(ready, key=above.get)
+                ready.remove(crate)
+                waiting.remove(crate)
+                running[pool.submit(prove, crate, crate in used, links)] = crate
+            if not running:
+                break
+            for ended in wait(running, return_when=FIRST_COMPLETED).done:
+                crate = running.pop(ended)
+                status, said, took = ended.result()
+                if status:
+                    failed.append(crate)
+                    print(f"== {crate.name} is not proved ({status})\n{said}", flush=True)
+                    continue
+                proved.add(crate)
+                now = spelled(time.monotonic() - began)
+                print(f"{len(proved):3} of {len(crates)}  {crate.name} in {spelled(took)}, {now} after the start", flush=True)
+    if waiting:
+        print("not tried, since a crate below is not proved:", *sorted(it.name for it in waiting))
+    return 1 if failed else 0
+
+
+def main(words):
+    links = "--all" not in words
+    numbers = [int(it) for it in words if it != "--all"]
+    processors = numbers[0] if numbers else len(os.sched_getaffinity(0))
+    crates = rtlib.crates_below(str(TOP))
+    if links:
+        program = next(it for it in crates if it.name == PROGRAM)
+        crates = [*program.below(), program]
+    # The guard ends what was started, however this ends, and has to begin before a thread does.
+    rtlib.guarded()
+    signal.signal(signal.SIGINT, signal.SIG_DFL)
+    held = rtlib.lock(crates)
+    status = prove_all(crates, links, processors)
+    for it in held:
+        os.close(it)
+    return status
 
 
 if __name__ == "__main__":
-    sys.exit(main(int(sys.argv[1]) if len(sys.argv) > 1 else len(os.sched_getaffinity(0))))
+    sys.exit(main(sys.argv[1:]))
