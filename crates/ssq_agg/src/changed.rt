@@ -32,7 +32,7 @@ fn put_group(
     ensures short { All IsShortEntry entries.old.items → OnOk result (All IsShortEntry entries.new.items) }
 {
     let key = bytes_of_key(alloc, key.values())?;
-    let value = short(bytes_of(alloc, totals.as_slice())?)?;
+    let value = short(Bytes::from_vec(bytes_of(alloc, totals.as_slice())?))?;
     entries.push((key, Some(value)))?;
     Ok(())
 }

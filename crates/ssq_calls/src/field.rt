@@ -4,6 +4,7 @@ use ssq_field::{
     Bytes, put_be32, put_be64, put_be128, put_decimal, take_be32, take_be64, take_be128,
     take_decimal,
 };
+use std::cmp::Ordering;
 use std::test::Fail;
 
 #[test]
@@ -69,9 +70,32 @@ fn bytes_are_given_back(rt: HostRuntime) -> Result<(), Fail> {
     let whole = bytes.clone()?;
     bytes.truncate(1);
     assert!(rt; bytes < whole);
-    assert_eq!(rt;
-        Bytes::from_vec(bytes.into_vec()).as_slice(),
-        b"a".as_slice()
-    );
+    assert_eq!(rt; bytes.as_slice(), b"a".as_slice());
+    assert!(rt; Bytes::with_capacity(rt.alloc(), 40)?.is_empty());
+    let mut grown = Bytes::from_vec(Vec::from_slice(rt.alloc(), &[7; 39])?);
+    grown.extend(&[8])?;
+    assert_eq!(rt; &grown.as_slice()[38..], [7, 8].as_slice());
+    Ok(())
+}
+
+#[test]
+fn bytes_come_by_the_first_that_differs(rt: HostRuntime) -> Result<(), Fail> {
+    let pairs: [(&[u8], &[u8], Ordering); 8] = [
+        (b"", b"\0", Ordering::Less),
+        (b"b", b"aaaaaaaaa", Ordering::Greater),
+        (b"aaaaaaa\x80", b"aaaaaaa\x7f", Ordering::Greater),
+        (b"\x7faaaaaaa", b"\x80", Ordering::Less),
+        (b"aaaaaaaa", b"aaaaaaaa\0", Ordering::Less),
+        (b"aaaaaaaaz", b"aaaaaaaay", Ordering::Greater),
+        (b"aaaaaaaabbbbbbbb", b"aaaaaaaabbbbbbba", Ordering::Greater),
+        (b"aaaaaaaabbbbbbbbc", b"aaaaaaaabbbbbbbbc", Ordering::Equal),
+    ];
+    for (left, right, wanted) in pairs {
+        let (one, other) = (
+            Bytes::from_slice(rt.alloc(), left)?,
+            Bytes::from_slice(rt.alloc(), right)?,
+        );
+        assert_eq!(rt; one.cmp(&other), wanted, "{left:?} {right:?}");
+    }
     Ok(())
 }

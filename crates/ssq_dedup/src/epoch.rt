@@ -96,7 +96,7 @@ fn copied(key: &Bytes) -> Result<Bytes, AllocError>
     ensures bytes { IfOk result (λ copy. copy ≡ key.now) }
     ensures short { IfOk result IsShort }
 {
-    short(key.clone()?.into_vec())
+    short(key.clone()?)
 }
 
 /// Says that these keys are kept no more.

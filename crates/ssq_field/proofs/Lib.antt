@@ -1,2 +1,3 @@
 pub mod BigEndian
+pub mod Order
 pub mod Digits

@@ -15,7 +15,7 @@ pub fn put_decimal(out: &mut Bytes, number: u64) -> Result<(), AllocError>
     ensures ok { OnOk result (out.new ≡ out.old ++ decimal number) }
     ensures err { OnErr result (out.new ≡ out.old) }
 {
-    put_decimal_to(&mut out.0, number)
+    out.extend(Buffer::new().format(number).as_bytes())
 }
 
 /// Appends the number's digits. An `Err` changes nothing.

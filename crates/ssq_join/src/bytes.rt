@@ -45,7 +45,7 @@ pub(crate) fn row_key(alloc: Global, row: &FedRow) -> Result<Bytes, AllocError>
     put_be32(&mut bytes, row.epoch())?;
     put_be32(&mut bytes, row.part())?;
     put_be64(&mut bytes, row.offset())?;
-    short(bytes.into_vec())
+    short(bytes)
 }
 
 /// What is kept of a row.
@@ -56,5 +56,5 @@ pub(crate) fn row_value(alloc: Global, met: bool, row: &FedRow) -> Result<Bytes,
 {
     let mut bytes = key_bytes(alloc, row.values())?;
     bytes.push(met_byte(met))?;
-    short(bytes)
+    short(Bytes::from_vec(bytes))
 }

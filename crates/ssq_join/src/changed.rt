@@ -15,7 +15,7 @@ fn copied(bytes: &Bytes) -> Result<Bytes, AllocError>
     ensures bytes { IfOk result (λ copy. copy ≡ bytes.now) }
     ensures short { IfOk result IsShort }
 {
-    short(bytes.clone()?.into_vec())
+    short(bytes.clone()?)
 }
 
 /// The bytes with 1, which says that a partner was met, as the last.
@@ -37,7 +37,7 @@ fn flagged(value: &Bytes) -> Result<Bytes, AllocError>
     ensures short { IfOk result IsShort }
 {
     let bytes = with_flag(value.clone()?)?;
-    short(bytes.into_vec())
+    short(bytes)
 }
 
 fn is_flagged(value: &Bytes) -> bool
@@ -55,7 +55,7 @@ fn flagged_if(met: bool, value: Bytes) -> Result<Bytes, AllocError>
     ensures short { IfOk result IsShort }
 {
     let value = if met { with_flag(value)? } else { value };
-    short(value.into_vec())
+    short(value)
 }
 
 /// The bytes themselves, where they are short enough to be kept.
@@ -63,7 +63,7 @@ fn kept(bytes: Bytes) -> Result<Bytes, AllocError>
     ensures bytes { IfOk result (λ kept. kept ≡ bytes) }
     ensures short { IfOk result IsShort }
 {
-    short(bytes.into_vec())
+    short(bytes)
 }
 
 /// The law of maps: their keys ascend.

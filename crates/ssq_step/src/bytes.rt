@@ -10,12 +10,12 @@ use ssq_value::{Value, key_bytes};
 use std::alloc::{AllocError, Global};
 
 /// The bytes, where they are fewer than 2^32, as a state holds. Else they count as too many for the memory.
-pub fn short(bytes: Vec<u8>) -> Result<Bytes, AllocError>
-    ensures bytes { IfOk result (λ short. short ≡ bytes.items) }
+pub fn short(bytes: Bytes) -> Result<Bytes, AllocError>
+    ensures bytes { IfOk result (λ short. short ≡ bytes) }
     ensures short { IfOk result IsShort }
 {
-    if bytes.as_slice().len() <= u32::MAX as usize {
-        Ok(Bytes::from_vec(bytes))
+    if bytes.len() <= u32::MAX as usize {
+        Ok(bytes)
     } else {
         Err(AllocError)
     }
@@ -27,5 +27,5 @@ pub fn bytes_of_key(alloc: Global, key: &[Value]) -> Result<Bytes, AllocError>
     ensures bytes { IfOk result (λ bytes. bytes ≡ keys_of key.now) }
     ensures short { IfOk result IsShort }
 {
-    short(key_bytes(alloc, key)?)
+    short(Bytes::from_vec(key_bytes(alloc, key)?))
 }

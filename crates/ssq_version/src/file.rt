@@ -34,7 +34,7 @@ pub(crate) fn begin(
     ensures { (rest : List ℕ) → IfOk result (λ out. out ++ rest
         ≡ first_word form ++ (to_be_bytes w32 partition ++ (to_be_bytes w32 version ++ (to_be_bytes w64 count ++ rest)))) }
 {
-    let mut out = Bytes::from_vec(Vec::with_capacity(alloc, room)?);
+    let mut out = Bytes::with_capacity(alloc, room)?;
     out.extend(form.first_word())?;
     put_be32(&mut out, partition)?;
     put_be32(&mut out, version)?;

@@ -70,7 +70,7 @@ pub fn write_news(
 ) -> Result<(Bytes, Bytes), AllocError>
     ensures { IfOk result (λ parts. parts.0 ++ parts.1 ≡ delta_text partition version (news state.now change.now)) }
 {
-    let mut entries = Bytes::from_vec(Vec::with_capacity(alloc, room(change))?);
+    let mut entries = Bytes::with_capacity(alloc, room(change))?;
     let count = put_news(&mut entries, state, change)?;
     let head = begin(alloc, Form::Delta, partition, version, count, 24)?;
     Ok((head, entries))
