@@ -2,9 +2,9 @@
 use Rattle.std.proofs.Common.{◌≡◌, ℕ, ℤ, List, [], ◌∷◌, ◌++◌, Result, Ok, Err, OnOk, IsUtf8, refl, sym, subst, ◌∙◌}
 use Rattle.std.proofs.lemmas.Str.{IsUtf8-append, IsUtf8-from_ascii}
 use Rattle.json.specs.Token.{Token}
-use Rattle.json.specs.Print.{token_text, print}
+use Rattle.json.specs.Print.{token_text, print, quoted}
 use Rattle.json.specs.Written.{Written, Writes}
-use Rattle.json.proofs.Printed.Utf8.{IsUtf8-are_ascii}
+use Rattle.json.proofs.Printed.Utf8.{IsUtf8-are_ascii, IsUtf8-quoted}
 use Rattle.ssq_time.specs.Time.{IsStampTime, stamp_text}
 use Rattle.ssq_time.proofs.Ascii.{stamp_text-ascii}
 use Rattle.ssq_json.proofs.Writing.{print-one}
@@ -28,6 +28,10 @@ keyed done old new t before out begins b w is u =
 pub headed : {E : Type 0} (r : Result (Unit {0}) E) (head bytes value : List ℕ) → bytes ≡ head → IsUtf8 bytes → OnOk r (IsUtf8 value) → OnOk r (IsUtf8 (head ++ value))
 headed (Ok done) head bytes value is u v = IsUtf8-append head value (subst IsUtf8 is u) v
 headed (Err error) head bytes value is u v = tt
+
+pub quotes : {E : Type 0} (r : Result (Unit {0}) E) (text : List ℕ) → IsUtf8 text → OnOk r (IsUtf8 (quoted text))
+quotes (Ok done) text utf8 = IsUtf8-quoted text utf8
+quotes (Err error) text utf8 = tt
 
 pub left_brace : IsUtf8 (123 ∷ [])
 left_brace = IsUtf8-are_ascii (123 ∷ []) refl
