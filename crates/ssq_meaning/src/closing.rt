@@ -10,7 +10,7 @@ ghost use Rattle.ssq_shape.specs.Late.{event_of, is_column_of, is_event, is_wind
 ghost use Rattle.ssq_meaning.specs.Dedup as repeats;
 ghost use Rattle.ssq_meaning.specs.Group.{closing_time, end_of, event_time, time_by, window_end};
 ghost use Rattle.ssq_meaning.specs.Join.{event_column, join_time};
-ghost use Rattle.ssq_meaning.specs.Keyed.{key_length, key_time};
+ghost use Rattle.ssq_meaning.specs.Keyed.{key_length, key_time, keys_have_times, keys_have_times_in};
 ghost use Rattle.ssq_meaning.specs.Windows.{HasWindow, HasWindows};
 
 use ssq_shape::{Bound, GroupKey, Grouping, Mode, Shape, Stream, TimeBound, TimeKey, time_key};
@@ -217,11 +217,21 @@ pub fn key_length(bound: &Bound) -> usize
     }
 }
 
+fn keys_have_times_in(mode: Mode, time: Option<TimeKey>) -> bool
+    ensures { result ≡ keys_have_times_in mode time }
+{
+    match mode {
+        Mode::Complete => false,
+        Mode::Append | Mode::Update => time.is_some(),
+    }
+}
+
 /// Whether keys of the query have times. Where they have none, each key stays open, and is kept for good.
 pub fn keys_have_times(bound: &Bound) -> bool
-    ensures { result ≡ false → (key : List Cell) → key_time bound.now key ≡ None }
+    ensures is { result ≡ keys_have_times bound.now }
+    ensures none { keys_have_times bound.now ≡ false → (key : List Cell) → key_time bound.now key ≡ None }
 {
-    time_key(bound).is_some()
+    keys_have_times_in(bound.mode, time_key(bound))
 }
 
 /// The time of a key of the query, in microseconds since 1970: where the watermark is at or above it, rows of the key are late and the key is
