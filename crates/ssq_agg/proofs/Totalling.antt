@@ -1,8 +1,9 @@
 -- Totals that are read one after the other.
-use Rattle.std.proofs.Common.{◌≡◌, ◌==◌, ◌+◌, ◌<◌, ◌++◌, ℕ, suc, true, false, refl, arith, [], ◌∷◌, List, ap, sym, subst, ◌∙◌, drop, drop-cons, take, add-one, length, get_or, append_assoc, append-nil}
+use Rattle.std.proofs.Common.{◌≡◌, ◌==◌, ◌+◌, ◌<◌, ◌≤◌, ◌++◌, ℕ, suc, true, false, refl, arith, [], ◌∷◌, List, ap, sym, subst, ◌∙◌, drop, drop-cons, take, add-one, length, get_or, append_assoc, append-nil}
 use Rattle.std.proofs.Math.Seq.{take-suc}
 use Rattle.std.proofs.lemmas.Bool.{eqb-true, eqb-false}
 use Rattle.std.proofs.lemmas.Grind.{flat_map-append}
+use Rattle.std.proofs.lemmas.List.{drop_all}
 use Rattle.ssq_shape.specs.declared.bound.Aggregate.{Aggregate}
 use Rattle.ssq_meaning.specs.declared.total.Total.{Total}
 use Rattle.ssq_meaning.specs.Totals.{total_bytes, total_of, totals_bytes, totals_from}
@@ -95,10 +96,10 @@ nothing_left totals so_far [] rest parts are bytes = (parts ∙ append-nil so_fa
 nothing_left totals so_far (own ∷ left) rest parts are bytes = absurd are
 
 -- where all were read they are the totals, and nothing follows
-pub all_read : (all : List Aggregate) (bytes : List ℕ) (so_far : List Total) (rest : List ℕ) → EachIsLeft all bytes [] so_far rest
+pub all_read : (all : List Aggregate) (at : ℕ) → length all ≤ at → (bytes : List ℕ) (so_far : List Total) (rest : List ℕ) → EachIsLeft all bytes (drop at all) so_far rest
     → (totals : List Total) → AreTotalsOf all totals → totals_bytes totals ≡ bytes → (totals ≡ so_far) × (rest ≡ [])
-all_read all bytes so_far rest was totals are is =
-    let left = was totals are is in
+all_read all at ended bytes so_far rest was totals are is =
+    let left = subst (λ l. EachIsLeft all bytes l so_far rest) (drop_all at all ended) was totals are is in
     nothing_left totals so_far left.left rest left.parts left.are left.bytes
 
 -- the item that comes next

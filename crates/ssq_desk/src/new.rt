@@ -82,7 +82,11 @@ impl<'a, D: Disk, L: Log> Desk<'a, D, L> {
         tasks_have_terms();
         let mut ledger = match Ledger::new(alloc, opening, disk, scope, start, names.into_vec()) {
             Ok(ledger) => ledger,
-            Err(disk) => return Err((disk, logs)),
+            Err(disk) => {
+                drop(rooms);
+                drop(room);
+                return Err((disk, logs));
+            }
         };
         let Rooms {
             sources,

@@ -187,8 +187,8 @@ impl MemDisk {
     {
         let past = self.record.before(self.clock.saturating_sub(moment));
         let changed = past.changed(alloc)?;
-        let mut disk = MemDisk::new(alloc);
         let names = past.names(alloc)?;
+        let mut disk = MemDisk::new(alloc);
         for name in &names {
             let (content, _) = past.after_changes(
                 *name,

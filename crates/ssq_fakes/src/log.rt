@@ -217,7 +217,7 @@ impl Log for MemLog {
         }
         let lines: &Lines = &self.lines;
         match lines.get(at) {
-            Some(line) => Ok(refill(into, front(line, LONGEST))?),
+            Some(line) => refill(into, front(line, LONGEST)),
             None => Err(LineError::Short {
                 found: lines.count(),
             }),

@@ -72,7 +72,7 @@ pub fn insert_some(names: &mut Vec<Name>, name: Option<Name>) -> Result<(), Allo
     ensures { OnOk result (names.new.items ≡ with_some name names.old.items) }
 {
     match name {
-        Some(name) => Ok(insert(names, name)?),
+        Some(name) => insert(names, name),
         None => Ok(()),
     }
 }

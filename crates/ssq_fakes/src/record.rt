@@ -97,7 +97,7 @@ impl Record {
         ensures { MatchOption result (events_of self.old ≡ []) (λ _. length (events_of self.old) ≡ length (events_of self.new) + 1) }
     {
         let (_, mut room) = mem::replace(self, Record::Empty).into_newest()?;
-        *self = mem::replace(&mut *room, Record::Empty);
+        mem::swap(self, &mut *room);
         Some(room)
     }
 

@@ -1,9 +1,9 @@
 -- The windows that hold a time, as values of a key.
-use Rattle.std.proofs.Common.{◌≡◌, ℕ, ◌<◌, ◌≤◌, ℤ, pos, ◌+ℤ◌, ◌*ℤ◌, ◌≤ℤ◌, Some, refl, ap, sym, ◌∙◌, arith, subst, map, length, zero-add}
+use Rattle.std.proofs.Common.{◌≡◌, ℕ, ◌<◌, ◌≤◌, ℤ, pos, ◌+ℤ◌, ◌*ℤ◌, ◌≤ℤ◌, of_z, to_z, Some, refl, ap, sym, ◌∙◌, arith, subst, map, length, zero-add}
 use Rattle.std.specs.Prelude.{All, FitsSigned, slice_get, option_map, unsigned_abs, ◌<ℤ◌}
 use Rattle.std.specs.Int.{w64}
 use Rattle.std.specs.List.{range_with_len}
-use Rattle.std.proofs.lemmas.Int.{fits_signed_mul, ints}
+use Rattle.std.proofs.lemmas.Int.{fits_signed_mul, ints, to_z-of_z}
 use Rattle.std.proofs.lemmas.List.{length-map}
 use Rattle.std.proofs.lemmas.List.Elements.{All-map}
 use Rattle.std.proofs.lemmas.List.FromFn.{length-range_with_len, get_or-range_with_len, length-map-range_with_len}
@@ -81,3 +81,15 @@ start_numbers_fit starts nth below =
       distance_fits = fits_signed_mul w64 (pos nth) starts.slide 64 31_622_400_000_000 (omega (arith, below, starts.few)) (span_is_short starts.slide starts.slide_is) (omega arith);
       start_fits = stamp_fits (starts.first +ℤ (pos nth *ℤ starts.slide)) (starts.years nth below);
     }
+
+-- the start as it is computed, in numbers of 64 bits
+pub start_is : (first slide from : ℤ) (nth : ℕ) → StartFits first slide nth → FitsSigned w64 from → from ≡ pos nth
+    → to_z w64 (of_z w64 first) +ℤ to_z w64 (of_z w64 (to_z w64 (of_z w64 from) *ℤ to_z w64 (of_z w64 slide))) ≡ first +ℤ (pos nth *ℤ slide)
+start_is first slide from nth fits from_fits is =
+    rw (
+      to_z-of_z w64 first fits.first_fits,
+      to_z-of_z w64 from from_fits,
+      to_z-of_z w64 slide fits.slide_fits,
+      is,
+      to_z-of_z w64 (pos nth *ℤ slide) fits.distance_fits,
+    ) refl

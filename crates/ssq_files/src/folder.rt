@@ -47,16 +47,17 @@ impl Folder {
 /// Its path from the root, with a slash at its end.
 impl fmt::Display for Folder {
     fn fmt<W: fmt::Write>(&self, f: &mut fmt::Formatter<W>) -> fmt::Result {
-        match self {
-            Folder::Parent => write!(f, "../"),
-            Folder::Root => Ok(()),
-            Folder::Plans => write!(f, "offsets/"),
-            Folder::Commits => write!(f, "commits/"),
-            Folder::Sink => write!(f, "sink/"),
-            Folder::State => write!(f, "state/"),
-            Folder::Partition(number) => write!(f, "state/{number}/"),
-            Folder::Aside => write!(f, "aside/"),
-        }
+        let path = match self {
+            Folder::Parent => "../",
+            Folder::Root => "",
+            Folder::Plans => "offsets/",
+            Folder::Commits => "commits/",
+            Folder::Sink => "sink/",
+            Folder::State => "state/",
+            Folder::Partition(number) => return write!(f, "state/{number}/"),
+            Folder::Aside => "aside/",
+        };
+        f.write_str(path)
     }
 }
 

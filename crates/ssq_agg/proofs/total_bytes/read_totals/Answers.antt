@@ -53,16 +53,10 @@ returns-then-is_empty-clause-found c =
 
 pub returns-then-is_empty-clause-each : goal.returns-then-is_empty-clause-each
 returns-then-is_empty-clause-each c totals are is =
-    let all = c.args.aggregates.now in
-    let ended = drop_all c.loop-aggregate.aggregate-index all (omega (arith, c.loop-aggregate-test.false)) in
-    let same = all_read all c.args.bytes.now c.loop-aggregate.totals.items c.loop-aggregate.rest.now
-    (subst (λ l. EachIsLeft all c.args.bytes.now l c.loop-aggregate.totals.items c.loop-aggregate.rest.now) ended c.loop-aggregate.invariant.2) totals are is in
+    let same = all_read c.args.aggregates.now c.loop-aggregate.aggregate-index (omega (arith, c.loop-aggregate-test.false)) c.args.bytes.now c.loop-aggregate.totals.items c.loop-aggregate.rest.now c.loop-aggregate.invariant.2 totals are is in
     ap Some (c.from_vec.ensures ∙ sym same.0)
 
 pub returns-else-is_empty-clause-each : goal.returns-else-is_empty-clause-each
 returns-else-is_empty-clause-each c totals are is =
-    let all = c.args.aggregates.now in
-    let ended = drop_all c.loop-aggregate.aggregate-index all (omega (arith, c.loop-aggregate-test.false)) in
-    let same = all_read all c.args.bytes.now c.loop-aggregate.totals.items c.loop-aggregate.rest.now
-    (subst (λ l. EachIsLeft all c.args.bytes.now l c.loop-aggregate.totals.items c.loop-aggregate.rest.now) ended c.loop-aggregate.invariant.2) totals are is in
+    let same = all_read c.args.aggregates.now c.loop-aggregate.aggregate-index (omega (arith, c.loop-aggregate-test.false)) c.args.bytes.now c.loop-aggregate.totals.items c.loop-aggregate.rest.now c.loop-aggregate.invariant.2 totals are is in
     absurd (some_item c.loop-aggregate.rest.now (sym c.is_empty.ensures ∙ c.if-is_empty.false) same.1)

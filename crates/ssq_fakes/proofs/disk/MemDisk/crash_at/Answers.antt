@@ -60,3 +60,15 @@ returns-clause-crashed c =
     holds
     c.in_ok-settle.ensures.record
     (c.in_ok-settle.ensures.clock ∙ c.loop-name.invariant.clock)
+
+pub returns-clause-count : goal.returns-clause-count
+returns-clause-count c = c.in_ok-settle.ensures.count ∙ c.loop-name.invariant.count
+
+pub returns-clause-plan : goal.returns-clause-plan
+returns-clause-plan c = rw c.in_ok-settle.ensures.calls.0 c.loop-name.invariant.plan
+
+pub returns-clause-calls : goal.returns-clause-calls
+returns-clause-calls c = (rw c.in_ok-settle.ensures.calls.0 c.loop-name.invariant.calls, c.in_ok-settle.ensures.calls.1 ∙ c.loop-name.invariant.stages)
+
+pub returns-clause-sure : goal.returns-clause-sure
+returns-clause-sure c = c.in_ok-settle.ensures.sure c.loop-name.invariant.sure

@@ -1,12 +1,21 @@
-use Rattle.std.proofs.Common.{◌≡◌, ◌+◌, ◌∷◌, ap, sym, arith, length, OnErr, OnOk}
-use Rattle.std.proofs.lemmas.Result.{on_ok_weaker}
+use Rattle.std.proofs.Common.{◌≡◌, ◌+◌, ◌∷◌, ◌∙◌, ap, sym, arith, length, OnErr, OnOk, inr}
+use Rattle.std.proofs.lemmas.Result.{on_ok_weaker, on_err_weaker}
 use Rattle.ssq_outside.specs.Files.{added}
 use Rattle.ssq_fakes.specs.declared.record.Event.TheVariants.{Put}
-use Rattle.ssq_fakes.specs.Records.{events_of}
+use Rattle.ssq_fakes.specs.Records.{events_of, had_after}
 use Rattle.ssq_fakes.specs.Disks.{disk_history}
-use Rattle.ssq_fakes.proofs.Histories.{advances, had_now-is}
+use Rattle.ssq_fakes.proofs.Histories.{advances, had_now-is, rests}
 use Rattle.ssq_fakes.proofs.Rooms.{sure_put, stays_sure}
 use Rattle.ssq_fakes.proofs.disk.MemDiskDisk.publish.Goals as goal
+
+pub returns-clause-ok : goal.returns-clause-ok
+returns-clause-ok c =
+    let old = c.args.self.now in
+    let new = c.advance.new.self in
+    let is : OnOk c.advance.result (events_of new.record ≡ Put c.args.name c.args.file.bytes ∷ events_of old.record) = rw c.keep_room-publish.ensures.record at c.advance.ensures.ok in
+    on_ok_weaker c.advance.result
+    (λ is. had_now-is (events_of new.record) new.clock ∙ ap had_after is ∙ ap (added c.args.name c.args.file.bytes.items) (sym (had_now-is (events_of old.record) old.clock)))
+    is
 
 pub returns-clause-steps : goal.returns-clause-steps
 returns-clause-steps c =
@@ -29,3 +38,9 @@ returns-clause-never c = λ sure.
     let clock : c.keep_room-publish.new.self.clock ≡ old.clock = c.keep_room-publish.ensures.clock in
     stays_sure c.advance.result _ _ _ _ _ c.advance.ensures.full (λ full early. omega arith) unfailed
     (on_ok_weaker c.advance.result (sure_put old new c.args.name c.args.file.bytes sure plan spare) is)
+
+pub returns-then-fails-clause-steps : goal.returns-then-fails-clause-steps
+returns-then-fails-clause-steps c = rests (disk_history c.args.self.now) _
+
+pub returns-clause-failed : goal.returns-clause-failed
+returns-clause-failed c = on_err_weaker c.advance.result (λ full. inr (rw c.keep_room-publish.ensures.clock at full)) c.advance.ensures.full

@@ -1,9 +1,10 @@
 use Rattle.std.proofs.Common.{◌≡◌, ◌≤◌, ◌∙◌, true, ap, sym, inl, inr, arith, length, OnOk}
 use Rattle.std.specs.Prelude.{is_some}
-use Rattle.std.proofs.lemmas.Result.{on_ok_weaker}
+use Rattle.std.proofs.lemmas.Result.{on_ok_weaker, on_err_weaker}
 use Rattle.ssq_fakes.specs.declared.record.Event.TheVariants.{Gone}
 use Rattle.ssq_fakes.specs.Records.{events_of, had_after, content_in}
-use Rattle.ssq_fakes.proofs.Histories.{advances, had_now-is, removed-there, removed-absent}
+use Rattle.ssq_fakes.specs.Disks.{disk_history}
+use Rattle.ssq_fakes.proofs.Histories.{advances, had_now-is, removed-there, removed-absent, rests}
 use Rattle.ssq_fakes.proofs.Rooms.{sure_gone, stays_sure, has_room-there, on_ok_both}
 use Rattle.ssq_fakes.proofs.disk.MemDiskDisk.remove.Goals as goal
 
@@ -39,3 +40,13 @@ returns-clause-never c = λ sure.
     (λ full early. elim full [ inl end ↦ omega (arith, end, early) | inr none ↦ omega (arith, room, ap length none) ])
     unfailed
     (on_ok_both c.advance_in_spare.result (λ less is. sure_gone old new c.args.name sure plan less there is) c.advance_in_spare.ensures.spare c.advance_in_spare.ensures.ok)
+
+pub returns-then-fails-clause-steps : goal.returns-then-fails-clause-steps
+returns-then-fails-clause-steps c = rests (disk_history c.args.self.now) _
+
+pub returns-then-not-has-clause-steps : goal.returns-then-not-has-clause-steps
+returns-then-not-has-clause-steps c = rests (disk_history c.args.self.now) _
+
+pub returns-clause-failed : goal.returns-clause-failed
+returns-clause-failed c =
+    on_err_weaker c.advance_in_spare.result (λ full. inr (elim full [ inl end ↦ inl end | inr none ↦ inr (ap length none) ])) c.advance_in_spare.ensures.full
