@@ -3,7 +3,7 @@
 
     cd crates/NAME; ../../tools/module_cost.py CLONE [MOST]
 
-What it prints is the processor's own time, which says the same at any load. `X.Lts` is the borrow checker's part of the function X, mostly the drops of
+What it prints is the processor's own time: at another load it differs by some hundredths, on another machine by more, so take before and after in the same hour. `X.Lts` is the borrow checker's part of the function X, mostly the drops of
 what lives at its exits, and `X.Proof` its goals. A time is that of the last file written in it, and takes in those before it. It proves nothing for the gate.
 """
 import os
