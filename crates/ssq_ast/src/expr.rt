@@ -36,7 +36,7 @@ pub struct Moment {
 }
 
 /// A function of a group's rows.
-#[derive(Clone, Copy, PartialEq, Eq)]
+#[derive(Clone, Copy)]
 pub enum Function {
     Count,
     Sum,
@@ -45,14 +45,14 @@ pub enum Function {
 }
 
 /// An operator before its operand.
-#[derive(Clone, Copy, PartialEq, Eq)]
+#[derive(Clone, Copy)]
 pub enum UnaryOp {
     Not,
     Minus,
 }
 
 /// An operator between two operands.
-#[derive(Clone, Copy, PartialEq, Eq)]
+#[derive(Clone, Copy)]
 pub enum BinaryOp {
     Or,
     And,
@@ -74,7 +74,7 @@ pub enum BinaryOp {
 }
 
 /// What `IS` asks.
-#[derive(Clone, Copy, PartialEq, Eq)]
+#[derive(Clone, Copy)]
 pub enum NullTest {
     /// `IS NULL`
     Null,

@@ -81,7 +81,7 @@ pub struct Condition {
     pub value: Expr,
 }
 
-#[derive(Clone, Copy, PartialEq, Eq)]
+#[derive(Clone, Copy)]
 pub enum JoinKind {
     Inner,
     Left,
@@ -126,7 +126,7 @@ pub struct Window {
     pub slide: Option<Span>,
 }
 
-#[derive(Clone, Copy, PartialEq, Eq)]
+#[derive(Clone, Copy)]
 pub enum Direction {
     Ascending,
     Descending,
@@ -147,7 +147,7 @@ pub struct Limit {
 }
 
 /// Which rows of the result an epoch shows.
-#[derive(Clone, Copy, PartialEq, Eq)]
+#[derive(Clone, Copy)]
 pub enum Mode {
     Append,
     Update,

@@ -53,7 +53,7 @@ pub enum Cause {
 }
 
 /// Where a task of the epoch that runs is.
-#[derive(Clone, Copy, Debug, PartialEq, Eq)]
+#[derive(Clone, Copy)]
 pub enum Place {
     /// There is no task of this number in this epoch.
     Rests,
@@ -66,7 +66,7 @@ pub enum Place {
 }
 
 /// What a desk counts.
-#[derive(Clone, Copy, Debug, PartialEq, Eq)]
+#[derive(Clone, Copy)]
 pub struct Front {
     /// How many epochs are planned: as many as are committed, or one more.
     pub planned: u32,
@@ -86,7 +86,7 @@ pub struct Front {
 }
 
 /// What may be done next.
-#[derive(Clone, Copy, Debug, PartialEq, Eq)]
+#[derive(Clone, Copy)]
 pub enum Ready {
     /// The next epoch is to be planned.
     Plan,
@@ -104,7 +104,7 @@ pub enum Ready {
 }
 
 /// What a call of the desk did.
-#[derive(Clone, Copy, Debug, PartialEq, Eq)]
+#[derive(Clone, Copy)]
 pub enum Entry {
     /// The plan of this epoch was published.
     Plan(u32),

@@ -19,14 +19,14 @@ pub struct Source {
 }
 
 /// The stream of FROM or that of JOIN.
-#[derive(Clone, Copy, PartialEq, Eq)]
+#[derive(Clone, Copy)]
 pub enum Side {
     Left,
     Right,
 }
 
 /// A column: its stream, its index there, and its type.
-#[derive(Clone, Copy, PartialEq, Eq)]
+#[derive(Clone, Copy)]
 pub struct Spot {
     pub side: Side,
     pub index: usize,
@@ -34,7 +34,7 @@ pub struct Spot {
 }
 
 /// What rows are grouped by.
-#[derive(Clone, Copy, PartialEq, Eq)]
+#[derive(Clone, Copy)]
 pub enum Key {
     Column(Spot),
     /// A window.
@@ -53,7 +53,7 @@ pub struct Scope {
 }
 
 /// Where an expression stands.
-#[derive(Clone, Copy, PartialEq, Eq)]
+#[derive(Clone, Copy)]
 pub enum Within {
     /// In WHERE, in ON, in an aggregate, and in SELECT of a query that isn't Group: no aggregate may stand here.
     Row,

@@ -1,7 +1,7 @@
 //! What is told of an epoch.
 
 /// What an epoch was, once it is acknowledged.
-#[derive(Clone, Copy, Debug, PartialEq, Eq)]
+#[derive(Clone, Copy)]
 pub struct Told {
     pub epoch: u32,
     /// How many lines it has.

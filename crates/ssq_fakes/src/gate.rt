@@ -3,7 +3,7 @@
 use ssq_outside::{Gate, TaskId};
 
 /// Lets each task pass at once.
-#[derive(Clone, Copy, Debug)]
+#[derive(Clone, Copy)]
 pub struct OpenGate;
 
 impl Gate for OpenGate {

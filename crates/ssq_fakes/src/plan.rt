@@ -6,7 +6,7 @@ use crate::faults::Plan;
 use std::alloc::{AllocError, Global};
 
 /// A call that is to fail.
-#[derive(Clone, Copy, Debug, PartialEq, Eq)]
+#[derive(Clone, Copy, Debug)]
 pub enum FailAt {
     /// The call on the disk with this number, from 0.
     Disk(u64),

@@ -31,7 +31,6 @@ pub(crate) struct Origin {
 
 impl Origin {
     /// The row that is fed from this line with a key, the time when it is past, and values.
-    #[inline(always)]
     fn row(self, key: Row, time: Option<i64>, values: Row) -> Result<FedRow, AllocError>
         ensures { IfOk result (λ row. row ≡ from_origin self (record { key = key; time = time; values = values })) }
     {
@@ -126,7 +125,6 @@ impl Dealer {
     }
 
     /// Puts a row into the bucket of its key's partition, behind those that are there. The only bucket is that of each key.
-    #[inline(always)]
     fn deal(&mut self, row: FedRow) -> Result<(), AllocError>
         requires { IsFitRow row }
         ensures { OnOk result (Deals self.old.buckets self.new.buckets (row ∷ [])) }
@@ -179,7 +177,6 @@ impl Dealer {
 
     /// Deals what a row hands on. A row as SELECT shows it has a key without values.
     #[tactic(auto, unfolding(ssq_value::specs::Key::keys_of))]
-    #[inline(always)]
     pub(crate) fn hand_on(
         &mut self,
         alloc: Global,

@@ -53,7 +53,6 @@ fn event_time(schema: &Schema, row: &[Value]) -> Option<i64>
 }
 
 /// What the bytes of the line at an offset give.
-#[inline(always)]
 pub(crate) fn take_line<'a>(
     alloc: Global,
     bound: &'a Bound,

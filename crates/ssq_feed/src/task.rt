@@ -29,7 +29,7 @@ pub struct MapTask<'a, L: Log> {
 }
 
 /// What a map task brings of its lines.
-#[derive(Debug, Drop)]
+#[derive(Drop)]
 pub struct FedRows {
     /// The greatest event time of all their rows, in microseconds since 1970, those that WHERE drops included.
     pub time: Option<i64>,

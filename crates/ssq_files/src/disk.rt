@@ -149,7 +149,7 @@ pub struct FolderStage<F> {
 }
 
 /// A file that is whole and synced, aside.
-#[derive(Debug, Drop)]
+#[derive(Drop)]
 pub struct SealedFile {
     number: u64,
 }

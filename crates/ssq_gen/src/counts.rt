@@ -15,7 +15,7 @@ use std::alloc::{AllocError, Global};
 
 /// How many rows there are, and the sums of the numbers in their third and fourth columns: of the query's rows, how many lines they count, and the
 /// sum of these lines' values.
-#[derive(Clone, Copy, PartialEq, Eq)]
+#[derive(Clone, Copy)]
 pub(crate) struct Counts {
     pub(crate) rows: u64,
     pub(crate) count: i128,

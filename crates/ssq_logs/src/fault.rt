@@ -5,7 +5,7 @@ use std::alloc::AllocError;
 use thiserror::Error;
 
 /// Why the parts of a query's streams are not counted.
-#[derive(Clone, Copy, Debug, PartialEq, Eq, Error)]
+#[derive(Clone, Copy, Debug, Error)]
 pub enum PartsFault {
     /// A stream, by its place in the order of FROM, has more than 64 parts. It is the first such stream.
     #[error("stream {stream} has more than 64 parts")]
@@ -44,7 +44,7 @@ impl From<InputError> for PartsFault {
 }
 
 /// Why the lines of the logs are not counted.
-#[derive(Clone, Copy, Debug, PartialEq, Eq, Error)]
+#[derive(Clone, Copy, Debug, Error)]
 pub enum LengthFault {
     /// A part, by its place among all parts, has more than 1099511627776 lines. It is the first such part.
     #[error("part {number} has {lines} lines")]

@@ -8,7 +8,7 @@ use std::alloc::AllocError;
 use std::marker::Model;
 
 /// What a map task hands on of a row of its part, in one piece of memory. Contracts see its place, its key, its time and its values.
-#[derive(Debug, Drop)]
+#[derive(Drop)]
 pub struct FedRow {
     epoch: u32,
     stream: u32,

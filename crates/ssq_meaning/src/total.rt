@@ -3,7 +3,7 @@
 use ssq_value::Value;
 
 /// What the rows of a group come to so far, for one aggregate. NULLs are skipped.
-#[derive(Debug, Drop)]
+#[derive(Drop)]
 pub enum Total {
     /// `COUNT`: how many values there are.
     Count(u64),

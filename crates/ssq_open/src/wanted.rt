@@ -8,7 +8,7 @@ use ssq_store::Store;
 use ssq_value::{Sequence, Text};
 
 /// The lines that were found in the parts of a query's streams.
-#[derive(Debug, Drop)]
+#[derive(Drop)]
 pub struct Lens {
     /// For each stream, in the query's order, how many lines are found in each of its parts, in order.
     pub streams: Sequence<Sequence<u64>>,
@@ -32,7 +32,7 @@ pub(crate) struct Wanted<'a> {
 }
 
 /// What a checkpoint holds of a job.
-#[derive(Debug, Drop)]
+#[derive(Drop)]
 pub struct Opened {
     /// The record of the job, with its partitions and parts as kept.
     pub meta: Meta,

@@ -1,7 +1,7 @@
 //! The gate that each task passes as it begins.
 
 /// A task of an epoch.
-#[derive(Clone, Copy, Debug, PartialEq, Eq)]
+#[derive(Clone, Copy)]
 pub struct TaskId {
     /// The epoch, from 0.
     pub epoch: u32,
@@ -12,7 +12,7 @@ pub struct TaskId {
 }
 
 /// What a task does.
-#[derive(Clone, Copy, Debug, PartialEq, Eq)]
+#[derive(Clone, Copy, Debug)]
 pub enum Kind {
     /// Reads the new lines of a part.
     Map,

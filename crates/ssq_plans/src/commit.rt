@@ -11,7 +11,7 @@ use ssq_value::Sequence;
 use std::alloc::{AllocError, Global};
 
 /// What was read by the end of an epoch.
-#[derive(Debug, Drop)]
+#[derive(Drop)]
 pub struct Commit {
     pub epoch: u32,
     /// The watermarked streams in the query's order.

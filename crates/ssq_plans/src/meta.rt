@@ -12,7 +12,7 @@ use std::alloc::{AllocError, Global};
 use std::str;
 
 /// The job that a checkpoint is of.
-#[derive(Debug, Drop)]
+#[derive(Drop)]
 pub struct Meta {
     /// How many partitions the state has: 1 to 64.
     pub partitions: u32,

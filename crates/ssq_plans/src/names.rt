@@ -13,7 +13,7 @@ use std::fmt;
 /// A name, shown as its text: the path of its file inside the checkpoint, at most 36 bytes of ASCII.
 ///
 /// Shown to a fixed buffer it takes no memory.
-#[derive(Clone, Copy, Debug, PartialEq, Eq)]
+#[derive(Clone, Copy)]
 pub struct NameText(pub Name);
 
 impl fmt::Display for NameText {

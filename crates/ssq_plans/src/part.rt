@@ -1,7 +1,7 @@
 //! The ends of parts.
 
 /// How far a part is to be read.
-#[derive(Clone, Copy, Debug)]
+#[derive(Clone, Copy)]
 pub struct PartEnd {
     /// The stream's place in the query's order, from 0.
     pub stream: u32,

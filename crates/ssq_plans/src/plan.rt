@@ -15,7 +15,7 @@ use ssq_value::Sequence;
 use std::alloc::{AllocError, Global};
 
 /// What an epoch is to read, from where the epoch before ended.
-#[derive(Debug, Drop)]
+#[derive(Drop)]
 pub struct Plan {
     pub epoch: u32,
     /// The watermark before the epoch, in microseconds since 1970-01-01T00:00:00Z.

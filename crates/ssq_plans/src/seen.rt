@@ -1,7 +1,7 @@
 //! The greatest event times of streams.
 
 /// The greatest event time of a watermarked stream.
-#[derive(Clone, Copy, Debug)]
+#[derive(Clone, Copy)]
 pub struct SeenBy {
     /// The stream's place in the query's order, from 0.
     pub stream: u32,

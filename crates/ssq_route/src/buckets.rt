@@ -10,7 +10,7 @@ use std::marker::Model;
 use std::mem;
 
 /// A bucket of items for each partition. Contracts see the list of the buckets.
-#[derive(Debug, Drop)]
+#[derive(Drop)]
 pub struct Buckets<T> {
     buckets: Vec<Vec<T>>,
     partitions: u32,
@@ -55,7 +55,6 @@ impl<T: Drop> Buckets<T> {
 
     /// Puts the item into the bucket of its key, behind those that are there. After an `Err` the item is gone and
     /// the buckets are as they were.
-    #[inline(always)]
     pub fn add(&mut self, key: &[u8], item: T) -> Result<(), AllocError>
         ensures added { OnOk result (
             let at = place_of key.now (length self.old) in

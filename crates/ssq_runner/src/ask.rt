@@ -1,7 +1,7 @@
 //! What is asked of a run.
 
 /// What is asked of a run, beside its query.
-#[derive(Clone, Copy, Debug)]
+#[derive(Clone, Copy)]
 pub struct Ask {
     /// How many partitions there are, 1 to 64. Where that is not asked, they are as kept, and one in a new checkpoint.
     pub partitions: Option<u32>,

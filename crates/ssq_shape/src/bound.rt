@@ -4,7 +4,7 @@ use crate::typed::Typed;
 use ssq_value::{ColType, Schema, Sequence, Text};
 
 /// Which rows an epoch shows.
-#[derive(Clone, Copy, PartialEq, Eq)]
+#[derive(Clone, Copy)]
 pub enum Mode {
     /// Those that will not change any more.
     Append,
@@ -42,7 +42,7 @@ pub struct Grouping {
 }
 
 /// What rows are grouped by. A column is named by its index in the row.
-#[derive(Clone, Copy, PartialEq, Eq)]
+#[derive(Clone, Copy)]
 pub enum GroupKey {
     Column(usize),
     /// The windows that hold the column's time. Sizes are in microseconds, and `slide` is not above `size`.
@@ -54,7 +54,7 @@ pub enum GroupKey {
 }
 
 /// A function of a group's rows.
-#[derive(Clone, Copy, PartialEq, Eq)]
+#[derive(Clone, Copy)]
 pub enum Function {
     Count,
     Sum,
@@ -70,7 +70,7 @@ pub struct Aggregate {
 }
 
 /// Which rows without a partner are shown, joined with NULLs.
-#[derive(Clone, Copy, PartialEq, Eq)]
+#[derive(Clone, Copy)]
 pub enum JoinKind {
     Inner,
     /// Those of the left stream.
@@ -80,7 +80,7 @@ pub enum JoinKind {
 }
 
 /// `l.c = r.c`: the columns' indices, each in the row of its own stream.
-#[derive(Clone, Copy, PartialEq, Eq)]
+#[derive(Clone, Copy)]
 pub struct KeyPair {
     pub left: usize,
     pub right: usize,
@@ -88,7 +88,7 @@ pub struct KeyPair {
 
 /// `r.t BETWEEN l.t + lo AND l.t + hi`: the columns' indices, each in the row of its own stream, and microseconds. `lo`
 /// is not above 0, and `hi` not below.
-#[derive(Clone, Copy, PartialEq, Eq)]
+#[derive(Clone, Copy)]
 pub struct TimeBound {
     pub left: usize,
     pub right: usize,
@@ -109,14 +109,14 @@ pub struct Joining {
 }
 
 /// Whether the least comes first or the greatest.
-#[derive(Clone, Copy, PartialEq, Eq)]
+#[derive(Clone, Copy)]
 pub enum Direction {
     Ascending,
     Descending,
 }
 
 /// What ORDER BY sorts by: the output of this index.
-#[derive(Clone, Copy, PartialEq, Eq)]
+#[derive(Clone, Copy)]
 pub struct SortKey {
     pub output: usize,
     pub direction: Direction,

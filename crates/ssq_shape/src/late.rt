@@ -7,7 +7,7 @@ ghost use Rattle.ssq_shape.specs.Late.{event_of, is_event, is_window_of, is_colu
 use crate::bound::{Bound, GroupKey, JoinKind, Mode, Shape, Stream};
 
 /// The time by which lateness is tested.
-#[derive(Clone, Copy, PartialEq, Eq)]
+#[derive(Clone, Copy)]
 pub enum TimeKey {
     /// The end of the window, which is over the event column.
     WindowEnd,

@@ -4,7 +4,7 @@ use sqlite_items::Boxed;
 use ssq_value::Value;
 
 /// An operator on two whole numbers.
-#[derive(Clone, Copy, PartialEq, Eq)]
+#[derive(Clone, Copy)]
 pub enum Arithmetic {
     Plus,
     Minus,
@@ -16,7 +16,7 @@ pub enum Arithmetic {
 }
 
 /// How two values of one type are compared.
-#[derive(Clone, Copy, PartialEq, Eq)]
+#[derive(Clone, Copy)]
 pub enum Comparison {
     Equal,
     NotEqual,

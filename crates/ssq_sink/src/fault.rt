@@ -5,7 +5,7 @@ use std::alloc::AllocError;
 use thiserror::Error;
 
 /// Why a table is not written, or not all of it.
-#[derive(Clone, Copy, Debug, PartialEq, Eq, Error)]
+#[derive(Clone, Copy, Debug, Error)]
 pub enum SinkFault {
     /// The first sink file that is absent below another, or is no canonical rows of the query.
     #[error("a sink file is damaged")]

@@ -23,7 +23,7 @@ use ssq_value::Text;
 use std::alloc::Global;
 
 /// How the table is read of the sink files.
-#[derive(Clone, Copy, Debug, PartialEq, Eq)]
+#[derive(Clone, Copy)]
 pub enum Reading {
     /// All rows, one file after the other.
     Each,

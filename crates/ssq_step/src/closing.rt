@@ -22,7 +22,7 @@ use std::marker::Model;
 
 /// The keys of a partition's state by their times, of a join by those of its rows, kept beside its state: those that a watermark closes are found
 /// without a walk over the others. Contracts see the times, in microseconds since 1970, each with the bytes of a key, in order.
-#[derive(Debug, Drop)]
+#[derive(Drop)]
 pub struct Closing(BTreeSet<(i64, Bytes)>);
 
 impl Model for Closing {

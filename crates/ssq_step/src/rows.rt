@@ -15,7 +15,7 @@ use ssq_value::{Row, Value};
 use std::alloc::{AllocError, Global};
 
 /// A row that a join keeps.
-#[derive(Debug, Drop)]
+#[derive(Drop)]
 pub struct KeptRow {
     /// Whether it is of the stream of FROM.
     pub left: bool,

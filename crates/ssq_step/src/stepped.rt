@@ -4,7 +4,7 @@ use ssq_value::Row;
 use ssq_version::Change;
 
 /// What a step changes and shows.
-#[derive(Debug, Drop)]
+#[derive(Drop)]
 pub struct Stepped {
     /// What changes in the state: a key that new rows touch has what they make of it, and a key that is closed goes.
     pub change: Change,

@@ -17,7 +17,7 @@ pub enum ColType {
 }
 
 /// A named column and the type of its values.
-#[derive(Debug, Drop)]
+#[derive(Drop)]
 pub struct Column {
     pub name: Text,
     pub kind: ColType,

@@ -9,7 +9,7 @@ use std::alloc::AllocError;
 use std::marker::Model;
 
 /// The columns of a stream in declared order, at most 64. Contracts see `columns` and `event`.
-#[derive(Debug, Drop)]
+#[derive(Drop)]
 pub struct Schema {
     columns: Vec<Column>,
     event: Option<usize>,

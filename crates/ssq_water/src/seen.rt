@@ -10,7 +10,7 @@ use std::marker::Model;
 
 /// The greatest event time of each stream of a query, in microseconds since 1970: none where a stream isn't watermarked or none of its
 /// rows was read. Contracts see the list of these times, in the order of FROM.
-#[derive(Debug, Drop)]
+#[derive(Drop)]
 pub struct Seen {
     times: Vec<Option<i64>>,
 }
