@@ -23,7 +23,7 @@ use std::alloc::{AllocError, Global};
 use thiserror::Error;
 
 /// Why an out task sealed nothing, or not both files.
-#[derive(Clone, Copy, Debug, PartialEq, Eq, Error)]
+#[derive(Clone, Copy, Debug, Error)]
 pub enum GatherFault {
     /// A file aside failed.
     #[error("the disk failed")]
@@ -91,11 +91,14 @@ fn push_rows(all: &mut Vec<Row>, rows: Vec<Row>) -> Result<(), AllocError>
     Ok(())
 }
 
-/// The rows of all partitions, one partition after the other.
+/// The rows of all partitions, one partition after the other. Those of the first stay where they are.
 fn all_rows(alloc: Global, partitions: Vec<Vec<Row>>) -> Result<Vec<Row>, AllocError>
     ensures { IfOk result (λ all. all.items ≡ joined_vecs partitions.items) }
 {
-    let mut all = Vec::new(alloc);
+    let mut partitions = partitions.into_iter();
+    let Some(mut all) = partitions.next() else {
+        return Ok(Vec::new(alloc));
+    };
     for rows in partitions {
         push_rows(&mut all, rows)?;
     }
