@@ -1,2 +1,3 @@
 mod Exact
+mod Layers
 mod Making

@@ -44,7 +44,7 @@ impl From<AllocError> for StoreFault {
 }
 
 /// Why a file of the state is not sealed.
-#[derive(Clone, Copy, Debug, PartialEq, Eq, Error)]
+#[derive(Clone, Copy, Debug, Error)]
 pub enum SealFault {
     /// The file aside failed.
     #[error("the disk failed")]

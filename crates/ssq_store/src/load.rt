@@ -18,7 +18,11 @@ use ssq_version::{
 use std::alloc::{AllocError, Global};
 
 /// What was read, where it is of this partition and version.
-fn of_version<T: Drop>(read: Option<(u32, u32, T)>, partition: u32, version: u32) -> Option<T>
+pub(crate) fn of_version<T: Drop>(
+    read: Option<(u32, u32, T)>,
+    partition: u32,
+    version: u32,
+) -> Option<T>
     ensures found { IfSome result (λ kept. read ≡ Some (partition, version, kept)) }
     ensures each { (kept : T) → read ≡ Some (partition, version, kept) → result ≡ Some kept }
 {
@@ -31,7 +35,7 @@ fn of_version<T: Drop>(read: Option<(u32, u32, T)>, partition: u32, version: u32
 }
 
 /// The state whose file these bytes are, of this partition and version.
-pub(crate) fn state_in(
+fn state_in(
     alloc: Global,
     text: &[u8],
     partition: u32,
@@ -49,7 +53,7 @@ pub(crate) fn state_in(
 }
 
 /// The change of this state whose file these bytes are, of this partition and version.
-pub(crate) fn change_in(
+fn change_in(
     alloc: Global,
     text: &[u8],
     partition: u32,

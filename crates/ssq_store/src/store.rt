@@ -15,7 +15,7 @@ use ssq_version::{Change, StateMap, apply_owned, write_news};
 use std::alloc::{AllocError, Global};
 
 /// The state of a partition at a version.
-#[derive(Debug, Drop)]
+#[derive(Drop)]
 pub struct Store {
     pub partition: u32,
     /// The last version that it holds, which is the number of the epoch that wrote it: none before the first.

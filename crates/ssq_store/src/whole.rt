@@ -10,7 +10,7 @@ use crate::fault::SnapshotFault;
 use crate::listed::made_by;
 use ssq_field::Bytes;
 use ssq_outside::{Name, Stage};
-use ssq_version::write_snapshot;
+use ssq_version::write_given;
 use std::alloc::Global;
 
 /// Writes the state that the files make at a version of a partition as its snapshot, and seals it. The files are the newest snapshot not
@@ -56,8 +56,8 @@ fn write_state<S: Stage>(
     ensures cause { IfErr result (λ fault. SnapshotRises fault (S.faults stage.old) (S.faults stage.new)) }
     ensures unfailed { IfErr result (λ fault. IsApart fault (S.faults stage.old) (S.faults stage.new)) }
 {
-    let state = made_by(alloc, files, partition, version as u64 + 1)?;
-    let text = write_snapshot(alloc, partition, version, &state)?;
+    let entries = made_by(alloc, files, partition, version as u64 + 1)?;
+    let text = write_given(alloc, partition, version, entries.as_slice())?;
     stage.write(text.as_slice())?;
     Ok(())
 }

@@ -72,7 +72,7 @@ short_values (entry ∷ change) all = go entry.1 all.0 (short_values change all.
 pub given_ascends : (change : Change) (made : State) → IsChange change → made ≡ given_by change → Ascends made
 given_ascends change made kept given = subst (Ascends {X = List ℕ}) (sym given) (ascend_given change kept.ascend)
 
-given_kept : (change : Change) → IsChange change → IsState (given_by change)
+pub given_kept : (change : Change) → IsChange change → IsState (given_by change)
 given_kept change kept = record {
   ascend = ascend_given change kept.ascend;
   keys = All-from_recursion IsShort (keys_of (given_by change)) (short_keys change (recursion_from_All IsShort (keys_of change) kept.keys));
@@ -80,7 +80,7 @@ given_kept change kept = record {
 }
 
 -- what a key has in them is what the change gives it
-given_at : (change : Change) → Ascends change → (key : List ℕ) → value_at (given_by change) key ≡ value_after (value_at change key) None
+pub given_at : (change : Change) → Ascends change → (key : List ℕ) → value_at (given_by change) key ≡ value_after (value_at change key) None
 given_at [] ascend key = refl
 given_at (entry ∷ change) ascend key =
     let behind : Ascends change = ascends_behind entry.0 entry.1 change ascend in

@@ -1,7 +1,9 @@
 pub mod Collected
 pub mod Drafted
 pub mod Filling
+pub mod Found
 mod Kept
+pub mod Laid
 pub mod Leading
 pub mod LastSaid
 mod Listing

@@ -161,3 +161,12 @@ all_with prefix entries = filter (λ entry. begins_with prefix entry.0) entries
 -- the entries from a key on
 abbrev pub from_key : {X : Type 0} → List ℕ → List (List ℕ × X) → List (List ℕ × X)
 from_key key entries = filter (λ entry. is_le (by_bytes key entry.0)) entries
+
+-- older entries with newer ones put among them, each in place of what was said of its key
+abbrev pub laid : {X : Type 0} → List (List ℕ × X) → List (List ℕ × X) → List (List ℕ × X)
+laid [] older = older
+laid (entry ∷ newer) older = laid newer (insert_entry by_bytes older entry.0 entry.1)
+
+-- the state of older entries with newer ones over them: what they say that keys have
+abbrev pub layered : Change → Change → State
+layered older newer = given_by (laid newer older)

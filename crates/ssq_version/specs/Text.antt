@@ -1,7 +1,8 @@
 -- The bytes of the files of the state. All numbers have the highest byte first.
-use Rattle.std.specs.Prelude.{◌≡◌, ℕ, ◌<◌, ◌^◌, List, [], ◌∷◌, ◌++◌, length, flat_map, Option, Some, None, codes}
+use Rattle.std.specs.Prelude.{◌≡◌, ℕ, ◌<◌, ◌^◌, List, [], ◌∷◌, ◌++◌, length, map, flat_map, Option, Some, None, option_copied, codes}
 use Rattle.std.specs.Int.{w32, w64, to_be_bytes}
 use Rattle.std.specs.List.{AllByRecursion}
+use Rattle.ssq_version.specs.declared.entry.Entry.{Entry}
 use Rattle.ssq_version.specs.declared.form.Form.{Form}
 use Rattle.ssq_version.specs.declared.form.Form.TheVariants as form
 use Rattle.std.specs.declared.cmp.Ordering.TheVariants.{Less}
@@ -101,3 +102,7 @@ pub record AreFilesApart : Type 0 where
       → delta_text p v one ≡ delta_text q w other → (p ≡ q) × (v ≡ w) × (one ≡ other)
   pub snapshots : (p v q w : ℕ) (one other : State) → p < 2 ^ 32 → v < 2 ^ 32 → q < 2 ^ 32 → w < 2 ^ 32 → IsState one → IsState other → length one < 2 ^ 64 → length other < 2 ^ 64
       → snapshot_text p v one ≡ snapshot_text q w other → (p ≡ q) × (v ≡ w) × (one ≡ other)
+
+-- entries where they lie in a file's bytes, as a change
+abbrev pub shown : List Entry → Change
+shown entries = map (λ entry. (entry.key.now, option_copied entry.value)) entries

@@ -12,7 +12,7 @@ use std::marker::Model;
 
 /// What a version changes in the state of a partition: for each key in it the new value, or none where the key goes. Contracts see the
 /// list of keys with these, in the order of the keys' bytes. A key and a value have fewer than 2^32 bytes each.
-#[derive(Debug, Drop)]
+#[derive(Drop)]
 pub struct Change(pub(crate) BTreeMap<Bytes, Option<Bytes>>);
 
 impl Model for Change {

@@ -10,7 +10,7 @@ use std::marker::Model;
 
 /// What a version changes, in the making: it is said entry by entry, in any order of the keys, and put in order once. Contracts see the entries, the
 /// last one first: of each key that one counts.
-#[derive(Debug, Drop)]
+#[derive(Drop)]
 pub struct Draft(Vec<(Bytes, Option<Bytes>)>);
 
 impl Model for Draft {

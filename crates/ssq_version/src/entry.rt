@@ -11,19 +11,27 @@ use ssq_field::{Bytes, put_be32, take_be32};
 use std::alloc::AllocError;
 
 /// An entry in the bytes of a file: a key, and its value, or none where the key goes.
-#[derive(Clone, Copy, Debug)]
+#[derive(Clone, Copy)]
 pub struct Entry<'a> {
     pub key: &'a [u8],
     pub value: Option<&'a [u8]>,
 }
 
 /// Appends the bytes behind their length.
-pub(crate) fn put_field(out: &mut Bytes, bytes: &Bytes) -> Result<(), AllocError>
+pub(crate) fn put_slice(out: &mut Bytes, bytes: &[u8]) -> Result<(), AllocError>
     requires { IsShort bytes.now }
     ensures { OnOk result (out.new ≡ out.old ++ field bytes.now) }
 {
     put_be32(out, bytes.len() as u32)?;
-    out.extend(bytes.as_slice())
+    out.extend(bytes)
+}
+
+/// The same.
+pub(crate) fn put_field(out: &mut Bytes, bytes: &Bytes) -> Result<(), AllocError>
+    requires { IsShort bytes.now }
+    ensures { OnOk result (out.new ≡ out.old ++ field bytes.now) }
+{
+    put_slice(out, bytes.as_slice())
 }
 
 /// Appends the entry of a key in a delta.
@@ -47,16 +55,6 @@ pub(crate) fn put_changed(
             put_field(out, key)
         }
     }
-}
-
-/// Appends the entry of a key in a snapshot.
-pub(crate) fn put_kept(out: &mut Bytes, key: &Bytes, value: &Bytes) -> Result<(), AllocError>
-    requires key { IsShort key.now }
-    requires value { IsShort value.now }
-    ensures { OnOk result (out.new ≡ out.old ++ kept_text key.now (Some value.now)) }
-{
-    put_field(out, key)?;
-    put_field(out, value)
 }
 
 /// So many bytes in front, and what follows them.

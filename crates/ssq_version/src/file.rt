@@ -12,7 +12,7 @@ use ssq_field::{Bytes, put_be32, put_be64, take_be64};
 use std::alloc::{AllocError, Global};
 
 /// A file of the state in its bytes: the partition and the version that it is of, and its entries.
-#[derive(Clone, Copy, Debug)]
+#[derive(Clone, Copy)]
 pub struct StateFile<'a> {
     pub partition: u32,
     pub version: u32,

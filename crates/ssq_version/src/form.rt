@@ -4,7 +4,7 @@ ghost use Rattle.std.specs.Prelude.{◌≡◌, ◌≢◌, ◌++◌, ℕ, List, M
 ghost use Rattle.ssq_version.specs.Text.{first_word};
 
 /// The kinds of files that keep the state of a partition.
-#[derive(Clone, Copy, Debug, PartialEq, Eq)]
+#[derive(Clone, Copy)]
 pub enum Form {
     /// What a version changed.
     Delta,

@@ -1,61 +1,16 @@
 //! The file of a whole state.
 
-ghost use Rattle.std.specs.Prelude.{◌≡◌, ◌<◌, ◌++◌, ◌^◌, ℕ, List, Some, None, length, IfOk, IfSome, OnOk};
+ghost use Rattle.std.specs.Prelude.{◌≡◌, ◌<◌, ◌^◌, ℕ, List, Some, length, IfOk, IfSome};
 ghost use Rattle.std.specs.List.{AllByRecursion};
 ghost use Rattle.ssq_version.specs.State.{State as Kept, IsState};
 ghost use Rattle.ssq_version.specs.Text.{snapshot_text, entries_text, IsSpelled, IsFile, said_of};
 ghost use Rattle.ssq_version.specs.declared.form.Form.TheVariants.{Snapshot};
 
 use crate::entries::{kept_entries, map_of};
-use crate::entry::put_kept;
-use crate::file::{StateFile, begin, read_file};
+use crate::file::{StateFile, read_file};
 use crate::form::Form;
 use crate::state::StateMap;
-use ssq_field::Bytes;
 use std::alloc::{AllocError, Global};
-
-/// Appends the entries of a state.
-fn put_state(out: &mut Bytes, state: &StateMap) -> Result<(), AllocError>
-    ensures { OnOk result (out.new ≡ out.old ++ entries_text Snapshot (said_of state.now)) }
-{
-    for (key, value) in state.0.iter() {
-        put_kept(out, key, value)?;
-    }
-    Ok(())
-}
-
-/// How many bytes the file of a state takes, so that it grows but once.
-fn room(state: &StateMap) -> usize {
-    let mut room: usize = 24;
-    for (key, value) in state.0.iter() {
-        room = room
-            .saturating_add(8)
-            .saturating_add(key.len())
-            .saturating_add(value.len());
-    }
-    room
-}
-
-/// The file of the whole state of a partition at a version.
-pub fn write_snapshot(
-    alloc: Global,
-    partition: u32,
-    version: u32,
-    state: &StateMap,
-) -> Result<Bytes, AllocError>
-    ensures { IfOk result (λ text. text ≡ snapshot_text partition version state.now) }
-{
-    let mut out = begin(
-        alloc,
-        Form::Snapshot,
-        partition,
-        version,
-        state.len() as u64,
-        room(state),
-    )?;
-    put_state(&mut out, state)?;
-    Ok(out)
-}
 
 /// The state in a file that was read.
 fn state_in(alloc: Global, file: StateFile<'_>) -> Result<StateMap, AllocError>

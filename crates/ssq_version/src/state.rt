@@ -12,7 +12,7 @@ use std::ops::Bound;
 
 /// What a partition keeps: the value of each of its keys. Contracts see the list of keys with their values, in the order of the keys'
 /// bytes. A key and a value have fewer than 2^32 bytes each.
-#[derive(Debug, Drop)]
+#[derive(Drop)]
 pub struct StateMap(pub(crate) BTreeMap<Bytes, Bytes>);
 
 impl Model for StateMap {
