@@ -202,12 +202,13 @@ fn paired<'a>(
 }
 
 /// What a row of a stream hands on. WHERE is evaluated first, and where it is TRUE the items of SELECT or the arguments of the aggregates, from
-/// the left; for a join nothing is.
+/// the left; for a join nothing is. The room of a row that is not handed on itself is given back.
 pub(crate) fn handed_on<'a>(
     alloc: Global,
     bound: &'a Bound,
     stream: u32,
     row: Row,
+    room: &mut Vec<Value>,
 ) -> Result<HandedOn<'a>, EvalFault>
     requires windows { HasWindows bound.now }
     requires read { IsReadRow row }
@@ -216,8 +217,16 @@ pub(crate) fn handed_on<'a>(
 {
     match &bound.shape {
         Shape::Group(grouping) => grouped(alloc, bound, grouping, row),
-        Shape::Dedup(columns) => distinguished(alloc, bound, columns.as_slice(), row.as_slice()),
+        Shape::Dedup(columns) => {
+            let handed = distinguished(alloc, bound, columns.as_slice(), row.as_slice())?;
+            *room = row.into_vec();
+            Ok(handed)
+        },
         Shape::Join(joining) => Ok(paired(alloc, joining, stream, row)?),
-        Shape::Plain => shown(alloc, bound, row.as_slice()),
+        Shape::Plain => {
+            let handed = shown(alloc, bound, row.as_slice())?;
+            *room = row.into_vec();
+            Ok(handed)
+        },
     }
 }

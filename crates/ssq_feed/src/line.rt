@@ -11,11 +11,12 @@ use crate::fault::FeedFault;
 use crate::handed::{HandedOn, handed_on};
 use crate::times::time_at;
 use ssq_expr::EvalFault;
-use ssq_json::{BadRow, read_row};
+use ssq_json::{BadRow, read_row_in};
 use ssq_outside::{LineError, Log};
 use ssq_shape::Bound;
 use ssq_value::{Schema, Value};
 use std::alloc::Global;
+use std::mem;
 
 /// What a line gives; a blank one gives nothing.
 #[derive(Drop)]
@@ -52,7 +53,7 @@ fn event_time(schema: &Schema, row: &[Value]) -> Option<i64>
     time_at(row, schema.event()?)
 }
 
-/// What the bytes of the line at an offset give.
+/// What the bytes of the line at an offset give. The row is read in the room of one before, and leaves it for the next where it is handed on otherwise.
 pub(crate) fn take_line<'a>(
     alloc: Global,
     bound: &'a Bound,
@@ -60,6 +61,7 @@ pub(crate) fn take_line<'a>(
     schema: &Schema,
     at: u64,
     line: &[u8],
+    room: &mut Vec<Value>,
 ) -> Result<LineGift<'a>, FeedFault>
     requires schema { schema.now ≡ layout_at bound.now stream }
     requires windows { HasWindows bound.now }
@@ -67,14 +69,15 @@ pub(crate) fn take_line<'a>(
     ensures fit { IfOk result (λ gift. IsFitHanded gift.handed) }
     ensures fault { IfErr result (LineCause bound.now stream line.now at) }
 {
-    match read_row(alloc, line, schema) {
+    let row = read_row_in(alloc, line, schema, mem::replace(room, Vec::new(alloc)));
+    match row {
         Ok(None) => Ok(LineGift {
             time: None,
             handed: HandedOn::Nothing,
         }),
         Ok(Some(row)) => {
             let time = event_time(schema, row.as_slice());
-            match handed_on(alloc, bound, stream, row) {
+            match handed_on(alloc, bound, stream, row, room) {
                 Ok(handed) => Ok(LineGift { time, handed }),
                 Err(EvalFault::Overflow) => Err(FeedFault::Overflow { offset: at }),
                 Err(EvalFault::NoMemory) => Err(FeedFault::NoMemory),

@@ -50,11 +50,20 @@ pub(crate) fn feed_lines<L: Log>(
     ensures log { LogWent L.tells L.lines L.available L.answers L.faults log.old log.new }
 {
     let mut line = Vec::new(alloc);
+    let mut room = Vec::new(alloc);
     let mut time = None;
     let mut dealer = Dealer::new(alloc, view.partitions)?;
     for at in from..to {
         read_line(log, at, to, &mut line)?;
-        let gift = take_line(alloc, view.bound, stream, schema, at, line.as_slice())?;
+        let gift = take_line(
+            alloc,
+            view.bound,
+            stream,
+            schema,
+            at,
+            line.as_slice(),
+            &mut room,
+        )?;
         time = later(time, gift.time);
         let origin = Origin {
             epoch,
