@@ -52,7 +52,7 @@ pub enum UnaryOp {
 }
 
 /// An operator between two operands.
-#[derive(Clone, Copy)]
+#[derive(Clone, Copy, PartialEq, Eq)]
 pub enum BinaryOp {
     Or,
     And,

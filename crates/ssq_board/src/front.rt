@@ -86,7 +86,7 @@ pub struct Front {
 }
 
 /// What may be done next.
-#[derive(Clone, Copy)]
+#[derive(Clone, Copy, PartialEq, Eq)]
 pub enum Ready {
     /// The next epoch is to be planned.
     Plan,

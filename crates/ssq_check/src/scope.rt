@@ -19,7 +19,7 @@ pub struct Source {
 }
 
 /// The stream of FROM or that of JOIN.
-#[derive(Clone, Copy)]
+#[derive(Clone, Copy, PartialEq, Eq)]
 pub enum Side {
     Left,
     Right,

@@ -5,7 +5,7 @@ ghost use Rattle.ssq_lex.specs.Spelling.{EachIsRead};
 ghost use Rattle.ssq_lex.specs.Spelling.{keyword_spelling, keyword_of};
 
 /// A word of the language. It is read in any case of letters, and is never a name.
-#[derive(Clone, Copy, Debug)]
+#[derive(Clone, Copy, Debug, PartialEq, Eq)]
 pub enum Keyword {
     Create,
     Stream,

@@ -4,7 +4,7 @@ ghost use Rattle.std.specs.Prelude.{◌≡◌};
 ghost use Rattle.ssq_lex.specs.Spelling.{symbol_spelling, short_symbol, long_symbol};
 
 /// A symbol of the language.
-#[derive(Clone, Copy, Debug)]
+#[derive(Clone, Copy, Debug, PartialEq, Eq)]
 pub enum Symbol {
     /// `(`
     LeftParen,

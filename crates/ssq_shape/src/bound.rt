@@ -4,7 +4,7 @@ use crate::typed::Typed;
 use ssq_value::{ColType, Schema, Sequence, Text};
 
 /// Which rows an epoch shows.
-#[derive(Clone, Copy)]
+#[derive(Clone, Copy, PartialEq, Eq)]
 pub enum Mode {
     /// Those that will not change any more.
     Append,
@@ -70,7 +70,7 @@ pub struct Aggregate {
 }
 
 /// Which rows without a partner are shown, joined with NULLs.
-#[derive(Clone, Copy)]
+#[derive(Clone, Copy, PartialEq, Eq)]
 pub enum JoinKind {
     Inner,
     /// Those of the left stream.

@@ -46,7 +46,7 @@ pub fn read_entries<'a>(
     Ok(Some((file.partition, file.version, entries)))
 }
 
-/// Whether the key of an entry comes before another key.
+/// How the key of an entry stands to another key.
 fn order_of(entry: &Entry<'_>, key: &[u8]) -> Ordering
     ensures { result ≡ by_bytes entry.now.key.now key.now }
 {
