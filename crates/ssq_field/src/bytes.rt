@@ -1,56 +1,81 @@
 //! Bytes, as contracts see them: a list of numbers.
 
-ghost use Rattle.std.specs.Prelude.{◌≡◌, ◌==◌, ◌+◌, ◌≤◌, [], ◌++◌, length, take, IfOk, OnOk, OnErr};
+ghost use Rattle.std.specs.Prelude.{◌≡◌, ◌==◌, ◌+◌, ◌≤◌, [], ◌++◌, length, take, true, false, IfOk, OnOk, OnErr};
 ghost use Rattle.std.specs.Ordering.{nat_cmp};
 ghost use Rattle.std.specs.Cmp.Lexicographic.{slice_cmp};
+ghost use Rattle.ssq_field.specs.Kept.{bytes_in};
 
 use std::alloc::{AllocError, Global};
 use std::cmp::Ordering;
 use std::fmt;
 use std::marker::Model;
 
-/// How many bytes stand in the value itself, which takes 64 with them.
-const FEW: usize = 39;
+/// How many bytes stand in the value itself, which takes 40 with them.
+const FEW: usize = 38;
 
 /// Bytes that grow. A few stand in the value itself, so that a short key is compared where it lies, and takes no memory of its own.
-#[derive(Drop)]
 pub struct Bytes {
-    /// The bytes in front are `few`, so many. There are none where there are `many`.
+    alloc: Global,
+    kept: Kept,
+}
+
+/// Where the bytes stand.
+#[derive(Drop)]
+enum Kept {
+    Few(Few),
+    Many(Vec<u8>),
+}
+
+/// At most 38 bytes: the first `len` of all.
+#[derive(Drop)]
+struct Few {
     len: u8,
-    few: [u8; FEW],
-    many: Vec<u8>,
+    all: [u8; FEW],
 }
 
 impl Model for Bytes {
-    ghost use Rattle.std.specs.Prelude.{◌≡◌, ◌≤◌, ◌<◌, ◌++◌, List, ℕ, length, take};
+    ghost use Rattle.std.specs.Prelude.{List, ℕ};
 
     ghost Value = { List ℕ };
 
-    ghost view = { λ bytes. take bytes.len bytes.few ++ bytes.many.items };
+    ghost use Rattle.ssq_field.specs.Kept.{bytes_in};
 
-    ghost invariant = { λ bytes. (bytes.len ≤ 39) × (0 < length bytes.many.items → bytes.len ≡ 0) };
+    ghost view = { λ bytes. bytes_in bytes.kept };
+}
+
+impl Model for Few {
+    ghost use Rattle.std.specs.Prelude.{◌≤◌, List, ℕ, take};
+
+    ghost Value = { List ℕ };
+
+    ghost view = { λ few. take few.len few.all };
+
+    ghost invariant = { λ few. few.len ≤ 38 };
+}
+
+/// Whoever lets bytes go proves one call, and not a step for each place where they may stand.
+impl Drop for Bytes {
+    fn drop(self) {
+        let Bytes { alloc: _, kept: _ } = self;
+    }
 }
 
 /// Writes the bytes behind the first `len`.
 fn put_behind(few: &mut [u8; FEW], len: usize, bytes: &[u8])
-    requires { len + length bytes.now ≤ 39 }
+    requires { len + length bytes.now ≤ 38 }
     ensures { take (len + length bytes.now) few.new ≡ take len few.old ++ bytes.now }
 {
     few[len..len + bytes.len()].copy_from_slice(bytes);
 }
 
-/// Puts both into the buffer, where there is nothing yet. An `Err` changes nothing.
-fn put_all(many: &mut Vec<u8>, front: &[u8], bytes: &[u8]) -> Result<(), AllocError>
-    requires { many.old.items ≡ [] }
-    ensures ok { OnOk result (many.new.items ≡ front.now ++ bytes.now) }
-    ensures err { OnErr result (many.new.items ≡ []) }
+/// Both, one behind the other.
+fn joined(alloc: Global, front: &[u8], bytes: &[u8]) -> Result<Vec<u8>, AllocError>
+    ensures { IfOk result (λ made. made.items ≡ front.now ++ bytes.now) }
 {
-    many.extend_from_slice(front)?;
-    let put = many.extend_from_slice(bytes);
-    if put.is_err() {
-        many.clear();
-    }
-    put
+    let mut made = Vec::with_capacity(alloc, front.len() + bytes.len())?;
+    made.extend_from_slice(front)?;
+    made.extend_from_slice(bytes)?;
+    Ok(made)
 }
 
 /// Which bytes come first, by eight at a time, which are in the order of the numbers that they spell.
@@ -71,15 +96,93 @@ fn order(left: &[u8], right: &[u8]) -> Ordering
     left.cmp(&right)
 }
 
+impl Few {
+    fn new() -> Few
+        ensures { result ≡ [] }
+    {
+        Few {
+            len: 0,
+            all: [0; FEW],
+        }
+    }
+
+    fn as_slice(&self) -> &[u8]
+        ensures { result.now ≡ self.now }
+    {
+        &self.all[..self.len as usize]
+    }
+
+    /// Appends a copy of the bytes, where there is room for it.
+    fn extend(&mut self, bytes: &[u8]) -> bool
+        ensures there { result ≡ true → self.new ≡ self.old ++ bytes.now }
+        ensures no_room { result ≡ false → self.new ≡ self.old }
+    {
+        let len = self.len as usize;
+        let fits = bytes.len() <= FEW - len;
+        if fits {
+            put_behind(&mut self.all, len, bytes);
+            self.len = (len + bytes.len()) as u8;
+        }
+        fits
+    }
+
+    /// Keeps the first `len` bytes.
+    fn truncate(&mut self, len: usize)
+        ensures { self.new ≡ take len self.old }
+    {
+        if len < self.len as usize {
+            self.len = len as u8;
+        }
+    }
+}
+
+impl Kept {
+    /// Appends a copy of the bytes. An `Err` changes nothing.
+    fn extend(&mut self, alloc: Global, bytes: &[u8]) -> Result<(), AllocError>
+        ensures ok { OnOk result (bytes_in self.new ≡ bytes_in self.old ++ bytes.now) }
+        ensures err { OnErr result (bytes_in self.new ≡ bytes_in self.old) }
+    {
+        match self {
+            Kept::Few(few) => {
+                if !few.extend(bytes) {
+                    *self = Kept::Many(joined(alloc, few.as_slice(), bytes)?);
+                }
+                Ok(())
+            }
+            Kept::Many(many) => many.extend_from_slice(bytes),
+        }
+    }
+
+    /// Keeps the first `len` bytes, and the memory of all.
+    fn truncate(&mut self, len: usize)
+        ensures { bytes_in self.new ≡ take len (bytes_in self.old) }
+    {
+        match self {
+            Kept::Few(few) => few.truncate(len),
+            Kept::Many(many) => many.truncate(len),
+        }
+    }
+}
+
+/// Copies the bytes.
+fn kept_of(alloc: Global, bytes: &[u8]) -> Result<Kept, AllocError>
+    ensures { IfOk result (λ made. bytes_in made ≡ bytes.now) }
+{
+    let mut few = Few::new();
+    if few.extend(bytes) {
+        return Ok(Kept::Few(few));
+    }
+    Ok(Kept::Many(Vec::from_slice(alloc, bytes)?))
+}
+
 impl Bytes {
     /// No bytes.
     pub fn new(alloc: Global) -> Bytes
         ensures { result ≡ [] }
     {
         Bytes {
-            len: 0,
-            few: [0; FEW],
-            many: Vec::new(alloc),
+            alloc,
+            kept: Kept::Few(Few::new()),
         }
     }
 
@@ -90,10 +193,10 @@ impl Bytes {
         if room <= FEW {
             return Ok(Bytes::new(alloc));
         }
+        let many = Vec::with_capacity(alloc, room)?;
         Ok(Bytes {
-            len: 0,
-            few: [0; FEW],
-            many: Vec::with_capacity(alloc, room)?,
+            alloc,
+            kept: Kept::Many(many),
         })
     }
 
@@ -101,38 +204,30 @@ impl Bytes {
     pub fn from_slice(alloc: Global, bytes: &[u8]) -> Result<Bytes, AllocError>
         ensures { IfOk result (λ made. made ≡ bytes.now) }
     {
-        let mut made = Bytes::new(alloc);
-        made.extend(bytes)?;
-        Ok(made)
+        let kept = kept_of(alloc, bytes)?;
+        Ok(Bytes { alloc, kept })
     }
 
     /// Takes the bytes over: many without a copy, a few into the value itself.
     pub fn from_vec(bytes: Vec<u8>) -> Bytes
         ensures { result ≡ bytes.items }
     {
-        if bytes.len() > FEW {
-            return Bytes {
-                len: 0,
-                few: [0; FEW],
-                many: bytes,
-            };
-        }
-        let mut few = [0; FEW];
-        put_behind(&mut few, 0, bytes.as_slice());
-        Bytes {
-            len: bytes.len() as u8,
-            few,
-            many: Vec::new(*bytes.allocator()),
-        }
+        let alloc = *bytes.allocator();
+        let mut few = Few::new();
+        let kept = if few.extend(bytes.as_slice()) {
+            Kept::Few(few)
+        } else {
+            Kept::Many(bytes)
+        };
+        Bytes { alloc, kept }
     }
 
     pub fn as_slice(&self) -> &[u8]
         ensures { result.now ≡ self.now }
     {
-        if self.many.is_empty() {
-            &self.few[..self.len as usize]
-        } else {
-            self.many.as_slice()
+        match &self.kept {
+            Kept::Few(few) => few.as_slice(),
+            Kept::Many(many) => many.as_slice(),
         }
     }
 
@@ -153,28 +248,14 @@ impl Bytes {
         ensures ok { OnOk result (self.new ≡ self.old ++ bytes.now) }
         ensures err { OnErr result (self.new ≡ self.old) }
     {
-        if !self.many.is_empty() {
-            return self.many.extend_from_slice(bytes);
-        }
-        let len = self.len as usize;
-        if bytes.len() <= FEW - len {
-            put_behind(&mut self.few, len, bytes);
-            self.len = (len + bytes.len()) as u8;
-        } else {
-            put_all(&mut self.many, &self.few[..len], bytes)?;
-            self.len = 0;
-        }
-        Ok(())
+        self.kept.extend(self.alloc, bytes)
     }
 
     /// Keeps the first `len` bytes, and the memory of all.
     pub fn truncate(&mut self, len: usize)
         ensures { self.new ≡ take len self.old }
     {
-        if len < self.len as usize {
-            self.len = len as u8;
-        }
-        self.many.truncate(len);
+        self.kept.truncate(len)
     }
 }
 
@@ -189,7 +270,7 @@ impl Clone for Bytes {
     ghost is_clone = { λ old new. new ≡ old };
 
     fn clone(&self) -> Result<Bytes, AllocError> {
-        Bytes::from_slice(*self.many.allocator(), self.as_slice())
+        Bytes::from_slice(self.alloc, self.as_slice())
     }
 }
 
