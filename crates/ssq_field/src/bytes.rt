@@ -8,6 +8,7 @@ ghost use Rattle.ssq_field.specs.Kept.{bytes_in};
 use std::alloc::{AllocError, Global};
 use std::cmp::Ordering;
 use std::fmt;
+use std::hash::{Hash, Hasher};
 use std::marker::Model;
 
 /// How many bytes stand in the value itself, which takes 40 with them.
@@ -325,5 +326,20 @@ impl Ord for Bytes {
 
     fn cmp(&self, other: &Bytes) -> Ordering {
         order(self.as_slice(), other.as_slice())
+    }
+}
+
+/// As a slice of the bytes.
+impl Hash for Bytes {
+    ghost use Rattle.std.proofs.Common.{ap};
+    ghost use Rattle.std.specs.Cmp.Lexicographic.{bytes_decides};
+    ghost use Rattle.std.specs.Hash as fed;
+
+    ghost hash_input = { fed.slice fed.u8 };
+
+    ghost respects_eq = { λ one other same. ap (fed.slice fed.u8) ((bytes_decides one other).0 same) };
+
+    fn hash<H: Hasher>(&self, state: &mut H) {
+        self.as_slice().hash(state);
     }
 }
