@@ -1,6 +1,5 @@
 pub mod Spellings
 pub mod Totalling
-pub mod Ahead
 pub mod Reading
 pub mod Hashed
 pub mod Taking

@@ -2,7 +2,7 @@
 use Rattle.std.specs.Prelude.{◌≡◌, ◌++◌, ℕ, ℤ, List, [], ◌∷◌, length, Option, Some, IfSome, option_map, option_to_list}
 use Rattle.std.specs.List.{cons_option}
 use Rattle.ssq_value.specs.Key.{keys_of}
-use Rattle.ssq_version.specs.State.{Ascends, State, value_at}
+use Rattle.ssq_version.specs.State.{State, value_at}
 use Rattle.ssq_shape.specs.declared.bound.Aggregate.{Aggregate}
 use Rattle.ssq_shape.specs.declared.bound.Bound.{Bound}
 use Rattle.ssq_shape.specs.declared.bound.Grouping.{Grouping}
@@ -55,11 +55,6 @@ entry_at key value = option_map (λ value. (key, value)) value
 abbrev pub entries_at : State → List (List ℕ) → List Entry
 entries_at state [] = []
 entries_at state (key ∷ keys) = cons_option (entry_at key (value_at state key)) (entries_at state keys)
-
--- some entries of the state, in order
-pub record AreAhead (state ahead : State) : Type 0 where
-  pub ascend : Ascends ahead
-  pub among : (key value : List ℕ) → value_at ahead key ≡ Some value → value_at state key ≡ Some value
 
 -- ---- what a state holds
 

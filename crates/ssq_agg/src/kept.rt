@@ -1,10 +1,9 @@
 //! What a partition keeps of groups, out of the bytes of its state.
 
-ghost use Rattle.std.specs.Prelude.{◌≡◌, All, IfOk, IfSome, OnOk, option_copied};
+ghost use Rattle.std.specs.Prelude.{All, IfOk, OnOk};
 ghost use Rattle.ssq_value.specs.Key.{keys_of};
 ghost use Rattle.ssq_meaning.specs.Fit.{IsFit};
-ghost use Rattle.ssq_version.specs.State.{State as Kept, value_at};
-ghost use Rattle.ssq_agg.specs.Holding.{Adds, AreAhead, AreRead, IsRead, IsReadAt, entries_at, seen};
+ghost use Rattle.ssq_agg.specs.Holding.{Adds, AreRead, IsRead, IsReadAt, entries_at, seen};
 
 use crate::total_bytes::read_totals;
 use crate::totals::Totals;
@@ -13,9 +12,8 @@ use ssq_keys::read_key;
 use ssq_shape::Grouping;
 use ssq_step::bytes_of_key;
 use ssq_value::{Row, Value};
-use ssq_version::{StateMap, states_are_kept};
+use ssq_version::StateMap;
 use std::alloc::{AllocError, Global};
-use std::collections::btree_map::Range;
 
 /// A key with its totals.
 #[derive(Drop)]
@@ -84,41 +82,10 @@ pub(crate) fn all_groups(
     ensures { IfOk result (λ groups. AreRead grouping.now state.now groups.items) }
 {
     let mut groups = Vec::new(alloc);
-    for (key, value) in state.iter() {
+    for (key, value) in state.iter(alloc)? {
         add_group(alloc, grouping, &mut groups, key, value)?;
     }
     Ok(groups)
-}
-
-/// The value of the next entry, where it is this key's.
-fn next_at<'a>(ahead: &mut Range<'a, Bytes, Bytes>, key: &Bytes) -> Option<&'a Bytes>
-    ensures found { (state : Kept) → AreAhead state ahead.old → IfSome result (λ value. value_at state key.now ≡ Some value.now) }
-    ensures ahead { (state : Kept) → AreAhead state ahead.old → AreAhead state ahead.new }
-{
-    let (next, value) = ahead.next()?;
-    if next == key { Some(value) } else { None }
-}
-
-/// The value of a key, with some entries of the state at hand: mostly it is the next of these, since keys that are looked up one after the other often
-/// stand side by side. Else the entries from the key on are at hand from now on.
-fn value_at<'a>(
-    state: &'a StateMap,
-    ahead: &mut Range<'a, Bytes, Bytes>,
-    key: &Bytes,
-) -> Option<&'a Bytes>
-    requires { AreAhead state.now ahead.old }
-    ensures value { option_copied result ≡ value_at state.now key.now }
-    ensures ahead { AreAhead state.now ahead.new }
-{
-    if let Some(value) = next_at(ahead, key) {
-        return Some(value);
-    }
-    states_are_kept(state);
-    *ahead = state.iter_from(key);
-    match next_at(ahead, key) {
-        Some(value) => Some(value),
-        None => state.get(key),
-    }
 }
 
 /// The groups of the state under these keys.
@@ -130,11 +97,9 @@ pub(crate) fn groups_at(
 ) -> Result<Vec<Group>, AllocError>
     ensures { IfOk result (λ groups. AreRead grouping.now (entries_at state.now (seen keys.now)) groups.items) }
 {
-    states_are_kept(state);
-    let mut ahead = state.iter_from(&Bytes::new(alloc));
     let mut groups = Vec::new(alloc);
     for key in keys {
-        let Some(value) = value_at(state, &mut ahead, key) else {
+        let Some(value) = state.get(key) else {
             continue;
         };
         add_group(alloc, grouping, &mut groups, key, value)?;

@@ -18,10 +18,9 @@ use ssq_meaning::{FedRow, join_time};
 use ssq_shape::{Bound, Joining};
 use ssq_step::{KeptRow, read_row};
 use ssq_value::Value;
-use ssq_version::begins_with;
+use ssq_version::{Entries, begins_with};
 use std::alloc::{AllocError, Global};
 use std::collections::BTreeSet;
-use std::collections::btree_map::Range;
 
 /// A new row, with the bytes under which it will be kept.
 #[derive(Clone, Copy)]
@@ -141,7 +140,7 @@ pub(crate) fn meet(
     joining: &Joining,
     comer: Comer<'_>,
     prefix: &Bytes,
-    kept: Range<'_, Bytes, Bytes>,
+    kept: Entries<'_>,
     found: Found,
     met: &mut BTreeSet<Bytes>,
 ) -> Result<Found, AllocError>

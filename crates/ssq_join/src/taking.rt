@@ -1,7 +1,6 @@
 //! The rows of an epoch, taken in turn.
 
 ghost use Rattle.std.specs.Prelude.{◌≡◌, ◌++◌, ◌∷◌, [], Bool, List, None, All, IfOk};
-ghost use Rattle.ssq_version.specs.State.{Ascends, from_key};
 ghost use Rattle.ssq_meaning.specs.FedRows.{FedRow as Fed};
 ghost use Rattle.ssq_meaning.specs.Fit.{IsFitRow};
 ghost use Rattle.ssq_meaning.specs.Join.{row_key};
@@ -20,11 +19,9 @@ use ssq_field::Bytes;
 use ssq_meaning::FedRow;
 use ssq_shape::{Bound, Joining};
 use ssq_value::keys_are_apart;
-use ssq_version::{StateMap, beginnings_stand_together, states_are_kept};
+use ssq_version::{StateMap, beginnings_stand_together, entries_from, states_are_kept};
 use std::alloc::{AllocError, Global};
-use std::collections::btree_map::Range;
 use std::collections::{BTreeMap, BTreeSet};
-use std::ops::Bound as End;
 
 /// What the rows of an epoch come to.
 #[derive(Drop)]
@@ -34,14 +31,6 @@ pub(crate) struct Taken {
     pub(crate) met: BTreeSet<Bytes>,
     /// What would be kept of each row if it met none, by its bytes.
     pub(crate) fresh: BTreeMap<Bytes, Bytes>,
-}
-
-/// The rows from a key on that an epoch has brought so far.
-fn from_key<'a>(fresh: &'a BTreeMap<Bytes, Bytes>, key: &Bytes) -> Range<'a, Bytes, Bytes>
-    ensures entries { result ≡ from_key key.now fresh.now.entries }
-    ensures ascend { Ascends fresh.now.entries }
-{
-    fresh.range((End::Included(key), End::Unbounded))
 }
 
 /// Takes in a new row with each row of the other side that has its join key, among those that are kept and those of the epoch before it.
@@ -68,23 +57,15 @@ fn take_row(
         return Ok(found);
     }
     let prefix = prefix_of(alloc, comer.row.stream() != 0, comer.row.key())?;
-    let between = meet(
-        alloc,
-        bound,
-        joining,
-        comer,
-        &prefix,
-        state.iter_from(&prefix),
-        found,
-        met,
-    )?;
+    let kept = state.iter_from(alloc, &prefix)?;
+    let between = meet(alloc, bound, joining, comer, &prefix, kept, found, met)?;
     meet(
         alloc,
         bound,
         joining,
         comer,
         &prefix,
-        from_key(fresh, &prefix),
+        entries_from(fresh, &prefix),
         between,
         met,
     )

@@ -35,7 +35,13 @@ fn first_opened<D: Disk>(
     ensures cause { IfErr result (λ fault. DiskRises fault (D.faults disk.old) (D.faults disk.new)) }
 {
     let partitions = wanted.partitions.unwrap_or(1);
-    let stores = load_stores(alloc, disk, keeping_in(wanted.keeps, partitions), 0)?;
+    let stores = load_stores(
+        alloc,
+        disk,
+        keeping_in(wanted.keeps, partitions),
+        0,
+        wanted.finding,
+    )?;
     let parts = Sequence::from_vec(Vec::from_slice(alloc, wanted.parts)?);
     let query = wanted.query.clone()?;
     let meta = Meta {

@@ -27,7 +27,7 @@ use crate::lens::{counts_of, found_in};
 use crate::listing::files_of_state;
 use crate::plans::last_ends;
 use crate::stateful::{keeping_in, keeps_state};
-use crate::stores::load_stores;
+use crate::stores::{finding_of, load_stores};
 use crate::streams::{Watermarked, watermarked_among};
 use crate::wanted::{Lens, Opened, Wanted};
 use ssq_outside::{Disk, Name};
@@ -95,7 +95,7 @@ fn kept<D: Disk>(
 {
     let Checked { meta, epochs } = check(alloc, disk, names.as_slice(), wanted)?;
     let keeping = keeping_in(wanted.keeps, meta.partitions);
-    let stores = load_stores(alloc, disk, keeping, epochs.committed)?;
+    let stores = load_stores(alloc, disk, keeping, epochs.committed, wanted.finding)?;
     Ok(Opened {
         meta,
         plans: epochs.plans,
@@ -234,6 +234,7 @@ pub fn open<D: Disk>(
         query: &bound.text,
         streams: asked.streams.as_slice(),
         keeps: keeps_state(&bound.shape),
+        finding: finding_of(bound),
         partitions,
         parts: asked.parts.as_slice(),
         found: asked.found.as_slice(),

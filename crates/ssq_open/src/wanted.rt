@@ -1,6 +1,7 @@
 //! The job that is wanted, and what is found of it.
 
 use crate::stateful::Keeps;
+use crate::stores::Finding;
 use crate::streams::Watermarked;
 use ssq_outside::Name;
 use ssq_plans::{Meta, PartEnd, Plan, SeenBy};
@@ -23,6 +24,8 @@ pub(crate) struct Wanted<'a> {
     pub(crate) streams: &'a [Watermarked],
     /// What the query keeps.
     pub(crate) keeps: Keeps,
+    /// How its operator finds what it keeps.
+    pub(crate) finding: Finding,
     /// How many partitions are asked for, 1 to 64. Where that is not asked, they are as kept, and one in a new checkpoint.
     pub(crate) partitions: Option<u32>,
     /// How many parts each stream has, in the query's order: at most 64 each.

@@ -156,7 +156,7 @@ fn entries_of(
     }
     states_are_kept(state);
     let mut entries = BTreeSet::new(alloc);
-    for (key, _) in state.iter() {
+    for (key, _) in state.iter(alloc)? {
         put_key(alloc, bound, &mut entries, key)?;
     }
     Ok(entries)

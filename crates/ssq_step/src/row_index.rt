@@ -92,7 +92,7 @@ pub(crate) fn row_entries(
 {
     states_are_kept(state);
     let mut entries = BTreeSet::new(alloc);
-    for (key, value) in state.iter() {
+    for (key, value) in state.iter(alloc)? {
         let time = row_time(alloc, bound, joining, key, value)?;
         put_under(&mut entries, key, time)?;
     }

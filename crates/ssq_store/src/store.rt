@@ -74,6 +74,25 @@ impl Store {
         })
     }
 
+    /// The same store, whose keys are found by their hashes from now on, as `StateMap::hashed` says.
+    pub fn hashed(self) -> Result<Store, AllocError>
+        ensures { IfOk result (λ store. store ≡ self) }
+    {
+        let Store {
+            partition,
+            version,
+            state,
+            alloc,
+        } = self;
+        let state = state.hashed(alloc)?;
+        Ok(Store {
+            partition,
+            version,
+            state,
+            alloc,
+        })
+    }
+
     /// The value of a key.
     pub fn get(&self, key: &Bytes) -> Option<&Bytes>
         ensures { option_copied result ≡ value_at self.now.state key.now }

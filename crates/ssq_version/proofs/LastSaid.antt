@@ -41,7 +41,7 @@ last_has {X} P (e ∷ es) all q x is = by (last_at es q) refl (is_at (by_bytes q
         subst (λ k. P (k, x)) (sym (one_key q e.0 at)) (subst (λ y. P (e.0, y)) same all.0)
     by None there false at rest has = absurd cc
 
-each_has : {X : Type 0} (P : List ℕ × X → Type 0) (all left : List (List ℕ × X)) → IsRest all left → ((q : List ℕ) (x : X) → value_at all q ≡ Some x → P (q, x)) → AllByRecursion P left
+pub each_has : {X : Type 0} (P : List ℕ × X → Type 0) (all left : List (List ℕ × X)) → IsRest all left → ((q : List ℕ) (x : X) → value_at all q ≡ Some x → P (q, x)) → AllByRecursion P left
 each_has P all [] rest has = tt
 each_has P all (e ∷ left) rest has =
     let less = less_rest all (e ∷ left) left e.0 e.1 refl rest in

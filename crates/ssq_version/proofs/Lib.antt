@@ -10,5 +10,7 @@ mod Listing
 pub mod Once
 mod Prefixes
 pub mod Spelled
+mod Sorting
+mod Tables
 pub mod Values
 pub mod WhatIsNew

@@ -37,6 +37,11 @@ IsShort bytes = length bytes < 2 ^ 32
 abbrev pub IsShortOrNone : Option (List ℕ) → Type 0
 IsShortOrNone value = IfSome value IsShort
 
+-- the entries in the order of keys; of those with one key the first counts
+abbrev pub in_order : {X : Type 0} → List (List ℕ × X) → List (List ℕ × X)
+in_order [] = []
+in_order (entry ∷ entries) = insert_entry by_bytes (in_order entries) entry.0 entry.1
+
 -- what a key has after a change: what the change says of it, or else what it had
 abbrev pub value_after : Option (Option (List ℕ)) → Option (List ℕ) → Option (List ℕ)
 value_after None old = old

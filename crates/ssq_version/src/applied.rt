@@ -5,7 +5,6 @@ ghost use Rattle.std.specs.BTreeMap.{is_at};
 ghost use Rattle.ssq_version.specs.State.{State as Kept, by_bytes, value_at, given_by, given_first, IsShort, IsShortOrNone, Ascends, IsAfter, IsChangedAt, HasRoom, SaysSame, IsWithout};
 
 use crate::change::{Change, changes_are_kept};
-use crate::entries::map_of;
 use crate::state::{StateMap, states_are_kept};
 use ssq_field::Bytes;
 use std::alloc::{AllocError, Global};
@@ -17,10 +16,7 @@ fn replace(state: &mut StateMap, key: Bytes, value: Bytes)
     requires there { IsSome (value_at state.old key) }
     ensures { IsChangedAt key (Some value) state.old state.new }
 {
-    match state.0.insert(key, value) {
-        Ok(old) => drop(old),
-        Err(refused) => drop(refused),
-    }
+    let _old = state.0.insert(key, value);
 }
 
 /// Takes a key away, where it is there.
@@ -60,8 +56,7 @@ fn add(alloc: Global, state: &mut StateMap, key: &Bytes) -> Result<(), AllocErro
     ensures ok { OnOk result (IsChangedAt key.now (Some []) state.old state.new) }
     ensures err { OnErr result (state.new ≡ state.old) }
 {
-    state.0.insert(key.clone()?, Bytes::new(alloc))?;
-    Ok(())
+    state.0.insert(key.clone()?, Bytes::new(alloc))
 }
 
 /// Puts the key there, unless it is, and notes that.
@@ -164,7 +159,7 @@ fn fill(alloc: Global, state: &mut StateMap, change: Change) -> Result<(), Alloc
 {
     changes_are_kept(&change);
     let entries = given(alloc, change)?;
-    state.0 = map_of(alloc, entries)?;
+    state.0 = state.0.filled(alloc, entries)?;
     Ok(())
 }
 

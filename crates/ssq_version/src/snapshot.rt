@@ -9,6 +9,7 @@ ghost use Rattle.ssq_version.specs.declared.form.Form.TheVariants.{Snapshot};
 use crate::entries::{kept_entries, map_of};
 use crate::file::{StateFile, read_file};
 use crate::form::Form;
+use crate::map::Map;
 use crate::state::StateMap;
 use std::alloc::{AllocError, Global};
 
@@ -18,7 +19,7 @@ fn state_in(alloc: Global, file: StateFile<'_>) -> Result<StateMap, AllocError>
     ensures { (state : Kept) → file.entry.entries.now ≡ entries_text Snapshot (said_of state) → AllByRecursion (IsSpelled Snapshot) (said_of state) → IfOk result (λ made. made ≡ state) }
 {
     let entries = kept_entries(alloc, file.entries)?;
-    Ok(StateMap(map_of(alloc, entries)?))
+    Ok(StateMap(Map::Ordered(map_of(alloc, entries)?)))
 }
 
 /// The partition, the version and the state whose file these bytes are. `None` where they are no state's.

@@ -20,12 +20,12 @@ returns-clause-meets c =
     let query = c.args.bound.now in
     let joining = c.args.joining.now in
     let row = c.args.comer.row.now in
-    IfOk-weaker c.meet-2.result (λ now. MeetsFront query joining row c.in_ok-prefix.prefix c.from_key.result c.in_ok-between.between now c.meet.new.met.keys c.meet-2.new.met.keys)
+    IfOk-weaker c.meet-2.result (λ now. MeetsFront query joining row c.in_ok-prefix.prefix c.entries_from.result c.in_ok-between.between now c.meet.new.met.keys c.meet-2.new.met.keys)
     (λ now. MeetsEarlier query joining row c.args.state.now c.args.fresh.now.entries c.args.found now c.args.met.now.keys c.meet-2.new.met.keys)
     (λ now second.
     earlier_of c.keys_are_apart.ensures.whatever_follows c.beginnings_stand_together.ensures query joining row
     (ap (λ (key : List Value). list_any is_null key) (sym c.key.ensures) ∙ sym c.has_null.ensures ∙ c.if-has_null.false) c.in_ok-prefix.prefix
-    (c.in_ok-prefix.ensures ∙ (λ i. side_byte (not (is_left (c.stream.ensures i))) ∷ keys_of (c.key-2.ensures i))) c.args.state.now c.args.fresh.now.entries c.iter_from.result c.from_key.result
-    c.states_are_kept.ensures.kept.ascend c.from_key.ensures.ascend c.iter_from.ensures c.from_key.ensures.entries c.args.found c.in_ok-between.between now c.args.met.now.keys c.meet.new.met.keys c.meet-2.new.met.keys
+    (c.in_ok-prefix.ensures ∙ (λ i. side_byte (not (is_left (c.stream.ensures i))) ∷ keys_of (c.key-2.ensures i))) c.args.state.now c.args.fresh.now.entries c.in_ok-kept.kept c.entries_from.result
+    c.states_are_kept.ensures.kept.ascend c.entries_from.ensures.ascend c.in_ok-kept.ensures c.entries_from.ensures.entries c.args.found c.in_ok-between.between now c.args.met.now.keys c.meet.new.met.keys c.meet-2.new.met.keys
     c.in_ok-between.ensures.meets second)
     c.meet-2.ensures.meets

@@ -7,7 +7,7 @@ use Rattle.ssq_step.proofs.closing.entries_of.Goals as goal
 
 pub loop-key-init : goal.loop-key-init
 loop-key-init c =
-    let same = c.into_iter-key-iterator.ensures.into_iter_gives ∙ c.iter-key-items.ensures in (
+    let same = c.into_iter-key-iterator.ensures.into_iter_gives ∙ c.in_ok-items.ensures in (
       tt,
       tt,
       subst Ascends (sym same) c.states_are_kept.ensures.kept.ascend,

@@ -5,7 +5,7 @@ use Rattle.ssq_step.proofs.row_index.row_entries.Goals as goal
 
 pub loop-key-init : goal.loop-key-init
 loop-key-init c =
-    let same = c.into_iter-key-iterator.ensures.into_iter_gives ∙ c.iter-key-items.ensures in
+    let same = c.into_iter-key-iterator.ensures.into_iter_gives ∙ c.in_ok-items.ensures in
     walk_begins c.args.state.now c.into_iter-key-iterator.result same c.states_are_kept.ensures.kept.ascend
     (rows_begin c.args.bound.now c.args.joining.now c.args.state.now c.into_iter-key-iterator.result c.new-entries.result.keys same c.new-entries.ensures.empty)
 
