@@ -2,6 +2,7 @@ pub mod Keeping
 pub mod Staging
 pub mod Loops
 pub mod Makings
+pub mod Missing
 pub mod Planned
 pub mod Ends
 pub mod Holding

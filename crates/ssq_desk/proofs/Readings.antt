@@ -14,7 +14,7 @@ use Rattle.ssq_version.specs.State.{State}
 use Rattle.ssq_store.specs.Loaded.{content_in, files_in, IsDamaged, DamagedByEither, Makes, IsNoDelta}
 use Rattle.ssq_board.specs.declared.front.Cause.{Cause}
 use Rattle.ssq_ledger.specs.Names.{IsNewestBelow}
-use Rattle.ssq_desk.specs.Upkeep.{IsReadBy, IsUnread, deltas_from, files_for, names_in}
+use Rattle.ssq_desk.specs.Upkeep.{IsNotFound, IsReadBy, IsUnread, deltas_from, files_for, names_in}
 
 false_true : {A : Type 0} → false ≡ true → A
 false_true e = absurd (true≢false (sym e))
@@ -191,5 +191,5 @@ module _ (tells : Type 0) (files : Files) (p v : ℕ) (names : List Name) (below
   all_read (Err f) are found = tt
 
   -- one of them was not found
-  pub none_read : (q : Name) → (is_among list q ≡ true) × (tells → files q ≡ None) → IsUnread tells files p v names q
-  none_read q bad = record { below = below; newest = newest; among = ap (λ (l : List Name). is_among l q) (sym list_is) ∙ bad.0; absent = bad.1 }
+  pub none_read : (q : Name) → IsNotFound tells files list q → IsUnread tells files p v names q
+  none_read q bad = record { below = below; newest = newest; unfound = subst (λ (l : List Name). IsNotFound tells files l q) list_is bad }

@@ -28,6 +28,7 @@ use Rattle.ssq_desk.specs.Round.{IsRound, Owns, setting_of}
 use Rattle.ssq_desk.specs.Upkeep.{IsReadBy, IsUnread, files_for, names_in}
 use Rattle.ssq_desk.specs.Whole.{opening_in}
 use Rattle.ssq_desk.proofs.Beginnings.{begins_on}
+use Rattle.ssq_desk.proofs.Missing.{missing_is_absent}
 use Rattle.ssq_desk.proofs.Readings.{IsNeeded, a_delta, a_snapshot, floor_of, needed_is, needs_delta, needs_snapshot, read_is, some_read}
 
 false_true : {A : Type 0} → false ≡ true → A
@@ -145,7 +146,7 @@ module _ {D L : Type 0} (stores logs : Type 0) (history : D → History) (lines 
   -- no file that is needed is missing
   pub never_missing : stores → (q : Name) → IsUnread stores (files_now (history shown.disk)) p v names q → ⊥
   never_missing tells q unread =
-      false_true (sym (ap is_some (unread.absent tells)) ∙ needed_there (course_of s cuts) states (files_now (history shown.disk)) names p v first versions true_file knows.there knows.deltas unread.below unread.newest q unread.among)
+      false_true (sym (ap is_some (missing_is_absent (files_now (history shown.disk)) (files_for p v unread.below) q (unread.unfound.1 tells))) ∙ needed_there (course_of s cuts) states (files_now (history shown.disk)) names p v first versions true_file knows.there knows.deltas unread.below unread.newest q unread.unfound.0)
 
   -- what was read makes the state
   pub read_makes : (change : (p v : ℕ) (before after : State) → IsState before → IsState after → length (between before after) < 2 ^ 64 → IsDelta (Some (delta_text p v (between before after))) p v before after)

@@ -1,5 +1,5 @@
 -- The snapshots that a desk hands out, and how they are taken back.
-use Rattle.std.specs.Prelude.{◌≡◌, ◌⊎◌, ◌<◌, ◌+◌, ◌-◌, ◌++◌, ℕ, zero, suc, true, List, [], ◌∷◌, map, All, Option, Some, None, IfSome, Result, Ok, Err, IfOk, IfErr, OnOk}
+use Rattle.std.specs.Prelude.{◌≡◌, ◌⊎◌, ◌<◌, ◌+◌, ◌-◌, ◌++◌, ℕ, zero, suc, true, List, [], ◌∷◌, map, All, Option, Some, None, is_some, IfSome, Result, Ok, Err, IfOk, IfErr, OnOk, if◌then◌else◌}
 use Rattle.ssq_outside.specs.declared.name.Name.{Name}
 use Rattle.ssq_outside.specs.declared.name.Name.TheVariants as name
 use Rattle.ssq_outside.specs.Files.{Files}
@@ -31,6 +31,15 @@ use Rattle.ssq_desk.specs.Whole.{opening_in}
 abbrev pub deltas_from : (p from count : ℕ) → List Name
 deltas_from p from zero = []
 deltas_from p from (suc count) = name.Delta p from ∷ deltas_from p (from + 1) count
+
+-- the first of these names at which nothing stands
+abbrev pub first_missing : Files → List Name → Option Name
+first_missing files [] = None
+first_missing files (q ∷ names) = if is_some (files q) then first_missing files names else Some q
+
+-- One of these files was not found: where the disk tells what it holds, it is the first that is not there.
+abbrev pub IsNotFound : (tells : Type 0) → Files → List Name → Name → Type 0
+IsNotFound tells files names q = (is_among names q ≡ true) × (tells → first_missing files names ≡ Some q)
 
 -- The files that make the state of a partition at a version: the newest snapshot below it, where there is one, and the deltas behind that.
 abbrev pub files_for : (p v : ℕ) → Option ℕ → List Name
@@ -90,12 +99,11 @@ abbrev pub FailsFor : (Name → Type 0) → (before now : ℕ) → Cause → Typ
 FailsFor IsBad before now (cause.Damaged q) = IsBad q
 FailsFor IsBad before now f = HasRisen f before now
 
--- A file that makes the state was not found: where the disk tells that, it is not there.
+-- A file that makes the state, by the names that were there, was not found.
 pub record IsUnread (tells : Type 0) (files : Files) (p v : ℕ) (names : List Name) (q : Name) : Type 0 where
   pub below : Option ℕ
   pub newest : IsNewestBelow p v names below
-  pub among : is_among (files_for p v below) q ≡ true
-  pub absent : tells → files q ≡ None
+  pub unfound : IsNotFound tells files (files_for p v below) q
 
 -- and that is never so where what was opened is the job's own
 abbrev pub IsMissing : (tells owned : Type 0) → Files → (p v : ℕ) → List Name → Name → Type 0

@@ -1,6 +1,6 @@
 //! The upkeep of the state's files.
 
-ghost use Rattle.std.specs.Prelude.{◌≡◌, ◌≤◌, ◌<◌, ◌+◌, ◌-◌, ◌++◌, ◌^◌, [], ◌∷◌, length, Some, None, Err, true, All, IfOk, IfErr, IfSome, OnOk, IsErrOf};
+ghost use Rattle.std.specs.Prelude.{◌≡◌, ◌≤◌, ◌<◌, ◌+◌, ◌-◌, ◌++◌, ◌^◌, [], ◌∷◌, length, Some, None, Err, true, All, is_some, IfOk, IfErr, IfSome, OnOk, IsErrOf};
 ghost use Rattle.ssq_outside.specs.Faults.{Rises};
 ghost use Rattle.ssq_outside.specs.History.{files_now};
 ghost use Rattle.ssq_outside.specs.declared.disk.DiskError.TheVariants as error;
@@ -17,7 +17,7 @@ ghost use Rattle.ssq_ledger.specs.Upkept.{IsDropped, IsTaken};
 ghost use Rattle.ssq_desk.specs.Contents.{keeping_in};
 ghost use Rattle.ssq_desk.specs.Round.{Owns, setting_of};
 ghost use Rattle.ssq_desk.specs.Whole.{opening_in};
-ghost use Rattle.ssq_desk.specs.Upkeep.{AreReadFor, FailsFor, IsHandedOut, IsKept, IsMalformed, IsMissing, IsReadBy, IsTakenBack, IsUpkeepOf, IsUnread, NeverDamaged, cause_of_snapshot, deltas_from, files_for, names_in};
+ghost use Rattle.ssq_desk.specs.Upkeep.{AreReadFor, FailsFor, IsHandedOut, IsKept, IsMalformed, IsMissing, IsNotFound, IsReadBy, IsTakenBack, IsUpkeepOf, IsUnread, NeverDamaged, cause_of_snapshot, deltas_from, files_for, names_in};
 
 use crate::desk::Desk;
 use crate::make::cause_of;
@@ -130,6 +130,7 @@ fn add_file<D: Disk, O: Opening>(
     ensures did { ledger.new ≡ did ledger.old ledger.new.disk [] }
     ensures same { D.tells → D.history ledger.new.disk ≡ D.history ledger.old.disk }
     ensures names { OnOk result (names_in files.new.items ≡ names_in files.old.items ++ name ∷ []) }
+    ensures there { D.tells → OnOk result (is_some (files_now (D.history ledger.old.disk) name) ≡ true) }
     ensures found { D.tells → OnOk result (All (λ file. files_now (D.history ledger.old.disk) file.0 ≡ Some file.1) files.old.items → All (λ file. files_now (D.history ledger.old.disk) file.0 ≡ Some file.1) files.new.items) }
     ensures cause { IfErr result (FailsFor (λ q. (q ≡ name) × (D.tells → files_now (D.history ledger.old.disk) q ≡ None)) (D.faults ledger.old.disk) (D.faults ledger.new.disk)) }
     ensures counted { D.faults ledger.old.disk ≤ D.faults ledger.new.disk }
@@ -153,7 +154,7 @@ fn with_deltas<D: Disk, O: Opening>(
     ensures same { D.tells → D.history ledger.new.disk ≡ D.history ledger.old.disk }
     ensures names { IfOk result (λ read. names_in read.items ≡ names_in files.items ++ deltas_from partition from (versions - from)) }
     ensures found { D.tells → All (λ file. files_now (D.history ledger.old.disk) file.0 ≡ Some file.1) files.items → IfOk result (λ read. All (λ file. files_now (D.history ledger.old.disk) file.0 ≡ Some file.1) read.items) }
-    ensures cause { IfErr result (FailsFor (λ q. (is_among (deltas_from partition from (versions - from)) q ≡ true) × (D.tells → files_now (D.history ledger.old.disk) q ≡ None)) (D.faults ledger.old.disk) (D.faults ledger.new.disk)) }
+    ensures cause { IfErr result (FailsFor (IsNotFound D.tells (files_now (D.history ledger.old.disk)) (deltas_from partition from (versions - from))) (D.faults ledger.old.disk) (D.faults ledger.new.disk)) }
     ensures counted { D.faults ledger.old.disk ≤ D.faults ledger.new.disk }
 {
     let mut files = files;
@@ -182,7 +183,7 @@ fn read_behind<D: Disk, O: Opening>(
     ensures same { D.tells → D.history ledger.new.disk ≡ D.history ledger.old.disk }
     ensures names { IfOk result (λ read. names_in read.items ≡ name.Snapshot partition below ∷ deltas_from partition (below + 1) (versions - (below + 1))) }
     ensures found { D.tells → IfOk result (λ read. All (λ file. files_now (D.history ledger.old.disk) file.0 ≡ Some file.1) read.items) }
-    ensures cause { IfErr result (FailsFor (λ q. (is_among (name.Snapshot partition below ∷ deltas_from partition (below + 1) (versions - (below + 1))) q ≡ true) × (D.tells → files_now (D.history ledger.old.disk) q ≡ None)) (D.faults ledger.old.disk) (D.faults ledger.new.disk)) }
+    ensures cause { IfErr result (FailsFor (IsNotFound D.tells (files_now (D.history ledger.old.disk)) (name.Snapshot partition below ∷ deltas_from partition (below + 1) (versions - (below + 1)))) (D.faults ledger.old.disk) (D.faults ledger.new.disk)) }
     ensures counted { D.faults ledger.old.disk ≤ D.faults ledger.new.disk }
 {
     let mut files = Vec::new(alloc);
@@ -241,7 +242,7 @@ fn begin<D: Disk, O: Opening>(
 
 impl<'a, D: Disk, L: Log> Desk<'a, D, L> {
     /// Hands out the snapshot that is due next, with the files that it needs, and answers none exactly where none is due. Where it cannot be begun the
-    /// desk is stopped, and that cause is the answer: a file that it needs is not there, the disk failed, or memory ran out.
+    /// desk is stopped, and that cause is the answer: the first of the files that it needs which is not there, the disk failed, or memory ran out.
     pub fn claim_upkeep(&mut self, alloc: Global) -> Result<Option<UpkeepTask<D::Stage>>, Cause>
         requires running { self.old.core.front.stop ≡ None }
         ensures handed { IsHandedOut (opening_in L.lines) (keeping_in (setting_of L.lines self.old.opening))

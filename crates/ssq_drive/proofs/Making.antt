@@ -22,7 +22,7 @@ use Rattle.ssq_ledger.specs.Upkept.{NoneIsDue}
 use Rattle.ssq_desk.specs.declared.round.Round.{Round}
 use Rattle.ssq_desk.specs.declared.upkeep.UpkeepTask.{UpkeepTask}
 use Rattle.ssq_desk.specs.Round.{Owns}
-use Rattle.ssq_desk.specs.Upkeep.{FailsFor, AreReadFor, IsHandedOut, IsMalformed, IsMissing, IsNextDue, IsTakenBack, cause_of_snapshot, names_in}
+use Rattle.ssq_desk.specs.Upkeep.{FailsFor, AreReadFor, IsHandedOut, IsMalformed, IsMissing, IsNextDue, IsTakenBack, cause_of_snapshot, files_for, first_missing, names_in}
 use Rattle.ssq_desk.specs.Whole.{opening_in}
 use Rattle.ssq_drive.specs.Damaged.{HasDamaged}
 use Rattle.ssq_drive.specs.Driven.{StopsFor, IsMade, KeepsUp}
@@ -65,8 +65,8 @@ module _ {D L : Type 0} (stores logs : Type 0) (history : D → History) (lines 
       partition = p;
       version = v;
       below = unread.below;
-      needed = unread.among;
-      is = inl (subst (λ (h : History). files_now h q ≡ None) (sym (same t)) (unread.absent t));
+      needed = unread.unfound.0;
+      is = inl (subst (λ (h : History). first_missing (files_now h) (files_for p v unread.below) ≡ Some q) (sym (same t)) (unread.unfound.1 t));
     },
   )
 

@@ -1,4 +1,5 @@
-use Rattle.std.proofs.Common.{◌≡◌, None}
+use Rattle.std.proofs.Common.{◌≡◌, None, ap}
+use Rattle.std.specs.Prelude.{is_some}
 use Rattle.std.proofs.lemmas.Result.{on_ok_weaker}
 use Rattle.ssq_outside.specs.History.{files_now}
 use Rattle.ssq_desk.proofs.Readings.{found_more, names_more}
@@ -7,6 +8,9 @@ use Rattle.ssq_desk.proofs.upkeep.add_file.Goals as goal
 
 pub returns-clause-names : goal.returns-clause-names
 returns-clause-names g c = on_ok_weaker c.push_file.result (names_more c.args.files.now.items c.push_file.new.files.items c.args.name c.in_ok-bytes.bytes) c.push_file.ensures.items
+
+pub returns-clause-there : goal.returns-clause-there
+returns-clause-there g c t = on_ok_weaker c.push_file.result (λ _. ap is_some (c.in_ok-bytes.ensures.found t)) c.push_file.ensures.items
 
 pub returns-clause-found : goal.returns-clause-found
 returns-clause-found g c t =

@@ -1,4 +1,4 @@
-use Rattle.std.proofs.Common.{◌≡◌, ◌+◌, ◌-◌, ◌++◌, [], ◌∷◌, ℕ, true, List, sym, ap, ◌∙◌, subst, arith}
+use Rattle.std.proofs.Common.{◌≡◌, ◌+◌, ◌-◌, ◌++◌, [], ◌∷◌, ℕ, List, sym, ap, ◌∙◌, subst, arith}
 use Rattle.std.specs.Prelude.{All, IfOk, None, Some}
 use Rattle.std.proofs.lemmas.List.Elements.{All-nil}
 use Rattle.std.proofs.lemmas.Result.{IfOk-weaker, err_from_is_err_and}
@@ -6,8 +6,9 @@ use Rattle.ssq_outside.specs.declared.name.Name.{Name}
 use Rattle.ssq_outside.specs.declared.name.Name.TheVariants as name
 use Rattle.ssq_outside.specs.History.{History, files_now}
 use Rattle.ssq_upkeep.specs.Upkeep.{is_among}
-use Rattle.ssq_desk.specs.Upkeep.{deltas_from, names_in}
+use Rattle.ssq_desk.specs.Upkeep.{IsNotFound, deltas_from, first_missing, names_in}
 use Rattle.ssq_desk.proofs.Entries.{fails_so}
+use Rattle.ssq_desk.proofs.Missing.{missing_here, missing_next}
 use Rattle.ssq_desk.proofs.Readings.{first_among, next_among}
 use Rattle.ssq_desk.proofs.Upkeeps.{did_still, if_fails_later}
 use Rattle.ssq_desk.proofs.upkeep.read_behind.Goals as goal
@@ -16,11 +17,12 @@ pub returns-in_err-add_file-clause-cause : goal.returns-in_err-add_file-clause-c
 returns-in_err-add_file-clause-cause g c =
     let rest = deltas_from c.args.partition (c.args.below + 1) (c.args.versions - (c.args.below + 1)) in
     let at = name.Snapshot c.args.partition c.args.below in
+    let files = files_now (g.D.Disk.history c.args.ledger.now.disk) in
     let before = g.D.Disk.faults c.args.ledger.now.disk in
     let now = g.D.Disk.faults c.add_file.new.ledger.disk in
     let p = err_from_is_err_and c.from_residual.result c.from_residual.ensures.1 in
-    rw (p.1, p.2) (fails_so (λ q. (q ≡ at) × (g.D.Disk.tells → files_now (g.D.Disk.history c.args.ledger.now.disk) q ≡ None)) (λ q. (is_among (at ∷ rest) q ≡ true) × (g.D.Disk.tells → files_now (g.D.Disk.history c.args.ledger.now.disk) q ≡ None)) before now c.in_err-add_file.field-0.0
-    (λ q bad. (ap (is_among (at ∷ rest)) bad.0 ∙ first_among at rest, bad.1)) c.in_err-add_file.ensures.cause)
+    rw (p.1, p.2) (fails_so (λ q. (q ≡ at) × (g.D.Disk.tells → files q ≡ None)) (IsNotFound g.D.Disk.tells files (at ∷ rest)) before now c.in_err-add_file.field-0.0
+    (λ q bad. (ap (is_among (at ∷ rest)) bad.0 ∙ first_among at rest, (λ t. missing_here files at rest (subst (λ (n : Name). files n ≡ None) bad.0 (bad.1 t)) ∙ ap Some (sym bad.0)))) c.in_err-add_file.ensures.cause)
 
 pub returns-clause-did : goal.returns-clause-did
 returns-clause-did g c = did_still c.args.ledger.now c.add_file.new.ledger c.with_deltas.new.ledger c.add_file.ensures.did c.with_deltas.ensures.did
@@ -48,9 +50,10 @@ pub returns-clause-cause : goal.returns-clause-cause
 returns-clause-cause g c =
     let rest = deltas_from c.args.partition (c.args.below + 1) (c.args.versions - (c.args.below + 1)) in
     let at = name.Snapshot c.args.partition c.args.below in
-    if_fails_later (λ q. (is_among rest q ≡ true) × (g.D.Disk.tells → files_now (g.D.Disk.history c.add_file.new.ledger.disk) q ≡ None)) (λ q. (is_among (at ∷ rest) q ≡ true) × (g.D.Disk.tells → files_now (g.D.Disk.history c.args.ledger.now.disk) q ≡ None))
+    let old = g.D.Disk.history c.args.ledger.now.disk in
+    if_fails_later (IsNotFound g.D.Disk.tells (files_now (g.D.Disk.history c.add_file.new.ledger.disk)) rest) (IsNotFound g.D.Disk.tells (files_now old) (at ∷ rest))
     (g.D.Disk.faults c.args.ledger.now.disk) (g.D.Disk.faults c.add_file.new.ledger.disk) (g.D.Disk.faults c.with_deltas.new.ledger.disk) c.with_deltas.result c.add_file.ensures.counted
-    (λ q bad. (next_among at q rest bad.0, (λ t. ap (λ (h : History). files_now h q) (sym (c.add_file.ensures.same t)) ∙ bad.1 t))) c.with_deltas.ensures.cause
+    (λ q bad. (next_among at q rest bad.0, (λ t. missing_next (files_now old) at rest (c.in_ok-add_file.ensures.there t) ∙ ap (λ (h : History). first_missing (files_now h) rest) (sym (c.add_file.ensures.same t)) ∙ bad.1 t))) c.with_deltas.ensures.cause
 
 pub returns-clause-counted : goal.returns-clause-counted
 returns-clause-counted g c = (let first = c.add_file.ensures.counted in let later = c.with_deltas.ensures.counted in omega (arith, first, later))

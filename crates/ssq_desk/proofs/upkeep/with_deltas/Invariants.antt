@@ -1,6 +1,7 @@
 -- The deltas before this version were read, and nothing was done to the disk.
-use Rattle.std.proofs.Common.{◌≡◌, ◌≤◌, ◌++◌, ◌-◌, []}
-use Rattle.std.specs.Prelude.{All, Some}
+use Rattle.std.proofs.Common.{◌≡◌, ◌<◌, ◌≤◌, ◌++◌, ◌-◌, [], ℕ, true}
+use Rattle.std.specs.Prelude.{All, Some, is_some}
+use Rattle.ssq_outside.specs.declared.name.Name.TheVariants as name
 use Rattle.ssq_outside.specs.History.{files_now}
 use Rattle.ssq_ledger.specs.Shown.{did}
 use Rattle.ssq_desk.specs.Upkeep.{deltas_from, names_in}
@@ -14,5 +15,6 @@ invariant-loop-version g l = record {
   same_disk : g.D.Disk.tells → g.D.Disk.history l.ledger.disk ≡ g.D.Disk.history l.fn.ledger.disk;
   counts : g.D.Disk.faults l.fn.ledger.disk ≤ g.D.Disk.faults l.ledger.disk;
   names_are : names_in l.files.items ≡ names_in l.fn.files.items ++ deltas_from l.partition l.from (l.version - l.from);
+  are_there : g.D.Disk.tells → (w : ℕ) → l.from ≤ w → w < l.version → is_some (files_now (g.D.Disk.history l.fn.ledger.disk) (name.Delta l.partition w)) ≡ true;
   are_found : g.D.Disk.tells → All (λ file. files_now (g.D.Disk.history l.fn.ledger.disk) file.0 ≡ Some file.1) l.fn.files.items → All (λ file. files_now (g.D.Disk.history l.fn.ledger.disk) file.0 ≡ Some file.1) l.files.items;
 }
