@@ -1,5 +1,6 @@
 -- Which of the files that make a state is the first that is not there.
-use Rattle.std.proofs.Common.{◌≡◌, ◌<◌, ◌≤◌, ◌+◌, [], ◌∷◌, ℕ, zero, suc, true, List, Some, None, if◌then◌else◌, refl, sym, ap, ◌∙◌, subst, inl, inr, arith}
+use Rattle.std.proofs.Common.{◌≡◌, ◌<◌, ◌≤◌, ◌+◌, [], ◌∷◌, ℕ, zero, suc, true, List, Some, None, not, cond, refl, sym, ap, ◌∙◌, subst, inl, inr, arith}
+use Rattle.std.specs.Option.{is_none}
 use Rattle.std.specs.Prelude.{is_some}
 use Rattle.std.proofs.lemmas.Bool.{cases_lt}
 use Rattle.std.proofs.lemmas.Option.{same_Some}
@@ -9,11 +10,11 @@ use Rattle.ssq_outside.specs.Files.{Content, Files}
 use Rattle.ssq_desk.specs.Upkeep.{deltas_from, first_missing}
 
 pub missing_here : (files : Files) (q : Name) (names : List Name) → files q ≡ None → first_missing files (q ∷ names) ≡ Some q
-missing_here files q names none = ap (λ (o : Content). if is_some o then first_missing files names else Some q) none
+missing_here files q names none = ap (λ (o : Content). cond (is_none o) (Some q) (first_missing files names)) none
 
 -- a file that is there is not it
 pub missing_next : (files : Files) (q : Name) (names : List Name) → is_some (files q) ≡ true → first_missing files (q ∷ names) ≡ first_missing files names
-missing_next files q names there = ap (λ b. if b then first_missing files names else Some q) there
+missing_next files q names there = ap (λ b. cond (not b) (Some q) (first_missing files names)) there
 
 -- at the first that is missing nothing stands
 pub missing_is_absent : (files : Files) (names : List Name) (q : Name) → first_missing files names ≡ Some q → files q ≡ None

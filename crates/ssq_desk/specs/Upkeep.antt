@@ -1,5 +1,7 @@
 -- The snapshots that a desk hands out, and how they are taken back.
-use Rattle.std.specs.Prelude.{◌≡◌, ◌⊎◌, ◌<◌, ◌+◌, ◌-◌, ◌++◌, ℕ, zero, suc, true, List, [], ◌∷◌, map, All, Option, Some, None, is_some, IfSome, Result, Ok, Err, IfOk, IfErr, OnOk, if◌then◌else◌}
+use Rattle.std.specs.Prelude.{◌≡◌, ◌⊎◌, ◌<◌, ◌+◌, ◌-◌, ◌++◌, ℕ, zero, suc, true, List, [], ◌∷◌, map, All, Option, Some, None, IfSome, Result, Ok, Err, IfOk, IfErr, OnOk}
+use Rattle.std.specs.List.{find}
+use Rattle.std.specs.Option.{is_none}
 use Rattle.ssq_outside.specs.declared.name.Name.{Name}
 use Rattle.ssq_outside.specs.declared.name.Name.TheVariants as name
 use Rattle.ssq_outside.specs.Files.{Files}
@@ -34,8 +36,7 @@ deltas_from p from (suc count) = name.Delta p from ∷ deltas_from p (from + 1) 
 
 -- the first of these names at which nothing stands
 abbrev pub first_missing : Files → List Name → Option Name
-first_missing files [] = None
-first_missing files (q ∷ names) = if is_some (files q) then first_missing files names else Some q
+first_missing files names = find (λ q. is_none (files q)) names
 
 -- One of these files was not found: where the disk tells what it holds, it is the first that is not there.
 abbrev pub IsNotFound : (tells : Type 0) → Files → List Name → Name → Type 0

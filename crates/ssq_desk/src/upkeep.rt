@@ -241,8 +241,8 @@ fn begin<D: Disk, O: Opening>(
 }
 
 impl<'a, D: Disk, L: Log> Desk<'a, D, L> {
-    /// Hands out the snapshot that is due next, with the files that it needs, and answers none exactly where none is due. Where it cannot be begun the
-    /// desk is stopped, and that cause is the answer: the first of the files that it needs which is not there, the disk failed, or memory ran out.
+    /// Hands out the snapshot that is due next, with the files that it is made from, and `None` exactly where none is due. Where it cannot be begun, the
+    /// desk is stopped and the answer is the cause: `Damaged`, with the first of these files that is missing, `DiskFault` or `NoMemory`.
     pub fn claim_upkeep(&mut self, alloc: Global) -> Result<Option<UpkeepTask<D::Stage>>, Cause>
         requires running { self.old.core.front.stop ≡ None }
         ensures handed { IsHandedOut (opening_in L.lines) (keeping_in (setting_of L.lines self.old.opening))
