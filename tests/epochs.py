@@ -1,0 +1,138 @@
+#!/usr/bin/env python3
+"""Measures what an epoch costs over 10,000 and over 1,000,000 groups.
+
+    python3 tests/epochs.py [FOLDER [PAIRS]]      (`make` builds bin/ssq; it needs four processors with nothing else on them)
+
+A program runs over each state, and only one of them at a time: the other is halted. Ten lines are added to the log of one, and the
+time is taken until the commit of their epoch is there; then to the log of the other. Which one is first is drawn. So both epochs of a
+pair have the same machine and the same disk, and nothing runs beside them. Epochs behind which a snapshot is due are not counted: the
+program goes on there until the snapshot is made and older files are gone, and then both stand still (REST seconds of the environment, 0.5).
+
+It tells the median of the pairs' ratios and their geometric mean, each with where 95 of 100 drawings anew lie, and milliseconds.
+Checkpoints lie in new folders inside FOLDER; without one, where temporary files lie. It is not part of the gate.
+"""
+import math
+import os
+import pathlib
+import random
+import shutil
+import signal
+import statistics
+import subprocess
+import sys
+import tempfile
+import time
+
+SSQ = pathlib.Path(__file__).resolve().parent.parent / "bin" / "ssq"
+QUERY = "CREATE STREAM e (k STRING, v BIGINT) FROM 'e';\nSELECT k, COUNT(*) AS n, SUM(v) AS t FROM e GROUP BY k OUTPUT UPDATE;\n"
+SIZES = (10_000, 1_000_000)
+REST = float(os.environ.get("REST", "0.5"))
+PAGE = 4096  # what a log grows by within a page is seen all at once
+TURNS = 400  # of a run, which has a million rounds
+
+
+def line(key, value):
+    """24 bytes, whatever the key."""
+    return '{"k":"k%07d","v":%d}\n' % (key, 10 + value % 90)
+
+
+class Job:
+    """A folder with a state of so many groups, and the program that goes on there."""
+
+    def __init__(self, place, groups, seed):
+        self.folder = pathlib.Path(tempfile.mkdtemp(prefix="ssq-epochs-", dir=place))
+        self.checkpoint = self.folder / "checkpoint"
+        self.groups, self.random, self.times = groups, random.Random(seed), []
+        (self.folder / "q.sql").write_text(QUERY)
+        with open(self.folder / "e.0.jsonl", "w") as log:
+            log.writelines(line(key, key) for key in self.random.sample(range(groups), groups))
+            log.write(" " * (PAGE - 1 - log.tell() % PAGE) + "\n")
+        subprocess.run([SSQ, "run", "q.sql"], cwd=self.folder, stdout=subprocess.DEVNULL, check=True)
+        self.log = os.open(self.folder / "e.0.jsonl", os.O_WRONLY | os.O_APPEND)
+        self.epoch = 1
+
+    def begin(self, processor):
+        words = ["taskset", "-c", str(processor), SSQ, "run", "q.sql", "--rounds", "1000000"]
+        self.program = subprocess.Popen(words, cwd=self.folder, stdout=subprocess.DEVNULL)
+        self.add_lines()
+        self.program.send_signal(signal.SIGSTOP)
+
+    def end(self):
+        self.program.kill()
+        self.program.wait()
+
+    def add_lines(self):
+        """Adds ten lines, and waits for their commit: milliseconds, and whether a snapshot was due."""
+        lines = "".join(line(self.random.randrange(self.groups), n) for n in range(10))
+        lines = (lines[:-1] + " " * (255 - len(lines[:-1])) + "\n").encode()
+        commit = f"{self.checkpoint}/commits/{self.epoch}"
+        is_due = self.epoch % 10 == 9
+        began = time.perf_counter_ns()
+        os.write(self.log, lines)
+        while not os.access(commit, os.F_OK):
+            pass
+        took = (time.perf_counter_ns() - began) / 1e6
+        if is_due:
+            while not (self.checkpoint / f"state/0/{self.epoch}.snapshot").exists():
+                pass
+            time.sleep(0.02)
+        self.epoch += 1
+        if os.path.exists(f"{self.checkpoint}/commits/{self.epoch}"):
+            sys.exit("the ten lines were not seen at once")
+        return took, is_due
+
+    def take_turn(self):
+        self.program.send_signal(signal.SIGCONT)
+        time.sleep(0.001)
+        took, is_due = self.add_lines()
+        self.program.send_signal(signal.SIGSTOP)
+        if is_due:
+            time.sleep(REST)
+        return took, is_due
+
+
+def spread(logs, of):
+    """A figure of ratios, and where 95 of 100 drawings anew of their blocks of twenty lie."""
+    blocks = [logs[at : at + 20] for at in range(0, len(logs), 20)]
+    draws = random.Random(1)
+    drawn = sorted(of([x for block in draws.choices(blocks, k=len(blocks)) for x in block]) for _ in range(1000))
+    return "%.3f (%.3f to %.3f)" % tuple(map(math.exp, (of(logs), drawn[25], drawn[974])))
+
+
+def main(place, pairs):
+    os.sched_setaffinity(0, {3})
+    draws, jobs = random.Random(1), [Job(place, groups, groups) for groups in SIZES]
+    try:
+        os.sync()
+        counted = 0
+        while counted < pairs:
+            for job, processor in zip(jobs, draws.sample((1, 2), 2)):
+                job.begin(processor)
+            for _ in range(TURNS):
+                order = draws.sample(jobs, 2)
+                took = {job: job.take_turn() for job in order}
+                if not any(is_due for _, is_due in took.values()):
+                    for job in jobs:
+                        job.times.append(took[job][0])
+                    counted += 1
+                if counted == pairs:
+                    break
+            for job in jobs:
+                job.end()
+    finally:
+        for job in jobs:
+            if job.__dict__.get("program"):
+                job.end()
+            shutil.rmtree(job.folder)
+    few, many = (job.times for job in jobs)
+    logs = [math.log(y / x) for x, y in zip(few, many)]
+    print(f"{pairs} pairs of epochs of 10 lines, over {SIZES[0]:,} and {SIZES[1]:,} groups")
+    print("ratios: median", spread(logs, statistics.median), "geometric mean", spread(logs, statistics.mean))
+    for name, figure in (("median", statistics.median), ("mean", statistics.mean), ("fastest tenth", lambda times: statistics.quantiles(times, n=10)[0])):
+        print("%s: %.4f and %.4f ms" % (name, figure(few), figure(many)))
+
+
+if __name__ == "__main__":
+    if len(sys.argv) > 3:
+        sys.exit(__doc__)
+    main(sys.argv[1] if len(sys.argv) > 1 else None, int(sys.argv[2]) if len(sys.argv) > 2 else 900)
