@@ -1,12 +1,13 @@
 #!/usr/bin/env python3
 """Measures what an epoch costs over 10,000 and over 1,000,000 groups.
 
-    python3 tests/epochs.py [FOLDER [PAIRS]]      (`make` builds bin/ssq; it needs four processors with nothing else on them)
+    python3 tests/epochs.py [FOLDER [PAIRS]]      (`make` builds bin/ssq; it needs two processors with nothing else on them)
 
-A program runs over each state, and only one of them at a time: the other is halted. Ten lines are added to the log of one, and the
-time is taken until the commit of their epoch is there; then to the log of the other. Which one is first is drawn. So both epochs of a
-pair have the same machine and the same disk, and nothing runs beside them. Epochs behind which a snapshot is due are not counted: the
-program goes on there until the snapshot is made and older files are gone, and then both stand still (REST seconds of the environment, 0.5).
+A program runs over each state, both on the same processor, and only one of them at a time: the other is halted. Ten lines are added to
+the log of one, and the time is taken until the program has told their epoch, which it does when all of it is settled; then to the log of
+the other. Which one is first is drawn. So both epochs of a pair have the same machine and the same disk, and nothing runs beside them.
+Epochs behind which a snapshot is due are not counted: the program goes on there until the snapshot is made and older files are gone, and
+then both stand still (REST seconds of the environment, 0.5).
 
 It tells the median of the pairs' ratios and their geometric mean, each with where 95 of 100 drawings anew lie, and milliseconds.
 Checkpoints lie in new folders inside FOLDER; without one, where temporary files lie. It is not part of the gate.
@@ -29,6 +30,7 @@ SIZES = (10_000, 1_000_000)
 REST = float(os.environ.get("REST", "0.5"))
 PAGE = 4096  # what a log grows by within a page is seen all at once
 TURNS = 400  # of a run, which has a million rounds
+PROGRAMS, FEEDER = "1", 0  # the processors
 
 
 def line(key, value):
@@ -51,9 +53,10 @@ class Job:
         self.log = os.open(self.folder / "e.0.jsonl", os.O_WRONLY | os.O_APPEND)
         self.epoch = 1
 
-    def begin(self, processor):
-        words = ["taskset", "-c", str(processor), SSQ, "run", "q.sql", "--rounds", "1000000"]
-        self.program = subprocess.Popen(words, cwd=self.folder, stdout=subprocess.DEVNULL)
+    def begin(self):
+        words = ["taskset", "-c", PROGRAMS, SSQ, "run", "q.sql", "--rounds", "1000000"]
+        self.program = subprocess.Popen(words, cwd=self.folder, stdout=subprocess.PIPE)
+        os.set_blocking(self.program.stdout.fileno(), False)
         self.add_lines()
         self.program.send_signal(signal.SIGSTOP)
 
@@ -62,23 +65,27 @@ class Job:
         self.program.wait()
 
     def add_lines(self):
-        """Adds ten lines, and waits for their commit: milliseconds, and whether a snapshot was due."""
+        """Adds ten lines, and waits until their epoch is told: milliseconds, and whether a snapshot was due."""
         lines = "".join(line(self.random.randrange(self.groups), n) for n in range(10))
         lines = (lines[:-1] + " " * (255 - len(lines[:-1])) + "\n").encode()
-        commit = f"{self.checkpoint}/commits/{self.epoch}"
+        told, wanted = self.program.stdout.fileno(), b"epoch %d lines 10 " % self.epoch
         is_due = self.epoch % 10 == 9
         began = time.perf_counter_ns()
         os.write(self.log, lines)
-        while not os.access(commit, os.F_OK):
-            pass
+        while True:
+            try:
+                words = os.read(told, PAGE)
+                break
+            except BlockingIOError:
+                pass
         took = (time.perf_counter_ns() - began) / 1e6
+        if not words.startswith(wanted):
+            sys.exit(f"{words} is told, and not the epoch {self.epoch} with ten lines")
         if is_due:
             while not (self.checkpoint / f"state/0/{self.epoch}.snapshot").exists():
                 pass
             time.sleep(0.02)
         self.epoch += 1
-        if os.path.exists(f"{self.checkpoint}/commits/{self.epoch}"):
-            sys.exit("the ten lines were not seen at once")
         return took, is_due
 
     def take_turn(self):
@@ -100,14 +107,14 @@ def spread(logs, of):
 
 
 def main(place, pairs):
-    os.sched_setaffinity(0, {3})
+    os.sched_setaffinity(0, {FEEDER})
     draws, jobs = random.Random(1), [Job(place, groups, groups) for groups in SIZES]
     try:
         os.sync()
         counted = 0
         while counted < pairs:
-            for job, processor in zip(jobs, draws.sample((1, 2), 2)):
-                job.begin(processor)
+            for job in jobs:
+                job.begin()
             for _ in range(TURNS):
                 order = draws.sample(jobs, 2)
                 took = {job: job.take_turn() for job in order}
