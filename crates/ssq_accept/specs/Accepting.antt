@@ -116,7 +116,7 @@ pub record IsForbidden (file : List ℕ) (fault : ModeFault) : Type 0 where
   pub unbroken : AreNone (QueryFaults query)
   pub forbids : Forbids (bound_of query) fault
 
--- the first step that refuses the file, where all steps before it take it; or want of memory
+-- the first step that refuses the file, where all steps before it take it; or memory ran out
 abbrev pub IsRefused : List ℕ → Refusal → Type 0
 IsRefused file (refusal.Parse at cause) = HasFault file at cause
 IsRefused file (refusal.Bind fault) = IsBroken file fault
@@ -125,7 +125,7 @@ IsRefused file refusal.NoMemory = Unit {0}
 
 -- ---- a file has one answer
 
--- a file that is accepted is refused for want of memory alone
+-- a file that is accepted is never refused but where memory ran out
 abbrev pub AcceptedAreTaken : Type 0
 AcceptedAreTaken = (file : List ℕ) (query : Query) (bound : Bound) (why : Refusal) → IsAccepted file query bound → IsRefused file why → why ≡ refusal.NoMemory
 

@@ -73,7 +73,7 @@ fn allowed(alloc: Global, query: &Query) -> Result<Bound, Refusal>
 ///
 /// The first of these steps that refuses it, where all steps before it take it: [`Refusal::Parse`] where the file is no
 /// query, [`Refusal::Bind`] where the query breaks a rule of binding, [`Refusal::Mode`] where it may not run in its mode.
-/// [`Refusal::NoMemory`] is want of memory alone.
+/// [`Refusal::NoMemory`] comes only where memory ran out.
 #[tactic(auto, using(crate::proofs::Refused::no_query, crate::proofs::Refused::query_refused, crate::proofs::Refused::is_accepted))]
 pub fn accept(alloc: Global, bytes: &[u8]) -> Result<Accepted, Refusal>
     ensures accepted { IfOk result (λ accepted. IsAccepted bytes.now accepted.query accepted.bound) }
@@ -89,7 +89,7 @@ pub fn accept(alloc: Global, bytes: &[u8]) -> Result<Accepted, Refusal>
     }
 }
 
-/// The law of answers: a file that is accepted is refused for want of memory alone, and each file is refused in one way.
+/// The law of answers: a file that is accepted is never refused but where memory ran out, and each file is refused in one way.
 pub fn files_have_one_answer()
     ensures accepted { AcceptedAreTaken }
     ensures refused { AreRefusedAlike }

@@ -233,7 +233,7 @@ pub fn build(alloc: Global, query: &Query) -> Result<Bound, AllocError>
 /// # Errors
 ///
 /// [`Refusal::Broken`] is the first of the rules that it breaks: the one with the least place, and of several at one
-/// place the one that stands first in [`ssq_check::Cause`]. [`Refusal::NoMemory`] is want of memory alone.
+/// place the one that stands first in [`ssq_check::Cause`]. [`Refusal::NoMemory`] comes only where memory ran out.
 #[tactic(auto, using(crate::proofs::SoundLemmas::sound_bound))]
 pub fn bind(alloc: Global, query: &Query) -> Result<Bound, Refusal>
     ensures bound { IfOk result (λ bound. bound ≡ bound_of query.now) }

@@ -192,7 +192,7 @@ due c t f = if is_stopped c.front.stop then None else due_stop (set (tasks_of t.
 abbrev pub IsFull : Scope → Core → Type 0
 IsFull r c = (c.front.planned ≡ 4294967295) × (is_open c ≡ false) × (c.front.settled ≡ true) × (is_more r c ≡ true)
 
--- What a Stop beside a report has for its cause: the limit of epochs, a call of the disk that failed, or want of memory.
+-- What a Stop beside a report has for its cause: the limit of epochs, a call of the disk that failed, or memory that ran out.
 abbrev pub HasCause : Scope → Core → Cause → Type 0
 HasCause r c cause.Full = IsFull r c
 HasCause r c cause.DiskFault = Unit {0}

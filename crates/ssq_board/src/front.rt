@@ -41,7 +41,7 @@ pub enum Cause {
         logged: u64,
         found: u64,
     },
-    /// A file is absent, or not what its name says.
+    /// A file is missing, or not what its name says.
     Damaged {
         name: Name,
     },

@@ -74,7 +74,7 @@ QueryFaults query =
     (Either (RowFaults (row_scope query) query.select)
     (OwnFaults (scope_of query) query))
 
--- the first of the faults, or want of memory
+-- the first of the faults, or NoMemory
 abbrev pub IsRefusedBy : Faults → Refusal → Type 0
 IsRefusedBy faults (refusal.Broken fault) = IsFirst faults fault
 IsRefusedBy faults refusal.NoMemory = Unit {0}

@@ -165,7 +165,7 @@ fn check_query(alloc: Global, query: &Query) -> Result<Option<BindFault>, AllocE
 /// # Errors
 ///
 /// [`Refusal::Broken`] is the first of the rules that it breaks: the one with the least place, and of several at one
-/// place the one that stands first in [`Cause`]. [`Refusal::NoMemory`] is want of memory alone.
+/// place the one that stands first in [`Cause`]. [`Refusal::NoMemory`] comes only where memory ran out.
 #[tactic(auto, using(crate::proofs::SoundLemmas::sound_where_none))]
 pub fn check(alloc: Global, query: &Query) -> Result<(), Refusal>
     ensures taken { OnOk result (AreNone (QueryFaults query.now)) }

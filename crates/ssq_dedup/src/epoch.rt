@@ -151,7 +151,7 @@ pub fn step(
     // The change leads from the state over the rows before to that over these rows too, and the rows that are shown are the epoch's.
     ensures stepped { (columns : List ℕ) (old : List Fed) (before : Option ℤ) → Given bound.now columns state.now closing.now old rows.now before watermark →
         IfOk result (IsStep (dedup bound.now columns) state.now old rows.now before watermark) }
-    // Want of memory alone is against it.
+    // It fails only where memory ran out.
     ensures cause { IfErr result (λ fault. fault ≡ NoMemory) }
     // Whatever the state holds, each time that is shown can be printed.
     ensures printable { IfOk result (λ stepped. All (All (IfTime IsStampTime)) stepped.rows.items) }

@@ -110,7 +110,7 @@ some_read (file ∷ read) q there = by (same_name file.0 q) refl (some_read read
     by true is later = or_this (same_name file.0 q) (is_among (names_in read) q) is
     by false is later = or_next (same_name file.0 q) (is_among (names_in read) q) (later (sym (ap (λ (b : Bool). is_some (if b then Some file.1 else content_in read q)) is) ∙ there))
 
--- ---- the first of them that is not canonical is one of them
+-- ---- the first of them that is malformed is one of them
 
 module _ (read : List (Name × List ℕ)) (p v : ℕ) (below : Option ℕ) (older : IfSome below (λ b. b < v)) (are : names_in read ≡ files_for p v below) where
   -- where no snapshot of a version is there, the floor lies below it

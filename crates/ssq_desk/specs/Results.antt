@@ -21,7 +21,7 @@ use Rattle.ssq_board.specs.declared.front.Entry.TheVariants as entry
 use Rattle.ssq_board.specs.Core.{due}
 use Rattle.ssq_ledger.specs.Shown.{Shown, IsVersioned, did, answer}
 
--- the cause for which a line is bad; a line is never bad for want of memory
+-- the cause for which a line is bad; that memory ran out makes no line a bad one
 abbrev pub cause_of_bad : (stream part offset : ℕ) → BadRow → Cause
 cause_of_bad stream part offset bad.TooLong = cause.BadLine stream part offset row.TooLong
 cause_of_bad stream part offset bad.NotJson = cause.BadLine stream part offset row.NotJson

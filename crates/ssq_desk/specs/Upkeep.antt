@@ -110,7 +110,7 @@ pub record IsUnread (tells : Type 0) (files : Files) (p v : ℕ) (names : List N
 abbrev pub IsMissing : (tells owned : Type 0) → Files → (p v : ℕ) → List Name → Name → Type 0
 IsMissing tells owned files p v names q = IsUnread tells files p v names q × (owned → ⊥)
 
--- One of the files that were read is the first that is not canonical; and never where what was opened is the job's own.
+-- One of the files that were read is the first that is malformed; and never where what was opened is the job's own.
 pub record IsMalformed (owned : Type 0) (files : List (Name × List ℕ)) (p v : ℕ) (q : Name) : Type 0 where
   pub among : is_among (names_in files) q ≡ true
   pub is : IsDamaged (files_in files) p (v + 1) q

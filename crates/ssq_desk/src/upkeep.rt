@@ -275,7 +275,7 @@ impl<'a, D: Disk, L: Log> Desk<'a, D, L> {
     }
 
     /// Takes a snapshot back that was handed out, and publishes it. After a Stop the file is dropped. Where it was not made, or the publishing fails, the
-    /// desk is stopped, and that cause is the answer: one of its files is not canonical, the disk failed, or memory ran out. It takes no memory.
+    /// desk is stopped, and that cause is the answer: one of its files is malformed, the disk failed, or memory ran out. It takes no memory.
     pub fn report_snapshot(&mut self, kept: Kept<D::Stage>) -> Result<(), Cause>
         requires claimed { is_among (shelf_of (opening_in L.lines) self.old).claimed (name.Snapshot kept.partition kept.version) ≡ true }
         requires of { (task : _) × IsUpkeepOf D.tells L.tells D.history L.lines D.Stage.written D.Stage.faults self.old task × IsKept D.Stage.tells D.Stage.written D.Stage.sealed D.Stage.faults task kept }

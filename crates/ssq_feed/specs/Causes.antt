@@ -18,7 +18,7 @@ module _ {L : Type 0} (tells : Type 0) (lines : L → List Line) (available : L 
     pub counted : faults before ≤ faults after
 
   -- Why a task brings no rows: the first faulty line of its range; a fault of the log, where its count rose; the log's number of lines,
-  -- where it is below the range's end; or want of memory.
+  -- where it is below the range's end; or memory ran out.
   abbrev pub FeedCause : (query : Bound) (stream part from to : ℕ) (before after : L) → FeedFault → Type 0
   FeedCause query stream part from to before after (BadLine offset cause) =
       (tells → IsFirst query (record { stream = stream; part = part; lines = lines before }) from to offset (line.Bad cause)) × (cause ≢ bad.NoMemory)

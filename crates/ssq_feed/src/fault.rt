@@ -7,7 +7,7 @@ use thiserror::Error;
 /// Why a map task brings no rows. Offsets count the part's lines from 0.
 #[derive(Debug, Drop, Error)]
 pub enum FeedFault {
-    /// The first faulty line of the range: it is bad, with the first cause, which is never want of memory.
+    /// The first faulty line of the range: it is bad, with the first cause. That memory ran out is told apart.
     #[error("line {offset} is bad")]
     BadLine { offset: u64, cause: BadRow },
     /// The first faulty line of the range: WHERE, or where that is TRUE an item of SELECT or an argument of an aggregate, is outside of its

@@ -53,7 +53,7 @@ fn event_time(schema: &Schema, row: &[Value]) -> Option<i64>
     time_at(row, schema.event()?)
 }
 
-/// What the bytes of the line at an offset give. The row is read in the room of one before, and leaves it for the next where it is handed on otherwise.
+/// What the bytes of the line at an offset give. The row is read in the room of one before, and leaves that room to the next where the row itself is not handed on.
 pub(crate) fn take_line<'a>(
     alloc: Global,
     bound: &'a Bound,

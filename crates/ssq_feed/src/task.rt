@@ -57,8 +57,8 @@ pub struct Fed<'a, L: Log> {
 /// There is at least one partition. A grouped query has at most one window, which is of 1 second to 366 days and as long as one to 64 of
 /// its slides.
 ///
-/// The first faulty line of the range stops it, and so does a log that fails, has too few lines, or want of memory. The log comes
-/// back in each case.
+/// The first faulty line of the range stops it, and so does a log that fails or has too few lines, or memory that ran out. The log
+/// comes back in each case.
 pub fn feed<'a, L: Log>(alloc: Global, task: MapTask<'a, L>) -> Fed<'a, L>
     requires partitions { 1 ≤ task.view.partitions }
     requires windows { HasWindows task.view.bound.now }

@@ -38,7 +38,7 @@ impl<R: Files + Drop> FolderDisk<R> {
         }
     }
 
-    /// What an error means. Want of memory is no fault.
+    /// What an error means. That memory ran out is no fault.
     fn failed(&mut self, error: io::Error) -> DiskError
         ensures clock { self.old.clock ≤ self.new.clock }
         ensures counted { self.old.faults ≤ self.new.faults }

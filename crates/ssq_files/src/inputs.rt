@@ -32,7 +32,7 @@ impl<R: Files + Drop> FolderInputs<R> {
         }
     }
 
-    /// What an error means. Want of memory is no fault.
+    /// What an error means. That memory ran out is no fault.
     fn failed(&mut self, error: io::Error) -> InputError
         ensures counted { self.old.faults ≤ self.new.faults }
         ensures cause { result ≡ InputError.Fault → Rises self.old.faults self.new.faults }

@@ -25,7 +25,7 @@ pub struct FileLog<F> {
 }
 
 impl<F: Read + Seek + Drop> FileLog<F> {
-    /// The log of an open file. An error is want of memory.
+    /// The log of an open file. An error means that memory ran out.
     pub(crate) fn new(alloc: Global, file: F) -> io::Result<FileLog<F>>
         ensures { IfOk result (λ log. log.faults ≡ 0) }
     {

@@ -31,7 +31,7 @@ pub struct Marks {
 }
 
 impl Marks {
-    /// No places. An error is want of memory.
+    /// No places. An error means that memory ran out.
     pub fn new(alloc: Global) -> io::Result<Marks> {
         Ok(Marks {
             places: Vec::with_capacity(alloc, MARKS)?,

@@ -23,7 +23,7 @@ pub struct Window<F> {
 }
 
 impl<F: Read + Seek + Drop> Window<F> {
-    /// An empty window. An error is want of memory.
+    /// An empty window. An error means that memory ran out.
     pub fn new(alloc: Global, file: F) -> io::Result<Window<F>> {
         Ok(Window {
             file,

@@ -144,7 +144,7 @@ fn told(alloc: Global, lines: u32, epochs: u64, counts: Counts) -> Result<String
 ///
 /// # Errors
 ///
-/// [`CountsFault::NotRows`] where the table is not rows of these columns, [`CountsFault::NoMemory`] for want of memory alone: sums of as many numbers
+/// [`CountsFault::NotRows`] where the table is not rows of these columns, [`CountsFault::NoMemory`] where memory ran out: sums of as many numbers
 /// of 64 bits as a table may have rows always have room.
 pub fn counts_line(
     alloc: Global,

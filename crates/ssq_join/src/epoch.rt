@@ -118,7 +118,7 @@ pub fn step(
     // overflows.
     ensures stepped { (joining : Joins) (old : List Fed) (before : Option ℤ) → Given bound.now joining state.now closing.now old rows.now before watermark →
         IfOk result (IsStep (join bound.now joining) state.now old rows.now before watermark) }
-    // The least key on which the epoch overflows, or want of memory, is against it.
+    // It fails on the least key on which the epoch overflows, or where memory ran out.
     ensures cause { (joining : Joins) (old : List Fed) (before : Option ℤ) → Given bound.now joining state.now closing.now old rows.now before watermark →
         IfErr result (IsCause (join bound.now joining) old rows.now before watermark) }
     // Whatever the state holds, each time that is shown can be printed.

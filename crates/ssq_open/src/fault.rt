@@ -35,7 +35,7 @@ pub enum OpenFault {
         logged: u64,
         found: u64,
     },
-    /// The first file that is absent, too many, not canonical or against the files before it.
+    /// The first file that is missing, unexpected, malformed, or inconsistent with the files before it.
     #[error("a file of the checkpoint is damaged")]
     Damaged {
         name: Name,

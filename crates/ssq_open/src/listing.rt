@@ -90,7 +90,7 @@ pub(crate) fn stray_file(names: &[Name], keeping: u32, planned: u64) -> Option<N
         .find(|name| is_stray(*name, keeping, planned))
 }
 
-/// How many sink files there are from that of epoch 0 on, before the first that is absent.
+/// How many sink files there are from that of epoch 0 on, before the first that is missing.
 pub(crate) fn written(names: &[Name]) -> u64
     ensures there { (e : ℕ) → e < result → Contains names.now (Name.Out e) }
     ensures absent { AllPairs (λ m n. IsTrue (name_before m n)) names.now → Contains names.now (Name.Out result) → ⊥ }

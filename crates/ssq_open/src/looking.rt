@@ -86,7 +86,7 @@ fn looked<D: Disk>(alloc: Global, disk: &mut D, bound: &Bound) -> Result<Option<
 /// The checks are those of [`open`](crate::open) on the job's record, the plans and the commits, in the same order: the record is
 /// there and canonical (`Damaged`); it is of this query (`OtherQuery`) and has one number of parts for each stream (`Damaged`); and
 /// the plans, the commits and the plans' watermarks are as they have to be, with the parts that the record keeps (`Damaged`). No other file is asked: a
-/// sink file or a file of the state may be absent or too many, and no state is loaded.
+/// sink file or a file of the state may be missing or unexpected, and no state is loaded.
 pub fn look<D: Disk>(
     alloc: Global,
     disk: &mut D,

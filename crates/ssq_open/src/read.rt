@@ -13,7 +13,7 @@ use ssq_outside::{Disk, DiskError, Name};
 use ssq_plans::{Commit, Meta, Plan, read_commit, read_meta, read_plan};
 use std::alloc::Global;
 
-/// The record of the job. `None` where it is absent or not canonical.
+/// The record of the job. `None` where it is missing or malformed.
 pub(crate) fn meta_of<D: Disk>(alloc: Global, disk: &mut D) -> Result<Option<Meta>, DiskError>
     ensures found { D.tells → IfOk result (λ read. IfSome read (IsTheMeta (files_now (D.history disk.old)))) }
     ensures in_range { IfOk result (λ read. IfSome read IsMetaRecord) }
@@ -28,7 +28,7 @@ pub(crate) fn meta_of<D: Disk>(alloc: Global, disk: &mut D) -> Result<Option<Met
     }
 }
 
-/// The plan of an epoch. `None` where it is absent or not canonical.
+/// The plan of an epoch. `None` where it is missing or malformed.
 pub(crate) fn plan_of<D: Disk>(
     alloc: Global,
     disk: &mut D,
@@ -47,7 +47,7 @@ pub(crate) fn plan_of<D: Disk>(
     }
 }
 
-/// The commit of an epoch. `None` where it is absent or not canonical.
+/// The commit of an epoch. `None` where it is missing or malformed.
 pub(crate) fn commit_of<D: Disk>(
     alloc: Global,
     disk: &mut D,

@@ -80,7 +80,7 @@ pub(crate) static TABLES: [Row; 6] = [
 
 /// The first sink file is bad, and nothing else is told.
 pub(crate) static BAD: [Row; 10] = [
-    // It is absent below another.
+    // It is missing below another.
     Row {
         words: SHOW,
         query: FILTER,

@@ -21,7 +21,7 @@ use Rattle.ssq_run.specs.Program.{Given, Went, HasObeyed, has_told, has_looked, 
 use Rattle.ssq_run.specs.Going.{LooksAt, CanLook, NoneFailed, IsDone}
 use Rattle.ssq_run.proofs.Going.{done_by}
 
--- a denial of the outside is a fault of the disk, or want of memory
+-- a denial of the outside is a fault of the disk, or NoMemory
 pub outer_status : (streams : List Stream) (why : OpenFault) → IsOuter why → (status_in (Some (stop_of_open streams why)) ≡ 7) ⊎ (status_in (Some (stop_of_open streams why)) ≡ 10)
 outer_status streams (opening.OtherQuery kept) outer = absurd outer
 outer_status streams (opening.OtherPartitions kept partitions) outer = absurd outer

@@ -109,7 +109,7 @@ told_of streams counts parts_are (Err (run.KeyOverflow key)) same = refl
 told_of streams counts parts_are (Err run.OutFault) same = refl
 told_of streams counts parts_are (Err run.NoMemory) same = refl
 
--- what is told of a run, or want of memory, has its count, and is no fault of the words
+-- what is told of a run, or that memory ran out, has its count, and is no fault of the words
 pub told_counts : (streams : List Stream) (counts : List ℕ) (d0 d1 i0 i1 o0 o1 : ℕ) (end : Result (Unit {0}) RunFault) (stop : Option Stop) → source.HasCount d0 d1 i0 i1 o0 o1 end → IsToldAs stop (stop_of_end streams counts end) → HasCount i0 i1 d0 d1 o0 o1 stop
 told_counts streams counts d0 d1 i0 i1 o0 o1 end stop is (inl same) = let C : Option Stop → Type 0 = HasCount i0 i1 d0 d1 o0 o1 in subst C (sym same) (run_counts streams counts d0 d1 i0 i1 o0 o1 end is)
 told_counts streams counts d0 d1 i0 i1 o0 o1 end stop is (inr memory) = let C : Option Stop → Type 0 = HasCount i0 i1 d0 d1 o0 o1 in subst C (sym memory) tt

@@ -34,7 +34,7 @@ use Rattle.ssq_run.specs.Going.{CanShow, NoneFailed, IsDone}
 use Rattle.ssq_run.proofs.Going.{done_by}
 use Rattle.ssq_run.proofs.Looking.{looked_for, outer_status}
 
--- a fault of the outside is one of the disk or of the output, or want of memory
+-- a fault of the outside is one of the disk or of the output, or NoMemory
 outer_sink : (why : SinkFault) → IsOuterSink why → (status_in (Some (stop_of_sink why)) ≡ 7) ⊎ ((status_in (Some (stop_of_sink why)) ≡ 8) ⊎ (status_in (Some (stop_of_sink why)) ≡ 10))
 outer_sink (sink.Damaged at) outer = absurd outer
 outer_sink sink.DiskFault outer = inl refl

@@ -98,7 +98,7 @@ wrong_row columns bad.NotJson = NotJson
 wrong_row columns bad.NotObject = NotObject
 wrong_row columns (bad.WrongType column) = WrongType (column_of columns column)
 wrong_row columns bad.NoEventTime = NoEventTime
--- (a line is never bad for want of memory)
+-- (that memory ran out makes no line a bad one)
 wrong_row columns bad.NoMemory = NotJson
 
 abbrev pub stop_of_line : List Stream → (stream part offset : ℕ) → LineFault → Stop

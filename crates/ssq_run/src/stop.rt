@@ -96,8 +96,8 @@ pub enum Stop {
         logged: u64,
         found: u64,
     },
-    /// The first file of the checkpoint that is absent, too many, not canonical or against the files before it; or one of the state that upkeep reads,
-    /// and that is absent or not canonical.
+    /// The first file of the checkpoint that is missing, unexpected, malformed, or inconsistent with the files before it; or one of the state that
+    /// upkeep reads, and that is missing or malformed.
     Damaged {
         name: Name,
     },

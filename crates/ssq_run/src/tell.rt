@@ -34,7 +34,7 @@ fn say<O: Output>(out: &mut O, line: &[u8])
 }
 
 /// The status, and what there is to write: what was told, and the line of the stop, if there is one. Where memory runs out that
-/// line is absent, and the status is 10.
+/// line is missing, and the status is 10.
 fn ended(alloc: Global, mut told: Vec<u8>, end: Result<(), Stop>) -> (u8, Vec<u8>)
     ensures { HasEnded (stop_in end) told.items result.0 result.1.items }
 {

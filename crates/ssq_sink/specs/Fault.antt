@@ -33,7 +33,7 @@ IfDamaged P NoMemory = ⊤
 abbrev pub IsAbsent : Files → ℕ → Name → Type 0
 IsAbsent files e at = (at ≡ name.Out e) × (files (name.Out e) ≡ None)
 
--- it is absent, or no canonical rows
+-- it is missing, or malformed
 abbrev pub IsBad : Bound → Files → ℕ → Name → Type 0
 IsBad query files e at = (at ≡ name.Out e) × (IsSink query files e → ⊥)
 

@@ -94,7 +94,7 @@ pub record AreSinks (query : Bound) (files : Files) (epochs : List (List Values)
   pub counted : AreCounted files (length epochs)
   pub each : AreFirst query files epochs
 
--- Of the first m sink files this is the first that is absent, or is no canonical rows.
+-- Of the first m sink files this is the first that is missing or malformed.
 pub record IsFirstBad (query : Bound) (files : Files) (m : ℕ) (at : Name) : Type 0 where
   pub e : ℕ
   pub is : at ≡ name.Out e
@@ -102,7 +102,7 @@ pub record IsFirstBad (query : Bound) (files : Files) (m : ℕ) (at : Name) : Ty
   pub before : (f : ℕ) → f < e → IsSink query files f
   pub bad : IsSink query files e → ⊥
 
--- The first sink file that is absent below another, or is no canonical rows.
+-- The first sink file that is missing below another, or malformed.
 pub record IsBadSink (query : Bound) (files : Files) (at : Name) : Type 0 where
   pub m : ℕ
   pub counted : AreCounted files m

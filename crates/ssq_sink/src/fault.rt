@@ -7,7 +7,7 @@ use thiserror::Error;
 /// Why a table is not written, or not all of it.
 #[derive(Clone, Copy, Debug, Error)]
 pub enum SinkFault {
-    /// The first sink file that is absent below another, or is no canonical rows of the query.
+    /// The first sink file that is missing below another, or does not have canonical rows of the query.
     #[error("a sink file is damaged")]
     Damaged { name: Name },
     /// The disk failed.

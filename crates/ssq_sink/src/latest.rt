@@ -68,7 +68,7 @@ impl Latest {
         Ok(())
     }
 
-    /// Takes the rows of a sink file. `false` where it is no canonical rows of these columns.
+    /// Takes the rows of a sink file. `false` where it does not have canonical rows of these columns.
     pub(crate) fn take(
         &mut self,
         alloc: Global,

@@ -57,7 +57,7 @@ abbrev pub DamagedByEither : Content → ℕ → ℕ → Name → Type 0 → Typ
 DamagedByEither None partition version at otherwise = otherwise
 DamagedByEither (Some bytes) partition version at otherwise = (at ≡ name.Snapshot partition version) × IsNoSnapshot (Some bytes) partition version
 
--- The first file that is needed for the state of a partition after so many versions, and is absent or not canonical: a snapshot that is
+-- The first file that is needed for the state of a partition after so many versions, and is missing or malformed: a snapshot that is
 -- the file of no state, or a delta that is the file of no change of the state before it.
 unfoldable pub IsDamaged : Files → ℕ → ℕ → Name → Type 0
 IsDamaged files partition zero at = ⊥
@@ -104,7 +104,7 @@ content_in (file ∷ files) name = if same_name file.0 name then Some file.1 els
 abbrev pub files_in : List (Name × List ℕ) → Files
 files_in files = λ name. content_in files name
 
--- why a snapshot is not sealed; want of memory and a fault of the file aside may come at any time
+-- why a snapshot is not sealed; memory may run out, and the file aside fail, at any time
 abbrev pub SnapshotFails : Files → ℕ → ℕ → SnapshotFault → Type 0
 SnapshotFails files partition count (snapshot_fault.Damaged at) = IsDamaged files partition count at
 SnapshotFails files partition count snapshot_fault.DiskFault = ⊤

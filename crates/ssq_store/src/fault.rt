@@ -7,7 +7,7 @@ use thiserror::Error;
 /// Why a state is not loaded.
 #[derive(Clone, Copy, Debug, Error)]
 pub enum StoreFault {
-    /// The first file that is needed and is absent or not canonical.
+    /// The first file that is needed and is missing or malformed.
     #[error("a file of the state is damaged")]
     Damaged { name: Name },
     /// The disk failed.
@@ -82,7 +82,7 @@ impl From<AllocError> for SealFault {
 /// Why a snapshot is not sealed.
 #[derive(Clone, Copy, Debug, Error)]
 pub enum SnapshotFault {
-    /// The first file that is needed and is absent or not canonical.
+    /// The first file that is needed and is missing or malformed.
     #[error("a file of the state is damaged")]
     Damaged { name: Name },
     /// The file aside failed.

@@ -88,7 +88,7 @@ fn snapshot_in<'a>(
     }
 }
 
-/// The entries in the delta of a version, which is of this state. It is damaged where it is absent or the file of no such change.
+/// The entries in the delta of a version, which is of this state. It is damaged where it is missing or the file of no such change.
 fn delta_in<'a>(
     alloc: Global,
     files: &'a [(Name, Bytes)],

@@ -100,7 +100,7 @@ fn snapshot_of<D: Disk>(
     }
 }
 
-/// The change in the delta of a version, which is of this state. It is damaged where it is absent or the file of no such change.
+/// The change in the delta of a version, which is of this state. It is damaged where it is missing or the file of no such change.
 fn delta_of<D: Disk>(
     alloc: Global,
     disk: &mut D,

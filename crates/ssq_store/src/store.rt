@@ -48,7 +48,7 @@ fn version_after(version: Option<u32>) -> u32
 
 impl Store {
     /// Loads the state of a partition at a version (none: before the first) from the newest snapshot not above it and the deltas after
-    /// that. It is damaged where one of these files is absent or not canonical: the first such file is told.
+    /// that. It is damaged where one of these files is missing or malformed: the first such file is told.
     pub fn load<D: Disk>(
         alloc: Global,
         disk: &mut D,

@@ -15,7 +15,7 @@ use std::alloc::Global;
 
 /// Writes the state that the files make at a version of a partition as its snapshot, and seals it. The files are the newest snapshot not
 /// above the version and the deltas after that; others may stand among them. Where it is not sealed the file aside comes back: it is to be
-/// discarded after a fault. It is damaged where one of the files is absent or not canonical: the first such file is told.
+/// discarded after a fault. It is damaged where one of the files is missing or malformed: the first such file is told.
 pub fn snapshot<S: Stage>(
     alloc: Global,
     partition: u32,

@@ -77,7 +77,7 @@ module _ (query : Bound) (state : version.State) (closing : List Timed) (old new
     unfolding operator_of
     repeats_step columns is gives = by_shape (λ shape. IfOk result (IsStep (operator_for shape query) state old new before now)) (Dedup columns) is gives
 
-    -- want of memory is a cause
+    -- that memory ran out is a cause
     no_memory : (fault : StepFault) → fault ≡ step.NoMemory → steps.IsCause (operator_of query) old new before now fault
     no_memory fault is = subst (steps.IsCause (operator_of query) old new before now) (sym is) tt
 

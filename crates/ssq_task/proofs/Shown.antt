@@ -80,7 +80,7 @@ module _ {S F : Type 0} (tells : Type 0) (written : S → List ℕ) (sealed : F 
   }
   all_brought fit (Err failed) shows nothing = tt
 
-  -- only want of memory is against it
+  -- it fails only where memory ran out
   pub none_failed : (outcome : Result (ReducedRows F) (ReduceFault × Option S)) → IfErr outcome (λ failed. (failed.0 ≡ fault.NoMemory) × (failed.1 ≡ None))
       → IfErr outcome (HasFailed faults query partition now (timely query now rows) None None)
   none_failed (Ok brought) is = tt

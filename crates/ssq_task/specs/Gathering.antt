@@ -42,7 +42,7 @@ module _ {S : Type 0} (faults : S → ℕ) where
   abbrev pub SealCause : {F : Type 0} → Stages S → Remnant S F → Type 0
   SealCause before left = HasRisen before left.rows left.commit
 
-  -- the task failed for want of memory, or since a file did
+  -- the task failed since memory ran out, or since a file failed
   abbrev pub GatherCause : {F : Type 0} → GatherFault → Stages S → Remnant S F → Type 0
   GatherCause fault.DiskFault before left = HasRisen before left.rows left.commit
   GatherCause fault.NoMemory before left = Unit {0}

@@ -56,7 +56,7 @@ IsStageAfter faults (fault.Overflow key) before after = after ≡ Some before
 IsStageAfter faults fault.DiskFault before after = IsSomeAnd after (λ stage. Rises (faults before) (faults stage))
 IsStageAfter faults fault.NoMemory before after = IfSome after (λ stage. faults stage ≡ faults before)
 
--- without state there is no such file, and only want of memory is a fault
+-- without state there is no such file, and the one fault is that memory ran out
 abbrev pub IsAsideAfter : {S : Type 0} → (S → ℕ) → ReduceFault → Option (State S) → (after : Option S) → Type 0
 IsAsideAfter faults own None after = (own ≡ fault.NoMemory) × (after ≡ None)
 IsAsideAfter faults own (Some state) after = IsStageAfter faults own state.stage after

@@ -207,7 +207,7 @@ fn seal_epoch<S: Stage>(
 /// Sorts the rows and writes them as the text of the epoch's sink file, writes the epoch's commit, and seals both.
 ///
 /// The rows have the columns of SELECT and times of the years 0001 to 9999. There are as many greatest times as the query has streams,
-/// and these are at most 2^32. A file that failed, and want of memory, are told with what is left of the files.
+/// and these are at most 2^32. Where a file failed or memory ran out, this is told with what is left of the files.
 pub fn gather<'a, S: Stage>(alloc: Global, task: OutTask<'a, S>) -> Gathered<'a, S>
     requires printable { All (All (IfTime IsStampTime)) (joined_vecs task.rows.items) }
     requires each { length task.seen ≡ length task.view.bound.now.streams }

@@ -180,9 +180,9 @@ fn show_all<S: Stage>(
 /// One that groups or deduplicates leaves late rows out, steps its operator, and seals what changes as the delta of the epoch's version. No key
 /// is read but those that have rows and those that close, or of groups in Complete all, since all are shown.
 ///
-/// The store is at the version before the epoch's, a state can hold what the rows hold, and the query can have its windows. Against it are a
-/// key whose result is outside of its type's range, a file aside that failed, and want of memory: what the store keeps is then as it was, and
-/// the index beside it is of no use.
+/// The store is at the version before the epoch's, a state can hold what the rows hold, and the query can have its windows. It fails on a
+/// key whose result is outside of its type's range, on a file aside that failed, or where memory ran out: what the store keeps is then as it was,
+/// and the index beside it is of no use.
 pub fn reduce<'a, S: Stage>(alloc: Global, task: ReduceTask<'a, S>) -> Reduced<'a, S>
     requires windows { HasWindows task.view.bound.now }
     requires fit { All IsFitRow (joined_vecs task.rows.items) }
