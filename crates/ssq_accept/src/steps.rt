@@ -1,6 +1,6 @@
 //! The steps from the bytes of a query file to the query as it is run.
 
-ghost use Rattle.std.specs.Prelude.{IfOk, IfErr, OnOk};
+ghost use Rattle.std.specs.Prelude.{◌≡◌, IfOk, IfErr, OnOk};
 ghost use Rattle.ssq_accept.specs.Accepting.{IsRead, IsNoQuery, IsBoundAs, IsUnbound, MayRun, MayNotRun, IsAccepted, IsRefused, IsAllowed, IsNotAllowed, AcceptedAreTaken, AreRefusedAlike};
 
 use crate::refusal::Refusal;
@@ -17,6 +17,17 @@ pub struct Accepted {
     pub query: Query,
     /// The same with its names bound.
     pub bound: Bound,
+}
+
+impl Accepted {
+    /// The query with its names bound, alone.
+    pub fn into_bound(self) -> Bound
+        ensures { result ≡ self.bound }
+    {
+        let Accepted { query, bound } = self;
+        drop(query);
+        bound
+    }
 }
 
 fn read(alloc: Global, bytes: &[u8]) -> Result<Query, Refusal>

@@ -10,7 +10,7 @@ ghost use Rattle.ssq_run.specs.Queries.{IsQueryFor, IsQueryOf, IsSomeQuery, file
 ghost use Rattle.ssq_run.specs.Stopping.{HasCount, IsNoFile, IsPastWords, IsUnread, WordsCause, stop_in};
 
 use crate::stop::Stop;
-use ssq_accept::{Accepted, Refusal, accept};
+use ssq_accept::{Refusal, accept};
 use ssq_gen::QUERY;
 use ssq_outside::Inputs;
 use ssq_runner::Ask;
@@ -83,8 +83,7 @@ fn query_of(alloc: Global, text: &[u8]) -> Result<Bound, Refusal>
     ensures can { IfOk result CanRun }
     ensures refused { IfErr result (IsRefused text.now) }
 {
-    let Accepted { query: _, bound } = accept(alloc, text)?;
-    Ok(bound)
+    Ok(accept(alloc, text)?.into_bound())
 }
 
 /// Reads the query of a command.
