@@ -5,13 +5,13 @@ use Rattle.std.specs.Option.{option_map_or}
 use Rattle.std.proofs.lemmas.List.Kept.{AllPairs-cons, AllPairs-filter}
 use Rattle.ssq_outside.specs.declared.name.Name.{Name}
 use Rattle.ssq_outside.specs.Files.{same_name, name_before, AreNames, Files}
+use Rattle.ssq_outside.proofs.NameOrder.{name_before-trans, name_before-other}
 use Rattle.ssq_outside.proofs.Names.{same_name-true, same_name-same}
 use Rattle.ssq_fakes.specs.declared.record.Event.{Event}
 use Rattle.ssq_fakes.specs.declared.record.Event.TheVariants.{Put, Gone, Synced}
 use Rattle.ssq_fakes.specs.Records.{is_about, name_of, content_of, content_in, is_sync, is_changed_in}
 use Rattle.ssq_fakes.specs.Names.{place_of, with_name, with_some, names_from}
 use Rattle.ssq_fakes.specs.Disks.{has_name}
-use Rattle.ssq_fakes.proofs.NameOrder.{name_before-trans, name_before-other}
 
 -- whether this name stands at that place
 abbrev stands_at : Name → List Name → ℕ → Bool

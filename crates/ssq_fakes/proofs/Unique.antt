@@ -3,10 +3,10 @@ use Rattle.std.proofs.Common.{◌≡◌, ◌∷◌, [], ◌∙◌, List, Bool, t
 use Rattle.std.specs.Prelude.{if◌then◌else◌, All, AllPairs, IsTrue}
 use Rattle.ssq_outside.specs.declared.name.Name.{Name}
 use Rattle.ssq_outside.specs.Files.{same_name, name_before, Had}
+use Rattle.ssq_outside.proofs.NameOrder.{name_before-trans, name_before-itself}
 use Rattle.ssq_outside.proofs.Names.{same_name-true, same_name-same}
 use Rattle.ssq_fakes.specs.Disks.{has_name}
 use Rattle.ssq_fakes.specs.Crashes.{has_changed, AreChanged}
-use Rattle.ssq_fakes.proofs.NameOrder.{name_before-trans, name_before-itself}
 use Rattle.ssq_fakes.proofs.NameLists.{Follow, Ascend, Contains-has_name, has_name-Contains}
 
 all_to_follow : (m : Name) (ms : List Name) → All (λ n. IsTrue (name_before m n)) ms → Follow m ms

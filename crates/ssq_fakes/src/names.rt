@@ -2,37 +2,12 @@
 
 ghost use Rattle.std.specs.Prelude.{◌≡◌, ◌≤◌, length, slice_get, OnOk, false};
 ghost use Rattle.std.specs.Option.{option_map_or};
-ghost use Rattle.ssq_outside.specs.Files.{same_name, name_before, kind_of, first_of, second_of};
+ghost use Rattle.ssq_outside.specs.Files.{same_name};
 ghost use Rattle.ssq_fakes.specs.Crashes.{index_of};
 ghost use Rattle.ssq_fakes.specs.Names.{place_of, with_name, with_some};
 
 use ssq_outside::Name;
 use std::alloc::AllocError;
-
-/// Where a name's kind stands in the order, and its numbers.
-fn key(name: Name) -> (u8, u32, u32)
-    ensures kind { result.0 ≡ kind_of name }
-    ensures first { result.1 ≡ first_of name }
-    ensures second { result.2 ≡ second_of name }
-{
-    match name {
-        Name::Meta => (0, 0, 0),
-        Name::Plan(epoch) => (1, epoch, 0),
-        Name::Commit(epoch) => (2, epoch, 0),
-        Name::Out(epoch) => (3, epoch, 0),
-        Name::Delta(partition, version) => (4, partition, version),
-        Name::Snapshot(partition, version) => (5, partition, version),
-    }
-}
-
-fn comes_before(name: Name, other: Name) -> bool
-    ensures { result ≡ name_before name other }
-{
-    let (kind, first, second) = key(name);
-    let (of_kind, of_first, of_second) = key(other);
-    kind < of_kind
-        || kind == of_kind && (first < of_first || first == of_first && second < of_second)
-}
 
 /// How many of the names come before this one, of names in their order.
 fn place(names: &[Name], name: Name) -> usize
@@ -40,7 +15,7 @@ fn place(names: &[Name], name: Name) -> usize
     ensures within { result ≤ length names.now }
 {
     for (i, other) in names.iter().enumerate() {
-        if !comes_before(*other, name) {
+        if !other.comes_before(name) {
             return i;
         }
     }

@@ -19,9 +19,9 @@ ghost use Rattle.ssq_ledger.specs.Names.{MakesRoom, MakesSettled};
 use crate::board::Board;
 use crate::ledger::{Ledger, Opening};
 use crate::names::{Names, add, make_room as make_names_room, make_settled, settle};
-use crate::plan::{Next, seal};
+use crate::plan::Next;
 use ssq_board::{Cause, Entry, Ready};
-use ssq_outside::{Disk, DiskError, DiskFault, Name, Stage, TaskId};
+use ssq_outside::{Disk, DiskError, DiskFault, Name, Stage, TaskId, seal};
 use std::alloc::Global;
 
 impl<D: Disk, O: Opening> Ledger<D, O> {

@@ -1,8 +1,7 @@
 //! The plan that is to be published next, made whole before a name is changed.
 
-ghost use Rattle.std.specs.Prelude.{◌≡◌, ◌≤◌, ◌<◌, ◌≢◌, IfOk, IfErr, IsErrOf};
+ghost use Rattle.std.specs.Prelude.{◌≡◌, ◌<◌, IfOk, IfErr, IsErrOf};
 ghost use Rattle.std.specs.Option.{ForSome};
-ghost use Rattle.ssq_outside.specs.Faults.{Rises};
 ghost use Rattle.ssq_time.specs.Time.{IsStampTime};
 ghost use Rattle.ssq_plans.specs.Records.{plan_text};
 ghost use Rattle.ssq_board.specs.declared.front.Cause.TheVariants as cause;
@@ -14,7 +13,6 @@ use crate::board::Board;
 use crate::scope::Scope;
 use ssq_board::Cause;
 use ssq_field::Bytes;
-use ssq_outside::{Disk, DiskError, Stage};
 use ssq_plans::{Plan, next_epoch, write_plan};
 use ssq_value::Sequence;
 use std::alloc::{AllocError, Global};
@@ -73,33 +71,5 @@ impl Board {
         let Plan { ends, .. } = plan;
         let board = self.planned(alloc, scope, ends.into_vec())?;
         Ok(Next { board, text })
-    }
-}
-
-/// Writes a file aside and seals it.
-pub(crate) fn seal<D: Disk>(
-    alloc: Global,
-    disk: &mut D,
-    bytes: &[u8],
-) -> Result<<D::Stage as Stage>::Sealed, DiskError>
-    ensures sealed { D.tells → IfOk result (λ file. D.Stage.sealed file ≡ bytes.now) }
-    ensures same { D.tells → D.history disk.new ≡ D.history disk.old }
-    ensures counted { D.faults disk.old ≤ D.faults disk.new }
-    ensures cause { IsErrOf result DiskError.Fault → Rises (D.faults disk.old) (D.faults disk.new) }
-{
-    let mut stage = disk.stage(alloc)?;
-    match stage.write(bytes) {
-        Ok(()) => {}
-        Err(error) => {
-            disk.discard(stage);
-            return Err(DiskError::from(error));
-        }
-    }
-    match stage.sync() {
-        Ok(file) => Ok(file),
-        Err(stage) => {
-            disk.discard(stage);
-            Err(DiskError::Fault)
-        }
     }
 }

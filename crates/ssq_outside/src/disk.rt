@@ -194,3 +194,31 @@ pub trait Disk: Drop {
     /// A disk that tells what it holds hands out stages that tell.
     ghost stages_tell: { tells → Self.Stage.tells };
 }
+
+/// Writes a file aside and seals it.
+pub fn seal<D: Disk>(
+    alloc: Global,
+    disk: &mut D,
+    bytes: &[u8],
+) -> Result<<D::Stage as Stage>::Sealed, DiskError>
+    ensures sealed { D.tells → IfOk result (λ file. D.Stage.sealed file ≡ bytes.now) }
+    ensures same { D.tells → D.history disk.new ≡ D.history disk.old }
+    ensures counted { D.faults disk.old ≤ D.faults disk.new }
+    ensures cause { IsErrOf result DiskError.Fault → Rises (D.faults disk.old) (D.faults disk.new) }
+{
+    let mut stage = disk.stage(alloc)?;
+    match stage.write(bytes) {
+        Ok(()) => {}
+        Err(error) => {
+            disk.discard(stage);
+            return Err(DiskError::from(error));
+        }
+    }
+    match stage.sync() {
+        Ok(file) => Ok(file),
+        Err(stage) => {
+            disk.discard(stage);
+            Err(DiskError::Fault)
+        }
+    }
+}

@@ -13,7 +13,7 @@ mod inputs;
 mod name;
 mod output;
 
-pub use disk::{Disk, DiskError, DiskFault, Stage, StageError};
+pub use disk::{Disk, DiskError, DiskFault, Stage, StageError, seal};
 pub use gate::{Gate, Kind, TaskId};
 pub use inputs::{InputError, Inputs, LineError, Log, LogFault};
 pub use name::Name;

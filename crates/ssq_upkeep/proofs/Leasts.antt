@@ -6,11 +6,11 @@ use Rattle.std.proofs.lemmas.Bool.Decides.{nat_tests}
 use Rattle.ssq_outside.specs.declared.name.Name.{Name}
 use Rattle.ssq_outside.specs.declared.name.Name.TheVariants as name
 use Rattle.ssq_outside.specs.Files.{name_before}
+use Rattle.ssq_outside.proofs.NameOrder.{name_before-trans, name_before-below, name_before-itself}
 use Rattle.ssq_outside.proofs.Names.{same_name-true, same_name-same}
 use Rattle.ssq_upkeep.specs.Upkeep.{MayGo, is_among, is_up_to, is_sure, is_of, Goes, IsLeast}
 use Rattle.ssq_upkeep.specs.Steps.{IsFloor, HasNoFloor, is_less, lesser}
 use Rattle.ssq_upkeep.proofs.Among.{Grows, among_both, or_left, or_right, still_among, new_among, old_or_new}
-use Rattle.ssq_upkeep.proofs.Order.{name_before-trans, name_before-below, name_before-itself}
 
 -- what a settled snapshot lets go
 abbrev pub IsLet : List Name → ℕ → ℕ → Name → Type 0

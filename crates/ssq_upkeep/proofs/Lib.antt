@@ -2,4 +2,3 @@ mod Among
 mod Floors
 pub mod Lasting
 mod Leasts
-mod Order

@@ -2,7 +2,6 @@
 
 ghost use Rattle.std.specs.Prelude.{◌≡◌, ◌↔◌, ◌++◌, true, Some, IsTrue, MatchOption};
 ghost use Rattle.ssq_outside.specs.declared.name.Name.{Name as NameOf};
-ghost use Rattle.ssq_outside.specs.Files.{kind_of, first_of, second_of, name_before};
 ghost use Rattle.ssq_upkeep.specs.Upkeep.{MayGo, is_sure, is_of, Goes, IsLeast};
 ghost use Rattle.ssq_upkeep.specs.Steps.{is_less, lesser};
 
@@ -73,32 +72,7 @@ fn is_less(name: Name, least: Option<Name>) -> bool
     ensures { result ≡ is_less name least }
 {
     match least {
-        Some(least) => comes_before(name, least),
+        Some(least) => name.comes_before(least),
         None => true,
     }
-}
-
-/// Where a name's kind stands in the order of names, and its numbers.
-fn key(name: Name) -> (u8, u32, u32)
-    ensures kind { result.0 ≡ kind_of name }
-    ensures first { result.1 ≡ first_of name }
-    ensures second { result.2 ≡ second_of name }
-{
-    match name {
-        Name::Meta => (0, 0, 0),
-        Name::Plan(epoch) => (1, epoch, 0),
-        Name::Commit(epoch) => (2, epoch, 0),
-        Name::Out(epoch) => (3, epoch, 0),
-        Name::Delta(partition, version) => (4, partition, version),
-        Name::Snapshot(partition, version) => (5, partition, version),
-    }
-}
-
-fn comes_before(name: Name, other: Name) -> bool
-    ensures { result ≡ name_before name other }
-{
-    let (kind, first, second) = key(name);
-    let (of_kind, of_first, of_second) = key(other);
-    kind < of_kind
-        || kind == of_kind && (first < of_first || first == of_first && second < of_second)
 }

@@ -44,6 +44,13 @@ after_by m n false is not_before other =
 pub name_before-other : (m n : Name) → name_before m n ≡ false → same_name n m ≡ false → name_before n m ≡ true
 name_before-other m n = after_by m n (name_before n m) refl
 
+key_between : (a b c d e f x y z : ℕ) → key_before d e f x y z ≡ false → key_before a b c x y z ≡ true → key_before a b c d e f ≡ true
+key_between a b c d e f x y z other less = grind (arith, nat_tests)
+
+-- what comes before a name comes before each that does not
+pub name_before-below : (m n q : Name) → name_before n q ≡ false → name_before m q ≡ true → name_before m n ≡ true
+name_before-below m n q other less = key_between (kind_of m) (first_of m) (second_of m) (kind_of n) (first_of n) (second_of n) (kind_of q) (first_of q) (second_of q) other less
+
 key_itself : (a b c : ℕ) → key_before a b c a b c ≡ false
 key_itself a b c = grind (arith, nat_tests)
 
