@@ -9,7 +9,7 @@ use Rattle.ssq_outside.specs.declared.gate.Kind.{Kind}
 use Rattle.ssq_outside.specs.declared.gate.Kind.TheVariants as kind
 use Rattle.ssq_outside.specs.Files.{Content, Files, Had, MayBe, same_name, files_of, added, removed, settled_at}
 use Rattle.ssq_outside.specs.History.{History, had_now, files_now, Elapses}
-use Rattle.ssq_outside.proofs.Steps.{files_are_image}
+use Rattle.ssq_outside.proofs.Steps.{files_are_image, newest_changed}
 use Rattle.ssq_plans.specs.declared.meta.Meta.{Meta}
 use Rattle.ssq_core.specs.declared.event.Event.{Event}
 use Rattle.ssq_core.specs.declared.event.Event.TheVariants as event
@@ -19,7 +19,7 @@ use Rattle.ssq_core.specs.Staying.{IsNoOther}
 use Rattle.ssq_core.specs.Machine.{Place, waits, out, sealed, back, failed, Desk, Life, running, life_after, State, Change, nothing, misses, publishes, removes, syncs, Allows, Leaves, IsMarked, GoesOn, IsRunning, IsBack, AreBack, reduce, out_task, same_task, placed, with_file, with_plan, with_commit, with_sync, with_store, opened, May, Leads}
 use Rattle.ssq_core.specs.Sound.{IsSure, IsSoundAt}
 use Rattle.ssq_core.specs.Example.{example_course, example_job, map_task, ExampleRuns}
-use Rattle.ssq_core.proofs.Hads.{newest_changed, settled_may}
+use Rattle.ssq_core.proofs.Hads.{settled_may}
 use Rattle.ssq_core.proofs.Holding.{lt_true}
 use Rattle.ssq_core.proofs.Moves.{IsEvent, moves_on, open_sound}
 use Rattle.ssq_core.proofs.Opening.{sound_stands, can_open}

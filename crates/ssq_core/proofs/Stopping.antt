@@ -6,6 +6,7 @@ use Rattle.ssq_core.specs.declared.event.Event.TheVariants as event
 use Rattle.ssq_core.specs.Course.{Job}
 use Rattle.ssq_core.specs.Machine.{failed, Desk, Life, running, owing, Change, GoesOn, OwesNone, State, MayOn}
 use Rattle.ssq_core.specs.Laws.{is_end, is_return, StopIsNext}
+use Rattle.ssq_core.proofs.Claims.{some_desk}
 
 owes_not : (life : Life) (t : TaskId) → life ≡ running → life ≡ owing t → ⊥
 owes_not life t runs owes = cc
@@ -42,9 +43,6 @@ on_due job d life _ change n may = absurd may
 -- the same of a state
 abbrev IsDueIn : State → Event → Type 0
 IsDueIn s e = ((t : TaskId) → s.life ≡ owing t → is_end e ≡ true) × ((d : Desk) (t : TaskId) → s.desk ≡ Some d → d.tasks t ≡ failed → is_return e ≡ true)
-
-some_desk : (x y : Desk) → ◌≡◌ {A = Option Desk} (Some x) (Some y) → x ≡ y
-some_desk x y is = cc
 
 on_desk : (job : Job) (s : State) (e : Event) (change : Change) (d d' : Desk) → s.desk ≡ Some d → MayOn job d s.life e change d' → IsDueIn s e
 on_desk job s e change d d' is may =

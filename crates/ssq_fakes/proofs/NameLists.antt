@@ -92,20 +92,20 @@ in_order : (names : List Name) → Ascend names → AllPairs (λ m n. IsTrue (na
 in_order [] ascend = λ i j d before below. absurd (omega (arith, below))
 in_order (m ∷ ms) ascend = AllPairs-cons (λ m n. IsTrue (name_before m n)) m ms (all_follow m ms ascend.0) (in_order ms ascend.1)
 
+second_is : (c x : Bool) → x ≡ true → (if c then true else x) ≡ true
+second_is true x is = refl
+second_is false x is = is
+
+either_of : (c x y : Bool) → (x ≡ true → y ≡ true) → (if c then true else x) ≡ true → (if c then true else y) ≡ true
+either_of true x y later has = refl
+either_of false x y later has = later has
+
 -- a name that is among them, and one of them that is put in, are there
 has_by : (b s : Bool) (name m q : Name) (ms rest : List Name) → same_name name m ≡ s → (has_name ms q ≡ true → has_name rest q ≡ true) → has_name (m ∷ ms) q ≡ true
     → has_name (if b then m ∷ rest else if s then m ∷ ms else name ∷ m ∷ ms) q ≡ true
 has_by true s name m q ms rest same later has = either_of (same_name q m) (has_name ms q) (has_name rest q) later has
-  where
-    either_of : (c x y : Bool) → (x ≡ true → y ≡ true) → (if c then true else x) ≡ true → (if c then true else y) ≡ true
-    either_of true x y later has = refl
-    either_of false x y later has = later has
 has_by false true name m q ms rest same later has = has
-has_by false false name m q ms rest same later has = second_of_two (same_name q name) (has_name (m ∷ ms) q) has
-  where
-    second_of_two : (c x : Bool) → x ≡ true → (if c then true else x) ≡ true
-    second_of_two true x has = refl
-    second_of_two false x has = has
+has_by false false name m q ms rest same later has = second_is (same_name q name) (has_name (m ∷ ms) q) has
 
 has_name-kept : (name q : Name) (names : List Name) → has_name names q ≡ true → has_name (with_name name names) q ≡ true
 has_name-kept name q [] has = cc
@@ -114,10 +114,6 @@ has_name-kept name q (m ∷ ms) has = has_by (name_before m name) (same_name nam
 first_is : (c x : Bool) → c ≡ true → (if c then true else x) ≡ true
 first_is true x is = refl
 first_is false x is = cc
-
-second_is : (c x : Bool) → x ≡ true → (if c then true else x) ≡ true
-second_is true x is = refl
-second_is false x is = is
 
 put_there_by : (b s : Bool) (name m : Name) (ms rest : List Name) → same_name name m ≡ s → has_name rest name ≡ true
     → has_name (if b then m ∷ rest else if s then m ∷ ms else name ∷ m ∷ ms) name ≡ true
@@ -196,11 +192,7 @@ has_name-Contains (name ∷ names) q (suc k) below is = later (same_name q name)
 
 kept_by : (P : Name → Bool) (b : Bool) (m q : Name) (ms : List Name) → P m ≡ b → P q ≡ true → (if same_name q m then true else has_name ms q) ≡ true → (has_name ms q ≡ true → has_name (filter P ms) q ≡ true)
     → has_name (if b then m ∷ filter P ms else filter P ms) q ≡ true
-kept_by P true m q ms is holds has later = kept_first (same_name q m) (has_name ms q) (has_name (filter P ms) q) later has
-  where
-    kept_first : (c x y : Bool) → (x ≡ true → y ≡ true) → (if c then true else x) ≡ true → (if c then true else y) ≡ true
-    kept_first true x y later has = refl
-    kept_first false x y later has = later has
+kept_by P true m q ms is holds has later = either_of (same_name q m) (has_name ms q) (has_name (filter P ms) q) later has
 kept_by P false m q ms isn't holds has later = kept_other (same_name q m) refl has
   where
     kept_other : (c : Bool) → same_name q m ≡ c → (if c then true else has_name ms q) ≡ true → has_name (filter P ms) q ≡ true

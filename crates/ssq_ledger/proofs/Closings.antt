@@ -1,6 +1,7 @@
 -- Between epochs all tasks are back.
 use Rattle.std.proofs.Common.{◌≡◌, ◌⊎◌, ◌≤◌, ◌+◌, ℕ, zero, suc, Bool, true, false, true≢false, List, [], ◌∷◌, length, map, replicate, set, Option, Some, None, nat_lt, ◌&&◌, sym, refl, ap, ◌∙◌, subst, inl, inr, arith}
 use Rattle.std.specs.List.{list_all}
+use Rattle.std.proofs.lemmas.Bool.{and_parts}
 use mathlib.Core.Option.{some, some-injective, some-ne-none}
 use lib.ListN.{get_elem?}
 use Rattle.ssq_outside.specs.declared.gate.Kind.{Kind}
@@ -18,21 +19,13 @@ use Rattle.ssq_board.proofs.Lists.{nat_lt-is}
 use Rattle.ssq_board.proofs.Sounds.{step_sound, first_sound}
 use Rattle.ssq_board.specs.Follows.{State, Leads}
 use Rattle.ssq_ledger.specs.Shown.{AreBack}
-use Rattle.ssq_ledger.proofs.Written.{IsBackWritten, step_back, first_back}
-
-and_left : (a b : Bool) → (a && b) ≡ true → a ≡ true
-and_left true b e = refl
-and_left false b e = absurd (true≢false (sym e))
-
-and_right : (a b : Bool) → (a && b) ≡ true → b ≡ true
-and_right true b e = e
-and_right false b e = absurd (true≢false (sym e))
+use Rattle.ssq_ledger.proofs.Written.{IsBackWritten, head_kept, step_back, first_back}
 
 -- where all are fine, none waits, and none is away
 fine_at : (l : List Place) (n : ℕ) (q : Place) → list_all is_fine l ≡ true → get_elem? l n ≡ some q → is_fine q ≡ true
 fine_at [] n q e here = absurd (some-ne-none q (sym here))
-fine_at (p ∷ ps) zero q e here = ap is_fine (sym (some-injective p q here)) ∙ and_left (is_fine p) (list_all is_fine ps) e
-fine_at (p ∷ ps) (suc n) q e here = fine_at ps n q (and_right (is_fine p) (list_all is_fine ps) e) here
+fine_at (p ∷ ps) zero q e here = ap is_fine (sym (some-injective p q here)) ∙ (and_parts (is_fine p) (list_all is_fine ps) e).0
+fine_at (p ∷ ps) (suc n) q e here = fine_at ps n q (and_parts (is_fine p) (list_all is_fine ps) e).1 here
 
 -- The out task is the last: once it is with a worker or back, all others are back without a fault; and so they are between epochs.
 pub record IsLast (c : Core) : Type 0 where
@@ -49,10 +42,6 @@ waits_fine e = true≢false (sym e)
 away_fine : is_fine place.Away ≡ true → ⊥
 away_fine e = true≢false (sym e)
 
-head_kept : (l : List Place) (n : ℕ) (p : Place) → get_elem? (set l (suc n) p) 0 ≡ get_elem? l 0
-head_kept [] n p = refl
-head_kept (x ∷ xs) n p = refl
-
 open_after : (c : Core) → c.front.committed ≤ c.front.planned → nat_lt c.front.committed (c.front.planned + 1) ≡ false → ⊥
 open_after c le e = true≢false (sym (nat_lt-is c.front.committed (c.front.planned + 1) (omega (arith, le))) ∙ e)
 
@@ -64,8 +53,8 @@ claimed : (c : Core) (n : ℕ) (k : Kind) → is_open c ≡ true → may_start c
 claimed c n kind.Map opened may here d = record { out = λ o. absurd (waits_fine (fine_at c.maps n place.Waits (d.out o).maps here)); between = λ e. never c opened e }
 claimed c n kind.Reduce opened may here d = record { out = λ o. absurd (waits_fine (fine_at c.reduces n place.Waits (d.out o).reduces here)); between = λ e. never c opened e }
 claimed c n kind.Out opened may here d =
-    let both = and_right c.front.fresh (list_all is_fine c.maps && list_all is_fine c.reduces) may in
-    let all : AreBack c = record { maps = and_left (list_all is_fine c.maps) (list_all is_fine c.reduces) both; reduces = and_right (list_all is_fine c.maps) (list_all is_fine c.reduces) both } in
+    let both = and_parts (list_all is_fine c.maps) (list_all is_fine c.reduces) (and_parts c.front.fresh (list_all is_fine c.maps && list_all is_fine c.reduces) may).1 in
+    let all : AreBack c = record { maps = both.0; reduces = both.1 } in
     record { out = λ o. record { maps = all.maps; reduces = all.reduces }; between = λ e. never c opened e }
 claimed c n kind.Upkeep opened may here d = absurd (some-ne-none place.Waits (sym here))
 

@@ -18,7 +18,7 @@ use Rattle.ssq_board.specs.Follows.{State, Leads}
 abbrev pub IsBackWritten : Core → Type 0
 IsBackWritten c = c.front.written ≡ true → get_elem? c.outs 0 ≡ some (place.Back None)
 
-head_kept : (l : List Place) (n : ℕ) (p : Place) → get_elem? (set l (suc n) p) 0 ≡ get_elem? l 0
+pub head_kept : (l : List Place) (n : ℕ) (p : Place) → get_elem? (set l (suc n) p) 0 ≡ get_elem? l 0
 head_kept [] n p = refl
 head_kept (x ∷ xs) n p = refl
 

@@ -24,27 +24,30 @@ pub files_are_image : (had : Had) → IsImage had (files_of had)
 files_are_image had q = last_among (had q).settled (had q).since
 
 -- what stands at a name after a change of one name
-changed_at : (name q : Name) (c : Content) (had : Had) (b : Bool) → same_name q name ≡ b
-    → newest (changed name c had q) ≡ (if b then c else newest (had q))
-changed_at name q c had true same = rw same (last_or-push (had q).settled c (had q).since)
-changed_at name q c had false other = rw other refl
+pub newest_changed : (name q : Name) (c : Content) (had : Had) → newest (changed name c had q) ≡ (if same_name q name then c else newest (had q))
+newest_changed name q c had = by (same_name q name) refl
+  where
+    by : (b : Bool) → same_name q name ≡ b → newest (changed name c had q) ≡ (if b then c else newest (had q))
+    by true same = rw same (last_or-push (had q).settled c (had q).since)
+    by false other = rw other refl
 
 -- after a publish the files are those of before, with the bytes under the name
 pub files_of-added : (name : Name) (bytes : List ℕ) (had : Had) → files_of (added name bytes had) ≡ published name bytes (files_of had)
 files_of-added name bytes had =
-    let at : (q : Name) → files_of (added name bytes had) q ≡ published name bytes (files_of had) q = λ q. changed_at name q (Some bytes) had (same_name q name) refl in
+    let at : (q : Name) → files_of (added name bytes had) q ≡ published name bytes (files_of had) q = λ q. newest_changed name q (Some bytes) had in
     λ i q. at q i
 
 -- after a sync the files are the same
 pub files_of-settled : (files : Files) → files_of (settled_at files) ≡ files
 files_of-settled files = refl
 
-may_be_changed : (name q : Name) (c x : Content) (had : Had) → same_name q name ≡ true → MayBe (changed name c had q) x → MayBe (had q) x ⊎ (x ≡ c)
+-- what a name may be after a change of that name, and of another
+pub may_be_changed : (name q : Name) (c x : Content) (had : Had) → same_name q name ≡ true → MayBe (changed name c had q) x → MayBe (had q) x ⊎ (x ≡ c)
 may_be_changed name q c x had same may =
     let at = rw same at may in
     elim at [ inl settled ↦ inl (inl settled) | inr since ↦ elim (Contains-push_cases (had q).since c x since) [ inl among ↦ inl (inr among) | inr is ↦ inr (sym is) ] ]
 
-may_be_other : (name q : Name) (c x : Content) (had : Had) → same_name q name ≡ false → MayBe (changed name c had q) x → MayBe (had q) x
+pub may_be_other : (name q : Name) (c x : Content) (had : Had) → same_name q name ≡ false → MayBe (changed name c had q) x → MayBe (had q) x
 may_be_other name q c x had other may = rw other at may
 
 -- An image after a publish is one of before, or one of before with the bytes under the name.

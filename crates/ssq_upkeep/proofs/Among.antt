@@ -1,6 +1,6 @@
 -- A list of names grows by one.
 use Rattle.std.proofs.Common.{◌≡◌, ◌⊎◌, ◌<◌, ◌+◌, ◌++◌, ◌==◌, ◌&&◌, ◌||◌, ◌∙◌, ℕ, Bool, true, false, List, length, get_or, take, refl, ap, sym, arith, rules}
-use Rattle.std.proofs.lemmas.Bool.{or_cases}
+use Rattle.std.proofs.lemmas.Bool.{or_left, or_right, or_cases}
 use Rattle.std.proofs.lemmas.List.Folds.{list_any_more, list_any-append}
 use Rattle.ssq_outside.specs.declared.name.Name.{Name}
 use Rattle.ssq_outside.specs.declared.name.Name.TheVariants as name
@@ -17,14 +17,6 @@ grows names i d less q = list_any_more (λ n. same_name n q) names i d less
 or_false : (a b : Bool) → b ≡ false → (a || b) ≡ a
 or_false true b none = refl
 or_false false b none = none
-
-pub or_left : (a b : Bool) → a ≡ true → (a || b) ≡ true
-or_left true b is = refl
-or_left false b is = cc
-
-pub or_right : (a b : Bool) → b ≡ true → (a || b) ≡ true
-or_right true b is = refl
-or_right false b is = is
 
 -- a name is in two lists, one behind the other, where it is in one of them
 pub among_both : (a b : List Name) (q : Name) → is_among (a ++ b) q ≡ (is_among a q || is_among b q)

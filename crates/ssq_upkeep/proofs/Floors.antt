@@ -79,13 +79,13 @@ floor_from settled p last highest (Some f) is found = record {
   newest = λ s old here. found.greatest s (omega (arith, is, old)) here;
 }
 
-up_to : (last e : ℕ) → is_up_to (Some last) e ≡ true → e ≤ last
+pub up_to : (last e : ℕ) → is_up_to (Some last) e ≡ true → e ≤ last
 up_to last e is = grind (arith, nat_tests)
 
 not_up_to : (last e : ℕ) → is_up_to (Some last) e ≡ false → last < e
 not_up_to last e is = grind (arith, nat_tests)
 
-is_up : (last e : ℕ) → e ≤ last → is_up_to (Some last) e ≡ true
+pub is_up : (last e : ℕ) → e ≤ last → is_up_to (Some last) e ≡ true
 is_up last e less = grind (arith, nat_tests)
 
 not_up : (last e : ℕ) → last < e → is_up_to (Some last) e ≡ false

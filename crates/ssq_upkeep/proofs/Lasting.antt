@@ -1,6 +1,7 @@
 -- What is due, and what is not, after names came and names went.
 use Rattle.std.proofs.Common.{◌≡◌, ◌<◌, ◌≤◌, ◌+◌, ◌%◌, ◌==◌, ◌&&◌, ◌∙◌, not, ℕ, zero, suc, Bool, true, false, List, Option, refl, ap, sym, subst, inl, inr, arith, rules, true≢false}
 use Rattle.std.specs.Prelude.{nat_lt, if◌then◌else◌}
+use Rattle.std.proofs.lemmas.Bool.{false_from_ne_true}
 use Rattle.std.proofs.lemmas.Bool.Decides.{nat_tests}
 use Rattle.ssq_outside.specs.declared.name.Name.{Name}
 use Rattle.ssq_outside.specs.declared.name.Name.TheVariants as name
@@ -48,18 +49,14 @@ apart p q v s less = grind (arith, rules)
 partitions_are : (p q v w : ℕ) → (p == q && v == w) ≡ true → p ≡ q
 partitions_are p q v w is = grind (arith, rules)
 
-not_by : (b : Bool) → (b ≡ true → ⊥) → b ≡ false
-not_by true other = absurd (other refl)
-not_by false other = refl
-
 -- a snapshot is due after a name went, and that name is none of its partition from its version on
 due_beside : (names left settled kept : List Name) (p : ℕ) (last : Option ℕ) (q : Name) (v : ℕ) → LeavesOut q names left → LeavesOut q settled kept → IsDue left kept p last v
     → ((n : ℕ) → v ≤ n → same_name (name.Snapshot p n) q ≡ true → ⊥) → IsDue names settled p last v
 due_beside names left settled kept p last q v less fewer due other = record {
   tenth = due.tenth;
   acknowledged = due.acknowledged;
-  absent = absent_by (is_among names (name.Snapshot p v)) (is_among left (name.Snapshot p v)) (less.others (name.Snapshot p v) (not_by (same_name (name.Snapshot p v) q) (other v (omega arith)))) due.absent;
-  stays = λ s above is. due.stays s above (fewer.others (name.Snapshot p s) (not_by (same_name (name.Snapshot p s) q) (other s (omega (arith, above)))) is);
+  absent = absent_by (is_among names (name.Snapshot p v)) (is_among left (name.Snapshot p v)) (less.others (name.Snapshot p v) (false_from_ne_true (same_name (name.Snapshot p v) q) (other v (omega arith)))) due.absent;
+  stays = λ s above is. due.stays s above (fewer.others (name.Snapshot p s) (false_from_ne_true (same_name (name.Snapshot p s) q) (other s (omega (arith, above)))) is);
 }
 
 -- Where a file went that may go, nothing is due that was not due before.

@@ -1,7 +1,7 @@
 -- The least name that may go, so far.
 use Rattle.std.proofs.Common.{◌≡◌, ◌⊎◌, ◌<◌, ◌≤◌, ◌+◌, ◌++◌, ◌∙◌, ℕ, Bool, true, false, List, Option, Some, None, if◌then◌else◌, refl, sym, subst, inl, inr, arith, true≢false}
 use Rattle.std.specs.Prelude.{MatchOption}
-use Rattle.std.proofs.lemmas.Bool.{or_cases}
+use Rattle.std.proofs.lemmas.Bool.{or_left, or_right, or_cases}
 use Rattle.std.proofs.lemmas.Bool.Decides.{nat_tests}
 use Rattle.ssq_outside.specs.declared.name.Name.{Name}
 use Rattle.ssq_outside.specs.declared.name.Name.TheVariants as name
@@ -10,7 +10,8 @@ use Rattle.ssq_outside.proofs.NameOrder.{name_before-trans, name_before-below, n
 use Rattle.ssq_outside.proofs.Names.{same_name-true, same_name-same}
 use Rattle.ssq_upkeep.specs.Upkeep.{MayGo, is_among, is_up_to, is_sure, is_of, Goes, IsLeast}
 use Rattle.ssq_upkeep.specs.Steps.{IsFloor, HasNoFloor, is_less, lesser}
-use Rattle.ssq_upkeep.proofs.Among.{Grows, among_both, or_left, or_right, still_among, new_among, old_or_new}
+use Rattle.ssq_upkeep.proofs.Among.{Grows, among_both, still_among, new_among, old_or_new}
+use Rattle.ssq_upkeep.proofs.Floors.{up_to, is_up}
 
 -- what a settled snapshot lets go
 abbrev pub IsLet : List Name → ℕ → ℕ → Name → Type 0
@@ -124,12 +125,6 @@ pub none_goes : (names settled : List Name) (partitions : ℕ) (q : Name) → Go
 none_goes names settled partitions q goes = true≢false (sym goes.may.acknowledged)
 
 -- ---- by the floor of a partition
-
-up_to : (last e : ℕ) → is_up_to (Some last) e ≡ true → e ≤ last
-up_to last e is = grind (arith, nat_tests)
-
-is_up : (last e : ℕ) → e ≤ last → is_up_to (Some last) e ≡ true
-is_up last e less = grind (arith, nat_tests)
 
 pub delta_goes : (settled : List Name) (p last v f : ℕ) → IsFloor settled p last f → v ≤ f → MayGo (is_sure settled (Some last)) (name.Delta p v)
 delta_goes settled p last v f floor below = record {
