@@ -3,7 +3,7 @@
 use crate::{FailAt, MemDisk, MemInputs, MemLog, MemOut, OpenGate, each_image_is_picked};
 use ssq_outside::{
     Disk, DiskError, DiskFault, Gate, InputError, Inputs, Kind, LineError, Log, LogFault, Name,
-    OutError, Output, Stage, StageError, TaskId,
+    OutError, Output, Stage, StageError, TaskId, seal,
 };
 use std::alloc::Global;
 use std::test::Fail;
@@ -124,11 +124,7 @@ fn inputs(rt: HostRuntime) -> Result<(), Fail> {
 
 /// Publishes these bytes under the name.
 fn put(alloc: Global, disk: &mut MemDisk, name: Name, bytes: &[u8]) -> Result<(), Fail> {
-    let mut stage = disk.stage(alloc)?;
-    stage.write(bytes)?;
-    let Ok(file) = stage.sync() else {
-        return Err(Fail::from("a sync failed"));
-    };
+    let file = seal(alloc, disk, bytes)?;
     Ok(disk.publish(file, name)?)
 }
 
