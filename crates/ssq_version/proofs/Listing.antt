@@ -1,4 +1,4 @@
--- Entries one after the other: checked, and copied.
+-- Entries one after the other: checked, and what is made of them.
 use Rattle.std.proofs.Common.{◌≡◌, ℕ, suc, ◌^◌, ◌<◌, arith, Option, Some, None, List, [], ◌∷◌, ◌++◌, length, map, refl, sym, ap, subst, ap₂, ◌∙◌, append-nil}
 use Rattle.std.specs.Int.{w32, w64, to_be_bytes}
 use Rattle.std.specs.List.{AllByRecursion}
@@ -96,71 +96,65 @@ listed_all form last n text count listed = go listed.0 listed.1
     go [] lists = ap length lists.bytes
     go (e ∷ es) lists = let many : suc (length es) ≡ 0 = lists.many ∙ count in absurd (omega (arith, many))
 
--- ---- copied
+-- ---- made one after the other
 
--- what is said of a key that has this
-abbrev pub told : {X : Type 0} → (X → Option (List ℕ)) → List (List ℕ × X) → Change
-told said made = map (λ e. (e.0, said e.1)) made
-
--- what is left of the entries: with those that were copied they are all
-pub record IsLeft {X : Type 0} (form : Form) (said : X → Option (List ℕ)) (entries : Change) (made : List (List ℕ × X)) (rest : List ℕ) : Type 0 where
+-- what is left of the entries: with those of which something was made they are all
+pub record IsLeft {T : Type 0} (form : Form) (says : T → List ℕ × Option (List ℕ)) (entries : Change) (made : List T) (rest : List ℕ) : Type 0 where
   pub left : Change
-  pub whole : told said made ++ left ≡ entries
+  pub whole : map says made ++ left ≡ entries
   pub bytes : rest ≡ entries_text form left
   pub spelled : AllByRecursion (IsSpelled form) left
 
-pub left_starts : {X : Type 0} (form : Form) (said : X → Option (List ℕ)) (entries : Change) (made : List (List ℕ × X)) (text : List ℕ) → made ≡ [] → AllByRecursion (IsSpelled form) entries → text ≡ entries_text form entries → IsLeft form said entries made text
-left_starts {X} form said entries made text none spelled is = record { left = entries; whole = ap (λ (es : List (List ℕ × X)). told said es ++ entries) none; bytes = is; spelled = spelled }
+says_more : {T : Type 0} (says : T → List ℕ × Option (List ℕ)) (made : List T) (one : T) (left : Change) → map says (made ++ one ∷ []) ++ left ≡ map says made ++ says one ∷ left
+says_more says [] one left = refl
+says_more says (first ∷ made) one left = ap (λ (es : Change). says first ∷ es) (says_more says made one left)
 
-told-push : {X : Type 0} (said : X → Option (List ℕ)) (made : List (List ℕ × X)) (e : List ℕ × X) (left : Change) → told said (made ++ e ∷ []) ++ left ≡ told said made ++ (e.0, said e.1) ∷ left
-told-push said [] e left = refl
-told-push said (x ∷ made) e left = ap (λ (es : Change). (x.0, said x.1) ∷ es) (told-push said made e left)
-
-pub left_pushed : {X : Type 0} (form : Form) (said : X → Option (List ℕ)) (entries : Change) (made pushed : List (List ℕ × X)) (rest : List ℕ) (key : List ℕ) (x : X) (behind : List ℕ)
-    → pushed ≡ made ++ (key, x) ∷ [] → length behind < length rest
-    → ((k : List ℕ) (v : Option (List ℕ)) (r : List ℕ) → IsSpelled form (k, v) → rest ≡ entry_text form (k, v) ++ r → (key ≡ k) × (said x ≡ v) × (behind ≡ r))
-    → IsLeft form said entries made rest → IsLeft form said entries pushed behind
+pub left_pushed : {T : Type 0} (form : Form) (says : T → List ℕ × Option (List ℕ)) (entries : Change) (made pushed : List T) (rest : List ℕ) (one : T) (key : List ℕ) (value : Option (List ℕ)) (behind : List ℕ)
+    → pushed ≡ made ++ one ∷ [] → length behind < length rest → says one ≡ (key, value)
+    → ((k : List ℕ) (v : Option (List ℕ)) (r : List ℕ) → IsSpelled form (k, v) → rest ≡ entry_text form (k, v) ++ r → (key ≡ k) × (value ≡ v) × (behind ≡ r))
+    → IsLeft form says entries made rest → IsLeft form says entries pushed behind
 unfolding entries_text
-left_pushed {X} form said entries made pushed rest key x behind new shorter finds is = go is.left is.whole is.bytes is.spelled
+left_pushed {T} form says entries made pushed rest one key value behind new shorter same finds is = go is.left is.whole is.bytes is.spelled
   where
-    go : (left : Change) → told said made ++ left ≡ entries → rest ≡ entries_text form left → AllByRecursion (IsSpelled form) left → IsLeft form said entries pushed behind
+    go : (left : Change) → map says made ++ left ≡ entries → rest ≡ entries_text form left → AllByRecursion (IsSpelled form) left → IsLeft form says entries pushed behind
     go [] whole bytes spelled = let none : length rest ≡ 0 = ap length bytes in absurd (omega (arith, none, shorter))
     go (e ∷ left) whole bytes spelled =
-        let same = finds e.0 e.1 (entries_text form left) spelled.0 bytes in
+        let found = finds e.0 e.1 (entries_text form left) spelled.0 bytes in
         record {
           left = left;
-          whole = ap (λ (es : List (List ℕ × X)). told said es ++ left) new ∙ told-push said made (key, x) left
-              ∙ ap (λ (k : List ℕ). told said made ++ (k, said x) ∷ left) same.0
-              ∙ ap (λ (v : Option (List ℕ)). told said made ++ (e.0, v) ∷ left) same.1 ∙ whole;
-          bytes = same.2;
+          whole = ap (λ (ones : List T). map says ones ++ left) new ∙ says_more says made one left
+              ∙ ap (λ (entry : List ℕ × Option (List ℕ)). map says made ++ entry ∷ left) same
+              ∙ ap (λ (k : List ℕ). map says made ++ (k, value) ∷ left) found.0
+              ∙ ap (λ (v : Option (List ℕ)). map says made ++ (e.0, v) ∷ left) found.1 ∙ whole;
+          bytes = found.2;
           spelled = spelled.1;
         }
 
-pub left_ends : {X : Type 0} (form : Form) (said : X → Option (List ℕ)) (entries : Change) (made : List (List ℕ × X)) (rest : List ℕ)
+pub left_ends : {T : Type 0} (form : Form) (says : T → List ℕ × Option (List ℕ)) (entries : Change) (made : List T) (rest : List ℕ)
     → ((k : List ℕ) (v : Option (List ℕ)) (r : List ℕ) → IsSpelled form (k, v) → rest ≡ entry_text form (k, v) ++ r → ⊥)
-    → IsLeft form said entries made rest → told said made ≡ entries
+    → IsLeft form says entries made rest → map says made ≡ entries
 unfolding entries_text
-left_ends form said entries made rest none is = go is.left is.whole is.bytes is.spelled
+left_ends form says entries made rest none is = go is.left is.whole is.bytes is.spelled
   where
-    go : (left : Change) → told said made ++ left ≡ entries → rest ≡ entries_text form left → AllByRecursion (IsSpelled form) left → told said made ≡ entries
-    go [] whole bytes spelled = sym (append-nil (told said made)) ∙ whole
+    go : (left : Change) → map says made ++ left ≡ entries → rest ≡ entries_text form left → AllByRecursion (IsSpelled form) left → map says made ≡ entries
+    go [] whole bytes spelled = sym (append-nil (map says made)) ∙ whole
     go (e ∷ left) whole bytes spelled = absurd (none e.0 e.1 (entries_text form left) spelled.0 bytes)
 
-pub told_same : (made : Change) → told (λ v. v) made ≡ made
-told_same [] = refl
-told_same (e ∷ made) = ap (λ (es : Change). e ∷ es) (told_same made)
+pub each_same : (made : Change) → map (λ e. e) made ≡ made
+each_same [] = refl
+each_same (e ∷ made) = ap (λ (es : Change). e ∷ es) (each_same made)
 
-pub said_once : (made state : State) → told Some made ≡ said_of state → made ≡ state
+pub said_once : (made state : State) → said_of made ≡ said_of state → made ≡ state
 said_once [] [] is = refl
 said_once [] (e ∷ state) is = cc
 said_once (e ∷ made) [] is = cc
 said_once (e ∷ made) (f ∷ state) is =
-    let same : (e.0, Some e.1) ∷ told Some made ≡ (f.0, Some f.1) ∷ said_of state = is in
+    let same : (e.0, Some e.1) ∷ said_of made ≡ (f.0, Some f.1) ∷ said_of state = is in
     let head : ◌≡◌ {A = List ℕ × Option (List ℕ)} (e.0, Some e.1) (f.0, Some f.1) = cc in
     let key : e.0 ≡ f.0 = ap (λ p. p.0) head in
     let both : Some e.1 ≡ Some f.1 = ap (λ p. p.1) head in
     let value : e.1 ≡ f.1 = cc in
-    let rest : told Some made ≡ said_of state = cc in
+    let rest : said_of made ≡ said_of state = cc in
     let first : e ≡ f = λ i. (key i, value i) in
     ap₂ (λ (x : List ℕ × List ℕ) (es : State). x ∷ es) first (said_once made state rest)
 

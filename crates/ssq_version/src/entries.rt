@@ -1,12 +1,12 @@
 //! The entries of a file of the state, as they stand in its bytes.
 
-ghost use Rattle.std.specs.Prelude.{◌≡◌, ◌<◌, ◌++◌, ◌^◌, ℕ, List, Option, Some, None, ◌∷◌, length, IsTrue, IfOk, IfSome, IsSomeAnd, OnOk, option_copied};
+ghost use Rattle.std.specs.Prelude.{◌≡◌, ◌<◌, ◌++◌, ◌^◌, ℕ, List, Option, Some, None, ◌∷◌, length, map, IsTrue, IfOk, IfSome, IsSomeAnd, OnOk, option_copied};
 ghost use Rattle.std.specs.List.{AllByRecursion};
 ghost use Rattle.ssq_version.specs.State.{Ascends, State as Kept, Change as Told};
-ghost use Rattle.ssq_version.specs.Text.{entry_text, entries_text, IsSpelled, IsAbove, IsListing, said_of};
+ghost use Rattle.ssq_version.specs.Text.{entry_text, entries_text, IsSpelled, IsAbove, IsListing, MakesSame, said_of};
 ghost use Rattle.ssq_version.specs.declared.form.Form.TheVariants.{Delta, Snapshot};
 
-use crate::entry::{Entry, changed_and_rest, entry_and_rest, kept_and_rest};
+use crate::entry::{Entry, entry_and_rest};
 use crate::form::Form;
 use ssq_field::Bytes;
 use std::alloc::{AllocError, Global};
@@ -71,6 +71,47 @@ fn copied(alloc: Global, bytes: Option<&[u8]>) -> Result<Option<Bytes>, AllocErr
     }
 }
 
+/// What is made of each entry in the bytes.
+pub(crate) fn each_entry<'a, T: Drop, F: Fn(Entry<'a>) -> Result<T, AllocError>>(
+    alloc: Global,
+    form: Form,
+    text: &'a [u8],
+    make: F,
+) -> Result<Vec<T>, AllocError>
+    requires { F.IsAlwaysCallable make }
+    ensures { (says : T → List ℕ × Option (List ℕ)) → MakesSame form says (F.post make) →
+        (entries : Told) → AllByRecursion (IsSpelled form) entries → text.now ≡ entries_text form entries →
+        IfOk result (λ made. map says made.items ≡ entries) }
+{
+    let mut made = Vec::new(alloc);
+    let mut rest = text;
+    while let Some((entry, behind)) = entry_and_rest(form, rest) {
+        let one = make(entry)?;
+        made.push(one)?;
+        rest = behind;
+    }
+    Ok(made)
+}
+
+/// A copy of an entry.
+fn changed_copy(alloc: Global, entry: Entry<'_>) -> Result<(Bytes, Option<Bytes>), AllocError>
+    ensures { IfOk result (λ made. made ≡ (entry.entry.key.now, option_copied entry.entry.value)) }
+{
+    let key = Bytes::from_slice(alloc, entry.key)?;
+    let value = copied(alloc, entry.value)?;
+    Ok((key, value))
+}
+
+/// A copy of an entry that gives a value.
+fn kept_copy(alloc: Global, entry: Entry<'_>) -> Result<(Bytes, Bytes), AllocError>
+    ensures { IsSpelled Snapshot (entry.entry.key.now, option_copied entry.entry.value) →
+        IfOk result (λ made. (made.0 ≡ entry.entry.key.now) × (Some made.1 ≡ option_copied entry.entry.value)) }
+{
+    let key = Bytes::from_slice(alloc, entry.key)?;
+    let value = Bytes::from_slice(alloc, entry.value.unwrap_or(&[]))?;
+    Ok((key, value))
+}
+
 /// A copy of the entries of a delta.
 pub(crate) fn changed_entries(
     alloc: Global,
@@ -79,15 +120,7 @@ pub(crate) fn changed_entries(
     ensures { (change : Told) → AllByRecursion (IsSpelled Delta) change → text.now ≡ entries_text Delta change →
         IfOk result (λ made. made.items ≡ change) }
 {
-    let mut made = Vec::new(alloc);
-    let mut rest = text;
-    while let Some((entry, behind)) = changed_and_rest(rest) {
-        let key = Bytes::from_slice(alloc, entry.key)?;
-        let value = copied(alloc, entry.value)?;
-        made.push((key, value))?;
-        rest = behind;
-    }
-    Ok(made)
+    each_entry(alloc, Form::Delta, text, |entry| changed_copy(alloc, entry))
 }
 
 /// A copy of the entries of a snapshot.
@@ -95,15 +128,7 @@ pub(crate) fn kept_entries(alloc: Global, text: &[u8]) -> Result<Vec<(Bytes, Byt
     ensures { (state : Kept) → AllByRecursion (IsSpelled Snapshot) (said_of state) → text.now ≡ entries_text Snapshot (said_of state) →
         IfOk result (λ made. made.items ≡ state) }
 {
-    let mut made = Vec::new(alloc);
-    let mut rest = text;
-    while let Some((key, value, behind)) = kept_and_rest(rest) {
-        let key = Bytes::from_slice(alloc, key)?;
-        let value = Bytes::from_slice(alloc, value)?;
-        made.push((key, value))?;
-        rest = behind;
-    }
-    Ok(made)
+    each_entry(alloc, Form::Snapshot, text, |entry| kept_copy(alloc, entry))
 }
 
 /// The map of these entries, whose keys ascend.

@@ -88,19 +88,6 @@ fn field_and_rest(text: &[u8]) -> Option<(&[u8], &[u8])>
     split(behind, len as usize)
 }
 
-/// The key and the value in front, as a snapshot has them, and what follows them.
-pub(crate) fn kept_and_rest(text: &[u8]) -> Option<(&[u8], &[u8], &[u8])>
-    ensures found { IfSome result (λ parts. text.now ≡ kept_text parts.0.now (Some parts.1.now) ++ parts.2.now) }
-    ensures spelled { IfSome result (λ parts. IsShort parts.0.now × IsShort parts.1.now) }
-    ensures shorter { IfSome result (λ parts. length parts.2.now < length text.now) }
-    ensures each { (key value rest : List ℕ) → IsShort key → IsShort value → text.now ≡ kept_text key (Some value) ++ rest →
-        IsSomeAnd result (λ parts. (parts.0.now ≡ key) × (parts.1.now ≡ value) × (parts.2.now ≡ rest)) }
-{
-    let (key, behind) = field_and_rest(text)?;
-    let (value, rest) = field_and_rest(behind)?;
-    Some((key, value, rest))
-}
-
 /// The entry of a snapshot in front, and what follows it.
 fn kept_entry_and_rest(text: &[u8]) -> Option<(Entry<'_>, &[u8])>
     ensures found { IfSome result (λ parts. text.now ≡ kept_text parts.0.key.now (option_copied parts.0.value) ++ parts.1.now) }
@@ -110,7 +97,8 @@ fn kept_entry_and_rest(text: &[u8]) -> Option<(Entry<'_>, &[u8])>
         text.now ≡ kept_text key value ++ rest →
         IsSomeAnd result (λ parts. (parts.0.key.now ≡ key) × (option_copied parts.0.value ≡ value) × (parts.1.now ≡ rest)) }
 {
-    let (key, value, rest) = kept_and_rest(text)?;
+    let (key, behind) = field_and_rest(text)?;
+    let (value, rest) = field_and_rest(behind)?;
     Some((
         Entry {
             key,
@@ -121,7 +109,7 @@ fn kept_entry_and_rest(text: &[u8]) -> Option<(Entry<'_>, &[u8])>
 }
 
 /// The entry of a delta in front, and what follows it.
-pub(crate) fn changed_and_rest(text: &[u8]) -> Option<(Entry<'_>, &[u8])>
+fn changed_and_rest(text: &[u8]) -> Option<(Entry<'_>, &[u8])>
     ensures found { IfSome result (λ parts. text.now ≡ changed_text parts.0.key.now (option_copied parts.0.value) ++ parts.1.now) }
     ensures spelled { IfSome result (λ parts. IsSpelled Delta (parts.0.key.now, option_copied parts.0.value)) }
     ensures shorter { IfSome result (λ parts. length parts.1.now < length text.now) }

@@ -3,13 +3,15 @@
 
 ghost use Rattle.std.specs.Prelude.{◌≡◌, ◌<◌, ◌+◌, ◌∷◌, ◌^◌, [], ℕ, length, drop, ◌≤◌, IfOk, OnOk, IfSome, IfNone, IsSomeAnd, IsTrue, ◌++◌, option_copied, option_map};
 ghost use Rattle.std.specs.List.{AllByRecursion};
-ghost use Rattle.ssq_version.specs.State.{AreNews, Ascends, Change as Told, IsChange, IsShort, IsShortOrNone, by_bytes, given_by, is_same, laid, layered, value_at};
+ghost use Rattle.ssq_version.specs.State.{AreNews, Ascends, Change as Told, IsChange, IsShort, IsShortOrNone, by_bytes, given_by, laid, layered, value_at};
 ghost use Rattle.ssq_version.specs.declared.form.Form.TheVariants.{Snapshot};
 ghost use Rattle.ssq_version.specs.Text.{AreEntries, IsSpelled, entries_text, file_text, kept_text, said_of, shown, snapshot_text};
 
-use crate::entry::{Entry, entry_and_rest, put_slice};
+use crate::entries::each_entry;
+use crate::entry::{Entry, put_slice};
 use crate::file::{begin, read_file};
 use crate::form::Form;
+use crate::news::are_same;
 use ssq_field::Bytes;
 use std::alloc::{AllocError, Global};
 use std::cmp::Ordering;
@@ -18,13 +20,7 @@ use std::cmp::Ordering;
 fn entries_in<'a>(alloc: Global, form: Form, text: &'a [u8]) -> Result<Vec<Entry<'a>>, AllocError>
     ensures { (entries : Told) → AllByRecursion (IsSpelled form) entries → text.now ≡ entries_text form entries → IfOk result (λ made. shown made.items ≡ entries) }
 {
-    let mut made = Vec::new(alloc);
-    let mut rest = text;
-    while let Some((entry, behind)) = entry_and_rest(form, rest) {
-        made.push(entry)?;
-        rest = behind;
-    }
-    Ok(made)
+    each_entry(alloc, form, text, |entry| Ok(entry))
 }
 
 /// The partition, the version and the entries of the file of this form whose bytes these are. `None` where they are no such file's.
@@ -115,17 +111,6 @@ fn kept_in<'a>(older: &[Entry<'a>], newer: &[Entry<'a>], key: &[u8]) -> Option<&
     match find(newer, key) {
         Some(said) => said,
         None => find(older, key)?,
-    }
-}
-
-/// Whether two things that a key may have are one.
-fn are_same(one: Option<&[u8]>, other: Option<&[u8]>) -> bool
-    ensures { result ≡ is_same (option_copied one.entry) (option_copied other.entry) }
-{
-    match (one, other) {
-        (None, None) => true,
-        (Some(one), Some(other)) => one == other,
-        _ => false,
     }
 }
 

@@ -14,14 +14,24 @@ use crate::state::StateMap;
 use ssq_field::Bytes;
 use std::alloc::{AllocError, Global};
 
-/// Whether what a key has is what is said of it.
-fn has_already(old: Option<&Bytes>, new: &Option<Bytes>) -> bool
-    ensures { result ≡ is_same (option_copied old.entry) new.now }
+/// Whether two things that a key may have are one.
+pub(crate) fn are_same(one: Option<&[u8]>, other: Option<&[u8]>) -> bool
+    ensures { result ≡ is_same (option_copied one.entry) (option_copied other.entry) }
 {
-    match (old, new) {
+    match (one, other) {
         (None, None) => true,
-        (Some(old), Some(new)) => old == new,
+        (Some(one), Some(other)) => one == other,
         _ => false,
+    }
+}
+
+/// The bytes, where there are any.
+fn bytes_of(bytes: Option<&Bytes>) -> Option<&[u8]>
+    ensures { option_copied result ≡ option_copied bytes.entry }
+{
+    match bytes {
+        Some(bytes) => Some(bytes.as_slice()),
+        None => None,
     }
 }
 
@@ -29,7 +39,7 @@ fn has_already(old: Option<&Bytes>, new: &Option<Bytes>) -> bool
 fn says_news(state: &StateMap, key: &Bytes, value: &Option<Bytes>) -> bool
     ensures { result ≡ is_news state.now (key.now, value.now) }
 {
-    !has_already(state.get(key), value)
+    !are_same(bytes_of(state.get(key)), bytes_of(value.as_ref()))
 }
 
 /// Whether all that the change says is new to the state.
