@@ -18,7 +18,7 @@ use Rattle.ssq_sink.specs.declared.fault.SinkFault.TheVariants.{Damaged, DiskFau
 use Rattle.ssq_sink.specs.declared.table.Reading.{Reading}
 use Rattle.ssq_sink.specs.declared.table.Reading.TheVariants as how
 use Rattle.ssq_sink.specs.Fault.{HasRisen, IfDamaged, IsBad, TableEnd, written, spoilt, unread, broke_off, fault_of_output}
-use Rattle.ssq_sink.specs.Passing.{HasBytes, HasLatest, IsChecked, PutsFront, past}
+use Rattle.ssq_sink.specs.Passing.{HasBytes, HasText, IsChecked, PutsFront, past}
 use Rattle.ssq_sink.specs.Table.{AreCounted, AreFirst, AreSinks, HasRead, IsFirstBad, IsSinkOf, joined, last_of}
 use Rattle.ssq_sink.proofs.Rereading.{lines-append}
 
@@ -59,7 +59,7 @@ some_is : {A : Type 0} {a b : A} → Some a ≡ Some b → a ≡ b
 some_is {A} {a} {b} e = ap (λ o. unwrap_or o a) e
 
 pub no_files : (query : Bound) (files : Files) (last : List ℕ) → last ≡ [] → IsChecked query files 0 last
-no_files query files last none = record { epochs = []; all = refl; each = λ e rows here. none_is_not here; text = none }
+no_files query files last none = record { epochs = []; all = refl; each = λ e rows here. none_is_not here; is = none }
 
 slice_get-push : {A : Type 0} (xs : List A) (x y : A) (e : ℕ) → slice_get (xs ++ x ∷ []) e ≡ Some y → (slice_get xs e ≡ Some y) ⊎ ((e ≡ length xs) × (x ≡ y))
 slice_get-push [] x y zero is = inr (refl, some_is is)
@@ -84,7 +84,7 @@ one_checked query files n last bytes has so = record {
   epochs = so.epochs ++ has.0 ∷ [];
   all = length_push so.epochs has.0 ∙ ap (λ k. k + 1) so.all;
   each = first_more query files so.epochs has.0 n so.all (record { bytes = bytes; there = has.1; are = has.2 }) so.each;
-  text = has.2.text ∙ ap (lines_of (output_names query)) (sym (last_of-push so.epochs has.0));
+  is = has.2.text ∙ ap (lines_of (output_names query)) (sym (last_of-push so.epochs has.0));
 }
 
 get_some : {A : Type 0} (xs : List A) (e : ℕ) → e < length xs → (x : A) × (slice_get xs e ≡ Some x)
@@ -204,11 +204,8 @@ sinks_of query files m epochs counted all each = record { counted = subst (AreCo
 pub read_each : (query : Bound) (files : Files) (m : ℕ) (last : List ℕ) → AreCounted files m → (checked : IsChecked query files m last) → HasRead how.Each query files (lines_of (output_names query) (joined checked.epochs))
 read_each query files m last counted checked = record { epochs = checked.epochs; sinks = sinks_of query files m checked.epochs counted checked.all checked.each; is = refl }
 
-pub read_last : (query : Bound) (files : Files) (m : ℕ) (last : List ℕ) → AreCounted files m → IsChecked query files m last → HasRead how.Last query files last
-read_last query files m last counted checked = record { epochs = checked.epochs; sinks = sinks_of query files m checked.epochs counted checked.all checked.each; is = checked.text }
-
-pub read_latest : (query : Bound) (files : Files) (m : ℕ) (text : List ℕ) → AreCounted files m → HasLatest query files m text → HasRead how.Latest query files text
-read_latest query files m text counted has = record { epochs = has.epochs; sinks = sinks_of query files m has.epochs counted has.all has.each; is = has.is }
+pub read_whole : (own : Reading) (query : Bound) (files : Files) (m : ℕ) (text : List ℕ) → AreCounted files m → HasText own query files m text → HasRead own query files text
+read_whole own query files m text counted has = record { epochs = has.epochs; sinks = sinks_of query files m has.epochs counted has.all has.each; is = has.is }
 
 abbrev pub Ends : Reading → Bound → Files → (old new : List ℕ) → Option SinkFault → Type 0
 Ends own query files old new fault = (told : List ℕ) × (new ≡ old ++ told) × TableEnd own query files told fault

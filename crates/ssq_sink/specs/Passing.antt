@@ -7,12 +7,13 @@ use Rattle.ssq_value.specs.declared.column.ColType.{ColType}
 use Rattle.ssq_shape.specs.declared.bound.Bound.{Bound}
 use Rattle.ssq_shape.specs.Plain.{output_names}
 use Rattle.ssq_json.specs.RowText.{heads_of}
-use Rattle.ssq_json.specs.Stored.{AreRows, lines_of}
+use Rattle.ssq_json.specs.Stored.{AreRows}
 use Rattle.ssq_meaning.specs.Meaning.{Values}
 use Rattle.ssq_sink.specs.declared.fault.SinkFault.{SinkFault}
 use Rattle.ssq_sink.specs.Fault.{IsOutside}
-use Rattle.ssq_sink.specs.Sink.{sink_text}
-use Rattle.ssq_sink.specs.Table.{AreFirst, IsFront, joined, last_of, last_rows, output_kinds}
+use Rattle.ssq_sink.specs.Table.{AreFirst, IsFront, output_kinds, text_read}
+use Rattle.ssq_sink.specs.declared.table.Reading.{Reading}
+use Rattle.ssq_sink.specs.declared.table.Reading.TheVariants as how
 
 -- the heads and the types of the query's columns
 abbrev pub AreColumnsOf : Bound → List (List ℕ) → List ColType → Type 0
@@ -22,19 +23,22 @@ AreColumnsOf query heads kinds = (heads ≡ heads_of (output_names query)) × (k
 abbrev pub HasBytes : Bound → Files → ℕ → List ℕ → Type 0
 HasBytes query files e bytes = (rows : List Values) × (files (name.Out e) ≡ Some bytes) × AreRows (output_names query) (output_kinds query) bytes rows
 
--- the first n sink files are there and canonical, and these are the bytes of the last of them
-pub record IsChecked (query : Bound) (files : Files) (n : ℕ) (last : List ℕ) : Type 0 where
+-- the first n sink files are there and canonical, and read so they are this text
+pub record HasText (own : Reading) (query : Bound) (files : Files) (n : ℕ) (text : List ℕ) : Type 0 where
   pub epochs : List (List Values)
   pub all : length epochs ≡ n
   pub each : AreFirst query files epochs
-  pub text : last ≡ lines_of (output_names query) (last_of epochs)
+  pub is : text ≡ text_read own query epochs
 
--- they are, and this is the text of the last row of each key
-pub record HasLatest (query : Bound) (files : Files) (n : ℕ) (text : List ℕ) : Type 0 where
-  pub epochs : List (List Values)
-  pub all : length epochs ≡ n
-  pub each : AreFirst query files epochs
-  pub is : text ≡ sink_text query (last_rows query.outputs (joined epochs))
+-- the first n sink files are there and canonical, and these are the bytes of the last of them
+abbrev pub IsChecked : Bound → Files → ℕ → List ℕ → Type 0
+IsChecked query files n last = HasText how.Last query files n last
+
+-- they are to be written one after the other
+pub record AreEach (own : Reading) (query : Bound) (files : Files) (n : ℕ) : Type 0 where
+  pub is : own ≡ how.Each
+  pub last : List ℕ
+  pub checked : IsChecked query files n last
 
 -- the fault of a result, if it is one
 abbrev pub fault_in : Result (Unit {0}) SinkFault → Option SinkFault

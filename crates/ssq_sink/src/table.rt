@@ -1,6 +1,6 @@
 //! The table: what a reader makes of the sink files.
 
-ghost use Rattle.std.specs.Prelude.{◌≡◌, ◌≤◌, ◌^◌, ◌++◌, List, ℕ, max, Some, length, IfOk, IfErr, OnOk};
+ghost use Rattle.std.specs.Prelude.{◌≡◌, ◌≤◌, ◌^◌, ◌++◌, List, ℕ, max, Some, length, IfOk, IfErr, IfNone, IfSome, OnOk};
 ghost use Rattle.ssq_outside.specs.Files.{Files, AreNames};
 ghost use Rattle.ssq_outside.specs.History.{files_now};
 ghost use Rattle.ssq_outside.specs.declared.name.Name.TheVariants as name;
@@ -10,7 +10,7 @@ ghost use Rattle.ssq_json.specs.Stored.{lines_of};
 ghost use Rattle.ssq_meaning.specs.Meaning.{Values};
 ghost use Rattle.ssq_sink.specs.Fault.{HasRisen, IfDamaged, IsAbsent, IsBad, TableEnd};
 ghost use Rattle.ssq_sink.specs.Latest.{IsLatest};
-ghost use Rattle.ssq_sink.specs.Passing.{AreColumnsOf, HasBytes, HasLatest, IsChecked, PutsFront, fault_in, past};
+ghost use Rattle.ssq_sink.specs.Passing.{AreColumnsOf, AreEach, HasBytes, HasText, IsChecked, PutsFront, fault_in, past};
 ghost use Rattle.ssq_sink.specs.Table.{reading, joined, AreCounted, IsFirstBad, IsSinkOf};
 ghost use Rattle.ssq_sink.specs.declared.table.Reading.TheVariants as how;
 
@@ -227,7 +227,7 @@ fn latest<D: Disk>(
     count: u64,
 ) -> Result<Text, SinkFault>
     requires { count ≤ 2 ^ 32 }
-    ensures read { D.tells → IfOk result (λ text. HasLatest bound.now (files_now (D.history disk.old)) count text) }
+    ensures read { D.tells → IfOk result (λ text. HasText how.Latest bound.now (files_now (D.history disk.old)) count text) }
     ensures bad { D.tells → IfErr result (IfDamaged (IsFirstBad bound.now (files_now (D.history disk.old)) count)) }
     ensures same { D.tells → D.history disk.new ≡ D.history disk.old }
     ensures counted { D.faults disk.old ≤ D.faults disk.new }
@@ -241,64 +241,34 @@ fn latest<D: Disk>(
     Ok(latest.into_text(alloc, bound)?)
 }
 
-/// Writes all rows, one file after the other: each file is checked before the first is written, so that a refusal stands alone.
-fn write_each<D: Disk, O: Output>(
+/// The table, where it is one text: the last row of each key, in the order of a sink file, or the last file. `None` where it is all files, one after the
+/// other. Each file is checked.
+fn whole_text<D: Disk>(
     alloc: Global,
     disk: &mut D,
-    out: &mut O,
     bound: &Bound,
     count: u64,
-) -> Result<(), SinkFault>
+    own: Reading,
+) -> Result<Option<Vec<u8>>, SinkFault>
     requires { count ≤ 2 ^ 32 }
-    ensures ended { D.tells → O.tells → AreCounted (files_now (D.history disk.old)) count →
-        (told : List ℕ) × (O.content out.new ≡ O.content out.old ++ told) × TableEnd how.Each bound.now (files_now (D.history disk.old)) told (fault_in result) }
+    ensures whole { D.tells → IfOk result (λ whole. IfSome whole (λ text. HasText own bound.now (files_now (D.history disk.old)) count text.items)) }
+    ensures each { D.tells → IfOk result (λ whole. IfNone whole (AreEach own bound.now (files_now (D.history disk.old)) count)) }
+    ensures bad { D.tells → IfErr result (IfDamaged (IsFirstBad bound.now (files_now (D.history disk.old)) count)) }
     ensures same { D.tells → D.history disk.new ≡ D.history disk.old }
     ensures counted { D.faults disk.old ≤ D.faults disk.new }
-    ensures counted_out { O.faults out.old ≤ O.faults out.new }
-    ensures cause { IfErr result (λ fault. HasRisen fault (D.faults disk.old) (D.faults disk.new) (O.faults out.old) (O.faults out.new)) }
+    ensures cause { IfErr result (λ fault. HasRisen fault (D.faults disk.old) (D.faults disk.new) 0 0) }
 {
-    check_sinks(alloc, disk, bound, count)?;
-    put_sinks(alloc, disk, out, count)
-}
-
-/// Writes the last row of each key, in the order of a sink file.
-fn write_latest<D: Disk, O: Output>(
-    alloc: Global,
-    disk: &mut D,
-    out: &mut O,
-    bound: &Bound,
-    count: u64,
-) -> Result<(), SinkFault>
-    requires { count ≤ 2 ^ 32 }
-    ensures ended { D.tells → O.tells → AreCounted (files_now (D.history disk.old)) count →
-        (told : List ℕ) × (O.content out.new ≡ O.content out.old ++ told) × TableEnd how.Latest bound.now (files_now (D.history disk.old)) told (fault_in result) }
-    ensures same { D.tells → D.history disk.new ≡ D.history disk.old }
-    ensures counted { D.faults disk.old ≤ D.faults disk.new }
-    ensures counted_out { O.faults out.old ≤ O.faults out.new }
-    ensures cause { IfErr result (λ fault. HasRisen fault (D.faults disk.old) (D.faults disk.new) (O.faults out.old) (O.faults out.new)) }
-{
-    let text = latest(alloc, disk, bound, count)?;
-    put(out, text.as_bytes())
-}
-
-/// Writes the last file.
-fn write_last<D: Disk, O: Output>(
-    alloc: Global,
-    disk: &mut D,
-    out: &mut O,
-    bound: &Bound,
-    count: u64,
-) -> Result<(), SinkFault>
-    requires { count ≤ 2 ^ 32 }
-    ensures ended { D.tells → O.tells → AreCounted (files_now (D.history disk.old)) count →
-        (told : List ℕ) × (O.content out.new ≡ O.content out.old ++ told) × TableEnd how.Last bound.now (files_now (D.history disk.old)) told (fault_in result) }
-    ensures same { D.tells → D.history disk.new ≡ D.history disk.old }
-    ensures counted { D.faults disk.old ≤ D.faults disk.new }
-    ensures counted_out { O.faults out.old ≤ O.faults out.new }
-    ensures cause { IfErr result (λ fault. HasRisen fault (D.faults disk.old) (D.faults disk.new) (O.faults out.old) (O.faults out.new)) }
-{
-    let last = check_sinks(alloc, disk, bound, count)?;
-    put(out, last.as_slice())
+    match own {
+        Reading::Each => {
+            check_sinks(alloc, disk, bound, count)?;
+            Ok(None)
+        }
+        Reading::Latest => {
+            let text = latest(alloc, disk, bound, count)?;
+            Ok(Some(text.into_string().into_bytes()))
+        }
+        Reading::Last => Ok(Some(check_sinks(alloc, disk, bound, count)?)),
+    }
 }
 
 /// Writes the table of a query, of its sink files, of which there have to be so many. Each of them is checked before the first row is written: all up
@@ -323,9 +293,9 @@ pub fn write_table<D: Disk, O: Output>(
     ensures counted_out { O.faults out.old ≤ O.faults out.new }
     ensures cause { IfErr result (λ fault. HasRisen fault (D.faults disk.old) (D.faults disk.new) (O.faults out.old) (O.faults out.new)) }
 {
-    match Reading::of(bound) {
-        Reading::Each => write_each(alloc, disk, out, bound, count),
-        Reading::Latest => write_latest(alloc, disk, out, bound, count),
-        Reading::Last => write_last(alloc, disk, out, bound, count),
+    let whole = whole_text(alloc, disk, bound, count, Reading::of(bound))?;
+    match whole {
+        Some(text) => put(out, text.as_slice()),
+        None => put_sinks(alloc, disk, out, count),
     }
 }
