@@ -21,7 +21,7 @@ use Rattle.ssq_meaning.specs.GroupLaws.{times}
 use Rattle.ssq_meaning.specs.Meaning.{Values}
 use Rattle.ssq_meaning.specs.Times.{is_past}
 use Rattle.ssq_agg.specs.declared.kept.Group.{Group}
-use Rattle.ssq_agg.specs.declared.shown.Shown.{Shown}
+use Rattle.ssq_step.specs.declared.shown.Shown.{Shown}
 use Rattle.ssq_agg.specs.Closed.{is_ended, AreClosed, AreAll}
 use Rattle.ssq_agg.specs.Groups.{Held}
 use Rattle.ssq_agg.specs.Shown.{Pair, Shows, shown_rows, least_fault, row_if, shown_of, fault_if, pairs_of, others_of}

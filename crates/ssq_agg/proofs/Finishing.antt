@@ -2,7 +2,7 @@
 use Rattle.std.proofs.Common.{◌≡◌, ◌++◌, [], ◌∷◌, List, ap, sym, ◌∙◌, append_assoc, append-nil}
 use Rattle.ssq_shape.specs.declared.bound.Bound.{Bound}
 use Rattle.ssq_shape.specs.declared.bound.Grouping.{Grouping}
-use Rattle.ssq_agg.specs.declared.shown.Shown.{Shown}
+use Rattle.ssq_step.specs.declared.shown.Shown.{Shown}
 use Rattle.ssq_agg.specs.Shown.{Finishes, Pair, Shows, least_fault, row_if, shown_of, shown_rows}
 
 pub finishes_on : (query : Bound) (grouping : Grouping) (left rest all : List Pair) (pair : Pair) (before now next : Shown) → left ≡ pair ∷ rest → Shows query grouping (pair ∷ []) now next

@@ -1,7 +1,5 @@
 -- What is shown of groups, one after the other.
-use Rattle.std.specs.Prelude.{◌≡◌, ◌++◌, Bool, true, false, List, [], ◌∷◌, fold, flat_map, map, All, filter, not, Option, Some, None, Result, Ok, Err, is_err, is_some}
-use Rattle.ssq_time.specs.Time.{IsStampTime}
-use Rattle.ssq_value.specs.Kind.{IfTime}
+use Rattle.std.specs.Prelude.{◌≡◌, ◌++◌, Bool, true, false, List, [], ◌∷◌, fold, flat_map, map, filter, not, Option, Some, None, Result, Ok, Err, is_err, is_some}
 use Rattle.ssq_shape.specs.declared.bound.Bound.{Bound}
 use Rattle.ssq_shape.specs.declared.bound.Grouping.{Grouping}
 use Rattle.ssq_shape.specs.Evaluation.{Overflow}
@@ -9,11 +7,7 @@ use Rattle.ssq_meaning.specs.declared.total.Total.{Total}
 use Rattle.ssq_meaning.specs.Group.{group_row, lesser_key}
 use Rattle.ssq_meaning.specs.Meaning.{Values}
 use Rattle.ssq_agg.specs.declared.kept.Group.{Group}
-use Rattle.ssq_agg.specs.declared.shown.Shown.{Shown}
-
--- each time of each row is one that can be printed
-abbrev pub ArePrintable : List Values → Type 0
-ArePrintable rows = All (All (IfTime IsStampTime)) rows
+use Rattle.ssq_step.specs.declared.shown.Shown.{Shown}
 
 -- the row, if there is one
 abbrev pub row_if : Result (Option Values) Overflow → List Values

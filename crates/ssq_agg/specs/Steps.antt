@@ -25,7 +25,7 @@ use Rattle.ssq_step.specs.declared.fault.StepFault.{StepFault}
 use Rattle.ssq_step.specs.declared.stepped.Stepped.{Stepped}
 use Rattle.ssq_step.specs.Steps as step
 use Rattle.ssq_agg.specs.declared.kept.Group.{Group}
-use Rattle.ssq_agg.specs.declared.shown.Shown.{Shown}
+use Rattle.ssq_step.specs.declared.shown.Shown.{Shown}
 use Rattle.ssq_agg.specs.declared.epoch.Moved.{Moved}
 use Rattle.ssq_agg.specs.Groups.{AreSteady, Held}
 use Rattle.ssq_agg.specs.Holding.{Holds}

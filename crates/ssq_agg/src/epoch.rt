@@ -10,25 +10,26 @@ ghost use Rattle.ssq_shape.specs.declared.bound.Grouping.{Grouping as Groups};
 ghost use Rattle.ssq_meaning.specs.FedRows.{FedRow as Fed};
 ghost use Rattle.ssq_meaning.specs.Fit.{IsFitRow};
 ghost use Rattle.ssq_meaning.specs.Group.{closing_time, is_same};
+ghost use Rattle.ssq_step.specs.Shown.{ArePrintable};
 ghost use Rattle.ssq_agg.specs.Closed.{AreClosed};
 ghost use Rattle.ssq_agg.specs.Groups.{Held as Own};
 ghost use Rattle.ssq_agg.specs.Holding.{Holds};
 ghost use Rattle.ssq_agg.specs.Indexing.{Indexes};
 ghost use Rattle.ssq_agg.specs.Readable.{AreFit, AreFitGroups};
-ghost use Rattle.ssq_agg.specs.Shown.{ArePrintable, others_of};
+ghost use Rattle.ssq_agg.specs.Shown.{others_of};
 ghost use Rattle.ssq_agg.specs.Steps.{Given, GivenGroups, IsCause, IsMove, IsStep, IsUngrouped, ShowsDue};
 
 use crate::changed::changed;
 use crate::groups::touched;
 use crate::kept::{Group, all_groups, groups_at};
-use crate::shown::{Shown, nothing_shown, show_each, show_touched};
+use crate::shown::{show_each, show_touched};
 use crate::totals::Totals;
 use ssq_meaning::{
     FedRow, groups_are_due_by_what_is_kept, groups_are_kept_whole, groups_come_in_any_order,
     kept_groups_are_found,
 };
 use ssq_shape::{Bound, Grouping, Mode, Shape};
-use ssq_step::{Closing, Key, StepFault, Stepped};
+use ssq_step::{Closing, Key, Shown, StepFault, Stepped};
 use ssq_value::{Row, Value};
 use ssq_version::{Change, StateMap, states_are_kept};
 use std::alloc::{AllocError, Global};
@@ -127,7 +128,7 @@ fn show_due(
     ensures printable { IfOk result (λ shown. ArePrintable shown.rows.items) }
 {
     states_are_kept(state);
-    let shown = nothing_shown(alloc);
+    let shown = Shown::nothing(alloc);
     match bound.mode {
         Mode::Append => show_each(alloc, bound, grouping, shown, closed),
         Mode::Update => show_touched(alloc, bound, grouping, shown, touched),
@@ -172,15 +173,12 @@ fn move_groups<'a>(
         &touched,
         closed.as_slice(),
     )?;
-    let Shown { rows, fault } = shown;
-    match fault {
-        Some(key) => Err(StepFault::Overflow { key }),
-        None => Ok(Moved {
-            touched,
-            closed,
-            rows,
-        }),
-    }
+    let rows = shown.into_rows()?;
+    Ok(Moved {
+        touched,
+        closed,
+        rows,
+    })
 }
 
 /// The step of a query that groups.

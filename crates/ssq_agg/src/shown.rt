@@ -1,75 +1,21 @@
 //! What an epoch shows of groups.
 
-ghost use Rattle.std.specs.Prelude.{◌≡◌, [], ◌∷◌, ◌++◌, None, Some, All, IfOk};
+ghost use Rattle.std.specs.Prelude.{◌≡◌, [], ◌∷◌, Some, All, IfOk};
 ghost use Rattle.std.specs.BTreeMap.{IsOrdered, get};
 ghost use Rattle.ssq_value.specs.Order.{values_cmp};
-ghost use Rattle.ssq_meaning.specs.Group.{lesser_key};
+ghost use Rattle.ssq_step.specs.Shown.{ArePrintable};
 ghost use Rattle.ssq_agg.specs.Readable.{AreFit, AreFitGroups, IsFitGroup};
-ghost use Rattle.ssq_agg.specs.Shown.{ArePrintable, Shows, pairs_of};
+ghost use Rattle.ssq_agg.specs.Shown.{Shows, pairs_of};
 
 use crate::kept::Group;
 use crate::show::show;
 use crate::totals::Totals;
 use ssq_expr::EvalFault;
 use ssq_shape::{Bound, Grouping};
-use ssq_step::{Key, copied_row};
-use ssq_value::{Row, Value, order_rows};
+use ssq_step::{Key, Shown};
+use ssq_value::Value;
 use std::alloc::{AllocError, Global};
 use std::collections::BTreeMap;
-
-/// The rows that are shown so far, and the least key so far that overflows.
-#[derive(Drop)]
-pub(crate) struct Shown {
-    pub rows: Vec<Row>,
-    pub fault: Option<Row>,
-}
-
-/// Nothing is shown yet.
-pub(crate) fn nothing_shown(alloc: Global) -> Shown
-    ensures rows { result.rows.items ≡ [] }
-    ensures fault { result.fault ≡ None }
-{
-    Shown {
-        rows: Vec::new(alloc),
-        fault: None,
-    }
-}
-
-fn lesser_key(alloc: Global, key: &[Value], least: Option<Row>) -> Result<Row, AllocError>
-    ensures { IfOk result (λ own. own ≡ lesser_key key.now least) }
-{
-    match least {
-        Some(other) => {
-            if order_rows(key, other.as_slice()).is_gt() {
-                Ok(other)
-            } else {
-                copied_row(alloc, key)
-            }
-        }
-        None => copied_row(alloc, key),
-    }
-}
-
-fn with_row(shown: Shown, row: Row) -> Result<Shown, AllocError>
-    ensures rows { IfOk result (λ now. now.rows.items ≡ shown.rows.items ++ row ∷ []) }
-    ensures fault { IfOk result (λ now. now.fault ≡ shown.fault) }
-{
-    let Shown { mut rows, fault } = shown;
-    rows.push(row)?;
-    Ok(Shown { rows, fault })
-}
-
-fn with_fault(alloc: Global, shown: Shown, key: &[Value]) -> Result<Shown, AllocError>
-    ensures rows { IfOk result (λ now. now.rows.items ≡ shown.rows.items) }
-    ensures fault { IfOk result (λ now. now.fault ≡ Some (lesser_key key.now shown.fault)) }
-{
-    let Shown { rows, fault } = shown;
-    let least = lesser_key(alloc, key, fault)?;
-    Ok(Shown {
-        rows,
-        fault: Some(least),
-    })
-}
 
 /// Shows one more group.
 fn show_group(
@@ -86,9 +32,9 @@ fn show_group(
     ensures printable { IfOk result (λ now. ArePrintable now.rows.items) }
 {
     match show(alloc, bound, grouping, key, totals.as_slice()) {
-        Ok(Some(row)) => with_row(shown, row),
+        Ok(Some(row)) => shown.with_row(row),
         Ok(None) => Ok(shown),
-        Err(EvalFault::Overflow) => with_fault(alloc, shown, key),
+        Err(EvalFault::Overflow) => shown.with_fault(alloc, key),
         Err(EvalFault::NoMemory) => Err(AllocError),
     }
 }

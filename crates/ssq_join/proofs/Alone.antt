@@ -18,9 +18,9 @@ use Rattle.ssq_meaning.specs.Fit.{IsFit}
 use Rattle.ssq_meaning.specs.Join.{Considered, alone_of, is_left, joined_alone, nulls, row_key, row_value}
 use Rattle.ssq_meaning.specs.Meaning.{Values, layout_at}
 use Rattle.ssq_step.specs.declared.rows.KeptRow.{KeptRow}
+use Rattle.ssq_step.specs.declared.shown.Shown.{Shown}
 use Rattle.ssq_step.specs.Indexing.{seen}
 use Rattle.ssq_step.specs.Rows.{IsKeptRow}
-use Rattle.ssq_join.specs.declared.found.Found.{Found}
 use Rattle.ssq_join.specs.Overs.{AreOver, IsHeld, IsRead, TellsAlone, alones, is_shown_alone, with_alone}
 use Rattle.ssq_join.specs.Steps.{IsKept}
 use Rattle.ssq_join.specs.Telling.{Tells}
@@ -54,11 +54,11 @@ is_read row met None is = is
 is_read row met (Some own) is = record { left = is.0; values = is.1; met = is.2 }
 
 -- whether it is shown
-pub not_shown : (query : Bound) (joining : Joining) (met : FedRow → Bool) (row : FedRow) (all : List Considered) (found : Found) → is_shown_alone joining met row ≡ false → Tells found all
+pub not_shown : (query : Bound) (joining : Joining) (met : FedRow → Bool) (row : FedRow) (all : List Considered) (found : Shown) → is_shown_alone joining met row ≡ false → Tells found all
     → Tells found (with_alone query joining met row all)
 not_shown query joining met row all found is tells = subst (λ b. Tells found (if b then alone_of query row ∷ all else all)) (sym is) tells
 
-pub if_shown : {E : Type 0} (query : Bound) (joining : Joining) (met : FedRow → Bool) (row : FedRow) (all : List Considered) (result : Result Found E) → is_shown_alone joining met row ≡ true
+pub if_shown : {E : Type 0} (query : Bound) (joining : Joining) (met : FedRow → Bool) (row : FedRow) (all : List Considered) (result : Result Shown E) → is_shown_alone joining met row ≡ true
     → IfOk result (λ now. Tells now (alone_of query row ∷ all)) → IfOk result (λ now. Tells now (with_alone query joining met row all))
 if_shown query joining met row all result is tells = subst (λ b. IfOk result (λ now. Tells now (if b then alone_of query row ∷ all else all))) (sym is) tells
 
@@ -101,7 +101,7 @@ alones_more query joining met rows row =
     by false = refl
 
 -- the rows so far, and one more
-pub told_more : (query : Bound) (joining : Joining) (met : FedRow → Bool) (rows : List FedRow) (row : FedRow) (all before : List Considered) (now : Found) → IsPermutation all (alones query joining met rows ++ before)
+pub told_more : (query : Bound) (joining : Joining) (met : FedRow → Bool) (rows : List FedRow) (row : FedRow) (all before : List Considered) (now : Shown) → IsPermutation all (alones query joining met rows ++ before)
     → Tells now (with_alone query joining met row all) → TellsAlone query joining met (rows ++ row ∷ []) before now
 told_more query joining met rows row all before now same tells =
     (with_alone query joining met row all, subst (λ (l : List Considered). IsPermutation (with_alone query joining met row all) (l ++ before)) (sym (alones_more query joining met rows row)) (by (is_shown_alone joining met row)), tells)
@@ -135,7 +135,7 @@ row_at P (k ∷ keys) (row ∷ over) same each (suc at) key inside is =
 
 -- one key more
 pub over_on : (query : Bound) (joining : Joining) (state : State) (met : FedRow → Bool) (over : List FedRow) (keys : List (Bor (List ℕ))) → AreOver query joining state met over (seen keys)
-    → (at : ℕ) (key : Bor (List ℕ)) → at < length keys → key ≡ get_or keys at key → (before : List Considered) (found now : Found)
+    → (at : ℕ) (key : Bor (List ℕ)) → at < length keys → key ≡ get_or keys at key → (before : List Considered) (found now : Shown)
     → ((row : FedRow) (all : List Considered) → IsHeld query joining state met row → key.now ≡ row_key row → Tells found all → Tells now (with_alone query joining met row all))
     → TellsAlone query joining met (take at over) before found → TellsAlone query joining met (take (at + 1) over) before now
 over_on query joining state met over keys are at key inside is before found now one told =
@@ -145,12 +145,12 @@ over_on query joining state met over keys are at key inside is before found now 
     (told_more query joining met (take at over) row told.0 before now told.1 (one row told.0 found_row.3 found_row.2 told.2))
 
 -- none yet
-pub over_begins : (query : Bound) (joining : Joining) (met : FedRow → Bool) (before : List Considered) (found : Found) → Tells found before → TellsAlone query joining met [] before found
+pub over_begins : (query : Bound) (joining : Joining) (met : FedRow → Bool) (before : List Considered) (found : Shown) → Tells found before → TellsAlone query joining met [] before found
 over_begins query joining met before found tells = (before, IsPermutation-refl before, tells)
 
 -- all keys
 pub over_all : (query : Bound) (joining : Joining) (state : State) (met : FedRow → Bool) (over : List FedRow) (keys : List (Bor (List ℕ))) → AreOver query joining state met over (seen keys)
-    → (at : ℕ) → length keys ≤ at → (before : List Considered) (found : Found) → TellsAlone query joining met (take at over) before found → TellsAlone query joining met over before found
+    → (at : ℕ) → length keys ≤ at → (before : List Considered) (found : Shown) → TellsAlone query joining met (take at over) before found → TellsAlone query joining met over before found
 over_all query joining state met over keys are at past before found told =
     let same : length over ≡ length keys = sym (length-map over row_key) ∙ ap (λ (l : List (List ℕ)). length l) (sym are.keys_are) ∙ length-map keys (λ (key : Bor (List ℕ)). key.now) in
     subst (λ (rows : List FedRow). TellsAlone query joining met rows before found) (take_all at over (omega (arith, same, past))) told

@@ -16,7 +16,7 @@ use Rattle.ssq_meaning.specs.Join.{is_left, is_near}
 use Rattle.ssq_meaning.specs.JoinLaws.{are_candidates}
 use Rattle.ssq_meaning.proofs.Coding.{AreApart as KeysAreApart}
 use Rattle.ssq_meaning.proofs.Keys.{same_is}
-use Rattle.ssq_join.specs.declared.found.Found.{Found}
+use Rattle.ssq_step.specs.declared.shown.Shown.{Shown}
 use Rattle.ssq_join.specs.Meeting.{AreKept, MeetsFront, MeetsNext}
 use Rattle.ssq_join.specs.Steps.{IsKept}
 use Rattle.ssq_join.specs.Telling.{Meets, Pair, candidates_of}
@@ -51,7 +51,7 @@ none_with_null joining row (other ∷ others) has =
     ap (λ b. map (λ (own : FedRow). (row, own)) (if b then other ∷ filter (are_candidates joining row) others else filter (are_candidates joining row) others)) (null_meets joining row other has)
     ∙ none_with_null joining row others has
 
-pub null_next : (query : Bound) (joining : Joining) (row : FedRow) (others : List FedRow) (pairs : List Pair) (found : Found) (met : List (List ℕ)) → list_any is_null row.key ≡ true
+pub null_next : (query : Bound) (joining : Joining) (row : FedRow) (others : List FedRow) (pairs : List Pair) (found : Shown) (met : List (List ℕ)) → list_any is_null row.key ≡ true
     → Meets query joining pairs found met → MeetsNext query joining pairs row others found met
 null_next query joining row others pairs found met has meets =
     (pairs, subst (λ (l : List Pair). IsPermutation pairs (l ++ pairs)) (sym (none_with_null joining row others has)) (IsPermutation-refl pairs), meets)
@@ -69,7 +69,7 @@ in_front a b pairs more all one two =
 
 module _ (apart : KeysAreApart) (stand : (beginning : List ℕ) (state : State) → Ascends state → front_with beginning (from_key beginning state) ≡ all_with beginning state)
     (query : Bound) (joining : Joining) (row : FedRow) (own : IsKept query joining row) (none : list_any is_null row.key ≡ false) where
-  one_by_one : (was : FedRow → Bool) (rows : List FedRow) (state : State) → AreKept query joining was rows state → Ascends state → (found now : Found) (old new : List (List ℕ)) (pairs : List Pair)
+  one_by_one : (was : FedRow → Bool) (rows : List FedRow) (state : State) → AreKept query joining was rows state → Ascends state → (found now : Shown) (old new : List (List ℕ)) (pairs : List Pair)
       → MeetsFront query joining row (prefix row) (from_key (prefix row) state) found now old new
       → Meets query joining pairs found old → MeetsNext query joining pairs row rows now new
   one_by_one was rows state kept ascends found now old new pairs front meets =
@@ -79,7 +79,7 @@ module _ (apart : KeysAreApart) (stand : (beginning : List ℕ) (state : State) 
       (next.0, subst (λ (l : List Pair). IsPermutation next.0 (l ++ pairs)) (same_candidates apart query joining row own none rows kept.each) next.1, next.2)
 
   pub next_both : (was fresh_met : FedRow → Bool) (held earlier : List FedRow) (state fresh : State) → AreKept query joining was held state → Ascends state → AreKept query joining fresh_met earlier fresh → Ascends fresh
-      → (found between now : Found) (old middle new : List (List ℕ)) (pairs : List Pair)
+      → (found between now : Shown) (old middle new : List (List ℕ)) (pairs : List Pair)
       → MeetsFront query joining row (prefix row) (from_key (prefix row) state) found between old middle
       → MeetsFront query joining row (prefix row) (from_key (prefix row) fresh) between now middle new
       → Meets query joining pairs found old → MeetsNext query joining pairs row (held ++ earlier) now new
@@ -95,12 +95,12 @@ module _ (apart : KeysAreApart) (stand : (beginning : List ℕ) (state : State) 
 -- the same, of the entries that are gone through
 pub earlier_of : (apart : KeysAreApart) (stand : (beginning : List ℕ) (state : State) → Ascends state → front_with beginning (from_key beginning state) ≡ all_with beginning state) (query : Bound) (joining : Joining) (row : FedRow)
     → list_any is_null row.key ≡ false → (beginning : List ℕ) → beginning ≡ prefix row → (state fresh kept_entries new_entries : State) → Ascends state → Ascends fresh → kept_entries ≡ from_key beginning state
-    → new_entries ≡ from_key beginning fresh → (found between now : Found) (old middle new : List (List ℕ)) → MeetsFront query joining row beginning kept_entries found between old middle
+    → new_entries ≡ from_key beginning fresh → (found between now : Shown) (old middle new : List (List ℕ)) → MeetsFront query joining row beginning kept_entries found between old middle
     → MeetsFront query joining row beginning new_entries between now middle new → MeetsEarlier query joining row state fresh found now old new
 earlier_of apart stand query joining row none beginning is state fresh kept_entries new_entries ascends ascends_new entries entries_new found between now old middle new first second was held earlier pairs own kept kept_new meets =
     next_both apart stand query joining row own none was unmet held earlier state fresh kept ascends kept_new ascends_new found between now old middle new pairs
     (subst (λ (b : List ℕ). MeetsFront query joining row b (from_key b state) found between old middle) is (subst (λ (es : State). MeetsFront query joining row beginning es found between old middle) entries first))
     (subst (λ (b : List ℕ). MeetsFront query joining row b (from_key b fresh) between now middle new) is (subst (λ (es : State). MeetsFront query joining row beginning es between now middle new) entries_new second)) meets
 
-pub earlier_null : (query : Bound) (joining : Joining) (row : FedRow) → list_any is_null row.key ≡ true → (state fresh : State) (found : Found) (met : List (List ℕ)) → MeetsEarlier query joining row state fresh found found met met
+pub earlier_null : (query : Bound) (joining : Joining) (row : FedRow) → list_any is_null row.key ≡ true → (state fresh : State) (found : Shown) (met : List (List ℕ)) → MeetsEarlier query joining row state fresh found found met met
 earlier_null query joining row has state fresh found met was held earlier pairs own kept kept_new meets = null_next query joining row (held ++ earlier) pairs found met has meets

@@ -8,7 +8,7 @@ use Rattle.ssq_shape.specs.declared.bound.Bound.{Bound}
 use Rattle.ssq_shape.specs.declared.bound.Joining.{Joining}
 use Rattle.ssq_meaning.specs.FedRows.{FedRow}
 use Rattle.ssq_meaning.specs.JoinLaws.{are_candidates}
-use Rattle.ssq_join.specs.declared.found.Found.{Found}
+use Rattle.ssq_step.specs.declared.shown.Shown.{Shown}
 use Rattle.ssq_join.specs.Meeting.{AreOthers, IsOther, MeetsFront, MeetsNext, entry_with, with_candidate}
 use Rattle.ssq_join.specs.Telling.{Meets, Pair, candidates_of}
 
@@ -22,7 +22,7 @@ behind (x ∷ xs) = xs
 
 module _ (query : Bound) (joining : Joining) (row : FedRow) (prefix : List ℕ) where
   -- where none begins so nothing is met
-  pub fronts_end : (entries : List (List ℕ × List ℕ)) (found : Found) (met : List (List ℕ)) → front_with prefix entries ≡ [] → MeetsFront query joining row prefix entries found found met met
+  pub fronts_end : (entries : List (List ℕ × List ℕ)) (found : Shown) (met : List (List ℕ)) → front_with prefix entries ≡ [] → MeetsFront query joining row prefix entries found found met met
   fronts_end entries found met none = λ was others pairs front each meets. by was pairs others (sym front ∙ none) meets
     where
       by : (was : FedRow → Bool) (pairs : List Pair) (others : List FedRow) → map (entry_with was) others ≡ [] → Meets query joining pairs found met → MeetsNext query joining pairs row others found met
@@ -42,9 +42,9 @@ module _ (query : Bound) (joining : Joining) (row : FedRow) (prefix : List ℕ) 
       by true same = IsPermutation-trans _ _ _ same (IsPermutation-middle (candidates_of joining row others) (row, other) pairs)
       by false same = same
 
-  pub fronts_on : (entry : List ℕ × List ℕ) (entries rest : List (List ℕ × List ℕ)) (found now : Found) (old new : List (List ℕ)) → entries ≡ entry ∷ rest → begins_with prefix entry.0 ≡ true
+  pub fronts_on : (entry : List ℕ × List ℕ) (entries rest : List (List ℕ × List ℕ)) (found now : Shown) (old new : List (List ℕ)) → entries ≡ entry ∷ rest → begins_with prefix entry.0 ≡ true
       → ((other : FedRow) (was : Bool) (pairs : List Pair) → IsOther query joining row other was entry.0 entry.1 → Meets query joining pairs found old → Meets query joining (with_candidate joining row other pairs) now new)
-      → (last : Found) (final : List (List ℕ)) → MeetsFront query joining row prefix rest now last new final → MeetsFront query joining row prefix entries found last old final
+      → (last : Shown) (final : List (List ℕ)) → MeetsFront query joining row prefix rest now last new final → MeetsFront query joining row prefix entries found last old final
   fronts_on entry entries rest found now old new steps begins one last final later = λ was others pairs front each meets. by was pairs others (sym front ∙ is) each meets
     where
       is : front_with prefix entries ≡ entry ∷ front_with prefix rest

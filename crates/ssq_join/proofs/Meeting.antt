@@ -10,10 +10,10 @@ use Rattle.ssq_shape.specs.Evaluation.{Overflow as Excess}
 use Rattle.ssq_meaning.specs.FedRows.{FedRow}
 use Rattle.ssq_meaning.specs.Join.{Considered, is_partner, row_key}
 use Rattle.ssq_meaning.specs.Meaning.{Values}
-use Rattle.ssq_join.specs.declared.found.Found.{Found}
+use Rattle.ssq_step.specs.declared.shown.Shown.{Shown}
 use Rattle.ssq_join.specs.Telling.{Meets, Pair, Tells, among, considered_of, touches}
 
-pub meets_more : (query : Bound) (joining : Joining) (row other : FedRow) (pairs : List Pair) (found now : Found) (before after : List (List ℕ)) (shown : Result (Option Values) Excess) (met : Bool)
+pub meets_more : (query : Bound) (joining : Joining) (row other : FedRow) (pairs : List Pair) (found now : Shown) (before after : List (List ℕ)) (shown : Result (Option Values) Excess) (met : Bool)
     → ((all : List Considered) → Tells found all → Tells now (record { key = row.key; row = shown } ∷ all))
     → record { key = row.key; row = shown } ≡ considered_of query joining (row, other) → is_partner joining row other ≡ met
     → ((bytes : List ℕ) → among after bytes ≡ (if met then (is_at (by_bytes bytes) (row_key row) || (is_at (by_bytes bytes) (row_key other) || among before bytes)) else among before bytes))

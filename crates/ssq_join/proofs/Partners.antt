@@ -7,13 +7,13 @@ use Rattle.ssq_version.specs.State.{by_bytes}
 use Rattle.ssq_shape.specs.declared.bound.Bound.{Bound}
 use Rattle.ssq_shape.specs.declared.bound.Joining.{Joining}
 use Rattle.ssq_shape.specs.Evaluation.{is_null}
+use Rattle.ssq_step.specs.declared.shown.Shown.{Shown}
 use Rattle.ssq_step.specs.Rows.{IsKeptRow, stream_of}
 use Rattle.ssq_meaning.specs.FedRows.{FedRow}
 use Rattle.ssq_meaning.specs.Group.{is_same}
 use Rattle.ssq_meaning.specs.Join.{Considered, is_candidate, is_left, is_near, is_partner, join_time, row_key}
 use Rattle.ssq_meaning.specs.JoinLaws.{are_candidates, pair_by}
 use Rattle.ssq_meaning.proofs.Keys.{same_itself}
-use Rattle.ssq_join.specs.declared.found.Found.{Found}
 use Rattle.ssq_join.specs.declared.judge.Judged.{Judged}
 use Rattle.ssq_join.specs.Judging.{is_met, judged_row, shown_by}
 use Rattle.ssq_join.specs.Meeting.{IsOther, JudgedAs, with_candidate}
@@ -121,10 +121,10 @@ module _ (query : Bound) (joining : Joining) (row other : FedRow) (was : Bool) (
   judged_pair false right judged is_so =
       from_left query joining row other (faces_from_left (sym right)) judged (ap (is_near joining.bound row.time) (time_on_right (sym right)) ∙ is_so.0) is_so.1 is_so.2
 
-  pub none_met : (pairs : List Pair) (found : Found) (met : List (List ℕ)) → are_candidates joining row other ≡ false → Meets query joining pairs found met → Meets query joining (with_candidate joining row other pairs) found met
+  pub none_met : (pairs : List Pair) (found : Shown) (met : List (List ℕ)) → are_candidates joining row other ≡ false → Meets query joining pairs found met → Meets query joining (with_candidate joining row other pairs) found met
   none_met pairs found met far meets = subst (λ b. Meets query joining (if b then (row, other) ∷ pairs else pairs) found met) (sym far) meets
 
-  pub one_met : (left : Bool) → left ≡ is_left other.stream → (judged : Judged) → JudgedAs query joining row left other.values (Some judged) → (pairs : List Pair) (found now : Found) (before after : List (List ℕ))
+  pub one_met : (left : Bool) → left ≡ is_left other.stream → (judged : Judged) → JudgedAs query joining row left other.values (Some judged) → (pairs : List Pair) (found now : Shown) (before after : List (List ℕ))
       → ((all : List Considered) → Tells found all → Tells now (record { key = row.key; row = shown_by judged.shown } ∷ all))
       → ((bytes : List ℕ) → among after bytes ≡ (if judged.met then (is_at (by_bytes bytes) (row_key row) || (is_at (by_bytes bytes) key || among before bytes)) else among before bytes))
       → Meets query joining pairs found before → Meets query joining (with_candidate joining row other pairs) now after

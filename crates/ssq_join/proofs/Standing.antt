@@ -14,7 +14,7 @@ use Rattle.ssq_meaning.specs.FedRows.{FedRow}
 use Rattle.ssq_meaning.specs.Feeding.{or_else}
 use Rattle.ssq_meaning.specs.Join.{row_key, row_value}
 use Rattle.ssq_meaning.specs.JoinLaws.{AreApart}
-use Rattle.ssq_join.specs.declared.found.Found.{Found}
+use Rattle.ssq_step.specs.declared.shown.Shown.{Shown}
 use Rattle.ssq_join.specs.declared.taking.Taken.{Taken}
 use Rattle.ssq_join.specs.Changing.{find_row}
 use Rattle.ssq_join.specs.Meeting.{AreKept, entry_with}
@@ -116,7 +116,7 @@ module _ (query : Bound) (joining : Joining) (row : FedRow) (own : IsKept query 
 
 -- its candidates are told behind those of the rows before it
 pub taken_more : (query : Bound) (joining : Joining) (row : FedRow) → IsKept query joining row → (was_met : FedRow → Bool) (held rows : List FedRow) (state fresh : State) → AreKept query joining was_met held state
-    → AreFresh query joining rows fresh → (found now : Found) (old new : List (List ℕ)) → AreTaken query joining held rows found old → MeetsEarlier query joining row state fresh found now old new
+    → AreFresh query joining rows fresh → (found now : Shown) (old new : List (List ℕ)) → AreTaken query joining held rows found old → MeetsEarlier query joining row state fresh found now old new
     → AreTaken query joining held (rows ++ row ∷ []) now new
 taken_more query joining row own was_met held rows state fresh kept was found now old new taken earlier =
     let next = earlier was_met held was.listed.0 taken.0 own kept was.listed.2 taken.2 in

@@ -21,10 +21,10 @@ use Rattle.ssq_meaning.proofs.Keys.{All-by}
 use Rattle.ssq_meaning.proofs.Reordered.{permutes, reordered_append, reordered_filter}
 use Rattle.ssq_meaning.proofs.Shuffled.{least_shuffled, shown_shuffled}
 use Rattle.ssq_meaning.proofs.Together.{filter_both}
+use Rattle.ssq_step.specs.declared.shown.Shown.{Shown}
 use Rattle.ssq_step.specs.Indexing.{IsIndexBy, Timed, stands}
 use Rattle.ssq_step.specs.Rows.{IndexesRows, StandsAt}
 use Rattle.ssq_step.proofs.ByBytes.{any_by}
-use Rattle.ssq_join.specs.declared.found.Found.{Found}
 use Rattle.ssq_join.specs.Changing.{SaysBytes, SaysRows, find_row}
 use Rattle.ssq_join.specs.Meeting.{AreKept}
 use Rattle.ssq_join.specs.Overs.{AreOver, IsHeld, TellsAlone, alones, is_shown_alone}
@@ -130,7 +130,7 @@ module _ (query : Bound) (joining : Joining) (state : State) (closing : List Tim
 
     -- ---- what is considered
 
-    module _ (found : Found) (pairs : List Pair) (taken : IsPermutation pairs (turns joining held new)) (told : TellsAlone query joining was_met over (map (considered_of query joining) pairs) found) where
+    module _ (found : Shown) (pairs : List Pair) (taken : IsPermutation pairs (turns joining held new)) (told : TellsAlone query joining was_met over (map (considered_of query joining) pairs) found) where
       alones_are : IsPermutation (alones query joining was_met over) (map (alone_of query) (filter (λ row. is_over joining now row && is_alone joining old row) held))
       alones_are =
           let test : FedRow → Bool = is_shown_alone joining was_met in
@@ -160,7 +160,7 @@ module _ (query : Bound) (joining : Joining) (state : State) (closing : List Tim
 
     -- ---- what changes
 
-    module _ (next_law : AreNext) (met_law : HaveMet) (new_law : NewHaveMet) (met : List (List ℕ)) (fresh : State) (pairs : List Pair) (found : Found) (taken : IsPermutation pairs (turns joining held new))
+    module _ (next_law : AreNext) (met_law : HaveMet) (new_law : NewHaveMet) (met : List (List ℕ)) (fresh : State) (pairs : List Pair) (found : Shown) (taken : IsPermutation pairs (turns joining held new))
         (meets : Meets query joining pairs found met) (are_fresh : AreFresh query joining new fresh) (change : Change) (says : SaysBytes state fresh met keys change) where
       in_next : (ordered : List FedRow) × IsReordered (open_rows joining (old ++ new) now) ordered × (kept joining (old ++ new) now ≡ map (entry_of joining (old ++ new)) ordered)
       in_next = listed joining (old ++ new) now given.apart

@@ -6,13 +6,13 @@ use Rattle.ssq_shape.specs.Evaluation.{overflow}
 use Rattle.ssq_meaning.specs.Group.{lesser_key}
 use Rattle.ssq_meaning.specs.Join.{Considered, shown_among}
 use Rattle.ssq_meaning.specs.Meaning.{Values}
-use Rattle.ssq_join.specs.declared.found.Found.{Found}
+use Rattle.ssq_step.specs.declared.shown.Shown.{Shown}
 use Rattle.ssq_join.specs.Telling.{Tells}
 
-pub none_told : (found : Found) → found.rows.items ≡ [] → found.fault ≡ None → Tells found []
+pub none_told : (found : Shown) → found.rows.items ≡ [] → found.fault ≡ None → Tells found []
 none_told found rows fault = record { rows = subst (λ (l : List Values). IsPermutation l []) (sym rows) (IsPermutation-refl []); fault = fault }
 
-pub row_told : (found now : Found) (key row : Values) → now.rows.items ≡ found.rows.items ++ row ∷ [] → now.fault ≡ found.fault → (all : List Considered) → Tells found all
+pub row_told : (found now : Shown) (key row : Values) → now.rows.items ≡ found.rows.items ++ row ∷ [] → now.fault ≡ found.fault → (all : List Considered) → Tells found all
     → Tells now (record { key = key; row = Ok (Some row) } ∷ all)
 row_told found now key row rows fault all tells = record {
   rows = subst (λ (l : List Values). IsPermutation l (row ∷ shown_among all)) (sym rows)
@@ -20,10 +20,10 @@ row_told found now key row rows fault all tells = record {
   fault = fault ∙ tells.fault;
 }
 
-pub nothing_told : (found : Found) (key : Values) (all : List Considered) → Tells found all → Tells found (record { key = key; row = Ok None } ∷ all)
+pub nothing_told : (found : Shown) (key : Values) (all : List Considered) → Tells found all → Tells found (record { key = key; row = Ok None } ∷ all)
 nothing_told found key all tells = record { rows = tells.rows; fault = tells.fault }
 
-pub fault_told : (found now : Found) (key : Values) → now.rows.items ≡ found.rows.items → now.fault ≡ Some (lesser_key key found.fault) → (all : List Considered) → Tells found all
+pub fault_told : (found now : Shown) (key : Values) → now.rows.items ≡ found.rows.items → now.fault ≡ Some (lesser_key key found.fault) → (all : List Considered) → Tells found all
     → Tells now (record { key = key; row = Err overflow } ∷ all)
 fault_told found now key rows fault all tells = record {
   rows = subst (λ (l : List Values). IsPermutation l (shown_among all)) (sym rows) tells.rows;

@@ -10,7 +10,7 @@ use Rattle.ssq_meaning.specs.FedRows.{FedRow}
 use Rattle.ssq_meaning.specs.Join.{is_left, is_near, join_time, row_key, row_value}
 use Rattle.ssq_meaning.specs.JoinLaws.{are_candidates}
 use Rattle.ssq_meaning.specs.Meaning.{Values}
-use Rattle.ssq_join.specs.declared.found.Found.{Found}
+use Rattle.ssq_step.specs.declared.shown.Shown.{Shown}
 use Rattle.ssq_join.specs.declared.judge.Judged.{Judged}
 use Rattle.ssq_join.specs.Judging.{IsPrintable, is_met, judged_row, shown_by}
 use Rattle.ssq_join.specs.Steps.{IsKept}
@@ -53,7 +53,7 @@ abbrev pub with_candidate : Joining → (row other : FedRow) → List Pair → L
 with_candidate joining row other pairs = if are_candidates joining row other then (row, other) ∷ pairs else pairs
 
 -- Behind the candidates so far come those of a row among others, in any order.
-abbrev pub MeetsNext : Bound → Joining → (pairs : List Pair) → FedRow → (others : List FedRow) → Found → (met : List (List ℕ)) → Type 0
+abbrev pub MeetsNext : Bound → Joining → (pairs : List Pair) → FedRow → (others : List FedRow) → Shown → (met : List (List ℕ)) → Type 0
 MeetsNext query joining pairs row others found met =
     (more : List Pair) × IsPermutation more (candidates_of joining row others ++ pairs) × Meets query joining more found met
 
@@ -62,7 +62,7 @@ abbrev pub AreOthers : Bound → Joining → FedRow → (met : FedRow → Bool) 
 AreOthers query joining row met others = AllByRecursion (λ other. IsOther query joining row other (met other) (row_key other) (row_value (met other) other)) others
 
 -- Of some entries those are met that stand in front with a beginning: whatever rows they are, behind the candidates so far come those of the row among them.
-abbrev pub MeetsFront : Bound → Joining → FedRow → (prefix : List ℕ) → (entries : State) → (found now : Found) → (old new : List (List ℕ)) → Type 0
+abbrev pub MeetsFront : Bound → Joining → FedRow → (prefix : List ℕ) → (entries : State) → (found now : Shown) → (old new : List (List ℕ)) → Type 0
 MeetsFront query joining row prefix entries found now old new =
     (met : FedRow → Bool) (others : List FedRow) (pairs : List Pair) → front_with prefix entries ≡ map (entry_with met) others → AreOthers query joining row met others
     → Meets query joining pairs found old → MeetsNext query joining pairs row others now new

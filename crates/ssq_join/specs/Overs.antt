@@ -8,7 +8,7 @@ use Rattle.ssq_shape.specs.declared.bound.Joining.{Joining}
 use Rattle.ssq_meaning.specs.FedRows.{FedRow}
 use Rattle.ssq_meaning.specs.Join.{Considered, alone_of, is_left, is_outer_side, row_key, row_value}
 use Rattle.ssq_step.specs.declared.rows.KeptRow.{KeptRow}
-use Rattle.ssq_join.specs.declared.found.Found.{Found}
+use Rattle.ssq_step.specs.declared.shown.Shown.{Shown}
 use Rattle.ssq_join.specs.Steps.{IsKept}
 use Rattle.ssq_join.specs.Telling.{Tells}
 
@@ -40,5 +40,5 @@ pub record AreOver (query : Bound) (joining : Joining) (state : State) (met : Fe
   pub each : AllByRecursion (IsHeld query joining state met) over
 
 -- beside what was considered before, these rows are, in any order
-abbrev pub TellsAlone : Bound → Joining → (met : FedRow → Bool) → (over : List FedRow) → (before : List Considered) → Found → Type 0
+abbrev pub TellsAlone : Bound → Joining → (met : FedRow → Bool) → (over : List FedRow) → (before : List Considered) → Shown → Type 0
 TellsAlone query joining met over before found = (all : List Considered) × IsPermutation all (alones query joining met over ++ before) × Tells found all

@@ -10,10 +10,10 @@ use Rattle.ssq_meaning.specs.FedRows.{FedRow}
 use Rattle.ssq_meaning.specs.Group.{least_key}
 use Rattle.ssq_meaning.specs.Join.{Considered, faulty_among, is_left, is_partner, row_key, shown_among}
 use Rattle.ssq_meaning.specs.JoinLaws.{are_candidates, pair_by}
-use Rattle.ssq_join.specs.declared.found.Found.{Found}
+use Rattle.ssq_step.specs.declared.shown.Shown.{Shown}
 
 -- the rows that are shown, in any order, and the least key that overflowed
-pub record Tells (found : Found) (all : List Considered) : Type 0 where
+pub record Tells (found : Shown) (all : List Considered) : Type 0 where
   pub rows : IsPermutation found.rows.items (shown_among all)
   pub fault : found.fault ≡ least_key (faulty_among all)
 
@@ -38,6 +38,6 @@ abbrev pub among : List (List ℕ) → List ℕ → Bool
 among met bytes = list_any (is_at (by_bytes bytes)) met
 
 -- The candidates so far are told, and the bytes of those rows are known that met a partner among them.
-pub record Meets (query : Bound) (joining : Joining) (pairs : List Pair) (found : Found) (met : List (List ℕ)) : Type 0 where
+pub record Meets (query : Bound) (joining : Joining) (pairs : List Pair) (found : Shown) (met : List (List ℕ)) : Type 0 where
   pub told : Tells found (map (considered_of query joining) pairs)
   pub known : (bytes : List ℕ) → among met bytes ≡ list_any (touches joining bytes) pairs

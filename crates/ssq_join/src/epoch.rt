@@ -6,18 +6,17 @@ ghost use Rattle.ssq_meaning.specs.FedRows.{FedRow as Fed};
 ghost use Rattle.ssq_meaning.specs.Fit.{IsFitRow};
 ghost use Rattle.ssq_meaning.specs.Operator.{join};
 ghost use Rattle.ssq_shape.specs.declared.bound.Joining.{Joining as Joins};
+ghost use Rattle.ssq_step.specs.Shown.{ArePrintable};
 ghost use Rattle.ssq_step.specs.Steps.{IsCause, IsStep};
-ghost use Rattle.ssq_join.specs.Judging.{ArePrintable};
 ghost use Rattle.ssq_join.specs.Moves.{IsMove};
 ghost use Rattle.ssq_join.specs.Steps.{Given, KeepsStreams};
 
 use crate::changed::changed;
-use crate::found::Found;
 use crate::over::take_all_over;
 use crate::taking::{Taken, take_rows};
 use ssq_meaning::{FedRow, joined_rows_are_told_by_what_is_kept, kept_rows_are_listed};
 use ssq_shape::{Bound, Joining, Shape};
-use ssq_step::{Closing, StepFault, Stepped};
+use ssq_step::{Closing, Shown, StepFault, Stepped};
 use ssq_value::keys_are_apart;
 use ssq_version::{Change, StateMap};
 use std::alloc::{AllocError, Global};
@@ -26,7 +25,7 @@ use std::alloc::{AllocError, Global};
 #[derive(Drop)]
 struct Moved {
     change: Change,
-    found: Found,
+    found: Shown,
 }
 
 fn time_fits(time: i64)
@@ -88,14 +87,8 @@ fn step_rows(
 {
     let moved = move_rows(alloc, bound, joining, state, closing, rows, now)?;
     let Moved { change, found } = moved;
-    let Found { rows: shown, fault } = found;
-    match fault {
-        Some(key) => Err(StepFault::Overflow { key }),
-        None => Ok(Stepped {
-            change,
-            rows: shown,
-        }),
-    }
+    let rows = found.into_rows()?;
+    Ok(Stepped { change, rows })
 }
 
 /// The step of an epoch over the rows that a partition of a join keeps and their index by time: by the epoch's rows that are not late, and its

@@ -16,7 +16,7 @@ use std::alloc::{AllocError, Global};
 
 /// What is shown of a joined row.
 #[derive(Drop)]
-pub(crate) enum Shown {
+pub(crate) enum ShownRow {
     Row(Row),
     Nothing,
     /// A result is outside of its type's range.
@@ -28,7 +28,7 @@ pub(crate) enum Shown {
 pub(crate) struct Judged {
     /// Whether ON is TRUE.
     pub(crate) met: bool,
-    pub(crate) shown: Shown,
+    pub(crate) shown: ShownRow,
 }
 
 fn truth_in(value: &Value) -> Option<bool>
@@ -67,15 +67,15 @@ fn all_of(alloc: Global, conditions: &[Typed], row: &[Value]) -> Result<Option<b
 }
 
 /// What is shown of a joined row: WHERE, and where it is TRUE the items of SELECT.
-pub(crate) fn show_row(alloc: Global, bound: &Bound, row: &[Value]) -> Result<Shown, AllocError>
+pub(crate) fn show_row(alloc: Global, bound: &Bound, row: &[Value]) -> Result<ShownRow, AllocError>
     requires { All IsFit row.now }
     ensures shown { IfOk result (λ shown. shown_by shown ≡ is_shown bound.now row.now) }
     ensures printable { IfOk result IsPrintable }
 {
     match show(alloc, bound, row) {
-        Ok(Some(row)) => Ok(Shown::Row(row)),
-        Ok(None) => Ok(Shown::Nothing),
-        Err(EvalFault::Overflow) => Ok(Shown::Overflow),
+        Ok(Some(row)) => Ok(ShownRow::Row(row)),
+        Ok(None) => Ok(ShownRow::Nothing),
+        Err(EvalFault::Overflow) => Ok(ShownRow::Overflow),
         Err(EvalFault::NoMemory) => Err(AllocError),
     }
 }
@@ -112,11 +112,11 @@ pub(crate) fn judge(
         }),
         Ok(_) => Ok(Judged {
             met: false,
-            shown: Shown::Nothing,
+            shown: ShownRow::Nothing,
         }),
         Err(EvalFault::Overflow) => Ok(Judged {
             met: false,
-            shown: Shown::Overflow,
+            shown: ShownRow::Overflow,
         }),
         Err(EvalFault::NoMemory) => Err(AllocError),
     }

@@ -6,17 +6,17 @@ ghost use Rattle.ssq_version.specs.State.{by_bytes};
 ghost use Rattle.ssq_meaning.specs.FedRows.{FedRow as Fed};
 ghost use Rattle.ssq_meaning.specs.Fit.{IsFit, IsFitRow};
 ghost use Rattle.ssq_meaning.specs.Join.{row_key};
-ghost use Rattle.ssq_join.specs.Judging.{ArePrintable};
+ghost use Rattle.ssq_step.specs.Shown.{ArePrintable};
 ghost use Rattle.ssq_join.specs.Meeting.{IsOther, JudgedAs, JudgedNear, MeetsFront, with_candidate};
 ghost use Rattle.ssq_join.specs.Telling.{Meets, Pair, among};
 
-use crate::found::{Found, with_shown};
+use crate::found::with_shown;
 use crate::judge::{Judged, judge};
 use crate::near::is_near;
 use ssq_field::Bytes;
 use ssq_meaning::{FedRow, join_time};
 use ssq_shape::{Bound, Joining};
-use ssq_step::{KeptRow, read_row};
+use ssq_step::{KeptRow, Shown, read_row};
 use ssq_value::Value;
 use ssq_version::{Entries, begins_with};
 use std::alloc::{AllocError, Global};
@@ -105,9 +105,9 @@ fn meet_row(
     comer: Comer<'_>,
     key: &Bytes,
     value: &Bytes,
-    found: Found,
+    found: Shown,
     met: &mut BTreeSet<Bytes>,
-) -> Result<Found, AllocError>
+) -> Result<Shown, AllocError>
     requires row { IsFitRow comer.row.now }
     requires bytes { comer.bytes.now ≡ row_key comer.row.now }
     requires printable { ArePrintable found.rows.items }
@@ -141,9 +141,9 @@ pub(crate) fn meet(
     comer: Comer<'_>,
     prefix: &Bytes,
     kept: Entries<'_>,
-    found: Found,
+    found: Shown,
     met: &mut BTreeSet<Bytes>,
-) -> Result<Found, AllocError>
+) -> Result<Shown, AllocError>
     requires row { IsFitRow comer.row.now }
     requires bytes { comer.bytes.now ≡ row_key comer.row.now }
     requires printable { ArePrintable found.rows.items }

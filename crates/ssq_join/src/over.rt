@@ -10,17 +10,17 @@ ghost use Rattle.ssq_meaning.specs.Join.{Considered as Told, alone_of, is_outer_
 ghost use Rattle.ssq_step.specs.Indexing.{seen};
 ghost use Rattle.ssq_step.specs.Rows.{stream_of};
 ghost use Rattle.ssq_version.specs.State.{value_at};
-ghost use Rattle.ssq_join.specs.Judging.{ArePrintable};
+ghost use Rattle.ssq_step.specs.Shown.{ArePrintable};
 ghost use Rattle.ssq_join.specs.Overs.{AreOver, IsHeld, IsRead, TellsAlone, with_alone};
 ghost use Rattle.ssq_join.specs.Steps.{IsKept};
 ghost use Rattle.ssq_join.specs.Telling.{Tells};
 
-use crate::found::{Found, with_shown};
+use crate::found::with_shown;
 use crate::judge::show_row;
 use ssq_field::Bytes;
 use ssq_keys::read_key;
 use ssq_shape::{Bound, JoinKind, Joining};
-use ssq_step::{KeptRow, read_row, width_of};
+use ssq_step::{KeptRow, Shown, read_row, width_of};
 use ssq_value::{Row, Value};
 use ssq_version::StateMap;
 use std::alloc::{AllocError, Global};
@@ -104,8 +104,8 @@ fn show_alone(
     bound: &Bound,
     own: &[Value],
     row: &KeptRow,
-    found: Found,
-) -> Result<Found, AllocError>
+    found: Shown,
+) -> Result<Shown, AllocError>
     requires fit { All IsFit row.now.values }
     requires printable { ArePrintable found.rows.items }
     ensures told { (fed : Fed) (met : Bool) (all : List Told) → IsRead fed met row.now → own.now ≡ fed.key → Tells found all →
@@ -124,8 +124,8 @@ fn take_over(
     joining: &Joining,
     state: &StateMap,
     key: &Bytes,
-    found: Found,
-) -> Result<Found, AllocError>
+    found: Shown,
+) -> Result<Shown, AllocError>
     requires printable { ArePrintable found.rows.items }
     ensures told { (met : Fed → Bool) (row : Fed) (all : List Told) → IsHeld bound.now joining.now state.now met row → key.now ≡ row_key row → Tells found all →
         IfOk result (λ now. Tells now (with_alone bound.now joining.now met row all)) }
@@ -152,8 +152,8 @@ pub(crate) fn take_all_over(
     joining: &Joining,
     state: &StateMap,
     keys: &[&Bytes],
-    found: Found,
-) -> Result<Found, AllocError>
+    found: Shown,
+) -> Result<Shown, AllocError>
     requires printable { ArePrintable found.rows.items }
     ensures told { (met : Fed → Bool) (over : List Fed) (all : List Told) → AreOver bound.now joining.now state.now met over (seen keys.now) → Tells found all →
         IfOk result (TellsAlone bound.now joining.now met over all) }

@@ -5,19 +5,19 @@ ghost use Rattle.ssq_meaning.specs.FedRows.{FedRow as Fed};
 ghost use Rattle.ssq_meaning.specs.Fit.{IsFitRow};
 ghost use Rattle.ssq_meaning.specs.Join.{row_key};
 ghost use Rattle.ssq_meaning.specs.JoinLaws.{AreApart};
+ghost use Rattle.ssq_step.specs.Shown.{ArePrintable};
 ghost use Rattle.ssq_join.specs.Changing.{find_row};
-ghost use Rattle.ssq_join.specs.Judging.{ArePrintable};
 ghost use Rattle.ssq_join.specs.Meeting.{AreKept};
 ghost use Rattle.ssq_join.specs.Steps.{IsKept};
 ghost use Rattle.ssq_join.specs.Turning.{AreFresh, AreTaken, MeetsEarlier};
 
 use crate::bytes::{prefix_of, row_key, row_value};
-use crate::found::{Found, nothing_found};
 use crate::meet::{Comer, meet};
 use crate::near::has_null;
 use ssq_field::Bytes;
 use ssq_meaning::FedRow;
 use ssq_shape::{Bound, Joining};
+use ssq_step::Shown;
 use ssq_value::keys_are_apart;
 use ssq_version::{StateMap, beginnings_stand_together, entries_from, states_are_kept};
 use std::alloc::{AllocError, Global};
@@ -26,7 +26,7 @@ use std::collections::{BTreeMap, BTreeSet};
 /// What the rows of an epoch come to.
 #[derive(Drop)]
 pub(crate) struct Taken {
-    pub(crate) found: Found,
+    pub(crate) found: Shown,
     /// The bytes of the rows, kept ones and new ones, that met a partner.
     pub(crate) met: BTreeSet<Bytes>,
     /// What would be kept of each row if it met none, by its bytes.
@@ -41,9 +41,9 @@ fn take_row(
     state: &StateMap,
     fresh: &BTreeMap<Bytes, Bytes>,
     comer: Comer<'_>,
-    found: Found,
+    found: Shown,
     met: &mut BTreeSet<Bytes>,
-) -> Result<Found, AllocError>
+) -> Result<Shown, AllocError>
     requires row { IsFitRow comer.row.now }
     requires bytes { comer.bytes.now ≡ row_key comer.row.now }
     requires printable { ArePrintable found.rows.items }
@@ -78,7 +78,7 @@ fn nothing_taken(alloc: Global) -> Taken
     ensures fresh { result.fresh.entries ≡ [] }
 {
     Taken {
-        found: nothing_found(alloc),
+        found: Shown::nothing(alloc),
         met: BTreeSet::new(alloc),
         fresh: BTreeMap::new(alloc),
     }

@@ -2,3 +2,4 @@ pub mod Timing
 pub mod RowTimes
 pub mod Hashed
 pub mod ByBytes
+pub mod Exceeding

@@ -1,5 +1,6 @@
 pub mod Timed
 pub mod Rows
 pub mod Indexing
+pub mod Shown
 pub mod Steps
 pub mod Hashing

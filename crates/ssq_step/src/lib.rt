@@ -9,6 +9,7 @@ mod fault;
 mod key;
 mod row_index;
 mod rows;
+mod shown;
 mod stepped;
 
 pub use bytes::{bytes_of_key, short};
@@ -17,4 +18,5 @@ pub use copies::copied_row;
 pub use fault::StepFault;
 pub use key::Key;
 pub use rows::{KeptRow, read_row, width_of};
+pub use shown::Shown;
 pub use stepped::Stepped;

@@ -1,6 +1,7 @@
 use Rattle.std.proofs.Common.{◌≡◌, ◌++◌, [], ℤ, true, List, None, Option, sym, ◌∙◌, subst}
 use Rattle.std.specs.BTreeMap.{get}
 use Rattle.std.specs.List.Sorted.{IsPermutation}
+use Rattle.std.proofs.lemmas.Result.{err_from_is_err_and}
 use Rattle.ssq_value.specs.Order.{values_cmp}
 use Rattle.ssq_shape.specs.declared.bound.Bound.{Bound}
 use Rattle.ssq_shape.specs.declared.bound.Grouping.{Grouping}
@@ -9,6 +10,7 @@ use Rattle.ssq_meaning.specs.Group.{closing_time, is_closed, members}
 use Rattle.ssq_meaning.specs.GroupLaws.{held, next_held}
 use Rattle.ssq_meaning.specs.Meaning.{Values}
 use Rattle.ssq_meaning.specs.Operator.{group}
+use Rattle.ssq_step.proofs.Exceeding.{excess_is_cause}
 use Rattle.ssq_agg.specs.Closed.{AreClosed, is_ended}
 use Rattle.ssq_agg.specs.Groups.{Held, touched}
 use Rattle.ssq_agg.specs.Shown.{Pair, least_fault, shown_rows}
@@ -60,11 +62,13 @@ module _ (c : After-show_due) (old : List FedRow) (before : Option ℤ) (given :
         fault_are query grouping old c.args.rows.now before c.args.now found found_is whole ended (c.groups_are_due_by_what_is_kept.ensures.totals grouping old c.args.rows.now) pairs are
         (c.groups_are_due_by_what_is_kept.ensures.due query grouping old c.args.rows.now before c.args.now given.follows) c.groups_come_in_any_order.ensures.least
 
-pub returns-in-Some-clause-cause : goal.returns-in-Some-clause-cause
-returns-in-Some-clause-cause c = λ old before given.
-    let at = (goal.at.returns-in-Some-clause-cause c).After-show_due in
+pub returns-in_err-rows-clause-cause : goal.returns-in_err-rows-clause-cause
+returns-in_err-rows-clause-cause c = λ old before given.
+    let at = (goal.at.returns-in_err-rows-clause-cause c).After-show_due in
+    let operator = group c.args.bound.now c.args.grouping.now in
     let shown = c.in_ok-shown.ensures.due (own at old before given) given.holds (shown_closed at old before given) in
-    sym (fault_told at old before given shown.pairs shown.are) ∙ sym shown.fault ∙ c.in-Some.is
+    let p = err_from_is_err_and c.from_residual-in_err-rows.result c.from_residual-in_err-rows.ensures.1 in
+    rw (p.1, p.2) (excess_is_cause operator old c.args.rows.now before c.args.now c.in_ok-shown.shown.fault c.in_err-rows.field-0.0 (shown.fault ∙ fault_told at old before given shown.pairs shown.are) c.in_err-rows.ensures.cause)
 
 pub returns-clause-moved : goal.returns-clause-moved
 returns-clause-moved c = λ old before given.
@@ -78,6 +82,6 @@ returns-clause-moved c = λ old before given.
       held_after = state_is query grouping old c.args.rows.now before c.args.now (found at old before given) (found_is at old before given) (whole at old before given) (ended at old before given) c.in_ok-closed.closed.items closed;
       touched_keys = λ key totals there. touched_keys grouping kept c.args.rows.now key totals given.keys (sym (found_is at old before given key) ∙ there);
       closed_keys = held_keys grouping c.args.state.now kept (λ key. is_ended c.args.now (closing_time query grouping key) (kept key)) c.in_ok-closed.closed.items given.holds closed.each;
-      shown = subst (λ l. IsPermutation l ((group query grouping).added old c.args.rows.now before c.args.now)) (sym shown.rows) (rows_told at old before given shown.pairs shown.are);
-      faultless = sym (fault_told at old before given shown.pairs shown.are) ∙ sym shown.fault ∙ c.in-None.is;
+      shown = subst (λ l. IsPermutation l ((group query grouping).added old c.args.rows.now before c.args.now)) (sym (c.in_ok-rows.ensures.rows ∙ shown.rows)) (rows_told at old before given shown.pairs shown.are);
+      faultless = sym (fault_told at old before given shown.pairs shown.are) ∙ sym shown.fault ∙ c.in_ok-rows.ensures.faultless;
     }

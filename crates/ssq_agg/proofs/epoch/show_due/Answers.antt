@@ -20,14 +20,14 @@ pub returns-in-Append-clause-due : goal.returns-in-Append-clause-due
 returns-in-Append-clause-due c own holds closed =
     if_ok c.show_each.result c.show_each.ensures.shown (λ shown shows.
     append_due c.args.bound.now c.args.grouping.now own (closing_time c.args.bound.now c.args.grouping.now) c.args.now (get values_cmp c.args.touched.now) c.in-Append.is
-    c.args.closed.now closed c.nothing_shown-shown.result shown c.nothing_shown-shown.ensures.rows c.nothing_shown-shown.ensures.fault shows)
+    c.args.closed.now closed c.nothing-shown.result shown c.nothing-shown.ensures.rows c.nothing-shown.ensures.fault shows)
 
 pub returns-in-Update-clause-due : goal.returns-in-Update-clause-due
 returns-in-Update-clause-due c own holds closed =
     if_ok c.show_touched.result c.show_touched.ensures.shown (λ shown shows.
     update_due c.args.bound.now c.args.grouping.now own (closing_time c.args.bound.now c.args.grouping.now) c.args.now (get values_cmp c.args.touched.now) c.in-Update.is
     c.args.touched.now.entries c.show_touched.ensures.ordered (λ key. refl) c.show_touched.ensures.found
-    c.nothing_shown-shown.result shown c.nothing_shown-shown.ensures.rows c.nothing_shown-shown.ensures.fault shows)
+    c.nothing-shown.result shown c.nothing-shown.ensures.rows c.nothing-shown.ensures.fault shows)
 
 pub returns-in_ok-others-in-Complete-clause-due : goal.returns-in_ok-others-in-Complete-clause-due
 returns-in_ok-others-in-Complete-clause-due c own holds closed =
@@ -36,4 +36,4 @@ returns-in_ok-others-in-Complete-clause-due c own holds closed =
     complete_due c.args.bound.now c.args.grouping.now own (closing_time c.args.bound.now c.args.grouping.now) c.args.now (get values_cmp c.args.touched.now) c.in-Complete.is
     c.args.touched.now.entries c.in_ok-shown-in-Complete.ensures.ordered (λ key. refl) c.in_ok-shown-in-Complete.ensures.found
     c.in_ok-all_groups-in-Complete.field-0.items c.as_slice.result.now all (c.as_slice.ensures.value ∙ c.in_ok-others-in-Complete.ensures)
-    c.nothing_shown-shown.result c.in_ok-shown-in-Complete.shown shown c.nothing_shown-shown.ensures.rows c.nothing_shown-shown.ensures.fault c.in_ok-shown-in-Complete.ensures.shown shows)
+    c.nothing-shown.result c.in_ok-shown-in-Complete.shown shown c.nothing-shown.ensures.rows c.nothing-shown.ensures.fault c.in_ok-shown-in-Complete.ensures.shown shows)

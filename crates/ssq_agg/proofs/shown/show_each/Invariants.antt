@@ -1,5 +1,6 @@
 use Rattle.std.proofs.Common.{drop}
-use Rattle.ssq_agg.specs.Shown.{ArePrintable, Finishes, pairs_of}
+use Rattle.ssq_step.specs.Shown.{ArePrintable}
+use Rattle.ssq_agg.specs.Shown.{Finishes, pairs_of}
 use Rattle.ssq_agg.proofs.shown.show_each.Given as goal
 
 abbrev pub invariant-loop-group : goal.invariant-loop-group

@@ -1,6 +1,7 @@
 use Rattle.std.proofs.Common.{All}
 use Rattle.ssq_agg.specs.Readable.{IsFitGroup}
-use Rattle.ssq_agg.specs.Shown.{ArePrintable, Finishes}
+use Rattle.ssq_step.specs.Shown.{ArePrintable}
+use Rattle.ssq_agg.specs.Shown.{Finishes}
 use Rattle.ssq_agg.proofs.shown.show_touched.Given as goal
 
 abbrev pub invariant-loop-key : goal.invariant-loop-key

@@ -2,7 +2,7 @@ use Rattle.std.proofs.Common.{Bool, List, take}
 use Rattle.ssq_meaning.specs.FedRows.{FedRow}
 use Rattle.ssq_meaning.specs.Join.{Considered}
 use Rattle.ssq_step.specs.Indexing.{seen}
-use Rattle.ssq_join.specs.Judging.{ArePrintable}
+use Rattle.ssq_step.specs.Shown.{ArePrintable}
 use Rattle.ssq_join.specs.Overs.{AreOver, TellsAlone}
 use Rattle.ssq_join.specs.Telling.{Tells}
 use Rattle.ssq_join.proofs.over.take_all_over.Given as goal

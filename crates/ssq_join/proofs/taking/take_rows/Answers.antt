@@ -6,7 +6,7 @@ use Rattle.ssq_time.specs.Time.{IsStampTime}
 use Rattle.ssq_value.specs.Kind.{IfTime}
 use Rattle.ssq_meaning.specs.FedRows.{FedRow}
 use Rattle.ssq_meaning.specs.Fit.{IsFitRow}
-use Rattle.ssq_join.specs.Judging.{ArePrintable}
+use Rattle.ssq_step.specs.Shown.{ArePrintable}
 use Rattle.ssq_join.proofs.Standing.{AreTurned, none_fresh, none_taken, takes_more}
 use Rattle.ssq_join.proofs.taking.take_rows.Goals as goal
 

@@ -1,4 +1,4 @@
-use Rattle.ssq_join.specs.Judging.{ArePrintable}
+use Rattle.ssq_step.specs.Shown.{ArePrintable}
 use Rattle.ssq_join.proofs.Standing.{TakesTo}
 use Rattle.ssq_join.proofs.taking.take_rows.Given as goal
 
