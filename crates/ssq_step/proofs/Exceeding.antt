@@ -1,4 +1,4 @@
--- A key that overflows, as the cause of a step.
+-- A key that overflows is a cause for a step to show nothing.
 use Rattle.std.proofs.Common.{◌≡◌, ℤ, List, Option, sym, ◌∙◌}
 use Rattle.ssq_meaning.specs.FedRows.{FedRow}
 use Rattle.ssq_meaning.specs.Meaning.{Values}

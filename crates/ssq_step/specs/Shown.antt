@@ -10,7 +10,7 @@ use Rattle.ssq_step.specs.declared.fault.StepFault.TheVariants.{Overflow, NoMemo
 abbrev pub ArePrintable : List Values → Type 0
 ArePrintable rows = All (All (IfTime IsStampTime)) rows
 
--- it is that the least key overflows
+-- nothing is shown because this is the least key that overflows
 abbrev pub IsExcess : (least : Option Values) → StepFault → Type 0
 IsExcess least (Overflow key) = least ≡ Some key
 IsExcess least NoMemory = ⊥

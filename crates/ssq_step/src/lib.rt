@@ -1,5 +1,5 @@
-//! What the steps of all operators that keep state share: the index of keys by time, or of a join's rows, a key that hashes, what a step gives,
-//! and why it gives nothing.
+//! What the steps of all operators that keep state share: the index of keys by time, or of a join's rows, a key that hashes, what an epoch shows
+//! so far, what a step gives, and why it gives nothing.
 #![tactic(auto)]
 
 mod bytes;
