@@ -174,7 +174,8 @@ pub(crate) fn is_no_time(spot: Option<Spot>) -> bool
     }
 }
 
-fn slide_of(window: &Window) -> i64
+/// By how many microseconds windows are apart: by their size where nothing else is said.
+pub fn slide_of(window: &Window) -> i64
     ensures { result ≡ slide_of window.now }
 {
     match &window.slide {

@@ -54,7 +54,8 @@ fn firsts_of(alloc: Global, columns: &[Column]) -> Result<IndexMap<Text, usize>,
     Ok(firsts)
 }
 
-fn spot_at(side: Side, columns: &[Column], at: usize) -> Option<Spot>
+/// The column at an index of a stream that stands on this side.
+pub fn spot_at(side: Side, columns: &[Column], at: usize) -> Option<Spot>
     ensures { result ≡ spot_at side columns.now at }
 {
     match columns.get(at) {

@@ -1,6 +1,7 @@
 //! ON: its key equalities, and which of its parts is the bound on times.
 
 ghost use Rattle.std.specs.Prelude.{◌≡◌, ◌&&◌};
+ghost use Rattle.std.specs.Option.{option_copied};
 ghost use Rattle.ssq_check.specs.Fault.{FirstOf};
 ghost use Rattle.ssq_check.specs.Names.{is_there};
 ghost use Rattle.ssq_check.specs.Rules.{is_interval, kind};
@@ -78,7 +79,8 @@ pub fn spot_of(scope: &Scope, column: &ColumnRef) -> Result<Spot, BindFault>
     }
 }
 
-pub(crate) fn spot_in(found: Result<Spot, BindFault>) -> Option<Spot>
+/// The column that was found.
+pub fn spot_in(found: Result<Spot, BindFault>) -> Option<Spot>
     ensures { result ≡ on.spot_in found }
 {
     match found {
@@ -87,14 +89,31 @@ pub(crate) fn spot_in(found: Result<Spot, BindFault>) -> Option<Spot>
     }
 }
 
-/// The column that an expression is.
-fn column_spot(scope: &Scope, value: &Expr) -> Option<Spot>
-    ensures { result ≡ looked scope.now (bare_column value.now) }
+/// The column that is meant, where there is a name and nothing is wrong with it.
+pub fn looked(scope: &Scope, column: Option<&ColumnRef>) -> Option<Spot>
+    ensures { result ≡ looked scope.now (option_copied column.entry) }
+{
+    match column {
+        Some(column) => spot_in(spot_of(scope, column)),
+        None => None,
+    }
+}
+
+/// The name of a column that an expression is.
+pub fn bare_column(value: &Expr) -> Option<&ColumnRef>
+    ensures { option_copied result ≡ bare_column value.now }
 {
     match value {
-        Expr::Column { value } => spot_in(spot_of(scope, value)),
+        Expr::Column { value } => Some(value),
         _ => None,
     }
+}
+
+/// The column that an expression is.
+pub fn column_spot(scope: &Scope, value: &Expr) -> Option<Spot>
+    ensures { result ≡ looked scope.now (bare_column value.now) }
+{
+    looked(scope, bare_column(value))
 }
 
 fn are_across(left: Option<Spot>, right: Option<Spot>) -> bool

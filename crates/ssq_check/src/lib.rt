@@ -21,11 +21,13 @@ mod shown;
 mod stream;
 mod whole;
 
-pub use columns::Columns;
+pub use clause::slide_of;
+pub use columns::{Columns, spot_at};
 pub use expr::check_expr;
 pub use fault::{BindFault, Cause, Refusal};
-pub use joined::spot_of;
+pub use joined::{bare_column, column_spot, looked, spot_in, spot_of};
 pub use keys::Keys;
-pub use names::scope_of;
+pub use list::item_name;
+pub use names::{column_of, left_stream, right_stream, scope_of};
 pub use scope::{Key, Scope, Side, Source, Spot, Within, bare_spot, is_window_name};
 pub use whole::{check, small_values, types_stay};

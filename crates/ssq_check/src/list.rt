@@ -6,7 +6,7 @@ ghost use Rattle.ssq_check.specs.Fault.{sooner, FirstOf};
 ghost use Rattle.ssq_check.specs.Broken.{Rule};
 ghost use Rattle.ssq_check.specs.declared.fault.Cause.TheVariants as cause;
 ghost use Rattle.ssq_check.specs.Firsts.{fault_at, past_fault};
-ghost use Rattle.ssq_check.specs.Lists.{has_name, with_name, doubled_from, fault_if, Where, Doubled, Past, Beyond};
+ghost use Rattle.ssq_check.specs.Lists.{has_name, with_name, doubled_from, fault_if, item_name, Where, Doubled, Past, Beyond};
 ghost use Rattle.ssq_check.specs.Clauses.{ident_name, ident_place, group_columns};
 
 use crate::fault::{BindFault, Cause, sooner};
@@ -14,6 +14,16 @@ use indexmap::IndexSet;
 use ssq_ast::{ColumnDecl, Group, Ident, Item, Stream};
 use ssq_value::Text;
 use std::alloc::{AllocError, Global};
+
+/// The name of an output.
+pub fn item_name(item: &Item) -> &Text
+    ensures { result.now ≡ item_name item.now }
+{
+    match item {
+        Item::Column { column, .. } => &column.column.text,
+        Item::Named { name, .. } => &name.text,
+    }
+}
 
 /// What stands at a place.
 pub(crate) trait Placed {
@@ -145,10 +155,7 @@ impl Named for Item {
     ghost named_at = { item_place };
 
     fn name(&self) -> &str {
-        match self {
-            Item::Column { column, .. } => column.column.text.as_str(),
-            Item::Named { name, .. } => name.text.as_str(),
-        }
+        item_name(self).as_str()
     }
 
     fn named_at(&self) -> usize {

@@ -2,17 +2,18 @@
 
 ghost use Rattle.std.specs.Prelude.{◌≡◌, ◌++◌, map, IfOk, OnOk};
 ghost use Rattle.std.specs.List.{flat_map};
-ghost use Rattle.std.specs.Option.{option_map};
-ghost use Rattle.ssq_check.specs.Names.{column_of, watermark_name, source_of, declared, join_stream, row_scope, keys_of, group_keys, with_keys, scope_of};
+ghost use Rattle.std.specs.Option.{option_copied, option_map};
+ghost use Rattle.ssq_check.specs.Names.{column_of, watermark_name, source_of, declared, left_stream, right_stream, row_scope, keys_of, group_keys, with_keys, scope_of};
 
 use crate::columns::Columns;
 use crate::keys::Keys;
 use crate::scope::{Key, Scope, Source, bare_spot};
-use ssq_ast::{ColumnDecl, Group, GroupBy, Join, Query, Stream, Watermark};
+use ssq_ast::{ColumnDecl, Group, GroupBy, Query, Stream, Watermark};
 use ssq_value::{Column, Sequence, Text};
 use std::alloc::{AllocError, Global};
 
-pub(crate) fn column_of(decl: &ColumnDecl) -> Result<Column, AllocError>
+/// A column, as it is declared.
+pub fn column_of(decl: &ColumnDecl) -> Result<Column, AllocError>
     ensures { IfOk result (λ column. column ≡ column_of decl.now) }
 {
     let name = decl.name.text.clone()?;
@@ -67,27 +68,39 @@ fn source_of(alloc: Global, stream: &Stream) -> Result<Source, AllocError>
 }
 
 /// The first stream that is declared under the name.
-fn declared(alloc: Global, streams: &[Stream], name: &str) -> Result<Option<Source>, AllocError>
-    ensures { IfOk result (λ source. source ≡ option_map source_of (declared streams.now name.now)) }
+fn declared<'a>(streams: &'a [Stream], name: &str) -> Option<&'a Stream>
+    ensures { option_copied result ≡ declared streams.now name.now }
 {
     for stream in streams {
         if stream.name.text.as_str() == name {
-            let source = source_of(alloc, stream)?;
-            return Ok(Some(source));
+            return Some(stream);
         }
     }
-    Ok(None)
+    None
 }
 
-fn joined(
-    alloc: Global,
-    streams: &[Stream],
-    join: &Option<Join>,
-) -> Result<Option<Source>, AllocError>
-    ensures { IfOk result (λ source. source ≡ option_map source_of (join_stream streams.now join.now)) }
+/// The stream of FROM, where it is declared.
+pub fn left_stream(query: &Query) -> Option<&Stream>
+    ensures { option_copied result ≡ left_stream query.now }
 {
-    match join {
-        Some(join) => declared(alloc, streams, join.stream.text.as_str()),
+    declared(query.streams.as_slice(), query.select.from.text.as_str())
+}
+
+/// The stream of JOIN, where it is declared.
+pub fn right_stream(query: &Query) -> Option<&Stream>
+    ensures { option_copied result ≡ right_stream query.now }
+{
+    match &query.select.join {
+        Some(join) => declared(query.streams.as_slice(), join.stream.text.as_str()),
+        None => None,
+    }
+}
+
+fn source_if(alloc: Global, stream: Option<&Stream>) -> Result<Option<Source>, AllocError>
+    ensures { IfOk result (λ source. source ≡ option_map source_of (option_copied stream.entry)) }
+{
+    match stream {
+        Some(stream) => Ok(Some(source_of(alloc, stream)?)),
         None => Ok(None),
     }
 }
@@ -97,9 +110,8 @@ fn sources_of(alloc: Global, query: &Query) -> Result<(Option<Source>, Option<So
     ensures left { IfOk result (λ sources. sources.0 ≡ (row_scope query.now).left) }
     ensures right { IfOk result (λ sources. sources.1 ≡ (row_scope query.now).right) }
 {
-    let streams = query.streams.as_slice();
-    let left = declared(alloc, streams, query.select.from.text.as_str())?;
-    match joined(alloc, streams, &query.select.join) {
+    let left = source_if(alloc, left_stream(query))?;
+    match source_if(alloc, right_stream(query)) {
         Ok(right) => Ok((left, right)),
         Err(error) => {
             drop(left);
