@@ -18,7 +18,7 @@ use Rattle.ssq_check.specs.declared.scope.Within.TheVariants as within
 use Rattle.ssq_check.specs.Fault.{Faults, FirstOf, sooner}
 use Rattle.ssq_check.specs.Broken.{Either, Rule}
 use Rattle.ssq_check.specs.Lists.{Where, Each, Doubled, Past, Beyond, item_first, ItemsFaults}
-use Rattle.ssq_check.specs.Names.{is_there, row_scope, group_keys, with_keys, scope_of}
+use Rattle.ssq_check.specs.Names.{is_there, row_scope, group_keys, with_keys}
 use Rattle.ssq_check.specs.Shown.{item_aggregates, having_aggregates, shown_aggregates, group_place_by, group_place, within_by}
 use Rattle.ssq_check.specs.Clauses.{ConditionFaults, HavingFaults, StreamsFaults, JoinedFaults, OnFaults, JoinFaults, ident_name, ident_place, IdentFaults, DeduplicateFaults, GroupItemFaults, group_columns, group_windows, group_first, GroupFaults, OrderFaults}
 use Rattle.ssq_check.specs.Whole.{DistinctFaults, LimitFaults, StatefulFaults, WordFaults, RowFaults, ShownFaults, OwnFaults, QueryFaults}
@@ -119,13 +119,14 @@ own_first scope query items places ps qs grouped a b o items_is places_is ps_is 
     (subst (λ (v : List ℕ). FirstOf (ShownFaults scope grouped v query.select) a) (qs_is ∙ places_are) ha))
     (subst (λ (v : Option ℕ). FirstOf (WordFaults query.select v) b) grouped_at hb)
 
-pub query_first : (query : Query) (streams : List Stream) (names : Scope) (a b c p o : Option BindFault)
-    → streams ≡ query.streams → names ≡ row_scope query → p ≡ sooner b c → o ≡ sooner a p
-    → FirstOf (StreamsFaults streams) a → FirstOf (RowFaults names query.select) b → FirstOf (OwnFaults (with_keys names (group_keys names query.select.group)) query) c
+abbrev SelectFaults : Scope → Query → Faults
+SelectFaults names query = Either (RowFaults names query.select) (OwnFaults (with_keys names (group_keys names query.select.group)) query)
+
+pub query_first : (query : Query) (streams : List Stream) (names : Scope) (a b o : Option BindFault)
+    → streams ≡ query.streams → names ≡ row_scope query → o ≡ sooner a b
+    → FirstOf (StreamsFaults streams) a → FirstOf (Either (RowFaults names query.select) (OwnFaults (with_keys names (group_keys names query.select.group)) query)) b
     → FirstOf (QueryFaults query) o
-query_first query streams names a b c p o streams_is names_is p_is o_is ha hb hc =
-    first_of_two (StreamsFaults query.streams) _ a p o o_is
+query_first query streams names a b o streams_is names_is o_is ha hb =
+    first_of_two (StreamsFaults query.streams) (SelectFaults (row_scope query) query) a b o o_is
     (subst (λ (v : List Stream). FirstOf (StreamsFaults v) a) streams_is ha)
-    (first_of_two (RowFaults (row_scope query) query.select) (OwnFaults (scope_of query) query) b c p p_is
-    (subst (λ (v : Scope). FirstOf (RowFaults v query.select) b) names_is hb)
-    (subst (λ (v : Scope). FirstOf (OwnFaults (with_keys v (group_keys v query.select.group)) query) c) names_is hc))
+    (subst (λ (v : Scope). FirstOf (SelectFaults v query) b) names_is hb)

@@ -1,5 +1,6 @@
 -- The places of aggregates, by what stands in boxes.
-use Rattle.std.proofs.Common.{◌≡◌, ◌∙◌, sym, refl, ℕ, List, [], ◌∷◌, ◌++◌, append_assoc}
+use Rattle.std.proofs.Common.{◌≡◌, ◌∙◌, sym, refl, ℕ, List, [], ◌∷◌, ◌++◌, append_assoc, Result, Ok, Err}
+use Rattle.std.specs.Prelude.{OnOk}
 use Rattle.ssq_ast.specs.declared.expr.BinaryOp.{BinaryOp}
 use Rattle.ssq_ast.specs.declared.expr.Expr.{Expr}
 use Rattle.ssq_ast.specs.declared.expr.Expr.TheViews as view
@@ -36,3 +37,12 @@ found_both old mid new xs ys own left right both = right ∙ (λ i. left i ++ ys
 
 pub found_one : {A : Type 0} (old new xs own : List A) → new ≡ old ++ xs → own ≡ xs → new ≡ old ++ own
 found_one old new xs own found same = found ∙ (λ i. old ++ sym same i)
+
+-- the same, of a call that may have failed
+pub on_one : {A T E : Type 0} (r : Result T E) (old new xs own : List A) → OnOk r (new ≡ old ++ xs) → own ≡ xs → OnOk r (new ≡ old ++ own)
+on_one (Ok t) old new xs own found same = found_one old new xs own found same
+on_one (Err e) old new xs own found same = tt
+
+pub on_both : {A T E : Type 0} (r : Result T E) (old mid new xs ys own : List A) → mid ≡ old ++ xs → OnOk r (new ≡ mid ++ ys) → own ≡ xs ++ ys → OnOk r (new ≡ old ++ own)
+on_both (Ok t) old mid new xs ys own left right both = found_both old mid new xs ys own left right both
+on_both (Err e) old mid new xs ys own left right both = tt

@@ -14,7 +14,7 @@ ghost use Rattle.ssq_check.specs.declared.scope.Within.TheVariants as within;
 use crate::expr::check_expr;
 use crate::fault::{BindFault, Cause, fault_in, rule, sooner, unless};
 use crate::joined::{check_on, spot_in};
-use crate::list::{Named, beyond, first_double, first_double_column, past_places};
+use crate::list::{Named, beyond, first_double, first_double_column, note, past_places};
 use crate::scope::{Scope, Source, Spot, Within, bare_spot, is_window_name};
 use indexmap::IndexSet;
 use ssq_ast::{Condition, Deduplicate, Group, GroupBy, Ident, Item, Join, OrderBy, Window};
@@ -316,8 +316,7 @@ fn output_names(alloc: Global, items: &[Item]) -> Result<IndexSet<Text>, AllocEr
 {
     let mut names: IndexSet<Text> = IndexSet::new(alloc);
     for item in items {
-        let name = Text::from_str(alloc, item.name())?;
-        names.insert(name)?;
+        let _is_new = note(alloc, &mut names, item.name())?;
     }
     Ok(names)
 }

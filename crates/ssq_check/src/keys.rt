@@ -97,6 +97,18 @@ impl Keys {
         })
     }
 
+    /// No keys.
+    pub(crate) fn none(alloc: Global) -> Keys
+        ensures { result ≡ [] }
+    {
+        Keys {
+            list: Sequence::new(alloc),
+            left: IndexMap::new(alloc),
+            right: IndexMap::new(alloc),
+            window: None,
+        }
+    }
+
     /// The place of the first window.
     pub fn window(&self) -> Option<usize>
         ensures { result ≡ position is_window_key self.now }

@@ -193,7 +193,7 @@ fn fault_if(is_new: bool, at: usize) -> Option<BindFault>
 }
 
 /// Notes a name, and tells whether it is new.
-fn note(alloc: Global, seen: &mut IndexSet<Text>, name: &str) -> Result<bool, AllocError>
+pub(crate) fn note(alloc: Global, seen: &mut IndexSet<Text>, name: &str) -> Result<bool, AllocError>
     ensures is_new { IfOk result (λ is_new. is_new ≡ not (has_name name.now seen.old.keys)) }
     ensures seen { OnOk result (seen.new.keys ≡ with_name seen.old.keys name.now) }
 {

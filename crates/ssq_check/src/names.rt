@@ -124,9 +124,12 @@ fn sources_of(alloc: Global, query: &Query) -> Result<(Option<Source>, Option<So
 pub(crate) fn row_scope(alloc: Global, query: &Query) -> Result<Scope, AllocError>
     ensures { IfOk result (λ scope. scope ≡ row_scope query.now) }
 {
-    let keys = Keys::new(alloc, Sequence::new(alloc))?;
     let (left, right) = sources_of(alloc, query)?;
-    Ok(Scope { left, right, keys })
+    Ok(Scope {
+        left,
+        right,
+        keys: Keys::none(alloc),
+    })
 }
 
 fn push_key(scope: &Scope, item: &Group, keys: &mut Sequence<Key>) -> Result<(), AllocError>

@@ -21,26 +21,13 @@ fn add_aggregates(value: &Expr, places: &mut Sequence<usize>) -> Result<(), Allo
         Expr::Timestamp { .. } => Ok(()),
         Expr::Interval { .. } => Ok(()),
         Expr::Column { .. } => Ok(()),
-        Expr::CountRows { at } => {
-            places.push(*at)?;
-            Ok(())
-        }
-        Expr::Aggregate { at, .. } => {
-            places.push(*at)?;
-            Ok(())
-        }
-        Expr::Unary { operand, .. } => {
-            add_aggregates(operand.get(), places)?;
-            Ok(())
-        }
-        Expr::IsNull { operand, .. } => {
-            add_aggregates(operand.get(), places)?;
-            Ok(())
-        }
+        Expr::CountRows { at } => places.push(*at),
+        Expr::Aggregate { at, .. } => places.push(*at),
+        Expr::Unary { operand, .. } => add_aggregates(operand.get(), places),
+        Expr::IsNull { operand, .. } => add_aggregates(operand.get(), places),
         Expr::Binary { left, right, .. } => {
             add_aggregates(left.get(), places)?;
-            add_aggregates(right.get(), places)?;
-            Ok(())
+            add_aggregates(right.get(), places)
         }
         Expr::Between {
             operand,
@@ -50,8 +37,7 @@ fn add_aggregates(value: &Expr, places: &mut Sequence<usize>) -> Result<(), Allo
         } => {
             add_aggregates(operand.get(), places)?;
             add_aggregates(low.get(), places)?;
-            add_aggregates(high.get(), places)?;
-            Ok(())
+            add_aggregates(high.get(), places)
         }
     }
 }

@@ -4,6 +4,7 @@ ghost use Rattle.std.specs.Prelude.{◌≡◌, ◌||◌, Option, OnOk, IfOk, IfE
 ghost use Rattle.ssq_check.specs.Erased.{TypesStay};
 ghost use Rattle.ssq_check.specs.Worked.{AreWorked};
 ghost use Rattle.ssq_check.specs.Fault.{AreNone, FirstOf};
+ghost use Rattle.ssq_check.specs.Broken.{Either};
 ghost use Rattle.ssq_check.specs.Lists.{Where};
 ghost use Rattle.ssq_check.specs.Names.{is_there, group_keys, with_keys};
 ghost use Rattle.ssq_check.specs.Sound.{IsSound};
@@ -145,7 +146,27 @@ fn check_own_of(alloc: Global, names: Scope, query: &Query) -> Result<Option<Bin
         (OwnFaults (with_keys names (group_keys names query.now.select.group)) query.now)) }
 {
     let scope = group_scope(alloc, names, &query.select.group)?;
-    check_own(alloc, &scope, query)
+    let own = check_own(alloc, &scope, query);
+    drop(scope);
+    own
+}
+
+/// The first fault behind the declarations, from the names of rows.
+#[tactic(auto, using(crate::proofs::First::first_sooner))]
+fn check_select(alloc: Global, names: Scope, query: &Query) -> Result<Option<BindFault>, AllocError>
+    ensures { IfOk result (FirstOf (Either (RowFaults names query.now.select)
+        (OwnFaults (with_keys names (group_keys names query.now.select.group)) query.now))) }
+{
+    match check_rows(alloc, &names, &query.select) {
+        Ok(rows) => {
+            let own = check_own_of(alloc, names, query)?;
+            Ok(sooner(rows, own))
+        }
+        Err(error) => {
+            drop(names);
+            Err(error)
+        }
+    }
 }
 
 /// The first fault of a query.
@@ -155,9 +176,8 @@ fn check_query(alloc: Global, query: &Query) -> Result<Option<BindFault>, AllocE
 {
     let streams = check_streams(alloc, query.streams.as_slice())?;
     let names = row_scope(alloc, query)?;
-    let rows = check_rows(alloc, &names, &query.select)?;
-    let own = check_own_of(alloc, names, query)?;
-    Ok(sooner(streams, sooner(rows, own)))
+    let select = check_select(alloc, names, query)?;
+    Ok(sooner(streams, select))
 }
 
 /// Whether a query breaks no rule of binding.

@@ -7,4 +7,4 @@ use Rattle.ssq_check.proofs.whole.check_own_of.Goals as goal
 
 pub returns : goal.returns
 returns c =
-    subst (λ (scope : Scope). IfOk c.check_own.result (FirstOf (OwnFaults scope c.args.query.now))) c.in_ok-scope.ensures c.check_own.ensures
+    subst (λ (scope : Scope). IfOk c.check_own-own.result (FirstOf (OwnFaults scope c.args.query.now))) c.in_ok-scope.ensures c.check_own-own.ensures
