@@ -16,6 +16,7 @@ use Rattle.ssq_ast.specs.Expression.{only}
 use Rattle.ssq_ast.proofs.Boxes.{aggregate_is, unary_is, is_null_is, binary_is, between_is}
 use Rattle.ssq_check.specs.declared.scope.Within.{Within}
 use Rattle.ssq_check.specs.declared.scope.Within.TheVariants as within
+use Rattle.ssq_check.proofs.Places.{found_both}
 use Rattle.ssq_bind.specs.declared.context.Context.{Context}
 use Rattle.ssq_bind.specs.Value.{unary_value, null_value, binary_value, between_value, shift_of, shifted_or, function_of, numbered, given, count, value_of, aggregates_of, row_value}
 
@@ -44,10 +45,6 @@ pub two_values : {E : Type 0} (r : Result Typed E) (o : BinaryOp) (own : Typed) 
 two_values (Ok t) o own s s' x x' y y' opened by p q is = is ∙ ((λ i. shifted_or (by i) (p i) (binary_value o (p i) (q i))) ∙ sym opened)
 two_values (Err e) o own s s' x x' y y' opened by p q is = tt
 
--- what was found in the only operand
-pub found_one : {A : Type 0} (old new xs own : List A) → new ≡ old ++ xs → own ≡ xs → new ≡ old ++ own
-found_one old new xs own is same = is ∙ (λ i. old ++ sym same i)
-
 -- an aggregate of an argument on rows
 pub found_given : {E : Type 0} (r : Result Typed E) (context : Context) (w : Within) (new old own : List Aggregate) (f : Function) (called : Called) (t : Typed) (x : Expr) →
     own ≡ given w (record { function = function_of f; argument = Some (row_value context x) }) → called ≡ function_of f → t ≡ row_value context x →
@@ -55,10 +52,6 @@ pub found_given : {E : Type 0} (r : Result Typed E) (context : Context) (w : Wit
 found_given (Ok a) context w new old own f called t x opened same is found =
     found ∙ (λ i. old ++ ((λ j. given w (record { function = same j; argument = Some (is j) })) ∙ sym opened) i)
 found_given (Err e) context w new old own f called t x opened same is found = tt
-
--- what was found in the left operand, and then in the right one
-pub found_both : {A : Type 0} (old mid new xs ys own : List A) → mid ≡ old ++ xs → new ≡ mid ++ ys → own ≡ xs ++ ys → new ≡ old ++ own
-found_both old mid new xs ys own left right both = right ∙ (λ i. left i ++ ys) ∙ append_assoc old xs ys ∙ (λ i. old ++ sym both i)
 
 pub found_three : {A : Type 0} (old first second new xs ys zs own : List A) → first ≡ old ++ xs → second ≡ first ++ ys → new ≡ second ++ zs → own ≡ xs ++ (ys ++ zs) → new ≡ old ++ own
 found_three old first second new xs ys zs own one two three is =

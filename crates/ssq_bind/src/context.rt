@@ -6,7 +6,7 @@ ghost use Rattle.ssq_check.specs.Joined.{spot_in, spot_of};
 ghost use Rattle.ssq_bind.specs.Value.{width, behind, row_index, is_window_column, key_spot, key_index};
 
 use ssq_ast::{ColumnRef, Ident};
-use ssq_check::{BindFault, Scope, Side, Source, Spot, is_window_name};
+use ssq_check::{Scope, Side, Source, Spot, is_window_name, spot_in};
 
 /// What expressions rest on: the names that they may use, and the size of the query's window in microseconds.
 #[derive(Drop)]
@@ -14,15 +14,6 @@ pub struct Context {
     pub scope: Scope,
     /// 0 where rows are not grouped by a window.
     pub size: i64,
-}
-
-fn spot_in(found: Result<Spot, BindFault>) -> Option<Spot>
-    ensures { result ≡ spot_in found }
-{
-    match found {
-        Ok(spot) => Some(spot),
-        Err(_) => None,
-    }
 }
 
 /// A column by its bare name: none where no stream has it, or both.

@@ -2,15 +2,13 @@
 
 ghost use Rattle.std.specs.Prelude.{◌≡◌, map, position, IfOk};
 ghost use Rattle.std.specs.Str.{bytes_eq};
-ghost use Rattle.ssq_check.specs.Clauses.{slide_of};
 ghost use Rattle.ssq_check.specs.Lists.{item_name};
 ghost use Rattle.ssq_bind.specs.Shapes.{order_of, sort_key, size_in, window_size, group_items, bare_index, key_of};
 
 use crate::context::{bare_spot, row_index};
-use crate::output::item_name;
 use crate::value::or_zero;
-use ssq_ast::{Group, GroupBy, Ident, Item, OrderBy, Window};
-use ssq_check::Scope;
+use ssq_ast::{Group, GroupBy, Ident, Item, OrderBy};
+use ssq_check::{Scope, item_name, slide_of};
 use ssq_shape::{Direction, GroupKey, SortKey};
 use ssq_value::Sequence;
 use std::alloc::{AllocError, Global};
@@ -34,15 +32,6 @@ pub(crate) fn window_size(group: &Option<GroupBy>) -> i64
     match group {
         Some(by) => size_in(by.items.as_slice()),
         None => 0,
-    }
-}
-
-fn slide_of(window: &Window) -> i64
-    ensures { result ≡ slide_of window.now }
-{
-    match &window.slide {
-        Some(slide) => slide.micros,
-        None => window.size.micros,
     }
 }
 

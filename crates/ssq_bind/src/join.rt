@@ -2,17 +2,15 @@
 
 ghost use Rattle.std.specs.Prelude.{◌≡◌, [], ◌∷◌, IfOk, OnOk};
 ghost use Rattle.std.specs.Option.{option_copied};
-ghost use Rattle.ssq_check.specs.Joined.{looked};
 ghost use Rattle.ssq_bind.specs.Joins.{parts_of, pair_on, pair_by, pair_of, key_pair, spot_index, shifted_column, or_none, span_of, bound_by, time_bound, rest_by, parts_with, kind_of, joining_of};
 ghost use Rattle.ssq_bind.specs.Lists.{listed};
 ghost use Rattle.ssq_bind.specs.Value.{row_value};
 
-use crate::context::{Context, spot_of};
+use crate::context::Context;
 use crate::list::push_some;
-use crate::output::bare_column;
 use crate::value::{row_value, shift_of};
 use ssq_ast::{BinaryOp, ColumnRef, Expr, Join};
-use ssq_check::{Scope, Side, Spot};
+use ssq_check::{Scope, Side, Spot, bare_column, column_spot, looked};
 use ssq_shape::{JoinKind, Joining, KeyPair, TimeBound, Typed};
 use ssq_value::Sequence;
 use std::alloc::{AllocError, Global};
@@ -24,15 +22,6 @@ pub struct Parts {
     /// The BETWEENs. A query without a fault has one at most.
     pub bounds: Sequence<TimeBound>,
     pub rest: Sequence<Typed>,
-}
-
-fn looked(scope: &Scope, column: Option<&ColumnRef>) -> Option<Spot>
-    ensures { result ≡ looked scope.now (option_copied column.entry) }
-{
-    match column {
-        Some(column) => spot_of(scope, column),
-        None => None,
-    }
 }
 
 fn pair_on(side: Side, a: usize, b: usize) -> KeyPair
@@ -71,21 +60,11 @@ fn key_pair(scope: &Scope, value: &Expr) -> Option<KeyPair>
             right,
             ..
         } => {
-            let a = looked(scope, bare_column(left.get()));
-            let b = looked(scope, bare_column(right.get()));
+            let a = column_spot(scope, left.get());
+            let b = column_spot(scope, right.get());
             pair_of(*op, a, b)
         }
-        Expr::Number { .. } => None,
-        Expr::Text { .. } => None,
-        Expr::Truth { .. } => None,
-        Expr::Timestamp { .. } => None,
-        Expr::Interval { .. } => None,
-        Expr::Column { .. } => None,
-        Expr::CountRows { .. } => None,
-        Expr::Aggregate { .. } => None,
-        Expr::Unary { .. } => None,
-        Expr::IsNull { .. } => None,
-        Expr::Between { .. } => None,
+        _ => None,
     }
 }
 
@@ -105,16 +84,7 @@ fn shifted_column(value: &Expr) -> Option<&ColumnRef>
     match value {
         Expr::Column { value } => Some(value),
         Expr::Binary { left, .. } => bare_column(left.get()),
-        Expr::Number { .. } => None,
-        Expr::Text { .. } => None,
-        Expr::Truth { .. } => None,
-        Expr::Timestamp { .. } => None,
-        Expr::Interval { .. } => None,
-        Expr::CountRows { .. } => None,
-        Expr::Aggregate { .. } => None,
-        Expr::Unary { .. } => None,
-        Expr::IsNull { .. } => None,
-        Expr::Between { .. } => None,
+        _ => None,
     }
 }
 
@@ -133,17 +103,7 @@ fn span_of(value: &Expr) -> i64
 {
     match value {
         Expr::Binary { op, right, .. } => or_none(shift_of(*op, right.get())),
-        Expr::Number { .. } => 0,
-        Expr::Text { .. } => 0,
-        Expr::Truth { .. } => 0,
-        Expr::Timestamp { .. } => 0,
-        Expr::Interval { .. } => 0,
-        Expr::Column { .. } => 0,
-        Expr::CountRows { .. } => 0,
-        Expr::Aggregate { .. } => 0,
-        Expr::Unary { .. } => 0,
-        Expr::IsNull { .. } => 0,
-        Expr::Between { .. } => 0,
+        _ => 0,
     }
 }
 
@@ -153,7 +113,7 @@ fn bound_by(scope: &Scope, value: &Expr, low: &Expr, high: &Expr) -> TimeBound
 {
     TimeBound {
         left: spot_index(looked(scope, shifted_column(low))),
-        right: spot_index(looked(scope, bare_column(value))),
+        right: spot_index(column_spot(scope, value)),
         lo: span_of(low),
         hi: span_of(high),
     }
@@ -170,17 +130,7 @@ fn time_bound(scope: &Scope, value: &Expr) -> Option<TimeBound>
             high,
             ..
         } => Some(bound_by(scope, operand.get(), low.get(), high.get())),
-        Expr::Number { .. } => None,
-        Expr::Text { .. } => None,
-        Expr::Truth { .. } => None,
-        Expr::Timestamp { .. } => None,
-        Expr::Interval { .. } => None,
-        Expr::Column { .. } => None,
-        Expr::CountRows { .. } => None,
-        Expr::Aggregate { .. } => None,
-        Expr::Unary { .. } => None,
-        Expr::IsNull { .. } => None,
-        Expr::Binary { .. } => None,
+        _ => None,
     }
 }
 
@@ -236,17 +186,7 @@ fn take_apart(
                 put(alloc, context, parts, value)
             }
         }
-        Expr::Number { .. } => put(alloc, context, parts, value),
-        Expr::Text { .. } => put(alloc, context, parts, value),
-        Expr::Truth { .. } => put(alloc, context, parts, value),
-        Expr::Timestamp { .. } => put(alloc, context, parts, value),
-        Expr::Interval { .. } => put(alloc, context, parts, value),
-        Expr::Column { .. } => put(alloc, context, parts, value),
-        Expr::CountRows { .. } => put(alloc, context, parts, value),
-        Expr::Aggregate { .. } => put(alloc, context, parts, value),
-        Expr::Unary { .. } => put(alloc, context, parts, value),
-        Expr::IsNull { .. } => put(alloc, context, parts, value),
-        Expr::Between { .. } => put(alloc, context, parts, value),
+        _ => put(alloc, context, parts, value),
     }
 }
 

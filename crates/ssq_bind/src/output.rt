@@ -3,27 +3,15 @@
 ghost use Rattle.std.specs.Prelude.{◌≡◌, ◌++◌, length, IfOk, OnOk};
 ghost use Rattle.std.specs.List.{flat_map};
 ghost use Rattle.std.specs.Option.{option_copied, option_map};
-ghost use Rattle.ssq_check.specs.Joined.{bare_column};
-ghost use Rattle.ssq_check.specs.Lists.{item_name};
 ghost use Rattle.ssq_bind.specs.Shapes.{item_value, item_aggregates, kind_or_bigint, spot_kind, column_type, item_kind, item_column, shown_key, output_of, outputs_of, having_value, having_aggregates};
 
 use crate::context::{Context, is_window_column, key_index, spot_of};
 use crate::value::{column_value, value_of};
-use ssq_ast::{ColumnRef, Condition, Expr, Item};
-use ssq_check::{Scope, Spot, Within, check_expr};
+use ssq_ast::{ColumnRef, Condition, Item};
+use ssq_check::{Scope, Spot, Within, bare_column, check_expr, item_name};
 use ssq_shape::{Aggregate, Output, Typed};
-use ssq_value::{ColType, Sequence, Text};
+use ssq_value::{ColType, Sequence};
 use std::alloc::{AllocError, Global};
-
-/// The name of an output.
-pub(crate) fn item_name(item: &Item) -> &Text
-    ensures { result.now ≡ item_name item.now }
-{
-    match item {
-        Item::Column { column, .. } => &column.column.text,
-        Item::Named { name, .. } => &name.text,
-    }
-}
 
 fn kind_or_bigint(kind: Option<ColType>) -> ColType
     ensures { result ≡ kind_or_bigint kind }
@@ -67,27 +55,6 @@ fn item_kind(scope: &Scope, within: Within, item: &Item) -> Option<ColType>
             Ok(kind) => Some(kind),
             Err(_) => None,
         },
-    }
-}
-
-/// The column that an expression is.
-#[tactic(auto, using(ssq_ast::proofs::Boxes::boxes))]
-pub(crate) fn bare_column(value: &Expr) -> Option<&ColumnRef>
-    ensures { option_copied result ≡ bare_column value.now }
-{
-    match value {
-        Expr::Column { value } => Some(value),
-        Expr::Number { .. } => None,
-        Expr::Text { .. } => None,
-        Expr::Truth { .. } => None,
-        Expr::Timestamp { .. } => None,
-        Expr::Interval { .. } => None,
-        Expr::CountRows { .. } => None,
-        Expr::Aggregate { .. } => None,
-        Expr::Unary { .. } => None,
-        Expr::IsNull { .. } => None,
-        Expr::Binary { .. } => None,
-        Expr::Between { .. } => None,
     }
 }
 

@@ -4,39 +4,15 @@ ghost use Rattle.std.specs.Prelude.{◌≡◌, ◌≤◌, ◌++◌, length, map,
 ghost use Rattle.std.specs.Str.{bytes_eq};
 ghost use Rattle.std.specs.Option.{ForSome, option_copied, option_map};
 ghost use Rattle.ssq_value.specs.Layout.{IsEvent};
-ghost use Rattle.ssq_check.specs.Scope.{spot_at, in_columns};
-ghost use Rattle.ssq_check.specs.Names.{declared, column_of};
+ghost use Rattle.ssq_check.specs.Scope.{in_columns};
+ghost use Rattle.ssq_check.specs.Names.{column_of};
 ghost use Rattle.ssq_bind.specs.Streams.{kept_columns, timed, event_in, delay_of, stream_of, listed};
 
 use ssq_ast::{ColumnDecl, Watermark};
-use ssq_check::{Side, Spot};
+use ssq_check::{Side, Spot, column_of, spot_at};
 use ssq_shape::Stream;
 use ssq_value::{ColType, Column, Schema, Sequence};
 use std::alloc::{AllocError, Global};
-
-/// The first stream that is declared under the name.
-pub(crate) fn declared<'a>(
-    streams: &'a [ssq_ast::Stream],
-    name: &str,
-) -> Option<&'a ssq_ast::Stream>
-    ensures { option_copied result ≡ declared streams.now name.now }
-{
-    for stream in streams {
-        if stream.name.text.as_str() == name {
-            return Some(stream);
-        }
-    }
-    None
-}
-
-fn column_of(decl: &ColumnDecl) -> Result<Column, AllocError>
-    ensures { IfOk result (λ column. column ≡ column_of decl.now) }
-{
-    Ok(Column {
-        name: decl.name.text.clone()?,
-        kind: decl.kind,
-    })
-}
 
 fn columns_of(alloc: Global, decls: &[ColumnDecl]) -> Result<Vec<Column>, AllocError>
     ensures { IfOk result (λ columns. columns.items ≡ map column_of decls.now) }
@@ -73,19 +49,6 @@ fn position_of(columns: &[Column], name: &str) -> Option<usize>
     columns
         .iter()
         .position(|column| column.name.as_str() == name)
-}
-
-fn spot_at(side: Side, columns: &[Column], at: usize) -> Option<Spot>
-    ensures { result ≡ spot_at side columns.now at }
-{
-    match columns.get(at) {
-        Some(column) => Some(Spot {
-            side,
-            index: at,
-            kind: column.kind,
-        }),
-        None => None,
-    }
 }
 
 fn in_columns(side: Side, columns: &[Column], name: &str) -> Option<Spot>

@@ -175,17 +175,7 @@ pub(crate) fn shift_of(op: BinaryOp, right: &Expr) -> Option<i64>
 {
     match right {
         Expr::Interval { value, .. } => shift_by(op, value.micros),
-        Expr::Number { .. } => None,
-        Expr::Text { .. } => None,
-        Expr::Truth { .. } => None,
-        Expr::Timestamp { .. } => None,
-        Expr::Column { .. } => None,
-        Expr::CountRows { .. } => None,
-        Expr::Aggregate { .. } => None,
-        Expr::Unary { .. } => None,
-        Expr::IsNull { .. } => None,
-        Expr::Binary { .. } => None,
-        Expr::Between { .. } => None,
+        _ => None,
     }
 }
 

@@ -1,9 +1,8 @@
 //! The whole query, once it is bound.
 
 ghost use Rattle.std.specs.Prelude.{◌≡◌, ◌++◌, length, IfOk, IfErr, OnOk};
-ghost use Rattle.std.specs.Option.{option_copied, option_map};
+ghost use Rattle.std.specs.Option.{option_map};
 ghost use Rattle.ssq_check.specs.Fault.{AreNone};
-ghost use Rattle.ssq_check.specs.Names.{left_stream, right_stream};
 ghost use Rattle.ssq_check.specs.Whole.{QueryFaults, IsRefusedBy};
 ghost use Rattle.ssq_bind.specs.Bound.{context_of, shown_of, grouping_of, kept_by, shape_of, mode_of, filter_value, bound_of};
 ghost use Rattle.ssq_bind.specs.Limits.{HasLimits};
@@ -18,28 +17,13 @@ use crate::group::{columns_by, keys_by, order_by, window_size};
 use crate::join::joining_of;
 use crate::output::{having_of, outputs_of};
 use crate::shown::{is_group, shown_within};
-use crate::stream::{declared, list};
+use crate::stream::list;
 use crate::value::row_value;
 use ssq_ast::{Condition, Deduplicate, Join, Query, text};
-use ssq_check::{Refusal, check, scope_of};
+use ssq_check::{Refusal, check, left_stream, right_stream, scope_of};
 use ssq_shape::{Aggregate, Bound, Grouping, Mode, Output, Shape, Stream, Typed};
 use ssq_value::{Sequence, texts_are_utf8};
 use std::alloc::{AllocError, Global};
-
-fn left_stream(query: &Query) -> Option<&ssq_ast::Stream>
-    ensures { option_copied result ≡ left_stream query.now }
-{
-    declared(query.streams.as_slice(), query.select.from.text.as_str())
-}
-
-fn right_stream(query: &Query) -> Option<&ssq_ast::Stream>
-    ensures { option_copied result ≡ right_stream query.now }
-{
-    match &query.select.join {
-        Some(join) => declared(query.streams.as_slice(), join.stream.text.as_str()),
-        None => None,
-    }
-}
 
 fn streams_of(alloc: Global, query: &Query) -> Result<Sequence<Stream>, AllocError>
     ensures { IfOk result (λ streams. streams ≡ streams_of query.now) }
@@ -206,16 +190,21 @@ fn bound_in(alloc: Global, query: &Query, context: &Context) -> Result<Bound, Al
     let streams = streams_of(alloc, query)?;
     let order = order_by(alloc, select.items.as_slice(), select.order.as_slice())?;
     let filter = filter_of(alloc, context, &select.filter)?;
-    let (outputs, shape) = kept_of(alloc, query, context)?;
-    Ok(Bound {
-        text,
-        streams,
-        mode: mode_of(select.mode),
-        shape,
-        filter,
-        outputs,
-        order,
-    })
+    match kept_of(alloc, query, context) {
+        Ok((outputs, shape)) => Ok(Bound {
+            text,
+            streams,
+            mode: mode_of(select.mode),
+            shape,
+            filter,
+            outputs,
+            order,
+        }),
+        Err(error) => {
+            drop(filter);
+            Err(error)
+        }
+    }
 }
 
 /// The bound query that a query is: a function of the query, also of one that breaks a rule.

@@ -1,6 +1,7 @@
 use Rattle.std.proofs.Common.{◌∙◌, ap, sym, refl, length}
 use Rattle.ssq_bind.specs.Value.{unary_value, null_value, shift_of, value_of, aggregates_of}
-use Rattle.ssq_bind.proofs.Opened.{on_ok, one_value, two_values, three_values, found_one, found_given, found_both, found_three, value_aggregate, found_aggregate, value_unary, found_unary, value_null, found_null, value_binary, found_binary, value_between, found_between}
+use Rattle.ssq_check.proofs.Places.{found_one, found_both}
+use Rattle.ssq_bind.proofs.Opened.{on_ok, one_value, two_values, three_values, found_given, found_three, value_aggregate, found_aggregate, value_unary, found_unary, value_null, found_null, value_binary, found_binary, value_between, found_between}
 use Rattle.ssq_bind.proofs.value.+bound.Goals as goal
 
 pub value_of-returns-in_ok-argument-in-Aggregate-clause-value : goal.value_of-returns-in_ok-argument-in-Aggregate-clause-value
