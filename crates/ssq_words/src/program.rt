@@ -75,15 +75,28 @@ fn lines<'a>(alloc: Global) -> Arg<'a>
         .value_parser(ValueParser::unsigned(1, MOST_GENERATED))
 }
 
+/// A command of this name that takes a query's file.
+fn over_query<'a>(alloc: Global, name: &'a str) -> Result<Command<'a>, AllocError>
+    ensures app { IfOk result (λ c. app_of c ≡ with_rule (new_app name.now) query_rule) }
+    ensures local { IfOk result (λ c. (out-Command c).has_globals ≡ false) }
+{
+    Command::new(alloc, name).arg(query(alloc))
+}
+
+/// What a run takes of these: its query and its partitions.
+fn split_run<'a>(alloc: Global) -> Result<Command<'a>, AllocError>
+    ensures app { IfOk result (λ c. app_of c ≡ with_rule (with_rule (new_app (codes "run")) query_rule) partitions_rule) }
+    ensures local { IfOk result (λ c. (out-Command c).has_globals ≡ false) }
+{
+    over_query(alloc, "run")?.arg(partitions(alloc))
+}
+
 /// What a run takes but its rounds.
 fn cut_run<'a>(alloc: Global) -> Result<Command<'a>, AllocError>
     ensures app { IfOk result (λ c. app_of c ≡ with_rule (with_rule (with_rule (new_app (codes "run")) query_rule) partitions_rule) max_lines_rule) }
     ensures local { IfOk result (λ c. (out-Command c).has_globals ≡ false) }
 {
-    Command::new(alloc, "run")
-        .arg(query(alloc))?
-        .arg(partitions(alloc))?
-        .arg(max_lines(alloc))
+    split_run(alloc)?.arg(max_lines(alloc))
 }
 
 #[tactic(auto, unfolding(crate::specs::Program::run_app))]
@@ -102,7 +115,7 @@ fn about_query<'a>(
 ) -> Result<Command<'a>, AllocError>
     ensures { IfOk result (λ c. app_of c ≡ with_subcommand (app_of command.entry) (with_rule (new_app name.now) query_rule).top) }
 {
-    command.subcommand(Command::new(alloc, name).arg(query(alloc))?)
+    command.subcommand(over_query(alloc, name)?)
 }
 
 #[tactic(auto, unfolding(crate::specs::Program::gen_app))]
@@ -130,8 +143,8 @@ fn top<'a>(alloc: Global) -> Command<'a>
 fn tables<'a>(alloc: Global) -> Result<Command<'a>, AllocError>
     ensures { IfOk result (λ c. app_of c ≡ tables_app) }
 {
-    let running = top(alloc).subcommand(run(alloc)?)?;
-    about_query(alloc, running, "show")
+    let run = run(alloc)?;
+    about_query(alloc, top(alloc).subcommand(run)?, "show")
 }
 
 /// The command with all its subcommands.
