@@ -96,7 +96,7 @@ written_absent names i n epoch d order less here same among = elim (among_next n
   | inr is ↦ absurd (omega (arith, same, out_same (n + 1) epoch is))
 ]
 
--- the next name is not the sink file that is absent
+-- the next name is not the sink file that is missing
 pub still_absent : (names : List Name) (i n : ℕ) (d : Name) → i < length names → (get_or names i d ≡ Out n → ⊥) → (IsAmong names i (Out n) → ⊥) → IsAmong names (i + 1) (Out n) → ⊥
 still_absent names i n d less other before among = elim (among_next names i (Out n) (get_or names i d) d less refl among) [
   | inl earlier ↦ before earlier

@@ -54,11 +54,11 @@ commit_passed files names n (name.Snapshot p v) are found = let no = (found_cont
 pub no_commit : (files : Files) (names : List Name) (n : ℕ) → AreNames files names → find (is_commit_from n) names ≡ None → (e : ℕ) → n ≤ e → IsThere files (name.Commit e) → ⊥
 no_commit files names n are none e less there = none_passes (is_commit_from n) names (name.Commit e) none (are.all (name.Commit e) there) (from_to n e less)
 
--- the sink files are right below the first that is absent
+-- the sink files are right below the first that is missing
 right_below : (files : Files) (names : List Name) (n k w f : ℕ) → AreNames files names → ((e : ℕ) → e < w → Contains names (name.Out e)) → f < w → f < k → IsSinkRight files n k f
 right_below files names n k w f are there less below = record { needed = λ _. are.there (name.Out f) (there f less); taken = λ _. inl below }
 
--- one that is absent and needed
+-- one that is missing and needed
 pub sink_absent : (files : Files) (names : List Name) (n k w : ℕ) → AreNames files names → ((e : ℕ) → e < w → Contains names (name.Out e)) → (Contains names (name.Out w) → ⊥) → w < k
     → IsFirstBad (IsSinkRight files n k) w
 sink_absent files names n k w are there absent less = record {

@@ -29,7 +29,7 @@ IfDamaged P DiskFault = ⊤
 IfDamaged P OutFault = ⊤
 IfDamaged P NoMemory = ⊤
 
--- the sink file of an epoch is absent
+-- the sink file of an epoch is missing
 abbrev pub IsAbsent : Files → ℕ → Name → Type 0
 IsAbsent files e at = (at ≡ name.Out e) × (files (name.Out e) ≡ None)
 
