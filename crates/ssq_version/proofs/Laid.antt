@@ -25,6 +25,18 @@ pub shown_more : (entries : List Entry) (entry : Entry) → shown (entries ++ en
 shown_more [] entry = refl
 shown_more (first ∷ entries) entry = ap (λ (es : Change). (first.key.now, option_copied first.value) ∷ es) (shown_more entries entry)
 
+-- one more entry of a state: those that are listed, with what is left of the state, are all
+pub listed_more : (made now : List Entry) (all : Change) (entry : Entry) (key value : List ℕ) (it rest : State) → it ≡ (key, value) ∷ rest → now ≡ made ++ entry ∷ [] → entry.key.now ≡ key → option_copied entry.value ≡ Some value
+    → shown made ++ said_of it ≡ all → shown now ++ said_of rest ≡ all
+listed_more made now all entry key value it rest step more same also is =
+    ap (λ (es : List Entry). shown es ++ said_of rest) more ∙ ap (λ (es : Change). es ++ said_of rest) (shown_more made entry)
+    ∙ append_assoc (shown made) ((entry.key.now, option_copied entry.value) ∷ []) (said_of rest)
+    ∙ ap₂ (λ (k : List ℕ) (v : Option (List ℕ)). shown made ++ (k, v) ∷ said_of rest) same also
+    ∙ ap (λ (es : State). shown made ++ said_of es) (sym step) ∙ is
+
+pub listed_all : (made : List Entry) (all : Change) (it : State) → it ≡ [] → shown made ++ said_of it ≡ all → shown made ≡ all
+listed_all made all it none is = sym (append-nil (shown made)) ∙ ap (λ (es : State). shown made ++ said_of es) (sym none) ∙ is
+
 -- ---- newer entries among older ones
 
 -- an entry goes behind what comes before its key

@@ -154,7 +154,7 @@ short_said (e ∷ state) short = (short.0, short_said state short.1)
 said_ascends : (state : State) → Ascends state → Ascends (said_of state)
 said_ascends state ascend = subst (IsStrictlySortedBy by_bytes) (sym (keys_said state)) ascend
 
-said_kept : (state : State) → IsState state → IsChange (said_of state)
+pub said_kept : (state : State) → IsState state → IsChange (said_of state)
 said_kept state kept = record {
   ascend = said_ascends state kept.ascend;
   keys = subst (All IsShort) (sym (keys_said state)) kept.keys;

@@ -27,5 +27,5 @@ pub use law::{beginnings_stand_together, files_are_apart, states_have_a_change, 
 pub use layers::{merge, read_entries, say_news, write_given};
 pub use map::{Entries, entries_from};
 pub use news::{are_news, write_news};
-pub use snapshot::read_snapshot;
+pub use snapshot::{read_snapshot, write_snapshot};
 pub use state::{StateMap, begins_with, states_are_kept};

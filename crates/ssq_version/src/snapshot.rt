@@ -3,15 +3,46 @@
 ghost use Rattle.std.specs.Prelude.{◌≡◌, ◌<◌, ◌^◌, ℕ, List, Some, length, IfOk, IfSome};
 ghost use Rattle.std.specs.List.{AllByRecursion};
 ghost use Rattle.ssq_version.specs.State.{State as Kept, IsState};
-ghost use Rattle.ssq_version.specs.Text.{snapshot_text, entries_text, IsSpelled, IsFile, said_of};
+ghost use Rattle.ssq_version.specs.Text.{snapshot_text, entries_text, IsSpelled, IsFile, said_of, shown};
 ghost use Rattle.ssq_version.specs.declared.form.Form.TheVariants.{Snapshot};
 
 use crate::entries::{kept_entries, map_of};
+use crate::entry::Entry;
 use crate::file::{StateFile, read_file};
 use crate::form::Form;
+use crate::layers::write_given;
 use crate::map::Map;
-use crate::state::StateMap;
+use crate::state::{StateMap, states_are_kept};
+use ssq_field::Bytes;
 use std::alloc::{AllocError, Global};
+
+/// The entries of a state, in the order of keys.
+fn entries_of(alloc: Global, map: &StateMap) -> Result<Vec<Entry<'_>>, AllocError>
+    ensures { IfOk result (λ entries. shown entries.items ≡ said_of map.now) }
+{
+    let mut entries = Vec::new(alloc);
+    for (key, value) in map.iter(alloc)? {
+        entries.push(Entry {
+            key: key.as_slice(),
+            value: Some(value.as_slice()),
+        })?;
+    }
+    Ok(entries)
+}
+
+/// The file of the whole state of a partition at a version.
+pub fn write_snapshot(
+    alloc: Global,
+    partition: u32,
+    version: u32,
+    map: &StateMap,
+) -> Result<Bytes, AllocError>
+    ensures { IfOk result (λ text. text ≡ snapshot_text partition version map.now) }
+{
+    states_are_kept(map);
+    let entries = entries_of(alloc, map)?;
+    write_given(alloc, partition, version, entries.as_slice())
+}
 
 /// The state in a file that was read.
 fn state_in(alloc: Global, file: StateFile<'_>) -> Result<StateMap, AllocError>
