@@ -1,15 +1,14 @@
 //! The store of one partition.
 
-ghost use Rattle.std.specs.Prelude.{◌≡◌, ◌≤◌, ◌<◌, ◌++◌, ◌^◌, ⊤, Some, IfOk, OnOk, IfErr, OnErr, option_copied};
+ghost use Rattle.std.specs.Prelude.{◌≡◌, ◌≤◌, ◌<◌, ◌++◌, ◌^◌, ⊤, Some, IfOk, OnOk, IfErr, OnErr};
 ghost use Rattle.ssq_outside.specs.History.{files_now};
-ghost use Rattle.ssq_version.specs.State.{value_at, news, IsAfter};
+ghost use Rattle.ssq_version.specs.State.{news, IsAfter};
 ghost use Rattle.ssq_version.specs.Text.{delta_text};
 ghost use Rattle.ssq_store.specs.Fault.{DiskRises, StageRises};
 ghost use Rattle.ssq_store.specs.Loaded.{count_to, Makes, Refuses};
 
 use crate::fault::{SealFault, StoreFault};
 use crate::load::{follow_all, newest_snapshot};
-use ssq_field::Bytes;
 use ssq_outside::{Disk, Stage, StageError};
 use ssq_version::{Change, StateMap, apply_owned, write_news};
 use std::alloc::{AllocError, Global};
@@ -91,13 +90,6 @@ impl Store {
             state,
             alloc,
         })
-    }
-
-    /// The value of a key.
-    pub fn get(&self, key: &Bytes) -> Option<&Bytes>
-        ensures { option_copied result ≡ value_at self.now.state key.now }
-    {
-        self.state.get(key)
     }
 
     /// Writes what the change says that is new to the state, as the delta of the version after the store's, and seals it. Where it is not

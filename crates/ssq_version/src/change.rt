@@ -1,8 +1,8 @@
 //! What a version changes.
 
-ghost use Rattle.std.specs.Prelude.{◌≡◌, ◌==◌, ◌<◌, ◌^◌, ℕ, List, All, [], length, None, Some, IfOk, OnOk, OnErr, IsSome, option_copied};
+ghost use Rattle.std.specs.Prelude.{◌≡◌, ◌<◌, ◌^◌, ℕ, List, All, [], length, None, IfOk, OnOk, OnErr};
 ghost use Rattle.std.specs.BTreeMap.{insert_entry};
-ghost use Rattle.ssq_version.specs.State.{by_bytes, last_at, value_at, IsToldAt, IsChange, IsShort, IsShortEntry, IsShortOrNone};
+ghost use Rattle.ssq_version.specs.State.{by_bytes, last_at, value_at, IsToldAt, IsChange, IsShort, IsShortEntry};
 
 use ssq_field::Bytes;
 use std::alloc::{AllocError, Global};
@@ -56,17 +56,6 @@ impl Change {
         Ok(Change(made_of(alloc, entries)?))
     }
 
-    /// Says that the key has this value from now on, in place of what was said of it. After an `Err` the change is as before.
-    pub fn put(&mut self, key: Bytes, value: Bytes) -> Result<(), AllocError>
-        requires key { IsShort key }
-        requires value { IsShort value }
-        ensures ok { OnOk result (self.new ≡ insert_entry by_bytes self.old key (Some value)) }
-        ensures told { OnOk result (IsToldAt key (Some value) self.old self.new) }
-        ensures err { OnErr result (self.new ≡ self.old) }
-    {
-        self.say(key, Some(value))
-    }
-
     /// Says that the key goes, in place of what was said of it. After an `Err` the change is as before.
     pub fn remove(&mut self, key: Bytes) -> Result<(), AllocError>
         requires { IsShort key }
@@ -74,25 +63,8 @@ impl Change {
         ensures told { OnOk result (IsToldAt key None self.old self.new) }
         ensures err { OnErr result (self.new ≡ self.old) }
     {
-        self.say(key, None)
-    }
-
-    fn say(&mut self, key: Bytes, value: Option<Bytes>) -> Result<(), AllocError>
-        requires key { IsShort key }
-        requires value { IsShortOrNone value }
-        ensures ok { OnOk result (self.new ≡ insert_entry by_bytes self.old key value) }
-        ensures told { OnOk result (IsToldAt key value self.old self.new) }
-        ensures err { OnErr result (self.new ≡ self.old) }
-    {
-        self.0.insert(key, value)?;
+        self.0.insert(key, None)?;
         Ok(())
-    }
-
-    /// What it says of a key: its new value, or none where the key goes.
-    pub fn get(&self, key: &Bytes) -> Option<&Option<Bytes>>
-        ensures { option_copied result ≡ value_at self.now key.now }
-    {
-        self.0.get(key)
     }
 
     /// The keys with what it says of them, in order.
@@ -108,12 +80,6 @@ impl Change {
         ensures kept { IsChange self.now }
     {
         self.0.len()
-    }
-
-    pub fn is_empty(&self) -> bool
-        ensures { result ≡ (length self.now == 0) }
-    {
-        self.0.len() == 0
     }
 }
 
