@@ -24,9 +24,9 @@ fn put_change(out: &mut Bytes, change: &Change) -> Result<(), AllocError>
     Ok(())
 }
 
-/// How many bytes the file of a change takes, so that it grows but once.
+/// How many bytes the entries of a change take, so that their file grows but once.
 pub(crate) fn room(change: &Change) -> usize {
-    let mut room: usize = 24;
+    let mut room: usize = 0;
     for (key, value) in change.0.iter() {
         let value = match value {
             Some(value) => value.len().saturating_add(4),

@@ -10,6 +10,12 @@ use crate::form::Form;
 use ssq_field::{Bytes, put_be32, take_be32};
 use std::alloc::AllocError;
 
+/// The first byte of an entry of a delta whose key goes.
+const GONE: u8 = 0;
+
+/// The first byte of an entry of a delta whose key has a value.
+const GIVEN: u8 = 1;
+
 /// An entry in the bytes of a file: a key, and its value, or none where the key goes.
 #[derive(Clone, Copy)]
 pub struct Entry<'a> {
@@ -46,12 +52,12 @@ pub(crate) fn put_changed(
 {
     match value {
         Some(value) => {
-            out.extend(&[1])?;
+            out.extend(&[GIVEN])?;
             put_field(out, key)?;
             put_field(out, value)
         }
         None => {
-            out.extend(&[0])?;
+            out.extend(&[GONE])?;
             put_field(out, key)
         }
     }
@@ -119,11 +125,11 @@ fn changed_and_rest(text: &[u8]) -> Option<(Entry<'_>, &[u8])>
 {
     let (kind, behind) = text.split_first()?;
     match *kind {
-        0 => {
+        GONE => {
             let (key, rest) = field_and_rest(behind)?;
             Some((Entry { key, value: None }, rest))
         }
-        1 => kept_entry_and_rest(behind),
+        GIVEN => kept_entry_and_rest(behind),
         _ => None,
     }
 }

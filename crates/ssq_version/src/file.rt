@@ -22,7 +22,10 @@ pub struct StateFile<'a> {
     pub entries: &'a [u8],
 }
 
-/// A buffer with room for a whole file, and in it what stands in front of the entries.
+/// How many bytes stand in front of the entries: the first word, the partition, the version and how many entries there are.
+const HEAD_LEN: usize = 24;
+
+/// A buffer with room for so many bytes of entries, and in it what stands in front of them.
 pub(crate) fn begin(
     alloc: Global,
     form: Form,
@@ -34,7 +37,7 @@ pub(crate) fn begin(
     ensures { (rest : List ℕ) → IfOk result (λ out. out ++ rest
         ≡ first_word form ++ (to_be_bytes w32 partition ++ (to_be_bytes w32 version ++ (to_be_bytes w64 count ++ rest)))) }
 {
-    let mut out = Bytes::with_capacity(alloc, room)?;
+    let mut out = Bytes::with_capacity(alloc, HEAD_LEN.saturating_add(room))?;
     out.extend(form.first_word())?;
     put_be32(&mut out, partition)?;
     put_be32(&mut out, version)?;

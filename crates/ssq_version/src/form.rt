@@ -28,8 +28,5 @@ impl Form {
 pub(crate) fn after_first_word(form: Form, text: &[u8]) -> Option<&[u8]>
     ensures { MatchOption result ((rest : List ℕ) → text.now ≢ first_word form ++ rest) (λ rest. text.now ≡ first_word form ++ rest.now) }
 {
-    match form {
-        Form::Delta => text.strip_prefix(b"SSQDELT1".as_slice()),
-        Form::Snapshot => text.strip_prefix(b"SSQSNAP1".as_slice()),
-    }
+    text.strip_prefix(form.first_word())
 }

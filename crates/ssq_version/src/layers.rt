@@ -142,9 +142,9 @@ fn count_given(entries: &[Entry<'_>]) -> u64
     count
 }
 
-/// How many bytes the file of what the entries give takes, so that it grows but once.
+/// How many bytes what the entries give takes, so that its file grows but once.
 fn room(entries: &[Entry<'_>]) -> usize {
-    let mut room: usize = 24;
+    let mut room: usize = 0;
     for entry in entries {
         if let Some(value) = entry.value {
             room = room

@@ -82,6 +82,6 @@ pub fn write_news(
 {
     let mut entries = Bytes::with_capacity(alloc, room(change))?;
     let count = put_news(&mut entries, state, change)?;
-    let head = begin(alloc, Form::Delta, partition, version, count, 24)?;
+    let head = begin(alloc, Form::Delta, partition, version, count, 0)?;
     Ok((head, entries))
 }
