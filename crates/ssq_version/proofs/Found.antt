@@ -1,5 +1,5 @@
 -- What a search among entries in order finds.
-use Rattle.std.proofs.Common.{◌≡◌, ℕ, zero, suc, ◌<◌, ◌≤◌, arith, length, slice_index_or, List, Option, Some, None, Bool, true, false, Ordering, Less, Equal, Greater, is_eq, Result, Ok, Err, option_copied, [], ◌∷◌, refl, sym, ap, subst, ◌∙◌, inl, inr}
+use Rattle.std.proofs.Common.{◌≡◌, ℕ, zero, suc, ◌<◌, ◌≤◌, arith, length, slice_index_or, List, Some, None, true, false, Ordering, Less, Equal, Greater, is_eq, option_copied, [], ◌∷◌, refl, sym, ap, subst, ◌∙◌, inl, inr}
 use Rattle.std.specs.Cmp.Lexicographic.{nat_list_cmp_total}
 use Rattle.std.specs.BTreeMap.{is_at}
 use Rattle.std.specs.List.{AllByRecursion}

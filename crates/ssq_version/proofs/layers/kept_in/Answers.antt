@@ -1,4 +1,4 @@
-use Rattle.std.proofs.Common.{◌≡◌, Some, None, option_copied, option_map, sym, ap, ◌∙◌}
+use Rattle.std.proofs.Common.{Some, None, option_copied, option_map, sym, ap, ◌∙◌}
 use Rattle.ssq_version.specs.Text.{shown}
 use Rattle.ssq_version.proofs.Laid.{said_by_newer, said_by_older}
 use Rattle.ssq_version.proofs.layers.kept_in.Goals as goal

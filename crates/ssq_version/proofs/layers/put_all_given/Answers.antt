@@ -1,4 +1,4 @@
-use Rattle.std.proofs.Common.{◌∙◌, arith}
+use Rattle.std.proofs.Common.{arith}
 use Rattle.ssq_version.proofs.Laid.{given_ends, given_put, is_short_at}
 use Rattle.ssq_version.proofs.layers.put_all_given.Goals as goal
 
