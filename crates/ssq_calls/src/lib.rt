@@ -17,6 +17,8 @@ mod time;
 #[cfg(test)]
 mod value;
 #[cfg(test)]
+mod version;
+#[cfg(test)]
 mod window;
 #[cfg(test)]
 mod words;
