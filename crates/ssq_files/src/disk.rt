@@ -26,10 +26,12 @@ pub struct FolderDisk<R> {
 }
 
 impl<R: Files + Drop> FolderDisk<R> {
-    /// The disk in the folder of this path, which has no slash at its end. The folder is made with the first file;
-    /// the one that it lies in is there.
+    /// The disk in the folder of this path, which has no slash at its end, at moment 0. The folder is made with the first
+    /// file; the one that it lies in is there.
     pub fn new(rt: R, root: &str) -> FolderDisk<R>
         requires { length root.now ≤ ROOT_CAP }
+        ensures count { ⟦<FolderDisk<R> as Disk>⟧.faults result ≡ 0 }
+        ensures clock { (⟦<FolderDisk<R> as Disk>⟧.history result).moment ≡ 0 }
     {
         FolderDisk {
             checkpoint: Checkpoint::new(rt, root),

@@ -25,7 +25,9 @@ pub struct FolderInputs<R> {
 
 impl<R: Files + Drop> FolderInputs<R> {
     /// The files of this runtime. Paths that begin with no slash begin in its current folder.
-    pub fn new(rt: R) -> FolderInputs<R> {
+    pub fn new(rt: R) -> FolderInputs<R>
+        ensures count { ⟦<FolderInputs<R> as Inputs>⟧.faults result ≡ 0 }
+    {
         FolderInputs {
             files: InputFiles { rt },
             faults: 0,

@@ -1,6 +1,6 @@
 //! Standard output.
 
-ghost use Rattle.std.specs.Prelude.{[]};
+ghost use Rattle.std.specs.Prelude.{◌≡◌, []};
 
 use crate::faults::raise;
 use ssq_outside::{OutError, Output};
@@ -17,7 +17,9 @@ pub struct StandardOutput<R> {
 
 impl<R: Print + Drop> StandardOutput<R> {
     /// The standard output of this runtime.
-    pub fn new(rt: R) -> StandardOutput<R> {
+    pub fn new(rt: R) -> StandardOutput<R>
+        ensures count { ⟦<StandardOutput<R> as Output>⟧.faults result ≡ 0 }
+    {
         StandardOutput { rt, faults: 0 }
     }
 }
