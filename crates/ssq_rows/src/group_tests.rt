@@ -1,25 +1,16 @@
-//! Runs of queries that keep state, and of one of them with faults and crashes.
+//! Runs of queries that keep state.
 
 use crate::grouped::{CLOSED, IN_FOUR, SHOWN, Shown, WHOLE};
 use crate::repeated::REPEATED;
 use crate::rows::{Files, Row};
-use crate::tests::{disk_of, ends_so, has, holds, run_on};
-use ssq_fakes::{FailAt, MemDisk};
+use crate::tests::{disk_of, ends_so, has, run_on};
+use ssq_fakes::MemDisk;
 use ssq_outside::Disk;
 use ssq_run::Ended;
 use std::alloc::{AllocError, Global};
 use std::sync::Wait;
 use std::test::Fail;
 use std::thread::Threads;
-
-/// How many calls on the disk the run makes whose window is closed by an epoch without lines.
-const CALLS: u64 = 38;
-
-/// How many files it writes aside: the record of the job, and of each epoch the plan, the rows, the commit and the delta.
-const ASIDE: u64 = 13;
-
-/// What a crash leaves: of each file that was not settled the oldest, or the newest.
-static CRASHES: [&[u64]; 2] = [&[], &[9, 9, 9, 9]];
 
 #[test]
 fn groups_leave_these_files(rt: HostRuntime) -> Result<(), Fail> {
@@ -28,6 +19,7 @@ fn groups_leave_these_files(rt: HostRuntime) -> Result<(), Fail> {
         let disk = disk_of(alloc, row.before).expect(&rt, "memory");
         assert!(rt; ends_so(&rt, alloc, row, disk)?);
     }
+    assert!(rt; ends_so(&rt, alloc, &CLOSED, MemDisk::new(alloc))?);
     Ok(())
 }
 
@@ -108,60 +100,5 @@ fn partitions_are_kept(rt: HostRuntime) -> Result<(), Fail> {
     let row = row_of(&SHOWN[0]);
     let Ended { disk, .. } = run_on(&rt, alloc, &row, MemDisk::new(alloc))?;
     assert!(rt; told_in_four(&rt, alloc, disk)?);
-    Ok(())
-}
-
-/// Whether a run of which a call fails is stopped, and the next one, after a crash, comes to the same files.
-fn fails_and_goes_on<R: Threads + Wait + Sync>(
-    rt: &R,
-    alloc: Global,
-    row: &Row,
-    at: FailAt,
-    image: &[u64],
-) -> Result<bool, AllocError> {
-    let disk = MemDisk::new(alloc).failing(vec![in alloc; at]?);
-    let Ended {
-        status: failed,
-        disk,
-        ..
-    } = run_on(rt, alloc, row, disk)?;
-    let crashed = disk.crash_at(alloc, u64::MAX, image)?;
-    let Ended {
-        status,
-        mut disk,
-        ..
-    } = run_on(rt, alloc, row, crashed)?;
-    Ok(failed == 7 && status == 0 && holds(alloc, &mut disk, row.after))
-}
-
-/// A call on the disk fails, each in turn, and a crash follows that leaves the oldest or the newest of each file: the next run comes to the
-/// same files, those of the state among them.
-#[test]
-fn a_fault_and_a_crash_lose_no_group(rt: HostRuntime) -> Result<(), Fail> {
-    let alloc = rt.alloc();
-    for call in 0..CALLS {
-        for image in &CRASHES {
-            assert!(rt;
-                fails_and_goes_on(&rt, alloc, &CLOSED, FailAt::Disk(call), image)?,
-                "at call {call}"
-            );
-        }
-    }
-    Ok(())
-}
-
-/// The same where writing or sealing a file aside fails.
-#[test]
-fn a_fault_aside_loses_no_group(rt: HostRuntime) -> Result<(), Fail> {
-    let alloc = rt.alloc();
-    for file in 0..ASIDE {
-        for call in 0..2 {
-            let at = FailAt::Stage(file, call);
-            assert!(rt;
-                fails_and_goes_on(&rt, alloc, &CLOSED, at, CRASHES[0])?,
-                "at call {call} of file {file}"
-            );
-        }
-    }
     Ok(())
 }

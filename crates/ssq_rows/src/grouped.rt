@@ -2,7 +2,7 @@
 //!
 //! All times are of the first day of 2024.
 
-use crate::rows::{BY_ONE, BY_TWO, Files, QA, RUN, Row, STATUS};
+use crate::rows::{BY_ONE, BY_TWO, Files, ORDERED, QA, RUN, Row, STATUS};
 use ssq_outside::Name;
 
 /// A run of a query with groups that is done to its end, and files that come of it: those of its sink.
@@ -399,7 +399,7 @@ pub(crate) static SHOWN: [Shown; 11] = [
     // NULLs are one group, whether they stand there or not.
     Shown {
         words: RUN,
-        query: b"CREATE STREAM s (k STRING) FROM 's'; SELECT k, COUNT(*) AS n FROM s GROUP BY k ORDER BY n DESC OUTPUT COMPLETE;",
+        query: ORDERED,
         before: &[],
         parts: KEYS,
         out: KEYS_TOLD,

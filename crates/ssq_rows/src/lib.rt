@@ -3,6 +3,8 @@
 #![tactic(auto)]
 
 #[cfg(test)]
+mod fault_tests;
+#[cfg(test)]
 mod generated;
 #[cfg(test)]
 mod group_tests;

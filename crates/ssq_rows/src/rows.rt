@@ -89,6 +89,9 @@ pub(crate) const MORE: Files = &[
     META, PLAN_0, PLAN_1, PLAN_2, COMMIT_0, COMMIT_1, COMMIT_2, OUT_0, OUT_1, OUT_2,
 ];
 
+/// The files of the first row but its first plan.
+const WITHOUT_PLAN_0: Files = &[META, PLAN_1, COMMIT_0, COMMIT_1, OUT_0, OUT_1];
+
 pub(crate) const META_UPDATE: (Name, &[u8]) = (
     Name::Meta,
     b"v1\npartitions 1\nparts 0 1\nquery 104\nCREATE STREAM s (id BIGINT, v BIGINT) FROM 's'; SELECT id, v + 1 AS w FROM s WHERE v > 10 OUTPUT UPDATE;\nend\n",
@@ -133,6 +136,50 @@ pub(crate) const TIMED_FILES: Files = &[
     (Name::Out(1), b"{\"id\":4}\n"),
 ];
 
+/// A time behind the watermark of its epoch, in the last line of the first part.
+pub(crate) const BEHIND: &[&[u8]] = &[
+    b"{\"id\":1,\"ts\":\"2024-01-01T12:03:00Z\"}\n{\"id\":2,\"ts\":\"2024-01-01T12:16:00Z\"}\n{\"id\":3,\"ts\":\"2024-01-01T12:02:00Z\"}\n",
+    b"{\"id\":4,\"ts\":\"2024-01-01T12:04:00Z\"}\n",
+];
+
+pub(crate) const BEHIND_FILES: Files = &[
+    (
+        Name::Meta,
+        b"v1\npartitions 1\nparts 0 2\nquery 119\nCREATE STREAM s (id BIGINT, ts TIMESTAMP) FROM 's' WATERMARK FOR ts DELAY '10 minutes'; SELECT id FROM s OUTPUT APPEND;\nend\n",
+    ),
+    (
+        Name::Plan(0),
+        b"v1\nplan 0\nwatermark none\npart 0 0 1\npart 0 1 1\nend\n",
+    ),
+    (
+        Name::Plan(1),
+        b"v1\nplan 1\nwatermark 2024-01-01T11:54:00Z\npart 0 0 2\npart 0 1 1\nend\n",
+    ),
+    (
+        Name::Plan(2),
+        b"v1\nplan 2\nwatermark 2024-01-01T12:06:00Z\npart 0 0 3\npart 0 1 1\nend\n",
+    ),
+    (
+        Name::Commit(0),
+        b"v1\ncommit 0\nseen 0 2024-01-01T12:04:00Z\nend\n",
+    ),
+    (
+        Name::Commit(1),
+        b"v1\ncommit 1\nseen 0 2024-01-01T12:16:00Z\nend\n",
+    ),
+    (
+        Name::Commit(2),
+        b"v1\ncommit 2\nseen 0 2024-01-01T12:16:00Z\nend\n",
+    ),
+    (Name::Out(0), b"{\"id\":1}\n{\"id\":4}\n"),
+    (Name::Out(1), b"{\"id\":2}\n"),
+    (Name::Out(2), b"{\"id\":3}\n"),
+];
+
+/// Keys by how often they stand.
+pub(crate) const ORDERED: &[u8] =
+    b"CREATE STREAM s (k STRING) FROM 's'; SELECT k, COUNT(*) AS n FROM s GROUP BY k ORDER BY n DESC OUTPUT COMPLETE;";
+
 pub(crate) const QA: &[u8] =
     b"CREATE STREAM s (ts TIMESTAMP) FROM 's' WATERMARK FOR ts DELAY '10 minutes'; SELECT window_start, COUNT(*) AS n FROM s GROUP BY WINDOW(ts, '5 minutes') OUTPUT APPEND;";
 
@@ -162,7 +209,7 @@ pub(crate) const TOLD: &[u8] =
 
 pub(crate) const FAULT: &[u8] = b"stopped 7 DiskFault\n";
 
-pub(crate) static WORKED: [Row; 13] = [
+pub(crate) static WORKED: [Row; 14] = [
     Row {
         words: BY_TWO,
         query: FILTER,
@@ -286,6 +333,16 @@ pub(crate) static WORKED: [Row; 13] = [
         status: 0,
         after: TIMED_FILES,
     },
+    // A plain query has no late rows: that of 12:02 is shown behind the watermark of its epoch.
+    Row {
+        words: BY_ONE,
+        query: TIMED,
+        before: &[],
+        parts: BEHIND,
+        out: b"epoch 0 lines 2 watermark none rows 2\nepoch 1 lines 1 watermark 2024-01-01T11:54:00Z rows 1\nepoch 2 lines 1 watermark 2024-01-01T12:06:00Z rows 1\ndone epochs 3\n",
+        status: 0,
+        after: BEHIND_FILES,
+    },
     Row {
         words: &["ssq", "explain", "q.sql"],
         query: QA,
@@ -297,7 +354,7 @@ pub(crate) static WORKED: [Row; 13] = [
     },
 ];
 
-pub(crate) static REFUSED: [Row; 11] = [
+pub(crate) static REFUSED: [Row; 13] = [
     // Blanks are no row, other fields are ignored, and the first bad line stops its epoch.
     Row {
         words: BY_TWO,
@@ -328,12 +385,30 @@ pub(crate) static REFUSED: [Row; 11] = [
     },
     Row {
         words: RUN,
+        query: ORDERED,
+        before: DONE,
+        parts: &[THREE],
+        out: b"stopped 9 OtherQuery CREATE STREAM s (id BIGINT, v BIGINT) FROM 's'; SELECT id, v + 1 AS w FROM s WHERE v > 10 OUTPUT APPEND;\n",
+        status: 9,
+        after: DONE,
+    },
+    Row {
+        words: RUN,
         query: FILTER,
         before: DONE,
         parts: &[TWO],
         out: b"stopped 9 LogShort s 0 3 2\n",
         status: 9,
         after: DONE,
+    },
+    Row {
+        words: RUN,
+        query: FILTER,
+        before: WITHOUT_PLAN_0,
+        parts: &[THREE],
+        out: b"stopped 9 Damaged offsets/0\n",
+        status: 9,
+        after: WITHOUT_PLAN_0,
     },
     Row {
         words: &["ssq", "walk", "q.sql"],

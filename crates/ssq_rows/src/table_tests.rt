@@ -1,6 +1,6 @@
 //! Tables that are shown, or refused.
 
-use crate::rows::Row;
+use crate::rows::{ORDERED, Row};
 use crate::tables::{BAD, TABLES};
 use crate::tests::{disk_of, ends_so, run_on};
 use ssq_fakes::MemDisk;
@@ -13,7 +13,7 @@ use std::thread::Threads;
 /// Keys by how often they stand, in three epochs of two lines at most.
 static COUNTED: Row = Row {
     words: &["ssq", "run", "q.sql", "--max-lines", "2"],
-    query: b"CREATE STREAM s (k STRING) FROM 's'; SELECT k, COUNT(*) AS n FROM s GROUP BY k ORDER BY n DESC OUTPUT COMPLETE;",
+    query: ORDERED,
     before: &[],
     parts: &[b"{\"k\":\"b\"}\n{}\n{\"k\":\"a\"}\n{\"k\":null}\n{\"k\":\"b\"}\n"],
     out: b"",

@@ -1,8 +1,8 @@
 //! Runs of the rows, and of some of them with faults and crashes.
 
 use crate::rows::{
-    BY_TWO, COMMIT_0, DONE, FAULT, FILTER, Files, META, OUT_0, OUT_1, PLAN_0, REFUSED, RUN, Row,
-    THREE, TOLD, WORKED,
+    BY_TWO, COMMIT_0, DONE, FAULT, FILTER, Files, HALF, META, OUT_0, OUT_1, PLAN_0, PLAN_1,
+    REFUSED, RUN, Row, THREE, TOLD, WORKED,
 };
 use ssq_fakes::{FailAt, MemDisk, MemInputs, MemLog, MemOut, OpenGate};
 use ssq_files::{FolderDisk, FolderInputs};
@@ -16,6 +16,16 @@ use std::{env, fs, process};
 
 /// What a crash left of a name that changed, by the number of a content it had.
 static IMAGES: [&[u64]; 2] = [&[0], &[1]];
+
+/// How many calls on the disk the first row makes: five to open it (it syncs and lists names, and stages, publishes and syncs the job's
+/// record), and nine for each of two epochs (it stages three files, and publishes and syncs the plan, the rows and the commit).
+pub(crate) const CALLS: u64 = 23;
+
+/// Of these, the sync after the first epoch's commit.
+const COMMIT_SYNC: FailAt = FailAt::Disk(13);
+
+/// And the sync after the second epoch's rows.
+const ROWS_SYNC: FailAt = FailAt::Disk(20);
 
 pub(crate) type Over = Ended<MemDisk, MemInputs, MemOut>;
 
@@ -311,7 +321,7 @@ fn faults_have_their_status(rt: HostRuntime) -> Result<(), Fail> {
 fn a_commit_that_is_not_synced(rt: HostRuntime) -> Result<(), Fail> {
     let alloc = rt.alloc();
     let row = &WORKED[0];
-    let disk = MemDisk::new(alloc).failing(vec![in alloc; FailAt::Disk(13)]?);
+    let disk = MemDisk::new(alloc).failing(vec![in alloc; COMMIT_SYNC]?);
     let Ended {
         status,
         mut disk,
@@ -330,6 +340,9 @@ fn a_commit_that_is_not_synced(rt: HostRuntime) -> Result<(), Fail> {
     assert!(rt; holds(alloc, &mut disk, DONE));
     Ok(())
 }
+
+/// What a crash leaves of the first row's disk where the sync after the second epoch's rows failed: without these rows, or with them.
+static AT_THE_SYNC: [Files; 2] = [&[META, PLAN_0, PLAN_1, COMMIT_0, OUT_0], HALF];
 
 /// The disk after a run whose first sync failed, and a crash.
 fn stopped_and_crashed<R: Threads + Wait + Sync>(
@@ -352,15 +365,18 @@ fn stopped_and_crashed<R: Threads + Wait + Sync>(
     Ok(Some(disk.crash_at(alloc, u64::MAX, image)?))
 }
 
-/// Of the first row the second epoch's rows are not published, and then twice the first sync of a run fails, each time with a crash.
+/// Of the first row the sync after the second epoch's rows fails, and a crash leaves them or not. Then twice the first sync of a run fails,
+/// each time with a crash, and the run after that comes to the rows of the log that has grown.
 #[test]
 fn twice_the_first_sync_fails(rt: HostRuntime) -> Result<(), Fail> {
     let alloc = rt.alloc();
     let row = &WORKED[5];
-    for image in &IMAGES {
-        let disk = MemDisk::new(alloc).failing(vec![in alloc; FailAt::Disk(19)]?);
+    for (image, left) in IMAGES.iter().zip(&AT_THE_SYNC) {
+        let disk = MemDisk::new(alloc).failing(vec![in alloc; ROWS_SYNC]?);
         let over = run_on(&rt, alloc, &WORKED[0], disk)?;
         assert_eq!(rt; over.status, 7);
+        let mut crashed = over.disk.crash_at(alloc, u64::MAX, image)?;
+        assert!(rt; holds(alloc, &mut crashed, left));
         let disk = over.disk.crash_at(alloc, u64::MAX, image)?;
         let disk = stopped_and_crashed(&rt, alloc, row, disk, image)?.expect(&rt, "stopped");
         let disk = stopped_and_crashed(&rt, alloc, row, disk, image)?.expect(&rt, "stopped");

@@ -2,7 +2,7 @@
 
 use crate::grouped::SUMMED;
 use crate::rows::{BY_ONE, Row};
-use crate::tests::{Over, run};
+use crate::tests::{Over, has, run};
 use ssq_fakes::{MemDisk, MemInputs, MemLog, MemOut};
 use ssq_outside::{Disk, DiskError, Name, Stage};
 use std::alloc::{AllocError, Global};
@@ -20,6 +20,9 @@ struct Long {
     /// The first version whose delta is left, and the one behind the last.
     deltas: (u32, u32),
     snapshots: &'static [u32],
+    /// The newest of them. Behind its mark it has the partition, the version, the number of entries, and of the one entry the length of the key,
+    /// the key, the length of the value and the value: how many numbers there are, and their sum.
+    newest: (Name, &'static [u8]),
     table: &'static [u8],
 }
 
@@ -28,12 +31,20 @@ static RUNS: [Long; 2] = [
         lines: 31,
         deltas: (10, 31),
         snapshots: &[9, 19, 29],
+        newest: (
+            Name::Snapshot(0, 29),
+            b"SSQSNAP1\0\0\0\0\0\0\0\x1d\0\0\0\0\0\0\0\x01\0\0\0\x06\x04\0\0\0\x01a\0\0\0\x18\0\0\0\0\0\0\0\x1e\0\0\0\0\0\0\0\0\0\0\0\0\0\0\0\x1e",
+        ),
         table: b"{\"k\":\"a\",\"t\":31}\n",
     },
     Long {
         lines: 60,
         deltas: (40, 60),
         snapshots: &[39, 49, 59],
+        newest: (
+            Name::Snapshot(0, 59),
+            b"SSQSNAP1\0\0\0\0\0\0\0\x3b\0\0\0\0\0\0\0\x01\0\0\0\x06\x04\0\0\0\x01a\0\0\0\x18\0\0\0\0\0\0\0\x3c\0\0\0\0\0\0\0\0\0\0\0\0\0\0\0\x3c",
+        ),
         table: b"{\"k\":\"a\",\"t\":60}\n",
     },
 ];
@@ -105,6 +116,7 @@ fn old_files_go(rt: HostRuntime) -> Result<(), Fail> {
             assert_eq!(rt; run.status, 0);
             disk = run.disk;
             assert!(rt; keeps(alloc, &mut disk, long));
+            assert!(rt; has(alloc, &mut disk, long.newest));
         }
         let shown = over(&rt, alloc, SHOW, long.lines, disk)?;
         assert_eq!(rt; shown.out.bytes(), long.table);
@@ -130,22 +142,27 @@ fn cut(alloc: Global, disk: &mut MemDisk, name: Name) -> Result<(), DiskError> {
     Ok(())
 }
 
-/// A snapshot that the opening reads, and a delta that is read for a snapshot alone: where that is gone it is due again, and is made of the deltas up to it.
+/// A snapshot that the opening reads, so that the disk stays as it is (its clock counts whatever changes it), and a delta that is read for a
+/// snapshot alone: where that is gone it is due again, and is made of the deltas up to it.
 #[test]
 fn damaged_state_is_named(rt: HostRuntime) -> Result<(), Fail> {
     let alloc = rt.alloc();
     let mut disk = over(&rt, alloc, BY_ONE, 31, MemDisk::new(alloc))?.disk;
     cut(alloc, &mut disk, Name::Snapshot(0, 29)).expect(&rt, "memory");
+    let before = disk.clock();
     let run = over(&rt, alloc, BY_ONE, 31, disk)?;
+    assert_eq!(rt; run.status, 9);
     assert_eq!(rt;
         run.out.bytes(),
         b"stopped 9 Damaged state/0/29.snapshot\n".as_slice()
     );
+    assert_eq!(rt; run.disk.clock(), before);
 
     let mut disk = over(&rt, alloc, BY_ONE, 25, MemDisk::new(alloc))?.disk;
     cut(alloc, &mut disk, Name::Delta(0, 3)).expect(&rt, "memory");
     disk.remove(Name::Snapshot(0, 9)).expect(&rt, "a name");
     let run = over(&rt, alloc, BY_ONE, 25, disk)?;
+    assert_eq!(rt; run.status, 9);
     assert_eq!(rt;
         run.out.bytes(),
         b"stopped 9 Damaged state/0/3.delta\n".as_slice()
