@@ -41,6 +41,7 @@ idle tells nothing at_rest s n r found h disk logs can = record {
     told_are = tt;
     good = λ t. All-nil (λ (told : Told). HasGoodLines s (cut_of (first_of found) found.plans) told.epoch);
     few = (let b = can.numbers.before in omega (arith, b));
+    near = (let n = can.numbers.near in omega (arith, n));
     over = λ next ends. absurd (err_ok starved next ends);
     stopped = λ why stops.
         subst (λ (w : Stopped). IsRoundStop tells (tells × IsOwn s r h found) s (cut_of (first_of found) found.plans) r.available (length found.plans) (found.committed + 0) (files_now h) disk disk logs w.key w.cause) (ap (why_or starved) stops) tt;

@@ -2,6 +2,7 @@
 use Rattle.std.proofs.Common.{◌≡◌, ◌≢◌, ◌⊎◌, ◌<◌, ◌≤◌, ◌+◌, ◌-◌, ◌||◌, nat_lt, ℕ, Bool, true, false, true≢false, List, [], ◌∷◌, length, map, get_or, slice_get, Option, Some, None, IfSome, IsSomeAnd, Ok, Err, if◌then◌else◌, sym, refl, ap, ◌∙◌, subst, inl, inr, arith}
 use Rattle.std.specs.Global.{Vec}
 use Rattle.std.specs.List.{list_any}
+use Rattle.std.proofs.lemmas.Bool.{ltb-false}
 use Rattle.std.proofs.lemmas.List.{length-map}
 use Rattle.ssq_outside.specs.History.{History, files_now}
 use Rattle.ssq_meaning.specs.Meaning.{Line, Values}
@@ -142,6 +143,15 @@ holds_by : (s : Setting) (one other : Cuts) (e p : ℕ) → state_at s one p e �
 holds_by s one other e p same None holds = holds
 holds_by s one other e p same (Some store) holds = (holds.0, holds.1, holds.2 ∙ same)
 
+-- where at most one more is planned than is committed, all that are planned are acknowledged, but perhaps the last
+told_near : (planned committed : ℕ) (settled : Bool) → planned ≤ committed + 1 → planned ≤ (if nat_lt committed planned || settled then committed else committed - 1) + 1
+told_near planned committed settled near = by (nat_lt committed planned) refl settled
+  where
+    by : (a : Bool) → nat_lt committed planned ≡ a → (b : Bool) → planned ≤ (if a || b then committed else committed - 1) + 1
+    by true opened b = omega (arith, near)
+    by false closed true = omega (arith, near)
+    by false closed false = (let none = ltb-false committed planned closed in omega (arith, none))
+
 either_of : (a b : Bool) → (a || b) ≡ true → (a ≡ true) ⊎ (b ≡ true)
 either_of true b is = inl refl
 either_of false b is = inr is
@@ -226,6 +236,10 @@ module _ {D L : Type 0} (stores logs : Type 0) (lines : L → List Line) (histor
 
   within : found.committed + length told ≤ c.front.planned
   within = (let a = acknowledged in let b = below in let d = sound.before in omega (arith, a, b, d))
+
+  -- and all that are planned are told, but perhaps the last
+  near_told : c.front.planned ≤ found.committed + length told + 1
+  near_told = (let a = acknowledged in let n = told_near c.front.planned c.front.committed c.front.settled sound.near in omega (arith, a, n))
 
   all_open : is_open c ≡ true → acknowledged_in c ≡ c.front.committed
   all_open opened = ap (λ (b : Bool). if b || c.front.settled then c.front.committed else c.front.committed - 1) opened
@@ -471,8 +485,11 @@ module _ {D L : Type 0} (stores logs : Type 0) (lines : L → List Line) (histor
         behind_or true is limit = inr is
         behind_or false is limit = inl (ap (λ (ends : Ends). is_behind ends r.available) (fits.are c.front.planned (omega arith) ∙ go.last) ∙ first_of_two (is_behind c.ends r.available) c.front.due limit.3 (go.quiet is))
 
-        full : IsFull r c → (c.front.planned ≡ 4294967295) × ((is_behind (cut_of (first_of found) plans c.front.planned) r.available ≡ true) ⊎ (closes s.job.bound ≡ true)) × (ours → IsMore s (cut_of (first_of found) plans) r.available c.front.planned)
-        full limit = (limit.0, behind_or (closes s.job.bound) refl limit, λ u. full_by laws u.0 u.1 plans fits limit)
+        all_told : IsFull r c → found.committed + length told ≡ c.front.planned
+        all_told limit = (let a = acknowledged in let all = all_settled limit.2 in let none = ltb-false c.front.committed c.front.planned limit.1 in let b = sound.before in omega (arith, a, all, none, b))
+
+        full : IsFull r c → (c.front.planned ≡ 4294967295) × ((is_behind (cut_of (first_of found) plans c.front.planned) r.available ≡ true) ⊎ (closes s.job.bound ≡ true)) × (ours → IsMore s (cut_of (first_of found) plans) r.available c.front.planned) × (found.committed + length told ≡ c.front.planned)
+        full limit = (limit.0, behind_or (closes s.job.bound) refl limit, λ u. full_by laws u.0 u.1 plans fits limit, all_told limit)
 
     -- whatever the disk tells
     went_by : (plans : List Plan) → FitsPlans (first_of found) found.plans plans c.front.planned cuts → ((next : Opened × Vec (List Timed)) → end ≡ Ok next → next.0.plans ≡ plans)
@@ -482,6 +499,7 @@ module _ {D L : Type 0} (stores logs : Type 0) (lines : L → List Line) (histor
       told_are = told_are owned s cuts (first_of found) plans c.front.planned fits.are told found.committed closed.telling.each within;
       good = λ t. told_good owned s cuts (first_of found) plans c.front.planned fits.are found.committed c.front.committed sound.before (closed.good t).1.told told found.committed closed.telling.each (omega arith) (let a = acknowledged in let b = below in omega (arith, a, b));
       few = (let count = fits.count in let less = within in omega (arith, count, less));
+      near = (let count = fits.count in let n = near_told in omega (arith, count, n));
       over = λ next ends. subst (λ (l : List Plan). IsOver s.job.bound (length round.logs.items) r found l told next.0 next.1.items) (same next ends) (is_over next ends);
       stopped = λ why stops. stop_told plans fits why stops;
       keyless = closed.keyless;

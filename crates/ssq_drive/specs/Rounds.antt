@@ -138,7 +138,7 @@ IsMore s cuts found e = (is_behind (cuts e) found ≡ true) ⊎ (due_at s cuts e
 
 -- Why a round stopped that has so many epochs planned, at the first that is not committed: where disk and logs tell what they hold, a line
 -- is told only where it is the first fault of that epoch, which is planned, and no log is short; where also what was opened is the job's own, a
--- key only where it is the fault of that epoch. There are too many epochs only where one more is to come: some part has more lines, or the query
+-- key only where it is the fault of that epoch. There are too many epochs only where all are told and one more is to come: some part has more lines, or the query
 -- closes; and by the job's own that one is due. What failed has counted it. A file that upkeep read is told only where it is damaged among those
 -- that the round leaves, and never where what was opened is the job's own.
 abbrev pub IsRoundStop : (tells owned : Type 0) → Setting → Cuts → (found : List ℕ) → (planned e : ℕ) → Files → (disk disk_now logs : ℕ) → (key : Option Values) → Cause → Type 0
@@ -149,7 +149,7 @@ IsRoundStop tells owned s cuts found planned e files disk disk_now logs key caus
 IsRoundStop tells owned s cuts found planned e files disk disk_now logs key (cause.LogShort t p logged lines) = (lines < logged) × (tells → ⊥)
 IsRoundStop tells owned s cuts found planned e files disk disk_now logs key (cause.Damaged q) = (owned → ⊥) × (tells → IsDamagedIn files q)
 IsRoundStop tells owned s cuts found planned e files disk disk_now logs key cause.DiskFault = Rises disk disk_now
-IsRoundStop tells owned s cuts found planned e files disk disk_now logs key cause.Full = (planned ≡ 4294967295) × ((is_behind (cuts planned) found ≡ true) ⊎ (closes s.job.bound ≡ true)) × (owned → IsMore s cuts found planned)
+IsRoundStop tells owned s cuts found planned e files disk disk_now logs key cause.Full = (planned ≡ 4294967295) × ((is_behind (cuts planned) found ≡ true) ⊎ (closes s.job.bound ≡ true)) × (owned → IsMore s cuts found planned) × (e ≡ planned)
 IsRoundStop tells owned s cuts found planned e files disk disk_now logs key cause.NoMemory = Unit {0}
 
 -- A round that is over: all epochs are committed and told, and cover what was found; upkeep is done, by the names of the files that are left; and the
@@ -170,12 +170,14 @@ Ended = Result (Opened × Vec (List Timed)) Stopped
 
 -- How a round went, whatever the disk tells: these are its plans in the end, the epochs that it told are the first ones that were not
 -- committed, of which no line is a fault where disk and logs tell what they hold, and it is over or stopped at an epoch behind them, for a key
--- only where that is told.
+-- only where that is told. At most one epoch is planned and not told, the last: an epoch is planned only where each before it is committed and
+-- acknowledged, and what is acknowledged is told.
 pub record RoundWent (tells owned : Type 0) (s : Setting) (logs_count : ℕ) (r : Scope) (found : Opened) (files : Files) (disk disk_now logs : ℕ) (plans : List Plan) (told : List Told) (end : Ended) : Type 0 where
   pub on : PlansOn (closes s.job.bound) (first_of found) r.cap r.available found.plans plans
   pub told_are : AreTold (first_of found) plans found.committed told
   pub good : tells → All (λ told. HasGoodLines s (cut_of (first_of found) plans) told.epoch) told
   pub few : found.committed + length told ≤ length plans
+  pub near : length plans ≤ found.committed + length told + 1
   pub over : (next : Opened × Vec (List Timed)) → end ≡ Ok next → IsOver s.job.bound logs_count r found plans told next.0 next.1.items
   pub stopped : (why : Stopped) → end ≡ Err why → IsRoundStop tells owned s (cut_of (first_of found) plans) r.available (length plans) (found.committed + length told) files disk disk_now logs why.key why.cause
   pub keyless : (why : Stopped) → end ≡ Err why → why.cause ≢ cause.KeyOverflow → why.key ≡ None

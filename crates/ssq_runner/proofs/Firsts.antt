@@ -154,7 +154,7 @@ ready_first T U lines available answers faults less nothing at_rest b news found
         done = [];
         told = [];
         number = refl;
-        has = record { more = []; keeps = sym (append-nil b.found.plans); are = tt; within = omega arith; told_are = tt; few = (let n = can.numbers.before in omega (arith, n)) };
+        has = record { more = []; keeps = sym (append-nil b.found.plans); are = tt; within = omega arith; told_are = tt; few = (let n = can.numbers.before in omega (arith, n)); near = (let n = can.numbers.near in omega (arith, n)); whole = λ never. absurd (omega (arith, never)) };
         all = refl;
         committed = omega arith;
         whole = λ never. absurd (omega (arith, never));

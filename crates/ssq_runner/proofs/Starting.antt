@@ -116,7 +116,7 @@ module _ {L : Type 0} (T U : Type 0) (lines : L → List Line) (available : L �
 
   pub unready_end : 0 < n → (why : RunFault) (text : List ℕ) → n < b.rounds → text ≡ [] → IsUnready T lines available answers faults opened olds news why → Ends U lines available answers faults b now disk news OutTells written text (Err why)
   unready_end later why text few empty (uncounted c is ask) =
-      idle_end why text (end_uncounted (let m = so.number in omega (arith, m, few)) so.all olds so.asked c
+      idle_end why text (end_uncounted (let m = so.number in omega (arith, m, few)) (so.all, so.committed ∙ so.whole later) olds so.asked c
       (uncounted_since U lines available answers faults so.done b.logs olds news c so.asked.answered (uncounted_under T U lines available answers faults less_known olds news c (uncounted_is T lines available answers faults olds news c ask)))
       (stopped_under T U lines available answers faults less_known 0 olds news c ask) so.wrote empty (ap Err is))
   unready_end later why text few empty (short found stop ask is named) =

@@ -93,11 +93,11 @@ module _ {L : Type 0} (tells : Type 0) (lines : L → List Line) (available : L 
   pub going_on : CutsHang → (b : Begun L) (opened : Opened) (done : List Round) (told more_told : List Told) (found : List ℕ) (plans : List Plan)
       → HasRounds (Owned tells lines available answers faults b) (setting_in tells lines available answers faults b) b opened.plans done told → opened.meta ≡ b.found.meta
       → epochs_after (length b.found.plans) done ≡ length opened.plans → b.found.committed + length told ≡ opened.committed
-      → PlansOn (closes b.bound) (first_of opened) b.cap found opened.plans plans → AreTold (first_of opened) plans opened.committed more_told → opened.committed + length more_told ≤ length plans
+      → PlansOn (closes b.bound) (first_of opened) b.cap found opened.plans plans → AreTold (first_of opened) plans opened.committed more_told → opened.committed + length more_told ≤ length plans → length plans ≤ opened.committed + length more_told + 1
       → (Owned tells lines available answers faults b → (e : ℕ) → length opened.plans ≤ e → e < length plans → IsMore (setting_in tells lines available answers faults b) (cuts_in b plans) found e)
       → HasRounds (Owned tells lines available answers faults b) (setting_in tells lines available answers faults b) b plans done (told ++ more_told)
       × AreNext (Owned tells lines available answers faults b) (setting_in tells lines available answers faults b) b.cap found (cuts_in b plans) (epochs_after (length b.found.plans) done) (length plans)
-  going_on hang b opened done told more_told found plans has meta all committed on are few more =
+  going_on hang b opened done told more_told found plans has meta all committed on are few near more =
       let first : first_of opened ≡ first_of b.found = ap (λ (m : Meta). begins m.parts) meta in
       let grown : length plans ≡ length opened.plans + length on.more = ap length on.behind ∙ length-append opened.plans on.more in
       let same : (e : ℕ) → e ≤ length opened.plans → cuts_in b plans e ≡ cuts_in b opened.plans e = λ e le. ap (λ (ps : List Plan). cut_of (first_of b.found) ps e) on.behind ∙ cut_more (first_of b.found) opened.plans on.more e le in (
@@ -110,6 +110,8 @@ module _ {L : Type 0} (tells : Type 0) (lines : L → List Line) (available : L 
               (subst (λ (ps : List Plan). AreTold (first_of b.found) ps b.found.committed told) (sym on.behind) (told_more (first_of b.found) opened.plans on.more b.found.committed told has.few has.told_are))
               (subst (λ (n : ℕ). AreTold (first_of b.found) plans n more_told) (sym committed) (subst (λ (ends : EndsOf). AreTold ends plans opened.committed more_told) first are));
           few = subst (λ (n : ℕ). b.found.committed + n ≤ length plans) (sym (length-append told more_told)) (omega (arith, few, committed));
+          near = (let e = length-append told more_told in omega (arith, near, committed, e));
+          whole = λ some. (let e = length-append told more_told in let w = has.whole some in omega (arith, w, e));
         },
         record {
           next = λ e ge less. subst (λ (ends : EndsOf). cut_of ends plans (e + 1) ≡ next_ends b.cap (cut_of ends plans e) found) first (on.next e (subst (λ (n : ℕ). n ≤ e) all ge) less);
@@ -186,7 +188,7 @@ stop_moved tells one other s t cuts others found planned e f files first disk di
 stop_moved tells one other s t cuts others found planned e f files first disk disk_now logs key (cause.Damaged q) same query known own cut at le is = ((λ o. is.0 (own o)), is.1)
 stop_moved tells one other s t cuts others found planned e f files first disk disk_now logs key cause.DiskFault same query known own cut at le is = rises_from first disk disk_now le is
 stop_moved tells one other s t cuts others found planned e f files first disk disk_now logs key cause.Full same query known own cut at le is =
-    (is.0, full_by is.1, λ o. more_by s t cuts others found planned (same (known o)) cut (is.2 (own o)))
+    (is.0, full_by is.1, (λ o. more_by s t cuts others found planned (same (known o)) cut (is.2 (own o))), sym at ∙ is.3)
   where
     full_by : (is_behind (cuts planned) found ≡ true) ⊎ (closes s.job.bound ≡ true) → (is_behind (others planned) found ≡ true) ⊎ (closes t.job.bound ≡ true)
     full_by (inl behind) = inl (subst (λ (c : Cuts). is_behind (c planned) found ≡ true) cut behind)
@@ -248,7 +250,7 @@ module _ {L : Type 0} (tells : Type 0) (lines : L → List Line) (available : L 
   goes : HasRounds (Owned tells lines available answers faults b) (setting_in tells lines available answers faults b) b round.plans so.done all_told
       × AreNext (Owned tells lines available answers faults b) (setting_in tells lines available answers faults b) b.cap found (cuts_in b round.plans) (epochs_after (length b.found.plans) so.done) (length round.plans)
   goes =
-      going_on tells lines available answers faults hang b opened so.done so.told told found round.plans so.has so.meta_is so.all so.committed round.went.on round.went.told_are round.went.few
+      going_on tells lines available answers faults hang b opened so.done so.told told found round.plans so.has so.meta_is so.all so.committed round.went.on round.went.told_are round.went.few round.went.near
       (λ own e ge less. (ran_on own.0 own.1).due e ge less)
 
   pub have_on : tells → IsOwnRun tells lines available answers faults b → HaveRun tells lines available answers faults b now round.plans all_told
@@ -294,6 +296,8 @@ module _ {L : Type 0} (tells : Type 0) (lines : L → List Line) (available : L 
           within = omega arith;
           told_are = goes.0.told_are;
           few = goes.0.few;
+          near = goes.0.near;
+          whole = λ some. (let e = length-append so.told told in let a = over.all in let c = so.committed in omega (arith, e, a, c));
         });
         all = ap length (sym over.plans_are);
         committed = (let e = length-append so.told told in let a = over.all in let c = so.committed in let d = over.committed in omega (arith, e, a, c, d));

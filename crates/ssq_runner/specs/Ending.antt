@@ -49,7 +49,8 @@ module _ {L : Type 0} where
   cuts_in b plans = cut_of (first_of b.found) plans
 
   -- These rounds are over, the latest of which comes first, and these epochs were told. The plans that were opened stay, and the rounds cut
-  -- on from them, the query's setting being s; the epochs that are told are the first that were not committed, one after another.
+  -- on from them, the query's setting being s; the epochs that are told are the first that were not committed, one after another: all of the rounds
+  -- that are over, and all that are planned but for one at most, the last.
   pub record HasRounds (owned : Type 0) (s : Setting) (b : Begun L) (plans : List Plan) (done : List Round) (told : List Told) : Type 0 where
     pub more : List Plan
     pub keeps : plans ≡ b.found.plans ++ more
@@ -57,6 +58,8 @@ module _ {L : Type 0} where
     pub within : epochs_after (length b.found.plans) done ≤ length plans
     pub told_are : AreTold (first_of b.found) plans b.found.committed told
     pub few : b.found.committed + length told ≤ length plans
+    pub near : length plans ≤ b.found.committed + length told + 1
+    pub whole : 0 < length done → epochs_after (length b.found.plans) done ≤ b.found.committed + length told
 
 module _ {L : Type 0} (tells : Type 0) (lines : L → List Line) (available : L → ℕ) (answers : L → List ℕ) (faults : L → ℕ) where
   -- the query over all lines that its logs will come to hold, with the partitions and parts that were opened
@@ -126,8 +129,8 @@ module _ {L : Type 0} (tells : Type 0) (lines : L → List Line) (available : L 
 
   -- How rounds end: what they leave on the disk and of the logs, what is written and what is left to be written, and why.
   --  All rounds that were asked for are over and told, each log was asked once for each, and it is left to say how many epochs there are. Or
-  --  one stopped, for which they were asked, too, at an epoch behind those that were told, of which those of the rounds before are written. Or the
-  --  lines were not counted for one, for which some logs were asked. Or the output failed, and a front of the lines of the last round was written,
+  --  one stopped, for which they were asked, too, at an epoch behind those that were told, of which those of the rounds before are written. Or all are
+  --  told, and the lines were not counted for one more, for which some logs were asked. Or the output failed, and a front of the lines of the last round was written,
   --  for which they were asked, too. Or memory ran out, and lines of the last round are left.
   pub data IsEnd (b : Begun L) (now : History) (disk_faults : ℕ) (logs : List L) (OutTells : Type 0) (written : List ℕ) (plans : List Plan) (done : List Round) (told : List Told) (text : List ℕ) (end : Result (Unit {0}) RunFault) : Type 0 where
     finished : length done ≡ b.rounds → epochs_after (length b.found.plans) done ≡ length plans → b.found.committed + length told ≡ length plans → WereAsked b done logs
@@ -136,7 +139,7 @@ module _ {L : Type 0} (tells : Type 0) (lines : L → List Line) (available : L 
         → WereAsked b (record { found = found; epochs = length plans } ∷ done) logs → (why : Stopped)
         → IsRoundStop tells (Owned b) (setting_in b) (cuts_in b plans) found (length plans) (b.found.committed + length told) (files_now now) b.disk_faults disk_faults (sum_by faults logs) why.key why.cause
         → (put more : List Told) → told ≡ put ++ more → (OutTells → written ≡ b.written ++ told_text put) → text ≡ told_text more → end ≡ Err (fault_of why) → IsEnd b now disk_faults logs OutTells written plans done told text end
-    uncounted : length done < b.rounds → epochs_after (length b.found.plans) done ≡ length plans → (before : List L) → WereAsked b done before → (why : LengthFault) → IsUncounted b.logs logs why
+    uncounted : length done < b.rounds → (epochs_after (length b.found.plans) done ≡ length plans) × (b.found.committed + length told ≡ length plans) → (before : List L) → WereAsked b done before → (why : LengthFault) → IsUncounted b.logs logs why
         → IsStopped tells lines available answers faults 0 before logs why → (OutTells → written ≡ b.written ++ told_text told) → text ≡ [] → end ≡ Err (fault.Lines why) → IsEnd b now disk_faults logs OutTells written plans done told text end
     unput : length done < b.rounds → (found : List ℕ) → AreNext (Owned b) (setting_in b) b.cap found (cuts_in b plans) (epochs_after (length b.found.plans) done) (length plans)
         → WereAsked b (record { found = found; epochs = length plans } ∷ done) logs → (put more : List Told) → told ≡ put ++ more → (OutTells → (n : ℕ) × (written ≡ (b.written ++ told_text put) ++ take n (told_text more))) → text ≡ [] → end ≡ Err fault.OutFault
