@@ -1,27 +1,29 @@
 -- A snapshot that is handed out, and that comes back.
-use Rattle.std.proofs.Common.{◌≡◌, ◌≤◌, ◌+◌, ℕ, Bool, true, false, List, [], ◌∷◌, All, Option, Some, None, IfSome, Result, Ok, Err, IfErr, sym, ap, ◌∙◌, subst, inl, inr, arith}
+use Rattle.std.proofs.Common.{◌≡◌, ◌<◌, ◌≤◌, ◌+◌, ℕ, Bool, true, false, List, [], ◌∷◌, All, Option, Some, None, IfSome, Result, Ok, Err, IfErr, sym, ap, ◌∙◌, subst, inl, inr, arith}
 use Rattle.ssq_outside.specs.declared.name.Name.{Name}
 use Rattle.ssq_outside.specs.declared.name.Name.TheVariants as name
 use Rattle.ssq_outside.specs.Faults.{Rises}
 use Rattle.ssq_outside.specs.Files.{same_name}
 use Rattle.ssq_outside.specs.History.{History, files_now}
 use Rattle.ssq_outside.proofs.Names.{same_name-same}
-use Rattle.ssq_upkeep.specs.Upkeep.{is_among}
+use Rattle.ssq_upkeep.specs.Upkeep.{is_among, is_up_to}
 use Rattle.ssq_meaning.specs.Meaning.{Line}
 use Rattle.ssq_store.specs.declared.fault.SnapshotFault.{SnapshotFault}
 use Rattle.ssq_store.specs.Loaded.{files_in, IsDamaged}
 use Rattle.ssq_board.specs.declared.front.Cause.{Cause}
 use Rattle.ssq_board.specs.declared.front.Entry.{Entry}
 use Rattle.ssq_board.specs.declared.front.Entry.TheVariants as entry
-use Rattle.ssq_board.specs.Core.{is_stopped}
+use Rattle.ssq_board.specs.Core.{Core, is_stopped}
 use Rattle.ssq_board.specs.Rounds.{IsAtRest}
-use Rattle.ssq_board.specs.Shelf.{Shelf, there_in}
-use Rattle.ssq_board.proofs.Keeping.{or_left}
+use Rattle.ssq_board.specs.Shelf.{Shelf, acknowledged_in, last_of, there_in}
+use Rattle.ssq_board.proofs.Keeping.{below_of, or_left, up_to_is}
+use Rattle.ssq_ledger.specs.Names.{IsNewestBelow}
 use Rattle.ssq_ledger.specs.Shown.{Shown, HasRisen, did, shelf_of}
 use Rattle.ssq_ledger.specs.Upkept.{NoneIsDue}
 use Rattle.ssq_desk.specs.declared.round.Round.{Round}
 use Rattle.ssq_desk.specs.declared.upkeep.UpkeepTask.{UpkeepTask}
-use Rattle.ssq_desk.specs.Round.{Owns}
+use Rattle.ssq_desk.specs.Contents.{keeping_in}
+use Rattle.ssq_desk.specs.Round.{Owns, setting_of}
 use Rattle.ssq_desk.specs.Upkeep.{FailsFor, AreReadFor, IsHandedOut, IsMalformed, IsMissing, IsNextDue, IsTakenBack, cause_of_snapshot, files_for, first_missing, names_in}
 use Rattle.ssq_desk.specs.Whole.{opening_in}
 use Rattle.ssq_drive.specs.Damaged.{HasDamaged}
@@ -46,10 +48,22 @@ same_cause {A} f g is = ap or is
     or (Ok a) = f
     or (Err x) = x
 
+-- what is sure of a commit is that its epoch is acknowledged
+sure_below : (v : ℕ) (c : Core) → is_up_to (last_of c) v ≡ true → v < acknowledged_in c
+sure_below v c is = below_of v (acknowledged_in c) (sym (up_to_is (acknowledged_in c) v) ∙ is)
+
+-- the newest below a version lies below it
+newest_older : (p v : ℕ) (names : List Name) (below : Option ℕ) → IsNewestBelow p v names below → IfSome below (λ b. b < v)
+newest_older p v names None newest = tt
+newest_older p v names (Some b) newest = newest.0
+
 risen_from : (before mid now : ℕ) → before ≤ mid → Rises mid now → Rises before now
 risen_from before mid now le risen = omega (arith, le, risen)
 
-module _ {D L : Type 0} (stores logs : Type 0) (history : D → History) (lines : L → List Line) (faults : D → ℕ) (closing : Bool) (keeping : ℕ) (old : Shown D (Round L)) (running : old.core.front.stop ≡ None) (rest : IsAtRest old.core) where
+module _ {D L : Type 0} (stores logs : Type 0) (history : D → History) (lines : L → List Line) (faults : D → ℕ) (closing : Bool) (old : Shown D (Round L)) (running : old.core.front.stop ≡ None) (rest : IsAtRest old.core) where
+  abbrev pub keeping : ℕ
+  keeping = keeping_in (setting_of lines old.opening)
+
   abbrev pub P : Shown D (Round L) → Name → Type 0
   P = HasDamaged stores logs history lines
 
@@ -57,38 +71,48 @@ module _ {D L : Type 0} (stores logs : Type 0) (history : D → History) (lines 
   k = shelf_of (opening_in lines) old
 
   -- a file that is not there is damaged
-  missing : (new : Shown D (Round L)) (es : List Entry) → new ≡ did old new.disk es → (stores → history new.disk ≡ history old.disk) → (p v : ℕ) (q : Name)
+  missing : (new : Shown D (Round L)) (p v : ℕ) (f : Cause) → new ≡ did old new.disk (entry.Upkeep p v ∷ entry.Unmade p v f ∷ []) → (stores → history new.disk ≡ history old.disk) → IsNextDue (opening_in lines) keeping old p v → (q : Name)
       → IsMissing stores (Owns stores logs history lines old) (files_now (history old.disk)) p v (there_in k) q → P new q
-  missing new es is same p v q (unread, never) = (
-    subst (λ (x : Shown D (Round L)). Owns stores logs history lines x → ⊥) (sym is) never,
-    λ t. record {
-      partition = p;
-      version = v;
-      below = unread.below;
-      needed = unread.unfound.0;
-      is = inl (subst (λ (h : History). first_missing (files_now h) (files_for p v unread.below) ≡ Some q) (sym (same t)) (unread.unfound.1 t));
-    },
-  )
+  missing new p v f is same due q (unread, never) =
+      subst (λ (x : Shown D (Round L)). P x q) (sym is) (
+        never,
+        λ t. record {
+          partition = p;
+          version = v;
+          below = unread.below;
+          keeps = due.0;
+          tenth = due.2.due.tenth;
+          known = sure_below v old.core due.2.due.acknowledged;
+          older = newest_older p v (there_in k) unread.below unread.newest;
+          needed = unread.unfound.0;
+          is = inl (subst (λ (h : History). first_missing (files_now h) (files_for p v unread.below) ≡ Some q) (sym (same t)) (unread.unfound.1 t));
+        },
+      )
 
   -- and one of those that were read, where it is not the canonical one
-  malformed : {S : Type 0} (new : Shown D (Round L)) (es : List Entry) → new ≡ did old new.disk es → (stores → history new.disk ≡ history old.disk) → (task : UpkeepTask S)
-      → AreReadFor stores (files_now (history old.disk)) (there_in k) task → (q : Name) → is_among (names_in task.files.items) q ≡ true → IsDamaged (files_in task.files.items) task.partition (task.version + 1) q
+  malformed : {S : Type 0} (new : Shown D (Round L)) (task : UpkeepTask S) (f : Cause) → new ≡ did old new.disk (entry.Upkeep task.partition task.version ∷ entry.Unmade task.partition task.version f ∷ []) → (stores → history new.disk ≡ history old.disk)
+      → IsNextDue (opening_in lines) keeping old task.partition task.version → AreReadFor stores (files_now (history old.disk)) (there_in k) task → (q : Name) → is_among (names_in task.files.items) q ≡ true → IsDamaged (files_in task.files.items) task.partition (task.version + 1) q
       → (Owns stores logs history lines old → ⊥) → P new q
-  malformed new es is same task read q among damaged never = (
-    subst (λ (x : Shown D (Round L)). Owns stores logs history lines x → ⊥) (sym is) never,
-    λ t. record {
-      partition = task.partition;
-      version = task.version;
-      below = read.below;
-      needed = subst (λ (l : List Name). is_among l q ≡ true) read.are among;
-      is = inr (
-        task.files.items,
-        read.are,
-        subst (λ (h : History). All (λ file. files_now h file.0 ≡ Some file.1) task.files.items) (sym (same t)) (read.found t),
-        damaged,
-      );
-    },
-  )
+  malformed new task f is same due read q among damaged never =
+      subst (λ (x : Shown D (Round L)). P x q) (sym is) (
+        never,
+        λ t. record {
+          partition = task.partition;
+          version = task.version;
+          below = read.below;
+          keeps = due.0;
+          tenth = due.2.due.tenth;
+          known = sure_below task.version old.core due.2.due.acknowledged;
+          older = newest_older task.partition task.version (there_in k) read.below read.newest;
+          needed = subst (λ (l : List Name). is_among l q ≡ true) read.are among;
+          is = inr (
+            task.files.items,
+            read.are,
+            subst (λ (h : History). All (λ file. files_now h file.0 ≡ Some file.1) task.files.items) (sym (same t)) (read.found t),
+            damaged,
+          );
+        },
+      )
 
   -- upkeep failed, and the desk is stopped
   pub record Failed (new : Shown D (Round L)) : Type 0 where
@@ -115,7 +139,7 @@ module _ {D L : Type 0} (stores logs : Type 0) (history : D → History) (lines 
       }
   unhanded S mid f (inr (p, v, due, is, why)) still_so counted = record {
     kept = keeps_unmade faults P closing old mid p v f is running rest
-        (fails_stop (IsMissing stores (Owns stores logs history lines old) (files_now (history old.disk)) p v (there_in k)) (P mid) old.scope mid.core (faults old.disk) (faults mid.disk) f (λ q bad. missing mid (entry.Upkeep p v ∷ entry.Unmade p v f ∷ []) is still_so p v q bad) why) counted;
+        (fails_stop (IsMissing stores (Owns stores logs history lines old) (files_now (history old.disk)) p v (there_in k)) (P mid) old.scope mid.core (faults old.disk) (faults mid.disk) f (λ q bad. missing mid p v f is still_so due q bad) why) counted;
     stopped = ap (λ (s : Shown D (Round L)). is_stopped s.core.front.stop) is ∙ or_stopped old.core.front.stop f;
     good = λ good. good_on lines old mid (entry.Upkeep p v ∷ entry.Unmade p v f ∷ []) is (tt, (tt, tt)) good;
   }
@@ -177,7 +201,7 @@ module _ {D L : Type 0} (stores logs : Type 0) (history : D → History) (lines 
                 let g = cause_of_snapshot failed.1 in
                 let all = both (entry.Unmade p v g) is in
                 let es = entry.Upkeep p v ∷ entry.Unmade p v g ∷ [] in
-                let bad = λ (q : Name) (m : IsMalformed (Owns stores logs history lines mid) task.files.items task.partition task.version q). malformed new es all (λ t. same t ∙ same_mid t) task read q m.among m.is (not_owned m.never) in
+                let bad = λ (q : Name) (m : IsMalformed (Owns stores logs history lines mid) task.files.items task.partition task.version q). malformed new task g all (λ t. same t ∙ same_mid t) out.1 read q m.among m.is (not_owned m.never) in
                 record {
                   kept = keeps_unmade faults P closing old new p v g all running rest
                       (earlier (P new) old.scope new.core (faults old.disk) (faults mid.disk) (faults new.disk) g first

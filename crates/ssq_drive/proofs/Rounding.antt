@@ -53,7 +53,7 @@ use Rattle.ssq_desk.specs.Contents.{IsStopOf, keeping_in}
 use Rattle.ssq_desk.specs.Closing.{AreTold as DeskTold, IsNext}
 use Rattle.ssq_desk.specs.First.{first_shown}
 use Rattle.ssq_desk.specs.Whole.{opening_in}
-use Rattle.ssq_drive.specs.Damaged.{HasDamaged}
+use Rattle.ssq_drive.specs.Damaged.{HasDamaged, IsDamagedIn}
 use Rattle.ssq_drive.specs.Driven.{StopsFor, IsDriven, IsUpkept, brings_due}
 use Rattle.ssq_drive.specs.Good.{IsGood}
 use Rattle.ssq_drive.specs.declared.round.Stopped.{Stopped}
@@ -472,7 +472,7 @@ module _ {D L : Type 0} (stores logs : Type 0) (lines : L → List Line) (histor
         (stop_is (stores × logs) ours (HasDamaged stores logs history lines (did (first_shown lines round disk r) now es)) (files_now (history now)) s cuts (cut_of (first_of found) plans) r.available c.front.planned c.front.committed (found.committed + length told) why.key (faults disk) (faults now) log_faults r c why.cause fits.are open_there
         (stop_on (stores × logs) owned ours s cuts c.front.committed why.key why.cause (λ u. is_owned laws u.0 u.1) was.1)
         (subst (λ (x : Option Cause). IfSome x (StopsFor (HasDamaged stores logs history lines (did (first_shown lines round disk r) now es)) r c (faults disk) (faults now))) was.0 closed.why) (λ same. closed.faulty (was.0 ∙ ap Some same)) full
-        (λ q bad. ((λ u. bad.0 (is_owned laws u.0 u.1)), λ t. bad.1 t.0)))
+        (λ q bad. ((λ u. bad.0 (is_owned laws u.0 u.1)), λ t. subst (λ (n : ℕ). IsDamagedIn (keeping_of s.job.bound.shape s.job.partitions) n (files_now (history now)) q) (sym acknowledged) (bad.1 t.0))))
       where
         open_there : is_of_epoch why.cause ≡ true → (c.front.committed ≡ found.committed + length told) × (found.committed + length told < c.front.planned)
         open_there own =

@@ -7,7 +7,7 @@ use Rattle.ssq_meaning.specs.Meaning.{Values}
 use Rattle.ssq_meaning.specs.Epochs.{fault, of_line, of_key}
 use Rattle.ssq_meaning.proofs.Causal.{says_same}
 use Rattle.ssq_core.specs.Course.{Cuts}
-use Rattle.ssq_course.specs.Setting.{Setting, parts_in, closes}
+use Rattle.ssq_course.specs.Setting.{Setting, parts_in, closes, keeping_of}
 use Rattle.ssq_course.specs.Setting.{cut_of as offsets_of, cuts_of as offsets}
 use Rattle.ssq_board.specs.declared.front.Cause.{Cause}
 use Rattle.ssq_board.specs.declared.front.Cause.TheVariants as cause
@@ -35,7 +35,7 @@ key_here s cuts others planned e owned (Some key) same less is =
 pub stop_is : (tells owned : Type 0) (P : Name → Type 0) (files : Files) (s : Setting) (cuts others : Cuts) (found : List ℕ) (planned committed e : ℕ) (key : Option Values) (disk disk_now logs : ℕ) (r : Scope) (c : Core) (f : Cause)
     → ((k : ℕ) → k ≤ planned → others k ≡ cuts k) → (is_of_epoch f ≡ true → (committed ≡ e) × (e < planned)) → IsStopOf tells owned s cuts committed key f → StopsFor P r c disk disk_now f
     → (f ≡ cause.LogFault → 0 < logs) → (IsFull r c → (planned ≡ 4294967295) × ((is_behind (others planned) found ≡ true) ⊎ (closes s.job.bound ≡ true)) × (owned → IsMore s others found planned) × (e ≡ planned))
-    → ((q : Name) → P q → (owned → ⊥) × (tells → IsDamagedIn files q)) → IsRoundStop tells owned s others found planned e files disk disk_now logs key f
+    → ((q : Name) → P q → (owned → ⊥) × (tells → IsDamagedIn (keeping_of s.job.bound.shape s.job.partitions) e files q)) → IsRoundStop tells owned s others found planned e files disk disk_now logs key f
 stop_is tells owned P files s cuts others found planned committed e key disk disk_now logs r c (cause.BadLine t p o x) same own why counts faulty full bad =
     let at = own refl in
     (at.1, λ told. (let is = why told in fault_here s cuts others planned e (line_of (cause.BadLine t p o x)) is.0 same at.1 is.1 (ap (fault s.job.bound (parts_in s) (offsets cuts)) (sym at.0) ∙ is.2)))

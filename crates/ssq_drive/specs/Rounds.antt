@@ -139,15 +139,15 @@ IsMore s cuts found e = (is_behind (cuts e) found ≡ true) ⊎ (due_at s cuts e
 -- Why a round stopped that has so many epochs planned, at the first that is not committed: where disk and logs tell what they hold, a line
 -- is told only where it is the first fault of that epoch, which is planned, and no log is short; where also what was opened is the job's own, a
 -- key only where it is the fault of that epoch. There are too many epochs only where all are told and one more is to come: some part has more lines, or the query
--- closes; and by the job's own that one is due. What failed has counted it. A file that upkeep read is told only where it is damaged among those
--- that the round leaves, and never where what was opened is the job's own.
+-- closes; and by the job's own that one is due. What failed has counted it. A file that upkeep read, for a snapshot of an epoch that is told or was committed
+-- before, is told only where it is damaged among those that the round leaves, and never where what was opened is the job's own.
 abbrev pub IsRoundStop : (tells owned : Type 0) → Setting → Cuts → (found : List ℕ) → (planned e : ℕ) → Files → (disk disk_now logs : ℕ) → (key : Option Values) → Cause → Type 0
 IsRoundStop tells owned s cuts found planned e files disk disk_now logs key (cause.BadLine t p o f) = (e < planned) × (tells → IsFaultAt s cuts e (line_of (cause.BadLine t p o f)))
 IsRoundStop tells owned s cuts found planned e files disk disk_now logs key (cause.Overflow t p o) = (e < planned) × (tells → IsFaultAt s cuts e (line_of (cause.Overflow t p o)))
 IsRoundStop tells owned s cuts found planned e files disk disk_now logs key cause.KeyOverflow = (e < planned) × IsSomeAnd key (λ own. owned → IsKeyAt s cuts e own)
 IsRoundStop tells owned s cuts found planned e files disk disk_now logs key cause.LogFault = 0 < logs
 IsRoundStop tells owned s cuts found planned e files disk disk_now logs key (cause.LogShort t p logged lines) = (lines < logged) × (tells → ⊥)
-IsRoundStop tells owned s cuts found planned e files disk disk_now logs key (cause.Damaged q) = (owned → ⊥) × (tells → IsDamagedIn files q)
+IsRoundStop tells owned s cuts found planned e files disk disk_now logs key (cause.Damaged q) = (owned → ⊥) × (tells → IsDamagedIn (keeping_of s.job.bound.shape s.job.partitions) e files q)
 IsRoundStop tells owned s cuts found planned e files disk disk_now logs key cause.DiskFault = Rises disk disk_now
 IsRoundStop tells owned s cuts found planned e files disk disk_now logs key cause.Full = (planned ≡ 4294967295) × ((is_behind (cuts planned) found ≡ true) ⊎ (closes s.job.bound ≡ true)) × (owned → IsMore s cuts found planned) × (e ≡ planned)
 IsRoundStop tells owned s cuts found planned e files disk disk_now logs key cause.NoMemory = Unit {0}

@@ -11,7 +11,7 @@ use Rattle.ssq_outside.specs.Logs.{Line}
 use Rattle.ssq_plans.specs.declared.plan.Plan.{Plan}
 use Rattle.ssq_core.specs.Course.{Ends as EndsOf, Cuts, Job}
 use Rattle.ssq_core.specs.Settled.{IsSettledAs}
-use Rattle.ssq_course.specs.Setting.{Setting, parts_in, closes, cut_of as offsets_of, cuts_of as offsets, job_of}
+use Rattle.ssq_course.specs.Setting.{Setting, parts_in, closes, keeping_of, cut_of as offsets_of, cuts_of as offsets, job_of}
 use Rattle.ssq_meaning.specs.Epochs.{fault_between}
 use Rattle.ssq_shape.specs.declared.bound.Bound.{Bound}
 use Rattle.ssq_open.specs.declared.wanted.Opened.{Opened}
@@ -30,6 +30,7 @@ use Rattle.ssq_board.specs.Rounds.{HasCap}
 use Rattle.ssq_open.specs.Looking.{begins}
 use Rattle.ssq_plans.specs.declared.meta.Meta.{Meta}
 use Rattle.ssq_desk.specs.declared.told.Told.{Told}
+use Rattle.ssq_drive.specs.Damaged.{IsDamagedIn}
 use Rattle.ssq_drive.specs.Good.{HasGoodLines}
 use Rattle.ssq_drive.specs.declared.round.Stopped.{Stopped}
 use Rattle.ssq_drive.specs.Rounds.{IsRound, RoundRan, Ended, IsOwn, IsFoundOf, IsMeant, IsMore, CanBegin, AreReturned, PlansOn, AreTold, IsRoundStop, IsFaultAt, IsKeyAt, setting_for, first_of}
@@ -185,7 +186,8 @@ stop_moved tells one other s t cuts others found planned e f files first disk di
     (subst (λ (n : ℕ). n < planned) at is.0, key_moved one other s t cuts others e f key (λ o. same (known o)) own cut at is.1)
 stop_moved tells one other s t cuts others found planned e f files first disk disk_now logs key cause.LogFault same query known own cut at le is = is
 stop_moved tells one other s t cuts others found planned e f files first disk disk_now logs key (cause.LogShort a b m k) same query known own cut at le is = is
-stop_moved tells one other s t cuts others found planned e f files first disk disk_now logs key (cause.Damaged q) same query known own cut at le is = ((λ o. is.0 (own o)), is.1)
+stop_moved tells one other s t cuts others found planned e f files first disk disk_now logs key (cause.Damaged q) same query known own cut at le is =
+    ((λ o. is.0 (own o)), λ told. subst (λ (x : Setting). IsDamagedIn (keeping_of x.job.bound.shape x.job.partitions) f files q) (same told) (subst (λ (n : ℕ). IsDamagedIn (keeping_of s.job.bound.shape s.job.partitions) n files q) at (is.1 told)))
 stop_moved tells one other s t cuts others found planned e f files first disk disk_now logs key cause.DiskFault same query known own cut at le is = rises_from first disk disk_now le is
 stop_moved tells one other s t cuts others found planned e f files first disk disk_now logs key cause.Full same query known own cut at le is =
     (is.0, full_by is.1, (λ o. more_by s t cuts others found planned (same (known o)) cut (is.2 (own o))), sym at ∙ is.3)
