@@ -28,6 +28,7 @@ use Rattle.ssq_terms.specs.Setting.{AreFound}
 use Rattle.ssq_terms.specs.Laws.{due_at}
 use Rattle.ssq_logs.specs.declared.fault.LengthFault.{LengthFault}
 use Rattle.ssq_logs.specs.Asked.{AreAsked, IsStopped}
+use Rattle.ssq_logs.specs.Parts.{IsFew}
 use Rattle.ssq_board.specs.Rounds.{HasCap}
 use Rattle.ssq_desk.specs.declared.told.Told.{Told}
 use Rattle.ssq_drive.specs.Rounds.{IsMeant}
@@ -90,13 +91,14 @@ abbrev pub KeepsStanding : {D : Type 0} → Type 0 → (D → History) → (befo
 KeepsStanding tells history before after = tells → (job : Job) → LeavesNow (history before) (Stands job) → LeavesOnly (history before) (history after) (Stands job)
 
 module _ {L : Type 0} where
-  -- it is given this query, these parts, and what is asked
+  -- it is given this query, these parts, of which no stream has more than 64, and what is asked
   pub record IsOf (bound : Bound) (ask : Ask) (counts : List ℕ) (g : Given L) : Type 0 where
     pub bound_is : g.bound ≡ bound
     pub asks_are : g.asks ≡ ask.partitions
     pub cap_is : g.cap ≡ ask.cap
     pub rounds_are : g.rounds ≡ ask.rounds
     pub counts_are : g.counts ≡ counts
+    pub few : All IsFew g.counts
 
   -- the job that is wanted, with so many lines found of each part
   abbrev pub sought_in : Given L → List ℕ → Sought

@@ -6,7 +6,7 @@ use Rattle.ssq_core.specs.Standing.{Stands}
 use Rattle.ssq_core.specs.Sound.{StandsOrEmpty}
 use Rattle.ssq_shape.specs.declared.bound.Bound.{Bound}
 use Rattle.ssq_shape.specs.declared.bound.Stream.{Stream}
-use Rattle.ssq_course.specs.Setting.{Setting, job_of}
+use Rattle.ssq_course.specs.Setting.{job_of}
 use Rattle.ssq_drive.specs.Rounds.{CanBegin, HaveIndexes, first_of}
 use Rattle.ssq_logs.specs.Opened.{parts_of, AreLogsOf}
 use Rattle.ssq_logs.specs.Parts.{counts_in, lines_in}
@@ -51,7 +51,7 @@ is_given : (g : Over) → (c : After-begin-run g)
     → IsGivenBy g.I.Inputs.tells g.I.Log.Log.lines g.I.Log.Log.available g.I.Log.Log.answers g.I.Log.Log.faults (g.I.Inputs.held c.args.inputs.now) (g.I.Inputs.available c.args.inputs.now) c.args.bound.now c.args.ask (g.D.Disk.history c.args.disk) (g.D.Disk.faults c.args.disk) (g.O.Output.content c.args.out.now) (given_by g c)
 is_given g c = record {
   counts_are = counts_are g c;
-  of = record { bound_is = refl; asks_are = refl; cap_is = refl; rounds_are = refl; counts_are = refl };
+  of = record { bound_is = refl; asks_are = refl; cap_is = refl; rounds_are = refl; counts_are = refl; few = c.in-Ok.ensures.few };
   start_is = refl;
   faults_are = refl;
   written_is = refl;
@@ -72,9 +72,9 @@ loop-run-init g c = record {
   way = (
     given_by g (goal.at.loop-run-init g c).After-begin-run,
     is_given g (goal.at.loop-run-init g c).After-begin-run,
-    c.begin-run.ensures.begun (given_by g (goal.at.loop-run-init g c).After-begin-run) (record { bound_is = refl; asks_are = refl; cap_is = refl; rounds_are = refl; counts_are = sym c.as_slice-2.ensures }) refl refl refl,
+    c.begin-run.ensures.begun (given_by g (goal.at.loop-run-init g c).After-begin-run) (record { bound_is = refl; asks_are = refl; cap_is = refl; rounds_are = refl; counts_are = sym c.as_slice-2.ensures; few = c.in-Ok.ensures.few }) refl refl refl,
     subst (λ (text : List ℕ). IfErr c.begin-run.result (λ left. IsOver (g.D.Disk.tells × g.I.Log.Log.tells) g.I.Log.Log.lines g.I.Log.Log.available g.I.Log.Log.answers g.I.Log.Log.faults (given_by g (goal.at.loop-run-init g c).After-begin-run) (g.D.Disk.history left.disk) (g.D.Disk.faults left.disk) left.logs.items g.O.Output.tells (g.O.Output.content c.args.out.now) text left.end)) (sym c.new-text.ensures.items)
-        (c.begin-run.ensures.over (given_by g (goal.at.loop-run-init g c).After-begin-run) (record { bound_is = refl; asks_are = refl; cap_is = refl; rounds_are = refl; counts_are = sym c.as_slice-2.ensures }) refl refl refl),
+        (c.begin-run.ensures.over (given_by g (goal.at.loop-run-init g c).After-begin-run) (record { bound_is = refl; asks_are = refl; cap_is = refl; rounds_are = refl; counts_are = sym c.as_slice-2.ensures; few = c.in-Ok.ensures.few }) refl refl refl),
   );
 }
 
