@@ -204,17 +204,17 @@ entries_go r closing es c n cuts runs last quiet undue =
 abbrev pub StopsOpen : Core → Type 0
 StopsOpen c = (f : Cause) → c.front.stop ≡ Some f → is_of_epoch f ≡ true → is_open c ≡ true
 
-none_some : (f : Cause) → None ≡ Some f → ⊥
+pub none_some : (f : Cause) → None ≡ Some f → ⊥
 none_some f is = cc
 
-same_cause : (f g : Cause) → Some f ≡ Some g → f ≡ g
+pub same_cause : (f g : Cause) → Some f ≡ Some g → f ≡ g
 same_cause f g is = ap (λ (o : Option Cause). or f o) is
   where
     or : Cause → Option Cause → Cause
     or f None = f
     or f (Some x) = x
 
-not_of_epoch : (r : Scope) (c : Core) (f : Cause) → HasCause r c f → is_of_epoch f ≡ true → ⊥
+pub not_of_epoch : (r : Scope) (c : Core) (f : Cause) → HasCause r c f → is_of_epoch f ≡ true → ⊥
 not_of_epoch r c (cause.BadLine s p o x) has own = has
 not_of_epoch r c (cause.Overflow s p o) has own = has
 not_of_epoch r c cause.KeyOverflow has own = has

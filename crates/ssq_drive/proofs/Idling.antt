@@ -1,5 +1,5 @@
 -- A round for which there was no memory, and the logs that come back.
-use Rattle.std.proofs.Common.{◌≡◌, ◌+◌, ℕ, List, [], ◌∷◌, length, None, Ok, Err, refl, sym, ap, subst, arith}
+use Rattle.std.proofs.Common.{◌≡◌, ◌+◌, ◌∙◌, ℕ, true≢false, List, [], ◌∷◌, length, None, Ok, Err, refl, sym, ap, subst, arith}
 use Rattle.std.specs.Global.{Vec}
 use Rattle.std.specs.List.{AllZip}
 use Rattle.std.proofs.lemmas.List.{append-nil}
@@ -13,7 +13,7 @@ use Rattle.ssq_course.specs.Setting.{Setting, job_of}
 use Rattle.ssq_open.specs.declared.wanted.Opened.{Opened}
 use Rattle.ssq_open.specs.Epochs.{cut_of}
 use Rattle.ssq_board.specs.declared.front.Cause.TheVariants as cause
-use Rattle.ssq_board.specs.Core.{Scope}
+use Rattle.ssq_board.specs.Core.{Scope, is_of_epoch}
 use Rattle.ssq_promise.specs.Run.{AreTrueTo, NothingIsRun, OpenedIsTrue, as_planned}
 use Rattle.ssq_desk.specs.declared.told.Told.{Told}
 use Rattle.ssq_drive.specs.Good.{HasGoodLines}
@@ -54,6 +54,7 @@ idle tells nothing at_rest s n r found h disk logs can = record {
         (subst (λ (cuts : Cuts). LeavesNow h (AreTrueTo ((job_of s).course cuts) own.found_is.desk.planned)) own.found_is.cuts (at_rest (job_of s) h own.found_is.desk own.settled own.found_is.is)));
     due = λ e from less. absurd (omega (arith, from, less));
     meant = All-nil (IsMeant s (cut_of (first_of found) found.plans));
+    planned_stays = λ why stops own. absurd (true≢false (sym own ∙ ap (λ (w : Stopped). is_of_epoch w.cause) (sym (ap (why_or starved) stops))));
     settled = λ next ends. absurd (err_ok starved next ends);
     found = λ next ends. absurd (err_ok starved next ends);
     kept = λ next ends. absurd (err_ok starved next ends);

@@ -12,6 +12,7 @@ pub mod Counting
 pub mod Fitting
 pub mod Saying
 pub mod Stopping
+pub mod Planned
 pub mod Idling
 pub mod Ending
 pub mod Goods

@@ -4,7 +4,9 @@ use Rattle.std.specs.Global.{Vec}
 use Rattle.std.specs.List.{list_any}
 use Rattle.std.proofs.lemmas.Bool.{ltb-false}
 use Rattle.std.proofs.lemmas.List.{length-map}
-use Rattle.ssq_outside.specs.History.{History, files_now}
+use Rattle.ssq_outside.specs.declared.name.Name.TheVariants as name
+use Rattle.ssq_outside.specs.Files.{Files}
+use Rattle.ssq_outside.specs.History.{History, LeavesNow, files_now}
 use Rattle.ssq_meaning.specs.Meaning.{Line, Values}
 use Rattle.ssq_meaning.specs.Epochs.{fault, of_key}
 use Rattle.ssq_meaning.specs.Times.{Delay, delays}
@@ -13,6 +15,7 @@ use Rattle.ssq_plans.specs.declared.plan.Plan.{Plan}
 use Rattle.ssq_plans.specs.declared.meta.Meta.{Meta}
 use Rattle.ssq_plans.specs.declared.seen.SeenBy.{SeenBy}
 use Rattle.ssq_core.specs.Course.{Cuts, Ends, Job, AreSameUpTo}
+use Rattle.ssq_core.specs.Standing.{IsThere}
 use Rattle.ssq_step.specs.Indexing.{Timed}
 use Rattle.ssq_store.specs.declared.store.Store.{Store}
 use Rattle.ssq_course.specs.Setting.{Setting, parts_in, first_ends, job_of, keeping_of, closes, state_at}
@@ -66,6 +69,7 @@ use Rattle.ssq_drive.proofs.Idling.{err_ok}
 use Rattle.ssq_drive.proofs.KeepLemmas.{old_all}
 use Rattle.ssq_drive.proofs.Needing.{commits_are, files_kept, needs_none}
 use Rattle.ssq_drive.proofs.Dues.{found_due, never_due}
+use Rattle.ssq_drive.proofs.Planned.{stop_planned}
 use Rattle.ssq_drive.proofs.Parting.{begin_as_counted, start_is}
 use Rattle.ssq_drive.proofs.Saying.{told_are, told_from, told_good, told_meant, same_from}
 use Rattle.ssq_drive.proofs.Starting.{planned_found}
@@ -254,6 +258,14 @@ module _ {D L : Type 0} (stores logs : Type 0) (lines : L → List Line) (histor
 
   nothing : (f : Cause) → None ≡ Some f → ⊥
   nothing f is = cc
+
+  -- where it stopped for a cause of its epoch, this one is planned, and the first that is not told
+  open_there : (why : Stopped) → end ≡ Err why → is_of_epoch why.cause ≡ true → (c.front.committed ≡ found.committed + length told) × (found.committed + length told < c.front.planned)
+  open_there why stops own =
+      let opened = stops_open r es begun c runs (λ f none. absurd (nothing f none)) why.cause (closed.stopped why stops).0 own in
+      let less = nat_lt-less c.front.committed c.front.planned opened in
+      let all = sym (all_open opened) ∙ sym acknowledged in
+      (all, omega (arith, less, all))
 
   -- where it is over no upkeep is left
   needs_here : (own : Opened × Vec (List Timed)) → end ≡ Ok own → NeedsNoUpkeep (keeping_of s.job.bound.shape found.meta.partitions) found.meta.partitions own.0.committed own.0.names
@@ -447,6 +459,9 @@ module _ {D L : Type 0} (stores logs : Type 0) (lines : L → List Line) (histor
           (laws.files t (job_of s) r (due_at s) has_terms.0 o.start es (first_state o r (history disk)) (state (history now) c shelf cuts) begins_on leads_on (cut_of (first_of found) plans) fits.are));
       due = λ e ge less. (let count = fits.count in let start = planned in more_by plans fits e (omega (arith, less, count)) (went_on.come e (omega (arith, ge, start)) (omega (arith, less, count))));
       meant = told_meant owned s cuts (first_of found) plans c.front.planned fits.are c.front.committed sound.before went_on.faultless is_owned told found.committed closed.telling.each (let a = acknowledged in let b = below in omega (arith, a, b));
+      planned_stays = λ why stops own.
+          subst (λ (k : ℕ). LeavesNow (history now) (λ (image : Files). IsThere image (name.Plan k))) (open_there why stops own).0
+          (stop_planned (stores × logs) t (job_of s) r (due_at s) has_terms.0 o.start es (first_state o r (history disk)) (state (history now) c shelf cuts) begins_on leads_on why.cause (closed.stopped why stops).0 own);
       settled = λ next ends. (left next ends).settled;
       found = found_next;
       kept = λ next ends.
@@ -469,18 +484,11 @@ module _ {D L : Type 0} (stores logs : Type 0) (lines : L → List Line) (histor
         let was = closed.stopped why stops in
         let count = fits.count in
         subst (λ (n : ℕ). IsRoundStop (stores × logs) ours s (cut_of (first_of found) plans) r.available n (found.committed + length told) (files_now (history now)) (faults disk) (faults now) log_faults why.key why.cause) (sym count)
-        (stop_is (stores × logs) ours (HasDamaged stores logs history lines (did (first_shown lines round disk r) now es)) (files_now (history now)) s cuts (cut_of (first_of found) plans) r.available c.front.planned c.front.committed (found.committed + length told) why.key (faults disk) (faults now) log_faults r c why.cause fits.are open_there
+        (stop_is (stores × logs) ours (HasDamaged stores logs history lines (did (first_shown lines round disk r) now es)) (files_now (history now)) s cuts (cut_of (first_of found) plans) r.available c.front.planned c.front.committed (found.committed + length told) why.key (faults disk) (faults now) log_faults r c why.cause fits.are (open_there why stops)
         (stop_on (stores × logs) owned ours s cuts c.front.committed why.key why.cause (λ u. is_owned laws u.0 u.1) was.1)
         (subst (λ (x : Option Cause). IfSome x (StopsFor (HasDamaged stores logs history lines (did (first_shown lines round disk r) now es)) r c (faults disk) (faults now))) was.0 closed.why) (λ same. closed.faulty (was.0 ∙ ap Some same)) full
         (λ q bad. ((λ u. bad.0 (is_owned laws u.0 u.1)), λ t. subst (λ (n : ℕ). IsDamagedIn (keeping_of s.job.bound.shape s.job.partitions) n (files_now (history now)) q) (sym acknowledged) (bad.1 t.0))))
       where
-        open_there : is_of_epoch why.cause ≡ true → (c.front.committed ≡ found.committed + length told) × (found.committed + length told < c.front.planned)
-        open_there own =
-            let opened = stops_open r es begun c runs (λ f none. absurd (nothing f none)) why.cause (closed.stopped why stops).0 own in
-            let less = nat_lt-less c.front.committed c.front.planned opened in
-            let all = sym (all_open opened) ∙ sym acknowledged in
-            (all, omega (arith, less, all))
-
         behind_or : (b : Bool) → closes s.job.bound ≡ b → IsFull r c → (is_behind (cut_of (first_of found) plans c.front.planned) r.available ≡ true) ⊎ (closes s.job.bound ≡ true)
         behind_or true is limit = inr is
         behind_or false is limit = inl (ap (λ (ends : Ends). is_behind ends r.available) (fits.are c.front.planned (omega arith) ∙ go.last) ∙ first_of_two (is_behind c.ends r.available) c.front.due limit.3 (go.quiet is))

@@ -2,9 +2,10 @@
 use Rattle.std.specs.Prelude.{◌≡◌, ◌≢◌, ◌⊎◌, ◌<◌, ◌≤◌, ◌+◌, ◌^◌, ◌++◌, ℕ, Bool, false, true, List, [], ◌∷◌, length, map, get_or, slice_get, All, IsSomeAnd, Option, Some, None, Result, Ok, Err, sum}
 use Rattle.std.specs.Option.{ForSome}
 use Rattle.std.specs.Global.{Vec}
+use Rattle.ssq_outside.specs.declared.name.Name.TheVariants as name
 use Rattle.ssq_outside.specs.Faults.{Rises}
 use Rattle.ssq_outside.specs.Files.{Files}
-use Rattle.ssq_outside.specs.History.{History, files_now}
+use Rattle.ssq_outside.specs.History.{History, LeavesNow, files_now}
 use Rattle.ssq_time.specs.Time.{IsStampTime}
 use Rattle.ssq_shape.specs.declared.bound.Bound.{Bound}
 use Rattle.ssq_meaning.specs.Meaning.{Line, Values}
@@ -14,6 +15,7 @@ use Rattle.ssq_step.specs.Indexing.{Timed}
 use Rattle.ssq_plans.specs.declared.plan.Plan.{Plan}
 use Rattle.ssq_core.specs.Course.{Ends, Cuts, plan_of}
 use Rattle.ssq_core.specs.Settled.{IsSettledAs}
+use Rattle.ssq_core.specs.Standing.{IsThere}
 use Rattle.ssq_core.specs.Machine.{Desk, opened}
 use Rattle.ssq_course.specs.Setting.{Setting, parts_in, watermark_at, cut_of as offsets_of, cuts_of as offsets, job_of, keeping_of, closes}
 use Rattle.ssq_open.specs.declared.wanted.Lens.{Lens}
@@ -26,7 +28,7 @@ use Rattle.ssq_open.specs.Stores.{AreStores}
 use Rattle.ssq_store.specs.declared.store.Store.{Store}
 use Rattle.ssq_board.specs.declared.front.Cause.{Cause}
 use Rattle.ssq_board.specs.declared.front.Cause.TheVariants as cause
-use Rattle.ssq_board.specs.Core.{Scope, next_ends, is_behind}
+use Rattle.ssq_board.specs.Core.{Scope, next_ends, is_behind, is_of_epoch}
 use Rattle.ssq_board.specs.Rounds.{HasCap}
 use Rattle.ssq_board.specs.Shelf.{AreListed}
 use Rattle.ssq_terms.specs.Setting.{CanRun, IsSettingOf, AreFound, found_lines}
@@ -184,13 +186,14 @@ pub record RoundWent (tells owned : Type 0) (s : Setting) (logs_count : ℕ) (r 
 
 -- What a round does that begins on the job's own settled files: it is a run of the machine; its plans are those of the files that it leaves,
 -- or, once all are done with, the publishing of one more failed; each epoch that it planned was to come; each that it tells has the rows of the
--- meaning; and where it is over, its files are settled, what the next round begins on is what they hold, upkeep is done by them, and no epoch
--- without lines is due.
+-- meaning; where it stopped for a fault of the epoch that runs, each image has the plan of that epoch; and where it is over, its files are settled,
+-- what the next round begins on is what they hold, upkeep is done by them, and no epoch without lines is due.
 pub record RoundRan (tells : Type 0) (s : Setting) (r : Scope) (start now : History) (cuts : Cuts) (before committed planned : ℕ) (told : List Told) (end : Ended) : Type 0 where
   pub run : WasRun tells (job_of s) start now (map (λ t. t.epoch) told)
   pub files : AreFilesOf (job_of s) r.cap (due_at s) (λ lines. AreFound lines s.lines) (committed + length told ≡ planned) cuts planned now
   pub due : (e : ℕ) → before ≤ e → e < planned → IsMore s cuts r.available e
   pub meant : All (IsMeant s cuts) told
+  pub planned_stays : (why : Stopped) → end ≡ Err why → is_of_epoch why.cause ≡ true → LeavesNow now (λ image. IsThere image (name.Plan (committed + length told)))
   pub settled : (next : Opened × Vec (List Timed)) → end ≡ Ok next → IsSettledAs now (files_now now)
   pub found : (next : Opened × Vec (List Timed)) → end ≡ Ok next → IsFoundOf s (files_now now) next.0
   pub kept : (next : Opened × Vec (List Timed)) → end ≡ Ok next → IsKeptUp (keeping_of s.job.bound.shape s.job.partitions) s.job.partitions (files_now now)

@@ -1,16 +1,18 @@
 -- A round that is over leads from one moment between rounds to the next.
-use Rattle.std.proofs.Common.{◌≡◌, ◌<◌, ◌≤◌, ◌+◌, ◌++◌, ◌∙◌, ℕ, suc, Bool, true, false, List, [], ◌∷◌, length, map, take, All, Option, Some, None, Ok, Err, inl, inr, refl, sym, ap, subst, arith, append_assoc}
+use Rattle.std.proofs.Common.{◌≡◌, ◌<◌, ◌≤◌, ◌+◌, ◌++◌, ◌∙◌, ℕ, suc, Bool, true, false, true≢false, List, [], ◌∷◌, length, map, take, All, Option, Some, None, Ok, Err, inl, inr, refl, sym, ap, subst, arith, append_assoc}
 use Rattle.std.proofs.lemmas.List.{length-append}
 use Rattle.std.proofs.lemmas.List.Elements.{All-nil, All-cons, All-head, All-tail, All-append}
 use Rattle.std.specs.List.{sum_by}
 use Rattle.std.specs.Prelude.{◌⊎◌, IsSomeAnd}
 use Rattle.std.specs.Global.{Vec}
 use Rattle.ssq_outside.specs.Files.{Files}
-use Rattle.ssq_outside.specs.History.{History, files_now}
+use Rattle.ssq_outside.specs.declared.name.Name.TheVariants as name
+use Rattle.ssq_outside.specs.History.{History, LeavesNow, files_now}
 use Rattle.ssq_outside.specs.Logs.{Line}
 use Rattle.ssq_plans.specs.declared.plan.Plan.{Plan}
 use Rattle.ssq_core.specs.Course.{Ends as EndsOf, Cuts, Job}
 use Rattle.ssq_core.specs.Settled.{IsSettledAs}
+use Rattle.ssq_core.specs.Standing.{IsThere}
 use Rattle.ssq_course.specs.Setting.{Setting, parts_in, closes, keeping_of, cut_of as offsets_of, cuts_of as offsets, job_of}
 use Rattle.ssq_meaning.specs.Epochs.{fault_between}
 use Rattle.ssq_shape.specs.declared.bound.Bound.{Bound}
@@ -25,7 +27,7 @@ use Rattle.ssq_outside.specs.Faults.{Rises}
 use Rattle.ssq_meaning.specs.Feeding.{LineAt}
 use Rattle.ssq_meaning.specs.Meaning.{Values}
 use Rattle.ssq_step.specs.Indexing.{Timed}
-use Rattle.ssq_board.specs.Core.{next_ends, is_behind}
+use Rattle.ssq_board.specs.Core.{next_ends, is_behind, is_of_epoch}
 use Rattle.ssq_board.specs.Rounds.{HasCap}
 use Rattle.ssq_open.specs.Looking.{begins}
 use Rattle.ssq_plans.specs.declared.meta.Meta.{Meta}
@@ -39,8 +41,9 @@ use Rattle.ssq_runner.specs.Lens.{lens_of}
 use Rattle.ssq_runner.specs.Rounds.{Round, AreNext, AreRounds, HaveAnswered, epochs_after}
 use Rattle.ssq_runner.specs.Told.{told_text}
 use Rattle.ssq_runner.specs.declared.fault.RunFault.{RunFault}
+use Rattle.ssq_runner.specs.Faults.{fault_by}
 use Rattle.ssq_runner.specs.Putting.{IsUntold, stopped as untold_stopped, failed, starved as untold_starved}
-use Rattle.ssq_runner.specs.Ending.{Begun, HasRounds, IsOwnRun, Owned, HaveRun, Ends, IsEnd, AreGood, WereAsked, stopped, unput, starved, cuts_in, setting_in}
+use Rattle.ssq_runner.specs.Ending.{Begun, HasRounds, IsOwnRun, Owned, HaveRun, Ends, IsEnd, AreGood, WereAsked, stopped, unput, starved, cuts_in, is_epoch_fault, setting_in}
 use Rattle.ssq_runner.specs.Going.{SoFar, IsReady, Fits, scope_of}
 use Rattle.ssq_runner.proofs.Cutting.{CutsHang, cut_more, rounds_same, told_more, told_then, text_then, never_ok}
 use Rattle.ssq_runner.proofs.Answering.{back_after, same_lines, returned_count, returned_at}
@@ -197,6 +200,19 @@ stop_moved tells one other s t cuts others found planned e f files first disk di
     full_by (inr closing) = inr (subst (λ (query : Bound). closes query ≡ true) query closing)
 stop_moved tells one other s t cuts others found planned e f files first disk disk_now logs key cause.NoMemory same query known own cut at le is = tt
 
+-- a fault of a round is one of an epoch where its cause is
+epoch_fault_by : (why : Cause) (key : Option Values) → is_epoch_fault (Err (fault_by why key)) ≡ is_of_epoch why
+epoch_fault_by (cause.BadLine a b o r) key = refl
+epoch_fault_by (cause.Overflow a b o) key = refl
+epoch_fault_by cause.KeyOverflow None = refl
+epoch_fault_by cause.KeyOverflow (Some key) = refl
+epoch_fault_by cause.LogFault key = refl
+epoch_fault_by (cause.LogShort a b m k) key = refl
+epoch_fault_by (cause.Damaged q) key = refl
+epoch_fault_by cause.DiskFault key = refl
+epoch_fault_by cause.Full key = refl
+epoch_fault_by cause.NoMemory key = refl
+
 -- what can begin again over the logs that came back can be run on
 pub fits_over : {L : Type 0} (tells : Type 0) (lines : L → List Line) (available : L → ℕ) (answers : L → List ℕ) (faults : L → ℕ) (bound : Bound) (cap : Option ℕ) (logs news : List L) (found : List ℕ) (of next : Opened)
     → length logs ≤ 128 → AreReturned tells lines available answers faults logs news → CanBegin bound (length logs) next (scope_of of found cap) → Fits bound cap (length news) next
@@ -330,6 +346,7 @@ module _ {L : Type 0} (tells : Type 0) (lines : L → List Line) (available : L 
     is_end = end_of untold;
     good = good_on;
     ran = have_on;
+    planned_stays = λ own t of. planned_so own t of untold;
     left = λ ok. absurd (never_ok why ok);
   }
     where
@@ -347,6 +364,15 @@ module _ {L : Type 0} (tells : Type 0) (lines : L → List Line) (available : L 
       stop_at stop is_err =
           stop_moved tells (tells × IsOwn (setting_for lines b.bound opened logs) (scope_of opened found b.cap) start opened) (Owned tells lines available answers faults b) (setting_for lines b.bound opened logs) (setting_in tells lines available answers faults b) (cut_of (first_of opened) round.plans) (cuts_in b round.plans) found (length round.plans) (opened.committed + length told) (b.found.committed + length all_told)
           (files_now now) b.disk_faults disk disk_now (sum_by faults news) stop.key stop.cause same_s refl (λ own. own.0) (λ own. (own.0, own_at own.0 own.1)) cuts_same (let e = length-append so.told told in let c = so.committed in omega (arith, e, c)) so.disk_counted (round.went.stopped stop is_err)
+
+      -- it is a fault of an epoch only where the round stopped for that
+      planned_so : is_epoch_fault (Err why) ≡ true → tells → IsOwnRun tells lines available answers faults b → IsUntold OutTells written written_now before after text told end why → LeavesNow now (λ (image : Files). IsThere image (name.Plan (b.found.committed + length all_told)))
+      planned_so own t of (untold_stopped stop is_err is_why same left) =
+          let number : opened.committed + length told ≡ b.found.committed + length all_told = (let e = length-append so.told told in let c = so.committed in omega (arith, e, c)) in
+          subst (λ (k : ℕ). LeavesNow now (λ (image : Files). IsThere image (name.Plan k))) number
+          ((ran_on t of).planned_stays stop is_err (sym (epoch_fault_by stop.cause stop.key) ∙ sym (ap (λ (w : RunFault). is_epoch_fault (Err w)) is_why) ∙ own))
+      planned_so own t of (failed is_why risen front empty) = absurd (true≢false (sym own ∙ ap (λ (w : RunFault). is_epoch_fault (Err w)) is_why))
+      planned_so own t of (untold_starved is_why first rest split same left) = absurd (true≢false (sym own ∙ ap (λ (w : RunFault). is_epoch_fault (Err w)) is_why))
 
       end_of : IsUntold OutTells written written_now before after text told end why → IsEnd tells lines available answers faults b now disk_now news OutTells written_now round.plans so.done all_told text (Err why)
       end_of (untold_stopped stop is_err is_why same left) =

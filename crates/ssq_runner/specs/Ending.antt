@@ -1,15 +1,18 @@
 -- What rounds leave, and how they end.
-use Rattle.std.specs.Prelude.{◌≡◌, ◌⊎◌, ◌<◌, ◌≤◌, ◌+◌, ◌++◌, ℕ, List, [], ◌∷◌, length, map, take, All, Option, Result, Ok, Err}
+use Rattle.std.specs.Prelude.{◌≡◌, ◌⊎◌, ◌<◌, ◌≤◌, ◌+◌, ◌++◌, ℕ, Bool, false, true, List, [], ◌∷◌, length, map, take, All, Option, Result, Ok, Err}
 use Rattle.std.specs.List.{sum_by}
 use mathlib.Core.Option.{some}
 use lib.ListN.{get_elem?}
-use Rattle.ssq_outside.specs.History.{History, files_now}
+use Rattle.ssq_outside.specs.declared.name.Name.TheVariants as name
+use Rattle.ssq_outside.specs.History.{History, LeavesNow, files_now}
 use Rattle.ssq_outside.specs.Logs.{Line}
 use Rattle.ssq_shape.specs.declared.bound.Bound.{Bound}
 use Rattle.ssq_plans.specs.declared.plan.Plan.{Plan}
 use Rattle.ssq_core.specs.Course.{Cuts}
 use Rattle.ssq_core.specs.Settled.{IsSettledAs}
+use Rattle.ssq_core.specs.Standing.{IsThere}
 use Rattle.ssq_course.specs.Setting.{Setting, job_of, keeping_of}
+use Rattle.ssq_board.specs.Core.{is_of_epoch}
 use Rattle.ssq_open.specs.declared.wanted.Opened.{Opened}
 use Rattle.ssq_open.specs.Epochs.{cut_of}
 use Rattle.ssq_promise.specs.Run.{WasRun, AreFilesOf}
@@ -29,6 +32,12 @@ use Rattle.ssq_runner.specs.Faults.{fault_of}
 use Rattle.ssq_runner.specs.Lens.{lens_of}
 use Rattle.ssq_runner.specs.Rounds.{Round, AreNext, AreRounds, BeginWith, HaveAnswered, epochs_after}
 use Rattle.ssq_runner.specs.Told.{told_text, done_line}
+
+-- a run ended for a fault of an epoch, of a line or of a key
+abbrev pub is_epoch_fault : Result (Unit {0}) RunFault → Bool
+is_epoch_fault (Err (fault.Round why)) = is_of_epoch why
+is_epoch_fault (Err (fault.KeyOverflow key)) = true
+is_epoch_fault _ = false
 
 -- What rounds begin on: the query, what was opened, the cap of their epochs, how many are asked for, the disk as it was opened and how
 -- often it had failed, the logs before they were asked, what they answered as it was opened, and what was written before.
@@ -157,5 +166,7 @@ module _ {L : Type 0} (tells : Type 0) (lines : L → List Line) (available : L 
     -- where disk and logs tell what they hold, whatever the files say
     pub good : tells → AreGood b plans told
     pub ran : tells → IsOwnRun b → HaveRun b now plans told
+    -- where a fault of an epoch ended it, each image has the plan of that epoch, which is the first that was not told
+    pub planned_stays : is_epoch_fault end ≡ true → tells → IsOwnRun b → LeavesNow now (λ image. IsThere image (name.Plan (b.found.committed + length told)))
     -- where all are over
     pub left : end ≡ Ok tt → tells → IsOwnRun b → AreLeft b now plans
