@@ -175,8 +175,8 @@ fn asked_of(alloc: Global, bound: &Bound, lens: &Lens) -> Result<Asked, AllocErr
 /// planned (`LogShort`); and the state of each partition that keeps state can be loaded after the committed epochs. `Damaged` names the
 /// first file in this order, within a step by number, and of the states by partition, within one as a store loads it.
 ///
-/// A query keeps state in all partitions where it groups, and else in none. Each plan and commit is read once, in order, and so is each file
-/// that a state is loaded from; no sink file and no log is read.
+/// A query that groups, deduplicates or joins keeps state in all partitions, and any other in none. Each plan and commit is read once, in order,
+/// and so is each file that a state is loaded from; no sink file and no log is read.
 pub fn open<D: Disk>(
     alloc: Global,
     disk: &mut D,

@@ -44,11 +44,12 @@ pub struct Opened {
     pub plans: Sequence<Plan>,
     /// How many epochs are committed.
     pub committed: u32,
-    /// The greatest event times over the committed epochs, one for each watermarked stream; nothing where no epoch is committed.
+    /// The greatest event times over the committed epochs, one for each watermarked stream, in order. Where no epoch is committed an opening has
+    /// no line, and a round gives on a line without a time for each.
     pub seen: Sequence<SeenBy>,
     /// The stores of the partitions that keep state, in order, each with the partition's state after the committed epochs. A look loads
     /// none.
     pub stores: Sequence<Store>,
-    /// The names of the files of the state, in order.
+    /// The names of the files of the state that are there, in no order that counts.
     pub names: Sequence<Name>,
 }

@@ -177,8 +177,8 @@ fn show_all<S: Stage>(
 }
 
 /// Shows the rows of the task's partition, and takes what it keeps to the epoch's version. A query that keeps nothing shows each row as it is.
-/// One that groups or deduplicates leaves late rows out, steps its operator, and seals what changes as the delta of the epoch's version. No key
-/// is read but those that have rows and those that close, or of groups in Complete all, since all are shown.
+/// Any other leaves late rows out, steps its operator, and seals what changes as the delta of the epoch's version. No key is read but those that
+/// have rows (of a join those that begin alike) and those that close, or of groups in Complete all, since all are shown.
 ///
 /// The store is at the version before the epoch's, a state can hold what the rows hold, and the query can have its windows. It fails on a
 /// key whose result is outside of its type's range, on a file aside that failed, or where memory ran out: what the store keeps is then as it was,
