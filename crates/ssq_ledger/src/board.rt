@@ -52,24 +52,6 @@ impl Board {
         self.ends.as_slice()
     }
 
-    pub(crate) fn maps(&self) -> &[Place]
-        ensures { result.now ≡ self.now.maps }
-    {
-        self.maps.as_slice()
-    }
-
-    pub(crate) fn reduces(&self) -> &[Place]
-        ensures { result.now ≡ self.now.reduces }
-    {
-        self.reduces.as_slice()
-    }
-
-    pub(crate) fn outs(&self) -> &[Place]
-        ensures { result.now ≡ self.now.outs }
-    {
-        self.outs.as_slice()
-    }
-
     fn tasks(&self, kind: Kind) -> &[Place]
         ensures { result.now ≡ tasks_of kind self.now }
     {

@@ -15,7 +15,7 @@ use crate::board::Board;
 use crate::calls::room_of;
 use crate::names::{Names, snapshot_below};
 use crate::scope::{Scope, Start};
-use ssq_board::{Entry, Front, Place, Ready};
+use ssq_board::{Entry, Front, Ready};
 use ssq_outside::{Disk, DiskError, Name, Stage};
 use ssq_plans::PartEnd;
 use std::alloc::{AllocError, Global};
@@ -205,55 +205,6 @@ impl<D: Disk, O: Opening> Ledger<D, O> {
         ensures { result.now ≡ self.now.core.ends }
     {
         self.board.ends()
-    }
-
-    /// How many partitions there are.
-    pub fn partitions(&self) -> u32
-        ensures { result ≡ self.now.scope.partitions }
-    {
-        self.scope.partitions
-    }
-
-    /// How many lines of a part an epoch may take.
-    pub fn cap(&self) -> Option<u64>
-        ensures { result ≡ self.now.scope.cap }
-    {
-        self.scope.cap
-    }
-
-    /// What was done so far.
-    pub fn history(&self) -> &[Entry]
-        ensures { result.now ≡ self.now.history }
-    {
-        self.entries.as_slice()
-    }
-
-    /// How many lines each part was found to have.
-    pub fn available(&self) -> &[u64]
-        ensures { result.now ≡ self.now.scope.available }
-    {
-        self.scope.available.as_slice()
-    }
-
-    /// Where the map tasks are.
-    pub fn maps(&self) -> &[Place]
-        ensures { result.now ≡ self.now.core.maps }
-    {
-        self.board.maps()
-    }
-
-    /// Where the reduce tasks are.
-    pub fn reduces(&self) -> &[Place]
-        ensures { result.now ≡ self.now.core.reduces }
-    {
-        self.board.reduces()
-    }
-
-    /// Where the out task is.
-    pub fn outs(&self) -> &[Place]
-        ensures { result.now ≡ self.now.core.outs }
-    {
-        self.board.outs()
     }
 }
 

@@ -5,13 +5,12 @@ ghost use Rattle.ssq_meaning.specs.Fit.{IsFitRow};
 ghost use Rattle.ssq_meaning.specs.Windows.{HasWindows};
 ghost use Rattle.ssq_store.specs.Loaded.{count_to};
 ghost use Rattle.ssq_task.specs.declared.partition.ReduceFault.TheVariants.{NoMemory};
-ghost use Rattle.ssq_task.specs.Reducing.{IsIndexed, IsReduced, values_of};
+ghost use Rattle.ssq_task.specs.Reducing.{IsReduced, values_of};
 ghost use Rattle.ssq_task.specs.Lists.{joined_vecs};
 
 use crate::version::next_version;
 use ssq_meaning::{FedRow, View};
 use ssq_outside::Stage;
-use ssq_shape::Bound;
 use ssq_step::{Closing, StepFault};
 use ssq_store::{SealFault, Store};
 use ssq_value::Row;
@@ -78,19 +77,6 @@ pub struct Held {
     pub store: Store,
     /// Its keys by the times at which they close: those of what the store keeps.
     pub closing: Closing,
-}
-
-impl Held {
-    /// What a partition goes on from, by its store: the index beside it is made by a walk over what the store keeps. The query can have its
-    /// windows.
-    pub fn of(alloc: Global, bound: &Bound, store: Store) -> Result<Held, AllocError>
-        requires { HasWindows bound.now }
-        ensures store { IfOk result (λ held. held.store ≡ store) }
-        ensures indexed { IfOk result (IsIndexed bound.now) }
-    {
-        let closing = Closing::of(alloc, bound, &store.state)?;
-        Ok(Held { store, closing })
-    }
 }
 
 /// What a partition of a query that keeps state brings to an epoch.
