@@ -34,11 +34,11 @@ use Rattle.ssq_ledger.specs.Shown.{LeadsHere, Shown, cause_of, cuts_of, did, she
 use Rattle.ssq_ledger.specs.Upkept.{IsClaimed, IsTaken}
 use Rattle.ssq_desk.specs.declared.desk.Load.{Load}
 use Rattle.ssq_desk.specs.declared.round.Round.{Round}
-use Rattle.ssq_desk.specs.declared.upkeep.Kept.{Kept}
+use Rattle.ssq_desk.specs.declared.upkeep.UpkeepDone.{UpkeepDone}
 use Rattle.ssq_desk.specs.declared.upkeep.UpkeepTask.{UpkeepTask}
 use Rattle.ssq_desk.specs.Contents.{IsStopOf, keeping_in}
 use Rattle.ssq_desk.specs.Round.{Owns, setting_of}
-use Rattle.ssq_desk.specs.Upkeep.{AreReadFor, FailsFor, IsKept, IsMalformed, IsMissing, IsNextDue, IsUnread, IsUpkeepOf, IsUpkeepTask, NeverDamaged, cause_of_snapshot}
+use Rattle.ssq_desk.specs.Upkeep.{AreReadFor, FailsFor, IsMalformed, IsMissing, IsNextDue, IsUnread, IsUpkeepDone, IsUpkeepOf, IsUpkeepTask, NeverDamaged, cause_of_snapshot}
 use Rattle.ssq_desk.specs.Whole.{IsWhole, opening_in}
 use Rattle.ssq_desk.proofs.Entries.{claimed_whole, fails_no_log, fails_so, fails_stop, memory_whole, unmade_whole}
 use Rattle.ssq_desk.proofs.Leaving.{keeping_most}
@@ -237,8 +237,8 @@ floor_least : (v : ℕ) (below : Option ℕ) → IfSome below (λ b. b < v) → 
 floor_least v None older = omega arith
 floor_least v (Some b) older = omega (arith, older)
 
-module _ {S F : Type 0} (owned stages : Type 0) (written : S → List ℕ) (sealed : F → List ℕ) (faults : S → ℕ) (course : Course) (task : UpkeepTask S) (kept : Kept S F)
-    (of : IsUpkeepTask owned written faults course task) (is : IsKept stages written sealed faults task kept) (few : kept.partition < 2 ^ 32) (fits : kept.version + 1 ≤ 2 ^ 32) where
+module _ {S F : Type 0} (owned stages : Type 0) (written : S → List ℕ) (sealed : F → List ℕ) (faults : S → ℕ) (course : Course) (task : UpkeepTask S) (done : UpkeepDone S F)
+    (of : IsUpkeepTask owned written faults course task) (is : IsUpkeepDone stages written sealed faults task done) (few : done.partition < 2 ^ 32) (fits : done.version + 1 ≤ 2 ^ 32) where
   abbrev files : Files
   files = files_in task.files.items
 
@@ -256,7 +256,7 @@ module _ {S F : Type 0} (owned stages : Type 0) (written : S → List ℕ) (seal
 
   -- the sealed file is the true one
   pub snapshot_right : ((files : Files) (partition count : ℕ) (one other : State) → partition < 2 ^ 32 → count ≤ 2 ^ 32 → Makes files partition count one → Makes files partition count other → one ≡ other)
-      → (owned → stages) → (file : F) → kept.outcome ≡ Ok file → owned → sealed file ≡ truth course (name.Snapshot kept.partition kept.version)
+      → (owned → stages) → (file : F) → done.outcome ≡ Ok file → owned → sealed file ≡ truth course (name.Snapshot done.partition done.version)
   snapshot_right one tell file out t =
       let own = of.state t in
       let made : HasText file = subst (λ (o : Result F (S × SnapshotFault)). IfOk o HasText) out (is.sealed_is (tell t)) in
@@ -265,9 +265,9 @@ module _ {S F : Type 0} (owned stages : Type 0) (written : S → List ℕ) (seal
       ∙ ap (snapshot_text task.partition task.version) (one files task.partition (task.version + 1) made.0 own.0 few_task fits_task made.1 own.1)
       ∙ sym own.2
       ∙ ap (λ (n : ℕ). truth course (name.Snapshot n task.version)) (sym is.partition_is)
-      ∙ ap (λ (n : ℕ). truth course (name.Snapshot kept.partition n)) (sym is.version_is)
+      ∙ ap (λ (n : ℕ). truth course (name.Snapshot done.partition n)) (sym is.version_is)
 
-  module _ (sound : (files : Files) (partition count : ℕ) (state : State) (at : Name) → partition < 2 ^ 32 → count ≤ 2 ^ 32 → Makes files partition count state → IsDamaged files partition count at → ⊥) (stage : S) (fault : SnapshotFault) (out : kept.outcome ≡ Err (stage, fault)) where
+  module _ (sound : (files : Files) (partition count : ℕ) (state : State) (at : Name) → partition < 2 ^ 32 → count ≤ 2 ^ 32 → Makes files partition count state → IsDamaged files partition count at → ⊥) (stage : S) (fault : SnapshotFault) (out : done.outcome ≡ Err (stage, fault)) where
     why : SnapshotFails files task.partition (task.version + 1) fault
     why = subst (λ (o : Result F (S × SnapshotFault)). IfErr o Fails) out is.damaged
 

@@ -24,7 +24,7 @@ use Rattle.ssq_ledger.specs.Names.{IsNewestBelow}
 use Rattle.ssq_ledger.specs.Shown.{Opening, Shown, HasRisen, cuts_of, did, shelf_of}
 use Rattle.ssq_ledger.specs.Upkept.{IsTaken, NoneIsDue}
 use Rattle.ssq_desk.specs.declared.upkeep.UpkeepTask.{UpkeepTask}
-use Rattle.ssq_desk.specs.declared.upkeep.Kept.{Kept}
+use Rattle.ssq_desk.specs.declared.upkeep.UpkeepDone.{UpkeepDone}
 use Rattle.ssq_desk.specs.declared.round.Round.{Round}
 use Rattle.ssq_desk.specs.Round.{Owns, setting_of}
 use Rattle.ssq_desk.specs.Whole.{opening_in}
@@ -73,15 +73,15 @@ abbrev pub AreReadFor : {S : Type 0} → Type 0 → Files → List Name → Upke
 AreReadFor tells files names task = IsReadBy tells files task.partition task.version names task.files.items
 
 -- What came of it: the sealed file has the state that the files make; or one of these is damaged, the file aside failed, or memory ran out.
-pub record IsKept {S F : Type 0} (tells : Type 0) (written : S → List ℕ) (sealed : F → List ℕ) (faults : S → ℕ) (task : UpkeepTask S) (kept : Kept S F) : Type 0 where
-  pub partition_is : kept.partition ≡ task.partition
-  pub version_is : kept.version ≡ task.version
-  pub made : OnOk kept.outcome ((state : State) × Makes (files_in task.files.items) task.partition (task.version + 1) state)
-  pub sealed_is : tells → IfOk kept.outcome (λ file. (state : State) × Makes (files_in task.files.items) task.partition (task.version + 1) state
+pub record IsUpkeepDone {S F : Type 0} (tells : Type 0) (written : S → List ℕ) (sealed : F → List ℕ) (faults : S → ℕ) (task : UpkeepTask S) (done : UpkeepDone S F) : Type 0 where
+  pub partition_is : done.partition ≡ task.partition
+  pub version_is : done.version ≡ task.version
+  pub made : OnOk done.outcome ((state : State) × Makes (files_in task.files.items) task.partition (task.version + 1) state)
+  pub sealed_is : tells → IfOk done.outcome (λ file. (state : State) × Makes (files_in task.files.items) task.partition (task.version + 1) state
       × (sealed file ≡ written task.stage ++ snapshot_text task.partition task.version state))
-  pub damaged : IfErr kept.outcome (λ failed. SnapshotFails (files_in task.files.items) task.partition (task.version + 1) failed.1)
-  pub risen : IfErr kept.outcome (λ failed. SnapshotRises failed.1 (faults task.stage) (faults failed.0))
-  pub unfailed : IfErr kept.outcome (λ failed. IsApart failed.1 (faults task.stage) (faults failed.0))
+  pub damaged : IfErr done.outcome (λ failed. SnapshotFails (files_in task.files.items) task.partition (task.version + 1) failed.1)
+  pub risen : IfErr done.outcome (λ failed. SnapshotRises failed.1 (faults task.stage) (faults failed.0))
+  pub unfailed : IfErr done.outcome (λ failed. IsApart failed.1 (faults task.stage) (faults failed.0))
 
 -- why no snapshot was made
 abbrev pub cause_of_snapshot : SnapshotFault → Cause

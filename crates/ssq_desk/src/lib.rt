@@ -33,4 +33,4 @@ pub use desk::Desk;
 pub use round::Round;
 pub use task::Task;
 pub use told::Told;
-pub use upkeep::{Kept, UpkeepTask, keep};
+pub use upkeep::{UpkeepDone, UpkeepTask, keep};

@@ -36,13 +36,13 @@ impl<'a, D: Disk, L: Log> Desk<'a, D, L> {
         logs: Vec<L>,
         opened: Opened,
         closings: Vec<Closing>,
-        seen: Vec<u64>,
+        available: Vec<u64>,
         cap: Option<u64>,
     ) -> Result<Desk<'a, D, L>, (D, Vec<L>)>
-        requires round { IsRound (setting_of L.lines (record { view = view; opened = opened; logs = logs })) opened (record { partitions = view.partitions; available = seen.items; cap = cap }) }
-        requires long { L.tells → (i : ℕ) (own : _) → get_elem? logs.items i ≡ some own → get_or seen.items i 0 ≤ L.available own }
+        requires round { IsRound (setting_of L.lines (record { view = view; opened = opened; logs = logs })) opened (record { partitions = view.partitions; available = available.items; cap = cap }) }
+        requires long { L.tells → (i : ℕ) (own : _) → get_elem? logs.items i ≡ some own → get_or available.items i 0 ≤ L.available own }
         requires indexes { AreIndexes (Unit {0}) view.bound.now opened.stores closings.items }
-        ensures made { IfOk result (λ desk. BeginsAs (D.faults disk) (D.faults desk.disk) (first_shown L.lines (record { view = view.entry; opened = opened; logs = logs }) disk (record { partitions = view.entry.partitions; available = seen.items; cap = cap })) desk) }
+        ensures made { IfOk result (λ desk. BeginsAs (D.faults disk) (D.faults desk.disk) (first_shown L.lines (record { view = view.entry; opened = opened; logs = logs }) disk (record { partitions = view.entry.partitions; available = available.items; cap = cap })) desk) }
         ensures same { D.tells → IfOk result (λ desk. D.history desk.disk ≡ D.history disk) }
         ensures counted { IfOk result (λ desk. D.faults disk ≤ D.faults desk.disk) }
         ensures back { IfErr result (λ back. (back.0 ≡ disk) × (back.1 ≡ logs)) }
@@ -61,7 +61,7 @@ impl<'a, D: Disk, L: Log> Desk<'a, D, L> {
         let Round { opened, logs, .. } = round;
         let scope = Scope {
             partitions: view.partitions,
-            available: seen,
+            available,
             cap,
         };
         let Made {

@@ -17,7 +17,7 @@ ghost use Rattle.ssq_ledger.specs.Upkept.{IsDropped, IsTaken};
 ghost use Rattle.ssq_desk.specs.Contents.{keeping_in};
 ghost use Rattle.ssq_desk.specs.Round.{Owns, setting_of};
 ghost use Rattle.ssq_desk.specs.Whole.{opening_in};
-ghost use Rattle.ssq_desk.specs.Upkeep.{AreReadFor, FailsFor, IsHandedOut, IsKept, IsMalformed, IsMissing, IsNotFound, IsReadBy, IsTakenBack, IsUpkeepOf, IsUnread, NeverDamaged, cause_of_snapshot, deltas_from, files_for, names_in};
+ghost use Rattle.ssq_desk.specs.Upkeep.{AreReadFor, FailsFor, IsHandedOut, IsMalformed, IsMissing, IsNotFound, IsReadBy, IsTakenBack, IsUnread, IsUpkeepDone, IsUpkeepOf, NeverDamaged, cause_of_snapshot, deltas_from, files_for, names_in};
 
 use crate::desk::Desk;
 use crate::make::cause_of;
@@ -40,17 +40,17 @@ pub struct UpkeepTask<S> {
     pub stage: S,
 }
 
-/// What came of it: the sealed file, or why it was not made, with the file aside.
+/// What came of a snapshot that was to be made: the sealed file, or why it was not made, with the file aside.
 #[derive(Drop)]
-pub struct Kept<S: Stage> {
+pub struct UpkeepDone<S: Stage> {
     pub partition: u32,
     pub version: u32,
     pub outcome: Result<S::Sealed, (S, SnapshotFault)>,
 }
 
 /// Makes a snapshot.
-pub fn keep<S: Stage>(alloc: Global, task: UpkeepTask<S>) -> Kept<S>
-    ensures { IsKept S.tells S.written S.sealed S.faults task result }
+pub fn keep<S: Stage>(alloc: Global, task: UpkeepTask<S>) -> UpkeepDone<S>
+    ensures { IsUpkeepDone S.tells S.written S.sealed S.faults task result }
 {
     let UpkeepTask {
         partition,
@@ -58,7 +58,7 @@ pub fn keep<S: Stage>(alloc: Global, task: UpkeepTask<S>) -> Kept<S>
         files,
         stage,
     } = task;
-    Kept {
+    UpkeepDone {
         partition,
         version,
         outcome: snapshot(alloc, partition, version, files.as_slice(), stage),
@@ -276,21 +276,21 @@ impl<'a, D: Disk, L: Log> Desk<'a, D, L> {
 
     /// Takes a snapshot back that was handed out, and publishes it. After a Stop the file is dropped. Where it was not made, or the publishing fails, the
     /// desk is stopped, and that cause is the answer: one of its files is malformed, the disk failed, or memory ran out. It takes no memory.
-    pub fn report_snapshot(&mut self, kept: Kept<D::Stage>) -> Result<(), Cause>
-        requires claimed { is_among (shelf_of (opening_in L.lines) self.old).claimed (name.Snapshot kept.partition kept.version) ≡ true }
-        requires of { (task : _) × IsUpkeepOf D.tells L.tells D.history L.lines D.Stage.written D.Stage.faults self.old task × IsKept D.Stage.tells D.Stage.written D.Stage.sealed D.Stage.faults task kept }
-        ensures taken { IsTakenBack self.old self.new kept.partition kept.version kept.outcome result (Rises (D.faults self.old.disk) (D.faults self.new.disk)) }
-        ensures cause { (task : _) → IsUpkeepOf D.tells L.tells D.history L.lines D.Stage.written D.Stage.faults self.old task → IsKept D.Stage.tells D.Stage.written D.Stage.sealed D.Stage.faults task kept →
+    pub fn report_snapshot(&mut self, done: UpkeepDone<D::Stage>) -> Result<(), Cause>
+        requires claimed { is_among (shelf_of (opening_in L.lines) self.old).claimed (name.Snapshot done.partition done.version) ≡ true }
+        requires of { (task : _) × IsUpkeepOf D.tells L.tells D.history L.lines D.Stage.written D.Stage.faults self.old task × IsUpkeepDone D.Stage.tells D.Stage.written D.Stage.sealed D.Stage.faults task done }
+        ensures taken { IsTakenBack self.old self.new done.partition done.version done.outcome result (Rises (D.faults self.old.disk) (D.faults self.new.disk)) }
+        ensures cause { (task : _) → IsUpkeepOf D.tells L.tells D.history L.lines D.Stage.written D.Stage.faults self.old task → IsUpkeepDone D.Stage.tells D.Stage.written D.Stage.sealed D.Stage.faults task done →
             IfErr result (FailsFor (IsMalformed (Owns D.tells L.tells D.history L.lines self.old) task.files.items task.partition task.version) (D.faults self.old.disk) (D.faults self.new.disk)) }
-        ensures same { D.tells → IfErr kept.outcome (λ failed. D.history self.new.disk ≡ D.history self.old.disk) }
+        ensures same { D.tells → IfErr done.outcome (λ failed. D.history self.new.disk ≡ D.history self.old.disk) }
         ensures counted { D.faults self.old.disk ≤ D.faults self.new.disk }
     {
         loading_is_exact();
-        let Kept {
+        let UpkeepDone {
             partition,
             version,
             outcome,
-        } = kept;
+        } = done;
         numbers_fit(partition, version);
         match outcome {
             Ok(file) => self.take_snapshot(partition, version, file),

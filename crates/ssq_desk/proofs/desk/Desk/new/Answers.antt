@@ -30,7 +30,7 @@ abbrev round_by : (g : Over) → View → Opened → Vec g.row.L.Denot → Round
 round_by g view opened logs = record { view = view; opened = opened; logs = logs }
 
 abbrev scope_by : View → Vec ℕ → Option ℕ → Scope
-scope_by view seen most = record { partitions = view.partitions; available = seen.items; cap = most }
+scope_by view found most = record { partitions = view.partitions; available = found.items; cap = most }
 
 made_of : (g : Over) (c : In-Ok g) → IsMadeOf c.args.view.bound.now c.args.view.partitions c.args.opened (length c.args.logs.items) c.in-Ok.made
 made_of g c = subst (λ (n : ℕ). IsMadeOf c.args.view.bound.now c.args.view.partitions c.args.opened n c.in-Ok.made) (ap length c.as_slice.ensures.value) c.in-Ok.ensures
@@ -41,12 +41,12 @@ start_made g c = start_is g.L.Log.lines (round_by g c.args.view c.args.opened c.
 
 -- the desk is whole, whatever came of the files of its tasks
 begun : (g : Over) (c : After-into_vec-3 g) → IsMadeOf c.args.view.bound.now c.args.view.partitions c.args.opened (length c.args.logs.items) c.in-Ok.made
-    → BeginsAs (g.D.Disk.faults c.in-Ok-new.ledger.disk) (g.D.Disk.faults c.begin_out-out.new.ledger.disk) (first_shown g.L.Log.lines (round_by g c.args.view c.args.opened c.args.logs) c.args.disk (scope_by c.args.view c.args.seen c.args.cap)) c.begin_out-out.new.ledger
+    → BeginsAs (g.D.Disk.faults c.in-Ok-new.ledger.disk) (g.D.Disk.faults c.begin_out-out.new.ledger.disk) (first_shown g.L.Log.lines (round_by g c.args.view c.args.opened c.args.logs) c.args.disk (scope_by c.args.view c.args.available c.args.cap)) c.begin_out-out.new.ledger
     × IsWhole g.D.Disk.tells g.L.Log.tells g.D.Disk.history g.L.Log.lines g.L.Log.available g.L.Log.answers g.L.Log.faults g.D.Stage.Stage.written g.D.Stage.Stage.sealed c.begin_out-out.new.ledger
     (load_of (round_by g c.args.view c.args.opened c.args.logs) c.in-Ok.made c.into_vec-3.result c.with_logs-sources.result (with_items c.in-Ok.made.room.shares c.begin_out-out.new.shares) c.with_closings-held.result c.begin_out-out.result)
 begun g c m =
     let round = round_by g c.args.view c.args.opened c.args.logs in
-    let r = scope_by c.args.view c.args.seen c.args.cap in
+    let r = scope_by c.args.view c.args.available c.args.cap in
     let held = c.with_closings-held.ensures ∙ ap (λ (stores : List Store). held_of stores c.args.closings.items) c.into_vec-2.ensures in
     let sources = c.with_logs-sources.ensures ∙ (λ i. sources_of (c.as_slice-2.ensures.value i) (c.as_slice-3.ensures.value i) c.args.logs.items) in
     let old_is = c.in-Ok-new.ensures.made ∙ ap (λ (x : Round g.row.L.Denot). first_shown g.L.Log.lines x c.args.disk r) c.of-opening.ensures in
@@ -64,7 +64,7 @@ make_first-requires-clause-streams g c =
 
 pub new-requires-clause-start : goal.new-requires-clause-start
 new-requires-clause-start g c =
-    subst (λ (x : Start). IsStart (scope_by c.args.view c.args.seen c.args.cap) x) (sym (start_made g (goal.at.new-requires-clause-start g c).In-Ok)) (begins_well _ _ _ c.requires.round)
+    subst (λ (x : Start). IsStart (scope_by c.args.view c.args.available c.args.cap) x) (sym (start_made g (goal.at.new-requires-clause-start g c).In-Ok)) (begins_well _ _ _ c.requires.round)
 
 pub new-requires-clause-opened : goal.new-requires-clause-opened
 new-requires-clause-opened g c = start_made g (goal.at.new-requires-clause-opened g c).In-Ok ∙ ap (λ (x : Round g.row.L.Denot). (opening_in g.L.Log.lines x).start) (sym c.of-opening.ensures)
@@ -72,7 +72,7 @@ new-requires-clause-opened g c = start_made g (goal.at.new-requires-clause-opene
 pub new-requires-clause-terms : goal.new-requires-clause-terms
 new-requires-clause-terms g c =
     let round = round_by g c.args.view c.args.opened c.args.logs in
-    let r = scope_by c.args.view c.args.seen c.args.cap in
+    let r = scope_by c.args.view c.args.available c.args.cap in
     subst (λ (x : Round g.row.L.Denot). g.D.Disk.tells × OwnsRound g.L.Log.tells g.L.Log.lines x r (g.D.Disk.history c.args.disk) → Terms (job_of (setting_of g.L.Log.lines x)) r (due_at (setting_of g.L.Log.lines x))) (sym c.of-opening.ensures)
     (terms (g.D.Disk.tells × OwnsRound g.L.Log.tells g.L.Log.lines round r (g.D.Disk.history c.args.disk)) (setting_of g.L.Log.lines round) round.opened r c.requires.round (λ t. t.1.1) c.tasks_have_terms.ensures.terms)
 
@@ -104,5 +104,5 @@ invariant_of-result g c = (let at = goal.at.invariant_of-result g c in (begun g 
 pub returns-clause-made : goal.returns-clause-made
 returns-clause-made g c =
     let at = goal.at.returns-clause-made g c in
-    subst (λ (n : ℕ). BeginsAs n (g.D.Disk.faults c.begin_out-out.new.ledger.disk) (first_shown g.L.Log.lines (round_by g c.args.view c.args.opened c.args.logs) c.args.disk (scope_by c.args.view c.args.seen c.args.cap)) c.begin_out-out.new.ledger)
+    subst (λ (n : ℕ). BeginsAs n (g.D.Disk.faults c.begin_out-out.new.ledger.disk) (first_shown g.L.Log.lines (round_by g c.args.view c.args.opened c.args.logs) c.args.disk (scope_by c.args.view c.args.available c.args.cap)) c.begin_out-out.new.ledger)
     (ap (λ (x : Shown g.row.D.Denot (Round g.row.L.Denot)). g.D.Disk.faults x.disk) c.in-Ok-new.ensures.made) (begun g at.After-into_vec-3 (made_of g at.In-Ok)).0
