@@ -1,14 +1,16 @@
 -- The newest snapshot in a list, and what is due by it.
-use Rattle.std.proofs.Common.{◌≡◌, ◌<◌, ◌≤◌, ◌+◌, ◌%◌, ◌==◌, ◌&&◌, ◌∙◌, ℕ, Bool, true, false, List, Option, Some, None, refl, sym, subst, inl, inr, arith, rules, true≢false}
+use Rattle.std.proofs.Common.{◌≡◌, ◌<◌, ◌≤◌, ◌+◌, ◌%◌, ◌==◌, ◌&&◌, ◌∙◌, ℕ, Bool, true, false, List, [], length, get_or, replicate, Option, Some, None, refl, sym, subst, inl, inr, arith, rules, true≢false}
 use Rattle.std.specs.Prelude.{MatchOption, nat_lt, if◌then◌else◌}
-use Rattle.std.proofs.lemmas.Bool.{cases_lt}
+use Rattle.std.proofs.lemmas.Bool.{cases_eq, cases_lt}
 use Rattle.std.proofs.lemmas.Bool.Decides.{nat_tests}
+use Rattle.std.proofs.lemmas.List.{get_or-replicate, get_or-set_other, get_or-set_same, length-replicate, length-set}
+use Rattle.std.proofs.Math.ListN.{set}
 use Rattle.ssq_outside.specs.declared.name.Name.{Name}
 use Rattle.ssq_outside.specs.declared.name.Name.TheVariants as name
 use Rattle.ssq_outside.specs.Files.{same_name}
 use Rattle.ssq_upkeep.specs.Upkeep.{is_among, is_up_to, IsDue, IsNext}
-use Rattle.ssq_upkeep.specs.Steps.{IsNewest, HasNone, later, IsFloor, HasNoFloor, IsBare, IsFirstBare}
-use Rattle.ssq_upkeep.proofs.Among.{Grows, same_among, still_among, new_among, old_or_new, version_is}
+use Rattle.ssq_upkeep.specs.Steps.{AreFloors, AreNewest, IsNewest, HasNone, later, IsFloor, HasNoFloor, IsBare, IsFirstBare}
+use Rattle.ssq_upkeep.proofs.Among.{Grows, same_among, still_among, new_among, old_or_new, snapshot_is, version_is}
 
 -- what was found among the names so far
 abbrev pub IsFound : List Name → ℕ → ℕ → Option ℕ → Type 0
@@ -68,6 +70,30 @@ of_another p q v s other = other_partition p q v s other
 pub too_new : (p q v s highest : ℕ) → highest < v → s ≤ highest → same_name (name.Snapshot q v) (name.Snapshot p s) ≡ false
 too_new p q v s highest above less = other_version p q v s (omega (arith, above, less))
 
+-- ---- of each of the first partitions
+
+-- the next name is no snapshot that counts
+pub not_counted_each : (old new : List Name) (n : Name) (highest : ℕ) (found : List (Option ℕ)) → Grows old new n → ((p s : ℕ) → p < length found → s ≤ highest → same_name n (name.Snapshot p s) ≡ false)
+    → AreNewest old highest found → AreNewest new highest found
+not_counted_each old new n highest found more other are = λ p within. not_counted old new n p highest (get_or found p None) more (λ s. other p s within) (are p within)
+
+-- it is one
+pub counted_each : (old new : List Name) (q v highest : ℕ) (found : List (Option ℕ)) → Grows old new (name.Snapshot q v) → q < length found → v ≤ highest
+    → AreNewest old highest found → AreNewest new highest (set found q (Some (later (get_or found q None) v)))
+counted_each old new q v highest found more within low are = λ p within'.
+    (let here : p < length found = subst (λ n. p < n) (length-set found q (Some (later (get_or found q None) v))) within' in
+    elim (cases_eq p q) [
+      | inl same ↦ subst (λ n. IsFound new n highest (get_or (set found q (Some (later (get_or found q None) v))) n None)) (sym same)
+          (subst (IsFound new q highest) (sym (get_or-set_same found q (Some (later (get_or found q None) v)) None within))
+          (counted old new q q v highest (get_or found q None) more (snapshot_is q q v refl) low (are q within)))
+      | inr other ↦ subst (IsFound new p highest) (sym (get_or-set_other found q p (Some (later (get_or found q None) v)) None other))
+          (not_counted old new (name.Snapshot q v) p highest (get_or found p None) more (λ s less. of_another p q v s (λ is. other (sym is))) (are p here))
+    ])
+
+-- of no names there is none
+pub newest_of_none : (highest count : ℕ) → AreNewest [] highest (replicate count None)
+newest_of_none highest count = λ p within. subst (IsFound [] p highest) (sym (get_or-replicate count p None None (subst (λ n. p < n) (length-replicate count None) within))) (λ s less. refl)
+
 -- ---- what is 20 below the last acknowledged epoch
 
 pub floor_from : (settled : List Name) (p last highest : ℕ) (found : Option ℕ) → highest + 20 ≡ last → IsFound settled p highest found
@@ -78,6 +104,12 @@ floor_from settled p last highest (Some f) is found = record {
   there = found.there;
   newest = λ s old here. found.greatest s (omega (arith, is, old)) here;
 }
+
+-- before epoch 20 there is none
+pub no_floors : (settled : List Name) (last count : ℕ) → (20 ≤ last → ⊥) → AreFloors settled last (replicate count None)
+no_floors settled last count early = λ p within.
+    subst (λ (f : Option ℕ). MatchOption f (HasNoFloor settled p last) (IsFloor settled p last)) (sym (get_or-replicate count p None None (subst (λ n. p < n) (length-replicate count None) within)))
+    (λ v old. absurd (early (omega (arith, old))))
 
 pub up_to : (last e : ℕ) → is_up_to (Some last) e ≡ true → e ≤ last
 up_to last e is = grind (arith, nat_tests)

@@ -1,5 +1,5 @@
 -- What the small functions of upkeep answer.
-use Rattle.std.specs.Prelude.{◌≡◌, ◌≤◌, ◌+◌, ◌%◌, nat_lt, ℕ, Bool, true, false, List, Option, Some, None, if◌then◌else◌}
+use Rattle.std.specs.Prelude.{◌≡◌, ◌<◌, ◌≤◌, ◌+◌, ◌%◌, nat_lt, ℕ, Bool, true, false, List, length, get_or, Option, Some, None, MatchOption, if◌then◌else◌}
 use Rattle.ssq_outside.specs.declared.name.Name.{Name}
 use Rattle.ssq_outside.specs.declared.name.Name.TheVariants as name
 use Rattle.ssq_outside.specs.Files.{name_before}
@@ -15,6 +15,10 @@ pub record IsNewest (names : List Name) (partition highest version : ℕ) : Type
 abbrev pub HasNone : List Name → ℕ → ℕ → Type 0
 HasNone names partition highest = (version : ℕ) → version ≤ highest → is_among names (name.Snapshot partition version) ≡ false
 
+-- of each of the first partitions, as many as there are places
+abbrev pub AreNewest : List Name → ℕ → List (Option ℕ) → Type 0
+AreNewest names highest newest = (p : ℕ) → p < length newest → MatchOption (get_or newest p None) (HasNone names p highest) (IsNewest names p highest)
+
 -- the greater of two versions, where there are two
 abbrev pub later : Option ℕ → ℕ → ℕ
 later None version = version
@@ -29,6 +33,10 @@ pub record IsFloor (settled : List Name) (partition last version : ℕ) : Type 0
 -- there is none
 abbrev pub HasNoFloor : List Name → ℕ → ℕ → Type 0
 HasNoFloor settled partition last = (version : ℕ) → version + 20 ≤ last → is_among settled (name.Snapshot partition version) ≡ false
+
+-- of each of the first partitions, as many as there are places
+abbrev pub AreFloors : List Name → ℕ → List (Option ℕ) → Type 0
+AreFloors settled last floors = (p : ℕ) → p < length floors → MatchOption (get_or floors p None) (HasNoFloor settled p last) (IsFloor settled p last)
 
 -- One version in ten, of those from one to another, has no snapshot in the list.
 pub record IsBare (names : List Name) (partition from last version : ℕ) : Type 0 where

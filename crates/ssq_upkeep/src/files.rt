@@ -3,13 +3,13 @@
 ghost use Rattle.std.specs.Prelude.{◌≡◌, ◌↔◌, ◌++◌, true, Some, IsTrue, MatchOption};
 ghost use Rattle.ssq_outside.specs.declared.name.Name.{Name as NameOf};
 ghost use Rattle.ssq_upkeep.specs.Upkeep.{MayGo, is_sure, is_of, Goes, IsLeast};
-ghost use Rattle.ssq_upkeep.specs.Steps.{is_less, lesser};
+ghost use Rattle.ssq_upkeep.specs.Steps.{AreFloors, is_less, lesser};
 
-use crate::newest::floor;
+use crate::newest::{floor_in, floors};
 use ssq_outside::Name;
 
 /// The least name that may go of the first so many partitions, by the names that were there at the last sync of names, those that came
-/// since, and the last acknowledged epoch.
+/// since, and the last acknowledged epoch. It walks over the names twice, where there are at most 64 partitions, and takes no memory.
 pub fn may_go(settled: &[Name], news: &[Name], partitions: u32, last: Option<u32>) -> Option<Name>
     ensures { MatchOption result ((q : NameOf) → Goes (settled.now ++ news.now) settled.now partitions last q → ⊥) (IsLeast (settled.now ++ news.now) settled.now partitions last) }
 {
@@ -19,8 +19,9 @@ pub fn may_go(settled: &[Name], news: &[Name], partitions: u32, last: Option<u32
 fn least_in(settled: &[Name], news: &[Name], partitions: u32, last: u32) -> Option<Name>
     ensures { MatchOption result ((q : NameOf) → Goes (settled.now ++ news.now) settled.now partitions (Some last) q → ⊥) (IsLeast (settled.now ++ news.now) settled.now partitions (Some last)) }
 {
-    let old = least_to(settled, settled, partitions, last);
-    let new = least_to(news, settled, partitions, last);
+    let floors = floors(settled, last);
+    let old = least_to(settled, &floors, settled, partitions, last);
+    let new = least_to(news, &floors, settled, partitions, last);
     lesser(old, new)
 }
 
@@ -34,12 +35,19 @@ fn lesser(one: Option<Name>, other: Option<Name>) -> Option<Name>
     }
 }
 
-fn least_to(names: &[Name], settled: &[Name], partitions: u32, last: u32) -> Option<Name>
+fn least_to(
+    names: &[Name],
+    floors: &[Option<u32>],
+    settled: &[Name],
+    partitions: u32,
+    last: u32,
+) -> Option<Name>
+    requires { AreFloors settled.now last floors.now }
     ensures { MatchOption result ((q : NameOf) → Goes names.now settled.now partitions (Some last) q → ⊥) (IsLeast names.now settled.now partitions (Some last)) }
 {
     let mut least = None;
     for name in names {
-        if is_less(*name, least) && goes(*name, settled, partitions, last) {
+        if is_less(*name, least) && goes(*name, floors, settled, partitions, last) {
             least = Some(*name);
         }
     }
@@ -47,18 +55,19 @@ fn least_to(names: &[Name], settled: &[Name], partitions: u32, last: u32) -> Opt
 }
 
 /// Whether the settled snapshots let a file go.
-fn goes(name: Name, settled: &[Name], partitions: u32, last: u32) -> bool
+fn goes(name: Name, floors: &[Option<u32>], settled: &[Name], partitions: u32, last: u32) -> bool
+    requires { AreFloors settled.now last floors.now }
     ensures { IsTrue result ↔ ((is_of partitions name ≡ true) × MayGo (is_sure settled.now (Some last)) name) }
 {
     match name {
         Name::Delta(partition, version) if partition < partitions => {
-            match floor(settled, partition, last) {
+            match floor_in(floors, settled, partition, last) {
                 Some(floor) => version <= floor,
                 None => false,
             }
         }
         Name::Snapshot(partition, version) if partition < partitions => {
-            match floor(settled, partition, last) {
+            match floor_in(floors, settled, partition, last) {
                 Some(floor) => version < floor,
                 None => false,
             }
