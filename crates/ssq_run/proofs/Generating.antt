@@ -451,5 +451,4 @@ gen_bad bound number count files (sink.Damaged at) so hold showable bad =
     let table = hold s so.cuts so.n so.n files bad.m showable (length-map bound.streams (λ (stream : Stream). (made_held number count).parts stream.source)) so.stands bad.counted in
     absurd (bad.first.bad (record { rows = rows_in_order s so.cuts bad.first.e; is = table.each bad.first.e bad.first.below }))
 gen_bad bound number count files sink.DiskFault so hold showable bad = out_of_memory refl refl
-gen_bad bound number count files sink.OutFault so hold showable bad = out_of_memory refl refl
 gen_bad bound number count files sink.NoMemory so hold showable bad = out_of_memory refl refl

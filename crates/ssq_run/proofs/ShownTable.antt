@@ -9,9 +9,7 @@ use Rattle.ssq_bind.specs.Typed.{QueriesAreTyped}
 use Rattle.ssq_shape.specs.declared.bound.Bound.{Bound}
 use Rattle.ssq_shape.specs.Plain.{output_names}
 use Rattle.ssq_json.specs.Stored.{AreRows}
-use Rattle.ssq_sink.specs.declared.fault.SinkFault.{SinkFault}
-use Rattle.ssq_sink.specs.Fault.{TableEnd}
-use Rattle.ssq_sink.specs.Table.{output_kinds, reading}
+use Rattle.ssq_sink.specs.Table.{IsTable, output_kinds, reading}
 use Rattle.ssq_core.specs.Course.{Cuts}
 use Rattle.ssq_core.specs.Standing.{StandsAt}
 use Rattle.ssq_course.specs.Setting.{course_of}
@@ -23,11 +21,11 @@ use Rattle.ssq_run.specs.declared.stop.Stop.TheVariants.{Usage, Refused, BadLine
 use Rattle.ssq_run.specs.Going.{CanShow}
 use Rattle.ssq_run.specs.Program.{Given, Went, IsOutside, HasObeyed, has_told, has_shown, ProgramEnd, Wrote, whole, cut, cut_done, starved as ran_dry, line_in}
 use Rattle.ssq_run.specs.Queries.{read_of}
-use Rattle.ssq_run.specs.Shown.{HasWrittenTable, ShowEnd, denied, nothing_there, of_table, starved}
-use Rattle.ssq_run.specs.Stopping.{stop_of_table, status_in}
+use Rattle.ssq_run.specs.Shown.{HasWrittenTable, ShowEnd, broke_off, denied, nothing_there, spoilt, starved, unread, written}
+use Rattle.ssq_run.specs.Stopping.{status_in}
 use Rattle.ssq_run.proofs.Going.{ends_of}
 use Rattle.ssq_run.proofs.ShownKeys.{query_shows_keys}
-use Rattle.ssq_run.proofs.TableRows.{end_told, some_none}
+use Rattle.ssq_run.proofs.TableRows.{some_none}
 use Rattle.ssq_run.proofs.Tabling.{each_stream, showable}
 
 -- status 0 is that of no stop
@@ -51,10 +49,6 @@ no_stop (Some (FullParts stream)) is = absurd (omega (arith, is))
 no_stop (Some (FullLines stream part lines)) is = absurd (omega (arith, is))
 no_stop (Some FullEpochs) is = absurd (omega (arith, is))
 
-no_fault : (fault : Option SinkFault) → stop_of_table fault ≡ None → fault ≡ None
-no_fault None is = refl
-no_fault (Some why) is = absurd cc
-
 not_both : {A : Type 0} (o : Option A) (x : A) → o ≡ Some x → o ≡ None → ⊥
 not_both o x some none = cc
 
@@ -68,10 +62,9 @@ module _ {L : Type 0} (told tells : Type 0) (lines : L → List Line) (available
   shows_keys = query_shows_keys (read_of given.held can.file) can.bound can.setting.job.bound can.is can.of.query
 
   -- a table that was written whole
-  by_table : (shown before after : List ℕ) (fault : Option SinkFault) → after ≡ before ++ shown → TableEnd (reading can.setting.job.bound) can.setting.job.bound (files_now went.start) shown fault → fault ≡ None → Writes before after
-  by_table shown before after fault is end none =
+  by_table : (shown before after : List ℕ) → after ≡ before ++ shown → IsTable can.setting.job.bound (files_now went.start) shown → Writes before after
+  by_table shown before after is own =
       let query : Bound = can.setting.job.bound in
-      let own = end_told query (files_now went.start) shown fault none end in
       let able = showable given went.start can typed read in
       let each = each_stream given went.start can in
       let agrees = agree can.setting cuts planned committed (files_now went.start) own.epochs able shows_keys each at own.sinks in
@@ -96,14 +89,15 @@ module _ {L : Type 0} (told tells : Type 0) (lines : L → List Line) (available
   by_show : (shown before after : List ℕ) → after ≡ before ++ shown → ShowEnd can.setting.job.bound (files_now went.start) shown stop → stop ≡ None → Writes before after
   by_show shown before after is (nothing_there empty text done) none = absurd (some_none (files_now went.start name.Meta) (at.needed name.Meta refl) (empty name.Meta))
   by_show shown before after is (denied why denial text stops) none = absurd (not_both stop _ stops none)
-  by_show shown before after is (of_table here fault end same) none = by_table shown before after fault is end (no_fault fault (sym same ∙ none))
+  by_show shown before after is (spoilt here bad_at bad text stops) none = absurd (not_both stop _ stops none)
+  by_show shown before after is (unread here text stops) none = absurd (not_both stop _ stops none)
   by_show shown before after is (starved text memory) none = absurd (not_both stop _ memory none)
+  by_show shown before after is (written here own done) none = by_table shown before after is own
+  by_show shown before after is (broke_off here text own front stops) none = absurd (not_both stop _ stops none)
 
   -- nothing is left to be written, and the table was
   by_obeyed : HasObeyed told tells lines available answers faults given.held given.known can.bound OutTells went stop (asks_show can.file) → stop ≡ None → (went.text ≡ []) × Writes went.old went.written
-  by_obeyed (has_told what (has_shown file still back text so)) none =
-      let ended = so out_tells in
-      (text, by_show ended.0 went.old went.written ended.1 (subst (λ b. ShowEnd b (files_now went.start) ended.0 stop) (sym can.of.query) ended.2) none)
+  by_obeyed (has_told what (has_shown file still back text shown put end)) none = (text, by_show shown went.old went.written (put out_tells) (subst (λ b. ShowEnd b (files_now went.start) shown stop) (sym can.of.query) end) none)
 
   by_end : ProgramEnd told tells lines available answers faults given OutTells went stop → stop ≡ None → (went.text ≡ []) × Writes went.old went.written
   by_end end none = by (ends_of told tells lines available answers faults given OutTells went stop (asks_show can.file) can.bound can.asks can.is taken end)

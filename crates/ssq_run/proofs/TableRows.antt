@@ -1,6 +1,6 @@
 -- The table that sink files make, as rows.
-use Rattle.std.proofs.Common.{◌≡◌, ◌<◌, ◌+◌, ℕ, zero, suc, List, [], ◌++◌, length, Option, Some, None, sym, ap, subst, ◌∙◌, arith, inl, inr}
-use Rattle.std.specs.Prelude.{map, unwrap_or, IsSome}
+use Rattle.std.proofs.Common.{◌≡◌, ◌<◌, ℕ, zero, suc, List, length, Option, None, sym, ap, subst, ◌∙◌, arith, inl, inr}
+use Rattle.std.specs.Prelude.{map, IsSome}
 use Rattle.std.proofs.lemmas.Bool.{cases_lt}
 use Rattle.ssq_outside.specs.declared.name.Name.TheVariants as name
 use Rattle.ssq_outside.specs.declared.name.Name.{Name}
@@ -12,9 +12,8 @@ use Rattle.ssq_shape.specs.Plain.{output_names}
 use Rattle.ssq_json.specs.Stored.{AreRows}
 use Rattle.ssq_meaning.specs.Meaning.{Values}
 use Rattle.ssq_sink.specs.declared.fault.SinkFault.{SinkFault}
-use Rattle.ssq_sink.specs.declared.fault.SinkFault.TheVariants as sink
-use Rattle.ssq_sink.specs.Fault.{IfDamaged, IsOutside, TableEnd, broke_off, spoilt, unread, written}
-use Rattle.ssq_sink.specs.Table.{AreCounted, AreSinks, IsBadSink, output_kinds, reading, table_text}
+use Rattle.ssq_sink.specs.Fault.{IfDamaged}
+use Rattle.ssq_sink.specs.Table.{AreCounted, AreSinks, IsBadSink, IsTable, output_kinds, reading, table_text}
 use Rattle.ssq_tables.specs.Agreeing.{rows_read}
 use Rattle.ssq_tables.proofs.Reading.{table_rows}
 use Rattle.ssq_gen.specs.Counts.{IsRows, counts_line}
@@ -38,63 +37,26 @@ one_count files n m one other = elim (cases_lt n m) [
   | inr least ↦ elim (cases_lt m n) [ inl more ↦ absurd (not_fewer files m n other one more) | inr most ↦ omega (arith, least, most) ]
 ]
 
--- ---- what writing the table came to
+-- ---- a table that was read
 
-outside_only : (P : Name → Type 0) (why : SinkFault) → IsOutside why → IfDamaged P why
-outside_only P (sink.Damaged at) outer = absurd outer
-outside_only P sink.DiskFault outer = tt
-outside_only P sink.OutFault outer = tt
-outside_only P sink.NoMemory outer = tt
+-- of files that are as they were
+pub bad_before : (bound : Bound) (old new : History) (fault : SinkFault) → new ≡ old → IfDamaged (IsBadSink bound (files_now new)) fault → IfDamaged (IsBadSink bound (files_now old)) fault
+bad_before bound old new fault same bad = subst (λ h. IfDamaged (IsBadSink bound (files_now h)) fault) same bad
 
-same_fault : (one other : SinkFault) → Some one ≡ Some other → one ≡ other
-same_fault one other e = ap (λ (f : Option SinkFault). unwrap_or f one) e
-
-end_bad : (bound : Bound) (files : Files) (told : List ℕ) (fault : Option SinkFault) (why : SinkFault) → fault ≡ Some why → TableEnd (reading bound) bound files told fault → IfDamaged (IsBadSink bound files) why
-end_bad bound files told fault why is (written has none) = absurd cc
-end_bad bound files told fault why is (spoilt at bad untold some) = let D : SinkFault → Type 0 = IfDamaged (IsBadSink bound files) in subst D (same_fault (sink.Damaged at) why (sym some ∙ is)) bad
-end_bad bound files told fault why is (unread own outer untold some) = let D : SinkFault → Type 0 = IfDamaged (IsBadSink bound files) in subst D (same_fault own why (sym some ∙ is)) (outside_only (IsBadSink bound files) own outer)
-end_bad bound files told fault why is (broke_off own outer table has front some) = let D : SinkFault → Type 0 = IfDamaged (IsBadSink bound files) in subst D (same_fault own why (sym some ∙ is)) (outside_only (IsBadSink bound files) own outer)
-
--- the table that was written
-pub record IsWritten (bound : Bound) (files : Files) (text : List ℕ) : Type 0 where
-  pub epochs : List (List Values)
-  pub sinks : AreSinks bound files epochs
-  pub is : text ≡ table_text bound epochs
-
-pub end_told : (bound : Bound) (files : Files) (told : List ℕ) (fault : Option SinkFault) → fault ≡ None → TableEnd (reading bound) bound files told fault → IsWritten bound files told
-end_told bound files told fault none (written has is) = record { epochs = has.epochs; sinks = has.sinks; is = has.is }
-end_told bound files told fault none (spoilt at bad untold some) = absurd cc
-end_told bound files told fault none (unread own outer untold some) = absurd cc
-end_told bound files told fault none (broke_off own outer table has front some) = absurd cc
-
-abbrev Wrote : Bound → History → ℕ → (before after : List ℕ) → Option SinkFault → Type 0
-Wrote bound h count before after fault = AreCounted (files_now h) count → (told : List ℕ) × (after ≡ before ++ told) × TableEnd (reading bound) bound (files_now h) told fault
-
-pub table_bad : (bound : Bound) (old new : History) (count : ℕ) (before after : List ℕ) (fault : Option SinkFault) (why : SinkFault) → new ≡ old → AreCounted (files_now old) count → Wrote bound new count before after fault → fault ≡ Some why
-    → IfDamaged (IsBadSink bound (files_now old)) why
-table_bad bound old new count before after fault why same counted wrote is =
-    let W : History → Type 0 = λ h. Wrote bound h count before after fault in
-    end_bad bound (files_now old) (subst W same wrote counted).0 fault why is (subst W same wrote counted).2
-
-pub table_written : (bound : Bound) (old new : History) (count : ℕ) (before after : List ℕ) (fault : Option SinkFault) → new ≡ old → AreCounted (files_now old) count → Wrote bound new count before after fault → fault ≡ None → before ≡ []
-    → IsWritten bound (files_now old) after
-table_written bound old new count before after fault same counted wrote none empty =
-    let W : History → Type 0 = λ h. Wrote bound h count before after fault in
-    let own = subst W same wrote counted in
-    let so = end_told bound (files_now old) own.0 fault none own.2 in
-    record { epochs = so.epochs; sinks = so.sinks; is = own.1 ∙ ap (λ (b : List ℕ). b ++ own.0) empty ∙ so.is }
+pub table_before : (bound : Bound) (old new : History) (text : List ℕ) → new ≡ old → IsTable bound (files_now new) text → IsTable bound (files_now old) text
+table_before bound old new text same is = subst (λ h. IsTable bound (files_now h) text) same is
 
 -- its rows, under the heads of these outputs
-pub written_rows : (bound : Bound) (files : Files) (outputs : List Output) (text table : List ℕ) → outputs ≡ bound.outputs → table ≡ text → IsWritten bound files text → IsRows (map (λ output. output.name) outputs) (map (λ output. output.kind) outputs) table
-written_rows bound files outputs text table heads bytes so =
+pub rows_of_table : (bound : Bound) (files : Files) (outputs : List Output) (text table : List ℕ) → outputs ≡ bound.outputs → table ≡ text → IsTable bound files text → IsRows (map (λ output. output.name) outputs) (map (λ output. output.kind) outputs) table
+rows_of_table bound files outputs text table heads bytes so =
     let O : List Output → Type 0 = λ o. IsRows (map (λ output. output.name) o) (map (λ output. output.kind) o) table in
     let T : List ℕ → Type 0 = λ t. IsRows (output_names bound) (output_kinds bound) t in
     subst O (sym heads) (subst T (sym (bytes ∙ so.is)) (table_is_rows bound files so.epochs so.sinks))
 
 -- and it is told
-pub written_told : (bound : Bound) (files : Files) (lines count : ℕ) (text line : List ℕ) (so : IsWritten bound files text) → AreCounted files count → ((rows : List Values) → AreRows (output_names bound) (output_kinds bound) text rows → line ≡ counts_line lines count rows)
+pub table_told : (bound : Bound) (files : Files) (lines count : ℕ) (text line : List ℕ) (so : IsTable bound files text) → AreCounted files count → ((rows : List Values) → AreRows (output_names bound) (output_kinds bound) text rows → line ≡ counts_line lines count rows)
     → (epochs : List (List Values)) × AreSinks bound files epochs × AreTold bound lines epochs line
-written_told bound files lines count text line so counted each =
+table_told bound files lines count text line so counted each =
     let own = table_is_rows bound files so.epochs so.sinks in
     let T : List ℕ → Type 0 = λ t. AreRows (output_names bound) (output_kinds bound) t own.rows in (
       so.epochs,

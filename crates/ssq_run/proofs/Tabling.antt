@@ -1,5 +1,5 @@
 -- How showing a table ends at a checkpoint that is empty or stands.
-use Rattle.std.proofs.Common.{◌≡◌, ◌⊎◌, ◌∙◌, ◌<◌, ℕ, zero, suc, List, Option, Some, None, refl, sym, ap, subst, inl, inr, arith, length}
+use Rattle.std.proofs.Common.{◌≡◌, ◌∙◌, ◌<◌, ℕ, zero, suc, List, Option, Some, None, sym, ap, subst, inl, inr, arith, length}
 use Rattle.std.specs.Prelude.{IsSome}
 use Rattle.std.proofs.lemmas.List.{length-map}
 use Rattle.ssq_outside.specs.declared.name.Name.{Name}
@@ -14,10 +14,7 @@ use Rattle.ssq_bind.specs.Read.{QueriesReadTheirStreams, ReadsItsStreams}
 use Rattle.ssq_bind.specs.Typed.{IsTyped, QueriesAreTyped}
 use Rattle.ssq_shape.specs.declared.bound.Bound.{Bound}
 use Rattle.ssq_shape.specs.Windows.{HasWindows}
-use Rattle.ssq_sink.specs.declared.fault.SinkFault.{SinkFault}
-use Rattle.ssq_sink.specs.declared.fault.SinkFault.TheVariants as sink
-use Rattle.ssq_sink.specs.Fault.{IsOutside as IsOuterSink, TableEnd, broke_off, spoilt, unread as unread_file, written}
-use Rattle.ssq_sink.specs.Table.{AreCounted, IsBadSink, reading}
+use Rattle.ssq_sink.specs.Table.{AreCounted, IsBadSink}
 use Rattle.ssq_core.specs.Sound.{StandsOrEmpty}
 use Rattle.ssq_course.specs.Setting.{job_of}
 use Rattle.ssq_open.specs.Lens.{asked as wanted}
@@ -27,19 +24,12 @@ use Rattle.ssq_tables.specs.Shown.{CanShow as IsShowable}
 use Rattle.ssq_terms.specs.Laws.{JobIsWanted, PartsAreFound}
 use Rattle.ssq_words.specs.Asking.{asks_show}
 use Rattle.ssq_run.specs.declared.stop.Stop.{Stop}
-use Rattle.ssq_run.specs.Shown.{ShowEnd, denied, nothing_there, of_table, starved}
-use Rattle.ssq_run.specs.Stopping.{stop_of_sink, stop_of_table, status_in}
+use Rattle.ssq_run.specs.Shown.{ShowEnd, broke_off, denied, nothing_there, spoilt, starved, unread, written}
+use Rattle.ssq_run.specs.Stopping.{status_in}
 use Rattle.ssq_run.specs.Program.{Given, Went, HasObeyed, has_told, has_shown, ProgramEnd, IsStatus}
 use Rattle.ssq_run.specs.Going.{CanShow, NoneFailed, IsDone}
 use Rattle.ssq_run.proofs.Going.{done_by}
 use Rattle.ssq_run.proofs.Looking.{looked_for, outer_status}
-
--- a fault of the outside is one of the disk or of the output, or NoMemory
-outer_sink : (why : SinkFault) → IsOuterSink why → (status_in (Some (stop_of_sink why)) ≡ 7) ⊎ ((status_in (Some (stop_of_sink why)) ≡ 8) ⊎ (status_in (Some (stop_of_sink why)) ≡ 10))
-outer_sink (sink.Damaged at) outer = absurd outer
-outer_sink sink.DiskFault outer = inl refl
-outer_sink sink.OutFault outer = inr (inl refl)
-outer_sink sink.NoMemory outer = inr (inr refl)
 
 -- an empty checkpoint has no sink files, and so none below another
 empty_below : (files : Files) (m e : ℕ) → IsEmpty files → AreCounted files m → e < m → ⊥
@@ -68,7 +58,7 @@ module _ (given : Given) (start : History) (can : CanShow given start) where
 module _ {L : Type 0} (told tells : Type 0) (lines : L → List Line) (available : L → ℕ) (answers : L → List ℕ) (faults : L → ℕ) (given : Given) (OutTells : Type 0) (went : Went) (stop : Option Stop)
     (taken : AcceptedAreTaken) (end : ProgramEnd told tells lines available answers faults given OutTells went stop) (before after status : ℕ) (answer : IsStatus stop before after status)
     (i0 i1 d0 d1 o0 o1 : ℕ) (none : NoneFailed i0 i1 d0 d1 o0 o1) (log : status ≡ 6 → Rises i0 i1) (disk : status ≡ 7 → Rises d0 d1) (out : status ≡ 8 → Rises o0 o1)
-    (is_wanted : JobIsWanted) (are_found : PartsAreFound) (typed : QueriesAreTyped) (read : QueriesReadTheirStreams) (hold : CheckpointsHoldTables) (can : CanShow given went.start) (out_tells : OutTells) where
+    (is_wanted : JobIsWanted) (are_found : PartsAreFound) (typed : QueriesAreTyped) (read : QueriesReadTheirStreams) (hold : CheckpointsHoldTables) (can : CanShow given went.start) where
   none_bad : (at : Name) → IsBadSink can.setting.job.bound (files_now went.start) at → ⊥
   none_bad at bad = by can.stands
     where
@@ -78,23 +68,13 @@ module _ {L : Type 0} (told tells : Type 0) (lines : L → List Line) (available
           let table = hold can.setting stands.cuts stands.planned stands.committed (files_now went.start) bad.m (showable given went.start can typed read) (each_stream given went.start can) stands.at bad.counted in
           bad.first.bad (record { rows = rows_in_order can.setting stands.cuts bad.first.e; is = table.each bad.first.e bad.first.below })
 
-  by_outer : (why : SinkFault) → IsOuterSink why → status ≡ status_in (Some (stop_of_sink why)) → IsDone status
-  by_outer why outer is = elim (outer_sink why outer) [
-    | inl seven ↦ absurd (none.disk_whole (disk (is ∙ seven)))
-    | inr (inl eight) ↦ absurd (none.out_whole (out (is ∙ eight)))
-    | inr (inr ten) ↦ inr (is ∙ ten)
-  ]
-
-  by_table : status ≡ status_in stop → (shown : List ℕ) (fault : Option SinkFault) → TableEnd (reading can.setting.job.bound) can.setting.job.bound (files_now went.start) shown fault → stop ≡ stop_of_table fault → IsDone status
-  by_table is shown fault (written text none_is) same = inl (is ∙ ap status_in (same ∙ ap stop_of_table none_is))
-  by_table is shown fault (spoilt at bad text some) same = absurd (none_bad at bad)
-  by_table is shown fault (unread_file why outer text some) same = by_outer why outer (is ∙ ap status_in (same ∙ ap stop_of_table some))
-  by_table is shown fault (broke_off why outer table text front some) same = by_outer why outer (is ∙ ap status_in (same ∙ ap stop_of_table some))
-
   by_show : status ≡ status_in stop → (shown : List ℕ) → ShowEnd can.setting.job.bound (files_now went.start) shown stop → IsDone status
   by_show is shown (nothing_there empty text done) = inl (is ∙ ap status_in done)
   by_show is shown (starved text memory) = inr (is ∙ ap status_in memory)
-  by_show is shown (of_table here fault end same) = by_table is shown fault end same
+  by_show is shown (spoilt here at bad text some) = absurd (none_bad at bad)
+  by_show is shown (unread here text some) = absurd (none.disk_whole (disk (is ∙ ap status_in some)))
+  by_show is shown (written here table done) = inl (is ∙ ap status_in done)
+  by_show is shown (broke_off here text table front some) = absurd (none.out_whole (out (is ∙ ap status_in some)))
   by_show is shown (denied why denial text stops) =
       let Q : Bound → Type 0 = λ b. IsLookedFor (looked_query b) (wanted can.bound can.partitions can.lens) in
       let is_outer = denial.outside (wanted can.bound can.partitions can.lens) (job_of can.setting) (subst Q (sym can.of.query) (looked_for given went.start asks_show are_found can))
@@ -105,9 +85,7 @@ module _ {L : Type 0} (told tells : Type 0) (lines : L → List Line) (available
       ]
 
   by_obeyed : status ≡ status_in stop → HasObeyed told tells lines available answers faults given.held given.known can.bound OutTells went stop (asks_show can.file) → IsDone status
-  by_obeyed is (has_told what (has_shown file still back text so)) =
-      let ended = so out_tells in
-      by_show is ended.0 (subst (λ b. ShowEnd b (files_now went.start) ended.0 stop) (sym can.of.query) ended.2)
+  by_obeyed is (has_told what (has_shown file still back text shown put end)) = by_show is shown (subst (λ b. ShowEnd b (files_now went.start) shown stop) (sym can.of.query) end)
 
   pub shown_well : IsDone status
   shown_well = done_by told tells lines available answers faults given OutTells went stop taken end before after status answer i0 i1 d0 d1 o0 o1 none log disk out (asks_show can.file) can.bound can.asks can.is by_obeyed

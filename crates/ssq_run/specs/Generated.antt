@@ -78,7 +78,7 @@ pub record IsFirstFault (s : Setting) (why : EpochFault) : Type 0 where
   pub is : fault s.job.bound (parts_in s) (cuts_of cuts) e ≡ Some why
   pub clean : (f : ℕ) → f < e → fault s.job.bound (parts_in s) (cuts_of cuts) f ≡ None
 
--- what fails in memory fails for want of room
+-- what fails in memory fails because memory ran out
 abbrev pub in_memory : Stop → Stop
 in_memory LogFault = NoMemory
 in_memory DiskFault = NoMemory

@@ -61,7 +61,7 @@ IsOutside stop = (stop ≡ Some LogFault) ⊎ (stop ≡ Some NoMemory)
 -- What is told of a query, which changes nothing: its table was shown, for which the disk is only read; or it was explained, or its checkpoint was looked at;
 -- or generated input was run in memory, and told of; or memory ran out for the line that explains it.
 pub data HasTold (bound : Bound) (OutTells : Type 0) (went : Went) (stop : Option Stop) : Asked → Type 0 where
-  has_shown : (file : List ℕ) → went.now ≡ went.start → went.returned_now ≡ went.returned → went.text ≡ [] → (OutTells → (shown : List ℕ) × (went.written ≡ went.old ++ shown) × ShowEnd bound (files_now went.start) shown stop)
+  has_shown : (file : List ℕ) → went.now ≡ went.start → went.returned_now ≡ went.returned → went.text ≡ [] → (shown : List ℕ) → (OutTells → went.written ≡ went.old ++ shown) → ShowEnd bound (files_now went.start) shown stop
       → HasTold bound OutTells went stop (asks_show file)
   has_explained : (file : List ℕ) → IsUntouched went → went.text ≡ explained bound → stop ≡ None → HasTold bound OutTells went stop (asks_explain file)
   ran_out : (file : List ℕ) → IsIdle went → stop ≡ Some NoMemory → HasTold bound OutTells went stop (asks_explain file)

@@ -4,6 +4,8 @@ use Rattle.ssq_outside.specs.Faults.{Rises}
 use Rattle.ssq_outside.specs.Logs.{Held}
 use Rattle.ssq_outside.specs.declared.inputs.InputError.{InputError}
 use Rattle.ssq_outside.specs.declared.inputs.InputError.TheVariants as input
+use Rattle.ssq_outside.specs.declared.output.OutError.{OutError}
+use Rattle.ssq_outside.specs.declared.output.OutError.TheVariants as output
 use Rattle.ssq_value.specs.declared.column.Column.{Column}
 use Rattle.ssq_shape.specs.declared.bound.Stream.{Stream}
 use Rattle.ssq_json.specs.declared.bad_row.BadRow.{BadRow}
@@ -45,6 +47,10 @@ stop_of_ask words.NoMemory = NoMemory
 abbrev pub stop_of_input : InputError → Stop
 stop_of_input input.Fault = LogFault
 stop_of_input input.NoMemory = NoMemory
+
+abbrev pub stop_of_output : OutError → Stop
+stop_of_output output.Fault = OutFault
+stop_of_output output.NoMemory = NoMemory
 
 abbrev pub stop_of_refusal : Refusal → Stop
 stop_of_refusal (refusal.Parse at own) = Refused (refusal.Parse at own)
@@ -110,16 +116,11 @@ abbrev pub stop_of_fault : List Stream → EpochFault → Stop
 stop_of_fault streams (of_line at) = stop_of_line streams at.stream at.part at.offset at.what
 stop_of_fault streams (of_key key) = KeyOverflow (key_text key)
 
--- why the table is not written, or not all of it
+-- why there is no table
 abbrev pub stop_of_sink : SinkFault → Stop
 stop_of_sink (sink.Damaged at) = Damaged at
 stop_of_sink sink.DiskFault = DiskFault
-stop_of_sink sink.OutFault = OutFault
 stop_of_sink sink.NoMemory = NoMemory
-
-abbrev pub stop_of_table : Option SinkFault → Option Stop
-stop_of_table None = None
-stop_of_table (Some fault) = Some (stop_of_sink fault)
 
 -- a run's fault, told by the names of its streams, which have so many parts each
 abbrev pub stop_of_run : List Stream → List ℕ → RunFault → Stop

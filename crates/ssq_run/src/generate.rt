@@ -18,7 +18,7 @@ use ssq_gen::{CountsFault, counts_line, made};
 use ssq_outside::{Disk, Gate};
 use ssq_runner::{Ask, run_query, runs_go_on};
 use ssq_shape::Bound;
-use ssq_sink::{SinkFault, count_sinks, write_table};
+use ssq_sink::{SinkFault, count_sinks, table};
 use ssq_tables::checkpoints_hold_tables;
 use std::alloc::Global;
 
@@ -37,26 +37,23 @@ fn counted(alloc: Global, bound: &Bound, disk: MemDisk, lines: u32) -> Result<St
     let mut disk = disk;
     let names = disk.names(alloc)?;
     let epochs = count_sinks(names.as_slice());
-    let mut table = MemOut::new(alloc);
-    let written = write_table(alloc, &mut disk, &mut table, bound, epochs);
+    drop(names);
+    let table = table(alloc, &mut disk, bound)?;
     drop(disk);
-    match written {
-        Ok(()) => match counts_line(
-            alloc,
-            lines,
-            epochs,
-            bound.outputs.as_slice(),
-            table.bytes(),
-        ) {
-            Ok(line) => Ok(line),
-            Err(CountsFault::NotRows) => unreachable!(),
-            Err(CountsFault::NoMemory) => Err(SinkFault::NoMemory),
-        },
-        Err(fault) => Err(fault),
+    match counts_line(
+        alloc,
+        lines,
+        epochs,
+        bound.outputs.as_slice(),
+        table.as_bytes(),
+    ) {
+        Ok(line) => Ok(line),
+        Err(CountsFault::NotRows) => unreachable!(),
+        Err(CountsFault::NoMemory) => Err(SinkFault::NoMemory),
     }
 }
 
-/// Why a run in memory stopped: what fails there fails for want of room.
+/// Why a run in memory stopped: what fails there fails because memory ran out.
 fn in_memory(stop: Stop) -> Stop
     ensures { result ≡ in_memory stop }
 {

@@ -64,7 +64,7 @@ fn looked<D: Disk>(alloc: Global, bound: &Bound, disk: D) -> Done<D>
 fn shown<D: Disk, O: Output>(alloc: Global, bound: &Bound, disk: D, out: &mut O) -> Done<D>
     ensures same { D.tells → D.history result.disk ≡ D.history disk }
     ensures text { result.text.items ≡ [] }
-    ensures shown { D.tells → O.tells → (shown : List ℕ) × (O.content out.new ≡ O.content out.old ++ shown) × ShowEnd bound.now (files_now (D.history disk)) shown (stop_in result.end) }
+    ensures shown { D.tells → (shown : List ℕ) × (O.tells → O.content out.new ≡ O.content out.old ++ shown) × ShowEnd bound.now (files_now (D.history disk)) shown (stop_in result.end) }
     ensures only { IsPastWords (stop_in result.end) }
     ensures cause { HasCount 0 0 (D.faults disk) (D.faults result.disk) (O.faults out.old) (O.faults out.new) (stop_in result.end) }
     ensures counted { O.faults out.old ≤ O.faults out.new }

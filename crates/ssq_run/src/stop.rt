@@ -4,7 +4,7 @@ ghost use Rattle.std.specs.Prelude.{◌≡◌, ℕ};
 ghost use Rattle.ssq_run.specs.Stopping.{status_of};
 
 use ssq_accept::Refusal;
-use ssq_outside::{InputError, Name};
+use ssq_outside::{InputError, Name, OutError};
 use ssq_plans::NameText;
 use ssq_sink::SinkFault;
 use ssq_value::Text;
@@ -57,7 +57,8 @@ pub enum Stop {
         offset: u64,
         wrong: Wrong,
     },
-    /// On the first line of a planned epoch that shows nothing a result is outside 64 bits.
+    /// On the first line of a planned epoch that shows nothing a result is outside the range of its type: 64 bits, the years 0001 to 9999, or a text
+    /// of at most 1,048,576 bytes.
     Overflow {
         stream: Text,
         part: u32,
@@ -262,8 +263,21 @@ impl From<SinkFault> for Stop {
         match fault {
             SinkFault::Damaged { name } => Stop::Damaged { name },
             SinkFault::DiskFault => Stop::DiskFault,
-            SinkFault::OutFault => Stop::OutFault,
             SinkFault::NoMemory => Stop::NoMemory,
+        }
+    }
+}
+
+impl From<OutError> for Stop {
+    ghost use Rattle.std.specs.Prelude.{◌≡◌};
+    ghost use Rattle.ssq_run.specs.Stopping.{stop_of_output};
+
+    ghost from_gives = { λ error stop. stop ≡ stop_of_output error };
+
+    fn from(error: OutError) -> Stop {
+        match error {
+            OutError::Fault => Stop::OutFault,
+            OutError::NoMemory => Stop::NoMemory,
         }
     }
 }

@@ -149,7 +149,7 @@ pub fn stream_main<R: Threads + Wait + Sync, D: Disk, I: Inputs, O: Output, G: G
         NoneFailed (I.faults inputs) (I.faults result.inputs) (D.faults disk) (D.faults result.disk) (O.faults out) (O.faults result.out) →
         IsDone result.status }
     // So it is for the table of such a checkpoint: no sink file is ever refused.
-    ensures is_shown { D.tells → I.tells → O.tells → CanShow
+    ensures is_shown { D.tells → I.tells → CanShow
         (record { words = map string_bytes words.now; held = I.held inputs; known = I.available inputs }) (D.history disk) →
         NoneFailed (I.faults inputs) (I.faults result.inputs) (D.faults disk) (D.faults result.disk) (O.faults out) (O.faults result.out) →
         IsDone result.status }

@@ -17,6 +17,7 @@ use Rattle.ssq_json.specs.RowText.{heads_from, heads_of, row_text}
 use Rattle.ssq_json.specs.Stored.{AreRows, AreStoredIn, line_of, lines_of}
 use Rattle.ssq_meaning.specs.Meaning.{Values}
 use Rattle.ssq_meaning.specs.Table.{key_cells}
+use Rattle.ssq_sink.specs.Sink.{line_with}
 use Rattle.ssq_sink.specs.Table.{output_kinds}
 
 pub lines-append : (names : List (List ℕ)) (xs ys : List Values) → lines_of names (xs ++ ys) ≡ lines_of names xs ++ lines_of names ys
@@ -99,6 +100,13 @@ one_read heads kinds bytes left after row found finds so = record {
   done = λ names of. one_done names kinds bytes left after so.own row (found names of).0 (found names of).1 (so.done names of);
   would = λ names of. one_left names kinds bytes left after row (found names of).0 (finds names of) (so.would names of);
 }
+
+-- one line more that is added
+pub line_added : (names heads : List (List ℕ)) (rows : List Values) (row : Values) (start before after : List ℕ) → heads ≡ heads_of names → before ≡ start ++ lines_of names rows → after ≡ before ++ line_with heads row → after ≡ start ++ lines_of names (rows ++ row ∷ [])
+unfolding row_text
+line_added names heads rows row start before after of so_far is =
+    is ∙ ap₂ (λ b h. b ++ line_with h row) so_far of ∙ append_assoc start (lines_of names rows) (line_of names row)
+    ∙ ap (λ l. start ++ l) (ap (λ l. lines_of names rows ++ l) (sym (append-nil (line_of names row))) ∙ sym (lines-append names rows (row ∷ [])))
 
 -- such values have texts
 pub times_stored : (kinds : List ColType) (row : Values) → AreStoredIn kinds row → All (IfTime IsStampTime) row

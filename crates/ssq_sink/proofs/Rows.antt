@@ -21,7 +21,7 @@ use Rattle.ssq_shape.specs.declared.bound.Direction.{Direction}
 use Rattle.ssq_shape.specs.declared.bound.Direction.TheVariants as direction
 use Rattle.ssq_shape.specs.declared.bound.SortKey.{SortKey}
 use Rattle.ssq_shape.specs.Plain.{output_names}
-use Rattle.ssq_json.specs.RowText.{heads_of, row_text, text_with}
+use Rattle.ssq_json.specs.RowText.{heads_of, row_text}
 use Rattle.ssq_sink.specs.Sink.{directed, key_cmp, row_cmp, is_row_below, line_with, ordered_text, sink_text}
 use Rattle.ssq_sink.specs.Sorted.{sorted}
 use Rattle.ssq_sink.proofs.Sorting.{sorted-SameBag, SameBag-permutation, sorted_only}
@@ -123,12 +123,11 @@ flat_map-next f (first ∷ xs) zero x low is = append-nil (f first) ∙ ap f (sy
 flat_map-next f (first ∷ xs) (suc at) x low is = ap (λ rest. f first ++ rest) (flat_map-next f xs at x (omega arith) is) ∙ sym (append_assoc (f first) (flat_map f (take at xs)) (f x))
 
 -- one line more
-pub lines-next : (heads : List (List ℕ)) (rows : List (List Value)) (at : ℕ) (row : List Value) (start before written after : List ℕ) → at < length rows → row ≡ get_or rows at row → before ≡ start ++ flat_map (line_with heads) (take at rows) → written ≡ before ++ text_with heads row → after ≡ written ++ 10 ∷ [] → after ≡ start ++ flat_map (line_with heads) (take (at + 1) rows)
-lines-next heads rows at row start before written after low is so_far one fed =
+pub lines-next : (heads : List (List ℕ)) (rows : List (List Value)) (at : ℕ) (row : List Value) (start before after : List ℕ) → at < length rows → row ≡ get_or rows at row → before ≡ start ++ flat_map (line_with heads) (take at rows) → after ≡ before ++ line_with heads row → after ≡ start ++ flat_map (line_with heads) (take (at + 1) rows)
+lines-next heads rows at row start before after low is so_far one =
     let next : at + 1 ≡ suc at = omega arith in
     let lines : List ℕ = flat_map (line_with heads) (take at rows) in
-    rw next (fed ∙ ap (λ w. w ++ 10 ∷ []) (one ∙ ap (λ b. b ++ text_with heads row) so_far)
-    ∙ append_assoc (start ++ lines) (text_with heads row) (10 ∷ []) ∙ append_assoc start lines (line_with heads row)
+    rw next (one ∙ ap (λ b. b ++ line_with heads row) so_far ∙ append_assoc start lines (line_with heads row)
     ∙ ap (λ all. start ++ all) (sym (flat_map-next (line_with heads) rows at row low is)))
 
 -- the lines of sorted rows are the text

@@ -1,5 +1,5 @@
 -- The table: what a reader makes of the sink files, by the query's mode.
-use Rattle.std.specs.Prelude.{◌≡◌, ◌<◌, ◌≤◌, ◌+◌, ℕ, List, [], ◌∷◌, ◌++◌, map, filter, length, slice_get, if◌then◌else◌, Some, IsSome}
+use Rattle.std.specs.Prelude.{◌≡◌, ◌<◌, ◌≤◌, ◌+◌, ℕ, List, [], ◌∷◌, map, filter, length, slice_get, if◌then◌else◌, Some, IsSome}
 use Rattle.std.specs.List.{flat_map, list_any}
 use Rattle.ssq_outside.specs.declared.name.Name.{Name}
 use Rattle.ssq_outside.specs.declared.name.Name.TheVariants as name
@@ -17,8 +17,8 @@ use Rattle.ssq_meaning.specs.Group.{is_same}
 use Rattle.ssq_meaning.specs.Meaning.{Values}
 use Rattle.ssq_meaning.specs.Table.{is_same_group, key_cells}
 use Rattle.ssq_sink.specs.Sink.{sink_text}
-use Rattle.ssq_sink.specs.declared.table.Reading.{Reading}
-use Rattle.ssq_sink.specs.declared.table.Reading.TheVariants.{Each, Latest, Last}
+use Rattle.ssq_sink.specs.declared.reading.Reading.{Reading}
+use Rattle.ssq_sink.specs.declared.reading.Reading.TheVariants.{Each, Latest, Last}
 
 -- ---- what a reader makes of rows
 
@@ -117,7 +117,3 @@ pub record HasRead (own : Reading) (query : Bound) (files : Files) (text : List 
 -- the checkpoint's table is this text
 abbrev pub IsTable : Bound → Files → List ℕ → Type 0
 IsTable query files text = HasRead (reading query) query files text
-
--- of that text this is a front
-abbrev pub IsFront : List ℕ → List ℕ → Type 0
-IsFront front text = (left : List ℕ) × (text ≡ front ++ left)

@@ -1,13 +1,14 @@
 //! The columns of SELECT, as rows of sink files have them.
 
-ghost use Rattle.std.specs.Prelude.{◌≡◌, List, ℕ, true, false, length, map, IfOk};
+ghost use Rattle.std.specs.Prelude.{◌≡◌, ◌++◌, List, ℕ, true, false, Ok, length, map, IfOk, OnOk};
+ghost use Rattle.std.specs.Str.{IsUtf8};
 ghost use Rattle.ssq_json.specs.RowText.{heads_of};
-ghost use Rattle.ssq_json.specs.Stored.{AreRows};
+ghost use Rattle.ssq_json.specs.Stored.{AreRows, lines_of};
 ghost use Rattle.ssq_meaning.specs.Meaning.{Values};
 ghost use Rattle.ssq_shape.specs.Plain.{output_names};
 ghost use Rattle.ssq_sink.specs.Table.{output_kinds};
 
-use crate::epoch::output_heads;
+use crate::epoch::{output_heads, put_line};
 use ssq_json::{Heads, take_line};
 use ssq_shape::{Bound, Output};
 use ssq_value::ColType;
@@ -43,16 +44,27 @@ impl Columns {
         Ok(Columns { heads, kinds })
     }
 
-    /// Whether the bytes are canonical rows of these columns. They need not be sorted.
-    pub(crate) fn are_rows(&self, alloc: Global, bytes: &[u8]) -> Result<bool, AllocError>
+    /// Adds the rows that the bytes are to a text, one line each. They need not be sorted. `false` where the bytes are no canonical rows of these
+    /// columns.
+    pub(crate) fn put_rows(
+        &self,
+        alloc: Global,
+        bytes: &[u8],
+        text: &mut Vec<u8>,
+    ) -> Result<bool, AllocError>
         requires { length self.now.heads ≡ length self.now.kinds.items }
-        ensures found { (names : List (List ℕ)) → self.now.heads ≡ heads_of names → IfOk result (λ are. are ≡ true → (rows : List Values) × AreRows names self.now.kinds.items bytes.now rows) }
+        ensures found { (names : List (List ℕ)) → self.now.heads ≡ heads_of names →
+            OnOk result (result ≡ Ok true → (rows : List Values) × AreRows names self.now.kinds.items bytes.now rows × (text.new.items ≡ text.old.items ++ lines_of names rows)) }
         ensures none { (names : List (List ℕ)) → self.now.heads ≡ heads_of names → IfOk result (λ are. are ≡ false → (rows : List Values) → AreRows names self.now.kinds.items bytes.now rows → ⊥) }
+        ensures utf8 { OnOk result (IsUtf8 text.old.items → IsUtf8 text.new.items) }
     {
         let mut rest = bytes;
         while !rest.is_empty() {
             match take_line(alloc, &self.heads, self.kinds.as_slice(), rest)? {
-                Some((_row, after)) => rest = after,
+                Some((row, after)) => {
+                    put_line(text, &self.heads, &row)?;
+                    rest = after;
+                }
                 None => return Ok(false),
             }
         }

@@ -66,6 +66,17 @@ fn rows_text(
     Ok(utf8_text(text))
 }
 
+/// Adds a row to a text, with a line feed behind it.
+pub(crate) fn put_line(text: &mut Vec<u8>, heads: &Heads, row: &Row) -> Result<(), AllocError>
+    requires { All (IfTime IsStampTime) row.now }
+    ensures text { OnOk result (text.new.items ≡ text.old.items ++ line_with heads.now row.now) }
+    ensures utf8 { OnOk result (IsUtf8 text.old.items → IsUtf8 text.new.items) }
+{
+    put_row(text, heads, row)?;
+    text.push(b'\n')?;
+    Ok(())
+}
+
 fn put_lines(text: &mut Vec<u8>, heads: &Heads, rows: &[Row]) -> Result<(), AllocError>
     requires { All (All (IfTime IsStampTime)) rows.now }
     ensures text { OnOk result
@@ -73,8 +84,7 @@ fn put_lines(text: &mut Vec<u8>, heads: &Heads, rows: &[Row]) -> Result<(), Allo
     ensures utf8 { OnOk result (IsUtf8 text.old.items → IsUtf8 text.new.items) }
 {
     for row in rows {
-        put_row(text, heads, row)?;
-        text.push(b'\n')?;
+        put_line(text, heads, row)?;
     }
     Ok(())
 }

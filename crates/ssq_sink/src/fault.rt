@@ -1,10 +1,10 @@
 //! Why there is no table.
 
-use ssq_outside::{DiskError, Name, OutError};
+use ssq_outside::{DiskError, Name};
 use std::alloc::AllocError;
 use thiserror::Error;
 
-/// Why a table is not written, or not all of it.
+/// Why there is no table.
 #[derive(Clone, Copy, Debug, Error)]
 pub enum SinkFault {
     /// The first sink file that is missing below another, or does not have canonical rows of the query.
@@ -13,9 +13,6 @@ pub enum SinkFault {
     /// The disk failed.
     #[error("the disk failed")]
     DiskFault,
-    /// The output failed.
-    #[error("the output failed")]
-    OutFault,
     /// Memory ran out.
     #[error("out of memory")]
     NoMemory,
@@ -31,20 +28,6 @@ impl From<DiskError> for SinkFault {
         match error {
             DiskError::Fault => SinkFault::DiskFault,
             DiskError::NoMemory => SinkFault::NoMemory,
-        }
-    }
-}
-
-impl From<OutError> for SinkFault {
-    ghost use Rattle.std.specs.Prelude.{◌≡◌};
-    ghost use Rattle.ssq_sink.specs.Fault.{fault_of_output};
-
-    ghost from_gives = { λ error fault. fault ≡ fault_of_output error };
-
-    fn from(error: OutError) -> SinkFault {
-        match error {
-            OutError::Fault => SinkFault::OutFault,
-            OutError::NoMemory => SinkFault::NoMemory,
         }
     }
 }

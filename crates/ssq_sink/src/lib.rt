@@ -6,12 +6,12 @@ mod epoch;
 mod fault;
 mod latest;
 mod order;
-mod table;
+mod reading;
 
 pub use epoch::{epoch_text, order_is_free, schema_text};
 pub use fault::SinkFault;
 pub use order::row_orders_are_total;
-pub use table::{Reading, count_sinks, write_table};
+pub use reading::{Reading, count_sinks, table};
 
 #[cfg(test)]
 mod tests;

@@ -11,8 +11,8 @@ use Rattle.ssq_shape.specs.Plain.{output_names}
 use Rattle.ssq_json.specs.Stored.{AreRows, AreStoredIn}
 use Rattle.ssq_meaning.specs.Meaning.{Values}
 use Rattle.ssq_meaning.specs.Table.{is_same_group}
-use Rattle.ssq_sink.specs.declared.table.Reading.{Reading}
-use Rattle.ssq_sink.specs.declared.table.Reading.TheVariants.{Each, Latest, Last}
+use Rattle.ssq_sink.specs.declared.reading.Reading.{Reading}
+use Rattle.ssq_sink.specs.declared.reading.Reading.TheVariants.{Each, Latest, Last}
 use Rattle.ssq_sink.specs.Sink.{is_row_below, ordered_text, sink_text}
 use Rattle.ssq_sink.specs.Sorted.{sorted}
 use Rattle.ssq_sink.specs.Table.{AreSinks, joined, last_of, last_rows, output_kinds, reading, table_text, text_read}

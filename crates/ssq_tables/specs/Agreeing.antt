@@ -11,8 +11,8 @@ use Rattle.ssq_shape.specs.Plain.{output_names}
 use Rattle.ssq_json.specs.Stored.{AreRows}
 use Rattle.ssq_meaning.specs.Meaning.{Values}
 use Rattle.ssq_meaning.specs.Table.{ShowsKeys, table}
-use Rattle.ssq_sink.specs.declared.table.Reading.{Reading}
-use Rattle.ssq_sink.specs.declared.table.Reading.TheVariants.{Each, Latest, Last}
+use Rattle.ssq_sink.specs.declared.reading.Reading.{Reading}
+use Rattle.ssq_sink.specs.declared.reading.Reading.TheVariants.{Each, Latest, Last}
 use Rattle.ssq_sink.specs.Sink.{is_row_below}
 use Rattle.ssq_sink.specs.Sorted.{sorted}
 use Rattle.ssq_sink.specs.Table.{AreSinks, IsSinkOf, joined, last_of, last_rows, output_kinds, reading, table_text}

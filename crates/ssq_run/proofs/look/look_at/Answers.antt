@@ -10,7 +10,8 @@ pub returns-in-Table-clause-told : goal.returns-in-Table-clause-told
 returns-in-Table-clause-told g c = λ tells returned what is.
     let I : Look → Type 0 = λ look. IsLook look what in
     let own = subst I c.in-Table.is is in
-    told_as c.args.bound.now g.O.Output.tells _ _ what (asks_show own.0) own.1 (has_shown own.0 (c.shown.ensures.same tells) refl c.shown.ensures.text (λ out. c.shown.ensures.shown tells out))
+    let end = c.shown.ensures.shown tells in
+    told_as c.args.bound.now g.O.Output.tells _ _ what (asks_show own.0) own.1 (has_shown own.0 (c.shown.ensures.same tells) refl c.shown.ensures.text end.0 end.1 end.2)
 
 pub returns-in-Query-clause-told : goal.returns-in-Query-clause-told
 returns-in-Query-clause-told g c = λ tells returned what is.

@@ -169,11 +169,11 @@ returns-clause-is_told g c = λ tells told can none.
     c.job_is_wanted.ensures.wanted c.job_is_wanted.ensures.parts can
 
 pub returns-clause-is_shown : goal.returns-clause-is_shown
-returns-clause-is_shown g c = λ tells told out_tells can none.
+returns-clause-is_shown g c = λ tells told can none.
     shown_well g.I.Inputs.tells (g.D.Disk.tells × g.I.Log.Log.tells) g.I.Log.Log.lines g.I.Log.Log.available g.I.Log.Log.answers g.I.Log.Log.faults (given_by g c) g.O.Output.tells (went_by g c) (stop_in c.match-prepare.disk.end)
     c.files_have_one_answer.ensures.accepted (end_is g c tells told) _ _ _ c.tell-status.ensures.status
     _ _ _ _ _ _ none (returns-clause-inputs_fault g c) (returns-clause-disk_fault g c) (returns-clause-out_fault g c)
-    c.job_is_wanted.ensures.wanted c.job_is_wanted.ensures.parts c.queries_are_typed.ensures c.queries_read_their_streams.ensures c.checkpoints_hold_tables.ensures can out_tells
+    c.job_is_wanted.ensures.wanted c.job_is_wanted.ensures.parts c.queries_are_typed.ensures c.queries_read_their_streams.ensures c.checkpoints_hold_tables.ensures can
 
 pub returns-clause-shows_table : goal.returns-clause-shows_table
 returns-clause-shows_table g c = λ tells told out_tells can cuts planned committed at.

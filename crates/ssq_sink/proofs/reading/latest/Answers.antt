@@ -4,7 +4,7 @@ use Rattle.ssq_outside.specs.History.{files_now}
 use Rattle.ssq_sink.specs.Fault.{IfDamaged, IsBad}
 use Rattle.ssq_sink.specs.Table.{IsSinkOf}
 use Rattle.ssq_sink.proofs.Passes.{none_taken, one_taken, first_bad, risen}
-use Rattle.ssq_sink.proofs.table.latest.Goals as goal
+use Rattle.ssq_sink.proofs.reading.latest.Goals as goal
 
 pub loop-epoch-init : goal.loop-epoch-init
 loop-epoch-init g c = (λ tells. refl, omega arith, ([], c.new-latest.ensures c.args.bound.now.outputs, λ tells. none_taken c.args.bound.now (files_now (g.D.Disk.history c.args.disk.now))))
@@ -42,4 +42,4 @@ returns-in_err-take_sink-clause-counted g c = omega (arith, c.loop-epoch.invaria
 pub returns-in_err-take_sink-clause-cause : goal.returns-in_err-take_sink-clause-cause
 returns-in_err-take_sink-clause-cause g c =
     let p = err_from_is_err_and c.from_residual-in_err-take_sink.result c.from_residual-in_err-take_sink.ensures.1 in
-    rw (p.1, p.2) (risen _ _ _ _ 0 0 0 c.loop-epoch.invariant.1 (omega arith) c.in_err-take_sink.ensures.cause)
+    rw (p.1, p.2) (risen _ _ _ _ c.loop-epoch.invariant.1 c.in_err-take_sink.ensures.cause)

@@ -3,7 +3,7 @@ use Rattle.ssq_json.specs.Stored.{AreRows}
 use Rattle.ssq_shape.specs.Plain.{output_names}
 use Rattle.ssq_sink.specs.Latest.{IsLatest}
 use Rattle.ssq_sink.specs.Table.{output_kinds}
-use Rattle.ssq_sink.proofs.table.take_sink.Goals as goal
+use Rattle.ssq_sink.proofs.reading.take_sink.Goals as goal
 
 pub returns-then-branch-clause-taken : goal.returns-then-branch-clause-taken
 returns-then-branch-clause-taken g c = λ rows so.

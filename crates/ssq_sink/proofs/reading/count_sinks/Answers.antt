@@ -1,7 +1,7 @@
 use Rattle.std.proofs.Common.{◌≡◌, get_or, length, take, sym, subst, arith}
 use Rattle.ssq_outside.specs.declared.name.Name.TheVariants.{Meta}
 use Rattle.ssq_sink.proofs.Passes.{CountsOuts, none_counted, one_counted, all_counted, take-more, take-all}
-use Rattle.ssq_sink.proofs.table.count_sinks.Goals as goal
+use Rattle.ssq_sink.proofs.reading.count_sinks.Goals as goal
 
 pub loop-name-init : goal.loop-name-init
 loop-name-init c = none_counted

@@ -1,6 +1,6 @@
 use Rattle.std.proofs.Common.{take}
 use Rattle.ssq_sink.proofs.Passes.{CountsOuts}
-use Rattle.ssq_sink.proofs.table.count_sinks.Given as goal
+use Rattle.ssq_sink.proofs.reading.count_sinks.Given as goal
 
 -- one more than the greatest epoch of the names so far
 abbrev pub invariant-loop-name : goal.invariant-loop-name

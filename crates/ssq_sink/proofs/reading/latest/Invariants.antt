@@ -3,7 +3,7 @@ use Rattle.ssq_outside.specs.History.{files_now}
 use Rattle.ssq_meaning.specs.Meaning.{Values}
 use Rattle.ssq_sink.specs.Latest.{IsLatest}
 use Rattle.ssq_sink.proofs.Passes.{AreTaken}
-use Rattle.ssq_sink.proofs.table.latest.Given as goal
+use Rattle.ssq_sink.proofs.reading.latest.Given as goal
 
 -- the disk is as it was, and of some rows the last of each key is kept: where the disk tells, of those of the files so far
 abbrev pub invariant-loop-epoch : goal.invariant-loop-epoch

@@ -1,0 +1,255 @@
+//! The table: what a reader makes of the sink files.
+
+ghost use Rattle.std.specs.Prelude.{◌≡◌, ◌≤◌, ◌^◌, ◌++◌, List, max, Some, length, IfOk, IfErr, OnOk};
+ghost use Rattle.std.specs.Str.{IsUtf8};
+ghost use Rattle.ssq_outside.specs.Files.{Files, AreNames};
+ghost use Rattle.ssq_outside.specs.History.{files_now};
+ghost use Rattle.ssq_outside.specs.declared.name.Name.TheVariants as name;
+ghost use Rattle.ssq_shape.specs.declared.bound.Bound.{Bound as Query};
+ghost use Rattle.ssq_shape.specs.Plain.{output_names};
+ghost use Rattle.ssq_json.specs.Stored.{lines_of};
+ghost use Rattle.ssq_meaning.specs.Meaning.{Values};
+ghost use Rattle.ssq_sink.specs.Fault.{HasRisen, IfDamaged, IsAbsent, IsBad};
+ghost use Rattle.ssq_sink.specs.Latest.{IsLatest};
+ghost use Rattle.ssq_sink.specs.Passing.{AreColumnsOf, HasText, past};
+ghost use Rattle.ssq_sink.specs.Table.{reading, AreCounted, IsBadSink, IsFirstBad, IsSinkOf, IsTable};
+ghost use Rattle.ssq_sink.specs.declared.reading.Reading.TheVariants as how;
+
+use crate::columns::Columns;
+use crate::fault::SinkFault;
+use crate::latest::Latest;
+use ssq_json::utf8_text;
+use ssq_outside::{Disk, Name};
+use ssq_shape::{Bound, Mode, Shape};
+use ssq_value::Text;
+use std::alloc::Global;
+
+/// How the table is read of the sink files.
+#[derive(Clone, Copy)]
+pub enum Reading {
+    /// All rows, one file after the other.
+    Each,
+    /// The last row of each key.
+    Latest,
+    /// The rows of the last file.
+    Last,
+}
+
+impl Reading {
+    /// How the table of a query is read.
+    pub fn of(bound: &Bound) -> Reading
+        ensures { result ≡ reading bound.now }
+    {
+        match (&bound.shape, bound.mode) {
+            (Shape::Group(_), Mode::Update) => Reading::Latest,
+            (Shape::Group(_), Mode::Complete) => Reading::Last,
+            _ => Reading::Each,
+        }
+    }
+}
+
+/// One more than the epoch of a sink file, and 0 of any other file.
+fn past(name: Name) -> u64
+    ensures is { result ≡ past name }
+    ensures few { result ≤ 2 ^ 32 }
+{
+    match name {
+        Name::Out(epoch) => u64::from(epoch) + 1,
+        _ => 0,
+    }
+}
+
+/// The greater of a count and one more than the epoch of a sink file.
+fn raised(count: u64, name: Name) -> u64
+    ensures is { result ≡ max count (past name) }
+    ensures few { count ≤ 2 ^ 32 → result ≤ 2 ^ 32 }
+{
+    let past = past(name);
+    if count < past { past } else { count }
+}
+
+/// How many sink files there have to be where the files have these names: all up to the last that is there.
+pub fn count_sinks(names: &[Name]) -> u64
+    ensures counted { (files : Files) → AreNames files names.now → AreCounted files result }
+    ensures few { result ≤ 2 ^ 32 }
+{
+    let mut count = 0;
+    for name in names {
+        count = raised(count, *name);
+    }
+    count
+}
+
+/// The bytes of the sink file of an epoch, whatever they are.
+fn sink_bytes<D: Disk>(alloc: Global, disk: &mut D, epoch: u32) -> Result<Vec<u8>, SinkFault>
+    ensures found { D.tells → IfOk result (λ bytes. files_now (D.history disk.old) (name.Out epoch) ≡ Some bytes.items) }
+    ensures absent { D.tells → IfErr result (IfDamaged (IsAbsent (files_now (D.history disk.old)) epoch)) }
+    ensures same { D.tells → D.history disk.new ≡ D.history disk.old }
+    ensures counted { D.faults disk.old ≤ D.faults disk.new }
+    ensures cause { IfErr result (λ fault. HasRisen fault (D.faults disk.old) (D.faults disk.new)) }
+{
+    let name = Name::Out(epoch);
+    match disk.read(alloc, name)? {
+        Some(bytes) => Ok(bytes),
+        None => Err(SinkFault::Damaged { name }),
+    }
+}
+
+/// Adds the rows of the sink file of an epoch to a text, one line each.
+fn put_sink<D: Disk>(
+    alloc: Global,
+    disk: &mut D,
+    columns: &Columns,
+    epoch: u32,
+    text: &mut Vec<u8>,
+) -> Result<(), SinkFault>
+    requires { length columns.now.heads ≡ length columns.now.kinds.items }
+    ensures added { D.tells → (query : Query) → AreColumnsOf query columns.now.heads columns.now.kinds.items →
+        OnOk result ((rows : List Values) × IsSinkOf query (files_now (D.history disk.old)) epoch rows × (text.new.items ≡ text.old.items ++ lines_of (output_names query) rows)) }
+    ensures utf8 { OnOk result (IsUtf8 text.old.items → IsUtf8 text.new.items) }
+    ensures bad { D.tells → (query : Query) → AreColumnsOf query columns.now.heads columns.now.kinds.items → IfErr result (IfDamaged (IsBad query (files_now (D.history disk.old)) epoch)) }
+    ensures same { D.tells → D.history disk.new ≡ D.history disk.old }
+    ensures counted { D.faults disk.old ≤ D.faults disk.new }
+    ensures cause { IfErr result (λ fault. HasRisen fault (D.faults disk.old) (D.faults disk.new)) }
+{
+    let bytes = sink_bytes(alloc, disk, epoch)?;
+    if columns.put_rows(alloc, bytes.as_slice(), text)? {
+        Ok(())
+    } else {
+        Err(SinkFault::Damaged {
+            name: Name::Out(epoch),
+        })
+    }
+}
+
+/// The text of all rows, one file after the other.
+fn all_rows<D: Disk>(
+    alloc: Global,
+    disk: &mut D,
+    bound: &Bound,
+    count: u64,
+) -> Result<Text, SinkFault>
+    requires { count ≤ 2 ^ 32 }
+    ensures read { D.tells → IfOk result (λ text. HasText how.Each bound.now (files_now (D.history disk.old)) count text) }
+    ensures bad { D.tells → IfErr result (IfDamaged (IsFirstBad bound.now (files_now (D.history disk.old)) count)) }
+    ensures same { D.tells → D.history disk.new ≡ D.history disk.old }
+    ensures counted { D.faults disk.old ≤ D.faults disk.new }
+    ensures cause { IfErr result (λ fault. HasRisen fault (D.faults disk.old) (D.faults disk.new)) }
+{
+    let columns = Columns::new(alloc, bound)?;
+    let mut text = Vec::new(alloc);
+    for epoch in 0..count {
+        put_sink(alloc, disk, &columns, epoch as u32, &mut text)?;
+    }
+    Ok(utf8_text(text))
+}
+
+/// The text of the rows of the last file. Each file before it is checked.
+fn last_file<D: Disk>(
+    alloc: Global,
+    disk: &mut D,
+    bound: &Bound,
+    count: u64,
+) -> Result<Text, SinkFault>
+    requires { count ≤ 2 ^ 32 }
+    ensures read { D.tells → IfOk result (λ text. HasText how.Last bound.now (files_now (D.history disk.old)) count text) }
+    ensures bad { D.tells → IfErr result (IfDamaged (IsFirstBad bound.now (files_now (D.history disk.old)) count)) }
+    ensures same { D.tells → D.history disk.new ≡ D.history disk.old }
+    ensures counted { D.faults disk.old ≤ D.faults disk.new }
+    ensures cause { IfErr result (λ fault. HasRisen fault (D.faults disk.old) (D.faults disk.new)) }
+{
+    let columns = Columns::new(alloc, bound)?;
+    let mut text = Vec::new(alloc);
+    for epoch in 0..count {
+        text.clear();
+        put_sink(alloc, disk, &columns, epoch as u32, &mut text)?;
+    }
+    Ok(utf8_text(text))
+}
+
+/// Takes the rows of the sink file of an epoch.
+fn take_sink<D: Disk>(
+    alloc: Global,
+    disk: &mut D,
+    bound: &Bound,
+    columns: &Columns,
+    latest: &mut Latest,
+    epoch: u32,
+) -> Result<(), SinkFault>
+    requires columns { AreColumnsOf bound.now columns.now.heads columns.now.kinds.items }
+    requires same { length columns.now.heads ≡ length columns.now.kinds.items }
+    ensures taken { (rows : List Values) → IsLatest bound.now.outputs rows latest.old.rows.entries → OnOk result ((own : List Values)
+        × IsLatest bound.now.outputs (rows ++ own) latest.new.rows.entries × (D.tells → IsSinkOf bound.now (files_now (D.history disk.old)) epoch own)) }
+    ensures bad { D.tells → IfErr result (IfDamaged (IsBad bound.now (files_now (D.history disk.old)) epoch)) }
+    ensures same { D.tells → D.history disk.new ≡ D.history disk.old }
+    ensures counted { D.faults disk.old ≤ D.faults disk.new }
+    ensures cause { IfErr result (λ fault. HasRisen fault (D.faults disk.old) (D.faults disk.new)) }
+{
+    let bytes = sink_bytes(alloc, disk, epoch)?;
+    if latest.take(alloc, columns, bound.outputs.as_slice(), bytes.as_slice())? {
+        Ok(())
+    } else {
+        Err(SinkFault::Damaged {
+            name: Name::Out(epoch),
+        })
+    }
+}
+
+/// The text of the last row of each key.
+fn latest<D: Disk>(
+    alloc: Global,
+    disk: &mut D,
+    bound: &Bound,
+    count: u64,
+) -> Result<Text, SinkFault>
+    requires { count ≤ 2 ^ 32 }
+    ensures read { D.tells → IfOk result (λ text. HasText how.Latest bound.now (files_now (D.history disk.old)) count text) }
+    ensures bad { D.tells → IfErr result (IfDamaged (IsFirstBad bound.now (files_now (D.history disk.old)) count)) }
+    ensures same { D.tells → D.history disk.new ≡ D.history disk.old }
+    ensures counted { D.faults disk.old ≤ D.faults disk.new }
+    ensures cause { IfErr result (λ fault. HasRisen fault (D.faults disk.old) (D.faults disk.new)) }
+{
+    let columns = Columns::new(alloc, bound)?;
+    let mut latest = Latest::new(alloc);
+    for epoch in 0..count {
+        take_sink(alloc, disk, bound, &columns, &mut latest, epoch as u32)?;
+    }
+    Ok(latest.into_text(alloc, bound)?)
+}
+
+/// How many sink files there have to be. The list of names is in memory here alone.
+fn sinks<D: Disk>(alloc: Global, disk: &mut D) -> Result<u64, SinkFault>
+    ensures found { D.tells → IfOk result (AreCounted (files_now (D.history disk.old))) }
+    ensures few { IfOk result (λ count. count ≤ 2 ^ 32) }
+    ensures outside { IfErr result (IfDamaged (λ at. ⊥)) }
+    ensures same { D.tells → D.history disk.new ≡ D.history disk.old }
+    ensures counted { D.faults disk.old ≤ D.faults disk.new }
+    ensures cause { IfErr result (λ fault. HasRisen fault (D.faults disk.old) (D.faults disk.new)) }
+{
+    let names = disk.names(alloc)?;
+    Ok(count_sinks(names.as_slice()))
+}
+
+/// The table of a query, of its sink files: all rows, one file after the other; of groups in Update the last row of each key, in the order of a sink
+/// file; in Complete the rows of the last file. Nothing on the disk is changed.
+///
+/// Each file is read once. What is in memory is the table and one file, and of groups in Update the last row of each key.
+///
+/// # Errors
+///
+/// [`SinkFault::Damaged`] with the first sink file that is missing below another, or does not have canonical rows of the query.
+pub fn table<D: Disk>(alloc: Global, disk: &mut D, bound: &Bound) -> Result<Text, SinkFault>
+    ensures read { D.tells → IfOk result (IsTable bound.now (files_now (D.history disk.old))) }
+    ensures bad { D.tells → IfErr result (IfDamaged (IsBadSink bound.now (files_now (D.history disk.old)))) }
+    ensures same { D.tells → D.history disk.new ≡ D.history disk.old }
+    // A fault of the disk is answered only where it was counted.
+    ensures counted { D.faults disk.old ≤ D.faults disk.new }
+    ensures cause { IfErr result (λ fault. HasRisen fault (D.faults disk.old) (D.faults disk.new)) }
+{
+    let count = sinks(alloc, disk)?;
+    match Reading::of(bound) {
+        Reading::Each => all_rows(alloc, disk, bound, count),
+        Reading::Latest => latest(alloc, disk, bound, count),
+        Reading::Last => last_file(alloc, disk, bound, count),
+    }
+}
