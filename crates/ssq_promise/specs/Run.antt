@@ -1,5 +1,5 @@
 -- A run as a list of events of the machine, and what that promises.
-use Rattle.std.specs.Prelude.{◌≡◌, ◌⊎◌, ◌<◌, ◌≤◌, ◌+◌, ◌++◌, ℕ, Bool, true, false, List, [], Option, None, Contains, is_some}
+use Rattle.std.specs.Prelude.{◌≡◌, ◌⊎◌, ◌<◌, ◌≤◌, ◌+◌, ◌++◌, ℕ, Bool, true, false, List, [], Option, Some, None, Contains, is_some}
 use Rattle.ssq_outside.specs.declared.name.Name.{Name}
 use Rattle.ssq_outside.specs.declared.name.Name.TheVariants as name
 use Rattle.ssq_outside.specs.Files.{Files}
@@ -14,6 +14,8 @@ use Rattle.ssq_core.specs.Machine.{Desk, running, opened}
 use Rattle.ssq_core.specs.Sound.{AreProper, StandsOrEmpty, is_state}
 use Rattle.ssq_upkeep.specs.Upkeep.{IsDue, is_among}
 use Rattle.ssq_core.specs.Laws.{acknowledged, HasEpoch}
+use Rattle.ssq_board.specs.declared.front.Cause.{Cause}
+use Rattle.ssq_board.specs.declared.front.Cause.TheVariants as cause
 use Rattle.ssq_board.specs.declared.front.Entry.{Entry}
 use Rattle.ssq_board.specs.Core.{Scope, is_open, is_behind, next_ends, extended}
 use Rattle.ssq_board.specs.Shown.{Start, first}
@@ -76,23 +78,33 @@ pub record AreTrueTo (course : Course) (planned : ℕ) (files : Files) : Type 0 
   pub are_true : (q : Name) → IsNoOther files q (truth course q)
   pub allowed : (q : Name) → IsThere files q → is_allowed course.keeping planned planned q ≡ true
 
+-- So they are, and one plan more was tried: none is of an epoch from this one on, but that its plan may be there, and nothing else of it.
+pub record AreTriedTo (course : Course) (planned : ℕ) (files : Files) : Type 0 where
+  pub are_true : (q : Name) → IsNoOther files q (truth course q)
+  pub allowed : (q : Name) → IsThere files q → (is_allowed course.keeping planned planned q ≡ true) ⊎ (q ≡ name.Plan planned)
+
+-- a round stopped since a call of the disk failed, or memory ran out
+abbrev pub CallFailed : Option Cause → Type 0
+CallFailed stop = (stop ≡ Some cause.DiskFault) ⊎ (stop ≡ Some cause.NoMemory)
+
 -- The plans of a round are those of the files that it leaves: each image is true to their cuts, and has no other plan. Or the publishing of
 -- one plan more failed, so that an image may have it: which comes only where all others are done with, and is cut as the next, by lines that
 -- were found so, of which it takes some, or where an epoch without lines is due.
 pub data AreFilesOf (job : Job) (cap : Option ℕ) (due : Cuts → ℕ → Bool) (IsFound : List ℕ → Type 0) (AreDone : Type 0) (cuts : Cuts) (planned : ℕ) (now : History) : Type 0 where
   as_planned : LeavesNow now (AreTrueTo (job.course cuts) planned) → AreFilesOf job cap due IsFound AreDone cuts planned now
   one_tried : AreDone → (found : List ℕ) → IsFound found → (is_behind (cuts planned) found ≡ true) ⊎ (due cuts planned ≡ true)
-      → LeavesNow now (AreTrueTo (job.course (extended cuts planned (next_ends cap (cuts planned) found))) (planned + 1)) → AreFilesOf job cap due IsFound AreDone cuts planned now
+      → LeavesNow now (AreTriedTo (job.course (extended cuts planned (next_ends cap (cuts planned) found))) planned) → AreFilesOf job cap due IsFound AreDone cuts planned now
 
 -- Where a desk opens on settled files they are true to its cuts.
 abbrev pub OpenedIsTrue : Type 0
 OpenedIsTrue = (job : Job) (disk : History) (d : Desk) → IsSettledAs disk (files_now disk) → opened job (files_now disk) d → LeavesNow disk (AreTrueTo (job.course d.cuts) d.planned)
 
--- What a round leaves are files of its plans, for any cuts that are the round's as far as epochs are planned.
+-- What a round leaves are files of its plans, for any cuts that are the round's as far as epochs are planned. One plan more was tried only where the round
+-- stopped at that, by the lines that it found.
 abbrev pub RoundLeavesTrue : Type 0 → Type 0
 RoundLeavesTrue tells = tells → (job : Job) (r : Scope) (due : Cuts → ℕ → Bool) (terms : Terms job r due) (st : Start) (es : List Entry) (s n : State) → Begins job r due terms st s
     → Leads tells job r due s es n
-    → (cuts : Cuts) → AreSameUpTo cuts n.cuts n.core.front.planned → AreFilesOf job r.cap due (λ found. found ≡ r.available) ((n.core.front.planned ≤ n.core.front.committed) × (n.core.front.settled ≡ true)) cuts n.core.front.planned n.disk
+    → (cuts : Cuts) → AreSameUpTo cuts n.cuts n.core.front.planned → AreFilesOf job r.cap due (λ found. found ≡ r.available) ((n.core.front.planned ≤ n.core.front.committed) × (n.core.front.settled ≡ true) × CallFailed n.core.front.stop) cuts n.core.front.planned n.disk
 
 -- Where the snapshot of a version is due, its partition's state can be made of files: each file is the true one of its name; which of the state are
 -- there is known; and each delta up to the version is there, or a snapshot below the version that stands for it.
