@@ -27,7 +27,7 @@ pub earlier : (P : Name → Type 0) (r : Scope) (c : Core) (before mid now : ℕ
 earlier P r c before mid now (cause.BadLine s p o x) le why = tt
 earlier P r c before mid now (cause.Overflow s p o) le why = tt
 earlier P r c before mid now cause.KeyOverflow le why = tt
-earlier P r c before mid now cause.LogFault le why = tt
+earlier P r c before mid now cause.LogFault le why = why
 earlier P r c before mid now (cause.LogShort s p l x) le why = tt
 earlier P r c before mid now (cause.Damaged q) le why = why
 earlier P r c before mid now cause.DiskFault le why = rises_more before mid now le why
@@ -61,7 +61,7 @@ no_files : (P : Name → Type 0) (r : Scope) (c : Core) (before now : ℕ) (f : 
 no_files P r c before now (cause.BadLine s p o x) why = tt
 no_files P r c before now (cause.Overflow s p o) why = tt
 no_files P r c before now cause.KeyOverflow why = tt
-no_files P r c before now cause.LogFault why = tt
+no_files P r c before now cause.LogFault why = why
 no_files P r c before now (cause.LogShort s p l x) why = tt
 no_files P r c before now (cause.Damaged q) why = absurd why
 no_files P r c before now cause.DiskFault why = why

@@ -1,5 +1,5 @@
 -- A round for which there was no memory, and the logs that come back.
-use Rattle.std.proofs.Common.{◌≡◌, ◌+◌, ◌∙◌, ℕ, true≢false, List, [], ◌∷◌, length, None, Ok, Err, refl, sym, ap, subst, arith}
+use Rattle.std.proofs.Common.{◌≡◌, ◌+◌, ◌∙◌, ℕ, true≢false, List, [], ◌∷◌, length, None, Ok, Err, refl, sym, ap, subst, inl, inr, arith}
 use Rattle.std.specs.Global.{Vec}
 use Rattle.std.specs.List.{AllZip}
 use Rattle.std.proofs.lemmas.List.{append-nil}
@@ -28,6 +28,9 @@ abbrev why_or : Stopped → Ended → Stopped
 why_or d (Ok x) = d
 why_or d (Err e) = e
 
+no_log : cause.NoMemory ≡ cause.LogFault → ⊥
+no_log is = cc
+
 pub err_ok : (why : Stopped) (next : Opened × Vec (List Timed)) → Err why ≡ Ok next → ⊥
 err_ok why next is = cc
 
@@ -55,6 +58,10 @@ idle tells nothing at_rest s n r found h disk logs can = record {
     due = λ e from less. absurd (omega (arith, from, less));
     meant = All-nil (IsMeant s (cut_of (first_of found) found.plans));
     planned_stays = λ why stops own. absurd (true≢false (sym own ∙ ap (λ (w : Stopped). is_of_epoch w.cause) (sym (ap (why_or starved) stops))));
+    uncommitted = λ why stops inside. absurd (elim inside [
+      | inl own ↦ true≢false (sym own ∙ ap (λ (w : Stopped). is_of_epoch w.cause) (sym (ap (why_or starved) stops)))
+      | inr log ↦ no_log (ap (λ (w : Stopped). w.cause) (ap (why_or starved) stops) ∙ log)
+    ]);
     settled = λ next ends. absurd (err_ok starved next ends);
     found = λ next ends. absurd (err_ok starved next ends);
     kept = λ next ends. absurd (err_ok starved next ends);

@@ -13,6 +13,7 @@ pub mod Fitting
 pub mod Saying
 pub mod Stopping
 pub mod Planned
+pub mod Uncommitted
 pub mod Idling
 pub mod Ending
 pub mod Goods

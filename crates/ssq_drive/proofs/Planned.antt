@@ -31,7 +31,7 @@ waits_out : machine.waits ≡ machine.out → ⊥
 waits_out is = cc
 
 -- of two causes the first
-or_first : (o later : Option Cause) (g f : Cause) → o ≡ Some g → or_stop o later ≡ Some f → o ≡ Some f
+pub or_first : (o later : Option Cause) (g f : Cause) → o ≡ Some g → or_stop o later ≡ Some f → o ≡ Some f
 or_first None later g f is stops = absurd (none_some g is)
 or_first (Some h) later g f is stops = stops
 

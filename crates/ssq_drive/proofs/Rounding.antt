@@ -42,11 +42,10 @@ use Rattle.ssq_board.proofs.Lists.{nat_lt-not, nat_lt-less}
 use Rattle.ssq_board.proofs.Readies.{over_is}
 use Rattle.ssq_board.proofs.Sounds.{first_sound}
 use Rattle.ssq_board.proofs.Telling.{Runs, runs_of, tells_all}
-use Rattle.ssq_terms.specs.Setting.{AreFound}
 use Rattle.ssq_terms.specs.Laws.{PartsAreFound, TasksHaveTerms, HasTerms, UnmarkedHaveNoTimes, due_at}
 use Rattle.ssq_terms.specs.Opening.{DeskOpensAsFound}
 use Rattle.ssq_terms.specs.Partitions.{HoldsStateOf}
-use Rattle.ssq_promise.specs.Run.{Begins, IsLeft, AreFilesOf, RoundGoesOn, RoundIsRun, RoundLeavesFound, RoundLeavesTrue, WasRun, WentOn, as_planned, one_tried}
+use Rattle.ssq_promise.specs.Run.{Begins, CallFailed, IsLeft, AreFilesOf, RoundGoesOn, RoundIsRun, RoundLeavesFound, RoundLeavesTrue, WasRun, WentOn, as_planned, one_tried}
 use Rattle.ssq_ledger.specs.Shown.{Shown, Opening, IsLegal, IsInOrder, cuts_of, did, first_state, shelf_of, state}
 use Rattle.ssq_desk.specs.declared.round.Round.{Round}
 use Rattle.ssq_desk.specs.declared.told.Told.{Told}
@@ -61,15 +60,16 @@ use Rattle.ssq_drive.specs.Driven.{StopsFor, IsDriven, IsUpkept, brings_due}
 use Rattle.ssq_drive.specs.Good.{IsGood}
 use Rattle.ssq_drive.specs.declared.round.Stopped.{Stopped}
 use Rattle.ssq_drive.specs.Kept.{IsKeptUp, NeedsNoUpkeep}
-use Rattle.ssq_drive.specs.Rounds.{CanBegin, Ended, HaveIndexes, IsFoundOf, IsMore, IsOver, IsOwn, IsRound, IsRoundStop, RoundRan, RoundWent, first_of}
+use Rattle.ssq_drive.specs.Rounds.{CanBegin, Ended, HaveIndexes, IsFoundOf, IsMore, IsOfOpen, IsOver, IsOwn, IsRound, IsRoundStop, RoundRan, RoundWent, StoppedAtCall, first_of}
 use Rattle.ssq_drive.proofs.Counting.{counted}
-use Rattle.ssq_drive.proofs.Cutting.{AreNextCuts, GoOn, entries_go, first_of_two, stops_open}
+use Rattle.ssq_drive.proofs.Cutting.{AreNextCuts, GoOn, entries_go, first_of_two, none_some, stops_open}
 use Rattle.ssq_drive.proofs.Fitting.{FitsPlans, built_fits, next_fits, plans_on}
 use Rattle.ssq_drive.proofs.Idling.{err_ok}
 use Rattle.ssq_drive.proofs.KeepLemmas.{old_all}
 use Rattle.ssq_drive.proofs.Needing.{commits_are, files_kept, needs_none}
 use Rattle.ssq_drive.proofs.Dues.{found_due, never_due}
 use Rattle.ssq_drive.proofs.Planned.{stop_planned}
+use Rattle.ssq_drive.proofs.Uncommitted.{stop_uncommitted}
 use Rattle.ssq_drive.proofs.Parting.{begin_as_counted, start_is}
 use Rattle.ssq_drive.proofs.Saying.{told_are, told_from, told_good, told_meant, same_from}
 use Rattle.ssq_drive.proofs.Starting.{planned_found}
@@ -101,6 +101,11 @@ pub record HaveLaws (tells : Type 0) : Type 0 where
   pub over : RoundLeavesFound tells
   pub files : RoundLeavesTrue tells
   pub on : RoundGoesOn tells
+
+-- a desk that runs did not stop for a call
+runs_not : (o : Option Cause) → o ≡ None → CallFailed o → ⊥
+runs_not o runs (inl is) = absurd (none_some cause.DiskFault (sym runs ∙ is))
+runs_not o runs (inr is) = absurd (none_some cause.NoMemory (sym runs ∙ is))
 
 -- where a round may begin, its desk may
 pub desk_begins : {L : Type 0} (lines : L → List Line) (round : Round L) (r : Scope) → round.view.partitions ≡ round.opened.meta.partitions → CanBegin round.view.bound.now (length round.logs.items) round.opened r
@@ -136,11 +141,11 @@ leads_by one other t job r due (e ∷ es) s n leads =
     let step = leads.1 in
     (leads.0, record { may = step.may; keeps = step.keeps; moves = λ _. step.moves t; right = λ _. step.right t; core = step.core; shelf = step.shelf; cuts = step.cuts }, leads_by one other t job r due es leads.0 n leads.2)
 
--- lines that were found so were found so, too
-files_found : (job : Job) (cap : Option ℕ) (due : Cuts → ℕ → Bool) (One Other : List ℕ → Type 0) (Done All : Type 0) (cuts : Cuts) (planned : ℕ) (now : History) → ((found : List ℕ) → One found → Other found) → (Done → All)
-    → AreFilesOf job cap due One Done cuts planned now → AreFilesOf job cap due Other All cuts planned now
-files_found job cap due One Other Done All cuts planned now more all (as_planned each) = as_planned each
-files_found job cap due One Other Done All cuts planned now more all (one_tried done found is comes each) = one_tried (all done) found (more found is) comes each
+-- one plan more was tried where this is so, too
+pub files_done : (job : Job) (cap : Option ℕ) (due : Cuts → ℕ → Bool) (IsFound : List ℕ → Type 0) (Done All : Type 0) (cuts : Cuts) (planned : ℕ) (now : History) → (Done → All)
+    → AreFilesOf job cap due IsFound Done cuts planned now → AreFilesOf job cap due IsFound All cuts planned now
+files_done job cap due IsFound Done All cuts planned now all (as_planned each) = as_planned each
+files_done job cap due IsFound Done All cuts planned now all (one_tried done found is comes each) = one_tried (all done) found is comes each
 
 -- a store that holds a state by some cuts does so by others that are the same so far
 holds_by : (s : Setting) (one other : Cuts) (e p : ℕ) → state_at s one p e ≡ state_at s other p e → (store : Option Store) → HoldsStateOf s one e p store → HoldsStateOf s other e p store
@@ -259,13 +264,32 @@ module _ {D L : Type 0} (stores logs : Type 0) (lines : L → List Line) (histor
   nothing : (f : Cause) → None ≡ Some f → ⊥
   nothing f is = cc
 
-  -- where it stopped for a cause of its epoch, this one is planned, and the first that is not told
-  open_there : (why : Stopped) → end ≡ Err why → is_of_epoch why.cause ≡ true → (c.front.committed ≡ found.committed + length told) × (found.committed + length told < c.front.planned)
-  open_there why stops own =
-      let opened = stops_open r es begun c runs (λ f none. absurd (nothing f none)) why.cause (closed.stopped why stops).0 own in
+  -- an epoch that is open is planned, and the first that is not told
+  open_untold : is_open c ≡ true → (c.front.committed ≡ found.committed + length told) × (found.committed + length told < c.front.planned)
+  open_untold opened =
       let less = nat_lt-less c.front.committed c.front.planned opened in
       let all = sym (all_open opened) ∙ sym acknowledged in
       (all, omega (arith, less, all))
+
+  -- so it is where it stopped for a cause of its epoch
+  open_there : (why : Stopped) → end ≡ Err why → is_of_epoch why.cause ≡ true → (c.front.committed ≡ found.committed + length told) × (found.committed + length told < c.front.planned)
+  open_there why stops own = open_untold (stops_open r es begun c runs (λ f none. absurd (nothing f none)) why.cause (closed.stopped why stops).0 own)
+
+  -- why it stopped, by its desk
+  why_is : (why : Stopped) → end ≡ Err why → StopsFor (HasDamaged stores logs history lines (did (first_shown lines round disk r) now es)) r c (faults disk) (faults now) why.cause
+  why_is why stops =
+      subst (λ (x : Option Cause). IfSome x (StopsFor (HasDamaged stores logs history lines (did (first_shown lines round disk r) now es)) r c (faults disk) (faults now))) (closed.stopped why stops).0 closed.why
+
+  -- where it stopped for a cause that tasks of the open epoch alone bring, one is open
+  open_for : (why : Stopped) → end ≡ Err why → IsOfOpen why.cause → is_open c ≡ true
+  open_for why stops (inl own) = stops_open r es begun c runs (λ f none. absurd (nothing f none)) why.cause (closed.stopped why stops).0 own
+  open_for why stops (inr log) =
+      subst (λ (f : Cause). StopsFor (HasDamaged stores logs history lines (did (first_shown lines round disk r) now es)) r c (faults disk) (faults now) f) log (why_is why stops)
+
+  -- where a call failed the round stopped at that
+  stopped_at : (o : Ended) → end ≡ o → CallFailed c.front.stop → StoppedAtCall end
+  stopped_at (Ok next) ends failed = absurd (runs_not c.front.stop (over_is r c (closed.over next ends).0).0 failed)
+  stopped_at (Err why) ends failed = (why, ends, subst CallFailed (closed.stopped why ends).0 failed)
 
   -- where it is over no upkeep is left
   needs_here : (own : Opened × Vec (List Timed)) → end ≡ Ok own → NeedsNoUpkeep (keeping_of s.job.bound.shape found.meta.partitions) found.meta.partitions own.0.committed own.0.names
@@ -452,16 +476,18 @@ module _ {D L : Type 0} (stores logs : Type 0) (lines : L → List Line) (histor
         → RoundRan (stores × logs) s r (history disk) (history now) (cut_of (first_of found) plans) (length found.plans) found.committed (length plans) told end
     ran_by plans fits = record {
       run = is_run;
-      files = files_found (job_of s) r.cap (due_at s) (λ lines. lines ≡ r.available) (λ lines. AreFound lines s.lines) ((c.front.planned ≤ c.front.committed) × (c.front.settled ≡ true)) (found.committed + length told ≡ length plans) (cut_of (first_of found) plans) (length plans) (history now)
-          (λ lines same. subst (λ (l : List ℕ). AreFound l s.lines) (sym (same ∙ own.scope.available)) own.lines)
-          (λ done. (let a = acknowledged in let all = all_settled done.1 in let b = sound.before in let d = done.0 in let count = fits.count in omega (arith, a, all, b, d, count)))
-          (subst (λ (n : ℕ). AreFilesOf (job_of s) r.cap (due_at s) (λ lines. lines ≡ r.available) ((c.front.planned ≤ c.front.committed) × (c.front.settled ≡ true)) (cut_of (first_of found) plans) n (history now)) (sym fits.count)
+      files = files_done (job_of s) r.cap (due_at s) (λ lines. lines ≡ r.available) ((c.front.planned ≤ c.front.committed) × (c.front.settled ≡ true) × CallFailed c.front.stop) ((found.committed + length told ≡ length plans) × StoppedAtCall end) (cut_of (first_of found) plans) (length plans) (history now)
+          (λ done. ((let a = acknowledged in let all = all_settled done.1 in let b = sound.before in let d = done.0 in let count = fits.count in omega (arith, a, all, b, d, count)), stopped_at end refl done.2))
+          (subst (λ (n : ℕ). AreFilesOf (job_of s) r.cap (due_at s) (λ lines. lines ≡ r.available) ((c.front.planned ≤ c.front.committed) × (c.front.settled ≡ true) × CallFailed c.front.stop) (cut_of (first_of found) plans) n (history now)) (sym fits.count)
           (laws.files t (job_of s) r (due_at s) has_terms.0 o.start es (first_state o r (history disk)) (state (history now) c shelf cuts) begins_on leads_on (cut_of (first_of found) plans) fits.are));
       due = λ e ge less. (let count = fits.count in let start = planned in more_by plans fits e (omega (arith, less, count)) (went_on.come e (omega (arith, ge, start)) (omega (arith, less, count))));
       meant = told_meant owned s cuts (first_of found) plans c.front.planned fits.are c.front.committed sound.before went_on.faultless is_owned told found.committed closed.telling.each (let a = acknowledged in let b = below in omega (arith, a, b));
       planned_stays = λ why stops own.
           subst (λ (k : ℕ). LeavesNow (history now) (λ (image : Files). IsThere image (name.Plan k))) (open_there why stops own).0
           (stop_planned (stores × logs) t (job_of s) r (due_at s) has_terms.0 o.start es (first_state o r (history disk)) (state (history now) c shelf cuts) begins_on leads_on why.cause (closed.stopped why stops).0 own);
+      uncommitted = λ why stops inside.
+          subst (λ (k : ℕ). LeavesNow (history now) (λ (image : Files). image (name.Commit k) ≡ None)) (open_untold (open_for why stops inside)).0
+          (stop_uncommitted (stores × logs) t (job_of s) r (due_at s) has_terms.0 o.start es (first_state o r (history disk)) (state (history now) c shelf cuts) begins_on leads_on why.cause (closed.stopped why stops).0 inside);
       settled = λ next ends. (left next ends).settled;
       found = found_next;
       kept = λ next ends.
@@ -486,7 +512,7 @@ module _ {D L : Type 0} (stores logs : Type 0) (lines : L → List Line) (histor
         subst (λ (n : ℕ). IsRoundStop (stores × logs) ours s (cut_of (first_of found) plans) r.available n (found.committed + length told) (files_now (history now)) (faults disk) (faults now) log_faults why.key why.cause) (sym count)
         (stop_is (stores × logs) ours (HasDamaged stores logs history lines (did (first_shown lines round disk r) now es)) (files_now (history now)) s cuts (cut_of (first_of found) plans) r.available c.front.planned c.front.committed (found.committed + length told) why.key (faults disk) (faults now) log_faults r c why.cause fits.are (open_there why stops)
         (stop_on (stores × logs) owned ours s cuts c.front.committed why.key why.cause (λ u. is_owned laws u.0 u.1) was.1)
-        (subst (λ (x : Option Cause). IfSome x (StopsFor (HasDamaged stores logs history lines (did (first_shown lines round disk r) now es)) r c (faults disk) (faults now))) was.0 closed.why) (λ same. closed.faulty (was.0 ∙ ap Some same)) full
+        (why_is why stops) (λ opened. (open_untold opened).1) (λ same. closed.faulty (was.0 ∙ ap Some same)) full
         (λ q bad. ((λ u. bad.0 (is_owned laws u.0 u.1)), λ t. subst (λ (n : ℕ). IsDamagedIn (keeping_of s.job.bound.shape s.job.partitions) n (files_now (history now)) q) (sym acknowledged) (bad.1 t.0))))
       where
         behind_or : (b : Bool) → closes s.job.bound ≡ b → IsFull r c → (is_behind (cut_of (first_of found) plans c.front.planned) r.available ≡ true) ⊎ (closes s.job.bound ≡ true)

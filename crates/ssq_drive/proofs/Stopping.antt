@@ -11,7 +11,7 @@ use Rattle.ssq_course.specs.Setting.{Setting, parts_in, closes, keeping_of}
 use Rattle.ssq_course.specs.Setting.{cut_of as offsets_of, cuts_of as offsets}
 use Rattle.ssq_board.specs.declared.front.Cause.{Cause}
 use Rattle.ssq_board.specs.declared.front.Cause.TheVariants as cause
-use Rattle.ssq_board.specs.Core.{Scope, Core, IsFull, is_behind, is_of_epoch}
+use Rattle.ssq_board.specs.Core.{Scope, Core, IsFull, is_behind, is_of_epoch, is_open}
 use Rattle.ssq_desk.specs.Contents.{IsStopOf, line_of}
 use Rattle.ssq_drive.specs.Damaged.{IsDamagedIn}
 use Rattle.ssq_drive.specs.Driven.{StopsFor}
@@ -34,23 +34,23 @@ key_here s cuts others planned e owned (Some key) same less is =
 
 pub stop_is : (tells owned : Type 0) (P : Name → Type 0) (files : Files) (s : Setting) (cuts others : Cuts) (found : List ℕ) (planned committed e : ℕ) (key : Option Values) (disk disk_now logs : ℕ) (r : Scope) (c : Core) (f : Cause)
     → ((k : ℕ) → k ≤ planned → others k ≡ cuts k) → (is_of_epoch f ≡ true → (committed ≡ e) × (e < planned)) → IsStopOf tells owned s cuts committed key f → StopsFor P r c disk disk_now f
-    → (f ≡ cause.LogFault → 0 < logs) → (IsFull r c → (planned ≡ 4294967295) × ((is_behind (others planned) found ≡ true) ⊎ (closes s.job.bound ≡ true)) × (owned → IsMore s others found planned) × (e ≡ planned))
+    → (is_open c ≡ true → e < planned) → (f ≡ cause.LogFault → 0 < logs) → (IsFull r c → (planned ≡ 4294967295) × ((is_behind (others planned) found ≡ true) ⊎ (closes s.job.bound ≡ true)) × (owned → IsMore s others found planned) × (e ≡ planned))
     → ((q : Name) → P q → (owned → ⊥) × (tells → IsDamagedIn (keeping_of s.job.bound.shape s.job.partitions) e files q)) → IsRoundStop tells owned s others found planned e files disk disk_now logs key f
-stop_is tells owned P files s cuts others found planned committed e key disk disk_now logs r c (cause.BadLine t p o x) same own why counts faulty full bad =
+stop_is tells owned P files s cuts others found planned committed e key disk disk_now logs r c (cause.BadLine t p o x) same own why counts opened faulty full bad =
     let at = own refl in
     (at.1, λ told. (let is = why told in fault_here s cuts others planned e (line_of (cause.BadLine t p o x)) is.0 same at.1 is.1 (ap (fault s.job.bound (parts_in s) (offsets cuts)) (sym at.0) ∙ is.2)))
-stop_is tells owned P files s cuts others found planned committed e key disk disk_now logs r c (cause.Overflow t p o) same own why counts faulty full bad =
+stop_is tells owned P files s cuts others found planned committed e key disk disk_now logs r c (cause.Overflow t p o) same own why counts opened faulty full bad =
     let at = own refl in
     (at.1, λ told. (let is = why told in fault_here s cuts others planned e (line_of (cause.Overflow t p o)) is.0 same at.1 is.1 (ap (fault s.job.bound (parts_in s) (offsets cuts)) (sym at.0) ∙ is.2)))
-stop_is tells owned P files s cuts others found planned committed e key disk disk_now logs r c cause.KeyOverflow same own why counts faulty full bad =
+stop_is tells owned P files s cuts others found planned committed e key disk disk_now logs r c cause.KeyOverflow same own why counts opened faulty full bad =
     let at = own refl in (
       at.1,
       key_here s cuts others planned e owned key same at.1
           (subst (λ (n : ℕ). IsSomeAnd key (λ own. owned → fault s.job.bound (parts_in s) (offsets cuts) n ≡ Some (of_key own))) at.0 why),
     )
-stop_is tells owned P files s cuts others found planned committed e key disk disk_now logs r c cause.LogFault same own why counts faulty full bad = faulty refl
-stop_is tells owned P files s cuts others found planned committed e key disk disk_now logs r c (cause.LogShort t p m n) same own why counts faulty full bad = why
-stop_is tells owned P files s cuts others found planned committed e key disk disk_now logs r c (cause.Damaged q) same own why counts faulty full bad = bad q counts
-stop_is tells owned P files s cuts others found planned committed e key disk disk_now logs r c cause.DiskFault same own why counts faulty full bad = counts
-stop_is tells owned P files s cuts others found planned committed e key disk disk_now logs r c cause.Full same own why counts faulty full bad = full counts
-stop_is tells owned P files s cuts others found planned committed e key disk disk_now logs r c cause.NoMemory same own why counts faulty full bad = tt
+stop_is tells owned P files s cuts others found planned committed e key disk disk_now logs r c cause.LogFault same own why counts opened faulty full bad = (opened counts, faulty refl)
+stop_is tells owned P files s cuts others found planned committed e key disk disk_now logs r c (cause.LogShort t p m n) same own why counts opened faulty full bad = why
+stop_is tells owned P files s cuts others found planned committed e key disk disk_now logs r c (cause.Damaged q) same own why counts opened faulty full bad = bad q counts
+stop_is tells owned P files s cuts others found planned committed e key disk disk_now logs r c cause.DiskFault same own why counts opened faulty full bad = counts
+stop_is tells owned P files s cuts others found planned committed e key disk disk_now logs r c cause.Full same own why counts opened faulty full bad = full counts
+stop_is tells owned P files s cuts others found planned committed e key disk disk_now logs r c cause.NoMemory same own why counts opened faulty full bad = tt

@@ -12,7 +12,7 @@ use Rattle.ssq_board.specs.declared.front.Cause.TheVariants as cause
 use Rattle.ssq_board.specs.declared.front.Entry.{Entry}
 use Rattle.ssq_board.specs.declared.front.Entry.TheVariants as entry
 use Rattle.ssq_board.specs.declared.front.Place.TheVariants as place
-use Rattle.ssq_board.specs.Core.{Scope, Core, May, after, after_all, due, due_stop, is_stopped, moved, or_stop, tasks_of}
+use Rattle.ssq_board.specs.Core.{Scope, Core, May, after, after_all, due, due_stop, is_open, is_stopped, moved, or_stop, tasks_of}
 use Rattle.ssq_board.specs.Shelf.{Shelf, version_on}
 use Rattle.ssq_board.specs.Shown.{IsSound}
 use Rattle.ssq_board.specs.Rounds.{IsAtRest, Worked, Versioned, brings_rows, is_away}
@@ -140,7 +140,7 @@ module _ {D O : Type 0} (faults : D → ℕ) (closing : Bool) (old mid new : Sho
 
   -- a map or a reduce task is back, with a cause that is none of the desk's
   pub reported : (f : Option Cause) → new ≡ did mid mid.disk (entry.Report t f ∷ []) → brings_rows t.kind f ≡ false
-      → ((g : Cause) → f ≡ Some g → (r : Scope) (n : Core) (before now : ℕ) → StopsFor no_file r n before now g) → IsTurn faults closing old new
+      → ((g : Cause) → f ≡ Some g → (r : Scope) (n : Core) (before now : ℕ) → is_open n ≡ true → StopsFor no_file r n before now g) → IsTurn faults closing old new
   reported f is none own =
       let r = old.scope in
       let c = old.core in
@@ -149,7 +149,7 @@ module _ {D O : Type 0} (faults : D → ℕ) (closing : Bool) (old mid new : Sho
       let same : faults new.disk ≡ faults old.disk = ap (λ s. faults s.disk) is ∙ claimed_faults in
       goes_turn faults closing old new (entry.Claim t ∷ entry.Report t f ∷ []) (behind old mid new t (entry.Report t f ∷ []) claimed (here mid new (entry.Report t f ∷ []) is)) (λ none. refl) (λ k none. none)
       (report_goes r c t (faults old.disk) (faults new.disk) sound rest may f none
-      (report_stops r (after r c (entry.Claim t)) n t f (faults old.disk) (faults new.disk) may.0 calm (λ g own_is due_is. own g own_is r n (faults old.disk) (faults new.disk))))
+      (report_stops r (after r c (entry.Claim t)) n t f (faults old.disk) (faults new.disk) may.0 calm (λ g own_is due_is. own g own_is r n (faults old.disk) (faults new.disk) may.1)))
       (subst (λ (x : ℕ). faults old.disk ≤ x) (sym same) (le_refl (faults old.disk)))
 
   -- A reduce task is back, and told what it brings: a failure of the disk, where that stops the desk, was counted.

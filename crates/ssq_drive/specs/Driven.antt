@@ -10,19 +10,20 @@ use Rattle.ssq_board.specs.declared.front.Cause.TheVariants as cause
 use Rattle.ssq_board.specs.declared.front.Entry.{Entry}
 use Rattle.ssq_board.specs.declared.front.Entry.TheVariants as entry
 use Rattle.ssq_board.specs.declared.front.Ready.TheVariants as ready
-use Rattle.ssq_board.specs.Core.{Scope, Core, IsFull, is_stopped, ready_of, with_front, synced_front}
+use Rattle.ssq_board.specs.Core.{Scope, Core, IsFull, is_open, is_stopped, ready_of, with_front, synced_front}
 use Rattle.ssq_board.specs.Rounds.{IsAtRest, left, one_if}
 use Rattle.ssq_board.specs.Shelf.{Shelf, acknowledged_in, shelf_all, there_in}
 use Rattle.ssq_ledger.specs.Shown.{Opening, Shown, did, shelf_of}
 use Rattle.ssq_ledger.specs.Upkept.{NoneIsDue, NoneGoes}
 
 -- Why a desk stopped, whose disk had counted so many faults before, and so many now. The disk failed only where it counted that; the
--- limit of epochs is met only where so many are planned, and one more was to be; and a file is found damaged only where it is. What lines, keys
--- and logs brought is not told here.
+-- limit of epochs is met only where so many are planned, and one more was to be; a file is found damaged only where it is; and a log fails only as an
+-- open epoch reads it. What else lines, keys and logs brought is not told here.
 abbrev pub StopsFor : (IsDamaged : Name → Type 0) → Scope → Core → (before now : ℕ) → Cause → Type 0
 StopsFor IsDamaged r c before now cause.DiskFault = Rises before now
 StopsFor IsDamaged r c before now cause.Full = IsFull r c
 StopsFor IsDamaged r c before now (cause.Damaged q) = IsDamaged q
+StopsFor IsDamaged r c before now cause.LogFault = is_open c ≡ true
 StopsFor IsDamaged r c before now _ = Unit {0}
 
 -- no file is

@@ -34,7 +34,7 @@ use Rattle.ssq_board.specs.Shelf.{AreListed}
 use Rattle.ssq_terms.specs.Setting.{CanRun, IsSettingOf, AreFound, found_lines}
 use Rattle.ssq_terms.specs.Laws.{IsScopeOf, due_at}
 use Rattle.ssq_terms.specs.Partitions.{HoldsStateOf}
-use Rattle.ssq_promise.specs.Run.{WasRun, AreFilesOf}
+use Rattle.ssq_promise.specs.Run.{WasRun, AreFilesOf, CallFailed}
 use Rattle.ssq_desk.specs.declared.told.Told.{Told}
 use Rattle.ssq_desk.specs.Closing.{lines_between}
 use Rattle.ssq_desk.specs.Contents.{line_of}
@@ -141,13 +141,13 @@ IsMore s cuts found e = (is_behind (cuts e) found ≡ true) ⊎ (due_at s cuts e
 -- Why a round stopped that has so many epochs planned, at the first that is not committed: where disk and logs tell what they hold, a line
 -- is told only where it is the first fault of that epoch, which is planned, and no log is short; where also what was opened is the job's own, a
 -- key only where it is the fault of that epoch. There are too many epochs only where all are told and one more is to come: some part has more lines, or the query
--- closes; and by the job's own that one is due. What failed has counted it. A file that upkeep read, for a snapshot of an epoch that is told or was committed
+-- closes; and by the job's own that one is due. What failed has counted it, and a log fails only as it reads an epoch that is planned and not told. A file that upkeep read, for a snapshot of an epoch that is told or was committed
 -- before, is told only where it is damaged among those that the round leaves, and never where what was opened is the job's own.
 abbrev pub IsRoundStop : (tells owned : Type 0) → Setting → Cuts → (found : List ℕ) → (planned e : ℕ) → Files → (disk disk_now logs : ℕ) → (key : Option Values) → Cause → Type 0
 IsRoundStop tells owned s cuts found planned e files disk disk_now logs key (cause.BadLine t p o f) = (e < planned) × (tells → IsFaultAt s cuts e (line_of (cause.BadLine t p o f)))
 IsRoundStop tells owned s cuts found planned e files disk disk_now logs key (cause.Overflow t p o) = (e < planned) × (tells → IsFaultAt s cuts e (line_of (cause.Overflow t p o)))
 IsRoundStop tells owned s cuts found planned e files disk disk_now logs key cause.KeyOverflow = (e < planned) × IsSomeAnd key (λ own. owned → IsKeyAt s cuts e own)
-IsRoundStop tells owned s cuts found planned e files disk disk_now logs key cause.LogFault = 0 < logs
+IsRoundStop tells owned s cuts found planned e files disk disk_now logs key cause.LogFault = (e < planned) × (0 < logs)
 IsRoundStop tells owned s cuts found planned e files disk disk_now logs key (cause.LogShort t p logged lines) = (lines < logged) × (tells → ⊥)
 IsRoundStop tells owned s cuts found planned e files disk disk_now logs key (cause.Damaged q) = (owned → ⊥) × (tells → IsDamagedIn (keeping_of s.job.bound.shape s.job.partitions) e files q)
 IsRoundStop tells owned s cuts found planned e files disk disk_now logs key cause.DiskFault = Rises disk disk_now
@@ -184,16 +184,26 @@ pub record RoundWent (tells owned : Type 0) (s : Setting) (logs_count : ℕ) (r 
   pub stopped : (why : Stopped) → end ≡ Err why → IsRoundStop tells owned s (cut_of (first_of found) plans) r.available (length plans) (found.committed + length told) files disk disk_now logs why.key why.cause
   pub keyless : (why : Stopped) → end ≡ Err why → why.cause ≢ cause.KeyOverflow → why.key ≡ None
 
+-- the round stopped since a call of the disk failed, or memory ran out
+abbrev pub StoppedAtCall : Ended → Type 0
+StoppedAtCall end = (why : Stopped) × (end ≡ Err why) × CallFailed (Some why.cause)
+
+-- a cause that tasks of the epoch that runs alone bring: a fault of that epoch, or of a log
+abbrev pub IsOfOpen : Cause → Type 0
+IsOfOpen why = (is_of_epoch why ≡ true) ⊎ (why ≡ cause.LogFault)
+
 -- What a round does that begins on the job's own settled files: it is a run of the machine; its plans are those of the files that it leaves,
--- or, once all are done with, the publishing of one more failed; each epoch that it planned was to come; each that it tells has the rows of the
--- meaning; where it stopped for a fault of the epoch that runs, each image has the plan of that epoch; and where it is over, its files are settled,
+-- or, once all are done with, the publishing of one more, cut by what was found, failed, and the round stopped at that; each epoch that it planned was to
+-- come; each that it tells has the rows of the meaning; where it stopped for a fault of the epoch that runs, each image has the plan of that epoch, and
+-- where it stopped for that or for a log that failed, none has its commit; and where it is over, its files are settled,
 -- what the next round begins on is what they hold, upkeep is done by them, and no epoch without lines is due.
 pub record RoundRan (tells : Type 0) (s : Setting) (r : Scope) (start now : History) (cuts : Cuts) (before committed planned : ℕ) (told : List Told) (end : Ended) : Type 0 where
   pub run : WasRun tells (job_of s) start now (map (λ t. t.epoch) told)
-  pub files : AreFilesOf (job_of s) r.cap (due_at s) (λ lines. AreFound lines s.lines) (committed + length told ≡ planned) cuts planned now
+  pub files : AreFilesOf (job_of s) r.cap (due_at s) (λ lines. lines ≡ r.available) ((committed + length told ≡ planned) × StoppedAtCall end) cuts planned now
   pub due : (e : ℕ) → before ≤ e → e < planned → IsMore s cuts r.available e
   pub meant : All (IsMeant s cuts) told
   pub planned_stays : (why : Stopped) → end ≡ Err why → is_of_epoch why.cause ≡ true → LeavesNow now (λ image. IsThere image (name.Plan (committed + length told)))
+  pub uncommitted : (why : Stopped) → end ≡ Err why → IsOfOpen why.cause → LeavesNow now (λ image. image (name.Commit (committed + length told)) ≡ None)
   pub settled : (next : Opened × Vec (List Timed)) → end ≡ Ok next → IsSettledAs now (files_now now)
   pub found : (next : Opened × Vec (List Timed)) → end ≡ Ok next → IsFoundOf s (files_now now) next.0
   pub kept : (next : Opened × Vec (List Timed)) → end ≡ Ok next → IsKeptUp (keeping_of s.job.bound.shape s.job.partitions) s.job.partitions (files_now now)
