@@ -5,10 +5,11 @@ use Rattle.ssq_outside.specs.declared.name.Name.{Name}
 use Rattle.ssq_outside.specs.declared.disk.DiskFault.{DiskFault}
 use Rattle.ssq_outside.specs.Files.{same_name, Content, newest, MayBe, Had, files_of, changed, removed, settled_at, IsSyncStep}
 use Rattle.ssq_outside.specs.History.{History, had_now, files_now, Elapses}
+use Rattle.ssq_outside.proofs.Names.{same_name-same}
 use Rattle.ssq_outside.proofs.Steps.{last_or-push, files_are_image}
 use Rattle.ssq_fakes.specs.declared.record.Event.{Event}
 use Rattle.ssq_fakes.specs.declared.record.Event.TheVariants.{Put, Gone, Synced}
-use Rattle.ssq_fakes.specs.Records.{had_by, had_after, content_in}
+use Rattle.ssq_fakes.specs.Records.{had_by, had_after, content_in, is_unsettled}
 use Rattle.ssq_fakes.specs.Disks.{history_of}
 
 newest_changed : (b : Bool) (name q : Name) (c : Content) (had : Had)
@@ -31,6 +32,29 @@ had_now-is events clock = let now : clock - clock ≡ 0 = omega arith in rw now 
 
 pub files_now-is : (events : List Event) (clock : ℕ) (q : Name) → files_now (history_of events clock) q ≡ content_in events q
 files_now-is events clock q = ap (λ (had : Had). newest (had q)) (had_now-is events clock) ∙ newest-had_after events q
+
+no_last : {A : Type 0} (xs : List A) (x : A) → xs ++ x ∷ [] ≡ [] → ⊥
+no_last [] x same = absurd (cc)
+no_last (y ∷ ys) x same = absurd (cc)
+
+changed_since : (b : Bool) (q : Name) (c : Content) (had : Had) → b ≡ true → (if b then record { settled = (had q).settled; since = (had q).since ++ c ∷ [] } else had q).since ≡ [] → ⊥
+changed_since true q c had is none = no_last (had q).since c none
+changed_since false q c had is none = absurd (cc)
+
+-- what changed since the last sync is not settled
+unsettled_since : (events : List Event) → is_unsettled events ≡ true → ((q : Name) → (had_after events q).since ≡ []) → ⊥
+unsettled_since [] is none = absurd (cc)
+unsettled_since (Put name bytes ∷ older) is none = changed_since (same_name name name) name (Some bytes.items) (had_after older) (same_name-same name) (none name)
+unsettled_since (Gone name ∷ older) is none = changed_since (same_name name name) name None (had_after older) (same_name-same name) (none name)
+unsettled_since (Synced ∷ older) is none = absurd (cc)
+
+pub unsettled : (events : List Event) (clock : ℕ) → is_unsettled events ≡ true → had_now (history_of events clock) ≡ settled_at (files_now (history_of events clock)) → ⊥
+unsettled events clock is same = unsettled_since events is (λ q. ap (λ (had : Had). (had q).since) (sym (had_now-is events clock) ∙ same))
+
+-- nothing stands where something does
+pub not_there : (content : Content) → is_some content ≡ true → content ≡ None → ⊥
+not_there None there none = absurd (cc)
+not_there (Some bytes) there none = absurd (cc)
 
 -- no time goes by
 pub rests : (h : History) (P : Had → Type 0) → Elapses h h P

@@ -296,7 +296,7 @@ impl MemDisk {
 }
 
 impl Disk for MemDisk {
-    ghost use Rattle.std.specs.Prelude.{◌≡◌, ◌↔◌, ◌<◌, ◌≤◌, ◌+◌, ◌⊎◌, ◌∷◌, [], true, ⊤, option_map, IfOk, IsErr, OnOk, OnErr, IsErrOf};
+    ghost use Rattle.std.specs.Prelude.{◌≡◌, ◌↔◌, ◌<◌, ◌≤◌, ◌+◌, ◌⊎◌, ◌∷◌, [], true, false, None, ⊤, option_map, IfOk, IsOk, IsErr, OnOk, OnErr, IsErrOf};
     ghost use Rattle.ssq_outside.specs.Faults.{Rises, StaysSure};
     ghost use Rattle.ssq_outside.specs.Files.{added, removed, settled_at, IsSyncStep, AreNames};
     ghost use Rattle.ssq_outside.specs.History.{had_now, files_now, Elapses};
@@ -379,6 +379,7 @@ impl Disk for MemDisk {
         ensures planned { fails_on_disk (disk_plan self.old) (disk_calls self.old) ≡ true → IsErr result × (disk_history self.new ≡ disk_history self.old) }
         ensures failed { OnErr result ((fails_on_disk (disk_plan self.old) (disk_calls self.old) ≡ true) ⊎ (IsAtEnd self.old ⊎ (disk_room self.old ≡ 0))) }
         ensures room { OnOk result (disk_room self.old ≤ disk_room self.new + 1) }
+        ensures absent { files_now (disk_history self.old) name ≡ None → fails_on_disk (disk_plan self.old) (disk_calls self.old) ≡ false → IsOk result × (disk_history self.new ≡ disk_history self.old) }
         ensures next { (disk_plan self.new ≡ disk_plan self.old) × (disk_calls self.new ≡ call_after (disk_calls self.old)) × (disk_stages self.new ≡ disk_stages self.old) }
         ensures ok { OnOk result (had_now (disk_history self.new) ≡ removed name (had_now (disk_history self.old))) }
         ensures steps { Elapses (disk_history self.old) (disk_history self.new) (λ had. had ≡ removed name (had_now (disk_history self.old))) }
@@ -400,6 +401,7 @@ impl Disk for MemDisk {
         ensures planned { fails_on_disk (disk_plan self.old) (disk_calls self.old) ≡ true → IsErr result × (disk_history self.new ≡ disk_history self.old) }
         ensures failed { OnErr result ((fails_on_disk (disk_plan self.old) (disk_calls self.old) ≡ true) ⊎ (IsAtEnd self.old ⊎ (disk_room self.old ≡ 0))) }
         ensures room { OnOk result (disk_room self.old ≤ disk_room self.new + 1) }
+        ensures idle { had_now (disk_history self.old) ≡ settled_at (files_now (disk_history self.old)) → fails_on_disk (disk_plan self.old) (disk_calls self.old) ≡ false → IsOk result × (disk_history self.new ≡ disk_history self.old) }
         ensures next { (disk_plan self.new ≡ disk_plan self.old) × (disk_calls self.new ≡ call_after (disk_calls self.old)) × (disk_stages self.new ≡ disk_stages self.old) }
         ensures ok { OnOk result (had_now (disk_history self.new) ≡ settled_at (files_now (disk_history self.old))) }
         ensures steps { Elapses (disk_history self.old) (disk_history self.new) (IsSyncStep (had_now (disk_history self.old))) }

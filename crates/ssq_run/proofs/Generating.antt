@@ -367,7 +367,7 @@ inside_memory _ is = absurd is
 -- its run stopped
 pub gen_stop : (bound : Bound) (number count : ℕ) (files : Files) (end : Result (Unit {0}) RunFault) (why : Stop) (counts : List ℕ) → RanSo (made_setting bound number count) files end → IsNoRefusal end → IsNoLimit end
     → IsToldAs (Some why) (stop_of_end bound.streams counts end) → GenEnd bound number count [] (Some (in_memory why))
-gen_stop bound number count files end why counts so goes free (inr memory) = out_of_memory refl (ap (λ (w : Stop). Some (in_memory w)) (same_stop why stop.NoMemory memory))
+gen_stop bound number count files end why counts so goes free (inr memory) = out_of_memory refl (ap (λ (w : Stop). Some (in_memory w)) (same_stop why stop.NoMemory memory.1))
 gen_stop bound number count files end why counts (done cuts n all has is) goes free (inl same) =
     absurd (some_apart (same ∙ ap (λ (e : Result (Unit {0}) RunFault). stop_of_end bound.streams counts e) is))
   where
@@ -396,11 +396,11 @@ gen_ran s files streams counts end (faulty own first is) goes free (inl none) = 
 gen_ran s files streams counts end (outer inside) goes free (inl none) =
     let O : Option Stop → Type 0 = λ o. IsInside o in
     absurd (subst O (sym none) (inside streams counts goes free))
-gen_ran s files streams counts end (faulty own first is) goes free (inr memory) = absurd (none_memory memory)
+gen_ran s files streams counts end (faulty own first is) goes free (inr memory) = absurd (none_memory memory.1)
   where
     none_memory : None ≡ Some stop.NoMemory → ⊥
     none_memory e = cc
-gen_ran s files streams counts end (outer inside) goes free (inr memory) = absurd (none_memory memory)
+gen_ran s files streams counts end (outer inside) goes free (inr memory) = absurd (none_memory memory.1)
   where
     none_memory : None ≡ Some stop.NoMemory → ⊥
     none_memory e = cc

@@ -145,7 +145,7 @@ module _ {L : Type 0} (told tells : Type 0) (lines : L → List Line) (available
     where
       by_told : IsToldAs stop (stop_of_end asks.bound.streams (counts_in given.held asks.bound.streams) ran.end) → IsEndStatus ran.end (status_in stop)
       by_told (inl same) = let S : Option Stop → Type 0 = λ s. IsEndStatus ran.end (status_in s) in subst S (sym same) (end_status asks.bound.streams (counts_in given.held asks.bound.streams) ran.end)
-      by_told (inr out) = memory (ap status_in out)
+      by_told (inr out) = memory (ap status_in out.1)
 
   module _ (taken : AcceptedAreTaken) (end : ProgramEnd told tells lines available answers faults given OutTells went stop) (before after status : ℕ) (answer : IsStatus stop before after status) where
     -- what can go on is not refused

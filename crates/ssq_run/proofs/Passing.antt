@@ -112,15 +112,15 @@ told_of streams counts parts_are (Err run.NoMemory) same = refl
 -- what is told of a run, or that memory ran out, has its count, and is no fault of the words
 pub told_counts : (streams : List Stream) (counts : List ℕ) (d0 d1 i0 i1 o0 o1 : ℕ) (end : Result (Unit {0}) RunFault) (stop : Option Stop) → source.HasCount d0 d1 i0 i1 o0 o1 end → IsToldAs stop (stop_of_end streams counts end) → HasCount i0 i1 d0 d1 o0 o1 stop
 told_counts streams counts d0 d1 i0 i1 o0 o1 end stop is (inl same) = let C : Option Stop → Type 0 = HasCount i0 i1 d0 d1 o0 o1 in subst C (sym same) (run_counts streams counts d0 d1 i0 i1 o0 o1 end is)
-told_counts streams counts d0 d1 i0 i1 o0 o1 end stop is (inr memory) = let C : Option Stop → Type 0 = HasCount i0 i1 d0 d1 o0 o1 in subst C (sym memory) tt
+told_counts streams counts d0 d1 i0 i1 o0 o1 end stop is (inr memory) = let C : Option Stop → Type 0 = HasCount i0 i1 d0 d1 o0 o1 in subst C (sym memory.1) tt
 
 pub told_past : (streams : List Stream) (counts : List ℕ) (end : Result (Unit {0}) RunFault) (stop : Option Stop) → IsToldAs stop (stop_of_end streams counts end) → IsPastWords stop
 told_past streams counts end stop (inl same) = subst IsPastWords (sym same) (run_past streams counts end)
-told_past streams counts end stop (inr memory) = subst IsPastWords (sym memory) tt
+told_past streams counts end stop (inr memory) = subst IsPastWords (sym memory.1) tt
 
 pub told_by_parts : (streams : List Stream) (counts parts_are : List ℕ) (end : Result (Unit {0}) RunFault) (stop : Option Stop) → ((why : LengthFault) → end ≡ Err (run.Lines why) → counts ≡ parts_are) → IsToldAs stop (stop_of_end streams counts end) → IsToldAs stop (stop_of_end streams parts_are end)
 told_by_parts streams counts parts_are end stop same (inl is) = inl (is ∙ told_of streams counts parts_are end same)
-told_by_parts streams counts parts_are end stop same (inr memory) = inr memory
+told_by_parts streams counts parts_are end stop same (inr memory) = inr ((λ none. memory.0 (told_of streams counts parts_are end same ∙ none)), memory.1)
 
 -- a look that was denied tells nothing
 pub denied_look : (bound : Bound) (files : Files) (text : List ℕ) (end : Option Stop) (stop : Stop) → text ≡ [] → end ≡ Some stop → LookEnd bound files [] (Some stop) → LookEnd bound files text end

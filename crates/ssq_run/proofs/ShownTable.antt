@@ -19,7 +19,7 @@ use Rattle.ssq_words.specs.Asking.{asks_show}
 use Rattle.ssq_run.specs.declared.stop.Stop.{Stop}
 use Rattle.ssq_run.specs.declared.stop.Stop.TheVariants.{Usage, Refused, BadLine, Overflow, KeyOverflow, LogFault, DiskFault, OutFault, OtherQuery, OtherPartitions, OtherParts, LogShort, Damaged, NoMemory, FullParts, FullLines, FullEpochs}
 use Rattle.ssq_run.specs.Going.{CanShow}
-use Rattle.ssq_run.specs.Program.{Given, Went, IsOutside, HasObeyed, has_told, has_shown, ProgramEnd, Wrote, whole, cut, cut_done, starved as ran_dry, line_in}
+use Rattle.ssq_run.specs.Program.{Given, Went, IsOutside, HasObeyed, has_told, has_shown, ProgramEnd, Wrote, whole, cut, cut_done, unsaid, starved as ran_dry, line_in}
 use Rattle.ssq_run.specs.Queries.{read_of}
 use Rattle.ssq_run.specs.Shown.{HasWrittenTable, ShowEnd, broke_off, denied, nothing_there, spoilt, starved, unread, written}
 use Rattle.ssq_run.specs.Stopping.{status_in}
@@ -115,4 +115,5 @@ module _ {L : Type 0} (told tells : Type 0) (lines : L → List Line) (available
       subst (Writes went.old) (sym same) own.1
   table_shown before now status after end (cut is some rises n new) zero = absurd (some (no_stop stop (sym is ∙ zero)))
   table_shown before now status after end (cut_done is none rises n m new) zero = absurd (omega (arith, is, zero))
-  table_shown before now status after end (ran_dry is n m new) zero = absurd (omega (arith, is, zero))
+  table_shown before now status after end (unsaid is some n new) zero = absurd (omega (arith, is, zero))
+  table_shown before now status after end (ran_dry is n new) zero = absurd (omega (arith, is, zero))

@@ -8,7 +8,7 @@ use Rattle.ssq_run.specs.declared.stop.Stop.{Stop}
 use Rattle.ssq_run.specs.declared.stop.Stop.TheVariants.{Usage, LogFault, DiskFault, OutFault, NoMemory}
 use Rattle.ssq_run.specs.Lines.{stop_line}
 use Rattle.ssq_run.specs.Stopping.{status_of, status_in, HasCount, WordsCause}
-use Rattle.ssq_run.specs.Program.{Wrote, whole, cut, cut_done, starved, HasEnded, IsStatus}
+use Rattle.ssq_run.specs.Program.{Wrote, whole, cut, cut_done, unsaid, starved, HasEnded, IsStatus}
 use Rattle.ssq_words.specs.Asking.{asked}
 
 -- a front was written, all of it or less
@@ -20,7 +20,7 @@ said (Err e) old new line ok err = err
 pub wrote_whole : (stop : Option Stop) (told text old new : List ℕ) (before now status : ℕ) → HasEnded stop told status text → new ≡ old ++ text → Wrote stop told old new before now status
 wrote_whole stop told text old new before now status (inl ended) put = whole ended.0 (put ∙ ap (λ t. old ++ t) ended.1)
 wrote_whole stop told text old new before now status (inr short) put =
-    starved short.1 (length told) 0 (put ∙ ap (λ t. old ++ t) (short.2 ∙ sym (take-length told)) ∙ sym (append-nil (old ++ take (length told) told)))
+    unsaid short.1 short.0 (length told) (put ∙ ap (λ t. old ++ t) (short.2 ∙ sym (take-length told)))
 
 some_stop : (stop : Stop) → Some stop ≡ None → ⊥
 some_stop stop e = cc
@@ -30,11 +30,11 @@ pub wrote_cut : (stop : Option Stop) (told text old new : List ℕ) (before now 
 wrote_cut None told text old new before now status n (inl ended) stopped rises put = absurd (stopped ended.0)
 wrote_cut (Some stop) told text old new before now status n (inl ended) stopped rises put = cut ended.0 (some_stop stop) rises n (put ∙ ap (λ t. old ++ take n t) ended.1)
 wrote_cut stop told text old new before now status n (inr short) stopped rises put =
-    starved short.1 n 0 (put ∙ ap (λ t. old ++ take n t) short.2 ∙ sym (append-nil (old ++ take n told)))
+    unsaid short.1 short.0 n (put ∙ ap (λ t. old ++ take n t) short.2)
 
 -- memory ran out for what was to be written
 pub wrote_starved : (stop : Option Stop) (told old mid new : List ℕ) (before now n : ℕ) → mid ≡ old → new ≡ mid ++ take n (stop_line NoMemory) → Wrote stop told old new before now 10
-wrote_starved stop told old mid new before now n same put = starved refl 0 n (put ∙ ap (λ c. c ++ take n (stop_line NoMemory)) (same ∙ sym (append-nil old)))
+wrote_starved stop told old mid new before now n same put = starved refl n (put ∙ ap (λ c. c ++ take n (stop_line NoMemory)) same)
 
 never_zero : (stop : Stop) → status_of stop ≡ 0 → ⊥
 never_zero Usage e = absurd (omega (arith, e))
@@ -57,7 +57,8 @@ pub wrote_since : (stop : Option Stop) (told old new : List ℕ) (earlier before
 wrote_since stop told old new earlier before now status less (whole is put) = whole is put
 wrote_since stop told old new earlier before now status less (cut is some rises n put) = cut is some (omega (arith, rises, less)) n put
 wrote_since stop told old new earlier before now status less (cut_done is none rises n m put) = cut_done is none (omega (arith, rises, less)) n m put
-wrote_since stop told old new earlier before now status less (starved is n m put) = starved is n m put
+wrote_since stop told old new earlier before now status less (unsaid is some n put) = unsaid is some n put
+wrote_since stop told old new earlier before now status less (starved is n put) = starved is n put
 
 -- the status tells the stop
 status_is : (stop : Option Stop) (n before now status : ℕ) → n ≢ 8 → n ≢ 10 → IsStatus stop before now status → status ≡ n → status_in stop ≡ n

@@ -28,7 +28,8 @@ pub record IsAskedFor (given : Given) (start : History) (s : Setting) : Type 0 w
   pub asks : AsksRun given
   pub setting : IsSettingFor given.held asks.bound asks.partitions start s
 
--- The checkpoint is empty, or stands for the query that is to be run, and of no part more lines are planned than were known to be there.
+-- The checkpoint is empty, or stands for the query that is to be run, of no part more lines are planned than were known to be there, and no stream
+-- has more than 64 parts.
 pub record CanGoOn (given : Given) (start : History) : Type 0 where
   pub asks : AsksRun given
   pub setting : Setting

@@ -105,13 +105,14 @@ line_in None = []
 line_in (Some stop) = stop_line stop
 
 -- The status, and what was written at the end. Whole: what was left to tell and the stop's line. The output failed: a front of that;
--- where the job was done this is status 8, and a front of that status's line stands behind it. Memory ran out: status 10, and
--- fronts of what was left to tell and of that status's line.
+-- where the job was done this is status 8, and a front of that status's line stands behind it. Memory ran out, status 10: for the stop's line,
+-- and a front of what was left to tell was written; or for what was to be written, and a front of the line of that status was.
 pub data Wrote (stop : Option Stop) (told old new : List ℕ) (before now status : ℕ) : Type 0 where
   whole : status ≡ status_in stop → new ≡ old ++ (told ++ line_in stop) → Wrote stop told old new before now status
   cut : status ≡ status_in stop → stop ≢ None → Rises before now → (n : ℕ) → new ≡ old ++ take n (told ++ line_in stop) → Wrote stop told old new before now status
   cut_done : status ≡ 8 → stop ≡ None → Rises before now → (n m : ℕ) → new ≡ old ++ take n told ++ take m (stop_line OutFault) → Wrote stop told old new before now status
-  starved : status ≡ 10 → (n m : ℕ) → new ≡ old ++ take n told ++ take m (stop_line NoMemory) → Wrote stop told old new before now status
+  unsaid : status ≡ 10 → stop ≢ None → (n : ℕ) → new ≡ old ++ take n told → Wrote stop told old new before now status
+  starved : status ≡ 10 → (n : ℕ) → new ≡ old ++ take n (stop_line NoMemory) → Wrote stop told old new before now status
 
 -- the status is the stop's; or 8 where the job was done and the output failed; or 10
 abbrev pub IsStatus : Option Stop → ℕ → ℕ → ℕ → Type 0

@@ -1,5 +1,5 @@
 -- How faults become the program's stop, its status, and when each may come.
-use Rattle.std.specs.Prelude.{◌≡◌, ◌⊎◌, ℕ, List, [], Option, Some, None, Result, Ok, Err, IsSome}
+use Rattle.std.specs.Prelude.{◌≡◌, ◌≢◌, ◌⊎◌, ℕ, List, [], Option, Some, None, Result, Ok, Err, IsSome}
 use Rattle.ssq_outside.specs.Faults.{Rises}
 use Rattle.ssq_outside.specs.Logs.{Held}
 use Rattle.ssq_outside.specs.declared.inputs.InputError.{InputError}
@@ -137,9 +137,9 @@ abbrev pub stop_of_end : List Stream → List ℕ → Result (Unit {0}) RunFault
 stop_of_end streams counts (Ok done) = None
 stop_of_end streams counts (Err fault) = Some (stop_of_run streams counts fault)
 
--- it is told so, or memory ran out for that
+-- it is told so; or it has a stop, and memory ran out for telling that
 abbrev pub IsToldAs : Option Stop → Option Stop → Type 0
-IsToldAs stop as_is = (stop ≡ as_is) ⊎ (stop ≡ Some NoMemory)
+IsToldAs stop as_is = (stop ≡ as_is) ⊎ ((as_is ≢ None) × (stop ≡ Some NoMemory))
 
 -- the stop of a result, if it is one
 abbrev pub stop_in : {T : Type 0} → Result T Stop → Option Stop

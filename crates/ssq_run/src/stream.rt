@@ -128,7 +128,9 @@ pub fn stream_main<R: Threads + Wait + Sync, D: Disk, I: Inputs, O: Output, G: G
     ensures ending { D.tells → I.tells → ProgramWrote I.tells (D.tells × I.Log.tells) I.Log.lines I.Log.available I.Log.answers I.Log.faults
         (record { words = map string_bytes words.now; held = I.held inputs; known = I.available inputs })
         (D.history disk) (D.history result.disk) (D.faults disk) (D.faults result.disk) (I.returned inputs) (I.returned result.inputs) O.tells (O.content out) (O.content result.out) (O.faults out) (O.faults result.out) result.status }
+    // The inputs hold what they held, and lines that were known to be there are known still.
     ensures held { I.tells → I.held result.inputs ≡ I.held inputs }
+    ensures grown { I.tells → (stream : List ℕ) (part : ℕ) → I.available inputs stream part ≤ I.available result.inputs stream part }
 
     // A checkpoint that stands for the query that is to be run, and whose logs have lost no line, is never refused as another's or as damaged.
     ensures goes_on { D.tells → I.tells → CanGoOn

@@ -114,6 +114,17 @@ returns-clause-held g c = λ told. elim c.match-prepare.branch [
   | in-Err w ↦ rw w.inputs-is (c.prepare.ensures.held told)
 ]
 
+pub returns-clause-grown : goal.returns-clause-grown
+returns-clause-grown g c = λ told stream part. elim c.match-prepare.branch [
+  | in-Ok-Run w ↦
+      rw w.inputs-is
+      (let first = c.prepare.ensures.grown told stream part in
+      let next = w.run_query-ran.ensures.grown told stream part in
+      omega (arith, first, next))
+  | in-Ok-Look w ↦ rw w.inputs-is (c.prepare.ensures.grown told stream part)
+  | in-Err w ↦ rw w.inputs-is (c.prepare.ensures.grown told stream part)
+]
+
 -- ---- and how that is told
 
 pub returns-clause-ending : goal.returns-clause-ending

@@ -4,7 +4,7 @@ use Rattle.std.proofs.lemmas.Result.{on_ok_weaker, on_err_weaker}
 use Rattle.ssq_fakes.specs.declared.record.Event.TheVariants.{Gone}
 use Rattle.ssq_fakes.specs.Records.{events_of, had_after, content_in}
 use Rattle.ssq_fakes.specs.Disks.{disk_history}
-use Rattle.ssq_fakes.proofs.Histories.{advances, had_now-is, removed-there, removed-absent, rests}
+use Rattle.ssq_fakes.proofs.Histories.{advances, had_now-is, files_now-is, not_there, removed-there, removed-absent, rests}
 use Rattle.ssq_fakes.proofs.Rooms.{sure_gone, stays_sure, has_room-there, on_ok_both}
 use Rattle.ssq_fakes.proofs.disk.MemDiskDisk.remove.Goals as goal
 
@@ -50,3 +50,9 @@ returns-then-not-has-clause-steps c = rests (disk_history c.args.self.now) _
 pub returns-clause-failed : goal.returns-clause-failed
 returns-clause-failed c =
     on_err_weaker c.advance_in_spare.result (λ full. inr (elim full [ inl end ↦ inl end | inr none ↦ inr (ap length none) ])) c.advance_in_spare.ensures.full
+
+pub returns-clause-absent : goal.returns-clause-absent
+returns-clause-absent c = λ none fails.
+    let old = c.args.self.now in
+    let there : is_some (content_in (events_of old.record) c.args.name) ≡ true = sym c.has.ensures ∙ c.if-not-has.false in
+    absurd (not_there (content_in (events_of old.record) c.args.name) there (sym (files_now-is (events_of old.record) old.clock c.args.name) ∙ none))

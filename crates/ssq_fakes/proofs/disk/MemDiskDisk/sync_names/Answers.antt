@@ -4,7 +4,7 @@ use Rattle.ssq_outside.specs.Files.{Had, IsSyncStep, files_of, settled_at}
 use Rattle.ssq_fakes.specs.declared.record.Event.TheVariants.{Synced}
 use Rattle.ssq_fakes.specs.Records.{events_of, had_after}
 use Rattle.ssq_fakes.specs.Disks.{disk_history}
-use Rattle.ssq_fakes.proofs.Histories.{advances, had_now-is, sync_step, rests}
+use Rattle.ssq_fakes.proofs.Histories.{advances, had_now-is, sync_step, rests, unsettled}
 use Rattle.ssq_fakes.proofs.disk.MemDiskDisk.sync_names.Goals as goal
 
 pub returns-clause-ok : goal.returns-clause-ok
@@ -29,3 +29,8 @@ returns-then-fails-clause-steps c = rests (disk_history c.args.self.now) _
 pub returns-clause-failed : goal.returns-clause-failed
 returns-clause-failed c =
     on_err_weaker c.advance_in_spare.result (λ full. inr (elim full [ inl end ↦ inl end | inr none ↦ inr (ap length none) ])) c.advance_in_spare.ensures.full
+
+pub returns-clause-idle : goal.returns-clause-idle
+returns-clause-idle c = λ settled fails.
+    let old = c.args.self.now in
+    absurd (unsettled (events_of old.record) old.clock (sym c.is_unsettled.ensures ∙ c.if-not-is_unsettled.false) settled)
