@@ -1,3 +1,5 @@
+pub mod Beginnings
+pub mod Begun
 pub mod Clauses
 pub mod DeepExpressions
 pub mod DeepLemmas
@@ -15,6 +17,7 @@ pub mod LaidHeads
 pub mod LaidOperands
 pub mod LaidOperators
 pub mod LaidParts
+pub mod Lexical
 pub mod Local
 pub mod LocalExpressions
 pub mod LocalLoops
