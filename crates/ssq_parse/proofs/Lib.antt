@@ -1,3 +1,4 @@
+pub mod Begun
 pub mod Clauses
 pub mod DeepExpressions
 pub mod DeepLemmas
