@@ -1,4 +1,7 @@
 pub mod Begun
+pub mod BegunExpressions
+pub mod BegunOperands
+pub mod BegunTimes
 pub mod Clauses
 pub mod DeepExpressions
 pub mod DeepLemmas
