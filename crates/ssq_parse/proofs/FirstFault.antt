@@ -22,14 +22,13 @@ use Rattle.ssq_parse.specs.Faults.{next_word, IsFirst, FaultAt, StandsAt}
 use Rattle.ssq_parse.specs.File.{Fault, as_cause, ended, placed, judged, judged_cut, query_of, Answers}
 use Rattle.ssq_parse.specs.Queries.{query_at}
 use Rattle.ssq_parse.specs.Reading.{Ahead, Made, Refusal}
-use Rattle.ssq_parse.specs.Written.{says, starts, IfRead}
-use Rattle.ssq_parse.proofs.Beginnings.{IfMadeBegun, begun_in, all_begun, written_begins}
+use Rattle.ssq_parse.specs.Written.{says, starts}
 use Rattle.ssq_parse.proofs.Begun.{Begun}
+use Rattle.ssq_parse.proofs.BegunQueries.{IfMade, ReadsAll, query_begun, all_begin, is_begun}
 use Rattle.ssq_parse.specs.Deep.{DeepBy}
 use Rattle.ssq_parse.proofs.DeepLemmas.{IfDeep}
 use Rattle.ssq_parse.proofs.DeepQueries.{IsDeep, query_deep}
 use Rattle.ssq_parse.proofs.Lexical.{IsBad, bad_here, broken}
-use Rattle.ssq_parse.proofs.Selects.{query_sound}
 use Rattle.ssq_parse.proofs.Laid.{Where, laid}
 use Rattle.ssq_parse.proofs.Laid as laying
 use Rattle.ssq_parse.proofs.Local.{IfMissing, next}
@@ -94,42 +93,41 @@ at_end cause.TooDeep p = p
 at_end other p = absurd p
 
 ended_first : (file : List ℕ) (fault : Option LexRefusal) → (cut_of file).fault ≡ fault → (c : ParseCause) → Stands (cut_of file).tokens (record { at = None; cause = c })
-    → Begun query_words IsPhrase (cut_of file).tokens None → IfFirst file (Err (ended (length file) fault))
-ended_first file None ends c s b = record { begun = begun_in file None b; first = first_of_file file (record { at = None; cause = c }) s }
-ended_first file (Some refusal) ends c s b = lexical file refusal ends (all_begun (cut_of file).tokens b)
+    → Begun query_words IsPhrase (cut_of file).tokens None → BeginsQuery (says (cut_of file).tokens) → IfFirst file (Err (ended (length file) fault))
+ended_first file None ends c s b all = record { begun = is_begun file None b; first = first_of_file file (record { at = None; cause = c }) s }
+ended_first file (Some refusal) ends c s b all = lexical file refusal ends all
 
 placed_first : (file : List ℕ) (fault : Option LexRefusal) → (cut_of file).fault ≡ fault → (c : ParseCause) (at : Option ℕ) → IfMissing c at (Stands (cut_of file).tokens (record { at = at; cause = c }))
     → IfMissing c at (Begun query_words IsPhrase (cut_of file).tokens at) → IfDeep c at (DeepBy 0 (cut_of file).tokens)
-    → IfFirst file (Err (placed (ended (length file) fault) at c))
-placed_first file fault ends cause.Expected (Some at) s b d = record { begun = begun_in file (Some at) b; first = first_of_file file (record { at = Some at; cause = cause.Expected }) s }
-placed_first file fault ends cause.BadText (Some at) s b d = record { begun = begun_in file (Some at) b; first = first_of_file file (record { at = Some at; cause = cause.BadText }) s; bad = s.bad }
-placed_first file fault ends cause.TooDeep (Some at) s b d = d
-placed_first file fault ends c None s b d = ended_first file fault ends c (at_end c s) (at_end c b)
-placed_first file fault ends c (Some at) s b d = absurd s
+    → (at ≡ None → BeginsQuery (says (cut_of file).tokens)) → IfFirst file (Err (placed (ended (length file) fault) at c))
+placed_first file fault ends cause.Expected (Some at) s b d all = record { begun = is_begun file (Some at) b; first = first_of_file file (record { at = Some at; cause = cause.Expected }) s }
+placed_first file fault ends cause.BadText (Some at) s b d all = record { begun = is_begun file (Some at) b; first = first_of_file file (record { at = Some at; cause = cause.BadText }) s; bad = s.bad }
+placed_first file fault ends cause.TooDeep (Some at) s b d all = d
+placed_first file fault ends c None s b d all = ended_first file fault ends c (at_end c s) (at_end c b) (all refl)
+placed_first file fault ends c (Some at) s b d all = absurd s
 
 judged_first : (file : List ℕ) (fault : Option LexRefusal) → (cut_of file).fault ≡ fault → (made : Made Query) → IfStands (cut_of file).tokens made
-    → IfMadeBegun (cut_of file).tokens made → IsDeep (cut_of file).tokens made → IfRead made (IsWritten (cut_of file).tokens) → IfFirst file (judged (length file) fault made)
-judged_first file fault ends (Err refusal) s b d none = placed_first file fault ends refusal.cause refusal.at s b d
-judged_first file None ends (Ok query) s b d w = tt
-judged_first file (Some refusal) ends (Ok query) s b d w = lexical file refusal ends (written_begins (cut_of file).tokens query w)
+    → IfMade (cut_of file).tokens made → IsDeep (cut_of file).tokens made → (ReadsAll made → BeginsQuery (says (cut_of file).tokens)) → IfFirst file (judged (length file) fault made)
+judged_first file fault ends (Err refusal) s b d all = placed_first file fault ends refusal.cause refusal.at s b d all
+judged_first file None ends (Ok query) s b d all = tt
+judged_first file (Some refusal) ends (Ok query) s b d all = lexical file refusal ends (all tt)
 
-module _ (query_begun : (tokens : Ahead) → IfMadeBegun tokens (query_at tokens)) where
-  file_by : (file : List ℕ) (long utf8 : Bool) → nat_lt 65536 (length file) ≡ long → is_utf8 file ≡ utf8
-      → IfFirst file (if long then Err (record { at = 65536; cause = cause.TooLong })
-      else (if utf8 then judged_cut (length file) (cut_of file) else Err (record { at = utf8_valid_len file; cause = cause.NotUtf8 })))
-  file_by file true utf8 is_long is_text = let long : 65536 < length file = grind (arith, nat_tests) in (long, refl)
-  file_by file false false is_long is_text = let short : length file ≤ 65536 = grind (arith, nat_tests) in (short, broken file is_text)
-  file_by file false true is_long is_text =
-      judged_first file (cut_of file).fault refl (query_at (cut_of file).tokens) (query_stands (cut_of file).tokens) (query_begun (cut_of file).tokens) (query_deep (cut_of file).tokens) (query_sound (cut_of file).tokens)
+file_by : (file : List ℕ) (long utf8 : Bool) → nat_lt 65536 (length file) ≡ long → is_utf8 file ≡ utf8
+    → IfFirst file (if long then Err (record { at = 65536; cause = cause.TooLong })
+    else (if utf8 then judged_cut (length file) (cut_of file) else Err (record { at = utf8_valid_len file; cause = cause.NotUtf8 })))
+file_by file true utf8 is_long is_text = let long : 65536 < length file = grind (arith, nat_tests) in (long, refl)
+file_by file false false is_long is_text = let short : length file ≤ 65536 = grind (arith, nat_tests) in (short, broken file is_text)
+file_by file false true is_long is_text =
+    judged_first file (cut_of file).fault refl (query_at (cut_of file).tokens) (query_stands (cut_of file).tokens) (query_begun (cut_of file).tokens) (query_deep (cut_of file).tokens) (all_begin (cut_of file).tokens)
 
-  file_first : (file : List ℕ) → IfFirst file (query_of file)
-  unfolding query_of
-  file_first file = file_by file (nat_lt 65536 (length file)) (is_utf8 file) refl refl
+file_first : (file : List ℕ) → IfFirst file (query_of file)
+unfolding query_of
+file_first file = file_by file (nat_lt 65536 (length file)) (is_utf8 file) refl refl
 
-  answered : (file : List ℕ) (found : Result Query Fault) (result : Result Query ParseFault) → IfFirst file found → Answers found result → IfErr result (StandsAt file)
-  answered file found (Ok query) holds same = tt
-  answered file found (Err (Refused at why)) holds same = let P : Result Query Fault → Type 0 = IfFirst file in subst P same holds
-  answered file found (Err NoMemory) holds same = tt
+answered : (file : List ℕ) (found : Result Query Fault) (result : Result Query ParseFault) → IfFirst file found → Answers found result → IfErr result (StandsAt file)
+answered file found (Ok query) holds same = tt
+answered file found (Err (Refused at why)) holds same = let P : Result Query Fault → Type 0 = IfFirst file in subst P same holds
+answered file found (Err NoMemory) holds same = tt
 
-  pub fault_first : (file : List ℕ) (result : Result Query ParseFault) → Answers (query_of file) result → IfErr result (StandsAt file)
-  fault_first file result answer = answered file (query_of file) result (file_first file) answer
+pub fault_first : (file : List ℕ) (result : Result Query ParseFault) → Answers (query_of file) result → IfErr result (StandsAt file)
+fault_first file result answer = answered file (query_of file) result (file_first file) answer

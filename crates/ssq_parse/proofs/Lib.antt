@@ -1,5 +1,11 @@
-pub mod Beginnings
 pub mod Begun
+pub mod BegunClauses
+pub mod BegunExpressions
+pub mod BegunOperands
+pub mod BegunPhrases
+pub mod BegunQueries
+pub mod BegunStreams
+pub mod BegunTimes
 pub mod Clauses
 pub mod DeepExpressions
 pub mod DeepLemmas

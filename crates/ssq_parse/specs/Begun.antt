@@ -1,7 +1,7 @@
 -- Words that begin a query: the grammar has more words behind which they are one, however many brackets stand open in it and however high
 -- its trees are.
 use Rattle.std.specs.Prelude.{◌≡◌, ℕ, List, ◌++◌, length, slice_get, Option, Some, None, IfSome}
-use Rattle.ssq_ast.specs.Expression.{Words, Written, IsRegular}
+use Rattle.ssq_ast.specs.Expression.{Words, IsRegular}
 use Rattle.ssq_ast.specs.Statement.{WrittenItem, bare_item, named_item, WrittenSelect, WrittenQuery, Each, IsFilled, IsRegularStream, IsRegularGroup, query_words}
 use Rattle.ssq_lex.specs.Cut.{cut_of}
 use Rattle.ssq_parse.specs.Written.{says, starts}

@@ -11,7 +11,7 @@ pub returns-in-Ok : goal.returns-in-Ok
 returns-in-Ok c =
     let answer : Answers (query_of c.args.file.now) c.parse_text.result =
     text_answers c.args.file.now _ c.parse_text.result (omega arith) c.in-Ok.ensures.cases.1 c.in-Ok.ensures.cases.0 c.parse_text.ensures in
-    record { answer = answer; written = parsed c.args.file.now c.parse_text.result answer; each = each_found c.args.file.now c.parse_text.result answer; first = fault_first (? ) c.args.file.now c.parse_text.result answer; again = read_again c.args.file.now c.parse_text.result answer c.text_is_parsed.ensures }
+    record { answer = answer; written = parsed c.args.file.now c.parse_text.result answer; each = each_found c.args.file.now c.parse_text.result answer; first = fault_first c.args.file.now c.parse_text.result answer; again = read_again c.args.file.now c.parse_text.result answer c.text_is_parsed.ensures }
 
 pub returns-in-Err-clause-answer : goal.returns-in-Err-clause-answer
 returns-in-Err-clause-answer c =
@@ -19,4 +19,4 @@ returns-in-Err-clause-answer c =
     first_of (search rules, grind (arith, common_steps))
 
 pub returns-in-Err-clause-first : goal.returns-in-Err-clause-first
-returns-in-Err-clause-first c = fault_first (? ) c.args.file.now c.result (returns-in-Err-clause-answer c)
+returns-in-Err-clause-first c = fault_first c.args.file.now c.result (returns-in-Err-clause-answer c)
