@@ -14,7 +14,7 @@ use Rattle.ssq_lex.specs.declared.fault.LexCause.{LexCause}
 use Rattle.ssq_lex.specs.declared.fault.LexCause.TheVariants.{BadChar, BadNumber, Unclosed}
 use Rattle.ssq_lex.specs.declared.fault.Refusal.{Refusal}
 use Rattle.ssq_lex.specs.declared.symbol.Symbol.{Symbol}
-use Rattle.ssq_lex.specs.Cut.{Head, is_blank, begins_name, is_in_line, word_at, value_of, number_to, number_at, text_to, text_at, closing, symbol_of, symbol_at, skipped, front, and_rest, cut_from, cut_of}
+use Rattle.ssq_lex.specs.Cut.{Head, is_blank, begins_name, is_in_line, word_at, number_to, number_at, text_to, text_at, closing, symbol_of, symbol_at, skipped, front, and_rest, cut_from, cut_of}
 use Rattle.ssq_lex.specs.Lexeme.{doubled}
 use Rattle.ssq_lex.specs.Spelling.{long_symbol, short_symbol}
 use Rattle.ssq_lex.proofs.Heads.{quoted_front}

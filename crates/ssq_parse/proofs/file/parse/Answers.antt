@@ -17,6 +17,3 @@ pub returns-in-Err-clause-answer : goal.returns-in-Err-clause-answer
 returns-in-Err-clause-answer c =
     let e = no_text c.args.file.now (omega arith) c.in-Err.ensures.cases.0 in
     first_of (search rules, grind (arith, common_steps))
-
-pub returns-in-Err-clause-first : goal.returns-in-Err-clause-first
-returns-in-Err-clause-first c = fault_first c.args.file.now c.result (returns-in-Err-clause-answer c)
