@@ -1,3 +1,11 @@
+pub mod Begun
+pub mod BegunClauses
+pub mod BegunExpressions
+pub mod BegunOperands
+pub mod BegunPhrases
+pub mod BegunQueries
+pub mod BegunStreams
+pub mod BegunTimes
 pub mod Clauses
 pub mod DeepExpressions
 pub mod DeepLemmas
@@ -15,6 +23,7 @@ pub mod LaidHeads
 pub mod LaidOperands
 pub mod LaidOperators
 pub mod LaidParts
+pub mod Lexical
 pub mod Local
 pub mod LocalExpressions
 pub mod LocalLoops

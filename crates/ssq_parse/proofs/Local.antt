@@ -31,12 +31,13 @@ pub record Refuses {A : Type 0} (reader : Ahead → Read A) (tokens : Ahead) (re
   pub seen : Seen reader tokens rest (λ others. Err refusal)
   pub bad : IfBad refusal.cause seen.taken rest
 
--- of a token that is missing, of a text, or of any fault where none is left
+-- of a token that is missing, of a text, or of a depth where no token is left; no token has another fault but to be too deep
 abbrev pub IfMissing : ParseCause → Option ℕ → Type 0 → Type 0
 IfMissing cause.Expected at P = P
 IfMissing cause.BadText at P = P
-IfMissing other None P = P
-IfMissing other (Some at) P = Unit {0}
+IfMissing cause.TooDeep None P = P
+IfMissing cause.TooDeep (Some at) P = Unit {0}
+IfMissing other at P = ⊥
 
 abbrev pub Told : {A : Type 0} → (Ahead → Read A) → Ahead → Read A → Type 0
 Told reader tokens (Ok found) = Seen reader tokens found.1 (λ others. Ok (found.0, others))
@@ -48,8 +49,9 @@ pub record Local {A : Type 0} (reader : Ahead → Read A) : Type 0 where
 pub if_missing : {P Q : Type 0} (c : ParseCause) (at : Option ℕ) → (P → Q) → IfMissing c at P → IfMissing c at Q
 if_missing cause.Expected at more p = more p
 if_missing cause.BadText at more p = more p
-if_missing other None more p = more p
-if_missing other (Some at) more p = tt
+if_missing cause.TooDeep None more p = more p
+if_missing cause.TooDeep (Some at) more p = tt
+if_missing other at more p = absurd p
 
 -- ---- more words in front
 

@@ -37,15 +37,15 @@ risen_by at height false = tt
 risen_made : {A : Type 0} (at height : ℕ) (f : ℕ → A) → Unexpected (risen at height and_then (λ h. Ok (f h)))
 risen_made at height f = and_then_made (risen at height) (λ h. Ok (f h)) (risen_by at height (nat_lt height 64)) (λ h. tt)
 
-binary_made : (op : BinaryOp) (at : ℕ) (left right : Tree) → Unexpected (binary op at left right)
+pub binary_made : (op : BinaryOp) (at : ℕ) (left right : Tree) → Unexpected (binary op at left right)
 unfolding binary
 binary_made op at left right = risen_made at (max left.height right.height) _
 
-null_test_made : (test : NullTest) (at : ℕ) (operand : Tree) → Unexpected (null_test test at operand)
+pub null_test_made : (test : NullTest) (at : ℕ) (operand : Tree) → Unexpected (null_test test at operand)
 unfolding null_test
 null_test_made test at operand = risen_made at operand.height _
 
-between_made : (at : ℕ) (operand low high : Tree) → Unexpected (between at operand low high)
+pub between_made : (at : ℕ) (operand low high : Tree) → Unexpected (between at operand low high)
 unfolding between
 between_made at operand low high = risen_made at (max (max operand.height low.height) high.height) _
 
@@ -53,7 +53,7 @@ unary_made : (op : UnaryOp) (at : ℕ) (operand : Tree) → Unexpected (unary op
 unfolding unary
 unary_made op at operand = risen_made at operand.height _
 
-wrapped_made : (op : UnaryOp) (tokens : Ahead) (operand : Tree) → Unexpected (wrapped op tokens operand)
+pub wrapped_made : (op : UnaryOp) (tokens : Ahead) (operand : Tree) → Unexpected (wrapped op tokens operand)
 unfolding wrapped
 wrapped_made op [] operand = tt
 wrapped_made op (t ∷ ts) operand = and_then_made (wrapped op ts operand) (unary op t.start) (wrapped_made op ts operand) (unary_made op t.start)

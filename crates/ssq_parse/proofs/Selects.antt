@@ -78,7 +78,7 @@ streams_sound tokens = streams_from_sound (length tokens) [] tokens
 
 -- ---- items
 
-abbrev Itemed : Ahead → Item × Ahead → Type 0
+abbrev pub Itemed : Ahead → Item × Ahead → Type 0
 Itemed = Part item_words item_tree IsRegularItem
 
 abbrev is_column : Expr → Bool
@@ -146,7 +146,7 @@ item_on start value rest s us = clause (Behind start s.written) key.As (item_by 
       meant = λ i. item_of (s.meant i) (s.at i) (label_is i);
     })) us
 
-item_sound : (tokens : Ahead) → IfRead (item_at tokens) (Itemed tokens)
+pub item_sound : (tokens : Ahead) → IfRead (item_at tokens) (Itemed tokens)
 unfolding item_at
 item_sound tokens = thus (Itemed tokens) (whole_at tokens) (λ value. item_by (sees is_name tokens) value.0 (seen (is_keyword key.As) value.1) value.1) (whole_sound tokens)
     (λ value s. keep {Q = Itemed tokens} (item_by (sees is_name tokens) value.0 (seen (is_keyword key.As) value.1) value.1)

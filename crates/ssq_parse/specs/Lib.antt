@@ -1,4 +1,5 @@
 pub mod Again
+pub mod Begun
 pub mod Deep
 pub mod Expressions
 pub mod Faults
