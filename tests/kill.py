@@ -24,7 +24,8 @@ logs is in exactly one epoch, no window is left to be closed, and of the state t
 a query that keeps state waits for a moment at which upkeep is due; it is told how many left a snapshot to be made or a file to be removed.
 
 It is not part of the gate, since it takes minutes and its timing is the machine's. A killed process loses nothing that the
-system had taken from it, so this shows crashes of the program, and not of the machine: those are proved.
+system had taken from it, so this shows crashes of the program, and not of the machine: those are proved over a disk that does what
+the trait says, and that a real folder is asked for just that is shown by tests/power.py.
 """
 import argparse
 import collections
@@ -66,6 +67,7 @@ class Job:
     partitions: int = 1
     rights: int = 0  # parts of the second stream, which are among `parts`
     lines: int = LINES  # of each part
+    cap: int = CAP
 
     def logs(self, folder):
         sources, lefts = [source.stream for source in self.query.sources()], self.parts - self.rights
@@ -73,7 +75,7 @@ class Job:
         return [folder / f"{sources[stream]}.{part}.jsonl" for stream, part in parts]
 
     def words(self):
-        return ["--partitions", str(self.partitions)] if self.partitions > 1 else []
+        return ["--max-lines", str(self.cap), *(["--partitions", str(self.partitions)] if self.partitions > 1 else [])]
 
     def epochs(self, logs, cuts):
         return model.Epochs(self.query, logs, cuts, self.partitions, self.parts - self.rights)
@@ -252,7 +254,7 @@ class Checkpoint:
         for e in range(len(self.cuts), len(epochs.cuts)):
             begin, end = epochs.begin(e), epochs.cuts[e]
             assert len(end) == self.job.parts, f"cut {e}: {end}"
-            assert all(a <= b <= min(a + CAP, len(part)) for a, b, part in zip(begin, end, epochs.parts)), f"cut {e}: {end}"
+            assert all(a <= b <= min(a + self.job.cap, len(part)) for a, b, part in zip(begin, end, epochs.parts)), f"cut {e}: {end}"
             assert begin != end or epochs.is_closing(e), f"epoch {e} has nothing to do"
 
     def judge_state(self, files, plans, commits):
@@ -297,7 +299,7 @@ def legible(name, content):
 
 
 def started(folder, job, out, *more):
-    return subprocess.Popen([SSQ, "run", "q.sql", "--max-lines", str(CAP), *job.words(), *more], cwd=folder, stdout=out)
+    return subprocess.Popen([SSQ, "run", "q.sql", *job.words(), *more], cwd=folder, stdout=out)
 
 
 def wait_for_upkeep(folder, chance):
@@ -335,6 +337,16 @@ def whole_run(folder, job):
     return output
 
 
+def last_run(checkpoint):
+    """Runs to the end over logs that grow no more, and judges all that is there then. The epochs."""
+    output = whole_run(checkpoint.folder, checkpoint.job)
+    epochs, commits = checkpoint.judge(output)
+    assert len(epochs.cuts) == commits and output.endswith(f"done epochs {commits}\n"), output[-200:]
+    assert epochs.next_cut() is None, f"not each line is in an epoch, or a window is left to be closed: {epochs.cuts[-1:]}"
+    checkpoint.judge_end(commits)
+    return epochs
+
+
 def trial(folder, job, kills, chance, longest):
     """One checkpoint: runs that are killed, and a last one. What came of it, in numbers."""
     checkpoint = Checkpoint(folder, job)
@@ -348,12 +360,8 @@ def trial(folder, job, kills, chance, longest):
     found["early"] = len(checkpoint.told)
     writer.done.set()
     writer.join()
-    output = whole_run(folder, job)
-    epochs, commits = checkpoint.judge(output)
+    epochs = last_run(checkpoint)
     plans = found["epochs"] = len(epochs.cuts)
-    assert plans == commits and output.endswith(f"done epochs {plans}\n"), output[-200:]
-    assert epochs.next_cut() is None, f"not each line is in an epoch, or a window is left to be closed: {epochs.cuts[-1:]}"
-    checkpoint.judge_end(commits)
     found["late"] = sum(len(epochs.fed(e)) - len(epochs.on_time(e)) for e in range(plans))
     found["equal"] = sum(row.time is not None and row.time == epochs.watermark(e) for e in range(plans) for row in epochs.fed(e))
     found["repeats"] = sum(len(epochs.on_time(e)) - len(epochs.shown(e)) for e in range(plans) if job.query.distinct)
