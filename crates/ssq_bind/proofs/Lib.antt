@@ -1,6 +1,5 @@
 pub mod Boxed
 pub mod Events
-pub mod Filled
 pub mod Joined
 pub mod Kept
 pub mod Placed

@@ -1,5 +1,5 @@
 -- Lists that grow from the left.
-use Rattle.std.specs.Prelude.{List, [], ◌∷◌, ◌++◌, Bool, true, false, Option, Some, None}
+use Rattle.std.specs.Prelude.{List, [], ◌∷◌, ◌++◌, Option, Some, None}
 
 -- one element, where there is one
 abbrev pub listed : {A : Type 0} → Option A → List A
@@ -10,8 +10,3 @@ listed (Some a) = a ∷ []
 unfoldable pub gathered : {A B : Type 0} → (A → List B) → List B → List A → List B
 gathered f found [] = found
 gathered f found (x ∷ xs) = gathered f (found ++ f x) xs
-
--- whether there is an element
-abbrev pub is_filled : {A : Type 0} → List A → Bool
-is_filled [] = false
-is_filled (x ∷ xs) = true

@@ -14,7 +14,6 @@ mod join;
 mod laws;
 mod list;
 mod output;
-mod shown;
 mod stream;
 mod told;
 mod value;

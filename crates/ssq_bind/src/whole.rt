@@ -3,6 +3,7 @@
 ghost use Rattle.std.specs.Prelude.{◌≡◌, ◌++◌, length, IfOk, IfErr, OnOk};
 ghost use Rattle.std.specs.Option.{option_map};
 ghost use Rattle.ssq_check.specs.Fault.{AreNone};
+ghost use Rattle.ssq_check.specs.Shown.{is_group};
 ghost use Rattle.ssq_check.specs.Whole.{QueryFaults, IsRefusedBy};
 ghost use Rattle.ssq_bind.specs.Bound.{context_of, shown_of, grouping_of, kept_by, shape_of, mode_of, filter_value, bound_of};
 ghost use Rattle.ssq_bind.specs.Limits.{HasLimits};
@@ -16,11 +17,10 @@ use crate::context::Context;
 use crate::group::{columns_by, keys_by, order_by, window_size};
 use crate::join::joining_of;
 use crate::output::{having_of, outputs_of};
-use crate::shown::{is_group, shown_within};
 use crate::stream::list;
 use crate::value::row_value;
 use ssq_ast::{Condition, Deduplicate, Join, Query, text};
-use ssq_check::{Refusal, check, left_stream, right_stream, scope_of};
+use ssq_check::{Refusal, check, is_group, left_stream, right_stream, scope_of, within};
 use ssq_shape::{Aggregate, Bound, Grouping, Mode, Output, Shape, Stream, Typed};
 use ssq_value::{Sequence, texts_are_utf8};
 use std::alloc::{AllocError, Global};
@@ -72,11 +72,17 @@ pub struct Shown {
     pub having: Option<Typed>,
 }
 
-fn shown_of(alloc: Global, query: &Query, context: &Context) -> Result<Shown, AllocError>
+fn shown_of(
+    alloc: Global,
+    query: &Query,
+    context: &Context,
+    is_grouped: bool,
+) -> Result<Shown, AllocError>
     requires context { context.now ≡ context_of query.now }
+    requires is_grouped { is_grouped ≡ is_group query.now }
     ensures { IfOk result (λ shown. shown ≡ shown_of query.now) }
 {
-    let within = shown_within(query);
+    let within = within(is_grouped);
     let mut aggregates = Sequence::new(alloc);
     let items = query.select.items.as_slice();
     let outputs = outputs_of(alloc, context, within, &mut aggregates, items)?;
@@ -120,15 +126,17 @@ fn shape_of(
     alloc: Global,
     query: &Query,
     context: &Context,
+    is_grouped: bool,
     aggregates: Sequence<Aggregate>,
     having: Option<Typed>,
 ) -> Result<Shape, AllocError>
     requires context { context.now ≡ context_of query.now }
+    requires is_grouped { is_grouped ≡ is_group query.now }
     requires aggregates { aggregates ≡ (shown_of query.now).aggregates }
     requires having { having ≡ (shown_of query.now).having }
     ensures { IfOk result (λ shape. shape ≡ shape_of query.now) }
 {
-    if is_group(query) {
+    if is_grouped {
         Ok(Shape::Group(grouping_of(alloc, query, context, aggregates, having)?))
     } else {
         drop(having);
@@ -170,12 +178,13 @@ fn kept_of(
     ensures outputs { IfOk result (λ kept. kept.0 ≡ (shown_of query.now).outputs) }
     ensures shape { IfOk result (λ kept. kept.1 ≡ shape_of query.now) }
 {
+    let is_grouped = is_group(alloc, query)?;
     let Shown {
         outputs,
         aggregates,
         having,
-    } = shown_of(alloc, query, context)?;
-    let shape = shape_of(alloc, query, context, aggregates, having)?;
+    } = shown_of(alloc, query, context, is_grouped)?;
+    let shape = shape_of(alloc, query, context, is_grouped, aggregates, having)?;
     Ok((outputs, shape))
 }
 

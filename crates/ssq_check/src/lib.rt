@@ -30,4 +30,5 @@ pub use keys::Keys;
 pub use list::item_name;
 pub use names::{column_of, left_stream, right_stream, scope_of};
 pub use scope::{Key, Scope, Side, Source, Spot, Within, bare_spot, is_window_name};
+pub use shown::{is_group, within};
 pub use whole::{check, small_values, types_stay};

@@ -2,10 +2,10 @@
 
 ghost use Rattle.std.specs.Prelude.{◌≡◌, ◌++◌, IfOk, OnOk};
 ghost use Rattle.std.specs.List.{flat_map};
-ghost use Rattle.ssq_check.specs.Shown.{aggregates, item_aggregates, having_aggregates, group_place_by, within_by};
+ghost use Rattle.ssq_check.specs.Shown.{aggregates, item_aggregates, having_aggregates, group_place_by, is_group, within_by};
 
 use crate::scope::Within;
-use ssq_ast::{Condition, Expr, GroupBy, Item};
+use ssq_ast::{Condition, Expr, GroupBy, Item, Query};
 use ssq_value::Sequence;
 use std::alloc::{AllocError, Global};
 
@@ -94,7 +94,17 @@ pub(crate) fn group_place(group: &Option<GroupBy>, aggregates: &[usize]) -> Opti
     }
 }
 
-pub(crate) fn within(is_group: bool) -> Within
+/// Whether a query groups its rows: GROUP BY stands, or an aggregate in SELECT or HAVING.
+pub fn is_group(alloc: Global, query: &Query) -> Result<bool, AllocError>
+    ensures { IfOk result (λ is_so. is_so ≡ is_group query.now) }
+{
+    let select = &query.select;
+    let places = shown_aggregates(alloc, select.items.as_slice(), &select.having)?;
+    Ok(group_place(&select.group, places.as_slice()).is_some())
+}
+
+/// Where the expressions of SELECT and HAVING stand.
+pub fn within(is_group: bool) -> Within
     ensures { result ≡ within_by is_group }
 {
     if is_group { Within::Group } else { Within::Row }
