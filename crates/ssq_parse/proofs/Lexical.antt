@@ -151,8 +151,10 @@ module _ (bs : List ℕ) where
     where
       split : (k : ℕ) → k ≤ suc m → (k ≤ m) ⊎ (k ≡ suc m)
       split k within = elim (cases_lt k (suc m)) [ inl less ↦ inl (omega arith) | inr past ↦ inr (omega (arith, past, within)) ]
+
       not_whole : IsUtf8 (take (suc m) bs) → ⊥
       not_whole utf8 = let whole : is_utf8 (take (suc m) bs) ≡ true = is_utf8-from_IsUtf8 (take (suc m) bs) utf8 in absurd (cc)
+
       by_place : (k : ℕ) → valid_len_up_to bs m < k → k ≤ suc m → IsUtf8 (take k bs) → (k ≤ m) ⊎ (k ≡ suc m) → ⊥
       by_place k more within utf8 (inl below) = rest.longest k more below utf8
       by_place k more within utf8 (inr same) = not_whole (subst (λ n. IsUtf8 (take n bs)) same utf8)
@@ -169,18 +171,23 @@ broken file is =
   where
     no_text : IsUtf8 file → ⊥
     no_text utf8 = let whole : is_utf8 file ≡ true = is_utf8-from_IsUtf8 file utf8 in absurd (cc)
+
     no_whole : (m : ℕ) → length file ≤ m → IsUtf8 (take m file) → ⊥
     no_whole m past utf8 = no_text (subst IsUtf8 (take_all m file past) utf8)
+
     split : (m : ℕ) → (m ≤ length file) ⊎ (length file ≤ m)
     split m = elim (cases_lt m (length file)) [ inl less ↦ inl (omega arith) | inr past ↦ inr past ]
+
     short : IsLongest file (valid_len_up_to file (length file)) (length file) → valid_len_up_to file (length file) < length file
     short all = by_least all (least (valid_len_up_to file (length file)) all.within)
       where
         least : (n : ℕ) → n ≤ length file → (n < length file) ⊎ (length file ≤ n)
         least n within = cases_lt n (length file)
+
         by_least : IsLongest file (valid_len_up_to file (length file)) (length file) → (valid_len_up_to file (length file) < length file) ⊎ (length file ≤ valid_len_up_to file (length file)) → valid_len_up_to file (length file) < length file
         by_least all (inl less) = less
         by_least all (inr past) = absurd (no_whole (valid_len_up_to file (length file)) past all.text)
+
     by_place : (m : ℕ) → valid_len_up_to file (length file) < m → (m ≤ length file) ⊎ (length file ≤ m) → (IsUtf8 (take m file) → ⊥)
     by_place m more (inl within) = (longest_of file (length file)).longest m more within
     by_place m more (inr past) = no_whole m past
