@@ -12,14 +12,14 @@ use Rattle.ssq_open.specs.Lens.{CanBeAsked, asked}
 use Rattle.ssq_open.specs.Sought.{Sought}
 use Rattle.ssq_open.specs.Opening.{IsOpen, IsBegun, SyncedSince}
 use Rattle.ssq_promise.specs.Run.{AreFilesOf, RunIsKept, WasRun}
-use Rattle.ssq_terms.specs.Setting.{AreFound, CanRun}
+use Rattle.ssq_terms.specs.Setting.{CanRun}
 use Rattle.ssq_terms.specs.Laws.{JobIsWanted, StatesAreJobs, FirstRecordIsJobs, PartsAreFound, due_at}
 use Rattle.ssq_terms.specs.Opening.{FoundIsJobs, StoresHoldStates}
 use Rattle.ssq_logs.specs.Asked.{AreAsked}
 use Rattle.ssq_drive.specs.Rounds.{IsMeant}
 use Rattle.ssq_runner.specs.declared.ask.Ask.{Ask}
 use Rattle.ssq_runner.specs.Between.{HaveBegun}
-use Rattle.ssq_runner.specs.Ending.{Begun, IsOwnRun, cuts_in, setting_in}
+use Rattle.ssq_runner.specs.Ending.{Begun, IsOwnRun, WasTried, cuts_in, setting_in}
 use Rattle.ssq_runner.specs.Lens.{lens_of}
 use Rattle.ssq_runner.specs.Running.{Given, IsOf, IsOpenedOn, IsRunOf, KeepsStanding, LeavesStanding}
 use Rattle.ssq_runner.proofs.Firsts.{sought_same}
@@ -79,23 +79,23 @@ module _ {L : Type 0} (tells reads : Type 0) (lines : L → List Line) (availabl
       own = own;
     };
     kept = record {
-      promised = λ t s run stands now plans told have.
+      promised = λ t s run stands now logs plans done told end have.
           let same = (own t s run stands).0 in
           let was = was_run t s run stands now (map (λ t. t.epoch) told) have.run in
           record {
             run = was;
-            files = subst (λ (x : Setting). AreFilesOf (job_of x) ask.cap (due_at x) (λ lines. AreFound lines x.lines) (opened.committed + length told ≡ length plans) (cuts_in begun plans) (length plans) now) same have.files;
+            files = subst (λ (x : Setting). AreFilesOf (job_of x) ask.cap (due_at x) (WasTried tells lines available answers faults begun logs plans done end) (opened.committed + length told ≡ length plans) (cuts_in begun plans) (length plans) now) same have.files;
             kept = rounds_keep tells reads lines available answers faults wanted first_record found_law parts_law states_law stores_law bound ask counts found can_ask runs each g of s run news asks (heard t) history before after start T (seen t) opened is
                 kept_law t now (map (λ t. t.epoch) told) stands was;
             meant = subst (λ (x : Setting). All (IsMeant x (cuts_in begun plans)) told) same have.meant;
           };
-      stands = λ t s run each_now now plans told have.
+      stands = λ t s run each_now now told was.
           rounds_stand tells reads lines available answers faults wanted first_record found_law parts_law states_law stores_law bound ask counts found can_ask runs each g of s run news asks (heard t) history before after start T (seen t) opened is
           kept_law t now (map (λ t. t.epoch) told) leaves each_now
-          (was_run t s run (stands_now g.start (StandsOrEmpty (job_of s)) each_now) now (map (λ t. t.epoch) told) have.run);
-      stay = λ t s run each_now now plans told have.
+          (was_run t s run (stands_now g.start (StandsOrEmpty (job_of s)) each_now) now (map (λ t. t.epoch) told) was);
+      stay = λ t s run each_now now told was.
           rounds_stay tells reads lines available answers faults wanted first_record found_law parts_law states_law stores_law bound ask counts found can_ask runs each g of s run news asks (heard t) history before after start T (seen t) opened is
           kept_law t now (map (λ t. t.epoch) told) keeps each_now
-          (was_run t s run (inr (stands_now g.start (Stands (job_of s)) each_now)) now (map (λ t. t.epoch) told) have.run);
+          (was_run t s run (inr (stands_now g.start (Stands (job_of s)) each_now)) now (map (λ t. t.epoch) told) was);
     };
   }

@@ -14,7 +14,7 @@ use Rattle.ssq_desk.specs.declared.told.Told.{Told}
 use Rattle.ssq_drive.specs.Rounds.{Ended, HaveIndexes}
 use Rattle.ssq_runner.specs.declared.fault.RunFault.{RunFault}
 use Rattle.ssq_runner.specs.Between.{HasGone, HaveBegun, IsOver}
-use Rattle.ssq_runner.specs.Ending.{Begun, Ends, HaveRun}
+use Rattle.ssq_runner.specs.Ending.{Begun, Ends, HaveRun, WasTried}
 use Rattle.ssq_runner.specs.Going.{SoFar}
 use Rattle.ssq_runner.specs.Putting.{IsUntold}
 use Rattle.ssq_runner.specs.Running.{Given, IsRunOf, ran}
@@ -28,12 +28,12 @@ module _ {L : Type 0} (tells : Type 0) (lines : L → List Line) (available : L 
   pub rounds_over : (b : Begun L) → HaveBegun tells lines available answers faults g b → (now : History) (disk : ℕ) (logs : List L) (OutTells : Type 0) (written text : List ℕ) (end : Result (Unit {0}) RunFault)
       → Ends tells lines available answers faults b now disk logs OutTells written text end → IsOver tells lines available answers faults g now disk logs OutTells written text end
   rounds_over b begun now disk logs OutTells written text end ends = record {
-    ends = ran begun.found begun.logs begun.asked b begun.begun ends (λ t s run stands. begun.kept.promised t s run stands now ends.plans ends.told (have t s run stands));
-    stands = λ t s run each. begun.kept.stands t s run each now ends.plans ends.told (have t s run (stands_now g.start (StandsOrEmpty (job_of s)) each));
-    stay = λ t s run each. begun.kept.stay t s run each now ends.plans ends.told (have t s run (inr (stands_now g.start (Stands (job_of s)) each)));
+    ends = ran begun.found begun.logs begun.asked b begun.begun ends (λ t s run stands. begun.kept.promised t s run stands now logs ends.plans ends.done ends.told end (have t s run stands));
+    stands = λ t s run each. begun.kept.stands t s run each now ends.told (have t s run (stands_now g.start (StandsOrEmpty (job_of s)) each)).run;
+    stay = λ t s run each. begun.kept.stay t s run each now ends.told (have t s run (inr (stands_now g.start (Stands (job_of s)) each))).run;
   }
     where
-      have : tells → (s : Setting) → IsRunOf lines g s → StandsOrEmpty (job_of s) (files_now g.start) → HaveRun tells lines available answers faults b now ends.plans ends.told
+      have : tells → (s : Setting) → IsRunOf lines g s → StandsOrEmpty (job_of s) (files_now g.start) → HaveRun tells lines available answers faults b now ends.plans ends.told (WasTried tells lines available answers faults b logs ends.plans ends.done end)
       have t s run stands = ends.ran t (begun.begun.own t s run stands).1
 
   module _ (n : ℕ) (now : History) (disk : ℕ) (logs : List L) (OutTells : Type 0) (written : List ℕ) (told : List Told) (end : Ended) (gone : HasGone tells lines available answers faults g n now disk logs OutTells written told end) where

@@ -1,5 +1,5 @@
 -- The logs of the parts of streams.
-use Rattle.std.proofs.Common.{◌≡◌, ◌<◌, ◌≤◌, ◌+◌, ◌-◌, ◌^◌, ◌∙◌, ℕ, zero, suc, List, [], ◌∷◌, length, map, min, sum, unwrap_or, Option, Some, None, Result, Ok, Err, refl, sym, ap, subst, arith}
+use Rattle.std.proofs.Common.{◌≡◌, ◌<◌, ◌≤◌, ◌+◌, ◌-◌, ◌^◌, ◌∙◌, ℕ, zero, suc, List, [], ◌∷◌, length, map, min, sum, unwrap_or, Option, Some, None, Result, Ok, Err, OnErr, refl, sym, ap, subst, arith}
 use Rattle.std.specs.Option.{ForSome}
 use Rattle.std.specs.List.{sum_by}
 use Rattle.std.proofs.lemmas.List.{length-append}
@@ -52,6 +52,11 @@ parts_count (stream ∷ streams) (count ∷ counts) each =
 parts_count [] (count ∷ counts) each = absurd (omega (arith, each))
 parts_count (stream ∷ streams) [] each = absurd (omega (arith, each))
 
+-- what is so in any case is so of what failed
+pub err_any : {A E P : Type 0} (r : Result A E) → P → OnErr r P
+err_any (Ok x) p = tt
+err_any (Err e) p = p
+
 module _ {L : Type 0} (tells : Type 0) (lines : L → List Line) (available : L → ℕ) (answers : L → List ℕ) (faults : L → ℕ) where
   logs_count : (held : Held) (known : List ℕ → ℕ → ℕ) (parts : List Part) (logs : List L) → AreLogsOf tells lines available answers faults held known parts logs → length logs ≡ length parts
   logs_count held known [] [] are = refl
@@ -61,6 +66,13 @@ module _ {L : Type 0} (tells : Type 0) (lines : L → List Line) (available : L 
 
   pub each_log : (held : Held) (known : List ℕ → ℕ → ℕ) (streams : List Stream) (counts : List ℕ) (logs : List L) → length counts ≡ length streams → AreLogsOf tells lines available answers faults held known (parts_of streams counts) logs → length logs ≡ sum counts
   each_log held known streams counts logs each are = logs_count held known (parts_of streams counts) logs are ∙ parts_count streams counts each
+
+  -- logs that were opened were asked nothing
+  pub none_answered : (held : Held) (known : List ℕ → ℕ → ℕ) (parts : List Part) (logs : List L) → tells → AreLogsOf tells lines available answers faults held known parts logs → map answers logs ≡ map (λ _. []) parts
+  none_answered held known [] [] t are = refl
+  none_answered held known (part ∷ parts) (log ∷ logs) t are = (let first = are.0.unasked t in let rest = none_answered held known parts logs t are.1 in λ i. first i ∷ rest i)
+  none_answered held known [] (log ∷ logs) t are = absurd are
+  none_answered held known (part ∷ parts) [] t are = absurd are
 
   -- ---- what was held and known before
   pub logs_before : (held mid : Held) (known more : List ℕ → ℕ → ℕ) (parts : List Part) (logs : List L) → (tells → mid ≡ held) → (tells → (stream : List ℕ) (part : ℕ) → known stream part ≤ more stream part)
@@ -85,7 +97,7 @@ module _ {L : Type 0} (tells : Type 0) (lines : L → List Line) (available : L 
   stop_counts owned s cuts found planned e files first disk disk_now logs inputs inputs_now out out_now key (cause.Overflow a b o) le risen is = tt
   stop_counts owned s cuts found planned e files first disk disk_now logs inputs inputs_now out out_now None cause.KeyOverflow le risen is = tt
   stop_counts owned s cuts found planned e files first disk disk_now logs inputs inputs_now out out_now (Some own) cause.KeyOverflow le risen is = tt
-  stop_counts owned s cuts found planned e files first disk disk_now logs inputs inputs_now out out_now key cause.LogFault le risen is = risen is
+  stop_counts owned s cuts found planned e files first disk disk_now logs inputs inputs_now out out_now key cause.LogFault le risen is = risen is.1
   stop_counts owned s cuts found planned e files first disk disk_now logs inputs inputs_now out out_now key (cause.LogShort a b m k) le risen is = tt
   stop_counts owned s cuts found planned e files first disk disk_now logs inputs inputs_now out out_now key (cause.Damaged q) le risen is = tt
   stop_counts owned s cuts found planned e files first disk disk_now logs inputs inputs_now out out_now key cause.DiskFault le risen is = rises_from disk first disk_now le is

@@ -1,5 +1,5 @@
 -- How a round that is not the first begins, or does not.
-use Rattle.std.proofs.Common.{◌≡◌, ◌<◌, ◌≤◌, ◌+◌, ◌++◌, ◌∙◌, nat_lt, ℕ, zero, suc, Bool, true, false, true≢false, List, [], ◌∷◌, length, get_or, Option, Some, None, Result, Ok, Err, OnOk, IfErr, inl, inr, refl, sym, ap, subst, arith, if◌then◌else◌}
+use Rattle.std.proofs.Common.{◌≡◌, ◌<◌, ◌≤◌, ◌+◌, ◌++◌, ◌||◌, ◌∙◌, nat_lt, ℕ, zero, suc, Bool, true, false, true≢false, List, [], ◌∷◌, length, get_or, Option, Some, None, Result, Ok, Err, OnOk, IfErr, inl, inr, refl, sym, ap, subst, arith, if◌then◌else◌}
 use Rattle.std.proofs.lemmas.List.{append-nil}
 use Rattle.std.proofs.lemmas.Bool.{ltb-true}
 use Rattle.std.proofs.lemmas.Option.{none-some}
@@ -14,7 +14,6 @@ use Rattle.ssq_outside.specs.Logs.{Line}
 use Rattle.ssq_plans.specs.declared.part.PartEnd.{PartEnd}
 use Rattle.ssq_board.specs.declared.front.Cause.{Cause}
 use Rattle.ssq_board.specs.declared.front.Cause.TheVariants as cause
-use Rattle.ssq_board.specs.Core.{is_of_epoch}
 use Rattle.ssq_open.specs.declared.wanted.Opened.{Opened}
 use Rattle.ssq_logs.specs.Asked.{AreAsked}
 use Rattle.ssq_drive.specs.Rounds.{IsRoundStop}
@@ -22,12 +21,13 @@ use Rattle.ssq_runner.specs.declared.fault.RunFault.{RunFault}
 use Rattle.ssq_runner.specs.declared.fault.RunFault.TheVariants as fault
 use Rattle.ssq_runner.specs.Faults.{fault_by}
 use Rattle.ssq_runner.specs.Told.{done_line}
-use Rattle.ssq_runner.specs.Ending.{Begun, Ends, IsEnd, Owned, WereAsked, stopped, finished, starved, uncounted as end_uncounted, cuts_in, is_epoch_fault, setting_in}
+use Rattle.ssq_runner.specs.Ending.{Begun, Ends, IsEnd, Owned, WasTried, WereAsked, stopped, finished, starved, uncounted as end_uncounted, cuts_in, is_epoch_fault, is_log_fault, is_open_fault, setting_in}
 use Rattle.ssq_runner.specs.Going.{SoFar, IsReady}
 use Rattle.ssq_runner.specs.Stops.{short_of, planned_ends, IsUnready, uncounted, short}
 use Rattle.ssq_runner.proofs.Answering.{asked_on, begin_on}
 use Rattle.ssq_runner.proofs.Cutting.{text_none, never_ok}
 use Rattle.ssq_runner.proofs.Readying.{asked_under, asked_at, asked_found, asked_count, can_on, planned_same, ends_each}
+use Rattle.ssq_runner.proofs.Turning.{untried}
 use Rattle.ssq_runner.proofs.Stopping.{stopped_under, uncounted_is, uncounted_since, uncounted_under}
 
 -- a short part is told by its numbers
@@ -47,17 +47,22 @@ short_fault cause.DiskFault less = refl
 short_fault cause.Full less = refl
 short_fault cause.NoMemory less = refl
 
--- which is no fault of an epoch
-short_apart : (c : Cause) → is_short c → is_of_epoch c ≡ false
+-- which is no fault of an open epoch
+short_apart : (c : Cause) → is_short c → is_open_fault (Err (fault.Round c)) ≡ false
 short_apart (cause.LogShort s p logged lines) less = refl
 short_apart (cause.BadLine s p o f) less = absurd less
 short_apart (cause.Overflow s p o) less = absurd less
 short_apart cause.KeyOverflow less = absurd less
-short_apart cause.LogFault less = refl
-short_apart (cause.Damaged q) less = refl
-short_apart cause.DiskFault less = refl
-short_apart cause.Full less = refl
-short_apart cause.NoMemory less = refl
+short_apart cause.LogFault less = absurd less
+short_apart (cause.Damaged q) less = absurd less
+short_apart cause.DiskFault less = absurd less
+short_apart cause.Full less = absurd less
+short_apart cause.NoMemory less = absurd less
+
+-- of two that do not hold the first does not
+first_not : (a b : Bool) → (a || b) ≡ false → a ≡ false
+first_not true b not = not
+first_not false b not = refl
 
 own_of : Cause → Option Cause → Cause
 own_of d None = d
@@ -124,16 +129,27 @@ module _ {L : Type 0} (T U : Type 0) (lines : L → List Line) (available : L �
       }
 
   -- nothing was done, and so the run ends
-  idle_end : (why : RunFault) (text : List ℕ) → is_epoch_fault (Err why) ≡ false → IsEnd U lines available answers faults b now disk news OutTells written opened.plans so.done so.told text (Err why) → Ends U lines available answers faults b now disk news OutTells written text (Err why)
-  idle_end why text other end = record { plans = opened.plans; done = so.done; told = so.told; has = so.has; is_end = end; good = so.good; planned_stays = λ own. absurd (true≢false (sym own ∙ other)); ran = λ u own. (so.ran u own).0; left = λ ok. absurd (never_ok why ok) }
+  idle_end : (why : RunFault) (text : List ℕ) → is_open_fault (Err why) ≡ false → IsEnd U lines available answers faults b now disk news OutTells written opened.plans so.done so.told text (Err why) → Ends U lines available answers faults b now disk news OutTells written text (Err why)
+  idle_end why text other end = record {
+    plans = opened.plans;
+    done = so.done;
+    told = so.told;
+    has = so.has;
+    is_end = end;
+    good = so.good;
+    planned_stays = λ own. absurd (true≢false (sym own ∙ first_not (is_epoch_fault (Err why)) (is_log_fault (Err why)) other));
+    uncommitted = λ inside. absurd (true≢false (sym inside ∙ other));
+    ran = λ u own. untried U lines available answers faults b now opened.plans so.told (WasTried U lines available answers faults b news opened.plans so.done (Err why)) (so.ran u own).0;
+    left = λ ok. absurd (never_ok why ok);
+  }
 
   pub unready_end : 0 < n → (why : RunFault) (text : List ℕ) → n < b.rounds → text ≡ [] → IsUnready T lines available answers faults opened olds news why → Ends U lines available answers faults b now disk news OutTells written text (Err why)
   unready_end later why text few empty (uncounted c is ask) =
-      idle_end why text (ap (λ (w : RunFault). is_epoch_fault (Err w)) is) (end_uncounted (let m = so.number in omega (arith, m, few)) (so.all, so.committed ∙ so.whole later) olds so.asked c
+      idle_end why text (ap (λ (w : RunFault). is_open_fault (Err w)) is) (end_uncounted (let m = so.number in omega (arith, m, few)) (so.all, so.committed ∙ so.whole later) olds so.asked c
       (uncounted_since U lines available answers faults so.done b.logs olds news c so.asked.answered (uncounted_under T U lines available answers faults less_known olds news c (uncounted_is T lines available answers faults olds news c ask)))
       (stopped_under T U lines available answers faults less_known 0 olds news c ask) so.wrote empty (ap Err is))
   unready_end later why text few empty (short found stop ask is named) =
-      idle_end why text (ap (λ (w : RunFault). is_epoch_fault (Err w)) named ∙ short_apart stop (short_is (planned_ends opened) found stop is)) (stopped (let m = so.number in omega (arith, m, few)) found
+      idle_end why text (ap (λ (w : RunFault). is_open_fault (Err w)) named ∙ short_apart stop (short_is (planned_ends opened) found stop is)) (stopped (let m = so.number in omega (arith, m, few)) found
       (record {
         next = λ e ge le. absurd (let a = so.all in omega (arith, ge, le, a));
         due = λ e ge le. absurd (let a = so.all in omega (arith, ge, le, a));
@@ -178,13 +194,14 @@ module _ {L : Type 0} (T U : Type 0) (lines : L → List Line) (available : L �
     is_end = finished (so.number ∙ all) so.all (so.committed ∙ so.whole some_round) have so.wrote (said ∙ ap (λ (l : List ℕ). l ++ done_line opened.committed) empty ∙ ap done_line (so.whole some_round)) refl;
     good = so.good;
     planned_stays = λ own. absurd (true≢false (sym own));
-    ran = λ u own. (so.ran u own).0;
+    uncommitted = λ inside. absurd (true≢false (sym inside));
+    ran = λ u own. untried U lines available answers faults b now opened.plans so.told (WasTried U lines available answers faults b news opened.plans so.done (Ok done)) (so.ran u own).0;
     left = λ ok u own.
         let ran = so.ran u own in
         record { opened = opened; meta_is = so.meta_is; plans_are = refl; committed = so.whole some_round; settled = ran.1; found_is = ran.2; kept = so.kept some_round u own };
   }
   finish (Err why) before text all some_round empty have said unsaid =
-      idle_end why text (ap (λ (w : RunFault). is_epoch_fault (Err w)) unsaid.0) (starved (let m = so.number in omega (arith, m, all)) so.done (inl refl) have so.told [] [] (sym (append-nil so.told)) so.wrote (unsaid.1 ∙ empty ∙ text_none) (ap Err unsaid.0))
+      idle_end why text (ap (λ (w : RunFault). is_open_fault (Err w)) unsaid.0) (starved (let m = so.number in omega (arith, m, all)) so.done (inl refl) have so.told [] [] (sym (append-nil so.told)) so.wrote (unsaid.1 ∙ empty ∙ text_none) (ap Err unsaid.0))
 
 -- The logs were asked for the next round, and memory ran out before it began.
 pub starve : {L : Type 0} (tells : Type 0) (lines : L → List Line) (available : L → ℕ) (answers : L → List ℕ) (faults : L → ℕ) (b : Begun L) (n : ℕ) (now : History) (disk : ℕ) (logs : List L) (OutTells : Type 0) (written : List ℕ) (opened : Opened) (found text : List ℕ)
@@ -209,6 +226,7 @@ starve tells lines available answers faults b n now disk logs OutTells written o
           (ready.asked (length opened.plans)) so.told [] [] (sym (append-nil so.told)) so.wrote (empty ∙ text_none) refl;
       good = so.good;
       planned_stays = λ own. absurd (true≢false (sym own));
-      ran = λ t own. (so.ran t own).0;
+      uncommitted = λ inside. absurd (true≢false (sym inside));
+      ran = λ t own. untried tells lines available answers faults b now opened.plans so.told (WasTried tells lines available answers faults b logs opened.plans so.done (Err fault.NoMemory)) (so.ran t own).0;
       left = λ ok. absurd (never_ok fault.NoMemory ok);
     }

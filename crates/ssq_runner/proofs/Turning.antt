@@ -20,7 +20,7 @@ use Rattle.ssq_open.specs.declared.wanted.Opened.{Opened}
 use Rattle.ssq_open.specs.Epochs.{cut_of}
 use Rattle.ssq_terms.specs.Setting.{AreFound}
 use Rattle.ssq_terms.specs.Laws.{due_at}
-use Rattle.ssq_promise.specs.Run.{AreFilesOf, RunsAreJoined, WasRun, as_planned, one_tried}
+use Rattle.ssq_promise.specs.Run.{AreFilesOf, CallFailed, RunsAreJoined, WasRun, as_planned, one_tried}
 use Rattle.ssq_board.specs.declared.front.Cause.{Cause}
 use Rattle.ssq_board.specs.declared.front.Cause.TheVariants as cause
 use Rattle.ssq_outside.specs.Faults.{Rises}
@@ -35,15 +35,15 @@ use Rattle.ssq_desk.specs.declared.told.Told.{Told}
 use Rattle.ssq_drive.specs.Damaged.{IsDamagedIn}
 use Rattle.ssq_drive.specs.Good.{HasGoodLines}
 use Rattle.ssq_drive.specs.declared.round.Stopped.{Stopped}
-use Rattle.ssq_drive.specs.Rounds.{IsRound, RoundRan, Ended, IsOwn, IsFoundOf, IsMeant, IsMore, CanBegin, AreReturned, PlansOn, AreTold, IsRoundStop, IsFaultAt, IsKeyAt, setting_for, first_of}
+use Rattle.ssq_drive.specs.Rounds.{IsRound, RoundRan, Ended, IsOwn, IsFoundOf, IsMeant, IsMore, CanBegin, AreReturned, PlansOn, AreTold, IsRoundStop, IsFaultAt, IsKeyAt, IsOfOpen, StoppedAtCall, setting_for, first_of}
 use Rattle.ssq_desk.specs.Contents.{line_of}
 use Rattle.ssq_runner.specs.Lens.{lens_of}
-use Rattle.ssq_runner.specs.Rounds.{Round, AreNext, AreRounds, HaveAnswered, epochs_after}
+use Rattle.ssq_runner.specs.Rounds.{Round, AreNext, AreRounds, HaveAnswered, IsOne, epochs_after}
 use Rattle.ssq_runner.specs.Told.{told_text}
 use Rattle.ssq_runner.specs.declared.fault.RunFault.{RunFault}
 use Rattle.ssq_runner.specs.Faults.{fault_by}
 use Rattle.ssq_runner.specs.Putting.{IsUntold, stopped as untold_stopped, failed, starved as untold_starved}
-use Rattle.ssq_runner.specs.Ending.{Begun, HasRounds, IsOwnRun, Owned, HaveRun, Ends, IsEnd, AreGood, WereAsked, stopped, unput, starved, cuts_in, is_epoch_fault, setting_in}
+use Rattle.ssq_runner.specs.Ending.{Begun, HasRounds, IsOwnRun, Owned, HaveRun, Ends, IsEnd, AreGood, WasTried, WereAsked, stopped, unput, starved, cuts_in, is_call_fault, is_epoch_fault, is_open_fault, none_tried, setting_in}
 use Rattle.ssq_runner.specs.Going.{SoFar, IsReady, Fits, scope_of}
 use Rattle.ssq_runner.proofs.Cutting.{CutsHang, cut_more, rounds_same, told_more, told_then, text_then, never_ok}
 use Rattle.ssq_runner.proofs.Answering.{back_after, same_lines, returned_count, returned_at}
@@ -70,11 +70,11 @@ good_more s one other n e first plans (t ∷ rest) same are le good =
     ∙ ap (λ (ends : EndsOf). fault_between s.job.bound (parts_in s) (offsets_of (one t.epoch)) (offsets_of ends)) (same (t.epoch + 1) (omega (arith, here))) ∙ All-head (λ (t : Told). HasGoodLines s one t.epoch) t rest good)
     (good_more s one other n (e + 1) first plans rest same are.1 (omega (arith, le)) (All-tail (λ (t : Told). HasGoodLines s one t.epoch) t rest good))
 
--- all are told of the rounds so far, too
-files_once : (job : Job) (cap : Option ℕ) (due : Cuts → ℕ → Bool) (IsFound : List ℕ → Type 0) (One Other : Type 0) (cuts : Cuts) (planned : ℕ) (now : History) → (One → Other) → AreFilesOf job cap due IsFound One cuts planned now
-    → AreFilesOf job cap due IsFound Other cuts planned now
-files_once job cap due IsFound One Other cuts planned now more (as_planned each) = as_planned each
-files_once job cap due IsFound One Other cuts planned now more (one_tried done found is behind each) = one_tried (more done) found is behind each
+-- one plan more was tried by lines that were found so, too, and all are told of these epochs, too
+files_once : (job : Job) (cap : Option ℕ) (due : Cuts → ℕ → Bool) (One Other : List ℕ → Type 0) (Done All : Type 0) (cuts : Cuts) (planned : ℕ) (now : History) → (Done → All) → (Done → (found : List ℕ) → One found → Other found)
+    → AreFilesOf job cap due One Done cuts planned now → AreFilesOf job cap due Other All cuts planned now
+files_once job cap due One Other Done All cuts planned now all more (as_planned each) = as_planned each
+files_once job cap due One Other Done All cuts planned now all more (one_tried done found is behind each) = one_tried (all done) found (more done found is) behind each
 
 -- the epochs that are told
 abbrev pub epochs_of : List Told → List ℕ
@@ -127,18 +127,33 @@ module _ {L : Type 0} (tells : Type 0) (lines : L → List Line) (available : L 
         },
       )
 
+  -- so was what rounds did, where one plan more was tried by lines that were found so
+  pub tried_so : (b : Begun L) (now : History) (plans : List Plan) (told : List Told) (One Other : List ℕ → Type 0) → ((found : List ℕ) → One found → Other found) → HaveRun tells lines available answers faults b now plans told One
+      → HaveRun tells lines available answers faults b now plans told Other
+  tried_so b now plans told One Other more have =
+      let s = setting_in tells lines available answers faults b in
+      record {
+        run = have.run;
+        files = files_once (job_of s) b.cap (due_at s) One Other (b.found.committed + length told ≡ length plans) (b.found.committed + length told ≡ length plans) (cuts_in b plans) (length plans) now (λ all. all) (λ all found. more found) have.files;
+        meant = have.meant;
+      }
+
+  -- by none, and so by any
+  pub untried : (b : Begun L) (now : History) (plans : List Plan) (told : List Told) (Other : List ℕ → Type 0) → HaveRun tells lines available answers faults b now plans told none_tried → HaveRun tells lines available answers faults b now plans told Other
+  untried b now plans told Other = tried_so b now plans told none_tried Other (λ found none. absurd none)
+
   -- what a round did goes on from what those before it did
   pub running_on : CutsHang → RunsAreJoined tells → (b : Begun L) (start now : History) (opened : Opened) (done : List Round) (told more_told : List Told) (found : List ℕ) (plans more : List Plan) (end : Ended)
       → plans ≡ opened.plans ++ more → b.found.committed + length told ≡ opened.committed
-      → HasRounds (Owned tells lines available answers faults b) (setting_in tells lines available answers faults b) b opened.plans done told → HaveRun tells lines available answers faults b start opened.plans told
+      → HasRounds (Owned tells lines available answers faults b) (setting_in tells lines available answers faults b) b opened.plans done told → HaveRun tells lines available answers faults b start opened.plans told none_tried
       → RoundRan tells (setting_in tells lines available answers faults b) (scope_of opened found b.cap) start now (cuts_in b plans) (length opened.plans) opened.committed (length plans) more_told end
-      → HaveRun tells lines available answers faults b now plans (told ++ more_told)
+      → HaveRun tells lines available answers faults b now plans (told ++ more_told) (λ lines. (lines ≡ found) × StoppedAtCall end)
   running_on hang joined b start now opened done told more_told found plans more end behind committed has have ran =
       let s = setting_in tells lines available answers faults b in
       record {
         run = subst (WasRun tells (job_of s) b.start now) (sym (epochs_then told more_told)) (joined (job_of s) b.start start now (epochs_of told) (epochs_of more_told) have.run ran.run);
-        files = files_once (job_of s) b.cap (due_at s) (λ found. AreFound found (map lines b.logs)) (opened.committed + length more_told ≡ length plans) (b.found.committed + length (told ++ more_told) ≡ length plans) (cuts_in b plans) (length plans) now
-            (λ all. (let e = length-append told more_told in omega (arith, all, e, committed))) ran.files;
+        files = files_once (job_of s) b.cap (due_at s) (λ lines. lines ≡ found) (λ lines. (lines ≡ found) × StoppedAtCall end) ((opened.committed + length more_told ≡ length plans) × StoppedAtCall end) (b.found.committed + length (told ++ more_told) ≡ length plans) (cuts_in b plans) (length plans) now
+            (λ done. (let all = done.0 in let e = length-append told more_told in omega (arith, all, e, committed))) (λ done lines same. (same, done.1)) ran.files;
         meant = All-append (IsMeant s (cuts_in b plans)) told more_told
             (rows_more hang s (cuts_in b opened.plans) (cuts_in b plans) (length opened.plans) b.found.committed (first_of b.found) opened.plans told
             (λ f le. ap (λ (ps : List Plan). cut_of (first_of b.found) ps f) behind ∙ cut_more (first_of b.found) opened.plans more f le) has.told_are has.few have.meant) ran.meant;
@@ -187,7 +202,7 @@ stop_moved tells one other s t cuts others found planned e f files first disk di
     (subst (λ (n : ℕ). n < planned) at is.0, λ told. fault_moved s t cuts others e f (line_of (cause.Overflow a b o)) (same told) cut at (is.1 told))
 stop_moved tells one other s t cuts others found planned e f files first disk disk_now logs key cause.KeyOverflow same query known own cut at le is =
     (subst (λ (n : ℕ). n < planned) at is.0, key_moved one other s t cuts others e f key (λ o. same (known o)) own cut at is.1)
-stop_moved tells one other s t cuts others found planned e f files first disk disk_now logs key cause.LogFault same query known own cut at le is = is
+stop_moved tells one other s t cuts others found planned e f files first disk disk_now logs key cause.LogFault same query known own cut at le is = (subst (λ (n : ℕ). n < planned) at is.0, is.1)
 stop_moved tells one other s t cuts others found planned e f files first disk disk_now logs key (cause.LogShort a b m k) same query known own cut at le is = is
 stop_moved tells one other s t cuts others found planned e f files first disk disk_now logs key (cause.Damaged q) same query known own cut at le is =
     ((λ o. is.0 (own o)), λ told. subst (λ (x : Setting). IsDamagedIn (keeping_of x.job.bound.shape x.job.partitions) f files q) (same told) (subst (λ (n : ℕ). IsDamagedIn (keeping_of s.job.bound.shape s.job.partitions) n files q) at (is.1 told)))
@@ -199,6 +214,20 @@ stop_moved tells one other s t cuts others found planned e f files first disk di
     full_by (inl behind) = inl (subst (λ (c : Cuts). is_behind (c planned) found ≡ true) cut behind)
     full_by (inr closing) = inr (subst (λ (query : Bound). closes query ≡ true) query closing)
 stop_moved tells one other s t cuts others found planned e f files first disk disk_now logs key cause.NoMemory same query known own cut at le is = tt
+
+ok_err : (next : Opened × Vec (List Timed)) (why : Stopped) → Ok next ≡ Err why → ⊥
+ok_err next why is = cc
+
+abbrev why_or : Stopped → Ended → Stopped
+why_or d (Ok next) = d
+why_or d (Err why) = why
+
+same_cause : (f g : Cause) → Some f ≡ Some g → f ≡ g
+same_cause f g is = ap (or_cause f) is
+  where
+    or_cause : Cause → Option Cause → Cause
+    or_cause d None = d
+    or_cause d (Some c) = c
 
 -- a fault of a round is one of an epoch where its cause is
 epoch_fault_by : (why : Cause) (key : Option Values) → is_epoch_fault (Err (fault_by why key)) ≡ is_of_epoch why
@@ -212,6 +241,27 @@ epoch_fault_by (cause.Damaged q) key = refl
 epoch_fault_by cause.DiskFault key = refl
 epoch_fault_by cause.Full key = refl
 epoch_fault_by cause.NoMemory key = refl
+
+-- a fault of a round is one of an open epoch where its cause is
+open_fault_by : (why : Cause) (key : Option Values) → is_open_fault (Err (fault_by why key)) ≡ true → IsOfOpen why
+open_fault_by (cause.BadLine a b o r) key is = inl refl
+open_fault_by (cause.Overflow a b o) key is = inl refl
+open_fault_by cause.KeyOverflow key is = inl refl
+open_fault_by cause.LogFault key is = inr refl
+open_fault_by (cause.LogShort a b m k) key is = absurd (true≢false (sym is))
+open_fault_by (cause.Damaged q) key is = absurd (true≢false (sym is))
+open_fault_by cause.DiskFault key is = absurd (true≢false (sym is))
+open_fault_by cause.Full key is = absurd (true≢false (sym is))
+open_fault_by cause.NoMemory key is = absurd (true≢false (sym is))
+
+-- and a failed call where its cause is
+call_fault_by : (why : Cause) (key : Option Values) → CallFailed (Some why) → is_call_fault (Err (fault_by why key)) ≡ true
+call_fault_by why key (inl disk) = ap (λ (c : Cause). is_call_fault (Err (fault_by c key))) (same_cause why cause.DiskFault disk)
+call_fault_by why key (inr memory) = ap (λ (c : Cause). is_call_fault (Err (fault_by c key))) (same_cause why cause.NoMemory memory)
+
+-- a round that is over did not stop
+ok_stopped : {A : Type 0} {end : Ended} (next : Opened × Vec (List Timed)) → end ≡ Ok next → StoppedAtCall end → A
+ok_stopped next ok at_call = absurd (ok_err next at_call.0 (sym ok ∙ at_call.1))
 
 -- what can begin again over the logs that came back can be run on
 pub fits_over : {L : Type 0} (tells : Type 0) (lines : L → List Line) (available : L → ℕ) (answers : L → List ℕ) (faults : L → ℕ) (bound : Bound) (cap : Option ℕ) (logs news : List L) (found : List ℕ) (of next : Opened)
@@ -271,7 +321,7 @@ module _ {L : Type 0} (tells : Type 0) (lines : L → List Line) (available : L 
       going_on tells lines available answers faults hang b opened so.done so.told told found round.plans so.has so.meta_is so.all so.committed round.went.on round.went.told_are round.went.few round.went.near
       (λ own e ge less. (ran_on own.0 own.1).due e ge less)
 
-  pub have_on : tells → IsOwnRun tells lines available answers faults b → HaveRun tells lines available answers faults b now round.plans all_told
+  pub have_on : tells → IsOwnRun tells lines available answers faults b → HaveRun tells lines available answers faults b now round.plans all_told (λ lines. (lines ≡ found) × StoppedAtCall end)
   have_on t own = running_on tells lines available answers faults hang joined b start now opened so.done so.told told found round.plans round.went.on.more end round.went.on.behind so.committed so.has (so.ran t own).0 (ran_on t own)
 
   -- no line of what was told is a fault
@@ -283,6 +333,20 @@ module _ {L : Type 0} (tells : Type 0) (lines : L → List Line) (available : L 
       (λ f le. ap (λ (ps : List Plan). cut_of (first_of b.found) ps f) round.went.on.behind ∙ cut_more (first_of b.found) opened.plans round.went.on.more f le) so.has.told_are so.has.few (so.good t))
       (subst (λ (cuts : Cuts). All (λ (x : Told). HasGoodLines s cuts x.epoch) told) cuts_same
       (subst (λ (y : Setting). All (λ (x : Told). HasGoodLines y (cut_of (first_of opened) round.plans) x.epoch) told) (same_s t) (round.went.good t)))
+
+  -- it is one of the rounds, where it is over
+  one_over : (next : Opened × Vec (List Timed)) → end ≡ Ok next
+      → IsOne (Owned tells lines available answers faults b) (setting_in tells lines available answers faults b) b.cap (cuts_in b round.plans) (epochs_after (length b.found.plans) so.done) (record { found = found; epochs = length round.plans })
+  one_over next ok = record {
+    on = goes.0.within;
+    cut = goes.1;
+    covers = subst (λ (ends : EndsOf). is_behind ends found ≡ false) (ap (λ (f : Cuts). f (length round.plans)) cuts_same) (round.went.over next ok).covered;
+    quiet = λ own. (ran_on own.0 own.1).quiet next ok;
+  }
+
+  -- and all are told
+  all_over : (next : Opened × Vec (List Timed)) → end ≡ Ok next → b.found.committed + length all_told ≡ length round.plans
+  all_over next ok = (let e = length-append so.told told in let a = (round.went.over next ok).all in let c = so.committed in omega (arith, e, a, c))
 
   -- the logs came back from it
   back_asked : WereAsked tells lines available answers faults b (record { found = found; epochs = length round.plans } ∷ so.done) news
@@ -302,15 +366,7 @@ module _ {L : Type 0} (tells : Type 0) (lines : L → List Line) (available : L 
         has = subst (λ (ps : List Plan). HasRounds (Owned tells lines available answers faults b) (setting_in tells lines available answers faults b) b ps (record { found = found; epochs = length round.plans } ∷ so.done) all_told) (sym over.plans_are) (record {
           more = goes.0.more;
           keeps = goes.0.keeps;
-          are = (
-            record {
-              on = goes.0.within;
-              cut = goes.1;
-              covers = subst (λ (ends : EndsOf). is_behind ends found ≡ false) (ap (λ (f : Cuts). f (length round.plans)) cuts_same) over.covered;
-              quiet = λ own. (ran_on own.0 own.1).quiet next ok;
-            },
-            goes.0.are,
-          );
+          are = (one_over next ok, goes.0.are);
           within = omega arith;
           told_are = goes.0.told_are;
           few = goes.0.few;
@@ -331,7 +387,7 @@ module _ {L : Type 0} (tells : Type 0) (lines : L → List Line) (available : L 
         disk_counted = (let c = so.disk_counted in omega (arith, c, counted));
         ran = λ t own.
             let ran = ran_on t own in
-            (subst (λ (ps : List Plan). HaveRun tells lines available answers faults b now ps all_told) (sym over.plans_are) (have_on t own), ran.settled next ok, ran.found next ok);
+            (subst (λ (ps : List Plan). HaveRun tells lines available answers faults b now ps all_told none_tried) (sym over.plans_are) (tried_so tells lines available answers faults b now round.plans all_told (λ lines. (lines ≡ found) × StoppedAtCall end) none_tried (λ lines tried. ok_stopped next ok tried.1) (have_on t own)), ran.settled next ok, ran.found next ok);
         kept = λ some_round t own. (ran_on t own).kept next ok;
       }
 
@@ -345,8 +401,9 @@ module _ {L : Type 0} (tells : Type 0) (lines : L → List Line) (available : L 
     has = goes.0;
     is_end = end_of untold;
     good = good_on;
-    ran = have_on;
+    ran = λ t own. tried_so tells lines available answers faults b now round.plans all_told (λ lines. (lines ≡ found) × StoppedAtCall end) (WasTried tells lines available answers faults b news round.plans so.done (Err why)) (λ lines tried. tried_at untold lines tried) (have_on t own);
     planned_stays = λ own t of. planned_so own t of untold;
+    uncommitted = λ at t of. uncommitted_so at t of untold;
     left = λ ok. absurd (never_ok why ok);
   }
     where
@@ -371,13 +428,35 @@ module _ {L : Type 0} (tells : Type 0) (lines : L → List Line) (available : L 
           let number : opened.committed + length told ≡ b.found.committed + length all_told = (let e = length-append so.told told in let c = so.committed in omega (arith, e, c)) in
           subst (λ (k : ℕ). LeavesNow now (λ (image : Files). IsThere image (name.Plan k))) number
           ((ran_on t of).planned_stays stop is_err (sym (epoch_fault_by stop.cause stop.key) ∙ sym (ap (λ (w : RunFault). is_epoch_fault (Err w)) is_why) ∙ own))
-      planned_so own t of (failed is_why risen front empty) = absurd (true≢false (sym own ∙ ap (λ (w : RunFault). is_epoch_fault (Err w)) is_why))
+      planned_so own t of (failed next over is_why risen front empty) = absurd (true≢false (sym own ∙ ap (λ (w : RunFault). is_epoch_fault (Err w)) is_why))
       planned_so own t of (untold_starved is_why first rest split same left) = absurd (true≢false (sym own ∙ ap (λ (w : RunFault). is_epoch_fault (Err w)) is_why))
+
+      -- and so no image has its commit, nor where a log failed
+      uncommitted_so : is_open_fault (Err why) ≡ true → tells → IsOwnRun tells lines available answers faults b → IsUntold OutTells written written_now before after text told end why → LeavesNow now (λ (image : Files). image (name.Commit (b.found.committed + length all_told)) ≡ None)
+      uncommitted_so at t of (untold_stopped stop is_err is_why same left) =
+          subst (λ (k : ℕ). LeavesNow now (λ (image : Files). image (name.Commit k) ≡ None)) (let e = length-append so.told told in let c = so.committed in omega (arith, e, c))
+          ((ran_on t of).uncommitted stop is_err (open_fault_by stop.cause stop.key (sym (ap (λ (w : RunFault). is_open_fault (Err w)) is_why) ∙ at)))
+      uncommitted_so at t of (failed next over is_why risen front empty) = absurd (true≢false (sym at ∙ ap (λ (w : RunFault). is_open_fault (Err w)) is_why))
+      uncommitted_so at t of (untold_starved is_why first rest split same left) = absurd (true≢false (sym at ∙ ap (λ (w : RunFault). is_open_fault (Err w)) is_why))
+
+      -- one plan more was tried only where a call failed
+      tried_at : IsUntold OutTells written written_now before after text told end why → (lines_found : List ℕ) → (lines_found ≡ found) × StoppedAtCall end → WasTried tells lines available answers faults b news round.plans so.done (Err why) lines_found
+      tried_at untold lines_found tried = record {
+        asked = subst (λ (l : List ℕ). WereAsked tells lines available answers faults b (record { found = l; epochs = length round.plans } ∷ so.done) news) (sym tried.0) back_asked;
+        failed = by untold;
+      }
+        where
+          by : IsUntold OutTells written written_now before after text told end why → is_call_fault (Err why) ≡ true
+          by (untold_stopped stop is_err is_why same left) =
+              ap (λ (w : RunFault). is_call_fault (Err w)) is_why
+              ∙ call_fault_by stop.cause stop.key (subst (λ (w : Stopped). CallFailed (Some w.cause)) (ap (why_or stop) (sym tried.1.1 ∙ is_err)) tried.1.2)
+          by (failed next over is_why risen front empty) = absurd (ok_stopped next over tried.1)
+          by (untold_starved is_why first rest split same left) = ap (λ (w : RunFault). is_call_fault (Err w)) is_why
 
       end_of : IsUntold OutTells written written_now before after text told end why → IsEnd tells lines available answers faults b now disk_now news OutTells written_now round.plans so.done all_told text (Err why)
       end_of (untold_stopped stop is_err is_why same left) =
           stopped some_done found goes.1 back_asked stop (stop_at stop is_err) so.told told refl (λ o. same o ∙ put_so o) left (ap Err is_why)
-      end_of (failed is_why risen front empty) = unput some_done found goes.1 back_asked so.told told refl (λ o. let f = front o in (f.0, f.1 ∙ ap (λ (l : List ℕ). l ++ take f.0 (told_text told)) (put_so o))) empty (ap Err is_why)
+      end_of (failed next over is_why risen front empty) = unput some_done found (one_over next over, all_over next over) back_asked so.told told refl (λ o. let f = front o in (f.0, f.1 ∙ ap (λ (l : List ℕ). l ++ take f.0 (told_text told)) (put_so o))) empty (ap Err is_why)
       end_of (untold_starved is_why first rest split same left) = starved some_le (record { found = found; epochs = length round.plans } ∷ so.done) (inr (found, goes.1, refl)) back_asked so.told first rest (ap (λ (l : List Told). so.told ++ l) split) (λ o. same o ∙ put_so o) left (ap Err is_why)
 
 -- a round's own query and cap are those of the run

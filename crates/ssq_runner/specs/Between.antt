@@ -1,5 +1,5 @@
 -- What a run is at between its steps: its rounds are under way, one has gone, or it is over.
-use Rattle.std.specs.Prelude.{◌≡◌, ◌≤◌, ℕ, List, length, Result}
+use Rattle.std.specs.Prelude.{◌≡◌, ◌≤◌, ℕ, List, length, map, Result}
 use Rattle.std.specs.List.{sum_by}
 use Rattle.ssq_outside.specs.History.{History, files_now, LeavesNow, LeavesOnly}
 use Rattle.ssq_outside.specs.Logs.{Held, Line}
@@ -10,6 +10,7 @@ use Rattle.ssq_core.specs.Standing.{Stands}
 use Rattle.ssq_core.specs.Sound.{StandsOrEmpty}
 use Rattle.ssq_course.specs.Setting.{Setting, job_of}
 use Rattle.ssq_open.specs.declared.wanted.Opened.{Opened}
+use Rattle.ssq_promise.specs.Run.{WasRun}
 use Rattle.ssq_logs.specs.Asked.{AreAsked}
 use Rattle.ssq_logs.specs.Parts.{counts_in}
 use Rattle.ssq_logs.specs.Opened.{parts_of, AreLogsOf}
@@ -17,8 +18,9 @@ use Rattle.ssq_desk.specs.declared.told.Told.{Told}
 use Rattle.ssq_drive.specs.Rounds.{AreReturned, Ended, HaveIndexes, IsRound, setting_for}
 use Rattle.ssq_runner.specs.declared.ask.Ask.{Ask}
 use Rattle.ssq_runner.specs.declared.fault.RunFault.{RunFault}
-use Rattle.ssq_runner.specs.Ending.{Begun, HaveRun}
+use Rattle.ssq_runner.specs.Ending.{Begun, HaveRun, WasTried, setting_in}
 use Rattle.ssq_runner.specs.Going.{IsReady, scope_of}
+use Rattle.ssq_runner.specs.Rounds.{Round}
 use Rattle.ssq_runner.specs.Running.{Given, HavePromised, IsBegunBy, IsOf, IsRunOf, RunEnd}
 use Rattle.ssq_runner.specs.Sources.{IsSettingFor}
 
@@ -37,11 +39,11 @@ module _ {L : Type 0} (tells : Type 0) (lines : L → List Line) (available : L 
   -- What becomes of rounds that began so, whatever they do as a run of the machine: where the checkpoint stood for the run's job, or was empty, they
   -- keep what they promise; where each image did, so does each of each moment; and where each image stood, none is empty.
   pub record AreKept (g : Given L) (b : Begun L) : Type 0 where
-    pub promised : tells → (s : Setting) → IsRunOf lines g s → StandsOrEmpty (job_of s) (files_now g.start) → (now : History) (plans : List Plan) (told : List Told) → HaveRun tells lines available answers faults b now plans told
-        → HavePromised tells lines available answers faults s b now plans told
-    pub stands : tells → (s : Setting) → IsRunOf lines g s → LeavesNow g.start (StandsOrEmpty (job_of s)) → (now : History) (plans : List Plan) (told : List Told) → HaveRun tells lines available answers faults b now plans told
+    pub promised : tells → (s : Setting) → IsRunOf lines g s → StandsOrEmpty (job_of s) (files_now g.start) → (now : History) (logs : List L) (plans : List Plan) (done : List Round) (told : List Told) (end : Result (Unit {0}) RunFault)
+        → HaveRun tells lines available answers faults b now plans told (WasTried tells lines available answers faults b logs plans done end) → HavePromised tells lines available answers faults s b now plans told (WasTried tells lines available answers faults b logs plans done end)
+    pub stands : tells → (s : Setting) → IsRunOf lines g s → LeavesNow g.start (StandsOrEmpty (job_of s)) → (now : History) (told : List Told) → WasRun tells (job_of (setting_in tells lines available answers faults b)) b.start now (map (λ t. t.epoch) told)
         → LeavesOnly g.start now (StandsOrEmpty (job_of s))
-    pub stay : tells → (s : Setting) → IsRunOf lines g s → LeavesNow g.start (Stands (job_of s)) → (now : History) (plans : List Plan) (told : List Told) → HaveRun tells lines available answers faults b now plans told
+    pub stay : tells → (s : Setting) → IsRunOf lines g s → LeavesNow g.start (Stands (job_of s)) → (now : History) (told : List Told) → WasRun tells (job_of (setting_in tells lines available answers faults b)) b.start now (map (λ t. t.epoch) told)
         → LeavesOnly g.start now (Stands (job_of s))
 
   -- Rounds began so: the logs were asked, and the checkpoint was opened over what they answered.

@@ -20,7 +20,7 @@ use Rattle.ssq_drive.specs.Kept.{IsKeptUp}
 use Rattle.ssq_drive.specs.Rounds.{CanBegin, IsFoundOf, first_of}
 use Rattle.ssq_runner.specs.Rounds.{Round, epochs_after}
 use Rattle.ssq_runner.specs.Told.{told_text}
-use Rattle.ssq_runner.specs.Ending.{Begun, HasRounds, IsOwnRun, Owned, HaveRun, AreGood, WereAsked, setting_in}
+use Rattle.ssq_runner.specs.Ending.{Begun, HasRounds, IsOwnRun, Owned, HaveRun, AreGood, WereAsked, none_tried, setting_in}
 
 -- Rounds may be run over this number of logs, however many lines are found, as long as these are not fewer than are planned.
 pub record Fits (bound : Bound) (cap : Option ℕ) (logs : ℕ) (found : Opened) : Type 0 where
@@ -59,7 +59,7 @@ module _ {L : Type 0} (tells : Type 0) (lines : L → List Line) (available : L 
     pub fits : Fits b.bound b.cap (length logs) opened
     pub there : 0 < n → tells → (i : ℕ) (own : L) → get_elem? logs i ≡ some own → get_or (planned_lines opened) i 0 ≤ available own
     pub disk_counted : b.disk_faults ≤ disk_faults
-    pub ran : tells → IsOwnRun tells lines available answers faults b → HaveRun tells lines available answers faults b now opened.plans told × IsSettledAs now (files_now now)
+    pub ran : tells → IsOwnRun tells lines available answers faults b → HaveRun tells lines available answers faults b now opened.plans told none_tried × IsSettledAs now (files_now now)
         × IsFoundOf (setting_in tells lines available answers faults b) (files_now now) opened
     pub kept : 0 < n → tells → IsOwnRun tells lines available answers faults b → IsKeptUp (keeping_of b.bound.shape b.found.meta.partitions) b.found.meta.partitions (files_now now)
 

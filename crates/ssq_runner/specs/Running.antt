@@ -24,7 +24,6 @@ use Rattle.ssq_open.specs.Watermarks.{watermarked}
 use Rattle.ssq_open.specs.Sought.{Sought}
 use Rattle.ssq_open.specs.Opening.{IsOpen, IsRefused, IsOutside, SyncedSince, IsBegun, IsOpening, first_short, first_meta}
 use Rattle.ssq_promise.specs.Run.{WasRun, AreFilesOf, IsKept}
-use Rattle.ssq_terms.specs.Setting.{AreFound}
 use Rattle.ssq_terms.specs.Laws.{due_at}
 use Rattle.ssq_logs.specs.declared.fault.LengthFault.{LengthFault}
 use Rattle.ssq_logs.specs.Asked.{AreAsked, IsStopped}
@@ -36,7 +35,7 @@ use Rattle.ssq_runner.specs.declared.fault.RunFault.{RunFault}
 use Rattle.ssq_runner.specs.declared.fault.RunFault.TheVariants as fault
 use Rattle.ssq_runner.specs.declared.ask.Ask.{Ask}
 use Rattle.ssq_runner.specs.Lens.{lens_of}
-use Rattle.ssq_runner.specs.Ending.{Begun, Ends, IsUncounted, IsOwnRun, setting_in, cuts_in}
+use Rattle.ssq_runner.specs.Ending.{Begun, Ends, IsUncounted, IsOwnRun, WasTried, setting_in, cuts_in}
 
 -- What a run is given: the query, how many partitions are asked for, if that is asked, the cap of its epochs, how many rounds, how many parts
 -- each stream has, the disk and how often it has failed, the logs of the parts as they were opened, and what was written so far.
@@ -140,12 +139,12 @@ module _ {L : Type 0} (tells : Type 0) (lines : L → List Line) (available : L 
     pub own : tells → (s : Setting) → IsRunOf lines g s → StandsOrEmpty (job_of s) (files_now g.start) → (setting_in tells lines available answers faults b ≡ s) × IsOwnRun tells lines available answers faults b
 
   -- What rounds promise that began so and told these epochs: they are a run of the machine; their plans are those of the files that they leave,
-  -- or, once all are told, the publishing of one more failed; each file that was there when they began is in each image from then on, as it was, but for files of the
+  -- or, once all are told, the publishing of one more failed, which was tried by lines that were found so; each file that was there when they began is in each image from then on, as it was, but for files of the
   -- state; each epoch is in each image from when it was acknowledged; and it is told with the watermark and the number of rows
   -- of the meaning, which finds no fault in it.
-  pub record HavePromised (s : Setting) (b : Begun L) (now : History) (plans : List Plan) (told : List Told) : Type 0 where
+  pub record HavePromised (s : Setting) (b : Begun L) (now : History) (plans : List Plan) (told : List Told) (IsTried : List ℕ → Type 0) : Type 0 where
     pub run : WasRun tells (job_of s) b.start now (map (λ t. t.epoch) told)
-    pub files : AreFilesOf (job_of s) b.cap (due_at s) (λ found. AreFound found s.lines) (b.found.committed + length told ≡ length plans) (cuts_in b plans) (length plans) now
+    pub files : AreFilesOf (job_of s) b.cap (due_at s) IsTried (b.found.committed + length told ≡ length plans) (cuts_in b plans) (length plans) now
     pub kept : IsKept tells (job_of s) b.start now (files_now b.start) (map (λ t. t.epoch) told) run
     pub meant : All (IsMeant s (cuts_in b plans)) told
 
@@ -161,4 +160,4 @@ module _ {L : Type 0} (tells : Type 0) (lines : L → List Line) (available : L 
         → RunEnd g now disk_faults logs OutTells written text end
     starved : (found : List ℕ) → AreAsked tells lines available answers faults g.logs logs found → now ≡ g.start → IsUnsaid g OutTells written text → end ≡ Err fault.NoMemory → RunEnd g now disk_faults logs OutTells written text end
     ran : (found : List ℕ) (asked_logs : List L) → AreAsked tells lines available answers faults g.logs asked_logs found → (b : Begun L) → IsBegunBy g found b → (ends : Ends tells lines available answers faults b now disk_faults logs OutTells written text end)
-        → (tells → (s : Setting) → IsRunOf lines g s → StandsOrEmpty (job_of s) (files_now g.start) → HavePromised s b now ends.plans ends.told) → RunEnd g now disk_faults logs OutTells written text end
+        → (tells → (s : Setting) → IsRunOf lines g s → StandsOrEmpty (job_of s) (files_now g.start) → HavePromised s b now ends.plans ends.told (WasTried tells lines available answers faults b logs ends.plans ends.done end)) → RunEnd g now disk_faults logs OutTells written text end

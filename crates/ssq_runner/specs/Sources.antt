@@ -13,7 +13,7 @@ use Rattle.ssq_open.specs.declared.fault.OpenFault.TheVariants as opening
 use Rattle.ssq_logs.specs.declared.fault.PartsFault.TheVariants as parts_fault
 use Rattle.ssq_logs.specs.declared.fault.LengthFault.TheVariants as length_fault
 use Rattle.ssq_logs.specs.Parts.{counts_in, lines_in, PartsCause}
-use Rattle.ssq_logs.specs.Opened.{parts_of, AreLogsOf}
+use Rattle.ssq_logs.specs.Opened.{Part, parts_of, AreLogsOf}
 use Rattle.ssq_logs.specs.Went.{returned_with}
 use Rattle.ssq_runner.specs.declared.ask.Ask.{Ask}
 use Rattle.ssq_runner.specs.declared.fault.RunFault.{RunFault}
@@ -30,11 +30,16 @@ pub record IsSettingFor (held : Held) (bound : Bound) (asks : Option ℕ) (start
   pub as_asked : ForSome asks (λ count. s.job.partitions ≡ count)
   pub first : IsEmpty (files_now start) → s.job.partitions ≡ unwrap_or asks 1
 
--- nothing was done to the disk, nothing was written, and nothing is left to be
-pub record IsStill (start now : History) (OutTells : Type 0) (old written text : List ℕ) : Type 0 where
+-- logs came back to the inputs that were asked nothing, and no others: those of these parts
+abbrev pub CameUnasked : (returned returned_now : List (List ℕ)) → Type 0
+CameUnasked returned returned_now = (opened : List Part) × (returned_now ≡ returned_with (map (λ _. []) opened) returned)
+
+-- nothing was done to the disk, nothing was written, and nothing is left to be; and the logs that were opened came back and were asked nothing
+pub record IsStill (told : Type 0) (start now : History) (returned returned_now : List (List ℕ)) (OutTells : Type 0) (old written text : List ℕ) : Type 0 where
   pub same : now ≡ start
   pub unwritten : OutTells → written ≡ old
   pub untold : text ≡ []
+  pub unasked : told → CameUnasked returned returned_now
 
 -- why a run did not come to its logs: a stream has too many parts, where inputs tell what they hold; the inputs failed; or memory ran out
 abbrev pub IsUnparted : Type 0 → Held → List Stream → RunFault → Type 0
@@ -43,10 +48,10 @@ IsUnparted told held streams fault.NoMemory = Unit {0}
 IsUnparted told held streams _ = ⊥
 
 module _ {L : Type 0} (told tells : Type 0) (lines : L → List Line) (available : L → ℕ) (answers : L → List ℕ) (faults : L → ℕ) where
-  -- How a run over inputs goes: its parts are not counted or not opened; or it runs over their logs, as they were opened, for the query over
+  -- How a run over inputs goes: its parts are not counted, or not all of them opened, and those that are come back; or it runs over their logs, as they were opened, for the query over
   -- what the inputs hold, and gives them back.
   pub data RunOver (held : Held) (known : List ℕ → ℕ → ℕ) (bound : Bound) (ask : Ask) (start now : History) (disk_faults disk_faults_now : ℕ) (returned returned_now : List (List ℕ)) (OutTells : Type 0) (old written text : List ℕ) (end : Result (Unit {0}) RunFault) : Type 0 where
-    unparted : (why : RunFault) → IsUnparted told held bound.streams why → IsStill start now OutTells old written text → end ≡ Err why → RunOver held known bound ask start now disk_faults disk_faults_now returned returned_now OutTells old written text end
+    unparted : (why : RunFault) → IsUnparted told held bound.streams why → IsStill told start now returned returned_now OutTells old written text → end ≡ Err why → RunOver held known bound ask start now disk_faults disk_faults_now returned returned_now OutTells old written text end
     over : (g : Given L) → (told → g.counts ≡ counts_in held bound.streams) → IsOf bound ask g.counts g → g.start ≡ start → g.disk_faults ≡ disk_faults → g.written ≡ old
         → AreLogsOf told lines available answers faults held known (parts_of bound.streams g.counts) g.logs → (told → (s : Setting) → IsSettingFor held bound ask.partitions start s → IsRunOf lines g s) → (logs : List L)
         → RunEnd tells lines available answers faults g now disk_faults_now logs OutTells written text end → (told → returned_now ≡ returned_with (map answers logs) returned)

@@ -1,6 +1,6 @@
 //! A run over the parts of its streams, with the loop over its rounds.
 
-ghost use Rattle.std.specs.Prelude.{◌≡◌, ◌≤◌, ◌-◌, ◌^◌, [], length, map, min, sum, All, Err, IfOk, IfErr, OnOk};
+ghost use Rattle.std.specs.Prelude.{◌≡◌, ◌≤◌, ◌-◌, ◌^◌, ℕ, List, [], length, map, min, sum, All, Err, IfOk, IfErr, OnOk, OnErr};
 ghost use Rattle.std.specs.Option.{ForSome};
 ghost use Rattle.ssq_outside.specs.History.{LeavesNow, LeavesOnly};
 ghost use Rattle.ssq_core.specs.Standing.{Stands};
@@ -12,7 +12,7 @@ ghost use Rattle.ssq_logs.specs.declared.fault.LengthFault.{LengthFault as Lengt
 ghost use Rattle.ssq_logs.specs.Parts.{counts_in, lines_in};
 ghost use Rattle.ssq_logs.specs.Opened.{parts_of, AreLogsOf};
 ghost use Rattle.ssq_runner.specs.declared.fault.RunFault.TheVariants as fault;
-ghost use Rattle.ssq_runner.specs.Sources.{HasCount, IsSettingFor, IsUnparted, RunOver};
+ghost use Rattle.ssq_runner.specs.Sources.{CameUnasked, HasCount, IsSettingFor, IsUnparted, RunOver};
 
 use crate::ask::Ask;
 use crate::fault::RunFault;
@@ -49,6 +49,8 @@ fn open_parts<I: Inputs>(
     ensures lines { I.tells → IfOk result (λ opened. map I.Log.lines opened.1.items ≡ lines_in (I.held inputs.old) streams.now) }
     ensures unparted { IfErr result (IsUnparted I.tells (I.held inputs.old) streams.now) }
     ensures held { I.tells → I.held inputs.new ≡ I.held inputs.old }
+    ensures grown { I.tells → (stream : List ℕ) (part : ℕ) → I.available inputs.old stream part ≤ I.available inputs.new stream part }
+    ensures unasked { I.tells → OnErr result (CameUnasked (I.returned inputs.old) (I.returned inputs.new)) }
     ensures unreturned { I.tells → OnOk result (I.returned inputs.new ≡ I.returned inputs.old) }
     ensures counted { min (I.faults inputs.old) (2 ^ 64 - 1) ≤ I.faults inputs.new }
     ensures same_count { OnOk result (I.faults inputs.old ≤ I.faults inputs.new) }
@@ -92,6 +94,8 @@ pub fn run_query<D: Disk, I: Inputs, O: Output, G: Gate>(
     // And where each image stands, so does each of each moment: none is empty.
     ensures stay { D.tells → I.tells → (s : SettingOf) → IsSettingFor (I.held inputs.old) bound.now ask.partitions (D.history disk) s → LeavesNow (D.history disk) (Stands (job_of s)) → LeavesOnly (D.history disk) (D.history result.disk) (Stands (job_of s)) }
     ensures held { I.tells → I.held inputs.new ≡ I.held inputs.old }
+    // No line that was known to be there went away.
+    ensures grown { I.tells → (stream : List ℕ) (part : ℕ) → I.available inputs.old stream part ≤ I.available inputs.new stream part }
     // Where the lines of a log were not counted, the parts were.
     ensures counts { I.tells → (why : LengthFaultOf) → result.end ≡ Err (fault.Lines why) → result.counts ≡ counts_in (I.held inputs.old) bound.now.streams }
     // A fault of the outside is told only where it was counted.

@@ -14,7 +14,7 @@ returns-in_err-push_all-clause-untold g c =
 pub returns-in_err-put_text-in-Ok-clause-untold : goal.returns-in_err-put_text-in-Ok-clause-untold
 returns-in_err-put_text-in-Ok-clause-untold g c =
     let p = err_from_is_err_and c.from_residual-in_err-put_text-in-Ok.result c.from_residual-in_err-put_text-in-Ok.ensures.1 in
-    rw (p.1, p.2) (put_untold g.O.Output.tells _ _ _ _ c.push_all.new.text.items _ c.args.told.now _ _ c.in_err-put_text-in-Ok.ensures.only (c.in_ok-push_all.ensures.ok ∙ ap (λ (l : List ℕ). l ++ told_text c.args.told.now) c.requires.empty)
+    rw (p.1, p.2) (put_untold g.O.Output.tells _ _ _ _ c.push_all.new.text.items _ c.args.told.now _ _ c.in-Ok.next c.in-Ok.is c.in_err-put_text-in-Ok.ensures.only (c.in_ok-push_all.ensures.ok ∙ ap (λ (l : List ℕ). l ++ told_text c.args.told.now) c.requires.empty)
     c.in_err-put_text-in-Ok.ensures.failed c.in_err-put_text-in-Ok.ensures.starved)
 
 pub returns-in-Err-clause-untold : goal.returns-in-Err-clause-untold

@@ -186,7 +186,7 @@ returns-in-Err-run-clause-counts g c = λ told why is. subst (λ (streams : List
 pub returns-in-Err-clause-end : goal.returns-in-Err-clause-end
 returns-in-Err-clause-end g c =
     unparted c.in-Err.fault (subst (λ (streams : List Stream). IsUnparted g.I.Inputs.tells (g.I.Inputs.held c.args.inputs.now) streams c.in-Err.fault) c.as_slice.ensures c.in-Err.ensures.unparted)
-    (record { same = refl; unwritten = λ o. refl; untold = c.new-text.ensures.items }) refl
+    (record { same = refl; unwritten = λ o. refl; untold = c.new-text.ensures.items; unasked = c.in-Err.ensures.unasked }) refl
 
 pub returns-in-Err-clause-stands : goal.returns-in-Err-clause-stands
 returns-in-Err-clause-stands g c = λ t told s is each. leaves_still (StandsOrEmpty (job_of s)) (g.D.Disk.history c.args.disk) each
@@ -199,3 +199,7 @@ returns-in-Err-clause-counts g c = λ told why is. absurd (never_lines g.I.Input
 
 pub returns-in-Err-clause-stay : goal.returns-in-Err-clause-stay
 returns-in-Err-clause-stay g c = λ t told s is each. leaves_still (Stands (job_of s)) (g.D.Disk.history c.args.disk) each
+
+pub returns-in-Err-run-clause-grown : goal.returns-in-Err-run-clause-grown
+returns-in-Err-run-clause-grown g c = λ told stream part.
+    (let a = c.open_parts.ensures.grown told stream part in let b = c.give_back.ensures.inputs.grown told stream part in let same = ap (λ (inputs : g.row.I.Denot). g.I.Inputs.available inputs stream part) c.loop-run.invariant.inputs in omega (arith, a, b, same))
