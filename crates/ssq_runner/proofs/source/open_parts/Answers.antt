@@ -2,6 +2,7 @@ use Rattle.std.proofs.Common.{◌++◌, ◌∙◌, ℕ, List, [], map, sym, ap, 
 use Rattle.ssq_logs.specs.Opened.{parts_of, AreLogsOf}
 use Rattle.ssq_runner.proofs.Sourcing.{each_log, err_any, logs_before, none_answered}
 use Rattle.ssq_logs.specs.Went.{returned_with}
+use Rattle.ssq_runner.specs.Sources.{CameUnasked}
 use Rattle.ssq_runner.proofs.source.open_parts.Goals as goal
 
 pub returns-in-Ok-clause-logs : goal.returns-in-Ok-clause-logs
@@ -23,10 +24,12 @@ returns-in-Ok-clause-log_each g c =
     (subst (λ (counts : List ℕ). AreLogsOf g.I.Inputs.tells g.I.Log.Log.lines g.I.Log.Log.available g.I.Log.Log.answers g.I.Log.Log.faults (g.I.Inputs.held c.count_parts.new.inputs) (g.I.Inputs.available c.count_parts.new.inputs) (parts_of c.args.streams.now counts) opened.more) c.as_slice-2.ensures opened.are))
 
 pub returns-in_err-counts-clause-unasked : goal.returns-in_err-counts-clause-unasked
-returns-in_err-counts-clause-unasked g c = λ told. err_any _ ([], c.count_parts.ensures.inputs.given told)
+returns-in_err-counts-clause-unasked g c = λ told.
+    let came : CameUnasked (g.I.Inputs.returned c.args.inputs.now) (g.I.Inputs.returned c.count_parts.new.inputs) = ([], c.count_parts.ensures.inputs.given told) in err_any _ came
 
 pub returns-in_err-logs-clause-unasked : goal.returns-in_err-logs-clause-unasked
-returns-in_err-logs-clause-unasked g c = λ told. err_any _ ([], c.count_parts.ensures.inputs.given told)
+returns-in_err-logs-clause-unasked g c = λ told.
+    let came : CameUnasked (g.I.Inputs.returned c.args.inputs.now) (g.I.Inputs.returned c.count_parts.new.inputs) = ([], c.count_parts.ensures.inputs.given told) in err_any _ came
 
 pub returns-in-Err-clause-unasked : goal.returns-in-Err-clause-unasked
 returns-in-Err-clause-unasked g c = λ told.
