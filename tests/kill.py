@@ -24,8 +24,8 @@ logs is in exactly one epoch, no window is left to be closed, and of the state t
 a query that keeps state waits for a moment at which upkeep is due; it is told how many left a snapshot to be made or a file to be removed.
 
 It is not part of the gate, since it takes minutes and its timing is the machine's. A killed process loses nothing that the
-system had taken from it, so this shows crashes of the program, and not of the machine: those are proved over a disk that does what
-the trait says, and that a real folder is asked for just that is shown by tests/power.py.
+system had taken from it, so this shows crashes of the program, and not of the machine. Those are proved over a disk that does what
+the trait says, and tests/power.py shows that a real folder is asked for it.
 """
 import argparse
 import collections
