@@ -81,10 +81,10 @@ regular_stream stream places h =
       delay = maybe (λ w. IsSpanText w.delay) (λ w. IsSpanText w.delay) watermark_tree plain_watermark (λ w p is. is) stream.watermark from_watermark h.delay;
     }
 
-regular_named : (e : Expr) (at : ℕ) (label : Ident) → IsFit (plain e) → IsRegularItem (plain_item (item_of e at label))
+regular_named : (e : Expr) (at : ℕ) (label : Ident) → IsFit (plain e) → IsRegularItem IsFit (plain_item (item_of e at label))
 regular_named (expr.Column column) at label h = regular_column (bytes_eq column.column.text label.text)
   where
-    regular_column : (b : Bool) → IsRegularItem (plain_item (cond b (item.Column column at label.at) (item.Named (expr.Column column) at label)))
+    regular_column : (b : Bool) → IsRegularItem IsFit (plain_item (cond b (item.Column column at label.at) (item.Named (expr.Column column) at label)))
     regular_column true = tt
     regular_column false = h
 regular_named (expr.Number n at') at label h = h
@@ -99,7 +99,7 @@ regular_named (expr.IsNull' s a at' test) at label h = h
 regular_named (expr.Binary' left_at s a o at' right_at t b) at label h = h
 regular_named (expr.Between' s a at' t b u c) at label h = h
 
-regular_item : (i : WrittenItem) (places : List ℕ) → IsRegularItem i → IsRegularItem (plain_item (item_tree i places))
+regular_item : (i : WrittenItem) (places : List ℕ) → IsRegularItem IsFit i → IsRegularItem IsFit (plain_item (item_tree i places))
 regular_item (bare_item column) places h = tt
 regular_item (named_item value label) places h =
     regular_named (tree value places) (first places) (ident label (drop 1 (behind (words value) places))) (fit value places h)
@@ -108,13 +108,13 @@ regular_group : (g : WrittenGroup) (places : List ℕ) → IsRegularGroup g → 
 regular_group (column_group column) places h = tt
 regular_group (window_group window) places h = h
 
-regular_select : (select : WrittenSelect) (places : List ℕ) → IsRegularSelect select → IsRegularSelect (plain_select (select_tree select places))
+regular_select : (select : WrittenSelect) (places : List ℕ) → IsRegularSelect IsFit select → IsRegularSelect IsFit (plain_select (select_tree select places))
 regular_select select places h =
     let at = parts_at select places in
     let condition : (w : Written) (p : List ℕ) → IsFit w → IsFit (plain (condition_tree w p).value) = λ w p is. fit w (drop 1 p) is in
     record {
       some_items = filled item_words item_tree 1 plain_item select.items at.items h.some_items;
-      items = each IsRegularItem IsRegularItem item_words item_tree 1 plain_item regular_item select.items at.items h.items;
+      items = each (IsRegularItem IsFit) (IsRegularItem IsFit) item_words item_tree 1 plain_item regular_item select.items at.items h.items;
       on = maybe (λ join. IsFit join.on) (λ join. IsFit join.on) join_tree plain_join
           (λ join p is. fit join.on (drop 1 (drop 2 (behind (kind_words join.kind join.has_word) p))) is) select.join at.join h.on;
       filter = maybe IsFit IsFit condition_tree (λ made. plain made.value) condition select.filter at.filter h.filter;
@@ -128,7 +128,7 @@ regular_select select places h =
       having = maybe IsFit IsFit condition_tree (λ made. plain made.value) condition select.having at.having h.having;
     }
 
-regular_query : (query : WrittenQuery) (places : List ℕ) → IsRegularQuery query → IsRegularQuery (plain_query (query_tree query places))
+regular_query : (query : WrittenQuery) (places : List ℕ) → IsRegularQuery IsFit query → IsRegularQuery IsFit (plain_query (query_tree query places))
 regular_query query places h = record {
   streams = each IsRegularStream IsRegularStream declared_words declared_tree 0 plain_stream regular_stream query.streams places h.streams;
   select = regular_select query.select (behind (flat_map declared_words query.streams) places) h.select;
@@ -280,13 +280,13 @@ same_query query places again =
     let select = same_select made.select (same_items query.select.items (parts_at query.select from_select).items) (behind (flat_map declared_words (map plain_stream made.streams)) again) in
     λ i. record { streams = streams i; select = select i }
 
-again_of : (query : WrittenQuery) (places : List ℕ) → IsRegularQuery query → (made : Query) → query_tree query places ≡ made → (tokens : List Lexed) → map (λ token. token.said) tokens ≡ query_words (plain_query made) → (same : Query) × IsWritten tokens same × (erased same ≡ erased made)
+again_of : (query : WrittenQuery) (places : List ℕ) → IsRegularQuery IsFit query → (made : Query) → query_tree query places ≡ made → (tokens : List Lexed) → map (λ token. token.said) tokens ≡ query_words (plain_query made) → (same : Query) × IsWritten tokens same × (erased same ≡ erased made)
 again_of query places regular made meant tokens said =
     let starts = map (λ token. token.start) tokens in (
       query_tree (plain_query made) starts,
       record {
         written = plain_query made;
-        regular = let P : Query → Type 0 = λ q. IsRegularQuery (plain_query q) in subst P meant (regular_query query places regular);
+        regular = let P : Query → Type 0 = λ q. IsRegularQuery IsFit (plain_query q) in subst P meant (regular_query query places regular);
         said = said;
         meant = refl;
       },

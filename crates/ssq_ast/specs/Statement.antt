@@ -356,32 +356,33 @@ pub record IsRegularStream (stream : WrittenStream) : Type 0 where
   pub columns : IsFilled stream.columns
   pub delay : IfSome stream.watermark (λ watermark. IsSpanText watermark.delay)
 
-abbrev pub IsRegularItem : WrittenItem → Type 0
-IsRegularItem (bare_item column) = Unit {0}
-IsRegularItem (named_item value label) = IsFit value
+-- an item whose expression, where it has one, is P
+abbrev pub IsRegularItem : (Written → Type 0) → WrittenItem → Type 0
+IsRegularItem P (bare_item column) = Unit {0}
+IsRegularItem P (named_item value label) = P value
 
 abbrev pub IsRegularGroup : WrittenGroup → Type 0
 IsRegularGroup (column_group column) = Unit {0}
 IsRegularGroup (window_group window) = IsSpanText window.size × IfSome window.slide IsSpanText
 
-pub record IsRegularSelect (select : WrittenSelect) : Type 0 where
+pub record IsRegularSelect (P : Written → Type 0) (select : WrittenSelect) : Type 0 where
   pub some_items : IsFilled select.items
-  pub items : Each IsRegularItem select.items
-  pub on : IfSome select.join (λ join. IsFit join.on)
-  pub filter : IfSome select.filter IsFit
+  pub items : Each (IsRegularItem P) select.items
+  pub on : IfSome select.join (λ join. P join.on)
+  pub filter : IfSome select.filter P
   pub deduplicate : IfSome select.deduplicate IsFilled
   pub some_group : IfSome select.group IsFilled
   pub group : IfSome select.group (Each IsRegularGroup)
-  pub having : IfSome select.having IsFit
+  pub having : IfSome select.having P
 
--- lists have a part, spans and times are the values of their texts, and each expression is fit
-pub record IsRegularQuery (query : WrittenQuery) : Type 0 where
+-- lists have a part, spans and times are the values of their texts, and each expression is P
+pub record IsRegularQuery (P : Written → Type 0) (query : WrittenQuery) : Type 0 where
   pub streams : Each IsRegularStream query.streams
-  pub select : IsRegularSelect query.select
+  pub select : IsRegularSelect P query.select
 
 -- The tokens of a file are a way to write this query, by the grammar, with its places.
 pub record IsWritten (tokens : List Lexed) (query : Query) : Type 0 where
   pub written : WrittenQuery
-  pub regular : IsRegularQuery written
+  pub regular : IsRegularQuery IsFit written
   pub said : map (λ token. token.said) tokens ≡ query_words written
   pub meant : query_tree written (map (λ token. token.start) tokens) ≡ query

@@ -253,7 +253,7 @@ written_on (Some join) places is = tree_has join.on (drop 1 (drop 2 (behind (kin
 abbrev from_join : WrittenSelect → List ℕ → List ℕ
 from_join select places = drop 2 (behind (separated (map item_words select.items)) (behind (distinct_words select.distinct) (drop 1 places)))
 
-written_query : (query : WrittenQuery) (places : List ℕ) → IsRegularQuery query → IfSome (query_tree query places).select.join (λ (own : Join). HasSpans own.on.value)
+written_query : (query : WrittenQuery) (places : List ℕ) → IsRegularQuery IsFit query → IfSome (query_tree query places).select.join (λ (own : Join). HasSpans own.on.value)
 written_query query places is = written_on query.select.join (from_join query.select (behind (flat_map declared_words query.streams) places)) is.select.on
 
 pub time_bounds_lie_around : TimeBoundsLieAround

@@ -19,7 +19,7 @@ use Rattle.ssq_ast.specs.declared.query.GroupBy.{GroupBy}
 use Rattle.ssq_ast.specs.declared.query.Join.{Join}
 use Rattle.ssq_ast.specs.declared.query.Query.{Query}
 use Rattle.ssq_ast.specs.Expression.{behind}
-use Rattle.ssq_ast.specs.Statement.{WrittenGroup, column_group, window_group, WrittenSelect, WrittenQuery, separated, declared_words, distinct_words, item_words, join_words, condition_words, deduplicate_words, group_item_words, group_item_tree, group_tree, query_tree, Each, IsSpanText, IsRegularGroup, IsRegularQuery}
+use Rattle.ssq_ast.specs.Statement.{WrittenGroup, column_group, window_group, WrittenSelect, WrittenQuery, separated, declared_words, distinct_words, item_words, join_words, condition_words, deduplicate_words, group_item_words, group_item_tree, group_tree, query_tree, Each, IsSpanText, IsRegularGroup, IsRegularQuery, IsFit}
 use Rattle.ssq_check.specs.declared.scope.Scope.{Scope}
 use Rattle.ssq_check.specs.Clauses.{slide_or, slide_of, group_windows}
 use Rattle.ssq_check.specs.Fault.{AreNone}
@@ -66,7 +66,7 @@ from_group select places =
     let from_filter : List ℕ = behind (join_words select.join) from_join in
     behind (deduplicate_words select.deduplicate) (behind (condition_words key.Where select.filter) from_filter)
 
-written_query : (query : WrittenQuery) (places : List ℕ) → IsRegularQuery query → HaveSpans (query_tree query places).select.group
+written_query : (query : WrittenQuery) (places : List ℕ) → IsRegularQuery IsFit query → HaveSpans (query_tree query places).select.group
 written_query query places is = written_groups query.select.group (from_group query.select (behind (flat_map declared_words query.streams) places)) is.select.group
 
 -- ---- what breaks no rule

@@ -12,12 +12,11 @@ use Rattle.ssq_ast.specs.declared.query.JoinKind.TheVariants as join
 use Rattle.ssq_ast.specs.declared.query.Mode.{Mode}
 use Rattle.ssq_ast.specs.declared.query.Mode.TheVariants as mode
 use Rattle.ssq_ast.specs.Expression.{Words, Written, words, of_column, IsRegular}
-use Rattle.ssq_ast.specs.Statement.{WrittenItem, bare_item, named_item, WrittenJoin, WrittenWindow, WrittenGroup, column_group, window_group, WrittenOrder, Each, IsFilled, IsSpanText, IsRegularGroup, IsRegularItem, separated, item_words, kind_words, join_words, condition_words, deduplicate_words, slide_words, window_words, group_item_words, group_words, direction_words, order_item_words, order_words, limit_words, mode_key}
+use Rattle.ssq_ast.specs.Statement.{WrittenItem, bare_item, named_item, WrittenJoin, WrittenWindow, WrittenGroup, column_group, window_group, WrittenOrder, Each, IsFilled, IsSpanText, IsRegularGroup, IsRegularItem, separated, item_words, kind_words, join_words, condition_words, deduplicate_words, slide_words, window_words, group_item_words, group_words, direction_words, order_item_words, order_words, limit_words, mode_key, IsFit}
 use Rattle.ssq_lex.specs.declared.keyword.Keyword.{Keyword}
 use Rattle.ssq_lex.specs.declared.keyword.Keyword.TheVariants as key
 use Rattle.ssq_lex.specs.declared.symbol.Symbol.TheVariants as mark
 use Rattle.ssq_lex.specs.Lexeme.{keyword, name, Lexed}
-use Rattle.ssq_parse.specs.Begun.{IsItem}
 use Rattle.ssq_parse.specs.declared.tree.Tree.{Tree}
 use Rattle.ssq_parse.specs.Expressions.{whole_at}
 use Rattle.ssq_parse.specs.Queries.{bare_at, item_of, item_by, item_at, condition_by, condition_at, joined_at, outer_at, bare_join, right_join, left_join, inner_join, join_at, deduplicate_by, deduplicate_at, slide_by, slide_at, window_at, group_item_by, group_item_at, group_by, group_at, direction_by, direction_at, order_item_at, order_by, order_at, limit_by, limit_at, or_mode, mode_at}
@@ -42,7 +41,7 @@ values_tell : Tells values whole_at
 values_tell = record { told = λ tokens. told_by values tokens (whole_at tokens) (keep (whole_at tokens) (whole_sound tokens) (λ found s. record { written = s.written; is_good = s.regular; took = s.took })) (whole_begun tokens) }
 
 abbrev pub items : Phrases
-items = record { Form = WrittenItem; wrote = item_words; good = IsItem; one = bare_item (record { stream = None; column = v }); fine = tt }
+items = record { Form = WrittenItem; wrote = item_words; good = IsRegularItem IsRegular; one = bare_item (record { stream = None; column = v }); fine = tt }
 
 abbrev as_v : Words
 as_v = keyword key.As ∷ name v ∷ []
@@ -54,27 +53,27 @@ bare_next is_name other at rest = refl
 -- behind the words of an expression an item that is no column goes on with AS, and behind that with a name
 module _ (start : Ahead) (w : Written) (regular : IsRegular w) (flag : Bool) (value : Tree) where
   label_begun : (t : Lexed) (ts : Ahead) → Took start (t ∷ ts) (words w) → (b : Bool) → (b ≡ true → t.said ≡ keyword key.As)
-      → IfBegun item_words IsItem start (item_by flag value (if b then Some t.start else None) (t ∷ ts))
-  label_begun t ts took false is = begun_next item_words IsItem start (t ∷ ts) (words w) as_v (bare_at flag value.value value.at (t ∷ ts)) (bare_next flag value.value value.at (t ∷ ts)) took (named_item w v) regular refl
+      → IfBegun item_words (IsRegularItem IsRegular) start (item_by flag value (if b then Some t.start else None) (t ∷ ts))
+  label_begun t ts took false is = begun_next item_words (IsRegularItem IsRegular) start (t ∷ ts) (words w) as_v (bare_at flag value.value value.at (t ∷ ts)) (bare_next flag value.value value.at (t ∷ ts)) took (named_item w v) regular refl
   label_begun t ts took true is =
-      begun_any item_words IsItem start (name_at ts) (λ label. Ok (item_of value.value value.at label.0, label.1))
-      (begun_next item_words IsItem start ts (words w ++ keyword key.As ∷ []) (name v ∷ []) (name_at ts) (name_next ts)
+      begun_any item_words (IsRegularItem IsRegular) start (name_at ts) (λ label. Ok (item_of value.value value.at label.0, label.1))
+      (begun_next item_words (IsRegularItem IsRegular) start ts (words w ++ keyword key.As ∷ []) (name v ∷ []) (name_at ts) (name_next ts)
       (took_more took (took_one t ts (keyword key.As) (is refl))) (named_item w v) regular (sym (append_assoc (words w) (keyword key.As ∷ []) (name v ∷ []))))
       (λ label. tt)
 
-  item_on_begun : (us : Ahead) → Took start us (words w) → IfBegun item_words IsItem start (item_by flag value (seen (is_keyword key.As) us) us)
-  item_on_begun [] took = begun_next item_words IsItem start [] (words w) as_v (bare_at flag value.value value.at []) (bare_next flag value.value value.at []) took (named_item w v) regular refl
+  item_on_begun : (us : Ahead) → Took start us (words w) → IfBegun item_words (IsRegularItem IsRegular) start (item_by flag value (seen (is_keyword key.As) us) us)
+  item_on_begun [] took = begun_next item_words (IsRegularItem IsRegular) start [] (words w) as_v (bare_at flag value.value value.at []) (bare_next flag value.value value.at []) took (named_item w v) regular refl
   item_on_begun (t ∷ ts) took = label_begun t ts took (is_keyword key.As t.said) (is_keyword-found key.As t.said)
 
-item_begun : (tokens : Ahead) → IfBegun item_words IsItem tokens (item_at tokens)
+item_begun : (tokens : Ahead) → IfBegun item_words (IsRegularItem IsRegular) tokens (item_at tokens)
 unfolding item_at
 item_begun tokens =
-    begun_then item_words IsItem tokens (λ value. Spelled 0 64 tokens value.0 value.1) (whole_at tokens)
+    begun_then item_words (IsRegularItem IsRegular) tokens (λ value. Spelled 0 64 tokens value.0 value.1) (whole_at tokens)
     (λ value. item_by (sees is_name tokens) value.0 (seen (is_keyword key.As) value.1) value.1) (whole_sound tokens)
-    (if_begun_map words IsRegular item_words IsItem [] as_v (took_none tokens) (λ w. named_item w v) (λ w is. is) (λ w. refl) (whole_at tokens) (whole_begun tokens))
+    (if_begun_map words IsRegular item_words (IsRegularItem IsRegular) [] as_v (took_none tokens) (λ w. named_item w v) (λ w is. is) (λ w. refl) (whole_at tokens) (whole_begun tokens))
     (λ value s. item_on_begun tokens s.written s.regular (sees is_name tokens) value.0 value.1 s.took)
 
-item_good : (w : WrittenItem) → IsRegularItem w → IsItem w
+item_good : (w : WrittenItem) → IsRegularItem IsFit w → IsRegularItem IsRegular w
 item_good (bare_item column) is = tt
 item_good (named_item value label) is = is.regular
 

@@ -3,13 +3,13 @@ use Rattle.std.proofs.Common.{◌≡◌, ℕ, zero, suc, Bool, true, false, sym,
 use Rattle.std.specs.Prelude.{slice_get}
 use Rattle.ssq_ast.specs.declared.query.Mode.TheVariants as mode
 use Rattle.ssq_ast.specs.declared.query.Query.{Query}
-use Rattle.ssq_ast.specs.Expression.{Words}
-use Rattle.ssq_ast.specs.Statement.{WrittenSelect, WrittenQuery, separated, distinct_words, item_words, join_words, condition_words, deduplicate_words, group_words, order_words, limit_words, mode_key, select_words, query_words}
+use Rattle.ssq_ast.specs.Expression.{Words, IsRegular}
+use Rattle.ssq_ast.specs.Statement.{WrittenSelect, WrittenQuery, separated, distinct_words, item_words, join_words, condition_words, deduplicate_words, group_words, order_words, limit_words, mode_key, select_words, query_words, IsRegularSelect, IsRegularQuery}
 use Rattle.ssq_lex.specs.declared.keyword.Keyword.TheVariants as key
 use Rattle.ssq_lex.specs.declared.symbol.Symbol.TheVariants as mark
 use Rattle.ssq_lex.specs.Cut.{cut_of}
 use Rattle.ssq_lex.specs.Lexeme.{Lexeme, keyword, name}
-use Rattle.ssq_parse.specs.Begun.{IsSelect, IsPhrase, BeginsQuery, or_end, IsBegun}
+use Rattle.ssq_parse.specs.Begun.{BeginsQuery, or_end, IsBegun}
 use Rattle.ssq_parse.specs.declared.fault.ParseCause.{ParseCause}
 use Rattle.ssq_parse.specs.declared.fault.ParseCause.TheVariants as cause
 use Rattle.ssq_parse.specs.Queries.{item_at, select_from, select_at, alone, whole_query, query_from, query_at}
@@ -36,7 +36,7 @@ abbrev selects : Phrases
 selects = record {
   Form = WrittenSelect;
   wrote = select_words;
-  good = λ w. IsSelect w;
+  good = λ w. IsRegularSelect IsRegular w;
   one = record { distinct = false; items = items.one ∷ []; from = v; join = None; filter = None; deduplicate = None; group = None; having = None; order = []; limit = None; mode = mode.Append };
   fine = record { some_items = tt; items = (tt, tt); on = tt; filter = tt; deduplicate = tt; some_group = tt; group = tt; having = tt };
 }
@@ -88,7 +88,7 @@ select_becomes = record {
 }
 
 abbrev queries : Phrases
-queries = record { Form = WrittenQuery; wrote = query_words; good = λ w. IsPhrase w; one = record { streams = []; select = selects.one }; fine = record { streams = tt; select = selects.fine } }
+queries = record { Form = WrittenQuery; wrote = query_words; good = λ w. IsRegularQuery IsRegular w; one = record { streams = []; select = selects.one }; fine = record { streams = tt; select = selects.fine } }
 
 parts_tell : (distinct : Option ℕ) → Tells parts (select_from distinct)
 parts_tell distinct =
@@ -132,7 +132,7 @@ queries_tell = tells_as (record { make = λ w. record { streams = w.0; select = 
 
 abbrev pub IfMade : Ahead → Made Query → Type 0
 IfMade tokens (Ok query) = Unit {0}
-IfMade tokens (Err refusal) = IfMissing refusal.cause refusal.at (Begun query_words IsPhrase tokens refusal.at)
+IfMade tokens (Err refusal) = IfMissing refusal.cause refusal.at (Begun query_words (IsRegularQuery IsRegular) tokens refusal.at)
 
 -- behind a whole query nothing stands
 alone_begun : (tokens : Ahead) (query : Query) (rest : Ahead) → Taken queries tokens rest → (at : Option ℕ) → IfMade tokens (alone query at rest)
@@ -153,10 +153,10 @@ abbrev pub ReadsAll : Made Query → Type 0
 ReadsAll (Ok query) = Unit {0}
 ReadsAll (Err refusal) = refusal.at ≡ None
 
-all_by : (tokens rest : Ahead) → place rest ≡ None → (front : Words) → Took tokens rest front → (w : WrittenQuery) → IsPhrase w → (more : Words) → query_words w ≡ front ++ more
+all_by : (tokens rest : Ahead) → place rest ≡ None → (front : Words) → Took tokens rest front → (w : WrittenQuery) → IsRegularQuery IsRegular w → (more : Words) → query_words w ≡ front ++ more
     → BeginsQuery (says tokens)
 all_by tokens [] none front took w is more said =
-    record { written = w; is = is; more = more; said = said ∙ ap (λ ws. ws ++ more) (sym (took.said ∙ append-nil front)) }
+    record { written = w; regular = is; more = more; said = said ∙ ap (λ ws. ws ++ more) (sym (took.said ∙ append-nil front)) }
 all_by tokens (t ∷ ts) none front took w is more said = absurd (cc)
 
 missing_none : {P : Type 0} (c : ParseCause) (at : Option ℕ) → at ≡ None → IfMissing c at P → P
@@ -194,7 +194,7 @@ place_first [] = refl
 place_first (t ∷ ts) = refl
 
 -- what is said of tokens, said of the file that they are cut from
-pub is_begun : (file : List ℕ) (at : Option ℕ) → Begun query_words IsPhrase (cut_of file).tokens at → IsBegun file (or_end (length file) at)
+pub is_begun : (file : List ℕ) (at : Option ℕ) → Begun query_words (IsRegularQuery IsRegular) (cut_of file).tokens at → IsBegun file (or_end (length file) at)
 is_begun file at b = record {
   front = b.front;
   rest = says b.rest;
@@ -202,5 +202,5 @@ is_begun file at b = record {
   here =
       ap (or_end (length file))
       (first_behind (length b.front) (starts (cut_of file).tokens) (starts b.rest) b.took.left ∙ place_first b.rest ∙ b.here);
-  begins = record { written = b.written; is = b.is_good; more = b.more; said = b.said };
+  begins = record { written = b.written; regular = b.is_good; more = b.more; said = b.said };
 }

@@ -7,8 +7,8 @@ use Rattle.std.specs.Str.Lossy.{utf8_valid_len}
 use Rattle.std.proofs.lemmas.Bool.Decides.{nat_tests}
 use Rattle.ssq_ast.specs.declared.query.Query.{Query}
 use Rattle.std.proofs.lemmas.List.{map-append}
-use Rattle.ssq_ast.specs.Expression.{Words}
-use Rattle.ssq_ast.specs.Statement.{IsWritten, query_tree, query_words}
+use Rattle.ssq_ast.specs.Expression.{Words, IsRegular}
+use Rattle.ssq_ast.specs.Statement.{IsWritten, query_tree, query_words, IsRegularQuery}
 use Rattle.ssq_lex.specs.declared.fault.LexCause.{LexCause}
 use Rattle.ssq_lex.specs.declared.fault.LexCause.TheVariants as lex
 use Rattle.ssq_lex.specs.declared.fault.Refusal.{Refusal as LexRefusal}
@@ -17,7 +17,7 @@ use Rattle.ssq_parse.specs.declared.fault.ParseCause.{ParseCause}
 use Rattle.ssq_parse.specs.declared.fault.ParseCause.TheVariants as cause
 use Rattle.ssq_parse.specs.declared.fault.ParseFault.{ParseFault}
 use Rattle.ssq_parse.specs.declared.fault.ParseFault.TheVariants.{Refused, NoMemory}
-use Rattle.ssq_parse.specs.Begun.{BeginsQuery, IsPhrase, or_end}
+use Rattle.ssq_parse.specs.Begun.{BeginsQuery, or_end}
 use Rattle.ssq_parse.specs.Faults.{next_word, IsFirst, FaultAt, StandsAt}
 use Rattle.ssq_parse.specs.File.{Fault, as_cause, ended, placed, judged, judged_cut, query_of, Answers}
 use Rattle.ssq_parse.specs.Queries.{query_at}
@@ -93,12 +93,12 @@ at_end cause.TooDeep p = p
 at_end other p = absurd p
 
 ended_first : (file : List ℕ) (fault : Option LexRefusal) → (cut_of file).fault ≡ fault → (c : ParseCause) → Stands (cut_of file).tokens (record { at = None; cause = c })
-    → Begun query_words IsPhrase (cut_of file).tokens None → BeginsQuery (says (cut_of file).tokens) → IfFirst file (Err (ended (length file) fault))
+    → Begun query_words (IsRegularQuery IsRegular) (cut_of file).tokens None → BeginsQuery (says (cut_of file).tokens) → IfFirst file (Err (ended (length file) fault))
 ended_first file None ends c s b all = record { begun = is_begun file None b; first = first_of_file file (record { at = None; cause = c }) s }
 ended_first file (Some refusal) ends c s b all = lexical file refusal ends all
 
 placed_first : (file : List ℕ) (fault : Option LexRefusal) → (cut_of file).fault ≡ fault → (c : ParseCause) (at : Option ℕ) → IfMissing c at (Stands (cut_of file).tokens (record { at = at; cause = c }))
-    → IfMissing c at (Begun query_words IsPhrase (cut_of file).tokens at) → IfDeep c at (DeepBy 0 (cut_of file).tokens)
+    → IfMissing c at (Begun query_words (IsRegularQuery IsRegular) (cut_of file).tokens at) → IfDeep c at (DeepBy 0 (cut_of file).tokens)
     → (at ≡ None → BeginsQuery (says (cut_of file).tokens)) → IfFirst file (Err (placed (ended (length file) fault) at c))
 placed_first file fault ends cause.Expected (Some at) s b d all = record { begun = is_begun file (Some at) b; first = first_of_file file (record { at = Some at; cause = cause.Expected }) s }
 placed_first file fault ends cause.BadText (Some at) s b d all = record { begun = is_begun file (Some at) b; first = first_of_file file (record { at = Some at; cause = cause.BadText }) s; bad = s.bad }

@@ -158,7 +158,7 @@ named_first : (stream : Option (List ℕ)) (column : List ℕ) (more : Words) (p
 named_first None column more p = refl
 named_first (Some stream) column more p = refl
 
-pub item_reads : (x : WrittenItem) → IsRegularItem x → (more : Words) → ItemEnd more → (p : Where) → item_at (laid (item_words x ++ more) p) ≡ Ok (item_tree x p.starts, laid more (skip (item_words x) p))
+pub item_reads : (x : WrittenItem) → IsRegularItem IsFit x → (more : Words) → ItemEnd more → (p : Where) → item_at (laid (item_words x ++ more) p) ≡ Ok (item_tree x p.starts, laid more (skip (item_words x) p))
 unfolding item_at name_at
 item_reads (bare_item column) good more end p =
     let q : Where = skip (column_words column) p in

@@ -5,7 +5,7 @@ use Rattle.std.specs.Option.{option_map}
 use Rattle.ssq_ast.specs.declared.query.Query.{Query}
 use Rattle.ssq_ast.specs.declared.query.Select.{Select}
 use Rattle.ssq_ast.specs.Expression.{Words, Written, words, behind, ident}
-use Rattle.ssq_ast.specs.Statement.{WrittenStream, WrittenItem, bare_item, named_item, WrittenGroup, WrittenOrder, WrittenSelect, WrittenQuery, comma, separated, mode_key, declared_words, distinct_words, item_words, join_words, condition_words, deduplicate_words, group_words, order_words, limit_words, select_words, query_words, each_tree, declared_tree, item_tree, condition_tree, join_tree, deduplicate_tree, group_tree, order_item_tree, order_item_words, limit_tree, distinct_tree, select_tree, query_tree, IsFilled, IsRegularItem, IsRegularSelect, IsRegularQuery, IsWritten}
+use Rattle.ssq_ast.specs.Statement.{WrittenStream, WrittenItem, bare_item, named_item, WrittenGroup, WrittenOrder, WrittenSelect, WrittenQuery, comma, separated, mode_key, declared_words, distinct_words, item_words, join_words, condition_words, deduplicate_words, group_words, order_words, limit_words, select_words, query_words, each_tree, declared_tree, item_tree, condition_tree, join_tree, deduplicate_tree, group_tree, order_item_tree, order_item_words, limit_tree, distinct_tree, select_tree, query_tree, IsFilled, IsRegularItem, IsRegularSelect, IsRegularQuery, IsWritten, IsFit}
 use Rattle.ssq_lex.specs.declared.keyword.Keyword.TheVariants as key
 use Rattle.ssq_lex.specs.declared.symbol.Symbol.TheVariants as mark
 use Rattle.ssq_lex.specs.Lexeme.{Lexeme, keyword, name, symbol}
@@ -115,7 +115,7 @@ select_parts : (D I J F U G H O L more : Words) (w n o m e : Lexeme)
     ≡ D ++ (I ++ (w ∷ n ∷ (J ++ (F ++ (U ++ (G ++ (H ++ (O ++ (L ++ o ∷ m ∷ e ∷ more)))))))))
 select_parts D I J F U G H O L more w n o m e = simp append_assoc
 
-module _ (s : WrittenSelect) (regular : IsRegularSelect s) (more : Words) where
+module _ (s : WrittenSelect) (regular : IsRegularSelect IsFit s) (more : Words) where
   abbrev Shown : Words
   Shown = keyword key.Output ∷ keyword (mode_key s.mode) ∷ symbol mark.Semicolon ∷ more
 
@@ -180,7 +180,7 @@ module _ (s : WrittenSelect) (regular : IsRegularSelect s) (more : Words) where
 
     items_read : list_at item_at (laid (Items s.items ++ Sourced) p1) ≡ Ok (each_tree item_words item_tree 1 s.items p1.starts, laid Sourced p2)
     items_read =
-        list_reads item_at item_words item_tree IsRegularItem ItemEnd item_reads (λ more. record { stops = omega arith; no_as = refl })
+        list_reads item_at item_words item_tree (IsRegularItem IsFit) ItemEnd item_reads (λ more. record { stops = omega arith; no_as = refl })
         s.items regular.some_items regular.items Sourced (omega arith) (record { stops = omega arith; no_as = refl }) refl p1
 
     select_found : select_at (laid (keyword key.Select ∷ Listed) p) ≡ Ok (Found, laid more (next (next (next (at_part 6)))))
@@ -234,7 +234,7 @@ streams_length (x ∷ xs) =
     let both = length-append (declared_words x) (flat_map declared_words xs) in
     omega arith
 
-module _ (q : WrittenQuery) (regular : IsRegularQuery q) (p : Where) where
+module _ (q : WrittenQuery) (regular : IsRegularQuery IsFit q) (p : Where) where
   abbrev at_select : Where
   at_select = skip (flat_map declared_words q.streams) p
 

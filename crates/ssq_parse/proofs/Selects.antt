@@ -15,7 +15,7 @@ use Rattle.ssq_ast.specs.declared.query.Query.{Query}
 use Rattle.ssq_ast.specs.declared.query.Select.{Select}
 use Rattle.ssq_ast.specs.declared.query.Stream.{Stream}
 use Rattle.ssq_ast.specs.Expression.{Words, Written, words, tree, first, ident, of_number, of_text, of_truth, of_moment, of_span, of_column, of_rows, of_function, bracketed, prefixed, null_tested, infixed, between}
-use Rattle.ssq_ast.specs.Statement.{WrittenStream, bare_item, named_item, WrittenSelect, WrittenQuery, Each, IsRegularStream, IsRegularItem, IsRegularSelect, IsRegularQuery, IsWritten, separated, each_tree, declared_words, declared_tree, distinct_words, distinct_tree, item_words, item_of, item_tree, join_words, condition_words, deduplicate_words, group_words, order_words, select_words, select_tree, query_words, query_tree}
+use Rattle.ssq_ast.specs.Statement.{WrittenStream, bare_item, named_item, WrittenSelect, WrittenQuery, Each, IsRegularStream, IsRegularItem, IsRegularSelect, IsRegularQuery, IsWritten, separated, each_tree, declared_words, declared_tree, distinct_words, distinct_tree, item_words, item_of, item_tree, join_words, condition_words, deduplicate_words, group_words, order_words, select_words, select_tree, query_words, query_tree, IsFit}
 use Rattle.ssq_lex.specs.declared.fault.Refusal.{Refusal as LexRefusal}
 use Rattle.ssq_lex.specs.declared.keyword.Keyword.TheVariants as key
 use Rattle.ssq_lex.specs.declared.symbol.Symbol.TheVariants as mark
@@ -79,7 +79,7 @@ streams_sound tokens = streams_from_sound (length tokens) [] tokens
 -- ---- items
 
 abbrev pub Itemed : Ahead → Item × Ahead → Type 0
-Itemed = Part item_words item_tree IsRegularItem
+Itemed = Part item_words item_tree (IsRegularItem IsFit)
 
 abbrev is_column : Expr → Bool
 is_column (e.Column column) = true
@@ -174,7 +174,7 @@ distinct_of [] = record { stands = false; took = took_none []; meant = refl }
 distinct_of (t ∷ ts) = distinct_by t ts (is_keyword key.Distinct t.said) (is_keyword-found key.Distinct t.said)
 
 abbrev Selected : Ahead → Select × Ahead → Type 0
-Selected = Part select_words select_tree IsRegularSelect
+Selected = Part select_words select_tree (IsRegularSelect IsFit)
 
 select_sound : (tokens : Ahead) → IfRead (select_at tokens) (Selected tokens)
 unfolding select_at
@@ -182,7 +182,7 @@ select_sound tokens =
     hence (keyword_sure key.Select tokens) (Selected tokens) _ (λ word w.
     let d : Distinct word.1 (seen (is_keyword key.Distinct) word.1) (behind (seen (is_keyword key.Distinct) word.1) word.1) = distinct_of word.1 in
     let us : Ahead = behind (seen (is_keyword key.Distinct) word.1) word.1 in
-    hence (sure (list_at item_at us) (Listed item_words item_tree IsRegularItem us) (listed item_words item_tree IsRegularItem item_at item_sound us)) (Selected tokens) _ (λ items its.
+    hence (sure (list_at item_at us) (Listed item_words item_tree (IsRegularItem IsFit) us) (listed item_words item_tree (IsRegularItem IsFit) item_at item_sound us)) (Selected tokens) _ (λ items its.
     hence (keyword_sure key.From items.1) (Selected tokens) _ (λ from f.
     hence (name_sure from.1) (Selected tokens) _ (λ stream n.
     hence (sure (join_at stream.1) (Joined stream.1) (join_sound stream.1)) (Selected tokens) _ (λ joined j.
@@ -271,7 +271,7 @@ select_sound tokens =
 
 record Whole (tokens : Ahead) (found : Query × Ahead) : Type 0 where
   pub written : WrittenQuery
-  pub regular : IsRegularQuery written
+  pub regular : IsRegularQuery IsFit written
   pub took : Took tokens found.1 (query_words written)
   pub meant : query_tree written (starts tokens) ≡ found.0
 

@@ -1,34 +1,15 @@
 -- Words that begin a query: the grammar has more words behind which they are one, however many brackets stand open in it and however high
 -- its trees are.
-use Rattle.std.specs.Prelude.{◌≡◌, ℕ, List, ◌++◌, length, slice_get, Option, Some, None, IfSome}
+use Rattle.std.specs.Prelude.{◌≡◌, ℕ, List, ◌++◌, length, slice_get, Option, Some, None}
 use Rattle.ssq_ast.specs.Expression.{Words, IsRegular}
-use Rattle.ssq_ast.specs.Statement.{WrittenItem, bare_item, named_item, WrittenSelect, WrittenQuery, Each, IsFilled, IsRegularStream, IsRegularGroup, query_words}
+use Rattle.ssq_ast.specs.Statement.{WrittenQuery, IsRegularQuery, query_words}
 use Rattle.ssq_lex.specs.Cut.{cut_of}
 use Rattle.ssq_parse.specs.Written.{says, starts}
 
-abbrev pub IsItem : WrittenItem → Type 0
-IsItem (bare_item column) = Unit {0}
-IsItem (named_item value label) = IsRegular value
-
-pub record IsSelect (select : WrittenSelect) : Type 0 where
-  pub some_items : IsFilled select.items
-  pub items : Each IsItem select.items
-  pub on : IfSome select.join (λ join. IsRegular join.on)
-  pub filter : IfSome select.filter IsRegular
-  pub deduplicate : IfSome select.deduplicate IsFilled
-  pub some_group : IfSome select.group IsFilled
-  pub group : IfSome select.group (Each IsRegularGroup)
-  pub having : IfSome select.having IsRegular
-
--- a query of the grammar, of whatever height
-pub record IsPhrase (query : WrittenQuery) : Type 0 where
-  pub streams : Each IsRegularStream query.streams
-  pub select : IsSelect query.select
-
--- with some more words these are a query of the grammar
+-- with some more words these are a query of the grammar, of whatever height
 pub record BeginsQuery (front : Words) : Type 0 where
   pub written : WrittenQuery
-  pub is : IsPhrase written
+  pub regular : IsRegularQuery IsRegular written
   pub more : Words
   pub said : query_words written ≡ front ++ more
 
