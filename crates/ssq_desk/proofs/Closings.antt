@@ -1,7 +1,6 @@
 -- What a desk tells of the epoch that runs, and what it gives back when it ends.
 use Rattle.std.proofs.Common.{take, add-one, ltb-false, ◌≡◌, ◌⊎◌, ◌<◌, ◌≤◌, ◌+◌, ◌-◌, ◌^◌, ◌||◌, [], ◌∷◌, ℕ, ℤ, zero, suc, Bool, true, false, true≢false, List, length, map, get_or, nat_lt, Option, Some, None, refl, sym, ap, ◌∙◌, subst, inr, arith, ext_get_or}
 use Rattle.std.specs.Prelude.{◌≢◌, All, IsSome, MatchOption, if◌then◌else◌, is_some, slice_get}
-use Rattle.std.specs.Global.{Vec}
 use Rattle.std.specs.Option.{ForSome}
 use Rattle.std.specs.List.{sum_by, list_any, AllZip}
 use Rattle.std.proofs.lemmas.List.Sums.{sum_by-cons}
@@ -49,6 +48,7 @@ use Rattle.ssq_board.proofs.Lists.{at_length, there_at, all_fine, nat_lt-not}
 use Rattle.ssq_board.proofs.Readies.{commit_may, over_is}
 use Rattle.ssq_board.proofs.Sounds.{open_less}
 use Rattle.ssq_ledger.specs.Shown.{Shown, IsLegal, IsInOrder, state, first_state, cuts_of, shelf_of}
+use Rattle.ssq_desk.specs.declared.closed.NextRound.{NextRound}
 use Rattle.ssq_desk.specs.declared.desk.Load.{Load}
 use Rattle.ssq_desk.specs.declared.desk.Source.{Source}
 use Rattle.ssq_desk.specs.declared.round.Round.{Round}
@@ -356,13 +356,13 @@ module _ {D L S F : Type 0} (stores logs : Type 0) (history : D → History) (li
   indexes_right next closings over stores_are closings_are =
       subst (λ (l : List Store). AreIndexes (Unit {0}) s.job.bound l closings) (sym stores_are) (subst (λ (l : List (List Timed)). AreIndexes (Unit {0}) s.job.bound (stores_in load.held.items) l) (sym closings_are) (over_left over).indexes)
 
-  pub next_back : (next : Option (Opened × Vec (List Timed))) (b : Bool) (names : List Name) → names ≡ (shelf_of (opening_in lines) shown).settled
-      → MatchOption next (b ≡ false) (λ next. (b ≡ true) × (next.0 ≡ record { meta = load.kept.meta; plans = load.plans.items; committed = shown.core.front.committed; seen = lines_of load.view.bound.now load.seen; stores = stores_in load.held.items; names = names }) × All HasLineTime next.0.seen × (next.1.items ≡ closings_in load.held.items))
+  pub next_back : (next : Option NextRound) (b : Bool) (names : List Name) → names ≡ (shelf_of (opening_in lines) shown).settled
+      → MatchOption next (b ≡ false) (λ next. (b ≡ true) × (next.opened ≡ record { meta = load.kept.meta; plans = load.plans.items; committed = shown.core.front.committed; seen = lines_of load.view.bound.now load.seen; stores = stores_in load.held.items; names = names }) × All HasLineTime next.opened.seen × (next.closings.items ≡ closings_in load.held.items))
       → (b ≡ true → (ready_of shown.scope shown.core ≡ ready.Over) × ((shelf_of (opening_in lines) shown).tidy ≡ true)) → (b ≡ false → (ready_of shown.scope shown.core ≢ ready.Over) ⊎ ((shelf_of (opening_in lines) shown).tidy ≡ false))
       → MatchOption next ((ready_of shown.scope shown.core ≢ ready.Over) ⊎ ((shelf_of (opening_in lines) shown).tidy ≡ false)) (λ next. (ready_of shown.scope shown.core ≡ ready.Over) × ((shelf_of (opening_in lines) shown).tidy ≡ true)
-      × IsNext owned s cuts shown.scope.available shown.core (shelf_of (opening_in lines) shown) shown.opening.opened next.0 × AreIndexes (Unit {0}) shown.opening.view.bound.now next.0.stores next.1.items)
+      × IsNext owned s cuts shown.scope.available shown.core (shelf_of (opening_in lines) shown) shown.opening.opened next.opened × AreIndexes (Unit {0}) shown.opening.view.bound.now next.opened.stores next.closings.items)
   next_back None b names listed is over other = other is
-  next_back (Some next) b names listed is over other = ((over is.0).0, (over is.0).1, next_right next.0 names listed (over is.0).0 is.1 is.2, indexes_right next.0 next.1.items (over is.0).0 (ap (λ (o : Opened). o.stores) is.1) is.3)
+  next_back (Some next) b names listed is over other = ((over is.0).0, (over is.0).1, next_right next.opened names listed (over is.0).0 is.1 is.2, indexes_right next.opened next.closings.items (over is.0).0 (ap (λ (o : Opened). o.stores) is.1) is.3)
 
   -- where the round is over there is a greatest time, or none, for each stream
   pub seen_each : ready_of shown.scope shown.core ≡ ready.Over → length load.seen ≡ length load.view.bound.now.streams

@@ -34,6 +34,14 @@ use ssq_task::Held;
 use ssq_value::{Row, Sequence};
 use ssq_water::Seen;
 
+/// What the next round begins on.
+#[derive(Drop)]
+pub struct NextRound {
+    pub opened: Opened,
+    /// The index of each store, in order.
+    pub closings: Vec<Closing>,
+}
+
 /// What a desk gives back when it ends.
 #[derive(Drop)]
 pub struct Closed<D: Disk, L: Log> {
@@ -48,9 +56,8 @@ pub struct Closed<D: Disk, L: Log> {
     pub stop: Option<Cause>,
     /// The key for which it was stopped: none where it was not stopped for one.
     pub key: Option<Row>,
-    /// What the next round opens, with the index of each store: where all that was found is covered, committed and settled, and all files of the
-    /// state are.
-    pub next: Option<(Opened, Vec<Closing>)>,
+    /// Where all that was found is covered, committed and settled, and all files of the state are.
+    pub next: Option<NextRound>,
 }
 
 /// Takes the log of a source over.
@@ -155,7 +162,7 @@ fn acknowledged(told: Vec<Told>, all: bool) -> Vec<Told>
     told
 }
 
-/// What the next round opens.
+/// What the next round begins on, and the room for logs.
 fn next_of<L: Log>(
     kept: Kept<L>,
     held: Vec<Option<Held>>,
@@ -164,17 +171,17 @@ fn next_of<L: Log>(
     bound: &Bound,
     seen: &Seen,
     names: Vec<Name>,
-) -> (Opened, Vec<Closing>, Vec<L>)
+) -> (NextRound, Vec<L>)
     requires no_stores { (kept.stores.items ≡ []) × (kept.closings.items ≡ []) }
     requires stores { (length held.items ≤ vec_capacity kept.stores) × (length held.items ≤ vec_capacity kept.closings) }
     requires none { kept.lines.items ≡ [] }
     requires fits { length bound.now.streams ≤ vec_capacity kept.lines }
     requires each { length seen.now ≡ length bound.now.streams }
     requires few { length bound.now.streams ≤ 2 ^ 32 }
-    ensures next { result.0 ≡ record { meta = kept.meta; plans = plans.items; committed = committed; seen = lines_of bound.now seen.now; stores = stores_in held.items; names = names.items } }
-    ensures closings { result.1.items ≡ closings_in held.items }
-    ensures years { All HasLineTime result.0.seen }
-    ensures room { result.2 ≡ kept.logs }
+    ensures next { result.0.opened ≡ record { meta = kept.meta; plans = plans.items; committed = committed; seen = lines_of bound.now seen.now; stores = stores_in held.items; names = names.items } }
+    ensures closings { result.0.closings.items ≡ closings_in held.items }
+    ensures years { All HasLineTime result.0.opened.seen }
+    ensures room { result.1 ≡ kept.logs }
 {
     let Kept {
         meta,
@@ -185,21 +192,18 @@ fn next_of<L: Log>(
     } = kept;
     let (stores, closings) = stores_of(stores, closings, held);
     let seen = lines_in(lines, bound, seen.times());
-    (
-        Opened {
-            meta,
-            plans: Sequence::from_vec(plans),
-            committed,
-            seen,
-            stores: Sequence::from_vec(stores),
-            names: Sequence::from_vec(names),
-        },
-        closings,
-        logs,
-    )
+    let opened = Opened {
+        meta,
+        plans: Sequence::from_vec(plans),
+        committed,
+        seen,
+        stores: Sequence::from_vec(stores),
+        names: Sequence::from_vec(names),
+    };
+    (NextRound { opened, closings }, logs)
 }
 
-/// What the next round opens, where this one is over; and the room for logs.
+/// What the next round begins on, where this one is over; and the room for logs.
 fn next_if<L: Log>(
     is_over: bool,
     kept: Kept<L>,
@@ -209,22 +213,22 @@ fn next_if<L: Log>(
     bound: &Bound,
     seen: &Seen,
     names: Vec<Name>,
-) -> (Option<(Opened, Vec<Closing>)>, Vec<L>)
+) -> (Option<NextRound>, Vec<L>)
     requires no_stores { (kept.stores.items ≡ []) × (kept.closings.items ≡ []) }
     requires stores { (length held.items ≤ vec_capacity kept.stores) × (length held.items ≤ vec_capacity kept.closings) }
     requires none { kept.lines.items ≡ [] }
     requires fits { length bound.now.streams ≤ vec_capacity kept.lines }
     requires each { is_over ≡ true → length seen.now ≡ length bound.now.streams }
     requires few { length bound.now.streams ≤ 2 ^ 32 }
-    ensures next { MatchOption result.0 (is_over ≡ false) (λ next. (is_over ≡ true) × (next.0 ≡ record { meta = kept.meta; plans = plans.items; committed = committed; seen = lines_of bound.now seen.now; stores = stores_in held.items; names = names.items }) × All HasLineTime next.0.seen × (next.1.items ≡ closings_in held.items)) }
+    ensures next { MatchOption result.0 (is_over ≡ false) (λ next. (is_over ≡ true) × (next.opened ≡ record { meta = kept.meta; plans = plans.items; committed = committed; seen = lines_of bound.now seen.now; stores = stores_in held.items; names = names.items }) × All HasLineTime next.opened.seen × (next.closings.items ≡ closings_in held.items)) }
     ensures room { result.1 ≡ kept.logs }
 {
     if !is_over {
         let Kept { logs, .. } = kept;
         return (None, logs);
     }
-    let (next, closings, logs) = next_of(kept, held, plans, committed, bound, seen, names);
-    (Some((next, closings)), logs)
+    let (next, logs) = next_of(kept, held, plans, committed, bound, seen, names);
+    (Some(next), logs)
 }
 
 /// Whether the round is over, and all files of the state are settled.
@@ -249,8 +253,8 @@ impl<'a, D: Disk, L: Log> Desk<'a, D, L> {
         ensures faulty { self.entry.core.front.stop ≡ Some cause.LogFault → 0 < sum_by L.faults result.logs.items }
         ensures told { AreTold (Owns D.tells L.tells D.history L.lines self.entry) (setting_of L.lines self.entry.opening) (cuts_of (opening_in L.lines) self.entry) self.entry.opening.opened.committed (acknowledged_in self.entry.core) result.told.items }
         ensures next { MatchOption result.next ((ready_of self.entry.scope self.entry.core ≢ ready.Over) ⊎ ((shelf_of (opening_in L.lines) self.entry).tidy ≡ false))
-            (λ next. (ready_of self.entry.scope self.entry.core ≡ ready.Over) × ((shelf_of (opening_in L.lines) self.entry).tidy ≡ true) × IsNext (Owns D.tells L.tells D.history L.lines self.entry) (setting_of L.lines self.entry.opening) (cuts_of (opening_in L.lines) self.entry) self.entry.scope.available self.entry.core (shelf_of (opening_in L.lines) self.entry) self.entry.opening.opened next.0
-            × AreIndexes (Unit {0}) self.entry.opening.view.bound.now next.0.stores next.1.items) }
+            (λ next. (ready_of self.entry.scope self.entry.core ≡ ready.Over) × ((shelf_of (opening_in L.lines) self.entry).tidy ≡ true) × IsNext (Owns D.tells L.tells D.history L.lines self.entry) (setting_of L.lines self.entry.opening) (cuts_of (opening_in L.lines) self.entry) self.entry.scope.available self.entry.core (shelf_of (opening_in L.lines) self.entry) self.entry.opening.opened next.opened
+            × AreIndexes (Unit {0}) self.entry.opening.view.bound.now next.opened.stores next.closings.items) }
     {
         self.ledger.is_legal();
         self.ledger.is_in_order();

@@ -28,7 +28,7 @@ mod task;
 mod told;
 mod upkeep;
 
-pub use closed::Closed;
+pub use closed::{Closed, NextRound};
 pub use desk::Desk;
 pub use round::Round;
 pub use task::Task;

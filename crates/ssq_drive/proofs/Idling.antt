@@ -1,12 +1,10 @@
 -- A round for which there was no memory, and the logs that come back.
 use Rattle.std.proofs.Common.{◌≡◌, ◌+◌, ◌∙◌, ℕ, true≢false, List, [], ◌∷◌, length, None, Ok, Err, refl, sym, ap, subst, inl, inr, arith}
-use Rattle.std.specs.Global.{Vec}
 use Rattle.std.specs.List.{AllZip}
 use Rattle.std.proofs.lemmas.List.{append-nil}
 use Rattle.std.proofs.lemmas.List.Elements.{All-nil}
 use Rattle.ssq_outside.specs.History.{History, LeavesNow, files_now}
 use Rattle.ssq_outside.specs.Logs.{Line}
-use Rattle.ssq_step.specs.Indexing.{Timed}
 use Rattle.ssq_feed.specs.Causes.{LogWent}
 use Rattle.ssq_core.specs.Course.{Cuts}
 use Rattle.ssq_course.specs.Setting.{Setting, job_of}
@@ -15,6 +13,7 @@ use Rattle.ssq_open.specs.Epochs.{cut_of}
 use Rattle.ssq_board.specs.declared.front.Cause.TheVariants as cause
 use Rattle.ssq_board.specs.Core.{Scope, is_of_epoch}
 use Rattle.ssq_promise.specs.Run.{AreTrueTo, NothingIsRun, OpenedIsTrue, as_planned}
+use Rattle.ssq_desk.specs.declared.closed.NextRound.{NextRound}
 use Rattle.ssq_desk.specs.declared.told.Told.{Told}
 use Rattle.ssq_drive.specs.Good.{HasGoodLines}
 use Rattle.ssq_drive.specs.declared.round.Stopped.{Stopped}
@@ -31,7 +30,7 @@ why_or d (Err e) = e
 no_log : cause.NoMemory ≡ cause.LogFault → ⊥
 no_log is = cc
 
-pub err_ok : (why : Stopped) (next : Opened × Vec (List Timed)) → Err why ≡ Ok next → ⊥
+pub err_ok : (why : Stopped) (next : NextRound) → Err why ≡ Ok next → ⊥
 err_ok why next is = cc
 
 -- nothing was planned, done or told

@@ -1,6 +1,5 @@
 -- How a round went, by its desk.
 use Rattle.std.proofs.Common.{◌≡◌, ◌≢◌, ◌⊎◌, ◌<◌, ◌≤◌, ◌+◌, ◌-◌, ◌||◌, nat_lt, ℕ, Bool, true, false, true≢false, List, [], ◌∷◌, length, map, get_or, slice_get, Option, Some, None, IfSome, IsSomeAnd, Ok, Err, if◌then◌else◌, sym, refl, ap, ◌∙◌, subst, inl, inr, arith}
-use Rattle.std.specs.Global.{Vec}
 use Rattle.std.specs.List.{list_any}
 use Rattle.std.proofs.lemmas.Bool.{ltb-false}
 use Rattle.std.proofs.lemmas.List.{length-map}
@@ -16,7 +15,6 @@ use Rattle.ssq_plans.specs.declared.meta.Meta.{Meta}
 use Rattle.ssq_plans.specs.declared.seen.SeenBy.{SeenBy}
 use Rattle.ssq_core.specs.Course.{Cuts, Ends, Job, AreSameUpTo}
 use Rattle.ssq_core.specs.Standing.{IsThere}
-use Rattle.ssq_step.specs.Indexing.{Timed}
 use Rattle.ssq_store.specs.declared.store.Store.{Store}
 use Rattle.ssq_course.specs.Setting.{Setting, parts_in, first_ends, job_of, keeping_of, closes, state_at}
 use Rattle.ssq_course.specs.Setting.{cut_of as offsets_of, cuts_of as offsets}
@@ -47,6 +45,7 @@ use Rattle.ssq_terms.specs.Opening.{DeskOpensAsFound}
 use Rattle.ssq_terms.specs.Partitions.{HoldsStateOf}
 use Rattle.ssq_promise.specs.Run.{Begins, CallFailed, IsLeft, AreFilesOf, RoundGoesOn, RoundIsRun, RoundLeavesFound, RoundLeavesTrue, WasRun, WentOn, as_planned, one_tried}
 use Rattle.ssq_ledger.specs.Shown.{Shown, Opening, IsLegal, IsInOrder, cuts_of, did, first_state, shelf_of, state}
+use Rattle.ssq_desk.specs.declared.closed.NextRound.{NextRound}
 use Rattle.ssq_desk.specs.declared.round.Round.{Round}
 use Rattle.ssq_desk.specs.declared.told.Told.{Told}
 use Rattle.ssq_desk.specs.Round.{Owns, is_due_on, setting_of, start_at}
@@ -81,10 +80,10 @@ pub record IsClosed {D L : Type 0} (stores logs : Type 0) (lines : L → List Li
   pub order : IsInOrder desk.scope desk.core
   pub why : IfSome desk.core.front.stop (StopsFor (HasDamaged stores logs history lines desk) first.scope desk.core (faults first.disk) (faults desk.disk))
   pub telling : DeskTold (Owns stores logs history lines desk) (setting_of lines desk.opening) (cuts_of (opening_in lines) desk) desk.opening.opened.committed (acknowledged_in desk.core) told
-  pub over : (next : Opened × Vec (List Timed)) → end ≡ Ok next → (ready_of desk.scope desk.core ≡ ready.Over) × ((shelf_of (opening_in lines) desk).tidy ≡ true)
-      × IsNext (Owns stores logs history lines desk) (setting_of lines desk.opening) (cuts_of (opening_in lines) desk) desk.scope.available desk.core (shelf_of (opening_in lines) desk) desk.opening.opened next.0
-      × HaveIndexes desk.opening.view.bound.now next.0.stores next.1.items
-  pub kept : (next : Opened × Vec (List Timed)) → end ≡ Ok next → IsUpkept (keeping_in (setting_of lines desk.opening)) desk.scope.partitions desk.core (shelf_of (opening_in lines) desk)
+  pub over : (next : NextRound) → end ≡ Ok next → (ready_of desk.scope desk.core ≡ ready.Over) × ((shelf_of (opening_in lines) desk).tidy ≡ true)
+      × IsNext (Owns stores logs history lines desk) (setting_of lines desk.opening) (cuts_of (opening_in lines) desk) desk.scope.available desk.core (shelf_of (opening_in lines) desk) desk.opening.opened next.opened
+      × HaveIndexes desk.opening.view.bound.now next.opened.stores next.closings.items
+  pub kept : (next : NextRound) → end ≡ Ok next → IsUpkept (keeping_in (setting_of lines desk.opening)) desk.scope.partitions desk.core (shelf_of (opening_in lines) desk)
   pub stopped : (why : Stopped) → end ≡ Err why → (desk.core.front.stop ≡ Some why.cause)
       × IsStopOf (stores × logs) (Owns stores logs history lines desk) (setting_of lines desk.opening) (cuts_of (opening_in lines) desk) desk.core.front.committed why.key why.cause
   pub keyless : (why : Stopped) → end ≡ Err why → why.cause ≢ cause.KeyOverflow → why.key ≡ None
@@ -292,20 +291,20 @@ module _ {D L : Type 0} (stores logs : Type 0) (lines : L → List Line) (histor
   stopped_at (Err why) ends failed = (why, ends, subst CallFailed (closed.stopped why ends).0 failed)
 
   -- where it is over no upkeep is left
-  needs_here : (own : Opened × Vec (List Timed)) → end ≡ Ok own → NeedsNoUpkeep (keeping_of s.job.bound.shape found.meta.partitions) found.meta.partitions own.0.committed own.0.names
+  needs_here : (own : NextRound) → end ≡ Ok own → NeedsNoUpkeep (keeping_of s.job.bound.shape found.meta.partitions) found.meta.partitions own.opened.committed own.opened.names
   needs_here own ends =
       let n = (closed.over own ends).2 in
       let settled = (over_is r c (closed.over own ends).0).2 in
       let u = closed.kept own ends in
-      subst (λ (m : ℕ). NeedsNoUpkeep (keeping_of s.job.bound.shape m) m own.0.committed own.0.names) can.partitions
-      (needs_none (keeping_of s.job.bound.shape r.partitions) r.partitions own.0.committed c shelf own.0.names n.names_are n.committed_is settled (old_all r begun o.shelf es (λ settled tidy. refl) settled u.tidy) (back o.shelf refl)
+      subst (λ (m : ℕ). NeedsNoUpkeep (keeping_of s.job.bound.shape m) m own.opened.committed own.opened.names) can.partitions
+      (needs_none (keeping_of s.job.bound.shape r.partitions) r.partitions own.opened.committed c shelf own.opened.names n.names_are n.committed_is settled (old_all r begun o.shelf es (λ settled tidy. refl) settled u.tidy) (back o.shelf refl)
       (subst (λ (m : ℕ). IsUpkept (keeping_of s.job.bound.shape m) r.partitions c shelf) (sym is.partitions) u))
 
   -- where it is over
-  is_over : (own : Opened × Vec (List Timed)) → end ≡ Ok own → IsOver s.job.bound (length round.logs.items) r found own.0.plans told own.0 own.1.items
+  is_over : (own : NextRound) → end ≡ Ok own → IsOver s.job.bound (length round.logs.items) r found own.opened.plans told own.opened own.closings.items
   is_over own ends =
       let was = closed.over own ends in
-      let next = own.0 in
+      let next = own.opened in
       let n = was.2 in
       let o = over_is r c was.0 in
       let all : acknowledged_in c ≡ c.front.committed = all_settled o.2 in
@@ -410,21 +409,21 @@ module _ {D L : Type 0} (stores logs : Type 0) (lines : L → List Line) (histor
         (laws.run t (job_of s) r (due_at s) has_terms.0 o.start es (first_state o r (history disk)) (state (history now) c shelf cuts) begins_on leads_on)
 
     -- what it leaves
-    left : (next : Opened × Vec (List Timed)) → end ≡ Ok next → IsLeft (job_of s) (state (history now) c shelf cuts) (cut_of (first_of next.0) next.0.plans)
+    left : (next : NextRound) → end ≡ Ok next → IsLeft (job_of s) (state (history now) c shelf cuts) (cut_of (first_of next.opened) next.opened.plans)
     left next ends =
         let was = closed.over next ends in
         let n = was.2 in
         let over = over_is r c was.0 in
-        let fits = next_fits owned s (first_of found) cuts r.available c shelf found next.0 n begins_so in
-        let same : first_of found ≡ first_of next.0 = ap (λ (m : Meta). begins m.parts) (sym n.meta_is) in
+        let fits = next_fits owned s (first_of found) cuts r.available c shelf found next.opened n begins_so in
+        let same : first_of found ≡ first_of next.opened = ap (λ (m : Meta). begins m.parts) (sym n.meta_is) in
         laws.over t (job_of s) r (due_at s) has_terms.0 o.start es (first_state o r (history disk)) (state (history now) c shelf cuts) begins_on leads_on over.0 over.2 was.1
-        (nat_lt-not c.front.committed c.front.planned over.1) (cut_of (first_of next.0) next.0.plans)
-        (subst (λ (ends : Ends). AreSameUpTo (cut_of ends next.0.plans) cuts c.front.planned) same fits.are)
+        (nat_lt-not c.front.committed c.front.planned over.1) (cut_of (first_of next.opened) next.opened.plans)
+        (subst (λ (ends : Ends). AreSameUpTo (cut_of ends next.opened.plans) cuts c.front.planned) same fits.are)
 
-    found_next : (next : Opened × Vec (List Timed)) → end ≡ Ok next → IsFoundOf s (files_now (history now)) next.0
+    found_next : (next : NextRound) → end ≡ Ok next → IsFoundOf s (files_now (history now)) next.opened
     found_next own_next ends =
         let was = closed.over own_next ends in
-        let next = own_next.0 in
+        let next = own_next.opened in
         let n = was.2 in
         let l = left own_next ends in
         let fits = next_fits owned s (first_of found) cuts r.available c shelf found next n begins_so in
@@ -466,7 +465,7 @@ module _ {D L : Type 0} (stores logs : Type 0) (lines : L → List Line) (histor
     ])
 
     -- where it is over none is due
-    none_due : (plans : List Plan) → FitsPlans (first_of found) found.plans plans c.front.planned cuts → (next : Opened × Vec (List Timed)) → end ≡ Ok next → due_at s (cut_of (first_of found) plans) (length plans) ≡ false
+    none_due : (plans : List Plan) → FitsPlans (first_of found) found.plans plans c.front.planned cuts → (next : NextRound) → end ≡ Ok next → due_at s (cut_of (first_of found) plans) (length plans) ≡ false
     none_due plans fits next ends =
         let over = over_is r c (closed.over next ends).0 in
         subst (λ (n : ℕ). due_at s (cut_of (first_of found) plans) n ≡ false) (sym fits.count)
@@ -493,7 +492,7 @@ module _ {D L : Type 0} (stores logs : Type 0) (lines : L → List Line) (histor
       kept = λ next ends.
           let f = found_next next ends in
           subst (λ (m : ℕ). IsKeptUp (keeping_of s.job.bound.shape m) m (files_now (history now))) (sym can.partitions ∙ is.partitions)
-          (files_kept (keeping_of s.job.bound.shape found.meta.partitions) found.meta.partitions next.0.committed next.0.names (files_now (history now)) f.names
+          (files_kept (keeping_of s.job.bound.shape found.meta.partitions) found.meta.partitions next.opened.committed next.opened.names (files_now (history now)) f.names
           (λ e. commits_are ((job_of s).course f.desk.cuts) f.desk.planned f.desk.committed (files_now (history now)) f.is.0 e ∙ ap (nat_lt e) f.committed) (needs_here next ends));
       quiet = none_due plans fits;
     }
@@ -526,7 +525,7 @@ module _ {D L : Type 0} (stores logs : Type 0) (lines : L → List Line) (histor
         full limit = (limit.0, behind_or (closes s.job.bound) refl limit, λ u. full_by laws u.0 u.1 plans fits limit, all_told limit)
 
     -- whatever the disk tells
-    went_by : (plans : List Plan) → FitsPlans (first_of found) found.plans plans c.front.planned cuts → ((next : Opened × Vec (List Timed)) → end ≡ Ok next → next.0.plans ≡ plans)
+    went_by : (plans : List Plan) → FitsPlans (first_of found) found.plans plans c.front.planned cuts → ((next : NextRound) → end ≡ Ok next → next.opened.plans ≡ plans)
         → RoundWent (stores × logs) ours s (length round.logs.items) r found (files_now (history now)) (faults disk) (faults now) log_faults plans told end
     went_by plans fits same = record {
       on = plans_on r (closes s.job.bound) (first_of found) found.plans plans c.front.planned cuts next_cuts fits;
@@ -534,13 +533,13 @@ module _ {D L : Type 0} (stores logs : Type 0) (lines : L → List Line) (histor
       good = λ t. told_good owned s cuts (first_of found) plans c.front.planned fits.are found.committed c.front.committed sound.before (closed.good t).1.told told found.committed closed.telling.each (omega arith) (let a = acknowledged in let b = below in omega (arith, a, b));
       few = (let count = fits.count in let less = within in omega (arith, count, less));
       near = (let count = fits.count in let n = near_told in omega (arith, count, n));
-      over = λ next ends. subst (λ (l : List Plan). IsOver s.job.bound (length round.logs.items) r found l told next.0 next.1.items) (same next ends) (is_over next ends);
+      over = λ next ends. subst (λ (l : List Plan). IsOver s.job.bound (length round.logs.items) r found l told next.opened next.closings.items) (same next ends) (is_over next ends);
       stopped = λ why stops. stop_told plans fits why stops;
       keyless = closed.keyless;
     }
 
     -- by plans of its cuts
-    round_by : (plans : List Plan) → FitsPlans (first_of found) found.plans plans c.front.planned cuts → ((next : Opened × Vec (List Timed)) → end ≡ Ok next → next.0.plans ≡ plans)
+    round_by : (plans : List Plan) → FitsPlans (first_of found) found.plans plans c.front.planned cuts → ((next : NextRound) → end ≡ Ok next → next.opened.plans ≡ plans)
         → IsRound (stores × logs) s (length round.logs.items) r found (history disk) (history now) (faults disk) (faults now) log_faults told end
     round_by plans fits same = record { plans = plans; went = went_by plans fits same; ran = λ t own. ran_by laws t own plans fits }
 
@@ -556,8 +555,8 @@ round_is : {D L : Type 0} (stores logs : Type 0) (lines : L → List Line) (hist
     → IsRound (stores × logs) (setting_of lines round) (length round.logs.items) r round.opened (history disk) (history now) (faults disk) (faults now) log_faults told end
 round_is stores logs lines history faults round r disk now es can begin is quiet back log_faults told (Ok next) closed laws =
     let n = (closed.over next refl).2 in
-    let fits = next_fits _ (setting_of lines round) (first_of round.opened) _ r.available _ _ round.opened next.0 n (begins_so stores logs lines history faults round r disk now es can begin is quiet back log_faults told (Ok next) closed) in
-    round_by stores logs lines history faults round r disk now es can begin is quiet back log_faults told (Ok next) closed laws next.0.plans fits (λ other ends. sym (ap (plans_or next.0.plans) ends))
+    let fits = next_fits _ (setting_of lines round) (first_of round.opened) _ r.available _ _ round.opened next.opened n (begins_so stores logs lines history faults round r disk now es can begin is quiet back log_faults told (Ok next) closed) in
+    round_by stores logs lines history faults round r disk now es can begin is quiet back log_faults told (Ok next) closed laws next.opened.plans fits (λ other ends. sym (ap (plans_or next.opened.plans) ends))
 round_is stores logs lines history faults round r disk now es can begin is quiet back log_faults told (Err why) closed laws =
     let next = next_cuts stores logs lines history faults round r disk now es can begin is quiet back log_faults told (Err why) closed in
     let below = more stores logs lines history faults round r disk now es can begin is quiet back log_faults told (Err why) closed in

@@ -1,7 +1,6 @@
 -- A round: what it begins on, what it plans and tells, and why it stops.
 use Rattle.std.specs.Prelude.{◌≡◌, ◌≢◌, ◌⊎◌, ◌<◌, ◌≤◌, ◌+◌, ◌^◌, ◌++◌, ℕ, Bool, false, true, List, [], ◌∷◌, length, map, get_or, slice_get, All, IsSomeAnd, Option, Some, None, Result, Ok, Err, sum}
 use Rattle.std.specs.Option.{ForSome}
-use Rattle.std.specs.Global.{Vec}
 use Rattle.ssq_outside.specs.declared.name.Name.TheVariants as name
 use Rattle.ssq_outside.specs.Faults.{Rises}
 use Rattle.ssq_outside.specs.Files.{Files}
@@ -35,6 +34,7 @@ use Rattle.ssq_terms.specs.Setting.{CanRun, IsSettingOf, AreFound, found_lines}
 use Rattle.ssq_terms.specs.Laws.{IsScopeOf, due_at}
 use Rattle.ssq_terms.specs.Partitions.{HoldsStateOf}
 use Rattle.ssq_promise.specs.Run.{WasRun, AreFilesOf, CallFailed}
+use Rattle.ssq_desk.specs.declared.closed.NextRound.{NextRound}
 use Rattle.ssq_desk.specs.declared.told.Told.{Told}
 use Rattle.ssq_desk.specs.Closing.{lines_between}
 use Rattle.ssq_desk.specs.Contents.{line_of}
@@ -168,7 +168,7 @@ pub record IsOver (bound : Bound) (logs : ℕ) (r : Scope) (found : Opened) (pla
 
 -- how a round ends: with what the next one begins on, or with why it stopped
 abbrev pub Ended : Type 0
-Ended = Result (Opened × Vec (List Timed)) Stopped
+Ended = Result NextRound Stopped
 
 -- How a round went, whatever the disk tells: these are its plans in the end, the epochs that it told are the first ones that were not
 -- committed, of which no line is a fault where disk and logs tell what they hold, and it is over or stopped at an epoch behind them, for a key
@@ -180,7 +180,7 @@ pub record RoundWent (tells owned : Type 0) (s : Setting) (logs_count : ℕ) (r 
   pub good : tells → All (λ told. HasGoodLines s (cut_of (first_of found) plans) told.epoch) told
   pub few : found.committed + length told ≤ length plans
   pub near : length plans ≤ found.committed + length told + 1
-  pub over : (next : Opened × Vec (List Timed)) → end ≡ Ok next → IsOver s.job.bound logs_count r found plans told next.0 next.1.items
+  pub over : (next : NextRound) → end ≡ Ok next → IsOver s.job.bound logs_count r found plans told next.opened next.closings.items
   pub stopped : (why : Stopped) → end ≡ Err why → IsRoundStop tells owned s (cut_of (first_of found) plans) r.available (length plans) (found.committed + length told) files disk disk_now logs why.key why.cause
   pub keyless : (why : Stopped) → end ≡ Err why → why.cause ≢ cause.KeyOverflow → why.key ≡ None
 
@@ -204,10 +204,10 @@ pub record RoundRan (tells : Type 0) (s : Setting) (r : Scope) (start now : Hist
   pub meant : All (IsMeant s cuts) told
   pub planned_stays : (why : Stopped) → end ≡ Err why → is_of_epoch why.cause ≡ true → LeavesNow now (λ image. IsThere image (name.Plan (committed + length told)))
   pub uncommitted : (why : Stopped) → end ≡ Err why → IsOfOpen why.cause → LeavesNow now (λ image. image (name.Commit (committed + length told)) ≡ None)
-  pub settled : (next : Opened × Vec (List Timed)) → end ≡ Ok next → IsSettledAs now (files_now now)
-  pub found : (next : Opened × Vec (List Timed)) → end ≡ Ok next → IsFoundOf s (files_now now) next.0
-  pub kept : (next : Opened × Vec (List Timed)) → end ≡ Ok next → IsKeptUp (keeping_of s.job.bound.shape s.job.partitions) s.job.partitions (files_now now)
-  pub quiet : (next : Opened × Vec (List Timed)) → end ≡ Ok next → due_at s cuts planned ≡ false
+  pub settled : (next : NextRound) → end ≡ Ok next → IsSettledAs now (files_now now)
+  pub found : (next : NextRound) → end ≡ Ok next → IsFoundOf s (files_now now) next.opened
+  pub kept : (next : NextRound) → end ≡ Ok next → IsKeptUp (keeping_of s.job.bound.shape s.job.partitions) s.job.partitions (files_now now)
+  pub quiet : (next : NextRound) → end ≡ Ok next → due_at s cuts planned ≡ false
 
 -- What was opened is the job's own: the setting is that of the query and of the lines that were found, the files are settled, and what was
 -- found is what they hold.

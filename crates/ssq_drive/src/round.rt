@@ -9,7 +9,7 @@ ghost use Rattle.ssq_drive.specs.Rounds.{CanBegin, AreReturned, HaveIndexes, IsR
 use crate::keep::{finish, keep_between};
 use crate::turn::turn;
 use ssq_board::Cause;
-use ssq_desk::{Closed, Desk, Told};
+use ssq_desk::{Closed, Desk, NextRound, Told};
 use ssq_meaning::View;
 use ssq_open::Opened;
 use ssq_outside::{Disk, Gate, Log};
@@ -36,16 +36,16 @@ pub struct Went<D: Disk, L: Log> {
     pub logs: Vec<L>,
     /// The epochs that were acknowledged, in order.
     pub told: Vec<Told>,
-    /// What the next round begins on, with the index of each store in order; or why this one stopped.
-    pub end: Result<(Opened, Vec<Closing>), Stopped>,
+    /// What the next round begins on, or why this one stopped.
+    pub end: Result<NextRound, Stopped>,
 }
 
 /// What the next round begins on, or why this one stopped.
 fn end_of(
-    next: Option<(Opened, Vec<Closing>)>,
+    next: Option<NextRound>,
     stop: Option<Cause>,
     key: Option<Row>,
-) -> Result<(Opened, Vec<Closing>), Stopped>
+) -> Result<NextRound, Stopped>
     requires { next ≡ None → IsSome stop }
     ensures next { IfOk result (λ own. next ≡ Some own) }
     ensures stop { IfErr result (λ why. (next ≡ None) × (stop ≡ Some why.cause) × (why.key ≡ key)) }

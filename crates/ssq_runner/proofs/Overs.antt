@@ -1,15 +1,13 @@
 -- A round that has gone: rounds go on behind it, or the run is over.
 use Rattle.std.proofs.Common.{◌≡◌, ◌<◌, ◌+◌, ◌++◌, ℕ, List, Result, Ok, Err, IfOk, IfErr, OnOk, inr, sym, subst, arith, add-one}
-use Rattle.std.specs.Global.{Vec}
 use Rattle.ssq_outside.specs.History.{History, files_now}
 use Rattle.ssq_outside.specs.Logs.{Line}
 use Rattle.ssq_shape.specs.declared.bound.Bound.{Bound}
-use Rattle.ssq_step.specs.Indexing.{Timed}
 use Rattle.ssq_core.specs.Standing.{Stands}
 use Rattle.ssq_core.specs.Sound.{StandsOrEmpty}
 use Rattle.ssq_course.specs.Setting.{Setting, job_of}
-use Rattle.ssq_open.specs.declared.wanted.Opened.{Opened}
 use Rattle.ssq_promise.specs.Run.{RunsAreJoined}
+use Rattle.ssq_desk.specs.declared.closed.NextRound.{NextRound}
 use Rattle.ssq_desk.specs.declared.told.Told.{Told}
 use Rattle.ssq_drive.specs.Rounds.{Ended, HaveIndexes}
 use Rattle.ssq_runner.specs.declared.fault.RunFault.{RunFault}
@@ -38,14 +36,14 @@ module _ {L : Type 0} (tells : Type 0) (lines : L → List Line) (available : L 
 
   module _ (n : ℕ) (now : History) (disk : ℕ) (logs : List L) (OutTells : Type 0) (written : List ℕ) (told : List Told) (end : Ended) (gone : HasGone tells lines available answers faults g n now disk logs OutTells written told end) where
     -- it is over, and one more is
-    pub gone_over : CutsHang → RunsAreJoined tells → (next : Opened × Vec (List Timed)) (text : List ℕ) → end ≡ Ok next → (OutTells → text ≡ written ++ told_text told) → SoFar tells lines available answers faults gone.b (n + 1) now disk logs OutTells text next.0
+    pub gone_over : CutsHang → RunsAreJoined tells → (next : NextRound) (text : List ℕ) → end ≡ Ok next → (OutTells → text ≡ written ++ told_text told) → SoFar tells lines available answers faults gone.b (n + 1) now disk logs OutTells text next.opened
     gone_over hang joined next text ok wrote =
-        subst (λ (m : ℕ). SoFar tells lines available answers faults gone.b m now disk logs OutTells text next.0) (sym (add-one n))
+        subst (λ (m : ℕ). SoFar tells lines available answers faults gone.b m now disk logs OutTells text next.opened) (sym (add-one n))
         (turned tells lines available answers faults hang joined gone.b n gone.before now gone.faults_before disk gone.logs_before logs OutTells written gone.opened gone.found told end gone.ready gone.round gone.back gone.counted next text ok wrote)
 
     -- and with it come the indexes for the next
-    pub gone_indexes : (next : Opened × Vec (List Timed)) → end ≡ Ok next → HaveIndexes g.bound next.0.stores next.1.items
-    gone_indexes next ok = subst (λ (bound : Bound). HaveIndexes bound next.0.stores next.1.items) gone.begun.begun.bound_is (gone.round.went.over next ok).indexes
+    pub gone_indexes : (next : NextRound) → end ≡ Ok next → HaveIndexes g.bound next.opened.stores next.closings.items
+    gone_indexes next ok = subst (λ (bound : Bound). HaveIndexes bound next.opened.stores next.closings.items) gone.begun.begun.bound_is (gone.round.went.over next ok).indexes
 
     -- its lines are not written
     pub gone_untold : CutsHang → RunsAreJoined tells → (written_now text : List ℕ) (why : RunFault) (before after : ℕ) → n < g.rounds → IsUntold OutTells written written_now before after text told end why

@@ -1,9 +1,7 @@
 -- A text that was not written.
 use Rattle.std.proofs.Common.{◌≡◌, ◌≤◌, ◌++◌, ◌∙◌, ℕ, List, [], take, Result, Ok, Err, refl, sym, ap, arith}
 use Rattle.std.proofs.lemmas.List.{append-nil}
-use Rattle.std.specs.Global.{Vec}
-use Rattle.ssq_step.specs.Indexing.{Timed}
-use Rattle.ssq_open.specs.declared.wanted.Opened.{Opened}
+use Rattle.ssq_desk.specs.declared.closed.NextRound.{NextRound}
 use Rattle.ssq_desk.specs.declared.told.Told.{Told}
 use Rattle.ssq_drive.specs.Rounds.{Ended}
 use Rattle.ssq_runner.specs.declared.fault.RunFault.{RunFault}
@@ -11,7 +9,7 @@ use Rattle.ssq_runner.specs.declared.fault.RunFault.TheVariants as fault
 use Rattle.ssq_runner.specs.Told.{told_text}
 use Rattle.ssq_runner.specs.Putting.{IsUntold, OutCause, OutRises, failed, starved}
 
-pub put_untold : (Tells : Type 0) (old new : List ℕ) (before now : ℕ) (text left : List ℕ) (told : List Told) (end : Ended) (why : RunFault) → (next : Opened × Vec (List Timed)) → end ≡ Ok next → OutCause before now why → text ≡ told_text told
+pub put_untold : (Tells : Type 0) (old new : List ℕ) (before now : ℕ) (text left : List ℕ) (told : List Told) (end : Ended) (why : RunFault) → (next : NextRound) → end ≡ Ok next → OutCause before now why → text ≡ told_text told
     → (why ≡ fault.OutFault → (left ≡ []) × (Tells → (n : ℕ) × (new ≡ old ++ take n text))) → (why ≡ fault.NoMemory → (left ≡ text) × (Tells → new ≡ old)) → IsUntold Tells old new before now left told end why
 put_untold Tells old new before now text left told end fault.OutFault next over cause is fails starves =
     failed next over refl cause (λ t. let f = (fails refl).1 t in (f.0, f.1 ∙ ap (λ (l : List ℕ). old ++ take f.0 l) is)) (fails refl).0

@@ -4,7 +4,6 @@ use Rattle.std.proofs.lemmas.List.{length-append}
 use Rattle.std.proofs.lemmas.List.Elements.{All-nil, All-cons, All-head, All-tail, All-append}
 use Rattle.std.specs.List.{sum_by}
 use Rattle.std.specs.Prelude.{◌⊎◌, IsSomeAnd}
-use Rattle.std.specs.Global.{Vec}
 use Rattle.ssq_outside.specs.Files.{Files}
 use Rattle.ssq_outside.specs.declared.name.Name.TheVariants as name
 use Rattle.ssq_outside.specs.History.{History, LeavesNow, files_now}
@@ -26,11 +25,11 @@ use Rattle.ssq_board.specs.declared.front.Cause.TheVariants as cause
 use Rattle.ssq_outside.specs.Faults.{Rises}
 use Rattle.ssq_meaning.specs.Feeding.{LineAt}
 use Rattle.ssq_meaning.specs.Meaning.{Values}
-use Rattle.ssq_step.specs.Indexing.{Timed}
 use Rattle.ssq_board.specs.Core.{next_ends, is_behind, is_of_epoch}
 use Rattle.ssq_board.specs.Rounds.{HasCap}
 use Rattle.ssq_open.specs.Looking.{begins}
 use Rattle.ssq_plans.specs.declared.meta.Meta.{Meta}
+use Rattle.ssq_desk.specs.declared.closed.NextRound.{NextRound}
 use Rattle.ssq_desk.specs.declared.told.Told.{Told}
 use Rattle.ssq_drive.specs.Damaged.{IsDamagedIn}
 use Rattle.ssq_drive.specs.Good.{HasGoodLines}
@@ -215,7 +214,7 @@ stop_moved tells one other s t cuts others found planned e f files first disk di
     full_by (inr closing) = inr (subst (λ (query : Bound). closes query ≡ true) query closing)
 stop_moved tells one other s t cuts others found planned e f files first disk disk_now logs key cause.NoMemory same query known own cut at le is = tt
 
-ok_err : (next : Opened × Vec (List Timed)) (why : Stopped) → Ok next ≡ Err why → ⊥
+ok_err : (next : NextRound) (why : Stopped) → Ok next ≡ Err why → ⊥
 ok_err next why is = cc
 
 abbrev why_or : Stopped → Ended → Stopped
@@ -260,7 +259,7 @@ call_fault_by why key (inl disk) = ap (λ (c : Cause). is_call_fault (Err (fault
 call_fault_by why key (inr memory) = ap (λ (c : Cause). is_call_fault (Err (fault_by c key))) (same_cause why cause.NoMemory memory)
 
 -- a round that is over did not stop
-ok_stopped : {A : Type 0} {end : Ended} (next : Opened × Vec (List Timed)) → end ≡ Ok next → StoppedAtCall end → A
+ok_stopped : {A : Type 0} {end : Ended} (next : NextRound) → end ≡ Ok next → StoppedAtCall end → A
 ok_stopped next ok at_call = absurd (ok_err next at_call.0 (sym ok ∙ at_call.1))
 
 -- what can begin again over the logs that came back can be run on
@@ -335,7 +334,7 @@ module _ {L : Type 0} (tells : Type 0) (lines : L → List Line) (available : L 
       (subst (λ (y : Setting). All (λ (x : Told). HasGoodLines y (cut_of (first_of opened) round.plans) x.epoch) told) (same_s t) (round.went.good t)))
 
   -- it is one of the rounds, where it is over
-  one_over : (next : Opened × Vec (List Timed)) → end ≡ Ok next
+  one_over : (next : NextRound) → end ≡ Ok next
       → IsOne (Owned tells lines available answers faults b) (setting_in tells lines available answers faults b) b.cap (cuts_in b round.plans) (epochs_after (length b.found.plans) so.done) (record { found = found; epochs = length round.plans })
   one_over next ok = record {
     on = goes.0.within;
@@ -345,7 +344,7 @@ module _ {L : Type 0} (tells : Type 0) (lines : L → List Line) (available : L 
   }
 
   -- and all are told
-  all_over : (next : Opened × Vec (List Timed)) → end ≡ Ok next → b.found.committed + length all_told ≡ length round.plans
+  all_over : (next : NextRound) → end ≡ Ok next → b.found.committed + length all_told ≡ length round.plans
   all_over next ok = (let e = length-append so.told told in let a = (round.went.over next ok).all in let c = so.committed in omega (arith, e, a, c))
 
   -- the logs came back from it
@@ -355,7 +354,7 @@ module _ {L : Type 0} (tells : Type 0) (lines : L → List Line) (available : L 
       record { answered = back_after tells lines available answers faults 0 (record { found = found; epochs = length round.plans } ∷ so.done) b.logs logs news ask.answered back; first = ask.first }
 
   -- the round is over
-  pub turned : (next : Opened × Vec (List Timed)) (text : List ℕ) → end ≡ Ok next → (OutTells → text ≡ written ++ told_text told) → SoFar tells lines available answers faults b (suc n) now disk_now news OutTells text next.0
+  pub turned : (next : NextRound) (text : List ℕ) → end ≡ Ok next → (OutTells → text ≡ written ++ told_text told) → SoFar tells lines available answers faults b (suc n) now disk_now news OutTells text next.opened
   unfolding AreRounds
   turned next text ok wrote =
       let over = round.went.over next ok in
@@ -380,7 +379,7 @@ module _ {L : Type 0} (tells : Type 0) (lines : L → List Line) (available : L 
         good = λ t. subst (λ (ps : List Plan). AreGood tells lines available answers faults b ps all_told) (sym over.plans_are) (good_on t);
         wrote = λ o. wrote o ∙ ap (λ (l : List ℕ). l ++ told_text told) (so.wrote o) ∙ append_assoc b.written (told_text so.told) (told_text told) ∙ ap (λ (l : List ℕ). b.written ++ l) (sym (text_then so.told told));
         asked = back_asked;
-        fits = fits_over tells lines available answers faults b.bound b.cap logs news found opened next.0 ready.few back over.can;
+        fits = fits_over tells lines available answers faults b.bound b.cap logs news found opened next.opened ready.few back over.can;
         there = λ some_round t i own at.
             let old = returned_at tells lines available answers faults logs news back i own at in
             (let a = over.can.long i in let e = ready.seen t i old.0 old.1 in let g = old.2.grown t in omega (arith, a, e, g));

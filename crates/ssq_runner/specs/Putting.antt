@@ -1,9 +1,7 @@
 -- How a round's lines are written, or not.
 use Rattle.std.specs.Prelude.{◌≡◌, ◌++◌, ℕ, List, [], take, Result, Ok, Err}
-use Rattle.std.specs.Global.{Vec}
 use Rattle.ssq_outside.specs.Faults.{Rises}
-use Rattle.ssq_step.specs.Indexing.{Timed}
-use Rattle.ssq_open.specs.declared.wanted.Opened.{Opened}
+use Rattle.ssq_desk.specs.declared.closed.NextRound.{NextRound}
 use Rattle.ssq_desk.specs.declared.told.Told.{Told}
 use Rattle.ssq_drive.specs.declared.round.Stopped.{Stopped}
 use Rattle.ssq_drive.specs.Rounds.{Ended}
@@ -22,7 +20,7 @@ OutCause before now _ = ⊥
 -- out, and lines of its first epochs are left.
 pub data IsUntold (Tells : Type 0) (old new : List ℕ) (before now : ℕ) (text : List ℕ) (told : List Told) (end : Ended) (why : RunFault) : Type 0 where
   stopped : (stop : Stopped) → end ≡ Err stop → why ≡ fault_of stop → (Tells → new ≡ old) → text ≡ told_text told → IsUntold Tells old new before now text told end why
-  failed : (next : Opened × Vec (List Timed)) → end ≡ Ok next → why ≡ fault.OutFault → Rises before now → (Tells → (n : ℕ) × (new ≡ old ++ take n (told_text told))) → text ≡ [] → IsUntold Tells old new before now text told end why
+  failed : (next : NextRound) → end ≡ Ok next → why ≡ fault.OutFault → Rises before now → (Tells → (n : ℕ) × (new ≡ old ++ take n (told_text told))) → text ≡ [] → IsUntold Tells old new before now text told end why
   starved : why ≡ fault.NoMemory → (first rest : List Told) → told ≡ first ++ rest → (Tells → new ≡ old) → text ≡ told_text first → IsUntold Tells old new before now text told end why
 
 -- where a run ended since the output failed, that was counted

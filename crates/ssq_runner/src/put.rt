@@ -10,11 +10,9 @@ ghost use Rattle.ssq_runner.specs.Putting.{IsUntold, OutCause};
 
 use crate::fault::RunFault;
 use crate::line::push_all;
-use ssq_desk::Told;
+use ssq_desk::{NextRound, Told};
 use ssq_drive::Stopped;
-use ssq_open::Opened;
 use ssq_outside::{OutError, Output};
-use ssq_step::Closing;
 use std::alloc::Global;
 
 /// Writes the text, and empties it. Where the output fails it is emptied too, since a front of it was written. Where memory runs out it
@@ -47,8 +45,8 @@ pub(crate) fn tell_round<O: Output>(
     out: &mut O,
     text: &mut Vec<u8>,
     told: &[Told],
-    end: Result<(Opened, Vec<Closing>), Stopped>,
-) -> Result<(Opened, Vec<Closing>), RunFault>
+    end: Result<NextRound, Stopped>,
+) -> Result<NextRound, RunFault>
     requires stamps { All (λ told. ForSome told.watermark IsStampTime) told.now }
     requires empty { text.old.items ≡ [] }
     ensures over { OnOk result ((O.tells → O.content out.new ≡ O.content out.old ++ told_text told.now) × (text.new.items ≡ [])) }

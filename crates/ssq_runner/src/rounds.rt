@@ -17,6 +17,7 @@ use crate::fault::RunFault;
 use crate::line::push_done;
 use crate::put::tell_round;
 use ssq_board::Cause;
+use ssq_desk::NextRound;
 use ssq_drive::Went;
 use ssq_logs::{LengthFault, count_lines};
 use ssq_meaning::epochs_hang_on_their_cuts;
@@ -138,7 +139,7 @@ pub(crate) fn next_round<D: Disk, L: Log, O: Output>(
         told,
         end,
     } = went;
-    let (opened, closings) = match tell_round(alloc, out, text, told.as_slice(), end) {
+    let NextRound { opened, closings } = match tell_round(alloc, out, text, told.as_slice(), end) {
         Ok(next) => next,
         Err(fault) => {
             return Err(Left {

@@ -25,7 +25,7 @@ returns-in-Err-clause-over g c = λ given n few later last gone.
 
 -- so far rounds have come
 so_on : (g : Over) → (c : In-Ok g) → (given : RunGiven g.row.L.Denot) (n : ℕ) → (gone : HasGone (g.D.Disk.tells × g.L.Log.tells) g.L.Log.lines g.L.Log.available g.L.Log.answers g.L.Log.faults given n (g.D.Disk.history c.args.went.disk) (g.D.Disk.faults c.args.went.disk) c.args.went.logs.items g.O.Output.tells (g.O.Output.content c.args.out.now) c.args.went.told.items c.args.went.end)
-    → SoFar (g.D.Disk.tells × g.L.Log.tells) g.L.Log.lines g.L.Log.available g.L.Log.answers g.L.Log.faults gone.b (n + 1) (g.D.Disk.history c.args.went.disk) (g.D.Disk.faults c.args.went.disk) c.args.went.logs.items g.O.Output.tells (g.O.Output.content c.tell_round.new.out) c.in-Ok.next.0
+    → SoFar (g.D.Disk.tells × g.L.Log.tells) g.L.Log.lines g.L.Log.available g.L.Log.answers g.L.Log.faults gone.b (n + 1) (g.D.Disk.history c.args.went.disk) (g.D.Disk.faults c.args.went.disk) c.args.went.logs.items g.O.Output.tells (g.O.Output.content c.tell_round.new.out) c.in-Ok.next.opened
 so_on g c given n gone =
     gone_over (g.D.Disk.tells × g.L.Log.tells) g.L.Log.lines g.L.Log.available g.L.Log.answers g.L.Log.faults given n (g.D.Disk.history c.args.went.disk) (g.D.Disk.faults c.args.went.disk) c.args.went.logs.items g.O.Output.tells (g.O.Output.content c.args.out.now) c.args.went.told.items c.args.went.end gone
     c.epochs_hang_on_their_cuts.ensures c.rounds.ensures.joined c.in-Ok.next (g.O.Output.content c.tell_round.new.out) c.in-Ok.ensures.same
@@ -35,7 +35,7 @@ pub returns-then-not-more-clause-over : goal.returns-then-not-more-clause-over
 returns-then-not-more-clause-over g c = λ given n few later last gone.
     let so = so_on g (goal.at.returns-then-not-more-clause-over g c).In-Ok given n gone in
     rounds_over (g.D.Disk.tells × g.L.Log.tells) g.L.Log.lines g.L.Log.available g.L.Log.answers g.L.Log.faults given gone.b gone.begun _ _ _ g.O.Output.tells _ _ _
-    (finish g.L.Log.tells (g.D.Disk.tells × g.L.Log.tells) g.L.Log.lines g.L.Log.available g.L.Log.answers g.L.Log.faults (λ t. t.1) gone.b (n + 1) _ _ c.args.went.logs.items c.args.went.logs.items g.O.Output.tells _ c.in-Ok.next.0 so
+    (finish g.L.Log.tells (g.D.Disk.tells × g.L.Log.tells) g.L.Log.lines g.L.Log.available g.L.Log.answers g.L.Log.faults (λ t. t.1) gone.b (n + 1) _ _ c.args.went.logs.items c.args.went.logs.items g.O.Output.tells _ c.in-Ok.next.opened so
     c.tell_done-end.result c.tell_round.new.text.items c.tell_done-end.new.text.items (last c.if-not-more.true ∙ sym gone.begun.begun.rounds_are) (omega arith) c.in-Ok.ensures.over.1 so.asked c.tell_done-end.ensures.ok c.tell_done-end.ensures.err)
 
 pub returns-in-Ok-count_again-clause-ready : goal.returns-in-Ok-count_again-clause-ready
@@ -44,7 +44,7 @@ returns-in-Ok-count_again-clause-ready g c = λ given n gone.
     record {
       b = gone.b;
       begun = gone.begun;
-      ready = ready_on g.L.Log.tells (g.D.Disk.tells × g.L.Log.tells) g.L.Log.lines g.L.Log.available g.L.Log.answers g.L.Log.faults (λ t. t.1) gone.b (n + 1) _ _ c.args.went.logs.items c.count_again.new.logs.items g.O.Output.tells _ c.in-Ok.next.0 so (omega arith)
+      ready = ready_on g.L.Log.tells (g.D.Disk.tells × g.L.Log.tells) g.L.Log.lines g.L.Log.available g.L.Log.answers g.L.Log.faults (λ t. t.1) gone.b (n + 1) _ _ c.args.went.logs.items c.count_again.new.logs.items g.O.Output.tells _ c.in-Ok.next.opened so (omega arith)
           c.in-Ok-count_again.found.items c.in-Ok-count_again.ensures.asked c.in-Ok-count_again.ensures.long;
       indexes = gone_indexes (g.D.Disk.tells × g.L.Log.tells) g.L.Log.lines g.L.Log.available g.L.Log.answers g.L.Log.faults given n (g.D.Disk.history c.args.went.disk) (g.D.Disk.faults c.args.went.disk) c.args.went.logs.items g.O.Output.tells (g.O.Output.content c.args.out.now) c.args.went.told.items c.args.went.end gone c.in-Ok.next c.in-Ok.ensures.same;
     }
@@ -57,5 +57,5 @@ pub returns-clause-over : goal.returns-clause-over
 returns-clause-over g c = λ given n few later last gone.
     let so = so_on g (goal.at.returns-clause-over g c).In-Ok given n gone in
     rounds_over (g.D.Disk.tells × g.L.Log.tells) g.L.Log.lines g.L.Log.available g.L.Log.answers g.L.Log.faults given gone.b gone.begun _ _ _ g.O.Output.tells _ _ _
-    (unready_end g.L.Log.tells (g.D.Disk.tells × g.L.Log.tells) g.L.Log.lines g.L.Log.available g.L.Log.answers g.L.Log.faults (λ t. t.1) gone.b (n + 1) _ _ c.args.went.logs.items c.count_again.new.logs.items g.O.Output.tells _ c.in-Ok.next.0 so (omega arith)
+    (unready_end g.L.Log.tells (g.D.Disk.tells × g.L.Log.tells) g.L.Log.lines g.L.Log.available g.L.Log.answers g.L.Log.faults (λ t. t.1) gone.b (n + 1) _ _ c.args.went.logs.items c.count_again.new.logs.items g.O.Output.tells _ c.in-Ok.next.opened so (omega arith)
     c.in-Err-count_again.fault c.tell_round.new.text.items (let l = later c.if-not-more.false in let r = gone.begun.begun.rounds_are in omega (arith, l, r)) c.in-Ok.ensures.over.1 c.in-Err-count_again.ensures.unready)

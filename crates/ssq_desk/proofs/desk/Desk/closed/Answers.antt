@@ -72,10 +72,10 @@ pub returns-clause-next : goal.returns-clause-next
 returns-clause-next g c =
     let s = c.self.inside in
     let is = subst (λ (f : Front). MatchOption c.next_if-next.result.0 (c.is_over-is_over.result ≡ false) (λ next. (c.is_over-is_over.result ≡ true)
-    × (next.0 ≡ record { meta = s.load.kept.meta; plans = s.load.plans.items; committed = f.committed; seen = lines_of s.load.view.bound.now s.load.seen; stores = stores_in s.load.held.items; names = c.closed-disk.result.2.items }) × All HasLineTime next.0.seen × (next.1.items ≡ closings_in s.load.held.items))) c.front-front.ensures c.next_if-next.ensures.next in
+    × (next.opened ≡ record { meta = s.load.kept.meta; plans = s.load.plans.items; committed = f.committed; seen = lines_of s.load.view.bound.now s.load.seen; stores = stores_in s.load.held.items; names = c.closed-disk.result.2.items }) × All HasLineTime next.opened.seen × (next.closings.items ≡ closings_in s.load.held.items))) c.front-front.ensures c.next_if-next.ensures.next in
     subst (λ (x : Shown g.row.D.Denot (Round g.row.L.Denot)). MatchOption c.next_if-next.result.0 ((ready_of x.scope x.core ≢ ready.Over) ⊎ ((shelf_of (opening_in g.L.Log.lines) x).tidy ≡ false)) (λ next. (ready_of x.scope x.core ≡ ready.Over) × ((shelf_of (opening_in g.L.Log.lines) x).tidy ≡ true)
-    × IsNext (Owns g.D.Disk.tells g.L.Log.tells g.D.Disk.history g.L.Log.lines x) (setting_of g.L.Log.lines x.opening) (cuts_of (opening_in g.L.Log.lines) x) x.scope.available x.core (shelf_of (opening_in g.L.Log.lines) x) x.opening.opened next.0
-    × AreIndexes (Unit {0}) x.opening.view.bound.now next.0.stores next.1.items)) c.self.view_is
+    × IsNext (Owns g.D.Disk.tells g.L.Log.tells g.D.Disk.history g.L.Log.lines x) (setting_of g.L.Log.lines x.opening) (cuts_of (opening_in g.L.Log.lines) x) x.scope.available x.core (shelf_of (opening_in g.L.Log.lines) x) x.opening.opened next.opened
+    × AreIndexes (Unit {0}) x.opening.view.bound.now next.opened.stores next.closings.items)) c.self.view_is
     (next_back g.D.Disk.tells g.L.Log.tells g.D.Disk.history g.L.Log.lines g.L.Log.available g.L.Log.answers g.L.Log.faults g.D.Stage.Stage.written g.D.Stage.Stage.sealed s.ledger s.load c.self.invariant c.is_legal.ensures.legal c.is_in_order.ensures c.next_if-next.result.0 c.is_over-is_over.result c.closed-disk.result.2.items c.closed-disk.ensures.names is
     (λ over. (let both = c.is_over-is_over.ensures.over over in (sym c.ready.ensures ∙ both.0, sym c.is_tidy.ensures ∙ both.1)))
     (λ other. elim (c.is_over-is_over.ensures.other other) [ inl not_over ↦ inl (λ over. not_over (c.ready.ensures ∙ over)) | inr untidy ↦ inr (sym c.is_tidy.ensures ∙ untidy) ]))
