@@ -4,8 +4,8 @@
     python3 tests/power.py [SHARE] [SEED] [--shape plain|group|dedup|join] [--ends SHARE] [--images N] [--epochs N]      (0.1 of the moments, plain)
 
 strace has to be there (for this script alone), and bin/ssq (`make` builds it). The queries are those of tests/kill.py. Runs go over logs that grow.
-Some are killed in front of a sync, so that the next one begins on names that are not synced; of those some lose the power, and the next one
-begins on what may be left.
+Some are broken: killed in front of a sync, or a sync, or a call that writes, renames, removes or makes a file or a folder, fails, for which the run has to
+stop and to say so. The next one begins on names that are not synced; behind some the power is lost, and the next one begins on what may be left.
 
 strace tells each call by which a run makes, writes, renames, removes and syncs files and folders, and these are played on a model of a file system.
 After a power loss a name may be, by itself, what it was when its folder was last synced, or anything that it was since; a new folder is a name in
@@ -16,7 +16,7 @@ was, and some that are drawn. In each of them the epochs whose line was printed 
 be, byte for byte (tests/model.py). From a share of them (--ends, all) a run goes on over the whole logs to the end, and is judged as that of tests/kill.py is.
 
 So this shows, of the runs that it made, that the program asks a real folder for the syncs that it needs, and in the right order. It does not show that a file
-system keeps what it synced, nor what comes of a sync that fails. It is not part of the gate, since it takes minutes. That it can fail is seen with --forget
+system keeps what it synced, nor, of one whose sync failed, that a later sync which it says went well was one. It is not part of the gate, since it takes minutes. That it can fail is seen with --forget
 files, --forget folders or --forget with a folder (., checkpoint, checkpoint/sink ..): the model then passes over those syncs.
 """
 import argparse
@@ -42,6 +42,8 @@ PLAYED = "openat,close,write,fsync,fdatasync,rename,renameat,renameat2,unlink,un
 STRANGE = "open,creat,pwrite64,writev,pwritev,pwritev2,truncate,ftruncate,fallocate,link,linkat,symlink,symlinkat,sendfile,copy_file_range,dup,dup2,dup3,chdir"
 LONGEST = 1 << 24  # bytes of a text in a trace
 RUNS = 6  # over one checkpoint
+BREAKS = ["fsync:signal=KILL"] * 3 + ["fsync:error=EIO"] * 3 + ["write:error=ENOSPC", "renameat:error=EIO", "unlinkat:error=EIO", "mkdirat:error=ENOSPC"]
+FAULTS = {7: "DiskFault", 8: "OutFault"}
 LEAST, MOST = operator.itemgetter(0), operator.itemgetter(-1)
 CAP = 3  # lines of a part in an epoch: few, since each image is run on and judged to the end
 
@@ -217,8 +219,7 @@ class Trial:
     def go(self):
         for run in range(1, RUNS + 1):
             self.grow(run / RUNS)
-            kill = self.chance.randrange(1, self.chance.choice([10, 100])) if run < RUNS and self.chance.random() < 0.7 else None
-            if self.run(kill) and self.chance.random() < 0.5:
+            if self.run(self.broken() if run < RUNS else None) and self.chance.random() < 0.5:
                 self.start_again()
         self.found["epochs"] = len(last_run(self.checkpoint).cuts)
 
@@ -228,14 +229,27 @@ class Trial:
             text = whole.read_bytes()
             log.write_bytes(text[: len(text) if share == 1 else int(len(text) * share) - self.chance.randrange(100)])
 
-    def run(self, kill):
-        """A run, killed in front of its sync of that number if it comes to it, and the images of its moments. Whether it was killed."""
-        trace, kills = self.base / "trace", ["-e", f"inject=fsync:signal=KILL:when={kill}"] if kill else []
-        words = ["strace", "-f", "-xx", "-s", str(LONGEST), "-o", trace, "-e", f"trace={PLAYED},{STRANGE}", *kills]
+    def broken(self):
+        """How a run is broken: at which of its calls of one kind, if it comes to it, and by what. Some are not."""
+        if self.chance.random() < 0.2:
+            return None
+        return f"{self.chance.choice(BREAKS)}:when={self.chance.randrange(1, self.chance.choice([10, 100]))}"
+
+    def run(self, broken):
+        """A run, broken so, and the images of its moments. Whether it was broken."""
+        trace, breaks = self.base / "trace", ["-e", f"inject={broken}"] if broken else []
+        words = ["strace", "-f", "-xx", "-s", str(LONGEST), "-o", trace, "-e", f"trace={PLAYED},{STRANGE}", *breaks]
         done = subprocess.run([*words, SSQ, "run", "q.sql", *self.job.words()], cwd=self.folder, stdout=subprocess.PIPE)
-        assert done.returncode in (0, -signal.SIGKILL if kill else 0), done.stdout.decode()
-        self.checkpoint.judge(done.stdout.decode())
-        self.found.update(runs=1, killed=int(done.returncode != 0))
+        printed, failed = done.stdout.decode(), "(INJECTED)" in trace.read_text()
+        if failed:
+            assert done.returncode in FAULTS, f"{broken} was not told: {done.returncode} {printed}"
+            lines, stop, end = printed.rpartition(f"stopped {done.returncode} {FAULTS[done.returncode]}\n")
+            assert stop and not end or done.returncode == 8, f"{broken} was told as {printed}"
+            printed = lines if stop else printed
+        else:
+            assert done.returncode in (0, -signal.SIGKILL if broken else 0), printed
+        self.checkpoint.judge(printed)
+        self.found.update(runs=1, killed=int(done.returncode < 0), failed=int(failed))
         self.machine.opened, before = {}, len(self.machine.output)
         for call in traced(trace):
             if self.machine.play(call):
@@ -321,7 +335,7 @@ def main():
             sys.exit(f"{job.name}, seed {ask.seed}, {dict(trial.found)}: {wrong}; what is left is in {base}")
         shutil.rmtree(base)
         found += trial.found
-    print(f"{found['runs']} runs over {MANY.get(ask.shape, job.name)}, seed {ask.seed}: {found['killed']} killed in front of a sync,")
+    print(f"{found['runs']} runs over {MANY.get(ask.shape, job.name)}, seed {ask.seed}: {found['killed']} killed in front of a sync, {found['failed']} stopped by a call that failed,")
     print(f"{found['again']} of them with the machine, {found['epochs']} epochs in all, {found['calls']} calls that change, sync or print something")
     print(f"{found['moments']} moments, {found['images']} images, {found['other']} other than the folder as it was, {found['judged']} unlike each other:")
     print(f"{found['opened']} with an epoch planned and not committed, {found['upkeep']} with upkeep to be done, {found['empty']} without a file")
