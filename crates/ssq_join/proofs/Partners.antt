@@ -117,9 +117,9 @@ module _ (query : Bound) (joining : Joining) (row other : FedRow) (was : Bool) (
   judged_pair : (left : Bool) → left ≡ is_left other.stream → (judged : Judged) → JudgedAs query joining row left other.values (Some judged)
       → (are_candidates joining row other ≡ true) × (record { key = row.key; row = shown_by judged.shown } ≡ considered_of query joining (row, other)) × (is_partner joining row other ≡ judged.met)
   judged_pair true left judged is_so =
-      from_right query joining other row (faces_from_right (sym left)) is.same judged (ap (λ t. is_near joining.bound t row.time) (time_on_left (sym left)) ∙ is_so.0) is_so.1 is_so.2
+      from_right query joining other row (faces_from_right (sym left)) is.same judged (ap (λ t. is_near joining.bound t row.time) (time_on_left (sym left)) ∙ is_so.0) is_so.1.0 is_so.1.1
   judged_pair false right judged is_so =
-      from_left query joining row other (faces_from_left (sym right)) judged (ap (is_near joining.bound row.time) (time_on_right (sym right)) ∙ is_so.0) is_so.1 is_so.2
+      from_left query joining row other (faces_from_left (sym right)) judged (ap (is_near joining.bound row.time) (time_on_right (sym right)) ∙ is_so.0) is_so.1.0 is_so.1.1
 
   pub none_met : (pairs : List Pair) (found : Shown) (met : List (List ℕ)) → are_candidates joining row other ≡ false → Meets query joining pairs found met → Meets query joining (with_candidate joining row other pairs) found met
   none_met pairs found met far meets = subst (λ b. Meets query joining (if b then (row, other) ∷ pairs else pairs) found met) (sym far) meets
