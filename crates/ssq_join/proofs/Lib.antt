@@ -9,7 +9,6 @@ pub mod Earlier
 pub mod Turning
 pub mod Knowing
 pub mod Partners
-pub mod Beside
 pub mod Standing
 pub mod Saying
 pub mod Alone

@@ -1,5 +1,5 @@
 -- A new row, and those before it that may be its partners.
-use Rattle.std.specs.Prelude.{◌≡◌, ◌==◌, ◌++◌, ◌∷◌, ℕ, Bool, true, false, not, if◌then◌else◌, List, length, map, Option, Some, None}
+use Rattle.std.specs.Prelude.{◌≡◌, ◌++◌, ◌∷◌, ℕ, Bool, true, false, not, if◌then◌else◌, List, map, Option, Some, None}
 use Rattle.std.specs.List.{AllByRecursion, list_any}
 use Rattle.std.specs.List.Sorted.{IsPermutation}
 use Rattle.ssq_version.specs.State.{State, front_with}
@@ -36,10 +36,6 @@ IsJudged query joining row judged = (judged.met ≡ is_met joining row) × (show
 abbrev pub JudgedAs : Bound → Joining → FedRow → (left : Bool) → Values → Option Judged → Type 0
 JudgedAs query joining row left values None = are_near joining row left values ≡ false
 JudgedAs query joining row left values (Some judged) = (are_near joining row left values ≡ true) × IsJudged query joining (joined left row.values values) judged
-
--- The buffer in which a new row is joined has its values, where it has any.
-abbrev pub IsOwn : (values own : Values) → Type 0
-IsOwn values own = (length own == 0) ≡ false → own ≡ values
 
 -- ---- rows that are kept
 

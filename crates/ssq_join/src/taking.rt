@@ -60,10 +60,7 @@ fn take_row(
     }
     let prefix = prefix_of(alloc, comer.row.stream() != 0, comer.key_bytes)?;
     let kept = state.iter_from(alloc, &prefix)?;
-    let mut own = Vec::new(alloc);
-    let between = meet(
-        alloc, bound, joining, comer, &prefix, kept, &mut own, found, met,
-    )?;
+    let between = meet(alloc, bound, joining, comer, &prefix, kept, found, met)?;
     meet(
         alloc,
         bound,
@@ -71,7 +68,6 @@ fn take_row(
         comer,
         &prefix,
         entries_from(fresh, &prefix),
-        &mut own,
         between,
         met,
     )

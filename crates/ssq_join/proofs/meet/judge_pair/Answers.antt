@@ -1,21 +1,18 @@
-use Rattle.std.proofs.Common.{All, List, subst, sym, ◌∙◌}
+use Rattle.std.proofs.Common.{All, List, ap, subst, sym, ◌∙◌}
 use Rattle.ssq_value.specs.declared.value.Value.{Value}
 use Rattle.ssq_meaning.specs.Fit.{IsFit}
-use Rattle.ssq_join.specs.Meeting.{IsJudged, IsOwn, joined}
+use Rattle.ssq_join.specs.Meeting.{IsJudged, joined}
+use Rattle.ssq_join.proofs.Partners.{joined_fit}
 use Rattle.ssq_join.proofs.meet.judge_pair.Goals as goal
 
-pub fill-requires : goal.fill-requires
-fill-requires c = subst (λ (values : List Value). IsOwn values c.args.own.now.items) (sym c.values.ensures) c.requires.own
+pub judge-requires : goal.judge-requires
+judge-requires c =
+    subst (All IsFit) (sym (c.as_slice.ensures.value ∙ c.in_ok-joined.ensures))
+    (joined_fit c.args.other.left c.values.result.now c.args.other.values (subst (All IsFit) (sym c.values.ensures) c.requires.row.values) c.requires.other)
 
-pub judge_joined-requires-clause-own : goal.judge_joined-requires-clause-own
-judge_joined-requires-clause-own c = subst (All IsFit) (sym (c.in_ok-fill.ensures ∙ c.values.ensures)) c.requires.row.values
-
-pub returns-clause-own : goal.returns-clause-own
-returns-clause-own c = λ any. c.in_ok-judged.ensures.own ∙ c.in_ok-fill.ensures ∙ c.values.ensures
-
-pub returns-clause-judged : goal.returns-clause-judged
-returns-clause-judged c = (
+pub returns : goal.returns
+returns c = (
   sym c.are_near.ensures ∙ c.if-not-are_near.false,
-  subst (λ (own : List Value). IsJudged c.args.bound.now c.args.joining.now (joined c.args.other.left own c.args.other.values) c.in_ok-judged.judged) (c.in_ok-fill.ensures ∙ c.values.ensures)
-      c.in_ok-judged.ensures.judged,
+  subst (λ (row : List Value). IsJudged c.args.bound.now c.args.joining.now row c.in_ok-judged.judged) (c.as_slice.ensures.value ∙ c.in_ok-joined.ensures ∙ ap (λ (own : List Value). joined c.args.other.left own c.args.other.values) c.values.ensures)
+      (c.in_ok-judged.ensures.met, c.in_ok-judged.ensures.shown, c.in_ok-judged.ensures.printable),
 )

@@ -10,7 +10,6 @@ loop-key-init c = (
   (λ now met leads.
       subst (λ (entries : State). MeetsFront c.args.bound.now c.args.joining.now c.args.comer.row.now c.args.prefix.now entries c.args.found now c.args.met.now.keys met) c.into_iter-key-iterator.ensures.into_iter_gives leads),
   c.requires.printable,
-  c.requires.own,
 )
 
 pub loop-key-preserved : goal.loop-key-preserved
@@ -20,7 +19,6 @@ loop-key-preserved c = (
       (fronts_on c.args.bound.now c.args.joining.now c.args.comer.row.now c.args.prefix.now (c.in-Some.key.now, c.in-Some.value.now) c.loop-key.key-iterator c.next.new.self c.loop-key.found c.in_ok-found.found
       c.loop-key.met.keys c.meet_row.new.met.keys c.in-Some.ensures.steps (sym c.begins_with.ensures ∙ c.if-not-begins_with.false) c.in_ok-found.ensures.meets now met leads)),
   c.in_ok-found.ensures.printable,
-  c.in_ok-found.ensures.own,
 )
 
 pub returns-clause-meets : goal.returns-clause-meets

@@ -32,7 +32,7 @@ returns-in_default-judged-clause-meets c = λ other was pairs is meets.
     (c.in_ok-read.ensures.each (is_left other.stream) other.values was (is_kept_row query joining row other was c.args.key.now c.args.value.now is)) in
     let far : JudgedAs query joining row c.in-Some.other.left other.values None =
     of_none (JudgedAs query joining row c.in-Some.other.left other.values) c.in_ok-judged.judged c.in_default-judged.not-Some
-    (subst (λ (values : List Value). JudgedAs query joining row c.in-Some.other.left values c.in_ok-judged.judged) same.1 c.in_ok-judged.ensures.judged) in
+    (subst (λ (values : List Value). JudgedAs query joining row c.in-Some.other.left values c.in_ok-judged.judged) same.1 c.in_ok-judged.ensures) in
     none_met query joining row other was c.args.key.now c.args.value.now is pairs c.args.found c.args.met.now.keys
     (none_judged query joining row other was c.args.key.now c.args.value.now is c.in-Some.other.left same.0 far) meets
 
@@ -48,7 +48,7 @@ returns-clause-meets c = λ other was pairs is meets.
     (c.in_ok-read.ensures.each (is_left other.stream) other.values was (is_kept_row query joining row other was c.args.key.now c.args.value.now is)) in
     let near : JudgedAs query joining row c.in-Some.other.left other.values (Some judged) =
     subst (JudgedAs query joining row c.in-Some.other.left other.values) c.in-Some-judged.is
-    (subst (λ (values : List Value). JudgedAs query joining row c.in-Some.other.left values c.in_ok-judged.judged) same.1 c.in_ok-judged.ensures.judged) in
+    (subst (λ (values : List Value). JudgedAs query joining row c.in-Some.other.left values c.in_ok-judged.judged) same.1 c.in_ok-judged.ensures) in
     let knows : (bytes : List ℕ) → among after bytes ≡ (if judged.met then (is_at (by_bytes bytes) (row_key row) || (is_at (by_bytes bytes) c.args.key.now || among before bytes)) else among before bytes) =
     subst (λ (own : List ℕ). (bytes : List ℕ) → among after bytes ≡ (if judged.met then (is_at (by_bytes bytes) own || (is_at (by_bytes bytes) c.args.key.now || among before bytes)) else among before bytes)) c.requires.bytes c.in_ok-know_both.ensures in
     IfOk-weaker c.with_shown.result (λ now. (all : List Considered) → Tells c.args.found all → Tells now (record { key = row.key; row = shown_by judged.shown } ∷ all))

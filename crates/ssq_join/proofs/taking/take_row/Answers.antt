@@ -1,4 +1,4 @@
-use Rattle.std.proofs.Common.{◌≡◌, ◌==◌, ◌∷◌, List, false, true, ap, length, not, sym, ◌∙◌}
+use Rattle.std.proofs.Common.{◌∷◌, List, ap, not, sym, ◌∙◌}
 use Rattle.std.specs.List.{list_any}
 use Rattle.std.proofs.lemmas.Result.{IfOk-weaker}
 use Rattle.ssq_value.specs.declared.value.Value.{Value}
@@ -28,8 +28,3 @@ returns-clause-meets c =
     c.states_are_kept.ensures.kept.ascend c.entries_from.ensures.ascend c.in_ok-kept.ensures c.entries_from.ensures.entries c.args.found c.in_ok-between.between now c.args.met.now.keys c.meet.new.met.keys c.meet-2.new.met.keys
     c.in_ok-between.ensures.meets second)
     c.meet-2.ensures.meets
-
-pub meet-requires-clause-own : goal.meet-requires-clause-own
-meet-requires-clause-own c = λ any.
-    let no : true ≡ false = ap (λ (own : List Value). length own == 0) (sym c.new-own.ensures.items) ∙ any in
-    absurd cc
