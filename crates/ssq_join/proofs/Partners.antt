@@ -1,8 +1,10 @@
 -- What is judged of a new row and one of the other side.
 use Rattle.std.proofs.Common.{◌≡◌, ◌++◌, ℕ, [], ◌∷◌, List, Option, Some, None, Bool, true, false, Result, Ok, Err, IfOk, refl, ap, sym, ◌∙◌, subst}
-use Rattle.std.specs.Prelude.{◌&&◌, ◌||◌, IsSomeAnd, not, if◌then◌else◌}
+use Rattle.std.specs.Prelude.{◌&&◌, ◌||◌, All, IsSomeAnd, not, if◌then◌else◌}
 use Rattle.std.specs.BTreeMap.{is_at}
 use Rattle.std.specs.List.{list_any}
+use Rattle.std.proofs.lemmas.List.Elements.{All-append}
+use Rattle.ssq_value.specs.declared.value.Value.{Value}
 use Rattle.ssq_version.specs.State.{by_bytes}
 use Rattle.ssq_shape.specs.declared.bound.Bound.{Bound}
 use Rattle.ssq_shape.specs.declared.bound.Joining.{Joining}
@@ -10,15 +12,21 @@ use Rattle.ssq_shape.specs.Evaluation.{is_null}
 use Rattle.ssq_step.specs.declared.shown.Shown.{Shown}
 use Rattle.ssq_step.specs.Rows.{IsKeptRow, stream_of}
 use Rattle.ssq_meaning.specs.FedRows.{FedRow}
+use Rattle.ssq_meaning.specs.Fit.{IsFit}
 use Rattle.ssq_meaning.specs.Group.{is_same}
 use Rattle.ssq_meaning.specs.Join.{Considered, is_candidate, is_left, is_near, is_partner, join_time, row_key}
 use Rattle.ssq_meaning.specs.JoinLaws.{are_candidates, pair_by}
 use Rattle.ssq_meaning.proofs.Keys.{same_itself}
 use Rattle.ssq_join.specs.declared.judge.Judged.{Judged}
 use Rattle.ssq_join.specs.Judging.{is_met, judged_row, shown_by}
-use Rattle.ssq_join.specs.Meeting.{IsOther, JudgedAs, with_candidate}
+use Rattle.ssq_join.specs.Meeting.{IsOther, JudgedAs, joined, with_candidate}
 use Rattle.ssq_join.specs.Telling.{Meets, Pair, Tells, among, considered_of}
 use Rattle.ssq_join.proofs.Meeting.{meets_more}
+
+-- two rows whose values are fit are joined to one whose values are
+pub joined_fit : (left : Bool) (own other : List Value) → All IsFit own → All IsFit other → All IsFit (joined left own other)
+joined_fit true own other is others = All-append IsFit other own others is
+joined_fit false own other is others = All-append IsFit own other is others
 
 or_false : (b : Bool) → (b || false) ≡ b
 or_false true = refl
@@ -117,9 +125,9 @@ module _ (query : Bound) (joining : Joining) (row other : FedRow) (was : Bool) (
   judged_pair : (left : Bool) → left ≡ is_left other.stream → (judged : Judged) → JudgedAs query joining row left other.values (Some judged)
       → (are_candidates joining row other ≡ true) × (record { key = row.key; row = shown_by judged.shown } ≡ considered_of query joining (row, other)) × (is_partner joining row other ≡ judged.met)
   judged_pair true left judged is_so =
-      from_right query joining other row (faces_from_right (sym left)) is.same judged (ap (λ t. is_near joining.bound t row.time) (time_on_left (sym left)) ∙ is_so.0) is_so.1 is_so.2
+      from_right query joining other row (faces_from_right (sym left)) is.same judged (ap (λ t. is_near joining.bound t row.time) (time_on_left (sym left)) ∙ is_so.0) is_so.1.0 is_so.1.1
   judged_pair false right judged is_so =
-      from_left query joining row other (faces_from_left (sym right)) judged (ap (is_near joining.bound row.time) (time_on_right (sym right)) ∙ is_so.0) is_so.1 is_so.2
+      from_left query joining row other (faces_from_left (sym right)) judged (ap (is_near joining.bound row.time) (time_on_right (sym right)) ∙ is_so.0) is_so.1.0 is_so.1.1
 
   pub none_met : (pairs : List Pair) (found : Shown) (met : List (List ℕ)) → are_candidates joining row other ≡ false → Meets query joining pairs found met → Meets query joining (with_candidate joining row other pairs) found met
   none_met pairs found met far meets = subst (λ b. Meets query joining (if b then (row, other) ∷ pairs else pairs) found met) (sym far) meets

@@ -1,5 +1,5 @@
 -- A new row, and those before it that may be its partners.
-use Rattle.std.specs.Prelude.{◌≡◌, ◌++◌, ◌∷◌, ℕ, ℤ, Bool, true, false, not, if◌then◌else◌, List, map, Option, Some, None}
+use Rattle.std.specs.Prelude.{◌≡◌, ◌++◌, ◌∷◌, ℕ, Bool, true, false, not, if◌then◌else◌, List, map, Option, Some, None}
 use Rattle.std.specs.List.{AllByRecursion, list_any}
 use Rattle.std.specs.List.Sorted.{IsPermutation}
 use Rattle.ssq_version.specs.State.{State, front_with}
@@ -18,16 +18,24 @@ use Rattle.ssq_join.specs.Telling.{Meets, Pair, candidates_of}
 
 -- ---- one pair
 
--- what a left row and a right one come to, by their times and their values: nothing where they do not meet the bound
-abbrev pub JudgedNear : Bound → Joining → (left_time right_time : Option ℤ) → (left right : Values) → Option Judged → Type 0
-JudgedNear query joining left_time right_time left right None = is_near joining.bound left_time right_time ≡ false
-JudgedNear query joining left_time right_time left right (Some judged) =
-    (is_near joining.bound left_time right_time ≡ true) × (judged.met ≡ is_met joining (left ++ right)) × (shown_by judged.shown ≡ judged_row query joining (left ++ right)) × IsPrintable judged.shown
+-- whether a row and the values of one of the side that is said meet the bound
+abbrev pub are_near : Joining → FedRow → (left : Bool) → Values → Bool
+are_near joining row true values = is_near joining.bound (join_time joining.bound 0 values) row.time
+are_near joining row false values = is_near joining.bound row.time (join_time joining.bound 1 values)
 
--- the same of a row and the values of one of the side that is said
+-- a row's own values with those of a row of the side that is said: the left row's, and then the right one's
+abbrev pub joined : (left : Bool) → (own other : Values) → Values
+joined true own other = other ++ own
+joined false own other = own ++ other
+
+-- what a joined row comes to
+abbrev pub IsJudged : Bound → Joining → Values → Judged → Type 0
+IsJudged query joining row judged = (judged.met ≡ is_met joining row) × (shown_by judged.shown ≡ judged_row query joining row) × IsPrintable judged.shown
+
+-- what a row and the values of one of the side that is said come to: nothing where they do not meet the bound
 abbrev pub JudgedAs : Bound → Joining → FedRow → (left : Bool) → Values → Option Judged → Type 0
-JudgedAs query joining row true values judged = JudgedNear query joining (join_time joining.bound 0 values) row.time values row.values judged
-JudgedAs query joining row false values judged = JudgedNear query joining row.time (join_time joining.bound 1 values) row.values values judged
+JudgedAs query joining row left values None = are_near joining row left values ≡ false
+JudgedAs query joining row left values (Some judged) = (are_near joining row left values ≡ true) × IsJudged query joining (joined left row.values values) judged
 
 -- ---- rows that are kept
 

@@ -1,15 +1,15 @@
 //! The bytes under which rows are kept.
 
-ghost use Rattle.std.specs.Prelude.{◌≡◌, ◌∷◌, All, IfOk};
+ghost use Rattle.std.specs.Prelude.{◌≡◌, ◌∷◌, IfOk};
 ghost use Rattle.ssq_value.specs.Key.{keys_of};
 ghost use Rattle.ssq_version.specs.State.{IsShort};
-ghost use Rattle.ssq_meaning.specs.Fit.{IsFit, IsFitRow};
+ghost use Rattle.ssq_meaning.specs.Fit.{IsFitRow};
 ghost use Rattle.ssq_meaning.specs.Join.{met_byte, row_key, row_value, side_byte};
 
 use ssq_field::{Bytes, put_be32, put_be64};
 use ssq_meaning::FedRow;
 use ssq_step::short;
-use ssq_value::{Value, key_bytes};
+use ssq_value::key_bytes;
 use std::alloc::{AllocError, Global};
 
 fn side_byte(left: bool) -> u8
@@ -24,24 +24,22 @@ fn met_byte(met: bool) -> u8
     if met { 1 } else { 0 }
 }
 
-/// What the bytes of each row of a side begin with that has this join key.
-pub(crate) fn prefix_of(alloc: Global, left: bool, key: &[Value]) -> Result<Bytes, AllocError>
-    requires { All IsFit key.now }
-    ensures { IfOk result (λ bytes. bytes ≡ side_byte left ∷ keys_of key.now) }
+/// What the bytes of each row of a side begin with that has the join key with these bytes.
+pub(crate) fn prefix_of(alloc: Global, left: bool, key: &[u8]) -> Result<Bytes, AllocError>
+    ensures { IfOk result (λ bytes. bytes ≡ side_byte left ∷ key.now) }
 {
     let mut bytes = Bytes::from_slice(alloc, &[side_byte(left)])?;
-    let key = key_bytes(alloc, key)?;
-    bytes.extend(key.as_slice())?;
+    bytes.extend(key)?;
     Ok(bytes)
 }
 
-/// The bytes under which a row is kept.
-pub(crate) fn row_key(alloc: Global, row: &FedRow) -> Result<Bytes, AllocError>
-    requires { IsFitRow row.now }
+/// The bytes under which a row is kept, by those of its join key.
+pub(crate) fn row_key(alloc: Global, row: &FedRow, key: &[u8]) -> Result<Bytes, AllocError>
+    requires { key.now ≡ keys_of row.now.key }
     ensures bytes { IfOk result (λ bytes. bytes ≡ row_key row.now) }
     ensures short { IfOk result IsShort }
 {
-    let mut bytes = prefix_of(alloc, row.stream() == 0, row.key())?;
+    let mut bytes = prefix_of(alloc, row.stream() == 0, key)?;
     put_be32(&mut bytes, row.epoch())?;
     put_be32(&mut bytes, row.part())?;
     put_be64(&mut bytes, row.offset())?;

@@ -1,6 +1,6 @@
 //! What is evaluated on joined rows.
 
-ghost use Rattle.std.specs.Prelude.{◌≡◌, ◌++◌, All, IfOk, IfSome};
+ghost use Rattle.std.specs.Prelude.{◌≡◌, All, IfOk, IfSome};
 ghost use Rattle.ssq_time.specs.Time.{IsStampTime};
 ghost use Rattle.ssq_value.specs.Kind.{IfTime};
 ghost use Rattle.ssq_shape.specs.Evaluation.{both, truth_in, truth_value};
@@ -80,35 +80,22 @@ pub(crate) fn show_row(alloc: Global, bound: &Bound, row: &[Value]) -> Result<Sh
     }
 }
 
-/// The left row's values, and then the right one's.
-fn joined(alloc: Global, left: &[Value], right: &[Value]) -> Result<Vec<Value>, AllocError>
-    ensures { IfOk result (λ row. row.items ≡ left.now ++ right.now) }
-{
-    let mut row = Vec::new(alloc);
-    row.extend_with_clones(left)?;
-    row.extend_with_clones(right)?;
-    Ok(row)
-}
-
-/// What a candidate comes to: the rest of ON, where it is TRUE WHERE, and where that is TRUE the items of SELECT.
+/// What a candidate comes to, by its joined row: the rest of ON, where it is TRUE WHERE, and where that is TRUE the items of SELECT.
 pub(crate) fn judge(
     alloc: Global,
     bound: &Bound,
     joining: &Joining,
-    left: &[Value],
-    right: &[Value],
+    row: &[Value],
 ) -> Result<Judged, AllocError>
-    requires left { All IsFit left.now }
-    requires right { All IsFit right.now }
-    ensures met { IfOk result (λ judged. judged.met ≡ is_met joining.now (left.now ++ right.now)) }
-    ensures shown { IfOk result (λ judged. shown_by judged.shown ≡ judged_row bound.now joining.now (left.now ++ right.now)) }
+    requires { All IsFit row.now }
+    ensures met { IfOk result (λ judged. judged.met ≡ is_met joining.now row.now) }
+    ensures shown { IfOk result (λ judged. shown_by judged.shown ≡ judged_row bound.now joining.now row.now) }
     ensures printable { IfOk result (λ judged. IsPrintable judged.shown) }
 {
-    let row = joined(alloc, left, right)?;
-    match all_of(alloc, joining.rest.as_slice(), row.as_slice()) {
+    match all_of(alloc, joining.rest.as_slice(), row) {
         Ok(Some(true)) => Ok(Judged {
             met: true,
-            shown: show_row(alloc, bound, row.as_slice())?,
+            shown: show_row(alloc, bound, row)?,
         }),
         Ok(_) => Ok(Judged {
             met: false,

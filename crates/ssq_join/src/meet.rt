@@ -7,7 +7,7 @@ ghost use Rattle.ssq_meaning.specs.FedRows.{FedRow as Fed};
 ghost use Rattle.ssq_meaning.specs.Fit.{IsFit, IsFitRow};
 ghost use Rattle.ssq_meaning.specs.Join.{row_key};
 ghost use Rattle.ssq_step.specs.Shown.{ArePrintable};
-ghost use Rattle.ssq_join.specs.Meeting.{IsOther, JudgedAs, JudgedNear, MeetsFront, with_candidate};
+ghost use Rattle.ssq_join.specs.Meeting.{IsOther, JudgedAs, MeetsFront, are_near, joined, with_candidate};
 ghost use Rattle.ssq_join.specs.Telling.{Meets, Pair, among};
 
 use crate::found::with_shown;
@@ -26,32 +26,50 @@ use std::collections::BTreeSet;
 #[derive(Clone, Copy)]
 pub(crate) struct Comer<'a> {
     pub(crate) row: &'a FedRow,
+    /// The bytes of its join key.
+    pub(crate) key_bytes: &'a [u8],
     pub(crate) bytes: &'a Bytes,
 }
 
-/// A row as it is judged: its time, where the join has a bound, and its values.
-#[derive(Clone, Copy)]
-struct Half<'a> {
-    time: Option<i64>,
-    values: &'a [Value],
+/// Whether a new row and one of the other side meet the bound.
+fn are_near(joining: &Joining, row: &FedRow, other: &KeptRow) -> bool
+    ensures { result ≡ are_near joining.now row.now other.now.left other.now.values }
+{
+    let values = other.values.as_slice();
+    if other.left {
+        is_near(
+            joining.bound,
+            join_time(joining.bound, 0, values),
+            row.time(),
+        )
+    } else {
+        is_near(
+            joining.bound,
+            row.time(),
+            join_time(joining.bound, 1, values),
+        )
+    }
 }
 
-fn judge_near(
-    alloc: Global,
-    bound: &Bound,
-    joining: &Joining,
-    left: Half<'_>,
-    right: Half<'_>,
-) -> Result<Option<Judged>, AllocError>
-    requires left { All IsFit left.values.now }
-    requires right { All IsFit right.values.now }
-    ensures { IfOk result (JudgedNear bound.now joining.now left.entry.time right.entry.time left.entry.values.now right.entry.values.now) }
+/// A row's own values with those of one of the other side, which are moved: the left row's, and then the right one's.
+fn joined(alloc: Global, own: &[Value], other: KeptRow) -> Result<Vec<Value>, AllocError>
+    ensures { IfOk result (λ row. row.items ≡ joined other.left own.now other.values) }
 {
-    if !is_near(joining.bound, left.time, right.time) {
-        return Ok(None);
+    let KeptRow {
+        left,
+        values,
+        met: _,
+    } = other;
+    let mut values = values.into_vec();
+    if left {
+        values.extend_with_clones(own)?;
+        Ok(values)
+    } else {
+        let mut row = Vec::new(alloc);
+        row.extend_with_clones(own)?;
+        row.append(&mut values)?;
+        Ok(row)
     }
-    let judged = judge(alloc, bound, joining, left.values, right.values)?;
-    Ok(Some(judged))
 }
 
 /// What a new row and one of the other side come to, if they meet the bound.
@@ -60,28 +78,32 @@ fn judge_pair(
     bound: &Bound,
     joining: &Joining,
     row: &FedRow,
-    other: &KeptRow,
+    other: KeptRow,
 ) -> Result<Option<Judged>, AllocError>
     requires row { IsFitRow row.now }
-    requires other { All IsFit other.now.values }
-    ensures { IfOk result (JudgedAs bound.now joining.now row.now other.now.left other.now.values) }
+    requires other { All IsFit other.values }
+    ensures { IfOk result (JudgedAs bound.now joining.now row.now other.left other.values) }
 {
-    let own = Half {
-        time: row.time(),
-        values: row.values(),
-    };
-    let values = other.values.as_slice();
-    if other.left {
-        let time = join_time(joining.bound, 0, values);
-        judge_near(alloc, bound, joining, Half { time, values }, own)
-    } else {
-        let time = join_time(joining.bound, 1, values);
-        judge_near(alloc, bound, joining, own, Half { time, values })
+    if !are_near(joining, row, &other) {
+        return Ok(None);
     }
+    let joined = joined(alloc, row.values(), other)?;
+    let judged = judge(alloc, bound, joining, joined.as_slice())?;
+    Ok(Some(judged))
+}
+
+/// Knows from now on that the row with these bytes met a partner. They are copied where they were not known before.
+fn know(met: &mut BTreeSet<Bytes>, row: &Bytes) -> Result<(), AllocError>
+    ensures { OnOk result ((bytes : List ℕ) → among met.new.keys bytes ≡ (is_at (by_bytes bytes) row.now || among met.old.keys bytes)) }
+{
+    if !met.contains(row) {
+        met.insert(row.clone()?)?;
+    }
+    Ok(())
 }
 
 /// Knows from now on that the rows with these bytes met a partner, where they did.
-fn know(
+fn know_both(
     met: &mut BTreeSet<Bytes>,
     is_partner: bool,
     first: &Bytes,
@@ -91,8 +113,8 @@ fn know(
         (if is_partner then (is_at (by_bytes bytes) first.now || (is_at (by_bytes bytes) second.now || among met.old.keys bytes)) else among met.old.keys bytes)) }
 {
     if is_partner {
-        met.insert(second.clone()?)?;
-        met.insert(first.clone()?)?;
+        know(met, second)?;
+        know(met, first)?;
     }
     Ok(())
 }
@@ -120,7 +142,7 @@ fn meet_row(
     let Some(other) = read else {
         return Ok(found);
     };
-    let judged = judge_pair(alloc, bound, joining, comer.row, &other)?;
+    let judged = judge_pair(alloc, bound, joining, comer.row, other)?;
     let Some(judged) = judged else {
         return Ok(found);
     };
@@ -128,7 +150,7 @@ fn meet_row(
         met: is_partner,
         shown,
     } = judged;
-    know(met, is_partner, comer.bytes, key)?;
+    know_both(met, is_partner, comer.bytes, key)?;
     with_shown(alloc, found, comer.row.key(), shown)
 }
 

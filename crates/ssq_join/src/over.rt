@@ -37,17 +37,21 @@ fn nulls(alloc: Global, bound: &Bound, left: bool) -> Result<Vec<Value>, AllocEr
 }
 
 /// A row by itself, with NULLs in place of the other row.
-fn joined_alone(alloc: Global, bound: &Bound, row: &KeptRow) -> Result<Vec<Value>, AllocError>
-    ensures { IfOk result (λ values. values.items ≡ joined_alone bound.now row.now.left row.now.values) }
+fn joined_alone(alloc: Global, bound: &Bound, row: KeptRow) -> Result<Vec<Value>, AllocError>
+    ensures { IfOk result (λ values. values.items ≡ joined_alone bound.now row.left row.values) }
 {
     let mut others = nulls(alloc, bound, !row.left)?;
-    if row.left {
-        let mut values = Vec::new(alloc);
-        values.extend_with_clones(row.values.as_slice())?;
-        values.append(&mut others)?;
-        Ok(values)
+    let KeptRow {
+        left,
+        values,
+        met: _,
+    } = row;
+    let mut own = values.into_vec();
+    if left {
+        own.append(&mut others)?;
+        Ok(own)
     } else {
-        others.extend_with_clones(row.values.as_slice())?;
+        others.append(&mut own)?;
         Ok(others)
     }
 }
@@ -103,12 +107,12 @@ fn show_alone(
     alloc: Global,
     bound: &Bound,
     own: &[Value],
-    row: &KeptRow,
+    row: KeptRow,
     found: Shown,
 ) -> Result<Shown, AllocError>
-    requires fit { All IsFit row.now.values }
+    requires fit { All IsFit row.values }
     requires printable { ArePrintable found.rows.items }
-    ensures told { (fed : Fed) (met : Bool) (all : List Told) → IsRead fed met row.now → own.now ≡ fed.key → Tells found all →
+    ensures told { (fed : Fed) (met : Bool) (all : List Told) → IsRead fed met row → own.now ≡ fed.key → Tells found all →
         IfOk result (λ now. Tells now (alone_of bound.now fed ∷ all)) }
     ensures printable { IfOk result (λ now. ArePrintable now.rows.items) }
 {
@@ -142,7 +146,7 @@ fn take_over(
     let Some(own) = own else {
         return Ok(found);
     };
-    show_alone(alloc, bound, own.as_slice(), &row, found)
+    show_alone(alloc, bound, own.as_slice(), row, found)
 }
 
 /// Takes in the rows that are over, each by the bytes under which it is kept.

@@ -1,6 +1,7 @@
 //! The rows of an epoch, taken in turn.
 
 ghost use Rattle.std.specs.Prelude.{◌≡◌, ◌++◌, ◌∷◌, [], Bool, List, None, All, IfOk};
+ghost use Rattle.ssq_value.specs.Key.{keys_of};
 ghost use Rattle.ssq_meaning.specs.FedRows.{FedRow as Fed};
 ghost use Rattle.ssq_meaning.specs.Fit.{IsFitRow};
 ghost use Rattle.ssq_meaning.specs.Join.{row_key};
@@ -18,7 +19,7 @@ use ssq_field::Bytes;
 use ssq_meaning::FedRow;
 use ssq_shape::{Bound, Joining};
 use ssq_step::Shown;
-use ssq_value::keys_are_apart;
+use ssq_value::{key_bytes, keys_are_apart};
 use ssq_version::{StateMap, beginnings_stand_together, entries_from, states_are_kept};
 use std::alloc::{AllocError, Global};
 use std::collections::{BTreeMap, BTreeSet};
@@ -45,6 +46,7 @@ fn take_row(
     met: &mut BTreeSet<Bytes>,
 ) -> Result<Shown, AllocError>
     requires row { IsFitRow comer.row.now }
+    requires key { comer.key_bytes.now ≡ keys_of comer.row.now.key }
     requires bytes { comer.bytes.now ≡ row_key comer.row.now }
     requires printable { ArePrintable found.rows.items }
     ensures meets { IfOk result (λ now. MeetsEarlier bound.now joining.now comer.entry.row.now state.now fresh.now.entries found now met.old.keys met.new.keys) }
@@ -56,7 +58,7 @@ fn take_row(
     if has_null(comer.row.key()) {
         return Ok(found);
     }
-    let prefix = prefix_of(alloc, comer.row.stream() != 0, comer.row.key())?;
+    let prefix = prefix_of(alloc, comer.row.stream() != 0, comer.key_bytes)?;
     let kept = state.iter_from(alloc, &prefix)?;
     let between = meet(alloc, bound, joining, comer, &prefix, kept, found, met)?;
     meet(
@@ -100,14 +102,19 @@ fn take_next(
         IfOk result (λ now. AreTaken bound.now joining.now held (rows ++ row.now ∷ []) now.found now.met.keys × AreFresh bound.now joining.now (rows ++ row.now ∷ []) now.fresh.entries) }
     ensures printable { IfOk result (λ now. ArePrintable now.found.rows.items) }
 {
-    let bytes = row_key(alloc, row)?;
+    let key = key_bytes(alloc, row.key())?;
+    let bytes = row_key(alloc, row, key.as_slice())?;
     let value = row_value(alloc, false, row)?;
     let Taken {
         found,
         mut met,
         mut fresh,
     } = taken;
-    let comer = Comer { row, bytes: &bytes };
+    let comer = Comer {
+        row,
+        key_bytes: key.as_slice(),
+        bytes: &bytes,
+    };
     let found = take_row(alloc, bound, joining, state, &fresh, comer, found, &mut met)?;
     fresh.insert(bytes, value)?;
     Ok(Taken { found, met, fresh })

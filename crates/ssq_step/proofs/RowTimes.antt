@@ -1,6 +1,6 @@
 -- The rows of a join by their times, through a change.
 use Rattle.std.proofs.Common.{◌≡◌, ℕ, ℤ, [], ◌∷◌, Some, None, List, Option, Bool, true, false, refl, ap, sym, subst, ◌∙◌}
-use Rattle.std.specs.Prelude.{◌&&◌, if◌then◌else◌, FitsSigned, IfSome, IsSomeAnd, option_map}
+use Rattle.std.specs.Prelude.{◌&&◌, if◌then◌else◌, FitsSigned, IfSome, IsSomeAnd, is_some, option_map}
 use Rattle.std.specs.BTreeMap.{is_at}
 use Rattle.std.specs.Ordering.{int_cmp, is_eq}
 use Rattle.std.specs.Int.{w64}
@@ -9,9 +9,11 @@ use Rattle.ssq_version.specs.State.{Ascends, Change, IsAfter, State, by_bytes, v
 use Rattle.ssq_version.proofs.Values.{IsRest, first_at, is_itself, less_rest, none_behind, one_key, other_way, others_at}
 use Rattle.ssq_shape.specs.declared.bound.Bound.{Bound}
 use Rattle.ssq_shape.specs.declared.bound.Joining.{Joining}
+use Rattle.ssq_shape.specs.declared.bound.TimeBound.{TimeBound}
+use Rattle.ssq_meaning.specs.Join.{join_time, last_time}
 use Rattle.ssq_meaning.specs.Meaning.{Values}
 use Rattle.ssq_step.specs.declared.rows.KeptRow.{KeptRow}
-use Rattle.ssq_step.specs.Rows.{HasTime, HasTimeIf, IndexesRows, IsKeptRow, StandsAt, TurnsAt, end_of}
+use Rattle.ssq_step.specs.Rows.{HasTime, HasTimeIf, IndexesRows, IsKeptRow, StandsAt, TurnsAt, end_of, stream_of}
 use Rattle.ssq_step.specs.Timed.{Timed, by_time, has}
 use Rattle.ssq_step.proofs.Timing.{and_false, and_true, at_time, on_the_way, with_bytes}
 
@@ -245,3 +247,11 @@ row_has_time query joining key value row time own one found each = record {
 -- where there is no such row, it has no time
 pub no_time : (query : Bound) (joining : Joining) (key value : List ℕ) → ((left : Bool) (values : Values) (met : Bool) → IsKeptRow query left values met key value → ⊥) → HasTime query joining key value None
 no_time query joining key value none = record { found = tt; each = λ t is. absurd (none is.left is.values is.met is.row) }
+
+-- where the join has no bound, no row has a time
+pub unbounded : (query : Bound) (joining : Joining) (key value : List ℕ) → is_some joining.bound ≡ false → HasTime query joining key value None
+unbounded query joining key value none = record { found = tt; each = λ t is. absurd (never joining.bound is.left (join_time joining.bound (stream_of is.left) is.values) t none is.time) }
+  where
+    never : (bound : Option TimeBound) (left : Bool) (time : Option ℤ) (t : ℤ) → is_some bound ≡ false → last_time bound left time ≡ Some t → ⊥
+    never None left time t none is = cc
+    never (Some bound) left time t none is = cc

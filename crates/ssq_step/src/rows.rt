@@ -112,7 +112,7 @@ fn end_of(joining: &Joining, row: &KeptRow) -> Option<i64>
 }
 
 /// The time at which the row that is kept under these bytes is over, in microseconds since 1970: where a watermark is at or above it, the row is
-/// kept no more. None where it has none, or is no row.
+/// kept no more. None where it has none, or is no row: without a bound no row is read.
 pub(crate) fn row_time(
     alloc: Global,
     bound: &Bound,
@@ -122,6 +122,9 @@ pub(crate) fn row_time(
 ) -> Result<Option<i64>, AllocError>
     ensures { IfOk result (HasTime bound.now joining.now key.now value.now) }
 {
+    if joining.bound.is_none() {
+        return Ok(None);
+    }
     let found = read_row(alloc, bound, key, value)?;
     match found {
         Some(row) => Ok(end_of(joining, &row)),

@@ -11,12 +11,12 @@ use Rattle.ssq_join.proofs.over.show_alone.Goals as goal
 
 pub show_row-requires : goal.show_row-requires
 show_row-requires c =
-    subst (All IsFit) (sym (c.as_slice.ensures.value ∙ c.in_ok-values.ensures)) (alone_fits c.args.bound.now c.args.row.now.left c.args.row.now.values c.requires.fit)
+    subst (All IsFit) (sym (c.as_slice.ensures.value ∙ c.in_ok-values.ensures)) (alone_fits c.args.bound.now c.args.row.left c.args.row.values c.requires.fit)
 
 pub returns-clause-told : goal.returns-clause-told
 returns-clause-told c fed met all read own tells =
     let query = c.args.bound.now in
-    let row = c.args.row.now in
+    let row = c.args.row in
     let values = c.as_slice.ensures.value ∙ c.in_ok-values.ensures ∙ (λ i. joined_alone query (read.left i) (read.values i)) in
     let is : record { key = c.args.own.now; row = shown_by c.in_ok-shown.shown } ≡ alone_of query fed =
     (λ i. record { key = own i; row = (c.in_ok-shown.ensures.shown ∙ ap (shown query) values) i }) in

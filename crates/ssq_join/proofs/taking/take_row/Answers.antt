@@ -2,7 +2,6 @@ use Rattle.std.proofs.Common.{◌∷◌, List, ap, not, sym, ◌∙◌}
 use Rattle.std.specs.List.{list_any}
 use Rattle.std.proofs.lemmas.Result.{IfOk-weaker}
 use Rattle.ssq_value.specs.declared.value.Value.{Value}
-use Rattle.ssq_value.specs.Key.{keys_of}
 use Rattle.ssq_shape.specs.Evaluation.{is_null}
 use Rattle.ssq_meaning.specs.Join.{is_left, side_byte}
 use Rattle.ssq_join.specs.Meeting.{MeetsFront}
@@ -25,7 +24,7 @@ returns-clause-meets c =
     (λ now second.
     earlier_of c.keys_are_apart.ensures.whatever_follows c.beginnings_stand_together.ensures query joining row
     (ap (λ (key : List Value). list_any is_null key) (sym c.key.ensures) ∙ sym c.has_null.ensures ∙ c.if-has_null.false) c.in_ok-prefix.prefix
-    (c.in_ok-prefix.ensures ∙ (λ i. side_byte (not (is_left (c.stream.ensures i))) ∷ keys_of (c.key-2.ensures i))) c.args.state.now c.args.fresh.now.entries c.in_ok-kept.kept c.entries_from.result
+    (c.in_ok-prefix.ensures ∙ (λ i. side_byte (not (is_left (c.stream.ensures i))) ∷ c.requires.key i)) c.args.state.now c.args.fresh.now.entries c.in_ok-kept.kept c.entries_from.result
     c.states_are_kept.ensures.kept.ascend c.entries_from.ensures.ascend c.in_ok-kept.ensures c.entries_from.ensures.entries c.args.found c.in_ok-between.between now c.args.met.now.keys c.meet.new.met.keys c.meet-2.new.met.keys
     c.in_ok-between.ensures.meets second)
     c.meet-2.ensures.meets

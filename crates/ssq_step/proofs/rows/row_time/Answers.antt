@@ -1,8 +1,11 @@
-use Rattle.std.proofs.Common.{◌≡◌}
+use Rattle.std.proofs.Common.{◌≡◌, ap, not, ◌∙◌}
 use Rattle.ssq_step.specs.declared.rows.KeptRow.{KeptRow}
 use Rattle.ssq_step.specs.Rows.{IsKeptRow}
-use Rattle.ssq_step.proofs.RowTimes.{if_some, no_time, none_and, row_has_time, some_and}
+use Rattle.ssq_step.proofs.RowTimes.{if_some, no_time, none_and, row_has_time, some_and, unbounded}
 use Rattle.ssq_step.proofs.rows.row_time.Goals as goal
+
+pub returns-then-is_none : goal.returns-then-is_none
+returns-then-is_none c = unbounded c.args.bound.now c.args.joining.now c.args.key.now c.args.value.now (c.is_none.ensures ∙ ap not c.if-is_none.true)
 
 pub returns-in-Some : goal.returns-in-Some
 returns-in-Some c =
