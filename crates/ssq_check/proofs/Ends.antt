@@ -2,6 +2,7 @@
 use Rattle.std.proofs.Common.{◌≡◌, ◌∙◌, ap, sym, subst, ℕ, Bool, false, List, [], ◌++◌, map, Option}
 use Rattle.std.specs.List.{flat_map}
 use Rattle.ssq_ast.specs.declared.expr.Ident.{Ident}
+use Rattle.ssq_ast.specs.declared.query.ColumnDecl.{ColumnDecl}
 use Rattle.ssq_ast.specs.declared.query.Deduplicate.{Deduplicate}
 use Rattle.ssq_ast.specs.declared.query.Group.{Group}
 use Rattle.ssq_ast.specs.declared.query.Item.{Item}
@@ -20,12 +21,22 @@ use Rattle.ssq_check.specs.Broken.{Either, Rule}
 use Rattle.ssq_check.specs.Lists.{Where, Each, Doubled, Past, Beyond, item_first, ItemsFaults}
 use Rattle.ssq_check.specs.Names.{is_there, row_scope, group_keys, with_keys}
 use Rattle.ssq_check.specs.Shown.{item_aggregates, having_aggregates, shown_aggregates, group_place_by, group_place, within_by}
-use Rattle.ssq_check.specs.Clauses.{ConditionFaults, HavingFaults, StreamsFaults, JoinedFaults, OnFaults, JoinFaults, ident_name, ident_place, IdentFaults, DeduplicateFaults, GroupItemFaults, group_columns, group_windows, group_first, GroupFaults, OrderFaults}
+use Rattle.ssq_check.specs.Clauses.{ConditionFaults, HavingFaults, WatermarkFaults, decl_name, decl_place, StreamFaults, StreamsFaults, JoinedFaults, OnFaults, JoinFaults, ident_name, ident_place, IdentFaults, DeduplicateFaults, GroupItemFaults, group_columns, group_windows, group_first, GroupFaults, OrderFaults}
 use Rattle.ssq_check.specs.Whole.{DistinctFaults, LimitFaults, StatefulFaults, WordFaults, RowFaults, ShownFaults, OwnFaults, QueryFaults}
 use Rattle.ssq_check.proofs.First.{first_sooner}
 
 pub first_of_two : (P Q : Faults) (a b o : Option BindFault) → o ≡ sooner a b → FirstOf P a → FirstOf Q b → FirstOf (Either P Q) o
 first_of_two P Q a b o is p q = subst (λ (v : Option BindFault). FirstOf (Either P Q) v) (sym is) (first_sooner P Q a b p q)
+
+pub stream_first : (stream : Stream) (xs : List ColumnDecl) (a b c p o : Option BindFault)
+    → xs ≡ stream.columns → p ≡ sooner b c → o ≡ sooner a p
+    → FirstOf (Doubled decl_name decl_place [] xs) a → FirstOf (Beyond (map decl_place xs)) b → FirstOf (Where (WatermarkFaults stream) stream.watermark) c
+    → FirstOf (StreamFaults stream) o
+stream_first stream xs a b c p o xs_is p_is o_is ha hb hc =
+    let Event = Where (WatermarkFaults stream) stream.watermark in
+    subst (λ (v : List ColumnDecl). FirstOf (Either (Doubled decl_name decl_place [] v) (Either (Beyond (map decl_place v)) Event)) o) xs_is
+    (first_of_two (Doubled decl_name decl_place [] xs) (Either (Beyond (map decl_place xs)) Event) a p o o_is ha
+    (first_of_two (Beyond (map decl_place xs)) Event b c p p_is hb hc))
 
 pub join_first : (scope : Scope) (from : List ℕ) (join : Join) (right : Bool) (a b o : Option BindFault)
     → right ≡ is_there scope.right → o ≡ sooner a b

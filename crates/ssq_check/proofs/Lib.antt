@@ -1,4 +1,3 @@
-pub mod Clauses
 pub mod Ends
 pub mod Erased
 pub mod First
@@ -9,5 +8,6 @@ pub mod Lists
 pub mod Nodes
 pub mod OnWay
 pub mod Opened
+pub mod Outputs
 pub mod Places
 pub mod SoundLemmas

@@ -1,22 +1,16 @@
 -- The first fault of a list is found from the left.
-use Rattle.std.proofs.Common.{◌≡◌, inl, inr, refl, ℕ, Bool, true, false, not, List, [], ◌∷◌, Option, Some, None, Result, Ok, Err}
-use Rattle.ssq_ast.specs.declared.query.Item.{Item}
-use Rattle.ssq_ast.specs.declared.query.Item.TheVariants as item
+use Rattle.std.proofs.Common.{◌≡◌, ◌∙◌, inl, inr, refl, sym, ap, subst, ℕ, ◌+◌, ◌<◌, Bool, true, false, not, List, [], ◌∷◌, ◌++◌, length, take, get_or, Option, Some, None, Result, Ok, Err}
+use Rattle.std.specs.List.{flat_map}
+use Rattle.std.proofs.lemmas.List.{take_more, append-nil}
+use Rattle.std.proofs.lemmas.List.Concat.{flat_map-append}
 use Rattle.ssq_value.specs.declared.column.ColType.{ColType}
 use Rattle.ssq_check.specs.declared.fault.Cause.{Cause}
 use Rattle.ssq_check.specs.declared.fault.Cause.TheVariants as cause
 use Rattle.ssq_check.specs.declared.fault.BindFault.{BindFault}
-use Rattle.ssq_check.specs.declared.scope.Scope.{Scope}
-use Rattle.ssq_check.specs.declared.scope.Within.{Within}
 use Rattle.ssq_check.specs.Fault.{Faults, Answers, FirstOf, sooner}
-use Rattle.ssq_check.specs.Scope.{column_kind}
-use Rattle.ssq_check.specs.Broken.{Nothing, Either, Rule, Told, FaultsIn}
-use Rattle.ssq_check.specs.Rules.{kind}
-use Rattle.ssq_check.specs.Checked.{checked}
-use Rattle.ssq_check.specs.Lists.{Each, has_name, with_name, Doubled, doubled_from, fault_if, each_from, fault_in, item_fault, ItemFaults}
+use Rattle.ssq_check.specs.Broken.{Nothing, Either, Rule}
+use Rattle.ssq_check.specs.Lists.{Each, has_name, with_name, names_from, Doubled, fault_in}
 use Rattle.ssq_check.proofs.First.{none_either, first_left, first_sooner}
-use Rattle.ssq_check.proofs.Nodes.{first_rule, no_rule, first_told}
-use Rattle.ssq_check.proofs.Found.{found}
 
 -- the same faults, put otherwise
 pub first_same : (P Q : Faults) (o : Option BindFault) → ((c : Cause) (at : ℕ) → P c at → Q c at) → ((c : Cause) (at : ℕ) → Q c at → P c at) → FirstOf P o → FirstOf Q o
@@ -44,45 +38,100 @@ none_before P o h = first_same (Either Nothing P) P o (λ c at. drop_left c at) 
     drop_left c at (inl never) = absurd never
     drop_left c at (inr p) = p
 
-module _ {A : Type 0} where
-  each_first : (F : A → Faults) (f : A → Option BindFault) → ((x : A) → FirstOf (F x) (f x)) → (P : Faults) (first : Option BindFault) (xs : List A) → FirstOf P first → FirstOf (Either P (Each F xs)) (each_from f first xs)
-  unfolding each_from
-  each_first F f one P first [] h = none_behind P first h
-  each_first F f one P first (x ∷ xs) h =
-      first_same (Either (Either P (F x)) (Each F xs)) (Either P (Either (F x) (Each F xs))) (each_from f (sooner first (f x)) xs) (to_right P (F x) (Each F xs)) (to_left P (F x) (Each F xs))
-      (each_first F f one (Either P (F x)) (sooner first (f x)) xs (first_sooner P (F x) first (f x) h (one x)))
+-- what is known of the names of these: the first that one in front of it has, and which there are
+pub record Noted {A : Type 0} (name : A → List ℕ) (place : A → ℕ) (xs : List A) (first : Option BindFault) (seen : List (List ℕ)) : Type 0 where
+  pub double : FirstOf (Doubled name place [] xs) first
+  pub names : seen ≡ names_from name [] xs
 
-  pub each_is_first : (F : A → Faults) (f : A → Option BindFault) → ((x : A) → FirstOf (F x) (f x)) → (xs : List A) → FirstOf (Each F xs) (each_from f None xs)
-  each_is_first F f one xs = none_before (Each F xs) _ (each_first F f one Nothing None xs (λ c at never. never))
+module _ {A : Type 0} where
+  -- one element more, in front of those that are left
+  pub take_one : (xs : List A) (i : ℕ) (x : A) → i < length xs → x ≡ get_or xs i x → take (i + 1) xs ≡ take i xs ++ x ∷ []
+  take_one xs i x inside is = take_more xs i x inside ∙ (λ j. take i xs ++ sym is j ∷ [])
+
+  each_forth : (F : A → Faults) (xs : List A) (x : A) (c : Cause) (at : ℕ) → Either (Each F xs) (F x) c at → Each F (xs ++ x ∷ []) c at
+  each_forth F [] x c at (inl never) = absurd never
+  each_forth F [] x c at (inr p) = inl p
+  each_forth F (y ∷ ys) x c at (inl (inl p)) = inl p
+  each_forth F (y ∷ ys) x c at (inl (inr p)) = inr (each_forth F ys x c at (inl p))
+  each_forth F (y ∷ ys) x c at (inr p) = inr (each_forth F ys x c at (inr p))
+
+  each_back : (F : A → Faults) (xs : List A) (x : A) (c : Cause) (at : ℕ) → Each F (xs ++ x ∷ []) c at → Either (Each F xs) (F x) c at
+  each_back F [] x c at (inl p) = inr p
+  each_back F [] x c at (inr never) = absurd never
+  each_back F (y ∷ ys) x c at (inl p) = inl (inl p)
+  each_back F (y ∷ ys) x c at (inr p) = to_left (F y) (Each F ys) (F x) c at (inr (each_back F ys x c at p))
+
+  -- one element more
+  pub each_more : (F : A → Faults) (xs ys : List A) (x : A) (first own next : Option BindFault)
+      → ys ≡ xs ++ x ∷ [] → next ≡ sooner first own → FirstOf (Each F xs) first → FirstOf (F x) own → FirstOf (Each F ys) next
+  each_more F xs ys x first own next ys_is next_is before one =
+      subst (λ (got : List A × Option BindFault). FirstOf (Each F got.0) got.1) (λ i. (sym ys_is i, sym next_is i))
+      (first_same (Either (Each F xs) (F x)) (Each F (xs ++ x ∷ [])) (sooner first own) (each_forth F xs x) (each_back F xs x) (first_sooner (Each F xs) (F x) first own before one))
 
   module _ (name : A → List ℕ) (place : A → ℕ) where
-    double_here : (at : ℕ) (there : Bool) → FirstOf (Rule cause.DoubleName at (there ≡ true)) (fault_if (not there) at)
-    double_here at true = first_rule cause.DoubleName at (true ≡ true) refl
-    double_here at false = no_rule cause.DoubleName at (false ≡ true) (λ never. absurd (cc))
+    doubled_forth : (seen : List (List ℕ)) (xs : List A) (x : A) (c : Cause) (at : ℕ)
+        → Either (Doubled name place seen xs) (Rule cause.DoubleName (place x) (has_name (name x) (names_from name seen xs) ≡ true)) c at → Doubled name place seen (xs ++ x ∷ []) c at
+    unfolding Doubled names_from
+    doubled_forth seen [] x c at (inl never) = absurd never
+    doubled_forth seen [] x c at (inr p) = inl p
+    doubled_forth seen (y ∷ ys) x c at (inl (inl p)) = inl p
+    doubled_forth seen (y ∷ ys) x c at (inl (inr p)) = inr (doubled_forth (with_name seen (name y)) ys x c at (inl p))
+    doubled_forth seen (y ∷ ys) x c at (inr p) = inr (doubled_forth (with_name seen (name y)) ys x c at (inr p))
 
-    doubled_first : (P : Faults) (first : Option BindFault) (seen : List (List ℕ)) (xs : List A) → FirstOf P first → FirstOf (Either P (Doubled name place seen xs)) (doubled_from name place first seen xs)
-    unfolding doubled_from Doubled
-    doubled_first P first seen [] h = none_behind P first h
-    doubled_first P first seen (x ∷ xs) h =
-        let Here = Rule cause.DoubleName (place x) (has_name (name x) seen ≡ true) in
-        let Rest = Doubled name place (with_name seen (name x)) xs in
-        first_same (Either (Either P Here) Rest) (Either P (Either Here Rest)) _ (to_right P Here Rest) (to_left P Here Rest)
-        (doubled_first (Either P Here) _ (with_name seen (name x)) xs (first_sooner P Here first _ h (double_here (place x) (has_name (name x) seen))))
+    doubled_back : (seen : List (List ℕ)) (xs : List A) (x : A) (c : Cause) (at : ℕ)
+        → Doubled name place seen (xs ++ x ∷ []) c at → Either (Doubled name place seen xs) (Rule cause.DoubleName (place x) (has_name (name x) (names_from name seen xs) ≡ true)) c at
+    unfolding Doubled names_from
+    doubled_back seen [] x c at (inl p) = inr p
+    doubled_back seen [] x c at (inr never) = absurd never
+    doubled_back seen (y ∷ ys) x c at (inl p) = inl (inl p)
+    doubled_back seen (y ∷ ys) x c at (inr p) =
+        to_left (Rule cause.DoubleName (place y) (has_name (name y) seen ≡ true)) (Doubled name place (with_name seen (name y)) ys) (Rule cause.DoubleName (place x) (has_name (name x) (names_from name seen (y ∷ ys)) ≡ true)) c at
+        (inr (doubled_back (with_name seen (name y)) ys x c at p))
 
-    pub doubled_is_first : (xs : List A) → FirstOf (Doubled name place [] xs) (doubled_from name place None [] xs)
-    doubled_is_first xs = none_before (Doubled name place [] xs) _ (doubled_first Nothing None [] xs (λ c at never. never))
+    names_more : (seen : List (List ℕ)) (xs : List A) (x : A) → names_from name seen (xs ++ x ∷ []) ≡ with_name (names_from name seen xs) (name x)
+    unfolding names_from
+    names_more seen [] x = refl
+    names_more seen (y ∷ ys) x = names_more (with_name seen (name y)) ys x
+
+    -- one name more
+    pub noted_more : (xs ys : List A) (x : A) (own_name : List ℕ) (at : ℕ) (first own next : Option BindFault) (seen more : List (List ℕ))
+        → ys ≡ xs ++ x ∷ [] → own_name ≡ name x → at ≡ place x → next ≡ sooner first own → more ≡ with_name seen own_name
+        → Noted name place xs first seen → FirstOf (Rule cause.DoubleName at (has_name own_name seen ≡ true)) own
+        → Noted name place ys next more
+    noted_more xs ys x own_name at first own next seen more ys_is name_is at_is next_is more_is noted one =
+        let names = names_from name [] xs in
+        let Own = Rule cause.DoubleName (place x) (has_name (name x) names ≡ true) in
+        let own_is : FirstOf Own own =
+        subst (λ (it : ℕ × List ℕ × List (List ℕ)). FirstOf (Rule cause.DoubleName it.0 (has_name it.1 it.2 ≡ true)) own) (λ i. (at_is i, name_is i, noted.names i)) one in
+        record {
+          double =
+              subst (λ (got : List A × Option BindFault). FirstOf (Doubled name place [] got.0) got.1) (λ i. (sym ys_is i, sym next_is i))
+              (first_same (Either (Doubled name place [] xs) Own) (Doubled name place [] (xs ++ x ∷ [])) (sooner first own) (doubled_forth [] xs x) (doubled_back [] xs x)
+              (first_sooner (Doubled name place [] xs) Own first own noted.double own_is));
+          names = more_is ∙ (λ i. with_name (noted.names i) (name_is i)) ∙ sym (names_more [] xs x) ∙ ap (names_from name []) (sym ys_is);
+        }
+
+module _ {A B : Type 0} (f : A → List B) (xs : List A) (x : A) where
+  -- what is told by one element more, or is not
+  pub flat_one : (y : B) → f x ≡ y ∷ [] → flat_map f (xs ++ x ∷ []) ≡ flat_map f xs ++ y ∷ []
+  flat_one y is = flat_map-append f xs (x ∷ []) ∙ (λ i. flat_map f xs ++ (is i ++ []))
+
+  pub flat_none : f x ≡ [] → flat_map f (xs ++ x ∷ []) ≡ flat_map f xs
+  flat_none is = flat_map-append f xs (x ∷ []) ∙ (λ i. flat_map f xs ++ (is i ++ [])) ∙ append-nil (flat_map f xs)
+
+-- a name is new where none has it
+pub double_is : (at : ℕ) (there is_new : Bool) (own : Option BindFault) → is_new ≡ not there → FirstOf (Rule cause.DoubleName at (is_new ≡ false)) own → FirstOf (Rule cause.DoubleName at (there ≡ true)) own
+double_is at there is_new own is h =
+    first_same (Rule cause.DoubleName at (is_new ≡ false)) (Rule cause.DoubleName at (there ≡ true)) own (λ c p r. (r.0, r.1, forth there is r.2)) (λ c p r. (r.0, r.1, back there is r.2)) h
+  where
+    forth : (there : Bool) → is_new ≡ not there → is_new ≡ false → there ≡ true
+    forth true is old = refl
+    forth false is old = absurd (cc)
+
+    back : (there : Bool) → is_new ≡ not there → there ≡ true → is_new ≡ false
+    back true is one = is
+    back false is one = absurd (cc)
 
 pub fault_first : (P : Faults) (v : Option ColType) (r : Result ColType BindFault) → Answers P v r → FirstOf P (fault_in r)
 fault_first P v (Ok k) h = h.1
 fault_first P v (Err f) h = h.1
-
-pub told_first : {A : Type 0} (r : Result A BindFault) → FirstOf (Told r) (fault_in r)
-told_first (Ok a) = λ c at never. never
-told_first (Err f) = first_told f
-
-item_first : (scope : Scope) (w : Within) (x : Item) → FirstOf (ItemFaults scope w x) (item_fault scope w x)
-item_first scope w (item.Column column at named_at) = told_first (column_kind scope w column)
-item_first scope w (item.Named value at label) = fault_first (FaultsIn scope w value) (kind scope w value) (checked scope w value) (found scope w value)
-
-pub each_item_first : (scope : Scope) (w : Within) (items : List Item) → FirstOf (Each (ItemFaults scope w) items) (each_from (item_fault scope w) None items)
-each_item_first scope w items = each_is_first (ItemFaults scope w) (item_fault scope w) (item_first scope w) items

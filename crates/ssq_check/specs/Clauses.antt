@@ -31,7 +31,7 @@ use Rattle.ssq_check.specs.Fault.{Faults}
 use Rattle.ssq_check.specs.Scope.{in_columns, bare_spot, is_window_name}
 use Rattle.ssq_check.specs.Broken.{Either, Rule, Told, FaultsIn}
 use Rattle.ssq_check.specs.Rules.{kind}
-use Rattle.ssq_check.specs.Lists.{Where, Each, Doubled, Past, Beyond, item_name}
+use Rattle.ssq_check.specs.Lists.{Where, Each, Doubled, Past, Beyond, has_name, item_name}
 use Rattle.ssq_check.specs.Names.{is_there, columns_of}
 use Rattle.ssq_check.specs.Joined.{spot_in, conjuncts, ConjunctFaults}
 
@@ -182,6 +182,10 @@ GroupFaults scope by =
     (Beyond (map group_first by.items))))
 
 -- ---- ORDER BY
+
+-- a name that none of these is
+abbrev pub OutputFaults : List (List ℕ) → OrderBy → Faults
+OutputFaults names order = Rule cause.UnknownName order.name.at (has_name order.name.text names ≡ false)
 
 abbrev pub is_output : List Item → List ℕ → Bool
 is_output items name = list_any (λ (x : Item). bytes_eq (item_name x) name) items

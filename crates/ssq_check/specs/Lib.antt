@@ -4,7 +4,6 @@ pub mod Clauses
 pub mod Columns
 pub mod Erased
 pub mod Fault
-pub mod Firsts
 pub mod Joined
 pub mod Keys
 pub mod Lists

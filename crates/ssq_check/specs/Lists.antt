@@ -1,5 +1,5 @@
 -- Lists: what is wrong with their elements, and names that are given twice.
-use Rattle.std.specs.Prelude.{◌≡◌, ℕ, Bool, true, not, if◌then◌else◌, slice_get, List, [], ◌∷◌, ◌++◌, Option, Some, None, Result, Ok, Err}
+use Rattle.std.specs.Prelude.{◌≡◌, ℕ, Bool, true, if◌then◌else◌, slice_get, List, [], ◌∷◌, ◌++◌, Option, Some, None, Result, Ok, Err}
 use Rattle.std.specs.List.{list_any}
 use Rattle.std.specs.Str.{bytes_eq}
 use Rattle.ssq_ast.specs.declared.query.Item.{Item}
@@ -9,10 +9,9 @@ use Rattle.ssq_check.specs.declared.fault.Cause.TheVariants as cause
 use Rattle.ssq_check.specs.declared.fault.BindFault.{BindFault}
 use Rattle.ssq_check.specs.declared.scope.Scope.{Scope}
 use Rattle.ssq_check.specs.declared.scope.Within.{Within}
-use Rattle.ssq_check.specs.Fault.{Faults, sooner}
+use Rattle.ssq_check.specs.Fault.{Faults}
 use Rattle.ssq_check.specs.Scope.{column_kind}
 use Rattle.ssq_check.specs.Broken.{Nothing, Either, Rule, Told, FaultsIn}
-use Rattle.ssq_check.specs.Checked.{checked}
 
 -- what is wrong with a clause, where it stands
 abbrev pub Where : {A : Type 0} → (A → Faults) → Option A → Faults
@@ -35,18 +34,11 @@ unfoldable pub names_from : {A : Type 0} → (A → List ℕ) → List (List ℕ
 names_from name seen [] = seen
 names_from name seen (x ∷ xs) = names_from name (with_name seen (name x)) xs
 
-abbrev pub fault_if : Bool → ℕ → Option BindFault
-fault_if is_new at = if is_new then None else Some (record { at = at; cause = cause.DoubleName })
-
 module _ {A : Type 0} (name : A → List ℕ) (place : A → ℕ) where
   -- a name that one of these names, or of those in front of it, is
   unfoldable pub Doubled : List (List ℕ) → List A → Faults
   Doubled seen [] = Nothing
   Doubled seen (x ∷ xs) = Either (Rule cause.DoubleName (place x) (has_name (name x) seen ≡ true)) (Doubled (with_name seen (name x)) xs)
-
-  unfoldable pub doubled_from : Option BindFault → List (List ℕ) → List A → Option BindFault
-  doubled_from first seen [] = first
-  doubled_from first seen (x ∷ xs) = doubled_from (sooner first (fault_if (not (has_name (name x) seen)) (place x))) (with_name seen (name x)) xs
 
 -- something stands behind the first so many: a rule that is broken by it, where it stands
 abbrev pub Past : Cause → ℕ → List ℕ → Faults
@@ -55,10 +47,6 @@ Past own most places = Where (λ at. Rule own at (Unit {0})) (slice_get places m
 -- a 65th of what stands at these places
 abbrev pub Beyond : List ℕ → Faults
 Beyond places = Past cause.TooMany 64 places
-
-unfoldable pub each_from : {A : Type 0} → (A → Option BindFault) → Option BindFault → List A → Option BindFault
-each_from f first [] = first
-each_from f first (x ∷ xs) = each_from f (sooner first (f x)) xs
 
 -- the name of an output, and where it is written
 abbrev pub item_name : Item → List ℕ
@@ -77,10 +65,6 @@ item_place (item.Named value at label) = label.at
 abbrev pub fault_in : {A : Type 0} → Result A BindFault → Option BindFault
 fault_in (Ok kind) = None
 fault_in (Err f) = Some f
-
-abbrev pub item_fault : Scope → Within → Item → Option BindFault
-item_fault scope w (item.Column column at named_at) = fault_in (column_kind scope w column)
-item_fault scope w (item.Named value at label) = fault_in (checked scope w value)
 
 abbrev pub ItemFaults : Scope → Within → Item → Faults
 ItemFaults scope w (item.Column column at named_at) = Told (column_kind scope w column)

@@ -1,16 +1,16 @@
 //! The clauses of a query: the first of the rules that each of them breaks.
 
-ghost use Rattle.std.specs.Prelude.{◌≡◌, ◌++◌, ◌*ℤ◌, pos, int_lt, None, [], IfOk, OnOk};
+ghost use Rattle.std.specs.Prelude.{◌≡◌, ◌++◌, ◌*ℤ◌, pos, int_lt, [], IfOk, OnOk};
 ghost use Rattle.std.specs.List.{flat_map};
 ghost use Rattle.ssq_check.specs.Fault.{FirstOf};
-ghost use Rattle.ssq_check.specs.Lists.{Each, Where, has_name, names_from, each_from, item_name};
+ghost use Rattle.ssq_check.specs.Lists.{Each, Where, has_name, names_from, item_name};
 ghost use Rattle.ssq_check.specs.Rules.{type_of};
 ghost use Rattle.ssq_check.specs.Clauses as clause;
-ghost use Rattle.ssq_check.specs.Clauses.{ConditionFaults, HavingFaults, JoinedFaults, JoinFaults, IdentFaults, DeduplicateFaults, GroupItemFaults, GroupFaults, OrderFaults, group_windows, slide_of};
-ghost use Rattle.ssq_check.specs.Firsts.{ident_fault, size_fault, window_fault, group_fault, order_fault};
+ghost use Rattle.ssq_check.specs.Clauses.{ConditionFaults, HavingFaults, JoinedFaults, JoinFaults, IdentFaults, DeduplicateFaults, SizeFaults, WindowFaults, GroupFaults, OrderFaults, group_windows, slide_of};
 ghost use Rattle.ssq_check.specs.Scope.{is_window_name};
 ghost use Rattle.ssq_check.specs.declared.scope.Within.TheVariants as within;
 
+use crate::each::{Checked, first_in};
 use crate::expr::check_expr;
 use crate::fault::{BindFault, Cause, fault_in, rule, sooner, unless};
 use crate::joined::{check_on, spot_in};
@@ -111,27 +111,19 @@ pub(crate) fn check_join(scope: &Scope, from: &str, join: &Option<Join>) -> Opti
 }
 
 fn ident_fault(scope: &Scope, ident: &Ident) -> Option<BindFault>
-    ensures { result ≡ ident_fault scope.now ident.now }
+    ensures { FirstOf (IdentFaults scope.now ident.now) result }
 {
     fault_in(bare_spot(scope, ident))
 }
 
-#[tactic(auto, unfolding(crate::specs::Lists::each_from))]
-fn first_of_idents(scope: &Scope, idents: &[Ident]) -> Option<BindFault>
-    ensures { result ≡ each_from (ident_fault scope.now) None idents.now }
-{
-    let mut first = None;
-    for ident in idents {
-        first = sooner(first, ident_fault(scope, ident));
-    }
-    first
-}
+impl Checked<Scope> for Ident {
+    ghost use Rattle.ssq_check.specs.Clauses.{IdentFaults};
 
-#[tactic(auto, using(crate::proofs::Clauses::idents_first))]
-fn check_idents(scope: &Scope, idents: &[Ident]) -> Option<BindFault>
-    ensures { FirstOf (Each (IdentFaults scope.now) idents.now) result }
-{
-    first_of_idents(scope, idents)
+    ghost faults = { IdentFaults };
+
+    fn first_fault(&self, _alloc: Global, scope: &Scope) -> Result<Option<BindFault>, AllocError> {
+        Ok(ident_fault(scope, self))
+    }
 }
 
 #[tactic(auto, using(crate::proofs::First::first_sooner))]
@@ -143,8 +135,8 @@ fn check_columns(
     ensures { IfOk result (FirstOf (DeduplicateFaults scope.now deduplicate.now)) }
 {
     let columns = deduplicate.columns.as_slice();
+    let known = first_in(alloc, scope, columns)?;
     let doubled = first_double(alloc, columns)?;
-    let known = check_idents(scope, columns);
     Ok(sooner(known, sooner(doubled, beyond(columns))))
 }
 
@@ -184,6 +176,13 @@ pub fn slide_of(window: &Window) -> i64
     }
 }
 
+/// Whether windows are further apart than their size.
+fn are_apart(size: i64, slide: i64) -> bool
+    ensures { result ≡ int_lt size slide }
+{
+    size < slide
+}
+
 /// Whether more than 64 windows hold one time.
 fn are_many(size: i64, slide: i64) -> bool
     ensures { result ≡ int_lt (pos 64 *ℤ slide) size }
@@ -191,11 +190,13 @@ fn are_many(size: i64, slide: i64) -> bool
     64 * i128::from(slide) < i128::from(size)
 }
 
-fn size_fault(at: usize, size: i64, slide: i64) -> Option<BindFault>
-    ensures { result ≡ size_fault at size slide }
+fn size_fault(window: &Window) -> Option<BindFault>
+    ensures { FirstOf (SizeFaults window.now.at window.now.size.micros (slide_of window.now)) result }
 {
-    let apart = rule(Cause::BadWindow, at, size < slide);
-    let many = rule(Cause::TooMany, at, are_many(size, slide));
+    let size = window.size.micros;
+    let slide = slide_of(window);
+    let apart = rule(Cause::BadWindow, window.at, are_apart(size, slide));
+    let many = rule(Cause::TooMany, window.at, are_many(size, slide));
     sooner(apart, many)
 }
 
@@ -223,7 +224,7 @@ fn has_window_columns(scope: &Scope) -> bool
 }
 
 fn window_fault(scope: &Scope, window: &Window) -> Option<BindFault>
-    ensures { result ≡ window_fault scope.now window.now }
+    ensures { FirstOf (WindowFaults scope.now window.now) result }
 {
     let spot = bare_spot(scope, &window.column);
     let known = fault_in(spot);
@@ -232,36 +233,22 @@ fn window_fault(scope: &Scope, window: &Window) -> Option<BindFault>
         window.column.at,
         is_no_time(spot_in(spot)),
     );
-    let size = size_fault(window.at, window.size.micros, slide_of(window));
+    let size = size_fault(window);
     let named = rule(Cause::DoubleName, window.at, has_window_columns(scope));
     sooner(known, sooner(typed, sooner(size, named)))
 }
 
-fn group_fault(scope: &Scope, item: &Group) -> Option<BindFault>
-    ensures { result ≡ group_fault scope.now item.now }
-{
-    match item {
-        Group::Column(ident) => ident_fault(scope, ident),
-        Group::Window(window) => window_fault(scope, window),
-    }
-}
+impl Checked<Scope> for Group {
+    ghost use Rattle.ssq_check.specs.Clauses.{GroupItemFaults};
 
-#[tactic(auto, unfolding(crate::specs::Lists::each_from))]
-fn first_of_groups(scope: &Scope, items: &[Group]) -> Option<BindFault>
-    ensures { result ≡ each_from (group_fault scope.now) None items.now }
-{
-    let mut first = None;
-    for item in items {
-        first = sooner(first, group_fault(scope, item));
-    }
-    first
-}
+    ghost faults = { GroupItemFaults };
 
-#[tactic(auto, using(crate::proofs::Clauses::groups_first))]
-fn check_group_items(scope: &Scope, items: &[Group]) -> Option<BindFault>
-    ensures { FirstOf (Each (GroupItemFaults scope.now) items.now) result }
-{
-    first_of_groups(scope, items)
+    fn first_fault(&self, _alloc: Global, scope: &Scope) -> Result<Option<BindFault>, AllocError> {
+        match self {
+            Group::Column(ident) => Ok(ident_fault(scope, ident)),
+            Group::Window(window) => Ok(window_fault(scope, window)),
+        }
+    }
 }
 
 fn add_window(item: &Group, places: &mut Sequence<usize>) -> Result<(), AllocError>
@@ -288,10 +275,10 @@ fn check_groups(alloc: Global, scope: &Scope, by: &GroupBy) -> Result<Option<Bin
     ensures { IfOk result (FirstOf (GroupFaults scope.now by.now)) }
 {
     let items = by.items.as_slice();
+    let each = first_in(alloc, scope, items)?;
     let doubled = first_double_column(alloc, items)?;
     let windows = window_places(alloc, items)?;
     let second = past_places(Cause::BadWindow, 1, windows.as_slice());
-    let each = check_group_items(scope, items);
     Ok(sooner(each, sooner(doubled, sooner(second, beyond(items)))))
 }
 
@@ -327,22 +314,19 @@ fn is_output(names: &IndexSet<Text>, name: &Text) -> bool
     names.contains(name)
 }
 
-fn order_fault(names: &IndexSet<Text>, order: &OrderBy) -> Option<BindFault>
-    ensures { result ≡ order_fault names.now.keys order.now }
-{
-    let is_output = is_output(names, &order.name.text);
-    unless(Cause::UnknownName, order.name.at, is_output)
-}
+impl Checked<IndexSet<Text>> for OrderBy {
+    ghost use Rattle.ssq_check.specs.Clauses.{OutputFaults};
 
-#[tactic(auto, unfolding(crate::specs::Lists::each_from))]
-fn first_of_orders(names: &IndexSet<Text>, orders: &[OrderBy]) -> Option<BindFault>
-    ensures { result ≡ each_from (order_fault names.now.keys) None orders.now }
-{
-    let mut first = None;
-    for order in orders {
-        first = sooner(first, order_fault(names, order));
+    ghost faults = { λ names order. OutputFaults names.keys order };
+
+    fn first_fault(
+        &self,
+        _alloc: Global,
+        names: &IndexSet<Text>,
+    ) -> Result<Option<BindFault>, AllocError> {
+        let is_output = is_output(names, &self.name.text);
+        Ok(unless(Cause::UnknownName, self.name.at, is_output))
     }
-    first
 }
 
 /// ORDER BY.
@@ -354,6 +338,5 @@ pub(crate) fn check_order(
     ensures { IfOk result (FirstOf (Each (OrderFaults items.now) orders.now)) }
 {
     let names = output_names(alloc, items)?;
-    let first = first_of_orders(&names, orders);
-    Ok(first)
+    first_in(alloc, &names, orders)
 }

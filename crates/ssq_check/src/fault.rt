@@ -1,9 +1,8 @@
 //! Faults of a query, and which of two comes first.
 
-ghost use Rattle.std.specs.Prelude.{◌≡◌, true, false, not};
+ghost use Rattle.std.specs.Prelude.{◌≡◌, true, false};
 ghost use Rattle.ssq_check.specs.Fault.{rank, precedes, earlier, sooner, both, FirstOf};
-ghost use Rattle.ssq_check.specs.Broken.{Rule};
-ghost use Rattle.ssq_check.specs.Firsts.{rule_fault};
+ghost use Rattle.ssq_check.specs.Broken.{Rule, Told};
 ghost use Rattle.ssq_check.specs.Lists.{fault_in};
 
 use thiserror::Error;
@@ -88,8 +87,7 @@ pub(crate) fn sooner(left: Option<BindFault>, right: Option<BindFault>) -> Optio
 /// A rule, and whether it is broken.
 #[tactic(auto, using(crate::proofs::Nodes::first_rule, crate::proofs::Nodes::no_rule))]
 pub(crate) fn rule(cause: Cause, at: usize, is_broken: bool) -> Option<BindFault>
-    ensures first { FirstOf (Rule cause at (is_broken ≡ true)) result }
-    ensures is { result ≡ rule_fault cause at is_broken }
+    ensures { FirstOf (Rule cause at (is_broken ≡ true)) result }
 {
     if is_broken {
         Some(BindFault { at, cause })
@@ -101,8 +99,7 @@ pub(crate) fn rule(cause: Cause, at: usize, is_broken: bool) -> Option<BindFault
 /// A rule, and whether what it asks for holds.
 #[tactic(auto, using(crate::proofs::Nodes::first_rule, crate::proofs::Nodes::no_rule))]
 pub(crate) fn unless(cause: Cause, at: usize, holds: bool) -> Option<BindFault>
-    ensures first { FirstOf (Rule cause at (holds ≡ false)) result }
-    ensures is { result ≡ rule_fault cause at (not holds) }
+    ensures { FirstOf (Rule cause at (holds ≡ false)) result }
 {
     if holds {
         None
@@ -112,8 +109,10 @@ pub(crate) fn unless(cause: Cause, at: usize, holds: bool) -> Option<BindFault>
 }
 
 /// What is wrong with what was looked up or typed.
+#[tactic(auto, using(crate::proofs::Nodes::first_told))]
 pub(crate) fn fault_in<A: Copy>(found: Result<A, BindFault>) -> Option<BindFault>
-    ensures { result ≡ fault_in found }
+    ensures first { FirstOf (Told found) result }
+    ensures is { result ≡ fault_in found }
 {
     match found {
         Ok(_) => None,

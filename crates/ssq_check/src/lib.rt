@@ -9,6 +9,7 @@
 
 mod clause;
 mod columns;
+mod each;
 mod expr;
 mod fault;
 mod item;

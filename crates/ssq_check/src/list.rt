@@ -1,15 +1,14 @@
 //! Lists of a query: names that are given twice, and what stands beyond a limit.
 
-ghost use Rattle.std.specs.Prelude.{◌≡◌, ℕ, None, [], map, not, slice_get, IfOk, OnOk};
+ghost use Rattle.std.specs.Prelude.{◌≡◌, ℕ, true, [], map, not, slice_get, IfOk, OnOk};
 ghost use Rattle.std.specs.List.{flat_map};
-ghost use Rattle.ssq_check.specs.Fault.{sooner, FirstOf};
+ghost use Rattle.ssq_check.specs.Fault.{FirstOf};
 ghost use Rattle.ssq_check.specs.Broken.{Rule};
 ghost use Rattle.ssq_check.specs.declared.fault.Cause.TheVariants as cause;
-ghost use Rattle.ssq_check.specs.Firsts.{fault_at, past_fault};
-ghost use Rattle.ssq_check.specs.Lists.{has_name, with_name, doubled_from, fault_if, item_name, Where, Doubled, Past, Beyond};
+ghost use Rattle.ssq_check.specs.Lists.{has_name, with_name, item_name, Where, Doubled, Past, Beyond};
 ghost use Rattle.ssq_check.specs.Clauses.{ident_name, ident_place, group_columns};
 
-use crate::fault::{BindFault, Cause, sooner};
+use crate::fault::{BindFault, Cause, sooner, unless};
 use indexmap::IndexSet;
 use ssq_ast::{ColumnDecl, Group, Ident, Item, Stream};
 use ssq_value::Text;
@@ -131,8 +130,6 @@ impl Named for Stream {
 }
 
 impl Placed for Item {
-    ghost use Rattle.ssq_check.specs.declared.fault.Cause.TheVariants as cause;
-    ghost use Rattle.ssq_check.specs.Firsts.{fault_at, past_fault};
     ghost use Rattle.ssq_check.specs.Lists.{item_first};
 
     ghost place = { item_first };
@@ -146,8 +143,6 @@ impl Placed for Item {
 }
 
 impl Named for Item {
-    ghost use Rattle.ssq_check.specs.declared.fault.Cause.TheVariants as cause;
-    ghost use Rattle.ssq_check.specs.Firsts.{fault_at, past_fault};
     ghost use Rattle.ssq_check.specs.Lists.{item_name, item_place};
 
     ghost name = { item_name };
@@ -179,19 +174,6 @@ impl Placed for Group {
     }
 }
 
-fn fault_if(is_new: bool, at: usize) -> Option<BindFault>
-    ensures { result ≡ fault_if is_new at }
-{
-    if is_new {
-        None
-    } else {
-        Some(BindFault {
-            at,
-            cause: Cause::DoubleName,
-        })
-    }
-}
-
 /// Notes a name, and tells whether it is new.
 pub(crate) fn note(alloc: Global, seen: &mut IndexSet<Text>, name: &str) -> Result<bool, AllocError>
     ensures is_new { IfOk result (λ is_new. is_new ≡ not (has_name name.now seen.old.keys)) }
@@ -202,55 +184,40 @@ pub(crate) fn note(alloc: Global, seen: &mut IndexSet<Text>, name: &str) -> Resu
     Ok(is_new)
 }
 
-#[tactic(auto, unfolding(crate::specs::Lists::doubled_from))]
-pub(crate) fn first_double_of<N: Named>(
+/// Notes a name, which is a fault where it is noted already.
+fn doubled(
     alloc: Global,
-    items: &[N],
+    seen: &mut IndexSet<Text>,
+    name: &str,
+    at: usize,
 ) -> Result<Option<BindFault>, AllocError>
-    ensures { IfOk result (λ first. first ≡ doubled_from N.name N.named_at None [] items.now) }
+    ensures first { IfOk result (FirstOf
+        (Rule cause.DoubleName at (has_name name.now seen.old.keys ≡ true))) }
+    ensures seen { OnOk result (seen.new.keys ≡ with_name seen.old.keys name.now) }
 {
-    let mut seen: IndexSet<Text> = IndexSet::new(alloc);
-    let mut first = None;
-    for item in items {
-        let is_new = note(alloc, &mut seen, item.name())?;
-        first = sooner(first, fault_if(is_new, item.named_at()));
-    }
-    Ok(first)
+    let is_new = note(alloc, seen, name)?;
+    Ok(unless(Cause::DoubleName, at, is_new))
 }
 
 /// The first of the names that one in front of it has.
-#[tactic(auto, using(crate::proofs::Lists::doubled_is_first))]
+#[tactic(auto, unfolding(crate::specs::Lists::Doubled, crate::specs::Lists::names_from))]
 pub(crate) fn first_double<N: Named>(
     alloc: Global,
     items: &[N],
 ) -> Result<Option<BindFault>, AllocError>
     ensures { IfOk result (FirstOf (Doubled N.name N.named_at [] items.now)) }
 {
-    let first = first_double_of(alloc, items)?;
-    Ok(first)
-}
-
-#[tactic(auto, unfolding(crate::specs::Lists::doubled_from))]
-fn first_double_column_of(alloc: Global, items: &[Group]) -> Result<Option<BindFault>, AllocError>
-    ensures { IfOk result (λ first. first
-        ≡ doubled_from ident_name ident_place None [] (flat_map group_columns items.now)) }
-{
     let mut seen: IndexSet<Text> = IndexSet::new(alloc);
     let mut first = None;
     for item in items {
-        match item {
-            Group::Column(ident) => {
-                let is_new = note(alloc, &mut seen, ident.text.as_str())?;
-                first = sooner(first, fault_if(is_new, ident.at));
-            }
-            Group::Window(_) => {}
-        }
+        let own = doubled(alloc, &mut seen, item.name(), item.named_at())?;
+        first = sooner(first, own);
     }
     Ok(first)
 }
 
 /// The first column of GROUP BY that stands there for a second time.
-#[tactic(auto, using(crate::proofs::Lists::doubled_is_first))]
+#[tactic(auto, unfolding(crate::specs::Lists::Doubled, crate::specs::Lists::names_from))]
 pub(crate) fn first_double_column(
     alloc: Global,
     items: &[Group],
@@ -258,17 +225,18 @@ pub(crate) fn first_double_column(
     ensures { IfOk result (FirstOf
         (Doubled ident_name ident_place [] (flat_map group_columns items.now))) }
 {
-    let first = first_double_column_of(alloc, items)?;
-    Ok(first)
-}
-
-fn fault_at(cause: Cause, at: Option<usize>) -> Option<BindFault>
-    ensures { result ≡ fault_at cause at }
-{
-    match at {
-        Some(at) => Some(BindFault { at, cause }),
-        None => None,
+    let mut seen: IndexSet<Text> = IndexSet::new(alloc);
+    let mut first = None;
+    for item in items {
+        match item {
+            Group::Column(ident) => {
+                let own = doubled(alloc, &mut seen, ident.text.as_str(), ident.at)?;
+                first = sooner(first, own);
+            }
+            Group::Window(_) => {}
+        }
     }
+    Ok(first)
 }
 
 /// A rule that is broken by what stands at a place, where something stands there.
@@ -312,12 +280,6 @@ pub(crate) fn past<P: Placed>(cause: Cause, most: usize, items: &[P]) -> Option<
     ensures { FirstOf (Past cause most (map P.place items.now)) result }
 {
     standing(cause, place_of(items, most))
-}
-
-pub(crate) fn beyond_fault<P: Placed>(items: &[P]) -> Option<BindFault>
-    ensures { result ≡ past_fault cause.TooMany 64 (map P.place items.now) }
-{
-    fault_at(Cause::TooMany, place_of(items, 64))
 }
 
 /// A 65th of a list.
