@@ -1,20 +1,20 @@
 -- Rows are read line by line, and counted.
-use Rattle.std.proofs.Common.{◌≡◌, ◌≤◌, ◌<◌, ◌^◌, ◌*◌, ◌≤ℤ◌, neg_ℤ, ℕ, suc, ◌+◌, ◌+ℤ◌, ℤ, pos, Bool, true, false, true≢false, ◌==◌, List, [], ◌∷◌, ◌++◌, length, map, get_or, to_z, of_z, refl, sym, ap, ap₂, subst, ◌∙◌, append_assoc, append-nil, arith}
+use Rattle.std.proofs.Common.{◌≡◌, ◌≤◌, ◌<◌, ◌^◌, ◌*◌, ◌≤ℤ◌, neg_ℤ, ℕ, suc, ◌+◌, ◌+ℤ◌, ℤ, pos, Bool, true, false, true≢false, ◌==◌, List, [], ◌∷◌, ◌++◌, length, get_or, to_z, of_z, refl, sym, ap, ap₂, subst, ◌∙◌, append_assoc, append-nil, arith}
 use Rattle.std.specs.Int.{w64, w128}
 use Rattle.std.specs.List.{All}
 use Rattle.std.specs.Prelude.{FitsSigned}
 use Rattle.std.proofs.lemmas.Int.{ints, to_z-of_z}
 use Rattle.std.proofs.lemmas.Bool.Decides.{nat_tests}
-use Rattle.std.proofs.lemmas.List.{length-append, length-map}
+use Rattle.std.proofs.lemmas.List.{length-append}
 use Rattle.std.proofs.lemmas.List.Elements.{All-head, All-nil, All-push, All-tail}
 use Rattle.std.proofs.lemmas.List.Sums.{fold-append}
 use Rattle.ssq_value.specs.declared.column.ColType.{ColType}
 use Rattle.ssq_value.specs.declared.value.Value.{Value}
 use Rattle.ssq_value.specs.declared.value.Value.TheVariants.{Null}
-use Rattle.ssq_json.specs.RowText.{heads_from, heads_of, row_text}
+use Rattle.ssq_json.specs.RowText.{heads_of, row_text}
 use Rattle.ssq_json.specs.Stored.{AreRows, AreStoredIn, line_of, lines_of}
+use Rattle.ssq_sink.proofs.Rereading.{lines-append}
 use Rattle.ssq_gen.specs.declared.counts.Counts.{Counts}
-use Rattle.ssq_shape.specs.declared.bound.Output.{Output}
 use Rattle.ssq_gen.specs.Counts.{AreCountsOf, AreWithin, IsRows, IsWithin, number_in, sum_of}
 
 -- of these rows some are counted, and what is left is the lines of the others
@@ -44,10 +44,6 @@ AreReadOf heads kinds bytes left = (names : List (List ℕ)) → heads ≡ heads
 
 pub none_read : (names : List (List ℕ)) (kinds : List ColType) (bytes : List ℕ) → IsReadOf names kinds bytes bytes
 none_read names kinds bytes = record { rows = []; stored = All-nil (AreStoredIn kinds); text = refl }
-
-lines-append : (names : List (List ℕ)) (xs ys : List (List Value)) → lines_of names (xs ++ ys) ≡ lines_of names xs ++ lines_of names ys
-lines-append names [] ys = refl
-lines-append names (x ∷ xs) ys = ap (λ l. line_of names x ++ l) (lines-append names xs ys) ∙ sym (append_assoc (line_of names x) (lines_of names xs) (lines_of names ys))
 
 -- and one more
 pub one_read : (names : List (List ℕ)) (kinds : List ColType) (bytes left after : List ℕ) (row : List Value) → left ≡ line_of names row ++ after → AreStoredIn kinds row → IsReadOf names kinds bytes left → IsReadOf names kinds bytes after
@@ -158,13 +154,3 @@ counts_more own row old new third fourth rows is count of sum count_fits sum_fit
   count_fits = count_fits;
   sum_fits = sum_fits;
 }
-
-heads_length : (later : Bool) (names : List (List ℕ)) → length (heads_from later names) ≡ length names
-unfolding heads_from
-heads_length later [] = refl
-heads_length later (name ∷ names) = ap (λ n. suc n) (heads_length true names)
-
--- as many heads as types
-pub columns_same : (outputs : List Output) (heads : List (List ℕ)) (kinds : List ColType) → heads ≡ heads_of (map (λ output. output.name) outputs) → kinds ≡ map (λ output. output.kind) outputs → length heads ≡ length kinds
-columns_same outputs heads kinds one two =
-    ap length one ∙ heads_length false (map (λ output. output.name) outputs) ∙ length-map outputs (λ output. output.name) ∙ sym (length-map outputs (λ output. output.kind)) ∙ ap length (sym two)

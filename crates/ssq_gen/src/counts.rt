@@ -10,6 +10,7 @@ ghost use Rattle.ssq_gen.specs.Counts.{AreCountsOf, AreWithin, IsCause, IsRows, 
 use crate::fault::CountsFault;
 use ssq_json::{Heads, take_line};
 use ssq_shape::Output;
+use ssq_sink::Columns;
 use ssq_value::{ColType, Value};
 use std::alloc::{AllocError, Global};
 
@@ -98,37 +99,14 @@ fn count_lines(
     Ok(counts)
 }
 
-/// The heads of the columns of SELECT.
-fn output_heads(alloc: Global, outputs: &[Output]) -> Result<Heads, AllocError>
-    ensures { IfOk result (λ heads. heads ≡ heads_of (map (λ output. output.name) outputs.now)) }
-{
-    let mut heads = Heads::none(alloc);
-    for output in outputs {
-        heads.push(&output.name)?;
-    }
-    Ok(heads)
-}
-
-/// Their types.
-fn output_kinds(alloc: Global, outputs: &[Output]) -> Result<Vec<ColType>, AllocError>
-    ensures { IfOk result (λ kinds. kinds.items ≡ map (λ output. output.kind) outputs.now) }
-{
-    let mut kinds = Vec::with_capacity(alloc, outputs.len())?;
-    for output in outputs {
-        kinds.push(output.kind)?;
-    }
-    Ok(kinds)
-}
-
 /// Counts the rows that a table is, one line each, of these columns of SELECT.
 fn count_rows(alloc: Global, outputs: &[Output], table: &[u8]) -> Result<Counts, CountsFault>
     ensures each { (rows : List (List Cell)) → AreRows (map (λ output. output.name) outputs.now) (map (λ output. output.kind) outputs.now) table.now rows → IfOk result (AreCountsOf rows) }
     ensures rows { IfOk result (λ counts. IsRows (map (λ output. output.name) outputs.now) (map (λ output. output.kind) outputs.now) table.now) }
     ensures cause { IfErr result (IsCause (map (λ output. output.name) outputs.now) (map (λ output. output.kind) outputs.now) table.now) }
 {
-    let heads = output_heads(alloc, outputs)?;
-    let kinds = output_kinds(alloc, outputs)?;
-    count_lines(alloc, &heads, kinds.as_slice(), table)
+    let columns = Columns::new(alloc, outputs)?;
+    count_lines(alloc, &columns.heads, columns.kinds.as_slice(), table)
 }
 
 /// Tells how many lines and epochs there are, and what came of them: how many rows the table has, and two sums over them.

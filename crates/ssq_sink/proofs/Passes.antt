@@ -1,7 +1,6 @@
 -- The sink files are gone through, one after the other.
 use Rattle.std.proofs.Common.{◌≡◌, ℕ, zero, suc, ◌+◌, ◌<◌, ◌≤◌, max, ◌^◌, List, [], ◌∷◌, ◌++◌, length, take, get_or, Some, None, is_some, true≢false, refl, sym, ap, ◌∙◌, subst, append_assoc, append-nil, arith, inl, inr, ◌⊎◌, IsUtf8}
 use Rattle.std.specs.Prelude.{slice_get, Contains, unwrap_or}
-use Rattle.std.proofs.lemmas.List.{length_push}
 use Rattle.std.proofs.lemmas.List.Elements.{Contains-append_left, Contains-push, Contains-push_cases}
 use Rattle.std.proofs.lemmas.Bool.{cases_lt}
 use Rattle.std.proofs.lemmas.Str.{IsUtf8-nil}
@@ -10,17 +9,17 @@ use Rattle.ssq_outside.specs.declared.name.Name.TheVariants as name
 use Rattle.ssq_outside.specs.Files.{Files, AreNames}
 use Rattle.ssq_outside.specs.History.{History, files_now}
 use Rattle.ssq_shape.specs.declared.bound.Bound.{Bound}
+use Rattle.ssq_shape.specs.declared.bound.Output.{Output}
 use Rattle.ssq_shape.specs.Plain.{output_names}
-use Rattle.ssq_json.specs.Stored.{lines_of}
+use Rattle.ssq_json.specs.Stored.{AreRows, lines_of}
 use Rattle.ssq_meaning.specs.Meaning.{Values}
 use Rattle.ssq_sink.specs.declared.fault.SinkFault.{SinkFault}
 use Rattle.ssq_sink.specs.declared.fault.SinkFault.TheVariants.{Damaged, DiskFault, NoMemory}
 use Rattle.ssq_sink.specs.declared.reading.Reading.{Reading}
-use Rattle.ssq_sink.specs.declared.reading.Reading.TheVariants as how
+use Rattle.ssq_sink.specs.Latest.{IsLatest}
 use Rattle.ssq_sink.specs.Fault.{HasRisen, IfDamaged, IsBad}
 use Rattle.ssq_sink.specs.Passing.{HasText, past}
-use Rattle.ssq_sink.specs.Table.{AreCounted, AreFirst, IsBadSink, IsFirstBad, IsSinkOf, IsTable, joined, last_of, reading, text_read}
-use Rattle.ssq_sink.proofs.Rereading.{lines-append}
+use Rattle.ssq_sink.specs.Table.{AreCounted, AreFirst, IsBadSink, IsFirstBad, IsSink, IsSinkOf, IsTable, joined, last_of, output_kinds, reading, table_text, text_read}
 
 -- a fault is counted over several calls
 pub risen : (fault : SinkFault) (a b c : ℕ) → a ≤ b → HasRisen fault b c → HasRisen fault a c
@@ -36,8 +35,8 @@ none_is_not e = absurd (true≢false (sym (ap is_some e)))
 some_is : {A : Type 0} {a b : A} → Some a ≡ Some b → a ≡ b
 some_is {A} {a} {b} e = ap (λ o. unwrap_or o a) e
 
-pub no_files : (own : Reading) (query : Bound) (files : Files) (text : List ℕ) → text ≡ text_read own query [] → HasText own query files 0 text
-no_files own query files text none = record { epochs = []; all = refl; each = λ e rows here. none_is_not here; is = none }
+pub none_first : (query : Bound) (files : Files) → AreFirst query files []
+none_first query files e rows here = none_is_not here
 
 pub none_utf8 : (text : List ℕ) → text ≡ [] → IsUtf8 text
 none_utf8 text none = subst IsUtf8 (sym none) IsUtf8-nil
@@ -48,12 +47,16 @@ slice_get-push [] x y (suc e) is = none_is_not is
 slice_get-push (z ∷ xs) x y zero is = inl is
 slice_get-push (z ∷ xs) x y (suc e) is = elim (slice_get-push xs x y e is) [ inl there ↦ inl there | inr last ↦ inr (ap (λ n. suc n) last.0, last.1) ]
 
+-- a sink file that is rows is the bytes that were read of it
+pub rows_read : (query : Bound) (files : Files) (e : ℕ) (bytes : List ℕ) → files (name.Out e) ≡ Some bytes → (sink : IsSink query files e) → AreRows (output_names query) (output_kinds query) bytes sink.rows
+rows_read query files e bytes found sink = subst (λ own. AreRows (output_names query) (output_kinds query) own sink.rows) (some_is (sym sink.is.there ∙ found)) sink.is.are
+
 last_of-push : {A : Type 0} (lists : List (List A)) (own : List A) → last_of (lists ++ own ∷ []) ≡ own
 last_of-push [] own = refl
 last_of-push (one ∷ []) own = refl
 last_of-push (one ∷ next ∷ lists) own = last_of-push (next ∷ lists) own
 
-first_more : (query : Bound) (files : Files) (epochs : List (List Values)) (rows : List Values) (n : ℕ) → length epochs ≡ n → IsSinkOf query files n rows → AreFirst query files epochs → AreFirst query files (epochs ++ rows ∷ [])
+pub first_more : (query : Bound) (files : Files) (epochs : List (List Values)) (rows : List Values) (n : ℕ) → length epochs ≡ n → IsSinkOf query files n rows → AreFirst query files epochs → AreFirst query files (epochs ++ rows ∷ [])
 first_more query files epochs rows n len own each e some here =
     elim (slice_get-push epochs rows some e here) [
       | inl there ↦ each e some there
@@ -63,29 +66,6 @@ first_more query files epochs rows n len own each e some here =
 joined-push : (epochs : List (List Values)) (rows : List Values) → joined (epochs ++ rows ∷ []) ≡ joined epochs ++ rows
 joined-push [] rows = append-nil rows
 joined-push (own ∷ epochs) rows = ap (λ l. own ++ l) (joined-push epochs rows) ∙ sym (append_assoc own (joined epochs) rows)
-
--- one file more, of which all rows are added
-pub one_added : (query : Bound) (files : Files) (n : ℕ) (text new : List ℕ) (rows : List Values) → new ≡ text ++ lines_of (output_names query) rows → IsSinkOf query files n rows → HasText how.Each query files n text → HasText how.Each query files (n + 1) new
-one_added query files n text new rows is own so =
-    let names = output_names query in
-    record {
-      epochs = so.epochs ++ rows ∷ [];
-      all = length_push so.epochs rows ∙ ap (λ k. k + 1) so.all;
-      each = first_more query files so.epochs rows n so.all own so.each;
-      is = is ∙ ap (λ l. l ++ lines_of names rows) so.is ∙ sym (lines-append names (joined so.epochs) rows) ∙ ap (lines_of names) (sym (joined-push so.epochs rows));
-    }
-
--- one file more, whose rows take the place of those before
-pub one_replaced : (query : Bound) (files : Files) (n : ℕ) (text cleared new : List ℕ) (rows : List Values) → cleared ≡ [] → new ≡ cleared ++ lines_of (output_names query) rows → IsSinkOf query files n rows → HasText how.Last query files n text
-    → HasText how.Last query files (n + 1) new
-one_replaced query files n text cleared new rows empty is own so =
-    let names = output_names query in
-    record {
-      epochs = so.epochs ++ rows ∷ [];
-      all = length_push so.epochs rows ∙ ap (λ k. k + 1) so.all;
-      each = first_more query files so.epochs rows n so.all own so.each;
-      is = is ∙ ap (λ l. l ++ lines_of names rows) empty ∙ ap (lines_of names) (sym (last_of-push so.epochs rows));
-    }
 
 get_some : {A : Type 0} (xs : List A) (e : ℕ) → e < length xs → (x : A) × (slice_get xs e ≡ Some x)
 get_some [] e low = absurd (omega arith)
@@ -104,31 +84,38 @@ first_bad query files n m (Damaged at) epochs low len each bad = record {
 first_bad query files n m DiskFault epochs low len each bad = tt
 first_bad query files n m NoMemory epochs low len each bad = tt
 
--- ---- the last rows
+-- ---- what is kept
 
-pub record AreTaken (query : Bound) (files : Files) (n : ℕ) (rows : List Values) : Type 0 where
-  pub epochs : List (List Values)
-  pub all : length epochs ≡ n
-  pub each : AreFirst query files epochs
-  pub is : rows ≡ joined epochs
+-- of a file that was begun no row is there yet
+joined_begun : (epochs : List (List Values)) → joined (epochs ++ [] ∷ []) ≡ joined epochs
+joined_begun epochs = joined-push epochs [] ∙ append-nil (joined epochs)
 
-pub none_taken : (query : Bound) (files : Files) → AreTaken query files 0 []
-none_taken query files = record { epochs = []; all = refl; each = λ e rows here. none_is_not here; is = refl }
+pub each_begun : (names : List (List ℕ)) (epochs : List (List Values)) (text : List ℕ) → text ≡ lines_of names (joined epochs) → text ≡ lines_of names (joined (epochs ++ [] ∷ []))
+each_begun names epochs text is = is ∙ ap (lines_of names) (sym (joined_begun epochs))
 
-pub one_taken : (query : Bound) (files : Files) (n : ℕ) (rows own : List Values) → IsSinkOf query files n own → AreTaken query files n rows → AreTaken query files (n + 1) (rows ++ own)
-one_taken query files n rows own is so = record {
-  epochs = so.epochs ++ own ∷ [];
-  all = length_push so.epochs own ∙ ap (λ k. k + 1) so.all;
-  each = first_more query files so.epochs own n so.all is so.each;
-  is = ap (λ l. l ++ own) so.is ∙ sym (joined-push so.epochs own);
-}
+pub latest_begun : (outputs : List Output) (epochs : List (List Values)) (entries : List (Values × Values)) → IsLatest outputs (joined epochs) entries → IsLatest outputs (joined (epochs ++ [] ∷ [])) entries
+latest_begun outputs epochs entries so = subst (λ rows. IsLatest outputs rows entries) (sym (joined_begun epochs)) so
+
+pub last_begun : (names : List (List ℕ)) (epochs : List (List Values)) (text : List ℕ) → text ≡ [] → text ≡ lines_of names (last_of (epochs ++ [] ∷ []))
+last_begun names epochs text is = is ∙ ap (lines_of names) (sym (last_of-push epochs []))
+
+-- one row more of the last file
+pub joined_more : (epochs : List (List Values)) (rows : List Values) (row : Values) → joined (epochs ++ (rows ++ row ∷ []) ∷ []) ≡ joined (epochs ++ rows ∷ []) ++ row ∷ []
+joined_more epochs rows row = joined-push epochs (rows ++ row ∷ []) ∙ sym (append_assoc (joined epochs) rows (row ∷ [])) ∙ ap (λ all. all ++ row ∷ []) (sym (joined-push epochs rows))
+
+pub last_more : (epochs : List (List Values)) (rows : List Values) (row : Values) → last_of (epochs ++ (rows ++ row ∷ []) ∷ []) ≡ last_of (epochs ++ rows ∷ []) ++ row ∷ []
+last_more epochs rows row = last_of-push epochs (rows ++ row ∷ []) ∙ ap (λ all. all ++ row ∷ []) (sym (last_of-push epochs rows))
+
+-- a text that is read so is the query's table
+pub is_table_text : (own : Reading) (query : Bound) (epochs : List (List Values)) (text : List ℕ) → reading query ≡ own → text ≡ text_read own query epochs → text ≡ table_text query epochs
+is_table_text own query epochs text way is = is ∙ ap (λ one. text_read one query epochs) (sym way)
 
 -- ---- the table
 
 -- all sink files were gone through
-pub table_read : (own : Reading) (query : Bound) (old new : History) (m : ℕ) (text : List ℕ) → own ≡ reading query → new ≡ old → AreCounted (files_now old) m → HasText own query (files_now new) m text → IsTable query (files_now old) text
-table_read own query old new m text way same counted has =
-    let so : HasText (reading query) query (files_now old) m text = subst (λ r. HasText r query (files_now old) m text) way (subst (λ h. HasText own query (files_now h) m text) same has) in
+pub table_read : (query : Bound) (old new : History) (m : ℕ) (text : List ℕ) → new ≡ old → AreCounted (files_now old) m → HasText query (files_now new) m text → IsTable query (files_now old) text
+table_read query old new m text same counted has =
+    let so : HasText query (files_now old) m text = subst (λ h. HasText query (files_now h) m text) same has in
     record { epochs = so.epochs; sinks = record { counted = subst (AreCounted (files_now old)) (sym so.all) counted; each = so.each }; is = so.is }
 
 -- one of them is bad, or the outside failed

@@ -1,5 +1,5 @@
 -- Bytes are read as rows, line by line.
-use Rattle.std.proofs.Common.{◌≡◌, ◌⊎◌, inl, inr, ℕ, suc, ◌+◌, min, Bool, true, false, true≢false, ◌==◌, List, [], ◌∷◌, ◌++◌, length, drop, is_some, refl, sym, ap, ap₂, ◌∙◌, append_assoc, append-nil, arith}
+use Rattle.std.proofs.Common.{◌≡◌, ◌⊎◌, inl, inr, ℕ, suc, ◌+◌, min, Bool, true, false, true≢false, ◌==◌, List, [], ◌∷◌, ◌++◌, length, map, drop, is_some, refl, sym, ap, ap₂, ◌∙◌, append_assoc, append-nil, arith}
 use Rattle.std.specs.Prelude.{if◌then◌else◌}
 use Rattle.std.specs.List.{All}
 use Rattle.std.proofs.lemmas.Bool.{cases_lt}
@@ -10,15 +10,12 @@ use Rattle.ssq_time.specs.Time.{IsStampTime}
 use Rattle.ssq_value.specs.declared.column.ColType.{ColType}
 use Rattle.ssq_value.specs.declared.value.Value.{Value}
 use Rattle.ssq_value.specs.Kind.{IfTime}
-use Rattle.ssq_shape.specs.declared.bound.Bound.{Bound}
 use Rattle.ssq_shape.specs.declared.bound.Output.{Output}
-use Rattle.ssq_shape.specs.Plain.{output_names}
 use Rattle.ssq_json.specs.RowText.{heads_from, heads_of, row_text}
 use Rattle.ssq_json.specs.Stored.{AreRows, AreStoredIn, line_of, lines_of}
 use Rattle.ssq_meaning.specs.Meaning.{Values}
 use Rattle.ssq_meaning.specs.Table.{key_cells}
 use Rattle.ssq_sink.specs.Sink.{line_with}
-use Rattle.ssq_sink.specs.Table.{output_kinds}
 
 pub lines-append : (names : List (List ℕ)) (xs ys : List Values) → lines_of names (xs ++ ys) ≡ lines_of names xs ++ lines_of names ys
 lines-append names [] ys = refl
@@ -102,11 +99,10 @@ one_read heads kinds bytes left after row found finds so = record {
 }
 
 -- one line more that is added
-pub line_added : (names heads : List (List ℕ)) (rows : List Values) (row : Values) (start before after : List ℕ) → heads ≡ heads_of names → before ≡ start ++ lines_of names rows → after ≡ before ++ line_with heads row → after ≡ start ++ lines_of names (rows ++ row ∷ [])
+pub line_added : (names heads : List (List ℕ)) (rows more : List Values) (row : Values) (before after : List ℕ) → heads ≡ heads_of names → more ≡ rows ++ row ∷ [] → before ≡ lines_of names rows → after ≡ before ++ line_with heads row → after ≡ lines_of names more
 unfolding row_text
-line_added names heads rows row start before after of so_far is =
-    is ∙ ap₂ (λ b h. b ++ line_with h row) so_far of ∙ append_assoc start (lines_of names rows) (line_of names row)
-    ∙ ap (λ l. start ++ l) (ap (λ l. lines_of names rows ++ l) (sym (append-nil (line_of names row))) ∙ sym (lines-append names rows (row ∷ [])))
+line_added names heads rows more row before after of one so_far is =
+    is ∙ ap₂ (λ b h. b ++ line_with h row) so_far of ∙ ap (λ l. lines_of names rows ++ l) (sym (append-nil (line_of names row))) ∙ sym (lines-append names rows (row ∷ [])) ∙ ap (lines_of names) (sym one)
 
 -- such values have texts
 pub times_stored : (kinds : List ColType) (row : Values) → AreStoredIn kinds row → All (IfTime IsStampTime) row
@@ -124,9 +120,9 @@ heads_length later [] = refl
 heads_length later (name ∷ names) = ap (λ n. suc n) (heads_length true names)
 
 -- as many heads as types
-pub columns_same : (query : Bound) (heads : List (List ℕ)) (kinds : List ColType) → heads ≡ heads_of (output_names query) → kinds ≡ output_kinds query → length heads ≡ length kinds
-columns_same query heads kinds one two =
-    ap length one ∙ heads_length false (output_names query) ∙ length-map query.outputs (λ output. output.name) ∙ sym (length-map query.outputs (λ output. output.kind)) ∙ ap length (sym two)
+pub columns_same : (outputs : List Output) (heads : List (List ℕ)) (kinds : List ColType) → heads ≡ heads_of (map (λ output. output.name) outputs) → kinds ≡ map (λ output. output.kind) outputs → length heads ≡ length kinds
+columns_same outputs heads kinds one two =
+    ap length one ∙ heads_length false (map (λ output. output.name) outputs) ∙ length-map outputs (λ output. output.name) ∙ sym (length-map outputs (λ output. output.kind)) ∙ ap length (sym two)
 
 key-none : (outputs : List Output) (row : Values) → (outputs ≡ []) ⊎ (row ≡ []) → key_cells outputs row ≡ []
 unfolding key_cells

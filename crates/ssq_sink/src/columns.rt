@@ -1,24 +1,22 @@
 //! The columns of SELECT, as rows of sink files have them.
 
-ghost use Rattle.std.specs.Prelude.{◌≡◌, ◌++◌, List, ℕ, true, false, Ok, length, map, IfOk, OnOk};
-ghost use Rattle.std.specs.Str.{IsUtf8};
+ghost use Rattle.std.specs.Prelude.{◌≡◌, length, map, IfOk};
 ghost use Rattle.ssq_json.specs.RowText.{heads_of};
-ghost use Rattle.ssq_json.specs.Stored.{AreRows, lines_of};
-ghost use Rattle.ssq_meaning.specs.Meaning.{Values};
-ghost use Rattle.ssq_shape.specs.Plain.{output_names};
-ghost use Rattle.ssq_sink.specs.Table.{output_kinds};
 
-use crate::epoch::{output_heads, put_line};
-use ssq_json::{Heads, take_line};
-use ssq_shape::{Bound, Output};
+use ssq_json::Heads;
+use ssq_shape::Output;
 use ssq_value::ColType;
 use std::alloc::{AllocError, Global};
 
-/// The heads and the types of the columns of SELECT, made once for many rows.
-#[derive(Drop)]
-pub(crate) struct Columns {
-    pub(crate) heads: Heads,
-    pub(crate) kinds: Vec<ColType>,
+/// The heads of the columns of SELECT.
+pub(crate) fn output_heads(alloc: Global, outputs: &[Output]) -> Result<Heads, AllocError>
+    ensures { IfOk result (λ heads. heads ≡ heads_of (map (λ output. output.name) outputs.now)) }
+{
+    let mut heads = Heads::none(alloc);
+    for output in outputs {
+        heads.push(&output.name)?;
+    }
+    Ok(heads)
 }
 
 /// The types of the columns of SELECT.
@@ -32,42 +30,24 @@ fn output_kinds(alloc: Global, outputs: &[Output]) -> Result<Vec<ColType>, Alloc
     Ok(kinds)
 }
 
+/// The heads and the types of the columns of SELECT, as many of each, made once to read the rows of many lines.
+#[derive(Drop)]
+pub struct Columns {
+    /// How each column begins in a line, from the left.
+    pub heads: Heads,
+    /// The type of each column, from the left.
+    pub kinds: Vec<ColType>,
+}
+
 impl Columns {
-    /// Those of this query.
-    pub(crate) fn new(alloc: Global, bound: &Bound) -> Result<Columns, AllocError>
-        ensures heads { IfOk result (λ columns. columns.heads ≡ heads_of (output_names bound.now)) }
-        ensures kinds { IfOk result (λ columns. columns.kinds.items ≡ output_kinds bound.now) }
+    /// Those of these outputs of SELECT. It fails for want of memory alone.
+    pub fn new(alloc: Global, outputs: &[Output]) -> Result<Columns, AllocError>
+        ensures heads { IfOk result (λ columns. columns.heads ≡ heads_of (map (λ output. output.name) outputs.now)) }
+        ensures kinds { IfOk result (λ columns. columns.kinds.items ≡ map (λ output. output.kind) outputs.now) }
         ensures same { IfOk result (λ columns. length columns.heads ≡ length columns.kinds.items) }
     {
-        let heads = output_heads(alloc, bound.outputs.as_slice())?;
-        let kinds = output_kinds(alloc, bound.outputs.as_slice())?;
+        let heads = output_heads(alloc, outputs)?;
+        let kinds = output_kinds(alloc, outputs)?;
         Ok(Columns { heads, kinds })
-    }
-
-    /// Adds the rows that the bytes are to a text, one line each. They need not be sorted. `false` where the bytes are no canonical rows of these
-    /// columns.
-    pub(crate) fn put_rows(
-        &self,
-        alloc: Global,
-        bytes: &[u8],
-        text: &mut Vec<u8>,
-    ) -> Result<bool, AllocError>
-        requires { length self.now.heads ≡ length self.now.kinds.items }
-        ensures found { (names : List (List ℕ)) → self.now.heads ≡ heads_of names →
-            OnOk result (result ≡ Ok true → (rows : List Values) × AreRows names self.now.kinds.items bytes.now rows × (text.new.items ≡ text.old.items ++ lines_of names rows)) }
-        ensures none { (names : List (List ℕ)) → self.now.heads ≡ heads_of names → IfOk result (λ are. are ≡ false → (rows : List Values) → AreRows names self.now.kinds.items bytes.now rows → ⊥) }
-        ensures utf8 { OnOk result (IsUtf8 text.old.items → IsUtf8 text.new.items) }
-    {
-        let mut rest = bytes;
-        while !rest.is_empty() {
-            match take_line(alloc, &self.heads, self.kinds.as_slice(), rest)? {
-                Some((row, after)) => {
-                    put_line(text, &self.heads, &row)?;
-                    rest = after;
-                }
-                None => return Ok(false),
-            }
-        }
-        Ok(true)
     }
 }

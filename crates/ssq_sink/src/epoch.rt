@@ -1,20 +1,21 @@
 //! The rows of an epoch as the text of its sink file.
 
-ghost use Rattle.std.specs.Prelude.{◌≡◌, ◌++◌, ℕ, Bool, List, [], map, IfOk, OnOk, count_by};
+ghost use Rattle.std.specs.Prelude.{◌≡◌, ◌++◌, ℕ, Bool, List, IfOk, OnOk, count_by};
 ghost use Rattle.std.specs.List.{All, flat_map};
 ghost use Rattle.std.specs.List.Sorted.{IsPermutation};
 ghost use Rattle.std.specs.Str.{IsUtf8};
 ghost use Rattle.ssq_value.specs.declared.value.Value.{Value as Cell};
 ghost use Rattle.ssq_time.specs.Time.{IsStampTime};
 ghost use Rattle.ssq_value.specs.Kind.{IfTime};
-ghost use Rattle.ssq_json.specs.RowText.{heads_of, names_of};
+ghost use Rattle.ssq_json.specs.RowText.{heads_of};
 ghost use Rattle.ssq_shape.specs.declared.bound.Bound.{Bound as Query};
 ghost use Rattle.ssq_sink.specs.Sink.{line_with, ordered_text, sink_text};
 
+use crate::columns::output_heads;
 use crate::order::sort;
 use ssq_json::{Heads, put_row, utf8_text};
-use ssq_shape::{Bound, Output, SortKey};
-use ssq_value::{Row, Schema, Text};
+use ssq_shape::{Bound, SortKey};
+use ssq_value::{Row, Text};
 use std::alloc::{AllocError, Global};
 
 /// The text of an epoch's sink file: the rows sorted by the keys of ORDER BY, and where they tie on these value by value from the left,
@@ -28,30 +29,8 @@ pub fn epoch_text(alloc: Global, bound: &Bound, rows: Vec<Row>) -> Result<Text, 
     rows_text(alloc, &heads, bound.order.as_slice(), rows)
 }
 
-/// The same as bytes, where the rows have the columns of the schema and are sorted value by value alone.
-pub fn schema_text(alloc: Global, schema: &Schema, rows: Vec<Row>) -> Result<Vec<u8>, AllocError>
-    requires { All (All (IfTime IsStampTime)) rows.items }
-    ensures { IfOk result
-        (λ text. text.items ≡ ordered_text (names_of schema.now.columns) [] rows.items) }
-{
-    let heads = Heads::new(alloc, schema.columns())?;
-    let text = rows_text(alloc, &heads, &[], rows)?;
-    Ok(text.into_string().into_bytes())
-}
-
-/// The heads of the columns of SELECT.
-pub(crate) fn output_heads(alloc: Global, outputs: &[Output]) -> Result<Heads, AllocError>
-    ensures { IfOk result (λ heads. heads ≡ heads_of (map (λ output. output.name) outputs.now)) }
-{
-    let mut heads = Heads::none(alloc);
-    for output in outputs {
-        heads.push(&output.name)?;
-    }
-    Ok(heads)
-}
-
 /// The rows with these heads, sorted by these keys, one line each.
-fn rows_text(
+pub(crate) fn rows_text(
     alloc: Global,
     heads: &Heads,
     order: &[SortKey],

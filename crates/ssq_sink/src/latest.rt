@@ -1,21 +1,17 @@
 //! The last row of each key.
 
-ghost use Rattle.std.specs.Prelude.{◌≡◌, ◌++◌, ◌∷◌, [], List, ℕ, true, false, Ok, is_some, if◌then◌else◌, length, IfOk, OnOk};
+ghost use Rattle.std.specs.Prelude.{◌≡◌, ◌++◌, ◌∷◌, [], List, is_some, if◌then◌else◌, IfOk, OnOk};
 ghost use Rattle.std.specs.List.{All};
 ghost use Rattle.ssq_time.specs.Time.{IsStampTime};
 ghost use Rattle.ssq_value.specs.Kind.{IfTime};
 ghost use Rattle.ssq_shape.specs.declared.bound.Output.{Output as OutputOf};
-ghost use Rattle.ssq_json.specs.RowText.{heads_of};
-ghost use Rattle.ssq_json.specs.Stored.{AreRows};
 ghost use Rattle.ssq_meaning.specs.Meaning.{Values};
 ghost use Rattle.ssq_meaning.specs.Table.{key_cells};
 ghost use Rattle.ssq_sink.specs.Latest.{IsLatest};
 ghost use Rattle.ssq_sink.specs.Sink.{sink_text};
 ghost use Rattle.ssq_sink.specs.Table.{last_rows};
 
-use crate::columns::Columns;
 use crate::epoch::epoch_text;
-use ssq_json::take_line;
 use ssq_shape::{Bound, Output};
 use ssq_value::{Row, Text, Value};
 use std::alloc::{AllocError, Global};
@@ -59,39 +55,18 @@ impl Latest {
     }
 
     /// Takes a row, in place of the one of its key.
-    fn put(&mut self, alloc: Global, outputs: &[Output], row: Row) -> Result<(), AllocError>
+    pub(crate) fn put(
+        &mut self,
+        alloc: Global,
+        outputs: &[Output],
+        row: Row,
+    ) -> Result<(), AllocError>
         requires { All (IfTime IsStampTime) row }
         ensures { (rows : List Values) → IsLatest outputs.now rows self.old.rows.entries → OnOk result (IsLatest outputs.now (rows ++ row ∷ []) self.new.rows.entries) }
     {
         let key = key_of(alloc, outputs, row.as_slice())?;
         self.rows.insert(key, row)?;
         Ok(())
-    }
-
-    /// Takes the rows of a sink file. `false` where it does not have canonical rows of these columns.
-    pub(crate) fn take(
-        &mut self,
-        alloc: Global,
-        columns: &Columns,
-        outputs: &[Output],
-        bytes: &[u8],
-    ) -> Result<bool, AllocError>
-        requires { length columns.now.heads ≡ length columns.now.kinds.items }
-        ensures found { (names : List (List ℕ)) → columns.now.heads ≡ heads_of names → (rows : List Values) → IsLatest outputs.now rows self.old.rows.entries →
-            OnOk result (result ≡ Ok true → (own : List Values) × AreRows names columns.now.kinds.items bytes.now own × IsLatest outputs.now (rows ++ own) self.new.rows.entries) }
-        ensures none { (names : List (List ℕ)) → columns.now.heads ≡ heads_of names → IfOk result (λ are. are ≡ false → (rows : List Values) → AreRows names columns.now.kinds.items bytes.now rows → ⊥) }
-    {
-        let mut rest = bytes;
-        while !rest.is_empty() {
-            match take_line(alloc, &columns.heads, columns.kinds.as_slice(), rest)? {
-                Some((row, after)) => {
-                    self.put(alloc, outputs, row)?;
-                    rest = after;
-                }
-                None => return Ok(false),
-            }
-        }
-        Ok(true)
     }
 
     /// The text of these rows, in the order of a sink file.

@@ -4,11 +4,13 @@
 mod columns;
 mod epoch;
 mod fault;
+mod kept;
 mod latest;
 mod order;
 mod reading;
 
-pub use epoch::{epoch_text, order_is_free, schema_text};
+pub use columns::Columns;
+pub use epoch::{epoch_text, order_is_free};
 pub use fault::SinkFault;
 pub use order::row_orders_are_total;
 pub use reading::{Reading, count_sinks, table};

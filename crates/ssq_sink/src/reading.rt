@@ -1,24 +1,17 @@
 //! The table: what a reader makes of the sink files.
 
-ghost use Rattle.std.specs.Prelude.{◌≡◌, ◌≤◌, ◌^◌, ◌++◌, List, max, Some, length, IfOk, IfErr, OnOk};
-ghost use Rattle.std.specs.Str.{IsUtf8};
+ghost use Rattle.std.specs.Prelude.{◌≡◌, ◌≤◌, ◌^◌, ◌++◌, ◌∷◌, [], List, max, Some, IfOk, IfErr, OnOk};
 ghost use Rattle.ssq_outside.specs.Files.{Files, AreNames};
 ghost use Rattle.ssq_outside.specs.History.{files_now};
 ghost use Rattle.ssq_outside.specs.declared.name.Name.TheVariants as name;
-ghost use Rattle.ssq_shape.specs.declared.bound.Bound.{Bound as Query};
-ghost use Rattle.ssq_shape.specs.Plain.{output_names};
-ghost use Rattle.ssq_json.specs.Stored.{lines_of};
 ghost use Rattle.ssq_meaning.specs.Meaning.{Values};
 ghost use Rattle.ssq_sink.specs.Fault.{HasRisen, IfDamaged, IsAbsent, IsBad};
-ghost use Rattle.ssq_sink.specs.Latest.{IsLatest};
-ghost use Rattle.ssq_sink.specs.Passing.{AreColumnsOf, HasText, past};
+ghost use Rattle.ssq_sink.specs.Passing.{AreColumnsOf, HasText, IsKept, past};
 ghost use Rattle.ssq_sink.specs.Table.{reading, AreCounted, IsBadSink, IsFirstBad, IsSinkOf, IsTable};
-ghost use Rattle.ssq_sink.specs.declared.reading.Reading.TheVariants as how;
 
 use crate::columns::Columns;
 use crate::fault::SinkFault;
-use crate::latest::Latest;
-use ssq_json::utf8_text;
+use crate::kept::Kept;
 use ssq_outside::{Disk, Name};
 use ssq_shape::{Bound, Mode, Shape};
 use ssq_value::Text;
@@ -95,98 +88,25 @@ fn sink_bytes<D: Disk>(alloc: Global, disk: &mut D, epoch: u32) -> Result<Vec<u8
     }
 }
 
-/// Adds the rows of the sink file of an epoch to a text, one line each.
-fn put_sink<D: Disk>(
-    alloc: Global,
-    disk: &mut D,
-    columns: &Columns,
-    epoch: u32,
-    text: &mut Vec<u8>,
-) -> Result<(), SinkFault>
-    requires { length columns.now.heads ≡ length columns.now.kinds.items }
-    ensures added { D.tells → (query : Query) → AreColumnsOf query columns.now.heads columns.now.kinds.items →
-        OnOk result ((rows : List Values) × IsSinkOf query (files_now (D.history disk.old)) epoch rows × (text.new.items ≡ text.old.items ++ lines_of (output_names query) rows)) }
-    ensures utf8 { OnOk result (IsUtf8 text.old.items → IsUtf8 text.new.items) }
-    ensures bad { D.tells → (query : Query) → AreColumnsOf query columns.now.heads columns.now.kinds.items → IfErr result (IfDamaged (IsBad query (files_now (D.history disk.old)) epoch)) }
-    ensures same { D.tells → D.history disk.new ≡ D.history disk.old }
-    ensures counted { D.faults disk.old ≤ D.faults disk.new }
-    ensures cause { IfErr result (λ fault. HasRisen fault (D.faults disk.old) (D.faults disk.new)) }
-{
-    let bytes = sink_bytes(alloc, disk, epoch)?;
-    if columns.put_rows(alloc, bytes.as_slice(), text)? {
-        Ok(())
-    } else {
-        Err(SinkFault::Damaged {
-            name: Name::Out(epoch),
-        })
-    }
-}
-
-/// The text of all rows, one file after the other.
-fn all_rows<D: Disk>(
-    alloc: Global,
-    disk: &mut D,
-    bound: &Bound,
-    count: u64,
-) -> Result<Text, SinkFault>
-    requires { count ≤ 2 ^ 32 }
-    ensures read { D.tells → IfOk result (λ text. HasText how.Each bound.now (files_now (D.history disk.old)) count text) }
-    ensures bad { D.tells → IfErr result (IfDamaged (IsFirstBad bound.now (files_now (D.history disk.old)) count)) }
-    ensures same { D.tells → D.history disk.new ≡ D.history disk.old }
-    ensures counted { D.faults disk.old ≤ D.faults disk.new }
-    ensures cause { IfErr result (λ fault. HasRisen fault (D.faults disk.old) (D.faults disk.new)) }
-{
-    let columns = Columns::new(alloc, bound)?;
-    let mut text = Vec::new(alloc);
-    for epoch in 0..count {
-        put_sink(alloc, disk, &columns, epoch as u32, &mut text)?;
-    }
-    Ok(utf8_text(text))
-}
-
-/// The text of the rows of the last file. Each file before it is checked.
-fn last_file<D: Disk>(
-    alloc: Global,
-    disk: &mut D,
-    bound: &Bound,
-    count: u64,
-) -> Result<Text, SinkFault>
-    requires { count ≤ 2 ^ 32 }
-    ensures read { D.tells → IfOk result (λ text. HasText how.Last bound.now (files_now (D.history disk.old)) count text) }
-    ensures bad { D.tells → IfErr result (IfDamaged (IsFirstBad bound.now (files_now (D.history disk.old)) count)) }
-    ensures same { D.tells → D.history disk.new ≡ D.history disk.old }
-    ensures counted { D.faults disk.old ≤ D.faults disk.new }
-    ensures cause { IfErr result (λ fault. HasRisen fault (D.faults disk.old) (D.faults disk.new)) }
-{
-    let columns = Columns::new(alloc, bound)?;
-    let mut text = Vec::new(alloc);
-    for epoch in 0..count {
-        text.clear();
-        put_sink(alloc, disk, &columns, epoch as u32, &mut text)?;
-    }
-    Ok(utf8_text(text))
-}
-
 /// Takes the rows of the sink file of an epoch.
 fn take_sink<D: Disk>(
     alloc: Global,
     disk: &mut D,
     bound: &Bound,
     columns: &Columns,
-    latest: &mut Latest,
+    kept: &mut Kept,
     epoch: u32,
 ) -> Result<(), SinkFault>
-    requires columns { AreColumnsOf bound.now columns.now.heads columns.now.kinds.items }
-    requires same { length columns.now.heads ≡ length columns.now.kinds.items }
-    ensures taken { (rows : List Values) → IsLatest bound.now.outputs rows latest.old.rows.entries → OnOk result ((own : List Values)
-        × IsLatest bound.now.outputs (rows ++ own) latest.new.rows.entries × (D.tells → IsSinkOf bound.now (files_now (D.history disk.old)) epoch own)) }
+    requires { AreColumnsOf bound.now columns.now.heads columns.now.kinds.items }
+    ensures taken { (epochs : List (List Values)) → IsKept bound.now epochs kept.old → OnOk result ((rows : List Values)
+        × IsKept bound.now (epochs ++ rows ∷ []) kept.new × (D.tells → IsSinkOf bound.now (files_now (D.history disk.old)) epoch rows)) }
     ensures bad { D.tells → IfErr result (IfDamaged (IsBad bound.now (files_now (D.history disk.old)) epoch)) }
     ensures same { D.tells → D.history disk.new ≡ D.history disk.old }
     ensures counted { D.faults disk.old ≤ D.faults disk.new }
     ensures cause { IfErr result (λ fault. HasRisen fault (D.faults disk.old) (D.faults disk.new)) }
 {
     let bytes = sink_bytes(alloc, disk, epoch)?;
-    if latest.take(alloc, columns, bound.outputs.as_slice(), bytes.as_slice())? {
+    if kept.take(alloc, bound, columns, bytes.as_slice())? {
         Ok(())
     } else {
         Err(SinkFault::Damaged {
@@ -195,26 +115,26 @@ fn take_sink<D: Disk>(
     }
 }
 
-/// The text of the last row of each key.
-fn latest<D: Disk>(
+/// The table of the first sink files.
+fn first_files<D: Disk>(
     alloc: Global,
     disk: &mut D,
     bound: &Bound,
     count: u64,
 ) -> Result<Text, SinkFault>
     requires { count ≤ 2 ^ 32 }
-    ensures read { D.tells → IfOk result (λ text. HasText how.Latest bound.now (files_now (D.history disk.old)) count text) }
+    ensures read { D.tells → IfOk result (HasText bound.now (files_now (D.history disk.old)) count) }
     ensures bad { D.tells → IfErr result (IfDamaged (IsFirstBad bound.now (files_now (D.history disk.old)) count)) }
     ensures same { D.tells → D.history disk.new ≡ D.history disk.old }
     ensures counted { D.faults disk.old ≤ D.faults disk.new }
     ensures cause { IfErr result (λ fault. HasRisen fault (D.faults disk.old) (D.faults disk.new)) }
 {
-    let columns = Columns::new(alloc, bound)?;
-    let mut latest = Latest::new(alloc);
+    let columns = Columns::new(alloc, bound.outputs.as_slice())?;
+    let mut kept = Kept::new(alloc, bound);
     for epoch in 0..count {
-        take_sink(alloc, disk, bound, &columns, &mut latest, epoch as u32)?;
+        take_sink(alloc, disk, bound, &columns, &mut kept, epoch as u32)?;
     }
-    Ok(latest.into_text(alloc, bound)?)
+    Ok(kept.into_text(alloc, bound)?)
 }
 
 /// How many sink files there have to be. The list of names is in memory here alone.
@@ -247,9 +167,5 @@ pub fn table<D: Disk>(alloc: Global, disk: &mut D, bound: &Bound) -> Result<Text
     ensures cause { IfErr result (λ fault. HasRisen fault (D.faults disk.old) (D.faults disk.new)) }
 {
     let count = sinks(alloc, disk)?;
-    match Reading::of(bound) {
-        Reading::Each => all_rows(alloc, disk, bound, count),
-        Reading::Latest => latest(alloc, disk, bound, count),
-        Reading::Last => last_file(alloc, disk, bound, count),
-    }
+    first_files(alloc, disk, bound, count)
 }

@@ -5,8 +5,8 @@ ghost use Rattle.std.specs.List.{All};
 ghost use Rattle.ssq_time.specs.Time.{IsStampTime};
 ghost use Rattle.ssq_value.specs.Kind.{IfTime};
 
-use super::*;
-use ssq_json::read_row;
+use crate::epoch::rows_text;
+use ssq_json::{Heads, read_row};
 use ssq_value::{ColType, Column, Row, Schema, Text};
 use std::alloc::{AllocError, Global};
 use std::test::Fail;
@@ -45,6 +45,7 @@ fn read_rows(alloc: Global, schema: &Schema, lines: &[&str]) -> Result<Vec<Row>,
 fn rows_are_sorted_and_written(rt: HostRuntime) -> Result<(), Fail> {
     let alloc = rt.alloc();
     let schema = two_columns(alloc)?;
+    let heads = Heads::new(alloc, schema.columns())?;
     let first = r#"{"id":2,"s":"b\"c"}"#;
     let second = r#"{"id":2,"s":null}"#;
     let third = r#"{"id":null,"s":"z"}"#;
@@ -61,8 +62,8 @@ fn rows_are_sorted_and_written(rt: HostRuntime) -> Result<(), Fail> {
         ([].as_slice(), ""),
     ] {
         let rows = read_rows(alloc, &schema, lines)?;
-        let text = schema_text(alloc, &schema, rows)?;
-        assert_eq!(rt; text.as_slice(), wanted.as_bytes(), "{lines:?}");
+        let text = rows_text(alloc, &heads, &[], rows)?;
+        assert_eq!(rt; text.as_str(), wanted, "{lines:?}");
     }
     Ok(())
 }

@@ -135,7 +135,7 @@ fn changed_and_rest(text: &[u8]) -> Option<(Entry<'_>, &[u8])>
 }
 
 /// The entry in front of what is left of a file, and what follows it.
-pub fn entry_and_rest(form: Form, text: &[u8]) -> Option<(Entry<'_>, &[u8])>
+pub(crate) fn entry_and_rest(form: Form, text: &[u8]) -> Option<(Entry<'_>, &[u8])>
     ensures found { IfSome result (λ parts. text.now ≡ entry_text form (parts.0.key.now, option_copied parts.0.value) ++ parts.1.now) }
     ensures spelled { IfSome result (λ parts. IsSpelled form (parts.0.key.now, option_copied parts.0.value)) }
     ensures shorter { IfSome result (λ parts. length parts.1.now < length text.now) }

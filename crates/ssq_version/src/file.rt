@@ -13,13 +13,13 @@ use std::alloc::{AllocError, Global};
 
 /// A file of the state in its bytes: the partition and the version that it is of, and its entries.
 #[derive(Clone, Copy)]
-pub struct StateFile<'a> {
-    pub partition: u32,
-    pub version: u32,
+pub(crate) struct StateFile<'a> {
+    pub(crate) partition: u32,
+    pub(crate) version: u32,
     /// How many entries there are.
-    pub count: u64,
+    pub(crate) count: u64,
     /// The bytes of the entries.
-    pub entries: &'a [u8],
+    pub(crate) entries: &'a [u8],
 }
 
 /// How many bytes stand in front of the entries: the first word, the partition, the version and how many entries there are.
@@ -78,7 +78,7 @@ fn head_and_rest(form: Form, text: &[u8]) -> Option<StateFile<'_>>
 }
 
 /// The file of this form whose bytes these are. `None` where they are no such file's.
-pub fn read_file(form: Form, text: &[u8]) -> Option<StateFile<'_>>
+pub(crate) fn read_file(form: Form, text: &[u8]) -> Option<StateFile<'_>>
     ensures found { IfSome result (λ file. IsFile form text.now file.partition file.version file.count file.entries.now) }
     // So `None` comes only where no entries of a partition and a version have these bytes.
     ensures each { (partition version : ℕ) (entries : Told) → partition < 2 ^ 32 → version < 2 ^ 32 → AreEntries form entries →

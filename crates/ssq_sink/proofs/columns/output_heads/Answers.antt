@@ -2,7 +2,7 @@ use Rattle.std.proofs.Common.{map, take, ap, sym, ◌∙◌}
 use Rattle.ssq_json.specs.RowText.{heads_of}
 use Rattle.ssq_json.proofs.Lists.{map-more}
 use Rattle.ssq_json.proofs.Writing.{heads_of-none}
-use Rattle.ssq_gen.proofs.counts.output_heads.Goals as goal
+use Rattle.ssq_sink.proofs.columns.output_heads.Goals as goal
 
 pub loop-output-init : goal.loop-output-init
 loop-output-init c = c.none-heads.ensures ∙ sym heads_of-none
