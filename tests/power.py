@@ -42,7 +42,7 @@ PLAYED = "openat,close,write,fsync,fdatasync,rename,renameat,renameat2,unlink,un
 STRANGE = "open,creat,pwrite64,writev,pwritev,pwritev2,truncate,ftruncate,fallocate,link,linkat,symlink,symlinkat,sendfile,copy_file_range,dup,dup2,dup3,chdir"
 LONGEST = 1 << 24  # bytes of a text in a trace
 RUNS = 6  # over one checkpoint
-BREAKS = ["fsync:signal=KILL"] * 3 + ["fsync:error=EIO"] * 3 + ["write:error=ENOSPC", "renameat:error=EIO", "unlinkat:error=EIO", "mkdirat:error=ENOSPC"]
+BREAKS = ["fsync:signal=KILL"] * 5 + ["fsync:error=EIO"] * 3 + ["write:error=ENOSPC", "rename:error=EIO", "unlink:error=EIO", "mkdir:error=ENOSPC"]
 FAULTS = {7: "DiskFault", 8: "OutFault"}
 LEAST, MOST = operator.itemgetter(0), operator.itemgetter(-1)
 CAP = 3  # lines of a part in an epoch: few, since each image is run on and judged to the end

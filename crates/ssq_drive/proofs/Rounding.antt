@@ -544,7 +544,7 @@ module _ {D L : Type 0} (stores logs : Type 0) (lines : L → List Line) (histor
     round_by plans fits same = record { plans = plans; went = went_by plans fits same; ran = λ t own. ran_by laws t own plans fits }
 
 abbrev plans_or : List Plan → Ended → List Plan
-plans_or plans (Ok x) = x.0.plans
+plans_or plans (Ok next) = next.opened.plans
 plans_or plans (Err f) = plans
 
 -- how a round went, and what it did, where these entries came
