@@ -15,9 +15,9 @@ Behind a share of the calls that change, sync or print something images are made
 was, and some that are drawn. In each of them the epochs whose line was printed before have their plan, sink file and commit, and each file is what it may
 be, byte for byte (tests/model.py). From a share of them (--ends, all) a run goes on over the whole logs to the end, and is judged as that of tests/kill.py is.
 
-So this shows, of the runs that it made, that the program asks a real folder for the syncs that it needs, and in the right order. It does not show that a file
-system keeps what it synced, nor, of one whose sync failed, that a later sync which it says went well was one. It is not part of the gate, since it takes minutes. That it can fail is seen with --forget
-files, --forget folders or --forget with a folder (., checkpoint, checkpoint/sink ..): the model then passes over those syncs.
+So this shows, of the runs that it made, that the program asks a real folder for the syncs that it needs, and in the right order. It does not show that a
+file system keeps what it synced, nor that it does so in a sync behind one that failed. It is not part of the gate, since it takes minutes. That it can
+fail is seen with --forget files, --forget folders or --forget with a folder (., checkpoint, checkpoint/sink ..): the model then passes over those syncs.
 """
 import argparse
 import collections
@@ -242,9 +242,9 @@ class Trial:
         done = subprocess.run([*words, SSQ, "run", "q.sql", *self.job.words()], cwd=self.folder, stdout=subprocess.PIPE)
         printed, failed = done.stdout.decode(), "(INJECTED)" in trace.read_text()
         if failed:
-            assert done.returncode in FAULTS, f"{broken} was not told: {done.returncode} {printed}"
+            assert done.returncode == 7 or done.returncode == 8 and broken.startswith("write"), f"{broken} was not told: {done.returncode} {printed}"
             lines, stop, end = printed.rpartition(f"stopped {done.returncode} {FAULTS[done.returncode]}\n")
-            assert stop and not end or done.returncode == 8, f"{broken} was told as {printed}"
+            assert stop and not end or done.returncode == 8, f"{broken} was told as {printed}"  # where the output fails, no more than a front is written
             printed = lines if stop else printed
         else:
             assert done.returncode in (0, -signal.SIGKILL if broken else 0), printed
