@@ -12,7 +12,7 @@ mod plain;
 
 pub use evaluate::{eval, eval_group};
 pub use fault::EvalFault;
-pub use plain::{passes, project, show};
+pub use plain::{passes, show};
 
 #[cfg(test)]
 mod tests;

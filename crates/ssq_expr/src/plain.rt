@@ -42,7 +42,7 @@ fn values_of(alloc: Global, outputs: &[Output], row: &[Value]) -> Result<Vec<Val
 }
 
 /// The row that SELECT shows for a row. Its items are evaluated from the left.
-pub fn project(alloc: Global, outputs: &[Output], row: &[Value]) -> Result<Row, EvalFault>
+pub(crate) fn project(alloc: Global, outputs: &[Output], row: &[Value]) -> Result<Row, EvalFault>
     ensures row { Answers itself result (projected outputs.now row.now) }
     // Its times are ones that can be printed, where each time of the row is.
     ensures years { All (IfTime IsStampTime) row.now → IfOk result (All (IfTime IsStampTime)) }

@@ -1,6 +1,7 @@
 //! Worked values of expressions, as tables.
 
-use super::{EvalFault, eval, passes, project};
+use super::{EvalFault, eval, passes};
+use crate::plain::project;
 use sqlite_items::Boxed;
 use ssq_shape::{Arithmetic, Comparison, Output, Typed};
 use ssq_value::{ColType, Text, Value};

@@ -8,7 +8,6 @@ use Rattle.std.specs.BTreeSet.{insert_key}
 use Rattle.std.specs.Ordering.{match_ordering}
 use Rattle.std.proofs.lemmas.Map.Lookups.{exact_bytes}
 use Rattle.ssq_version.specs.State.{by_bytes}
-use Rattle.ssq_version.proofs.Values.{one_key}
 use Rattle.ssq_join.specs.Telling.{among}
 
 pub among_inserted : (keys : List (List ℕ)) (key bytes : List ℕ) → among (insert_key by_bytes keys key) bytes ≡ (is_at (by_bytes bytes) key || among keys bytes)
@@ -32,10 +31,10 @@ among_inserted (other ∷ keys) key bytes = by (by_bytes key other) refl (among_
         again (is_at (by_bytes bytes) other) (among keys bytes) ∙ ap (λ (k : List ℕ). is_at (by_bytes bytes) k || (is_at (by_bytes bytes) other || among keys bytes)) (sym (exact_bytes key other is))
     by Greater is rest = ap (λ b. is_at (by_bytes bytes) other || b) rest ∙ turned (is_at (by_bytes bytes) other) (is_at (by_bytes bytes) key) (among keys bytes)
 
--- bytes that are known, once more
-pub known_already : (keys : List (List ℕ)) (key bytes : List ℕ) → among keys key ≡ true → among keys bytes ≡ (is_at (by_bytes bytes) key || among keys bytes)
-known_already keys key bytes known = by (is_at (by_bytes bytes) key) refl
-  where
-    by : (b : Bool) → is_at (by_bytes bytes) key ≡ b → among keys bytes ≡ (b || among keys bytes)
-    by true at = ap (λ (k : List ℕ). among keys k) (one_key bytes key at) ∙ known
-    by false at = refl
+-- two that are put in, one after the other
+pub both_known : (before between after : List (List ℕ)) (first second : List ℕ) → between ≡ insert_key by_bytes before second → after ≡ insert_key by_bytes between first → (bytes : List ℕ)
+    → among after bytes ≡ (is_at (by_bytes bytes) first || (is_at (by_bytes bytes) second || among before bytes))
+both_known before between after first second one two bytes =
+    ap (λ (keys : List (List ℕ)). among keys bytes) two
+    ∙ among_inserted between first bytes
+    ∙ ap (λ b. is_at (by_bytes bytes) first || b) (ap (λ (keys : List (List ℕ)). among keys bytes) one ∙ among_inserted before second bytes)

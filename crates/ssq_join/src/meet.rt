@@ -92,18 +92,8 @@ fn judge_pair(
     Ok(Some(judged))
 }
 
-/// Knows from now on that the row with these bytes met a partner. They are copied where they were not known before.
-fn know(met: &mut BTreeSet<Bytes>, row: &Bytes) -> Result<(), AllocError>
-    ensures { OnOk result ((bytes : List ℕ) → among met.new.keys bytes ≡ (is_at (by_bytes bytes) row.now || among met.old.keys bytes)) }
-{
-    if !met.contains(row) {
-        met.insert(row.clone()?)?;
-    }
-    Ok(())
-}
-
 /// Knows from now on that the rows with these bytes met a partner, where they did.
-fn know_both(
+fn know(
     met: &mut BTreeSet<Bytes>,
     is_partner: bool,
     first: &Bytes,
@@ -113,8 +103,8 @@ fn know_both(
         (if is_partner then (is_at (by_bytes bytes) first.now || (is_at (by_bytes bytes) second.now || among met.old.keys bytes)) else among met.old.keys bytes)) }
 {
     if is_partner {
-        know(met, second)?;
-        know(met, first)?;
+        met.insert(second.clone()?)?;
+        met.insert(first.clone()?)?;
     }
     Ok(())
 }
@@ -150,7 +140,7 @@ fn meet_row(
         met: is_partner,
         shown,
     } = judged;
-    know_both(met, is_partner, comer.bytes, key)?;
+    know(met, is_partner, comer.bytes, key)?;
     with_shown(alloc, found, comer.row.key(), shown)
 }
 

@@ -8,7 +8,7 @@ use ssq_outside::Log;
 use std::alloc::{AllocError, Global};
 
 /// More lines than these are not taken of a part.
-pub const MOST_LINES: u64 = 1_099_511_627_776;
+const MOST_LINES: u64 = 1_099_511_627_776;
 
 fn put(found: &mut Vec<u64>, lines: u64) -> Result<(), AllocError>
     ensures { OnOk result (found.new.items ≡ found.old.items ++ lines ∷ []) }

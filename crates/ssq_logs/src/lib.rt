@@ -12,6 +12,6 @@ mod parts;
 
 pub use fault::{LengthFault, PartsFault};
 pub use give::give_back;
-pub use lengths::{MOST_LINES, count_lines};
+pub use lengths::count_lines;
 pub use open::{open_logs, room};
-pub use parts::{MOST_PARTS, count_parts};
+pub use parts::count_parts;

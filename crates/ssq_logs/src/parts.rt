@@ -11,7 +11,7 @@ use ssq_value::Sequence;
 use std::alloc::{AllocError, Global};
 
 /// More parts than these are not taken of a stream.
-pub const MOST_PARTS: u32 = 64;
+const MOST_PARTS: u32 = 64;
 
 /// How many parts a stream has, where these are not too many.
 fn few_parts<I: Inputs>(

@@ -161,8 +161,8 @@ impl FedRow {
     }
 
     /// Gives its values back, without a copy.
-    pub fn into_values(self) -> Result<Row, AllocError>
-        ensures { IfOk result (λ values. values ≡ self.values) }
+    pub fn into_values(self) -> Row
+        ensures { result ≡ self.values }
     {
         let FedRow {
             values,
@@ -170,7 +170,7 @@ impl FedRow {
             ..
         } = self;
         cells.truncate(values as usize);
-        Ok(Row::from_vec(cells))
+        Row::from_vec(cells)
     }
 }
 

@@ -48,7 +48,12 @@ fn ended(alloc: Global, mut told: Vec<u8>, end: Result<(), Stop>) -> (u8, Vec<u8
 }
 
 /// Writes what was told and how the program ended, and answers its status.
-pub fn tell<O: Output>(alloc: Global, out: &mut O, told: Vec<u8>, end: Result<(), Stop>) -> u8
+pub(crate) fn tell<O: Output>(
+    alloc: Global,
+    out: &mut O,
+    told: Vec<u8>,
+    end: Result<(), Stop>,
+) -> u8
     ensures counted { O.faults out.old ≤ O.faults out.new }
     ensures status { IsStatus (stop_in end) (O.faults out.old) (O.faults out.new) result }
     ensures wrote { O.tells → Wrote (stop_in end) told.items (O.content out.old) (O.content out.new) (O.faults out.old) (O.faults out.new) result }

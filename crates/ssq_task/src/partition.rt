@@ -131,7 +131,7 @@ fn push_values(values: &mut Vec<Row>, rows: Vec<FedRow>) -> Result<(), AllocErro
 {
     values.reserve(rows.len())?;
     for row in rows {
-        values.push(row.into_values()?)?;
+        values.push(row.into_values())?;
     }
     Ok(())
 }

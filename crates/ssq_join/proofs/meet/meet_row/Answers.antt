@@ -43,14 +43,14 @@ returns-clause-meets c = λ other was pairs is meets.
     let row = c.args.comer.row.now in
     let judged = c.in-Some-judged.judged in
     let before = c.args.met.now.keys in
-    let after = c.know_both.new.met.keys in
+    let after = c.know.new.met.keys in
     let same = some_has (IsThat other was) c.in_ok-read.read c.in-Some.other c.in-Some.is
     (c.in_ok-read.ensures.each (is_left other.stream) other.values was (is_kept_row query joining row other was c.args.key.now c.args.value.now is)) in
     let near : JudgedAs query joining row c.in-Some.other.left other.values (Some judged) =
     subst (JudgedAs query joining row c.in-Some.other.left other.values) c.in-Some-judged.is
     (subst (λ (values : List Value). JudgedAs query joining row c.in-Some.other.left values c.in_ok-judged.judged) same.1 c.in_ok-judged.ensures) in
     let knows : (bytes : List ℕ) → among after bytes ≡ (if judged.met then (is_at (by_bytes bytes) (row_key row) || (is_at (by_bytes bytes) c.args.key.now || among before bytes)) else among before bytes) =
-    subst (λ (own : List ℕ). (bytes : List ℕ) → among after bytes ≡ (if judged.met then (is_at (by_bytes bytes) own || (is_at (by_bytes bytes) c.args.key.now || among before bytes)) else among before bytes)) c.requires.bytes c.in_ok-know_both.ensures in
+    subst (λ (own : List ℕ). (bytes : List ℕ) → among after bytes ≡ (if judged.met then (is_at (by_bytes bytes) own || (is_at (by_bytes bytes) c.args.key.now || among before bytes)) else among before bytes)) c.requires.bytes c.in_ok-know.ensures in
     IfOk-weaker c.with_shown.result (λ now. (all : List Considered) → Tells c.args.found all → Tells now (record { key = row.key; row = shown_by judged.shown } ∷ all))
     (λ now. Meets query joining (with_candidate joining row other pairs) now after)
     (λ now told. one_met query joining row other was c.args.key.now c.args.value.now is c.in-Some.other.left same.0 judged near pairs c.args.found now before after told knows meets)
