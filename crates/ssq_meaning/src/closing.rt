@@ -6,51 +6,17 @@ ghost use Rattle.ssq_time.specs.Time.{IsSpan, IsStampTime};
 ghost use Rattle.ssq_value.specs.declared.value.Value.{Value as Cell};
 ghost use Rattle.ssq_value.specs.Kind.{IfTime};
 ghost use Rattle.ssq_shape.specs.Evaluation.{cell_at, time_in};
-ghost use Rattle.ssq_shape.specs.Late.{event_of, is_column_of, is_event, is_window_of};
 ghost use Rattle.ssq_meaning.specs.Dedup as repeats;
 ghost use Rattle.ssq_meaning.specs.Group.{closing_time, end_of, event_time, time_by, window_end};
 ghost use Rattle.ssq_meaning.specs.Join.{event_column, join_time};
 ghost use Rattle.ssq_meaning.specs.Keyed.{key_length, key_time, keys_have_times, keys_have_times_in};
 ghost use Rattle.ssq_meaning.specs.Windows.{HasWindow, HasWindows};
 
-use ssq_shape::{Bound, GroupKey, Grouping, Mode, Shape, Stream, TimeBound, TimeKey, time_key};
+use ssq_shape::{
+    Bound, GroupKey, Grouping, Mode, Shape, TimeBound, TimeKey, event_of, is_column_of, is_event,
+    is_window_of, time_key,
+};
 use ssq_value::Value;
-
-fn event_of(streams: &[Stream]) -> Option<usize>
-    ensures { result ≡ event_of streams.now }
-{
-    match streams.first() {
-        Some(stream) => stream.schema.event(),
-        None => None,
-    }
-}
-
-fn is_event(event: Option<usize>, column: usize) -> bool
-    ensures { result ≡ is_event event column }
-{
-    match event {
-        Some(at) => at == column,
-        None => false,
-    }
-}
-
-fn is_window_of(event: Option<usize>, key: &GroupKey) -> bool
-    ensures { result ≡ is_window_of event key.now }
-{
-    match key {
-        GroupKey::Window { column, .. } => is_event(event, *column),
-        GroupKey::Column(_) => false,
-    }
-}
-
-fn is_column_of(event: Option<usize>, key: &GroupKey) -> bool
-    ensures { result ≡ is_column_of event key.now }
-{
-    match key {
-        GroupKey::Window { .. } => false,
-        GroupKey::Column(column) => is_event(event, *column),
-    }
-}
 
 fn time_in(value: &Value) -> Option<i64>
     ensures { result ≡ time_in value.now }

@@ -18,7 +18,7 @@ pub enum TimeKey {
 }
 
 /// The event column of the stream of FROM, where it is watermarked.
-fn event_of(streams: &[Stream]) -> Option<usize>
+pub fn event_of(streams: &[Stream]) -> Option<usize>
     ensures { result ≡ event_of streams.now }
 {
     match streams.first() {
@@ -27,7 +27,8 @@ fn event_of(streams: &[Stream]) -> Option<usize>
     }
 }
 
-fn is_event(event: Option<usize>, column: usize) -> bool
+/// Whether a column is the event column.
+pub fn is_event(event: Option<usize>, column: usize) -> bool
     ensures { result ≡ is_event event column }
 {
     match event {
@@ -36,7 +37,8 @@ fn is_event(event: Option<usize>, column: usize) -> bool
     }
 }
 
-fn is_window_of(event: Option<usize>, key: &GroupKey) -> bool
+/// Whether rows are grouped by a window over the event column.
+pub fn is_window_of(event: Option<usize>, key: &GroupKey) -> bool
     ensures { result ≡ is_window_of event key.now }
 {
     match key {
@@ -45,7 +47,8 @@ fn is_window_of(event: Option<usize>, key: &GroupKey) -> bool
     }
 }
 
-fn is_column_of(event: Option<usize>, key: &GroupKey) -> bool
+/// Whether rows are grouped by the event column itself.
+pub fn is_column_of(event: Option<usize>, key: &GroupKey) -> bool
     ensures { result ≡ is_column_of event key.now }
 {
     match key {
