@@ -1,4 +1,5 @@
 pub mod Setting
 pub mod Laws
+pub mod Growing
 pub mod States
 pub mod Wide

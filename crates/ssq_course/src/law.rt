@@ -2,6 +2,9 @@
 
 ghost use Rattle.ssq_meaning.specs.Epochs.{accepted, on_time};
 ghost use Rattle.ssq_core.specs.Course.{Cuts};
+ghost use Rattle.ssq_core.specs.Sound.{StandsOrEmpty};
+ghost use Rattle.ssq_core.specs.Standing.{Stands};
+ghost use Rattle.ssq_course.specs.Growing.{StaysAsLogsGrow};
 ghost use Rattle.ssq_course.specs.Setting.{Setting};
 ghost use Rattle.ssq_course.specs.States.{AreOfStates, StatesCanBeHeld};
 ghost use Rattle.ssq_course.specs.Wide.{JoinedRowsAreWide};
@@ -23,6 +26,13 @@ pub fn jobs_are_causal()
 /// determine the cuts as far as epochs are planned.
 pub fn files_say_their_course()
     ensures { FilesSayTheirCourse }
+{}
+
+/// The law of logs that grow: a checkpoint that stands over some logs stands over the same logs with more lines behind, whatever their end was
+/// taken to be; and so it is for one that stands or is empty.
+pub fn checkpoints_stand_as_logs_grow()
+    ensures stands { StaysAsLogsGrow Stands }
+    ensures or_empty { StaysAsLogsGrow StandsOrEmpty }
 {}
 
 /// The law of plans: the plan of an epoch that may follow those before it is one that can be written, where its watermark is of the

@@ -1,5 +1,6 @@
 pub mod Between
 pub mod Causal
+pub mod Growing
 pub mod Water
 pub mod Adding
 pub mod Worked

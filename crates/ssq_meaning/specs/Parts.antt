@@ -1,5 +1,5 @@
 -- The parts of a job's streams.
-use Rattle.std.specs.Prelude.{ℕ, zero, suc, ◌+◌, List, [], ◌∷◌}
+use Rattle.std.specs.Prelude.{◌≡◌, ℕ, zero, suc, ◌+◌, List, [], ◌∷◌, ◌++◌}
 use Rattle.ssq_meaning.specs.Meaning.{Line}
 
 -- A part of a stream: the stream's place in the order of FROM, the part's own number, and all the lines that it will come to hold.
@@ -21,3 +21,15 @@ parts_from stream part zero (count ∷ counts) (own ∷ lines) = parts_from (str
 abbrev pub parts_of : (counts : List ℕ) → (lines : List (List Line)) → List Part
 parts_of [] lines = []
 parts_of (count ∷ counts) lines = parts_from 0 0 count counts lines
+
+-- A log has grown: the lines that it had come first, and then the others.
+pub record IsGrown (old longer : List Line) : Type 0 where
+  pub more : List Line
+  pub is : longer ≡ old ++ more
+
+-- There are as many logs as before, and each has grown, by no line or by some.
+abbrev pub AreGrown : (lines longer : List (List Line)) → Type 0
+AreGrown [] [] = Unit {0}
+AreGrown [] (next ∷ longer) = ⊥
+AreGrown (old ∷ lines) [] = ⊥
+AreGrown (old ∷ lines) (next ∷ longer) = IsGrown old next × AreGrown lines longer

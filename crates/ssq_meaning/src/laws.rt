@@ -14,13 +14,20 @@ ghost use Rattle.ssq_meaning.specs.Times.{AtMost};
 ghost use Rattle.ssq_meaning.specs.Epochs.{accepted, bucket, key_fault, on_time, seen, watermark, watermark_before};
 ghost use Rattle.ssq_meaning.specs.Group.{least_key};
 ghost use Rattle.ssq_meaning.specs.Operator.{operator_of};
-ghost use Rattle.ssq_meaning.specs.Laws.{SaysSame, outs, batch};
+ghost use Rattle.ssq_meaning.specs.Laws.{ReadsSame, SaysSame, outs, batch};
 
 /// The law of cuts: what is said of the first n epochs, and the watermark of the next, hang on where these epochs end, and on nothing
 /// that comes later.
 pub fn epochs_hang_on_their_cuts()
     ensures { (query : Query) (parts : List Part) (one other : Cuts) (n : ℕ) → AreSameTo one other n →
-        SaysSame query parts one other n }
+        SaysSame query parts parts one other n }
+{}
+
+/// The law of what is read: what is said of the first n epochs, and the watermark of the next, hang on what these read of the lines, and on
+/// nothing else that the parts hold.
+pub fn epochs_hang_on_what_they_read()
+    ensures { (query : Query) (parts others : List Part) (one other : Cuts) (n : ℕ) → ReadsSame query parts others one other n →
+        SaysSame query parts others one other n }
 {}
 
 /// The law of watermarks: they never fall, from none to a time included.

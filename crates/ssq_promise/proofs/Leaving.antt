@@ -1,22 +1,19 @@
 -- What a round that is over leaves, and what a run keeps.
-use Rattle.std.proofs.Common.{◌≡◌, ◌&&◌, ◌<◌, ◌≤◌, ◌∷◌, [], ℕ, Bool, true, false, true≢false, List, Option, Some, None, refl, sym, ap, ◌∙◌, subst, inl, inr, arith}
+use Rattle.std.proofs.Common.{◌≡◌, ◌&&◌, ◌≤◌, ◌∷◌, [], ℕ, Bool, true, false, true≢false, List, Option, Some, None, refl, sym, ap, ◌∙◌, subst, inl, inr, arith}
 use Rattle.std.specs.Prelude.{is_some}
-use Rattle.std.proofs.lemmas.Bool.{cases_lt, ltb-true}
+use Rattle.std.proofs.lemmas.Bool.{cases_lt}
 use Rattle.ssq_outside.specs.declared.name.Name.{Name}
 use Rattle.ssq_outside.specs.declared.name.Name.TheVariants as name
 use Rattle.ssq_outside.specs.Files.{Files, Had, files_of, settled_at}
 use Rattle.ssq_outside.specs.History.{History, had_now, files_now, LeavesOnly}
 use Rattle.ssq_outside.proofs.Steps.{files_are_image}
-use Rattle.ssq_core.specs.Course.{Course, Cuts, Job, IsCausal, AgreeUpTo, AreSameUpTo, truth}
-use Rattle.ssq_core.specs.Standing.{IsThere, is_allowed, StandsAt}
-use Rattle.ssq_core.specs.Staying.{IsNoOther}
-use Rattle.ssq_core.proofs.Files.{there_of}
+use Rattle.ssq_core.specs.Course.{Cuts, Job, IsCausal, AreSameUpTo}
+use Rattle.ssq_core.specs.Standing.{IsThere, StandsAt}
 use Rattle.ssq_core.specs.Settled.{IsSettledAs}
 use Rattle.ssq_core.specs.Machine.{Desk, running, waits}
 use Rattle.ssq_core.specs.Sound.{Sound, StandsOrEmpty, IsSoundAt, IsSoundWith, IsSure}
 use Rattle.ssq_core.proofs.Hads.{sure_settled}
-use Rattle.ssq_core.proofs.Holding.{agree_truth}
-use Rattle.ssq_core.proofs.Images.{stands_by, plan_below, commit_below}
+use Rattle.ssq_core.proofs.Images.{stands_by, plan_below, commit_below, agree_stands}
 use Rattle.ssq_core.proofs.Desks.{settled_first}
 use Rattle.ssq_core.proofs.Moves.{moves_on, open_sound, first_sound as starts_sound}
 use Rattle.ssq_core.proofs.Acked.{settled_stay, acknowledged_stay}
@@ -87,21 +84,6 @@ still_by job r s (entry.Undropped q) n still may moves is shelf runs settled tid
 still_run : (tells : Type 0) → tells → (job : Job) (r : Scope) (next : Cuts → ℕ → Bool) (es : List Entry) (s n : State) → Leads tells job r next s es n → IsStill s → IsStill n
 still_run tells t job r next [] s n l still = subst IsStill l still
 still_run tells t job r next (e ∷ es) s n l still = still_run tells t job r next es l.0 n l.2 (still_by job r s e l.0 still l.1.may (l.1.moves t) l.1.core l.1.shelf)
-
--- files that stand for a course stand for one that says the same of the epochs so far
-agree_stands : (one other : Course) (n k : ℕ) (files : Files) → AgreeUpTo one other n → StandsAt one n k files → StandsAt other n k files
-agree_stands one other n k files agree at = record {
-  reached = at.reached;
-  are_true = λ q. by q (at.are_true q);
-  needed = at.needed;
-  allowed = λ q there. subst (λ (keeping : ℕ). is_allowed keeping n k q ≡ true) agree.keeping (at.allowed q there);
-  loads = λ p less. at.loads p (subst (λ (keeping : ℕ). p < keeping) (sym agree.keeping) less);
-  faultless = λ e there. sym (agree.is_faulty e (ltb-true e n (at.allowed (name.Out e) there))) ∙ at.faultless e there;
-}
-  where
-    by : (q : Name) → IsNoOther files q (truth one q) → IsNoOther files q (truth other q)
-    by q (inl none) = inl none
-    by q (inr is) = inr (is ∙ ap Some (agree_truth one other n k q at.reached.planned_first agree (at.allowed q (there_of files q (truth one q) is))))
 
 -- where the desk takes all names for settled, all plans and commits are
 all_settled : (job : Job) (d : Desk) (had : Had) → (sound : IsSoundAt job d had) → ((q : Name) → d.there q ≡ true → d.sure q ≡ true) → (d.planned ≤ sound.b) × (d.committed ≤ sound.a)

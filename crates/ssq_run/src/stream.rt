@@ -17,10 +17,12 @@ ghost use Rattle.ssq_meaning.specs.Meaning.{Values as ValuesOf};
 ghost use Rattle.ssq_meaning.specs.Table.{table};
 ghost use Rattle.ssq_meaning.specs.Times.{AtMost};
 ghost use Rattle.ssq_outside.specs.Faults.{Rises};
+ghost use Rattle.ssq_outside.specs.Files.{Files as FilesOf};
 ghost use Rattle.ssq_outside.specs.History.{LeavesNow, LeavesOnly, files_now};
 ghost use Rattle.ssq_core.specs.Course.{Cuts as CutsOf};
 ghost use Rattle.ssq_core.specs.Sound.{StandsOrEmpty};
 ghost use Rattle.ssq_core.specs.Standing.{Stands, StandsAt};
+ghost use Rattle.ssq_course.specs.Growing.{HasGrown};
 ghost use Rattle.ssq_course.specs.Setting.{Setting as SettingOf, parts_in, course_of, job_of};
 ghost use Rattle.ssq_words.specs.Asking.{asked};
 ghost use Rattle.ssq_run.specs.Going.{IsAskedFor, CanGoOn, HasRoom, IsFaultless, CanLook, CanShow, NoneFailed, IsDone, IsDoneToAFault};
@@ -33,6 +35,7 @@ use crate::prepare::{Todo, prepare};
 use crate::tell::tell;
 use ssq_accept::files_have_one_answer;
 use ssq_bind::{queries_are_typed, queries_read_their_streams};
+use ssq_course::checkpoints_stand_as_logs_grow;
 use ssq_meaning::{
     first_rows_add_up, forgotten_groups_lose_no_row, forgotten_keys_lose_no_row,
     forgotten_rows_lose_no_partner, groups_in_append_add_up, groups_in_complete_are_shown_whole,
@@ -85,6 +88,11 @@ pub fn stream_main<R: Threads + Wait + Sync, D: Disk, I: Inputs, O: Output, G: G
     // And where each stood, so does each: none is empty.
     ensures stay { D.tells → I.tells → (s : SettingOf) → IsAskedFor (record { words = map string_bytes words.now; held = I.held inputs; known = I.available inputs }) (D.history disk) s →
         LeavesNow (D.history disk) (Stands (job_of s)) → LeavesOnly (D.history disk) (D.history result.disk) (Stands (job_of s)) }
+    // Logs may grow between two runs. Where files stand for a query over its logs, or there are none, so it is for that query over the same logs with
+    // more lines behind: what one run left the next takes, whatever line the one took for a log's last.
+    ensures stands_as_logs_grow { (s longer : SettingOf) (files : FilesOf) → HasGrown s longer → StandsOrEmpty (job_of s) files → StandsOrEmpty (job_of longer) files }
+    // And where they stand for the one, so they do for the other: there are some.
+    ensures stays_as_logs_grow { (s longer : SettingOf) (files : FilesOf) → HasGrown s longer → Stands (job_of s) files → Stands (job_of longer) files }
 
     // What the epochs of a query that keeps nothing show, one after the other, are the rows of the batch query on all lines that they cover,
     // each as often, however these were cut.
@@ -172,6 +180,7 @@ pub fn stream_main<R: Threads + Wait + Sync, D: Disk, I: Inputs, O: Output, G: G
     ensures out_fault { result.status ≡ 8 → Rises (O.faults out) (O.faults result.out) }
 {
     runs_go_on::<D, I, O>();
+    checkpoints_stand_as_logs_grow();
     rows_add_up();
     groups_in_append_add_up();
     groups_in_complete_are_shown_whole();

@@ -30,7 +30,7 @@ cut_more first plans more (suc e) le = ap (λ (p : Plan). p.ends) (get_or_append
 
 -- the law of cuts, as the crate of the meaning has it
 abbrev pub CutsHang : Type 0
-CutsHang = (query : Bound) (parts : List Part) (one other : Offsets) (n : ℕ) → AreSameTo one other n → SaysSame query parts one other n
+CutsHang = (query : Bound) (parts : List Part) (one other : Offsets) (n : ℕ) → AreSameTo one other n → SaysSame query parts parts one other n
 
 -- whether an epoch without lines is due hangs on the cuts so far
 pub due_same : CutsHang → (s : Setting) (one other : Cuts) (n : ℕ) → ((e : ℕ) → e ≤ n → other e ≡ one e) → due_at s other n ≡ due_at s one n

@@ -18,13 +18,14 @@ use Rattle.ssq_core.specs.Sound.{AreProper}
 use Rattle.ssq_logs.specs.Asked.{most_lines}
 use Rattle.ssq_course.specs.Setting.{Setting, parts_in, cut_of, cuts_of, is_end_of, is_start, is_within, job_of}
 use Rattle.ssq_course.specs.States.{AreOfStates, CanHoldBy, CoverFewLines, HasFewColumns, StatesCanBeHeld}
+use Rattle.ssq_course.proofs.Proper.{is_next_if, going}
 use Rattle.ssq_open.specs.declared.wanted.Lens.{Lens}
 use Rattle.ssq_open.specs.Lens.{found_from, IsFew}
 use Rattle.ssq_terms.specs.Setting.{Runs, IsSettingOf, AreFound, found_lines}
 use Rattle.ssq_terms.specs.Laws.{StatesAreJobs}
 use Rattle.ssq_terms.specs.Partitions.{CoverFound}
-use Rattle.ssq_terms.proofs.Starts.{AreParts, going}
-use Rattle.ssq_terms.proofs.Wanted.{is_next_if, logs_count, parts_are}
+use Rattle.ssq_terms.proofs.Starts.{AreParts}
+use Rattle.ssq_terms.proofs.Wanted.{logs_count, parts_are}
 
 -- ---- one cut and the next
 

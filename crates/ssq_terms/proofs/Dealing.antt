@@ -16,6 +16,7 @@ use Rattle.ssq_core.proofs.Holding.{lt_true}
 use Rattle.ssq_course.specs.Setting.{Setting, parts_in, cut_of, cuts_of, watermark_at, has_lines, is_end_of, is_start, is_within, closes, is_next_of, job_of}
 use Rattle.ssq_course.specs.Setting.{has_line as is_longer}
 use Rattle.ssq_course.specs.Laws.{AreCausal}
+use Rattle.ssq_course.proofs.Proper.{is_next_if, going}
 use Rattle.ssq_open.specs.Lens.{found_from}
 use Rattle.ssq_open.specs.Epochs.{starts}
 use Rattle.ssq_board.specs.Core.{within, next_end, next_ends, is_behind, has_line, has_line_at}
@@ -23,8 +24,8 @@ use Rattle.ssq_board.specs.Rounds.{HasCap}
 use Rattle.ssq_logs.specs.Asked.{most_lines}
 use Rattle.ssq_terms.specs.Laws.{due_at, IsEndAt, TasksHaveTerms, DuesAreOfMarks, EndsAreOfParts}
 use Rattle.ssq_terms.proofs.Marks.{unmarked}
-use Rattle.ssq_terms.proofs.Starts.{AreParts, start_of_is, starts_start, found_numbers, going}
-use Rattle.ssq_terms.proofs.Wanted.{parts_are, is_next_if}
+use Rattle.ssq_terms.proofs.Starts.{AreParts, start_of_is, starts_start, found_numbers}
+use Rattle.ssq_terms.proofs.Wanted.{parts_are}
 
 -- the same parts have lines, as the course and the desk count them
 lines_at : (froms tos : Ends) (i : ℕ) → has_lines (cut_of froms) (cut_of tos) i ≡ has_line_at froms tos i
@@ -157,7 +158,7 @@ next_comes s cuts found cap e are some start proper next more =
 
 -- the law of cuts: epochs hang on them
 abbrev pub EpochsHang : Type 0
-EpochsHang = (query : Bound) (parts : List Part) (one other : Offsets) (n : ℕ) → AreSameTo one other n → SaysSame query parts one other n
+EpochsHang = (query : Bound) (parts : List Part) (one other : Offsets) (n : ℕ) → AreSameTo one other n → SaysSame query parts parts one other n
 
 -- the law of epochs without lines: the watermark stays
 abbrev pub WatermarksStay : Type 0

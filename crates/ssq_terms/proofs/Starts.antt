@@ -1,8 +1,8 @@
 -- The parts of a setting are those that were found.
 use Rattle.std.proofs.Common.{◌≡◌, ◌≤◌, ◌+◌, ◌^◌, ◌==◌, ◌&&◌, ◌++◌, [], ◌∷◌, ℕ, zero, suc, List, true, refl, ap, sym, ◌∙◌, arith, add-one, length, map}
-use Rattle.std.specs.Prelude.{All, nat_le}
+use Rattle.std.specs.Prelude.{All}
 use Rattle.std.specs.List.{list_all, zip}
-use Rattle.std.proofs.lemmas.Bool.{eqb-true, eq-eqb, leb-true, le-leb, and_from, and_parts}
+use Rattle.std.proofs.lemmas.Bool.{eqb-true, eq-eqb, le-leb, and_from, and_parts}
 use Rattle.std.proofs.lemmas.List.{append_assoc, append-nil, map-append}
 use Rattle.std.proofs.lemmas.List.Elements.{All-cons, All-nil, All-head, All-tail}
 use Rattle.ssq_plans.specs.declared.part.PartEnd.{PartEnd}
@@ -12,6 +12,7 @@ use Rattle.ssq_meaning.specs.Epochs.{joined}
 use Rattle.ssq_core.specs.Course.{Ends}
 use Rattle.ssq_course.specs.Setting.{cut_of, end_at, is_end_of, is_start, is_within}
 use Rattle.ssq_course.specs.Laws.{IsFit}
+use Rattle.ssq_course.proofs.Proper.{going}
 use Rattle.ssq_logs.specs.Asked.{most_lines}
 use Rattle.ssq_open.specs.Lens.{counts_of, found_in, found_from, IsFew}
 use Rattle.ssq_open.specs.Looking.{begins_from}
@@ -177,35 +178,6 @@ all_begin stream (own ∷ rest) =
     map-append start_of (found_in stream 0 own) (found_from (stream + 1) rest) ∙ (λ i. here i ++ more i)
 
 -- ---- how they go on
-
--- Of one part between two cuts: both ends are its own, the end does not fall, and is not above the part's lines, nor above the most that are
--- taken of a log; and so it is of the rest.
-pub record IsGoing (part : Part) (parts : List Part) (from to : PartEnd) (froms tos : Ends) : Type 0 where
-  pub from_own : is_end_of part from ≡ true
-  pub to_own : is_end_of part to ≡ true
-  pub up : from.end ≤ to.end
-  pub most : to.end ≤ length part.lines
-  pub few : to.end ≤ most_lines
-  pub rest : is_within parts froms tos ≡ true
-
-pub going : (part : Part) (parts : List Part) (from to : PartEnd) (froms tos : Ends) → is_within (part ∷ parts) (from ∷ froms) (to ∷ tos) ≡ true → IsGoing part parts from to froms tos
-going part parts from to froms tos is =
-    let rest = is_within parts froms tos in
-    let there = nat_le to.end (length part.lines) in
-    let few = nat_le to.end most_lines in
-    let first = and_parts (is_end_of part from) (is_end_of part to && (nat_le from.end to.end && (there && (few && rest)))) is in
-    let second = and_parts (is_end_of part to) (nat_le from.end to.end && (there && (few && rest))) first.1 in
-    let third = and_parts (nat_le from.end to.end) (there && (few && rest)) second.1 in
-    let fourth = and_parts there (few && rest) third.1 in
-    let fifth = and_parts few rest fourth.1 in
-    record {
-      from_own = first.0;
-      to_own = second.0;
-      up = leb-true from.end to.end third.0;
-      most = leb-true to.end (length part.lines) fourth.0;
-      few = leb-true to.end most_lines fifth.0;
-      rest = fifth.1;
-    }
 
 same_part : (part : Part) (from to : PartEnd) → is_end_of part from ≡ true → is_end_of part to ≡ true → from.end ≤ to.end → keeps_up (from, to) ≡ true
 same_part part from to is also up =

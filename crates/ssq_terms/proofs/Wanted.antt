@@ -1,6 +1,5 @@
 -- The job of a setting is the one that is wanted.
-use Rattle.std.proofs.Common.{◌≡◌, ◌<◌, ◌≤◌, ◌+◌, ◌^◌, ◌&&◌, ◌||◌, [], ◌∷◌, ℕ, List, Option, true, refl, ap, sym, ◌∙◌, subst, arith, length}
-use Rattle.std.proofs.lemmas.Bool.{and_parts}
+use Rattle.std.proofs.Common.{◌≡◌, ◌<◌, ◌≤◌, ◌+◌, ◌^◌, [], ◌∷◌, ℕ, List, Option, refl, ap, sym, ◌∙◌, subst, arith, length}
 use Rattle.std.specs.Prelude.{All}
 use Rattle.std.proofs.lemmas.List.Elements.{All-cons, All-nil, All-head, All-tail}
 use Rattle.std.proofs.lemmas.List.{length-map}
@@ -13,12 +12,10 @@ use Rattle.ssq_shape.specs.declared.bound.Bound.{Bound}
 use Rattle.ssq_shape.specs.declared.bound.Shape.{Shape}
 use Rattle.ssq_shape.specs.declared.bound.Shape.TheVariants.{Plain, Group, Dedup, Join}
 use Rattle.ssq_meaning.specs.Parts.{parts_of}
-use Rattle.ssq_meaning.specs.Times.{is_above}
-use Rattle.ssq_meaning.specs.Epochs.{watermark_before}
-use Rattle.ssq_core.specs.Course.{Cuts}
-use Rattle.ssq_course.specs.Setting.{Setting, parts_in, meta_of, cuts_of, watermark_at, keeping_of, is_start, is_within, has_line, closes, is_next_of, job_of}
+use Rattle.ssq_course.specs.Setting.{Setting, parts_in, meta_of, keeping_of, job_of}
 use Rattle.ssq_course.specs.Laws.{IsFit}
 use Rattle.ssq_course.specs.Laws.{AreCausal, PlansCanBeWritten as PlansAreWritable}
+use Rattle.ssq_course.proofs.Proper.{is_next_if}
 use Rattle.ssq_open.specs.declared.wanted.Lens.{Lens}
 use Rattle.ssq_open.specs.Lens.{asked, counts_of, found_from, IsFew}
 use Rattle.ssq_open.specs.Looking.{begins}
@@ -41,18 +38,6 @@ same_keeping (Join joining) partitions = refl
 few_counted : (streams : List (List ℕ)) → All IsFew streams → All IsCount (counts_of streams)
 few_counted [] few = All-nil IsCount
 few_counted (own ∷ rest) few = All-cons IsCount (length own) (counts_of rest) (All-head IsFew own rest few) (few_counted rest (All-tail IsFew own rest few))
-
--- what is within an epoch that may come
-pub record IsNext (s : Setting) (cuts : Cuts) (e : ℕ) : Type 0 where
-  pub start : is_start (parts_in s) (cuts 0) ≡ true
-  pub within : is_within (parts_in s) (cuts e) (cuts (e + 1)) ≡ true
-
-pub is_next_if : (s : Setting) (cuts : Cuts) (e : ℕ) → is_next_of s cuts e ≡ true → IsNext s cuts e
-is_next_if s cuts e next =
-    let more = has_line (cuts e) (cuts (e + 1)) || (closes s.job.bound && is_above (watermark_at s cuts e) (watermark_before s.job.bound (parts_in s) (cuts_of cuts) e)) in
-    let first = and_parts (is_start (parts_in s) (cuts 0)) (is_within (parts_in s) (cuts e) (cuts (e + 1)) && more) next in
-    let second = and_parts (is_within (parts_in s) (cuts e) (cuts (e + 1))) more first.1 in
-    record { start = first.0; within = second.0 }
 
 module _ (s : Setting) (bound : Bound) (partitions : Option ℕ) (lens : Lens) (is : IsSettingOf s bound partitions lens) where
   named : AreNamed (parts_in s) (found_from 0 lens.streams)

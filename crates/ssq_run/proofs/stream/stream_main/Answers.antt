@@ -107,6 +107,12 @@ returns-clause-stay g c = λ tells told s of each.
       | in-Err w ↦ rw w.disk-is (same_leaves _ _ (Stands (job_of s)) (ap g.D.Disk.history w.stopped.ensures.0) each)
     ]
 
+pub returns-clause-stands_as_logs_grow : goal.returns-clause-stands_as_logs_grow
+returns-clause-stands_as_logs_grow g c = c.checkpoints_stand_as_logs_grow.ensures.or_empty
+
+pub returns-clause-stays_as_logs_grow : goal.returns-clause-stays_as_logs_grow
+returns-clause-stays_as_logs_grow g c = c.checkpoints_stand_as_logs_grow.ensures.stands
+
 pub returns-clause-held : goal.returns-clause-held
 returns-clause-held g c = λ told. elim c.match-prepare.branch [
   | in-Ok-Run w ↦ rw (w.inputs-is, w.run_query-ran.ensures.held told) (c.prepare.ensures.held told)
