@@ -15,7 +15,7 @@ use std::rt::Files;
 use std::{fs, io, str};
 
 /// The longest path of a checkpoint's folder, in bytes.
-pub const ROOT_CAP: usize = 192;
+pub(crate) const ROOT_CAP: usize = 192;
 
 /// The longest path inside it: the root's, and at most 36 bytes of a name.
 const PATH_CAP: usize = 256;
@@ -24,7 +24,7 @@ type PathText = ArrayString<PATH_CAP>;
 
 /// A folder that holds a checkpoint. Each file is written in its folder `aside` under a number, and renamed from there.
 #[derive(Drop)]
-pub struct Checkpoint<R> {
+pub(crate) struct Checkpoint<R> {
     rt: R,
     root: ArrayString<ROOT_CAP>,
     /// Whether the files aside of an earlier run are gone.
@@ -36,7 +36,7 @@ pub struct Checkpoint<R> {
 
 impl<R: Files + Drop> Checkpoint<R> {
     /// The checkpoint in the folder of this path, if there is one. Nothing is done yet.
-    pub fn new(rt: R, root: &str) -> Checkpoint<R>
+    pub(crate) fn new(rt: R, root: &str) -> Checkpoint<R>
         requires { length root.now ≤ ROOT_CAP }
     {
         Checkpoint {
@@ -49,7 +49,7 @@ impl<R: Files + Drop> Checkpoint<R> {
     }
 
     /// Makes a file aside, and gives its number.
-    pub fn stage(&mut self) -> io::Result<(u64, R::File)> {
+    pub(crate) fn stage(&mut self) -> io::Result<(u64, R::File)> {
         self.clear()?;
         let number = self.next;
         self.next = number.saturating_add(1);
@@ -64,12 +64,12 @@ impl<R: Files + Drop> Checkpoint<R> {
     }
 
     /// Takes a file aside away.
-    pub fn discard(&self, number: u64) -> io::Result<()> {
+    pub(crate) fn discard(&self, number: u64) -> io::Result<()> {
         fs::remove_file(&self.rt, self.aside(number)?.as_str())
     }
 
     /// Renames a file aside to a name's path.
-    pub fn publish(&mut self, number: u64, name: Name) -> io::Result<()> {
+    pub(crate) fn publish(&mut self, number: u64, name: Name) -> io::Result<()> {
         let from = self.aside(number)?;
         let to = self.path(NameText(name))?;
         let folder = Folder::of(name);
@@ -84,7 +84,7 @@ impl<R: Files + Drop> Checkpoint<R> {
     }
 
     /// Removes a name's file, where there is one.
-    pub fn remove(&mut self, name: Name) -> io::Result<()> {
+    pub(crate) fn remove(&mut self, name: Name) -> io::Result<()> {
         let path = self.path(NameText(name))?;
         self.unsynced.add(Folder::of(name));
         if_there(fs::remove_file(&self.rt, path.as_str()))?;
@@ -92,7 +92,7 @@ impl<R: Files + Drop> Checkpoint<R> {
     }
 
     /// Syncs each folder whose names may have changed. After an error all of them are still to be synced.
-    pub fn sync(&mut self) -> io::Result<()> {
+    pub(crate) fn sync(&mut self) -> io::Result<()> {
         self.clear()?;
         match &self.unsynced {
             Unsynced::All => self.sync_all()?,
@@ -107,7 +107,7 @@ impl<R: Files + Drop> Checkpoint<R> {
     }
 
     /// The bytes of a name's file, where there is one.
-    pub fn read(&self, alloc: Global, name: Name) -> io::Result<Option<Vec<u8>>> {
+    pub(crate) fn read(&self, alloc: Global, name: Name) -> io::Result<Option<Vec<u8>>> {
         let path = self.path(NameText(name))?;
         match if_there(fs::open(&self.rt, path.as_str()))? {
             None => Ok(None),
@@ -120,7 +120,7 @@ impl<R: Files + Drop> Checkpoint<R> {
     }
 
     /// The names that have a file, in their order. What has no name's path is passed over.
-    pub fn names(&self, alloc: Global) -> io::Result<Vec<Name>> {
+    pub(crate) fn names(&self, alloc: Global) -> io::Result<Vec<Name>> {
         let mut names = Vec::new(alloc);
         for folder in [Folder::Root, Folder::Plans, Folder::Commits, Folder::Sink] {
             self.gather(folder, &mut names)?;

@@ -6,7 +6,7 @@ use std::fmt;
 
 /// A folder of a checkpoint, or the one that it lies in.
 #[derive(Clone, Copy, Default, PartialEq, Eq)]
-pub enum Folder {
+pub(crate) enum Folder {
     /// The one that the checkpoint lies in.
     Parent,
     #[default]
@@ -22,7 +22,7 @@ pub enum Folder {
 
 impl Folder {
     /// The one in which a name's file lies.
-    pub fn of(name: Name) -> Folder {
+    pub(crate) fn of(name: Name) -> Folder {
         match name {
             Name::Meta => Folder::Root,
             Name::Plan(_) => Folder::Plans,
@@ -35,7 +35,7 @@ impl Folder {
     }
 
     /// The one that it lies in.
-    pub fn above(self) -> Folder {
+    pub(crate) fn above(self) -> Folder {
         match self {
             Folder::Parent | Folder::Root => Folder::Parent,
             Folder::Partition(_) => Folder::State,
@@ -66,7 +66,7 @@ const FOLDERS: usize = 72;
 
 /// The folders whose names may have changed since they were synced.
 #[derive(Drop)]
-pub enum Unsynced {
+pub(crate) enum Unsynced {
     /// Any.
     All,
     These(ArrayVec<Folder, FOLDERS>),
@@ -74,12 +74,12 @@ pub enum Unsynced {
 
 impl Unsynced {
     /// None.
-    pub fn none() -> Unsynced {
+    pub(crate) fn none() -> Unsynced {
         Unsynced::These(ArrayVec::new())
     }
 
     /// Adds one.
-    pub fn add(&mut self, folder: Folder) {
+    pub(crate) fn add(&mut self, folder: Folder) {
         let is_in = match self {
             Unsynced::All => true,
             Unsynced::These(folders) => {

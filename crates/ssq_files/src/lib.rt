@@ -6,6 +6,7 @@
 //! return an `io::Result`, and trait methods that count.
 #![tactic(auto)]
 
+mod blocks;
 mod checkpoint;
 mod disk;
 mod faults;
@@ -15,7 +16,6 @@ mod listing;
 mod log;
 mod marks;
 mod output;
-mod window;
 
 pub use disk::{FolderDisk, FolderStage, SealedFile};
 pub use inputs::FolderInputs;

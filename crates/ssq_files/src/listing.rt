@@ -2,7 +2,7 @@
 
 ghost use Rattle.std.specs.Prelude.{◌≤◌};
 
-use crate::window::read_some;
+use crate::blocks::read_some;
 use memchr::memchr;
 use std::io;
 use std::io::Read;
@@ -14,7 +14,7 @@ const ROOM: usize = 4096;
 ///
 /// A folder reads as its names, each ended by a NUL, and no read ends inside a name.
 #[derive(Drop)]
-pub struct Listing<D> {
+pub(crate) struct Listing<D> {
     /// `None`: the folder is not there, and has no names.
     dir: Option<D>,
     buffer: [u8; ROOM],
@@ -30,7 +30,7 @@ pub struct Listing<D> {
 
 impl<D: Read + Drop> Listing<D> {
     /// Before the first name of an open folder.
-    pub fn new(dir: Option<D>) -> Listing<D> {
+    pub(crate) fn new(dir: Option<D>) -> Listing<D> {
         Listing {
             dir,
             buffer: [0; ROOM],
@@ -41,7 +41,7 @@ impl<D: Read + Drop> Listing<D> {
     }
 
     /// Goes on to the next name. `false`: there is none left.
-    pub fn advance(&mut self) -> io::Result<bool> {
+    pub(crate) fn advance(&mut self) -> io::Result<bool> {
         let mut start = self.end + 1;
         if self.filled <= start {
             start = 0;
@@ -69,7 +69,7 @@ impl<D: Read + Drop> Listing<D> {
     }
 
     /// The name that was come to last.
-    pub fn name(&self) -> &[u8] {
+    pub(crate) fn name(&self) -> &[u8] {
         &self.buffer[self.start..self.end]
     }
 }

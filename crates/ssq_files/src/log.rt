@@ -2,9 +2,9 @@
 
 ghost use Rattle.std.specs.Prelude.{◌≡◌, ◌≤◌, ℕ, [], true, false, Ok, IfOk, OnOk, vec_len};
 
+use crate::blocks::Blocks;
 use crate::faults::raise;
-use crate::marks::{Marks, Place};
-use crate::window::Window;
+use crate::marks::{Mark, Marks};
 use memchr::{memchr, memchr_iter, memrchr};
 use ssq_outside::{LineError, Log, LogFault};
 use std::alloc::Global;
@@ -84,41 +84,41 @@ impl<F: Read + Seek + Drop> Log for FileLog<F> {
 /// A file and where in it lines begin.
 #[derive(Drop)]
 struct Lines<F> {
-    window: Window<F>,
+    blocks: Blocks<F>,
     /// Where the first line begins that was not counted: all whole lines before are.
-    counted: Place,
+    counted: Mark,
     /// The byte up to which the file was looked at to count.
     scanned: u64,
-    /// Places that were passed in counting.
+    /// Some of the beginnings of lines that were passed in counting.
     marks: Marks,
     /// Where the line begins that is read next.
-    next: Place,
+    next: Mark,
 }
 
 impl<F: Read + Seek + Drop> Lines<F> {
     fn new(alloc: Global, file: F) -> io::Result<Lines<F>> {
         Ok(Lines {
-            window: Window::new(alloc, file)?,
-            counted: Place::START,
+            blocks: Blocks::new(alloc, file)?,
+            counted: Mark::START,
             scanned: 0,
             marks: Marks::new(alloc)?,
-            next: Place::START,
+            next: Mark::START,
         })
     }
 
     /// Counts the lines whose ends came since the last count.
     fn count(&mut self) -> io::Result<()> {
         for _ in 0..u64::MAX {
-            let block = self.window.rest(self.scanned);
+            let block = self.blocks.rest(self.scanned);
             if let Some(last) = memrchr(b'\n', block) {
-                self.counted = Place {
+                self.counted = Mark {
                     line: later(self.counted.line, memchr_iter(b'\n', block).count()),
                     byte: later(self.scanned, last).saturating_add(1),
                 };
                 self.marks.pass(self.counted);
             }
             self.scanned = later(self.scanned, block.len());
-            if !self.window.refill(self.scanned)? {
+            if !self.blocks.refill(self.scanned)? {
                 break;
             }
         }
@@ -146,8 +146,8 @@ impl<F: Read + Seek + Drop> Lines<F> {
         Ok(true)
     }
 
-    /// A place at which a line begins, from which to go on to this one.
-    fn nearest(&self, at: u64) -> Place {
+    /// Where a line begins, from which to go on to this one.
+    fn nearest(&self, at: u64) -> Mark {
         let mark = self.marks.before(at);
         if self.next.line <= at && mark.line <= self.next.line {
             self.next
@@ -163,10 +163,10 @@ impl<F: Read + Seek + Drop> Lines<F> {
         into.clear();
         let mut byte = self.next.byte;
         'parts: for _ in 0..u64::MAX {
-            let bytes = self.window.rest(byte);
+            let bytes = self.blocks.rest(byte);
             if let Some(end) = memchr(b'\n', bytes) {
                 keep(into, &bytes[..end])?;
-                self.next = Place {
+                self.next = Mark {
                     line: self.next.line.saturating_add(1),
                     byte: later(byte, end).saturating_add(1),
                 };
@@ -174,7 +174,7 @@ impl<F: Read + Seek + Drop> Lines<F> {
             }
             keep(into, bytes)?;
             byte = later(byte, bytes.len());
-            if !self.window.refill(byte)? {
+            if !self.blocks.refill(byte)? {
                 break;
             }
         }

@@ -1,69 +1,69 @@
-//! Places in a file of lines, to go back to.
+//! Where lines of a file begin, to go back to.
 
 use std::alloc::Global;
 use std::io;
 
-/// A place where a line begins.
+/// Where a line begins in a file.
 #[derive(Clone, Copy)]
-pub struct Place {
+pub(crate) struct Mark {
     /// How many lines are before it.
-    pub line: u64,
+    pub(crate) line: u64,
     /// How many bytes are before it.
-    pub byte: u64,
+    pub(crate) byte: u64,
 }
 
-impl Place {
+impl Mark {
     /// The begin of the file.
-    pub const START: Place = Place { line: 0, byte: 0 };
+    pub(crate) const START: Mark = Mark { line: 0, byte: 0 };
 }
 
-/// How many places are kept.
+/// How many marks are kept.
 const MARKS: usize = 512;
 
-/// Some of the places that were passed, in order and about equally far apart.
+/// Some of the marks that were passed, in order and about equally far apart.
 ///
 /// However long the file is, they take the same room, which is had from the start.
 #[derive(Drop)]
-pub struct Marks {
-    places: Vec<Place>,
+pub(crate) struct Marks {
+    marks: Vec<Mark>,
     /// The bytes from one to the next, at least.
     gap: u64,
 }
 
 impl Marks {
-    /// No places. An error means that memory ran out.
-    pub fn new(alloc: Global) -> io::Result<Marks> {
+    /// No marks. An error means that memory ran out.
+    pub(crate) fn new(alloc: Global) -> io::Result<Marks> {
         Ok(Marks {
-            places: Vec::with_capacity(alloc, MARKS)?,
+            marks: Vec::with_capacity(alloc, MARKS)?,
             gap: 262_144,
         })
     }
 
-    /// Keeps a place that comes after those that are kept, where it is far enough from them.
-    pub fn pass(&mut self, place: Place) {
-        let last = self.places.last().copied().unwrap_or(Place::START);
-        if place.byte.saturating_sub(last.byte) < self.gap {
+    /// Keeps a mark that comes after those that are kept, where it is far enough from them.
+    pub(crate) fn pass(&mut self, mark: Mark) {
+        let last = self.marks.last().copied().unwrap_or(Mark::START);
+        if mark.byte.saturating_sub(last.byte) < self.gap {
             return;
         }
-        if self.places.len() >= MARKS {
+        if self.marks.len() >= MARKS {
             self.thin();
         }
-        let _ = self.places.push(place);
+        let _ = self.marks.push(mark);
     }
 
-    /// The last place at which this line or one before it begins.
-    pub fn before(&self, line: u64) -> Place {
-        let found = self.places.iter().rev().find(|place| place.line <= line);
-        found.copied().unwrap_or(Place::START)
+    /// The last mark of this line or of one before it.
+    pub(crate) fn before(&self, line: u64) -> Mark {
+        let found = self.marks.iter().rev().find(|mark| mark.line <= line);
+        found.copied().unwrap_or(Mark::START)
     }
 
-    /// Keeps every second place, and leaves twice the gap from now on.
+    /// Keeps every second mark, and leaves twice the gap from now on.
     fn thin(&mut self) {
-        let half = self.places.len() / 2;
+        let half = self.marks.len() / 2;
         for i in 0..half {
-            self.places[i] = self.places[2 * i];
+            self.marks[i] = self.marks[2 * i];
         }
-        self.places.truncate(half);
+        self.marks.truncate(half);
         self.gap = self.gap.saturating_mul(2);
     }
 }

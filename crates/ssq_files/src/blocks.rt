@@ -1,4 +1,4 @@
-//! A part of a file in memory.
+//! A file that is read in blocks.
 
 ghost use Rattle.std.specs.Prelude.{◌≤◌, vec_len};
 ghost use Rattle.std.specs.Io.{ReadsAtMost};
@@ -10,22 +10,22 @@ use std::io::{ErrorKind, Read, Seek, SeekFrom};
 /// The bytes that are read at once.
 const BLOCK: usize = 262_144;
 
-/// The bytes of a file that were read last.
+/// A file, and the block of it that was read last.
 #[derive(Drop)]
-pub struct Window<F> {
+pub(crate) struct Blocks<F> {
     file: F,
-    /// Where in the file they begin.
+    /// Where in the file the block begins.
     start: u64,
     bytes: Vec<u8>,
-    /// How many of the buffer's bytes they are.
+    /// How many of the buffer's bytes are the block's.
     len: usize,
     ghost in_bounds: { len ≤ vec_len bytes },
 }
 
-impl<F: Read + Seek + Drop> Window<F> {
-    /// An empty window. An error means that memory ran out.
-    pub fn new(alloc: Global, file: F) -> io::Result<Window<F>> {
-        Ok(Window {
+impl<F: Read + Seek + Drop> Blocks<F> {
+    /// Nothing is read yet. An error means that memory ran out.
+    pub(crate) fn new(alloc: Global, file: F) -> io::Result<Blocks<F>> {
+        Ok(Blocks {
             file,
             start: 0,
             bytes: vec![in alloc; 0u8; BLOCK]?,
@@ -33,9 +33,8 @@ impl<F: Read + Seek + Drop> Window<F> {
         })
     }
 
-    /// Reads a block from this byte on, in place of what the window had. `false`: the file ends there, and the window
-    /// stays.
-    pub fn refill(&mut self, byte: u64) -> io::Result<bool> {
+    /// Reads the block from this byte on, in place of the one before. `false`: the file ends there, and the one before stays.
+    pub(crate) fn refill(&mut self, byte: u64) -> io::Result<bool> {
         self.file.seek(SeekFrom::Start(byte))?;
         match read_some(&mut self.file, &mut self.bytes) {
             Ok(0) => Ok(false),
@@ -51,9 +50,9 @@ impl<F: Read + Seek + Drop> Window<F> {
         }
     }
 
-    /// What the window has from this byte on.
+    /// What the block has from this byte on.
     #[inline]
-    pub fn rest(&self, byte: u64) -> &[u8] {
+    pub(crate) fn rest(&self, byte: u64) -> &[u8] {
         let bytes = &self.bytes[..self.len];
         match byte.checked_sub(self.start) {
             Some(skipped) => bytes.get(skipped as usize..).unwrap_or_default(),
@@ -63,7 +62,7 @@ impl<F: Read + Seek + Drop> Window<F> {
 }
 
 /// Reads once, again after an interrupt. It gives 0 at the end of the file.
-pub fn read_some(file: &mut impl Read, into: &mut [u8]) -> io::Result<usize>
+pub(crate) fn read_some(file: &mut impl Read, into: &mut [u8]) -> io::Result<usize>
     ensures { ReadsAtMost result into.new }
 {
     for _ in 0..u64::MAX {
