@@ -21,6 +21,9 @@ use ssq_ast::{Condition, Deduplicate, Group, GroupBy, Ident, Item, Join, OrderBy
 use ssq_value::{ColType, Column, Sequence, Text};
 use std::alloc::{AllocError, Global};
 
+/// How many windows may hold one time.
+const MOST_WINDOWS: i128 = 64;
+
 fn is_no_truth(kind: Result<ColType, BindFault>) -> bool
     ensures { result ≡ clause.is_no_truth (type_of kind) }
 {
@@ -183,11 +186,11 @@ fn are_apart(size: i64, slide: i64) -> bool
     size < slide
 }
 
-/// Whether more than 64 windows hold one time.
+/// Whether more windows hold one time than may.
 fn are_many(size: i64, slide: i64) -> bool
     ensures { result ≡ int_lt (pos 64 *ℤ slide) size }
 {
-    64 * i128::from(slide) < i128::from(size)
+    MOST_WINDOWS * i128::from(slide) < i128::from(size)
 }
 
 fn size_fault(window: &Window) -> Option<BindFault>

@@ -19,6 +19,9 @@ use crate::scope::{Scope, Side, Source, Spot, Within, bare_spot, is_same_side, n
 use ssq_ast::{BinaryOp, ColumnRef, Condition, Expr};
 use ssq_value::{ColType, Text};
 
+/// How many key equalities ON may have.
+const MOST_KEYS: usize = 64;
+
 /// What was met on the way through ON.
 #[derive(Clone, Copy)]
 pub struct Walk {
@@ -375,7 +378,7 @@ fn start() -> Walk
     Walk {
         seen: false,
         bound: None,
-        more: Some(64),
+        more: Some(MOST_KEYS),
         key: None,
     }
 }

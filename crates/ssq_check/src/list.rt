@@ -14,6 +14,9 @@ use ssq_ast::{ColumnDecl, Group, Ident, Item, Stream};
 use ssq_value::Text;
 use std::alloc::{AllocError, Global};
 
+/// How many columns a stream or DEDUPLICATE may have, and how many items SELECT or groups GROUP BY.
+const MOST_LISTED: usize = 64;
+
 /// The name of an output.
 pub fn item_name(item: &Item) -> &Text
     ensures { result.now ≡ item_name item.now }
@@ -286,5 +289,5 @@ pub(crate) fn past<P: Placed>(cause: Cause, most: usize, items: &[P]) -> Option<
 pub(crate) fn beyond<P: Placed>(items: &[P]) -> Option<BindFault>
     ensures { FirstOf (Beyond (map P.place items.now)) result }
 {
-    past(Cause::TooMany, 64, items)
+    past(Cause::TooMany, MOST_LISTED, items)
 }

@@ -14,6 +14,9 @@ use crate::scope::{Side, Spot};
 use ssq_ast::{Stream, Watermark};
 use std::alloc::{AllocError, Global};
 
+/// How many streams a query may declare.
+const MOST_STREAMS: usize = 2;
+
 fn event_fault(spot: Option<Spot>, at: usize) -> Option<BindFault>
     ensures { FirstOf (EventFaults spot at) result }
 {
@@ -68,6 +71,6 @@ pub(crate) fn check_streams(
 {
     let each = first_in(alloc, &(), streams)?;
     let doubled = first_double(alloc, streams)?;
-    let third = past(Cause::TooMany, 2, streams);
+    let third = past(Cause::TooMany, MOST_STREAMS, streams);
     Ok(sooner(each, sooner(doubled, third)))
 }

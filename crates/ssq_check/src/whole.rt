@@ -23,6 +23,9 @@ use crate::stream::check_streams;
 use ssq_ast::{Deduplicate, Limit, Query, Select};
 use std::alloc::{AllocError, Global};
 
+/// How many aggregates SELECT and HAVING may have together.
+const MOST_AGGREGATES: usize = 64;
+
 fn is_either(is_join: bool, deduplicate: &Option<Deduplicate>) -> bool
     ensures { result ≡ (is_join || is_there deduplicate.now) }
 {
@@ -118,7 +121,7 @@ fn check_shown(
     let within = within(is_group);
     let items = check_items(alloc, scope, within, select.items.as_slice())?;
     let many = beyond(select.items.as_slice());
-    let aggregates = past_places(Cause::TooMany, 64, places);
+    let aggregates = past_places(Cause::TooMany, MOST_AGGREGATES, places);
     let having = check_having(scope, within, is_group, &select.having);
     let order = check_order(alloc, select.items.as_slice(), select.order.as_slice())?;
     Ok(sooner(
