@@ -1,3 +1,4 @@
+pub mod Causes
 pub mod Core
 pub mod Shelf
 pub mod Shown

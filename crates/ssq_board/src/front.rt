@@ -1,6 +1,7 @@
 //! Places of tasks, what a desk counts, and the entries of its history.
 
-use ssq_outside::{Name, TaskId};
+use ssq_outside::{DiskError, Name, TaskId};
+use std::alloc::AllocError;
 
 /// Why a line is no row of its stream.
 #[derive(Clone, Copy, Debug, PartialEq, Eq)]
@@ -50,6 +51,31 @@ pub enum Cause {
     /// As many epochs are planned as there may be.
     Full,
     NoMemory,
+}
+
+impl From<DiskError> for Cause {
+    ghost use Rattle.std.specs.Prelude.{◌≡◌};
+    ghost use Rattle.ssq_board.specs.Causes.{cause_of_disk};
+
+    ghost from_gives = { λ error cause. cause ≡ cause_of_disk error };
+
+    fn from(error: DiskError) -> Cause {
+        match error {
+            DiskError::Fault => Cause::DiskFault,
+            DiskError::NoMemory => Cause::NoMemory,
+        }
+    }
+}
+
+impl From<AllocError> for Cause {
+    ghost use Rattle.std.specs.Prelude.{◌≡◌};
+    ghost use Rattle.ssq_board.specs.declared.front.Cause.TheVariants.{NoMemory};
+
+    ghost from_gives = { λ _ cause. cause ≡ NoMemory };
+
+    fn from(_: AllocError) -> Cause {
+        Cause::NoMemory
+    }
 }
 
 /// Where a task of the epoch that runs is.

@@ -5,7 +5,8 @@ use Rattle.std.specs.Global.{Vec}
 use Rattle.ssq_outside.specs.declared.disk.DiskError.{DiskError}
 use Rattle.ssq_outside.specs.declared.disk.DiskError.TheVariants as disk
 use Rattle.ssq_outside.specs.Faults.{Rises}
-use Rattle.ssq_ledger.specs.Shown.{IsUnplanned, cause_of}
+use Rattle.ssq_board.specs.Causes.{cause_of_disk}
+use Rattle.ssq_ledger.specs.Shown.{IsUnplanned}
 use Rattle.ssq_meaning.specs.declared.fed_row.View.{View}
 use Rattle.ssq_plans.specs.declared.part.PartEnd.{PartEnd}
 use Rattle.ssq_plans.specs.declared.plan.Plan.{Plan}
@@ -23,7 +24,7 @@ use Rattle.ssq_desk.proofs.Staging.{staged_ready}
 
 -- why files could not be begun, where one epoch more may be planned
 pub unmade_by : (planned before now : ℕ) (error : DiskError) → (planned ≡ 4294967295 → ⊥) → (error ≡ disk.Fault → Rises before now)
-    → IsUnmade planned (cause_of error) × IsUnplanned planned before now (cause_of error)
+    → IsUnmade planned (cause_of_disk error) × IsUnplanned planned before now (cause_of_disk error)
 unmade_by planned before now disk.Fault few risen = (few, risen refl)
 unmade_by planned before now disk.NoMemory few risen = (few, tt)
 

@@ -27,10 +27,11 @@ use Rattle.ssq_board.specs.declared.front.Cause.{Cause}
 use Rattle.ssq_board.specs.declared.front.Cause.TheVariants as cause
 use Rattle.ssq_board.specs.declared.front.Entry.{Entry}
 use Rattle.ssq_board.specs.declared.front.Entry.TheVariants as entry
+use Rattle.ssq_board.specs.Causes.{cause_of_disk}
 use Rattle.ssq_board.specs.Core.{is_of_epoch}
 use Rattle.ssq_board.specs.Shelf.{Shelf, shelf_by, there_in}
 use Rattle.ssq_board.proofs.Keeping.{among_both}
-use Rattle.ssq_ledger.specs.Shown.{LeadsHere, Shown, cause_of, cuts_of, did, shelf_after, shelf_of}
+use Rattle.ssq_ledger.specs.Shown.{LeadsHere, Shown, cuts_of, did, shelf_after, shelf_of}
 use Rattle.ssq_ledger.specs.Upkept.{IsClaimed, IsTaken}
 use Rattle.ssq_desk.specs.declared.desk.Load.{Load}
 use Rattle.ssq_desk.specs.declared.round.Round.{Round}
@@ -49,7 +50,7 @@ use Rattle.ssq_desk.proofs.Wholes.{cuts_then, did_then, rises_some}
 -- ---- why it fails
 
 -- a call of the disk failed
-pub disk_fails : (IsBad : Name → Type 0) (before now : ℕ) (error : DiskError) → (error ≡ disk_error.Fault → Rises before now) → FailsFor IsBad before now (cause_of error)
+pub disk_fails : (IsBad : Name → Type 0) (before now : ℕ) (error : DiskError) → (error ≡ disk_error.Fault → Rises before now) → FailsFor IsBad before now (cause_of_disk error)
 disk_fails IsBad before now disk_error.Fault rises = rises refl
 disk_fails IsBad before now disk_error.NoMemory rises = tt
 
@@ -71,11 +72,6 @@ fails_later IsBad Other before mid now (cause.LogShort t p l f) le so fails = ab
 pub if_fails_later : {A : Type 0} (IsBad Other : Name → Type 0) (before mid now : ℕ) (result : Result A Cause) → before ≤ mid → ((q : Name) → IsBad q → Other q) → IfErr result (FailsFor IsBad mid now) → IfErr result (FailsFor Other before now)
 if_fails_later IsBad Other before mid now (Ok a) le so fails = tt
 if_fails_later IsBad Other before mid now (Err f) le so fails = fails_later IsBad Other before mid now f le so fails
-
--- memory ran out
-pub memory_fails : {A : Type 0} (IsBad : Name → Type 0) (before now : ℕ) (result : Result A Cause) → IfErr result (λ f. f ≡ cause.NoMemory) → IfErr result (FailsFor IsBad before now)
-memory_fails IsBad before now (Ok a) is = tt
-memory_fails IsBad before now (Err f) is = subst (FailsFor IsBad before now) (sym is) tt
 
 -- a snapshot that was not made is no fault of the epoch, nor of a log
 pub snapshot_outside : (f : SnapshotFault) → is_of_epoch (cause_of_snapshot f) ≡ false

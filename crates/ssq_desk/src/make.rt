@@ -1,8 +1,7 @@
 //! All that the tasks of the next epoch need, put in place before its plan is published.
 
 ghost use Rattle.std.specs.Prelude.{◌≡◌, ◌≤◌, ◌<◌, [], length, vec_capacity, IfOk, IfErr, OnOk, OnErr, None, Some};
-ghost use Rattle.ssq_outside.specs.declared.disk.DiskError.TheVariants as error;
-ghost use Rattle.ssq_ledger.specs.Shown.{IsUnplanned, did, cause_of};
+ghost use Rattle.ssq_ledger.specs.Shown.{IsUnplanned, did};
 ghost use Rattle.ssq_desk.specs.Room.{AreBegun, HasRoom};
 ghost use Rattle.ssq_desk.specs.Making.{IsUnmade, IsSameLoad, IsMadeFor};
 
@@ -10,19 +9,10 @@ use crate::desk::{Load, OutWork, Share};
 use crate::room::{Room, begin_at, begin_files, discard_deltas, discard_stages, make_room};
 use ssq_board::Cause;
 use ssq_ledger::{Ledger, Opening};
-use ssq_outside::{Disk, DiskError, Log, Stage};
+use ssq_outside::{Disk, Log, Stage};
 use ssq_plans::{PartEnd, next_epoch};
 use std::alloc::{AllocError, Global};
 use std::mem;
-
-pub(crate) fn cause_of(error: DiskError) -> Cause
-    ensures { result ≡ cause_of error }
-{
-    match error {
-        DiskError::Fault => Cause::DiskFault,
-        DiskError::NoMemory => Cause::NoMemory,
-    }
-}
 
 /// Makes room for one plan more, to tell of its epoch, and for its tasks.
 fn room_for<'a, L: Log, S: Stage>(
@@ -80,22 +70,16 @@ pub(crate) fn make<'a, D: Disk, O: Opening, L: Log>(
     if next_epoch(ledger.front().planned).is_none() {
         return Err(Cause::Full);
     }
-    let Ok(room) = room_for(alloc, load) else {
-        return Err(Cause::NoMemory);
-    };
+    let room = room_for(alloc, load)?;
     let Room {
         ends,
         mut shares,
         rows,
         seen,
     } = room;
-    match begin_files(alloc, ledger, &mut shares, load.held.as_slice()) {
-        Ok(stages) => {
-            put::<D, L>(load, ledger.ends(), shares, OutWork { rows, seen, stages });
-            Ok(ends)
-        }
-        Err(error) => Err(cause_of(error)),
-    }
+    let stages = begin_files(alloc, ledger, &mut shares, load.held.as_slice())?;
+    put::<D, L>(load, ledger.ends(), shares, OutWork { rows, seen, stages });
+    Ok(ends)
 }
 
 /// Takes the files of an epoch's tasks away that are not to come.

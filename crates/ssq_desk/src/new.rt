@@ -8,9 +8,9 @@ ghost use Rattle.ssq_desk.specs.First.{AreIndexes, BeginsAs, BeginsWork, first_s
 
 use crate::desk::{Desk, Kept, Load, OutWork, Share};
 use crate::first::{Begun, Made, Rooms, make_first, with_closings, with_logs};
-use crate::make::cause_of;
 use crate::room::{Room, begin_files};
 use crate::round::Round;
+use ssq_board::Cause;
 use ssq_ledger::{Ledger, Opening, Scope};
 use ssq_meaning::View;
 use ssq_open::Opened;
@@ -160,7 +160,7 @@ fn begin_out<D: Disk, O: Opening>(
     match begin_files(alloc, ledger, shares, held) {
         Ok(stages) => Some(OutWork { rows, seen, stages }),
         Err(error) => {
-            ledger.stop(cause_of(error));
+            ledger.stop(Cause::from(error));
             None
         }
     }

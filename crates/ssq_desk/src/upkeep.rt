@@ -3,13 +3,11 @@
 ghost use Rattle.std.specs.Prelude.{◌≡◌, ◌≤◌, ◌<◌, ◌+◌, ◌-◌, ◌++◌, ◌^◌, [], ◌∷◌, length, Some, None, Err, true, All, is_some, IfOk, IfErr, IfSome, OnOk, IsErrOf};
 ghost use Rattle.ssq_outside.specs.Faults.{Rises};
 ghost use Rattle.ssq_outside.specs.History.{files_now};
-ghost use Rattle.ssq_outside.specs.declared.disk.DiskError.TheVariants as error;
 ghost use Rattle.ssq_outside.specs.declared.name.Name.TheVariants as name;
 ghost use Rattle.ssq_upkeep.specs.Upkeep.{is_among};
 ghost use Rattle.ssq_board.specs.Shelf.{there_in};
 ghost use Rattle.ssq_core.specs.Course.{truth};
 ghost use Rattle.ssq_course.specs.Setting.{course_of};
-ghost use Rattle.ssq_board.specs.declared.front.Cause.TheVariants as cause;
 ghost use Rattle.ssq_board.specs.declared.front.Entry.TheVariants as entry;
 ghost use Rattle.ssq_ledger.specs.Shown.{cuts_of, did, shelf_of};
 ghost use Rattle.ssq_ledger.specs.Names.{IsNewestBelow};
@@ -20,7 +18,6 @@ ghost use Rattle.ssq_desk.specs.Whole.{opening_in};
 ghost use Rattle.ssq_desk.specs.Upkeep.{AreReadFor, FailsFor, IsHandedOut, IsMalformed, IsMissing, IsNotFound, IsReadBy, IsTakenBack, IsUnread, IsUpkeepDone, IsUpkeepOf, NeverDamaged, cause_of_snapshot, deltas_from, files_for, names_in};
 
 use crate::desk::Desk;
-use crate::make::cause_of;
 use ssq_board::Cause;
 use ssq_field::Bytes;
 use ssq_ledger::{Ledger, Opening};
@@ -28,7 +25,7 @@ use ssq_outside::{Disk, Log, Name, Stage};
 use ssq_store::{SnapshotFault, loading_is_exact, sealed_files_are_true, snapshot};
 use ssq_task::Held;
 use ssq_terms::{job_is_wanted, round_begins_as_found, tasks_have_terms};
-use std::alloc::Global;
+use std::alloc::{AllocError, Global};
 
 /// A snapshot that is to be made: the state of a partition at a version, from these files, in a file aside.
 #[derive(Drop)]
@@ -102,22 +99,18 @@ fn read_file<D: Disk, O: Opening>(
     ensures cause { IfErr result (FailsFor (λ q. (q ≡ name) × (D.tells → files_now (D.history ledger.old.disk) q ≡ None)) (D.faults ledger.old.disk) (D.faults ledger.new.disk)) }
     ensures counted { D.faults ledger.old.disk ≤ D.faults ledger.new.disk }
 {
-    match ledger.read(alloc, name) {
-        Ok(Some(bytes)) => Ok(Bytes::from_vec(bytes)),
-        Ok(None) => Err(Cause::Damaged { name }),
-        Err(error) => Err(cause_of(error)),
+    match ledger.read(alloc, name)? {
+        Some(bytes) => Ok(Bytes::from_vec(bytes)),
+        None => Err(Cause::Damaged { name }),
     }
 }
 
 /// Adds a file that was read.
-fn push_file(files: &mut Vec<(Name, Bytes)>, name: Name, bytes: Bytes) -> Result<(), Cause>
-    ensures items { OnOk result (files.new.items ≡ files.old.items ++ (name, bytes) ∷ []) }
-    ensures cause { IfErr result (λ f. f ≡ cause.NoMemory) }
+fn push_file(files: &mut Vec<(Name, Bytes)>, name: Name, bytes: Bytes) -> Result<(), AllocError>
+    ensures { OnOk result (files.new.items ≡ files.old.items ++ (name, bytes) ∷ []) }
 {
-    match files.push((name, bytes)) {
-        Ok(()) => Ok(()),
-        Err(_) => Err(Cause::NoMemory),
-    }
+    files.push((name, bytes))?;
+    Ok(())
 }
 
 /// Adds a file.
@@ -136,7 +129,7 @@ fn add_file<D: Disk, O: Opening>(
     ensures counted { D.faults ledger.old.disk ≤ D.faults ledger.new.disk }
 {
     let bytes = read_file(alloc, ledger, name)?;
-    push_file(files, name, bytes)
+    Ok(push_file(files, name, bytes)?)
 }
 
 /// Adds the deltas of a partition from a version on, up to so many versions.
@@ -229,15 +222,13 @@ fn begin<D: Disk, O: Opening>(
     ensures counted { D.faults ledger.old.disk ≤ D.faults ledger.new.disk }
 {
     let files = read_files(alloc, ledger, partition, version)?;
-    match ledger.stage(alloc) {
-        Ok(stage) => Ok(UpkeepTask {
-            partition,
-            version,
-            files,
-            stage,
-        }),
-        Err(error) => Err(cause_of(error)),
-    }
+    let stage = ledger.stage(alloc)?;
+    Ok(UpkeepTask {
+        partition,
+        version,
+        files,
+        stage,
+    })
 }
 
 impl<'a, D: Disk, L: Log> Desk<'a, D, L> {

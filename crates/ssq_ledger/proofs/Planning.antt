@@ -7,11 +7,12 @@ use Rattle.ssq_plans.specs.Records.{plan_text}
 use Rattle.ssq_plans.specs.declared.seen.SeenBy.{SeenBy}
 use Rattle.ssq_core.specs.Course.{Ends, Cuts, Job, IsCausal, AreSameUpTo, truth}
 use Rattle.ssq_board.specs.declared.front.Entry.TheVariants as entry
+use Rattle.ssq_board.specs.Causes.{cause_of_disk}
 use Rattle.ssq_board.specs.Core.{Scope, Core, May, HasCause, after, cuts_by, extended, next_ends}
 use Rattle.ssq_board.specs.Shown.{IsSound}
 use Rattle.ssq_board.proofs.Lists.{nat_lt-is, nat_lt-not}
 use Rattle.ssq_board.proofs.Sounds.{step_sound}
-use Rattle.ssq_ledger.specs.Shown.{TellsPlans, MarksFollowCommits, cause_of}
+use Rattle.ssq_ledger.specs.Shown.{TellsPlans, MarksFollowCommits}
 
 -- the next cut changes none before it
 before_next : (cuts : Cuts) (n : ℕ) (ends : Ends) (e : ℕ) → e ≤ n → cuts e ≡ extended cuts n ends e
@@ -30,7 +31,7 @@ plan_true job r c cuts w tells is =
     (λ i. plan_text (record { epoch = n; watermark = mark i; ends = end i }))
 
 -- a file that could not be sealed may stop the ledger
-pub seal_may : (r : Scope) (c : Core) (e : DiskError) → HasCause r c (cause_of e)
+pub seal_may : (r : Scope) (c : Core) (e : DiskError) → HasCause r c (cause_of_disk e)
 seal_may r c disk.Fault = tt
 seal_may r c disk.NoMemory = tt
 

@@ -16,8 +16,6 @@ use Rattle.ssq_board.specs.declared.front.Front.{Front}
 use Rattle.ssq_board.specs.declared.front.Place.TheVariants as place
 use Rattle.ssq_board.specs.declared.front.Entry.TheVariants as entry
 use Rattle.ssq_board.specs.declared.front.Entry.{Entry}
-use Rattle.ssq_outside.specs.declared.disk.DiskError.{DiskError}
-use Rattle.ssq_outside.specs.declared.disk.DiskError.TheVariants as disk
 use Rattle.ssq_board.specs.Core.{Scope, Core, May, need, after, after_all, cuts_all, has_line, is_open, is_fine, due}
 use Rattle.ssq_board.specs.Shelf.{Shelf, shelf_all}
 use Rattle.ssq_board.specs.Shown.{Start, IsStart, IsSound, first, planned_by}
@@ -139,11 +137,6 @@ abbrev pub IsNoPlan : ℕ → Cause → Type 0
 IsNoPlan planned cause.Full = planned ≡ 4294967295
 IsNoPlan planned cause.NoMemory = Unit {0}
 IsNoPlan planned _ = ⊥
-
--- why a file could not be sealed
-abbrev pub cause_of : DiskError → Cause
-cause_of disk.Fault = cause.DiskFault
-cause_of disk.NoMemory = cause.NoMemory
 
 -- a Stop as a call's answer
 abbrev pub answer : Option Cause → Result (Unit {0}) Cause

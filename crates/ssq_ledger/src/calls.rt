@@ -13,7 +13,7 @@ ghost use Rattle.ssq_board.specs.declared.front.Ready.TheVariants as ready;
 ghost use mathlib.Core.Option.{some};
 ghost use Rattle.ssq_board.specs.declared.front.Place.TheVariants as place;
 ghost use Rattle.ssq_board.specs.Core.{Scope, May, HasCause, at, after, cuts_by, ready_of, due, with_front, stopped_front};
-ghost use Rattle.ssq_ledger.specs.Shown.{Shown, IsTrue, HasNone, HasVersion, IsVersioned, HasRisen, IsUnplanned, did, cuts_of, cause_of, answer};
+ghost use Rattle.ssq_ledger.specs.Shown.{Shown, IsTrue, HasNone, HasVersion, IsVersioned, HasRisen, IsUnplanned, did, cuts_of, answer};
 ghost use Rattle.ssq_ledger.specs.Names.{MakesRoom, MakesSettled};
 
 use crate::board::Board;
@@ -21,7 +21,7 @@ use crate::ledger::{Ledger, Opening};
 use crate::names::{Names, add, make_room as make_names_room, make_settled, settle};
 use crate::plan::Next;
 use ssq_board::{Cause, Entry, Ready};
-use ssq_outside::{Disk, DiskError, DiskFault, Name, Stage, TaskId, seal};
+use ssq_outside::{Disk, DiskFault, Name, Stage, TaskId, seal};
 use std::alloc::Global;
 
 impl<D: Disk, O: Opening> Ledger<D, O> {
@@ -200,7 +200,7 @@ impl<D: Disk, O: Opening> Ledger<D, O> {
         let file = match seal(alloc, &mut self.disk, text.as_slice()) {
             Ok(file) => file,
             Err(error) => {
-                let cause = cause_of(error);
+                let cause = Cause::from(error);
                 halt(&mut self.board, &mut self.entries, cause);
                 return Err(cause);
             }
@@ -320,15 +320,6 @@ fn make_plan_room(entries: &mut Vec<Entry>, names: &mut Names, tasks: usize) -> 
     let made = make_names_room(names, room_of(tasks));
     make_room(entries, more)?;
     made
-}
-
-fn cause_of(error: DiskError) -> Cause
-    ensures { result ≡ cause_of error }
-{
-    match error {
-        DiskError::Fault => Cause::DiskFault,
-        DiskError::NoMemory => Cause::NoMemory,
-    }
 }
 
 fn answer(stop: Option<Cause>) -> Result<(), Cause>

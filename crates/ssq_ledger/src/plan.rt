@@ -42,10 +42,7 @@ impl Board {
         let Some(epoch) = next_epoch(self.front().planned) else {
             return Err(Cause::Full);
         };
-        match self.write_next(alloc, scope, epoch, watermark) {
-            Ok(next) => Ok(next),
-            Err(_) => Err(Cause::NoMemory),
-        }
+        Ok(self.write_next(alloc, scope, epoch, watermark)?)
     }
 
     fn write_next(

@@ -44,8 +44,8 @@ invariant_of-self-in-Err g c =
     let s = c.self.inside in
     let kept : s.entries.cap ≤ c.make_plan_room.new.entries.cap = c.make_plan_room.ensures.kept in
     let m = may_inside _ _ c.self.view_is entry.Plan (λ f. f.planned) _ refl c.requires.may in
-    let why = subst (HasCause s.scope s.board) (sym c.cause_of-cause.ensures) (seal_may s.scope s.board c.in-Err.error) in
-    halted_both _ _ _ _ _ _ _ _ c.self.invariant.0 _ _ (made_room _ _ _ _ _ _ _ _ _ c.self.invariant.1 c.make_plan_room.ensures.names (le_refl s.entries.cap)) _ _ _ _ _ _ c.cause_of-cause.result m.0 why (λ t. (nothing, inl refl, c.seal.ensures.same t.0)) c.halt-in-Err.ensures.board
+    let why = subst (HasCause s.scope s.board) (sym c.from-cause.ensures) (seal_may s.scope s.board c.in-Err.error) in
+    halted_both _ _ _ _ _ _ _ _ c.self.invariant.0 _ _ (made_room _ _ _ _ _ _ _ _ _ c.self.invariant.1 c.make_plan_room.ensures.names (le_refl s.entries.cap)) _ _ _ _ _ _ c.from-cause.result m.0 why (λ t. (nothing, inl refl, c.seal.ensures.same t.0)) c.halt-in-Err.ensures.board
     c.make_plan_room.ensures.items c.halt-in-Err.ensures.items kept kept c.halt-in-Err.ensures.capacity
 
 pub invariant_of-self-in-Ok-publish : goal.invariant_of-self-in-Ok-publish
