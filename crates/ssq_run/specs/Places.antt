@@ -28,11 +28,11 @@ abbrev pub column_of : List Column → ℕ → List ℕ
 column_of columns at = column_in (slice_get columns at)
 
 -- a part of a stream, by the stream's place in the order of FROM
-pub record Place : Type 0 where
+pub record StreamPart : Type 0 where
   pub stream : ℕ
   pub part : ℕ
 
 -- which part of which stream the part at this place among all parts is, where the streams have so many each
-abbrev pub place_of : List ℕ → ℕ → Place
-place_of [] at = record { stream = 0; part = at }
-place_of (count ∷ counts) at = if nat_lt at count then record { stream = 0; part = at } else record { stream = (place_of counts (at - count)).stream + 1; part = (place_of counts (at - count)).part }
+abbrev pub part_at : List ℕ → ℕ → StreamPart
+part_at [] at = record { stream = 0; part = at }
+part_at (count ∷ counts) at = if nat_lt at count then record { stream = 0; part = at } else record { stream = (part_at counts (at - count)).stream + 1; part = (part_at counts (at - count)).part }

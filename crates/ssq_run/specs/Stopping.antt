@@ -37,7 +37,7 @@ use Rattle.ssq_run.specs.declared.stop.Stop.TheVariants.{Usage, Refused, BadLine
 use Rattle.ssq_run.specs.declared.stop.Wrong.{Wrong}
 use Rattle.ssq_run.specs.declared.stop.Wrong.TheVariants.{TooLong, NotJson, NotObject, WrongType, NoEventTime}
 use Rattle.ssq_run.specs.Keys.{key_text}
-use Rattle.ssq_run.specs.Places.{name_of, columns_of, column_of, place_of}
+use Rattle.ssq_run.specs.Places.{name_of, columns_of, column_of, part_at}
 use Rattle.ssq_run.specs.Queries.{IsRefusedFor}
 
 abbrev pub stop_of_ask : AskError → Stop
@@ -72,7 +72,7 @@ stop_of_parts streams parts.LogFault = LogFault
 stop_of_parts streams parts.NoMemory = NoMemory
 
 abbrev pub stop_of_lines : List Stream → List ℕ → LengthFault → Stop
-stop_of_lines streams counts (lengths.Full number lines) = FullLines (name_of streams (place_of counts number).stream) (place_of counts number).part lines
+stop_of_lines streams counts (lengths.Full number lines) = FullLines (name_of streams (part_at counts number).stream) (part_at counts number).part lines
 stop_of_lines streams counts lengths.LogFault = LogFault
 stop_of_lines streams counts lengths.NoMemory = NoMemory
 

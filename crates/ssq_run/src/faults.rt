@@ -1,7 +1,7 @@
 //! Why a run or a look stopped, told by the names of its query.
 
 ghost use Rattle.std.specs.Prelude.{◌≡◌, ◌≤◌, length, IfOk};
-ghost use Rattle.ssq_run.specs.Places.{name_of, columns_of, column_of, place_of};
+ghost use Rattle.ssq_run.specs.Places.{name_of, columns_of, column_of, part_at};
 ghost use Rattle.ssq_run.specs.declared.stop.Stop.TheVariants as stop;
 ghost use Rattle.ssq_run.specs.Keys.{key_text};
 ghost use Rattle.ssq_run.specs.Stopping.{wrong_of, stop_of_parts, stop_of_lines, stop_of_open, stop_of_cause, stop_of_run, stop_of_end, stop_in, IsToldAs};
@@ -63,35 +63,35 @@ fn wrong_of(alloc: Global, columns: &[Column], fault: RowFault) -> Result<Wrong,
 
 /// A part of a stream, by the stream's place in the order of FROM.
 #[derive(Clone, Copy)]
-struct Place {
+struct StreamPart {
     stream: usize,
     part: usize,
 }
 
 /// Which part of which stream the part at this place among all parts is, where the streams have so many parts each. Behind the last of
 /// them it is a part of a stream that is not there.
-fn place_of(counts: &[u32], at: usize) -> Place
-    ensures stream { result.stream ≡ (place_of counts.now at).stream }
-    ensures part { result.part ≡ (place_of counts.now at).part }
+fn part_at(counts: &[u32], at: usize) -> StreamPart
+    ensures stream { result.stream ≡ (part_at counts.now at).stream }
+    ensures part { result.part ≡ (part_at counts.now at).part }
     ensures within { result.stream ≤ length counts.now }
 {
     let Some((count, counts)) = counts.split_first() else {
-        return Place {
+        return StreamPart {
             stream: 0,
             part: at,
         };
     };
     let count = *count as usize;
     if at < count {
-        return Place {
+        return StreamPart {
             stream: 0,
             part: at,
         };
     }
-    let place = place_of(counts, at - count);
-    Place {
-        stream: place.stream + 1,
-        part: place.part,
+    let later = part_at(counts, at - count);
+    StreamPart {
+        stream: later.stream + 1,
+        part: later.part,
     }
 }
 
@@ -119,7 +119,7 @@ fn stop_of_lines(
 {
     match fault {
         LengthFault::Full { number, lines } => {
-            let Place { stream, part } = place_of(counts, number);
+            let StreamPart { stream, part } = part_at(counts, number);
             let stream = name_of(alloc, streams, stream)?;
             Ok(Stop::FullLines {
                 stream,
