@@ -1,5 +1,6 @@
 pub mod Names
 pub mod Walks
+pub mod Marks
 pub mod Finding
 pub mod Planning
 pub mod Others

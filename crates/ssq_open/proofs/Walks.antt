@@ -1,6 +1,6 @@
 -- Walks over the ends of parts.
-use Rattle.std.proofs.Common.{◌≡◌, ◌<◌, ◌≤◌, ◌+◌, ◌∙◌, ◌++◌, ◌∷◌, [], ◌==◌, ◌&&◌, ℕ, Bool, true, false, List, length, drop, get_or, add-one, drop-cons, ap, append_assoc, ℤ, Option, None, refl, sym, arith}
-use Rattle.std.specs.Prelude.{is_some, nat_lt, if◌then◌else◌}
+use Rattle.std.proofs.Common.{◌≡◌, ◌<◌, ◌≤◌, ◌+◌, ◌∙◌, ◌++◌, ◌∷◌, [], ◌==◌, ◌&&◌, ℕ, Bool, true, false, List, length, drop, get_or, add-one, drop-cons, append_assoc, None, refl, sym, arith}
+use Rattle.std.specs.Prelude.{nat_lt}
 use Rattle.std.specs.List.{list_all, zip}
 use Rattle.std.proofs.lemmas.List.{drop_all, append-nil}
 use Rattle.std.proofs.Common.{eq-eqb}
@@ -9,7 +9,7 @@ use Rattle.ssq_plans.specs.declared.part.PartEnd.{PartEnd}
 use Rattle.ssq_open.specs.Epochs.{start_of, starts, keeps_up, follows}
 use Rattle.ssq_plans.specs.declared.seen.SeenBy.{SeenBy}
 use Rattle.ssq_open.specs.declared.streams.Watermarked.{Watermarked}
-use Rattle.ssq_open.specs.Watermarks.{is_line_of, has_lines, mark_of, lower, least_after}
+use Rattle.ssq_open.specs.Watermarks.{is_line_of, has_lines}
 use Rattle.ssq_open.specs.Opening.{is_short, first_short}
 
 -- a value for places that are not there
@@ -81,24 +81,3 @@ lines-end at streams seen all = rw (drop_all at streams all) refl
 -- they are lines where each is one of its stream
 pub lines-all : (streams : List Watermarked) (seen : List SeenBy) → length streams ≡ length seen → has_lines streams seen ≡ lines_from 0 streams seen
 lines-all streams seen same = let is : (length streams == length seen) ≡ true = eq-eqb (length streams) (length seen) same in rw is refl
-
-pub least-end : (at : ℕ) (least : Option ℤ) (streams : List Watermarked) (seen : List SeenBy) → length streams ≤ at → least_after least (zip (drop at streams) (drop at seen)) ≡ least
-least-end at least streams seen all = rw (drop_all at streams all) refl
-
--- a stream that says none, and one that says a time
-pub least-next : (at : ℕ) (least mark : Option ℤ) (streams : List Watermarked) (seen : List SeenBy) (w : Watermarked) (s : SeenBy) → at < length streams → length streams ≡ length seen → s ≡ get_or seen at s
-    → mark ≡ mark_of (get_or streams at w, s)
-    → least_after least (zip (drop at streams) (drop at seen)) ≡ (if is_some mark then least_after (lower least mark) (zip (drop (at + 1) streams) (drop (at + 1) seen)) else None)
-least-next at least mark streams seen w s less same is has =
-    let there : at < length seen = omega arith in
-    let told : mark ≡ mark_of (get_or streams at w, get_or seen at s) = has ∙ ap (λ (x : SeenBy). mark_of (get_or streams at w, x)) is in
-    rw (told, add-one, drop-cons streams at w, drop-cons seen at s) refl
-
-pub least-none : (at : ℕ) (least mark : Option ℤ) (streams : List Watermarked) (seen : List SeenBy) (w : Watermarked) (s : SeenBy) → at < length streams → length streams ≡ length seen → s ≡ get_or seen at s
-    → mark ≡ mark_of (get_or streams at w, s) → is_some mark ≡ false → least_after least (zip (drop at streams) (drop at seen)) ≡ None
-least-none at least mark streams seen w s less same is has none = least-next at least mark streams seen w s less same is has ∙ rw none refl
-
-pub least-some : (at : ℕ) (least mark : Option ℤ) (streams : List Watermarked) (seen : List SeenBy) (w : Watermarked) (s : SeenBy) → at < length streams → length streams ≡ length seen → s ≡ get_or seen at s
-    → mark ≡ mark_of (get_or streams at w, s) → is_some mark ≡ true
-    → least_after least (zip (drop at streams) (drop at seen)) ≡ least_after (lower least mark) (zip (drop (at + 1) streams) (drop (at + 1) seen))
-least-some at least mark streams seen w s less same is has some = least-next at least mark streams seen w s less same is has ∙ rw some refl

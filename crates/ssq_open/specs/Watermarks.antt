@@ -1,9 +1,8 @@
 -- The watermarked streams, and the watermark that their greatest times give.
-use Rattle.std.specs.Prelude.{ℕ, ℤ, Bool, ◌+◌, ◌-ℤ◌, ◌==◌, ◌&&◌, List, [], ◌∷◌, length, Option, Some, None, is_some, if◌then◌else◌}
-use Rattle.std.specs.Option.{option_map}
+use Rattle.std.specs.Prelude.{ℕ, ℤ, Bool, ◌+◌, ◌==◌, ◌&&◌, List, [], ◌∷◌, length, map, Option, Some, None}
 use Rattle.std.specs.List.{list_all, zip}
-use Rattle.std.specs.Int.{int_min}
 use Rattle.ssq_shape.specs.declared.bound.Stream.{Stream}
+use Rattle.ssq_meaning.specs.Times.{least, less_delay}
 use Rattle.ssq_plans.specs.declared.seen.SeenBy.{SeenBy}
 use Rattle.ssq_open.specs.declared.streams.Watermarked.{Watermarked}
 
@@ -31,20 +30,9 @@ has_lines streams seen = length streams == length seen && list_all is_line_of (z
 
 -- what a stream says of the watermark: its greatest time less its delay, and none where it has no time
 abbrev pub mark_of : Watermarked × SeenBy → Option ℤ
-mark_of line = option_map (λ time. time -ℤ line.0.delay) line.1.time
-
--- the lesser of what two say, where the first may have said nothing yet
-abbrev pub lower : Option ℤ → Option ℤ → Option ℤ
-lower None mark = mark
-lower (Some least) None = None
-lower (Some least) (Some mark) = Some (int_min least mark)
-
--- the least that these streams say and the ones before them said; none where one of these says none
-abbrev pub least_after : Option ℤ → List (Watermarked × SeenBy) → Option ℤ
-least_after least [] = least
-least_after least (line ∷ rest) = if is_some (mark_of line) then least_after (lower least (mark_of line)) rest else None
+mark_of line = less_delay line.1.time line.0.delay
 
 -- The watermark: the least of each watermarked stream's greatest time less its delay. There is none where one of these streams has
 -- no time, or no stream is watermarked.
 abbrev pub mark_by : List Watermarked → List SeenBy → Option ℤ
-mark_by streams seen = least_after None (zip streams seen)
+mark_by streams seen = least (map mark_of (zip streams seen))

@@ -1,7 +1,8 @@
 //! The watermarked streams, and the watermark that their greatest times give.
 
-ghost use Rattle.std.specs.Prelude.{◌≡◌, ◌↔◌, ◌<◌, ◌≤◌, ◌^◌, length, slice_index_or, IfOk, IsTrue};
-ghost use Rattle.ssq_open.specs.Watermarks.{watermarked, is_line_of, has_lines, mark_of, lower, mark_by};
+ghost use Rattle.std.specs.Prelude.{◌≡◌, ◌↔◌, ◌<◌, ◌≤◌, ◌^◌, length, slice_index_or, is_some, if◌then◌else◌, IfOk, IsTrue};
+ghost use Rattle.ssq_meaning.specs.Times.{earlier};
+ghost use Rattle.ssq_open.specs.Watermarks.{watermarked, is_line_of, has_lines, mark_of, mark_by};
 
 use ssq_plans::SeenBy;
 use ssq_shape::Stream;
@@ -68,8 +69,9 @@ fn mark_of(stream: Watermarked, seen: SeenBy) -> Option<i128>
     }
 }
 
-fn lower(least: Option<i128>, mark: Option<i128>) -> Option<i128>
-    ensures { result ≡ lower least mark }
+/// The lesser of this mark and the least of those before it, where there were any.
+fn lesser(least: Option<i128>, mark: Option<i128>) -> Option<i128>
+    ensures { result ≡ (if is_some least then earlier least mark else mark) }
 {
     match (least, mark) {
         (None, _) => mark,
@@ -98,7 +100,7 @@ pub(crate) fn mark_by(streams: &[Watermarked], seen: &[SeenBy]) -> Option<i128>
         if mark.is_none() {
             return None;
         }
-        least = lower(least, mark);
+        least = lesser(least, mark);
     }
     least
 }

@@ -1,19 +1,16 @@
 -- The watermarked streams that an opening knows are those with a delay, and their greatest times give the watermark.
-use Rattle.std.proofs.Common.{◌≡◌, ◌+◌, ◌==◌, [], ◌∷◌, ℕ, ℤ, List, Option, Some, None, true, refl, ap, sym, ◌∙◌, arith, map, length}
-use Rattle.std.proofs.lemmas.Int.{ints}
-use Rattle.std.specs.Prelude.{◌-ℤ◌}
-use Rattle.std.specs.Int.{int_min}
+use Rattle.std.proofs.Common.{◌≡◌, ◌+◌, ◌==◌, [], ◌∷◌, ℕ, ℤ, List, Option, Some, None, true, refl, ap, sym, ◌∙◌, map, length}
 use Rattle.std.specs.List.{cons_option, list_all, zip}
 use Rattle.std.proofs.lemmas.Bool.{eq-eqb, and_from}
 use Rattle.std.proofs.lemmas.List.{length-map}
 use Rattle.ssq_shape.specs.declared.bound.Stream.{Stream}
-use Rattle.ssq_meaning.specs.Times.{Delay, delay_of, delays, delays_from, earlier, least, less_delay, watermark_by}
+use Rattle.ssq_meaning.specs.Times.{Delay, delay_of, delays, delays_from, least, less_delay, watermark_by}
 use Rattle.ssq_meaning.specs.Epochs.{seen}
 use Rattle.ssq_plans.specs.declared.seen.SeenBy.{SeenBy}
 use Rattle.ssq_core.specs.Course.{Cuts}
 use Rattle.ssq_course.specs.Setting.{Setting, parts_in, cuts_of, seen_at, watermark_at}
 use Rattle.ssq_open.specs.declared.streams.Watermarked.{Watermarked}
-use Rattle.ssq_open.specs.Watermarks.{watermarked, watermarked_by, watermarked_from, is_line_of, has_lines, least_after, mark_by}
+use Rattle.ssq_open.specs.Watermarks.{watermarked, watermarked_by, watermarked_from, is_line_of, has_lines, mark_of, mark_by}
 
 -- a stream with its delay, as the meaning has it
 abbrev delay_in : Watermarked → Delay
@@ -48,41 +45,10 @@ lines_own of streams =
     let same : length streams ≡ length (lines_of of streams) = sym (length-map (map delay_in streams) (line_of of) ∙ length-map streams delay_in) in
     and_from (length streams == length (lines_of of streams)) _ (eq-eqb (length streams) (length (lines_of of streams)) same) (each_own of streams)
 
--- there is no least where one says none
-none_first : (marks : List (Option ℤ)) → least (None ∷ marks) ≡ None
-none_first [] = refl
-none_first (m ∷ ms) = refl
-
-none_second : (a : ℤ) (marks : List (Option ℤ)) → least (Some a ∷ None ∷ marks) ≡ None
-none_second a [] = refl
-none_second a (m ∷ ms) = refl
-
--- two that come first are as the lesser of them
-two_first : (a b : ℤ) (marks : List (Option ℤ)) → least (Some a ∷ Some b ∷ marks) ≡ least (Some (int_min a b) ∷ marks)
-two_first a b [] = refl
-two_first a b (m ∷ ms) = by_rest (least (m ∷ ms))
-  where
-    by_rest : (rest : Option ℤ) → earlier (Some a) (earlier (Some b) rest) ≡ earlier (Some (int_min a b)) rest
-    by_rest None = refl
-    by_rest (Some t) = ap Some (let same : int_min a (int_min b t) ≡ int_min (int_min a b) t = grind (arith, ints) in same)
-
--- the marks that are left, after some
-after_some : (of : ℕ → Option ℤ) (streams : List Watermarked) (a : ℤ) → least_after (Some a) (zip streams (lines_of of streams)) ≡ least (Some a ∷ marks_of of streams)
-after_some of [] a = refl
-after_some of (w ∷ ws) a = by_time (of w.stream) (after_some of ws)
-  where
-    by_time : (time : Option ℤ) → ((a : ℤ) → least_after (Some a) (zip ws (lines_of of ws)) ≡ least (Some a ∷ marks_of of ws))
-        → least_after (Some a) ((w, (let line : SeenBy = record { stream = w.stream; time = time } in line)) ∷ zip ws (lines_of of ws)) ≡ least (Some a ∷ less_delay time w.delay ∷ marks_of of ws)
-    by_time None rest = sym (none_second a (marks_of of ws))
-    by_time (Some t) rest = rest (int_min a (t -ℤ w.delay)) ∙ sym (two_first a (t -ℤ w.delay) (marks_of of ws))
-
-mark_is : (of : ℕ → Option ℤ) (streams : List Watermarked) → mark_by streams (lines_of of streams) ≡ least (marks_of of streams)
-mark_is of [] = refl
-mark_is of (w ∷ ws) = by_time (of w.stream)
-  where
-    by_time : (time : Option ℤ) → least_after None ((w, (let line : SeenBy = record { stream = w.stream; time = time } in line)) ∷ zip ws (lines_of of ws)) ≡ least (less_delay time w.delay ∷ marks_of of ws)
-    by_time None = sym (none_first (marks_of of ws))
-    by_time (Some t) = after_some of ws (t -ℤ w.delay)
+-- they say the marks
+marks_are : (of : ℕ → Option ℤ) (streams : List Watermarked) → map mark_of (zip streams (lines_of of streams)) ≡ marks_of of streams
+marks_are of [] = refl
+marks_are of (w ∷ ws) = ap (λ (marks : List (Option ℤ)). less_delay (of w.stream) w.delay ∷ marks) (marks_are of ws)
 
 -- there is one line for each watermarked stream, whatever its time
 pub lines_of_each : (of : ℕ → Option ℤ) (streams : List Stream) → has_lines (watermarked streams) (map (line_of of) (delays_from 0 streams)) ≡ true
@@ -98,7 +64,7 @@ mark_by_lines s cuts e =
     let of : ℕ → Option ℤ = λ stream. seen s.job.bound (parts_in s) (cuts_of cuts) stream e in
     let streams = watermarked s.job.bound.streams in
     ap (λ (ds : List Delay). least (map (λ (stream : Delay). less_delay (of stream.0) stream.1) ds)) (delays_are 0 s.job.bound.streams)
-    ∙ sym (mark_is of streams)
+    ∙ sym (ap least (marks_are of streams))
     ∙ sym (ap (λ (ds : List Delay). mark_by streams (map (line_of of) ds)) (delays_are 0 s.job.bound.streams))
 
 nothing_seen : (streams : List Delay) → watermark_by streams (λ stream. None) ≡ None

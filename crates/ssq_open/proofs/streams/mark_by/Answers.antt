@@ -1,5 +1,5 @@
 use Rattle.std.proofs.Common.{◌<◌, ◌∙◌, length, not, ap, sym, arith}
-use Rattle.ssq_open.proofs.Walks.{least-none, least-some}
+use Rattle.ssq_open.proofs.Marks.{least-none, least-some}
 use Rattle.ssq_open.proofs.streams.mark_by.Goals as goal
 
 pub returns-then-is_none : goal.returns-then-is_none
@@ -10,4 +10,4 @@ returns-then-is_none c =
 pub loop-at-preserved : goal.loop-at-preserved
 loop-at-preserved c =
     let less : c.loop-at.at < length c.args.streams.now = omega arith in
-    rw c.lower-least.ensures (c.loop-at.invariant ∙ least-some c.loop-at.at c.loop-at.least c.mark_of-mark.result c.args.streams.now c.args.seen.now _ c.seen_at-own.result less c.requires c.seen_at-own.ensures c.mark_of-mark.ensures (c.is_none.ensures ∙ ap not c.if-is_none.false))
+    rw c.lesser-least.ensures (c.loop-at.invariant ∙ least-some c.loop-at.at c.loop-at.least c.mark_of-mark.result c.args.streams.now c.args.seen.now _ c.seen_at-own.result less c.requires c.seen_at-own.ensures c.mark_of-mark.ensures (c.is_none.ensures ∙ ap not c.if-is_none.false))
