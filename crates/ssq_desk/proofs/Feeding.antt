@@ -1,6 +1,6 @@
 -- What the map tasks of an epoch brought, put together.
-use Rattle.std.proofs.Common.{◌≡◌, ◌<◌, ◌++◌, ℕ, ℤ, zero, suc, true, true≢false, List, [], ◌∷◌, map, length, get_or, Option, Some, None, refl, sym, ap, ◌∙◌, subst, arith}
-use Rattle.std.specs.Prelude.{All, slice_get, IfSome}
+use Rattle.std.proofs.Common.{◌≡◌, ◌<◌, ◌==◌, ℕ, ℤ, zero, suc, true, true≢false, List, [], ◌∷◌, map, length, get_or, Option, Some, None, refl, sym, ap, ◌∙◌, subst, arith}
+use Rattle.std.specs.Prelude.{All, slice_get, IfSome, if◌then◌else◌}
 use Rattle.std.proofs.lemmas.List.Elements.{All-append}
 use mathlib.Core.Option.{some}
 use lib.ListN.{get_elem?}
@@ -15,10 +15,10 @@ use Rattle.ssq_meaning.specs.Fit.{IsFitRow}
 use Rattle.ssq_board.specs.declared.front.Place.{Place}
 use Rattle.ssq_board.specs.declared.front.Place.TheVariants as place
 use Rattle.ssq_board.specs.Core.{is_fine}
-use Rattle.ssq_terms.specs.Rows.{bucket_in, raised, raised_by}
+use Rattle.ssq_terms.specs.Rows.{bucket_in}
 use Rattle.ssq_terms.proofs.Showing.{are_quiet}
 use Rattle.ssq_desk.specs.declared.desk.Source.{Source}
-use Rattle.ssq_desk.specs.Handing.{HasBucket, HasLineTime, CanRaise, bucket_in_fed, time_of, raised_in}
+use Rattle.ssq_desk.specs.Handing.{HasBucket, HasLineTime, CanRaise, bucket_in_fed, time_of}
 use Rattle.ssq_desk.specs.Contents.{IsMapped, IsBrought}
 
 -- what a part that was read, or had no new lines, has for a partition whose task waits
@@ -70,9 +70,9 @@ source_safe tells query epoch part from to partitions reduces place.Waits source
 source_safe tells query epoch part from to partitions reduces place.Away source fine m = absurd (true≢false (sym fine))
 
 -- What is said of each part is said of its source: so it is of all, one after the other.
-pub all_parts : {L A : Type 0} (say : Part → ℕ → ℕ → List A) (of : Source L → List A) (parts : List Part) (sources : List (Source L)) (froms tos : Cut) → length sources ≡ length parts → length froms ≡ length parts → length tos ≡ length parts
+pub all_parts : {L A : Type 0} (say : Part → ℕ → ℕ → A) (of : Source L → A) (parts : List Part) (sources : List (Source L)) (froms tos : Cut) → length sources ≡ length parts → length froms ≡ length parts → length tos ≡ length parts
     → ((i : ℕ) (part : Part) (source : Source L) → slice_get parts i ≡ Some part → get_elem? sources i ≡ some source → of source ≡ say part (get_or froms i 0) (get_or tos i 0))
-    → joined (map of sources) ≡ joined (of_parts say parts froms tos)
+    → map of sources ≡ of_parts say parts froms tos
 unfolding of_parts
 all_parts say of [] [] froms tos a b c each = refl
 all_parts say of [] (x ∷ sources) froms tos a b c each = absurd (omega (arith, a))
@@ -80,23 +80,11 @@ all_parts say of (part ∷ parts) [] froms tos a b c each = absurd (omega (arith
 all_parts say of (part ∷ parts) (x ∷ sources) [] tos a b c each = absurd (omega (arith, b))
 all_parts say of (part ∷ parts) (x ∷ sources) (from ∷ froms) [] a b c each = absurd (omega (arith, c))
 all_parts say of (part ∷ parts) (x ∷ sources) (from ∷ froms) (to ∷ tos) a b c each =
-    (λ i. each 0 part x refl refl i ++ all_parts say of parts sources froms tos (omega (arith, a)) (omega (arith, b)) (omega (arith, c)) (λ j q y there here. each (suc j) q y there here) i)
+    (λ i. each 0 part x refl refl i ∷ all_parts say of parts sources froms tos (omega (arith, a)) (omega (arith, b)) (omega (arith, c)) (λ j q y there here. each (suc j) q y there here) i)
 
--- and the greatest times
-pub all_times : {L : Type 0} (query : Bound) (parts : List Part) (sources : List (Source L)) (froms tos : Cut) (known : ℕ → Option ℤ) → length sources ≡ length parts → length froms ≡ length parts → length tos ≡ length parts
-    → ((i : ℕ) (part : Part) (source : Source L) → slice_get parts i ≡ Some part → get_elem? sources i ≡ some source → (part.stream ≡ source.stream) × (time_of source.fed ≡ time_in query part (get_or froms i 0) (get_or tos i 0)))
-    → (stream : ℕ) → raised_in sources known stream ≡ raised query parts froms tos known stream
-unfolding raised
-all_times query [] [] froms tos known a b c each stream = refl
-all_times query [] (x ∷ sources) froms tos known a b c each stream = absurd (omega (arith, a))
-all_times query (part ∷ parts) [] froms tos known a b c each stream = absurd (omega (arith, a))
-all_times query (part ∷ parts) (x ∷ sources) [] tos known a b c each stream = absurd (omega (arith, b))
-all_times query (part ∷ parts) (x ∷ sources) (from ∷ froms) [] known a b c each stream = absurd (omega (arith, c))
-all_times query (part ∷ parts) (x ∷ sources) (from ∷ froms) (to ∷ tos) known a b c each stream =
-    let first = each 0 part x refl refl in
-    let same = sym first.0 in
-    ap (λ (k : ℕ → Option ℤ). raised_in sources k stream) (λ i. raised_by (same i) (first.1 i) known)
-    ∙ all_times query parts sources froms tos (raised_by part.stream (time_in query part from to) known) (omega (arith, a)) (omega (arith, b)) (omega (arith, c)) (λ j q y there here. each (suc j) q y there here) stream
+-- a source has the greatest time that its part has
+pub time_same : (stream own of : ℕ) (has time : Option ℤ) → of ≡ own → has ≡ time → (if own == stream then has else None) ≡ (if of == stream then time else None)
+time_same stream own of has time same is = λ i. if sym same i == stream then is i else None
 
 -- each of a list has what each at its place has
 pub all_at : {A : Type 0} (P : A → Type 0) (l : List A) → ((i : ℕ) (a : A) → get_elem? l i ≡ some a → P a) → All P l

@@ -4,7 +4,8 @@ use Rattle.std.specs.Prelude.{All, slice_get, vec_capacity, is_some, IsSomeAnd}
 use Rattle.ssq_time.specs.Time.{IsStampTime}
 use Rattle.ssq_value.specs.Kind.{IfTime}
 use Rattle.ssq_meaning.specs.Parts.{parts_from, parts_of}
-use Rattle.ssq_meaning.specs.Epochs.{joined, seen}
+use Rattle.ssq_meaning.specs.FedRows.{FedRow}
+use Rattle.ssq_meaning.specs.Epochs.{joined, seen, time_of_stream}
 use Rattle.ssq_terms.specs.Rows.{IsShownOf, AreShown}
 use Rattle.ssq_terms.proofs.Raising.{raise_times}
 use Rattle.ssq_desk.specs.declared.desk.OutWork.{OutWork}
@@ -12,8 +13,8 @@ use Rattle.ssq_task.specs.declared.partition.Held.{Held}
 use Rattle.ssq_desk.specs.Contents.{IsShare, IsOutWork, IsHeldOf}
 use Rattle.ssq_desk.specs.Tasks.{IsStateFor}
 use Rattle.ssq_desk.proofs.Keeping.{state_for}
-use Rattle.ssq_desk.specs.Handing.{CanRaise, raised_in, state_with}
-use Rattle.ssq_desk.proofs.Feeding.{can_raise, all_times, time_is}
+use Rattle.ssq_desk.specs.Handing.{CanRaise, state_with, time_in_sources, time_of, time_of_source}
+use Rattle.ssq_desk.proofs.Feeding.{can_raise, time_is, time_same}
 use Rattle.ssq_desk.proofs.Planned.{at_get}
 use Rattle.std.specs.List.{list_all}
 use Rattle.std.proofs.lemmas.List.{get_or-map, length-map}
@@ -34,7 +35,7 @@ use Rattle.ssq_terms.specs.Rows.{bucket_in}
 use Rattle.ssq_terms.proofs.Showing.{parts_feed}
 use Rattle.ssq_desk.specs.declared.desk.Share.{Share}
 use Rattle.ssq_desk.specs.Handing.{IsTaken, AreTaken, bucket_in_fed, buckets_in}
-use Rattle.ssq_meaning.specs.Times.{delays, watermark_by}
+use Rattle.ssq_meaning.specs.Times.{delays, greatest, later, watermark_by}
 use Rattle.ssq_water.specs.Water.{seen_at}
 use Rattle.ssq_course.specs.Setting.{watermark_at}
 use Rattle.ssq_meaning.specs.Fit.{IsFitRow}
@@ -327,11 +328,11 @@ module _ {D L S F : Type 0} (stores logs : Type 0) (history : D → History) (li
           safe = λ i source here. (let part = part_there (parts_in s) i (let l = at_length load.sources.items i source here in let parts = whole.holds.parts in omega (arith, l, parts)) in
               let m = source_here may.0 may.1 fine i part.0 source part.1 here in
               source_safe (stores × logs) s.job.bound shown.core.front.committed part.0 _ _ s.job.partitions shown.core.reduces m.0 source m.2 m.3);
-          rows = λ y. all_parts (bucket_in s.job.bound shown.core.front.committed s.job.partitions t.number) (λ source. bucket_in_fed t.number source.fed) (parts_in s) load.sources.items
+          rows = λ y. ap (λ (lists : List (List FedRow)). joined lists) (all_parts (bucket_in s.job.bound shown.core.front.committed s.job.partitions t.number) (λ source. bucket_in_fed t.number source.fed) (parts_in s) load.sources.items
               (cut_of (cuts_of (opening_in lines) shown shown.core.front.committed)) (cut_of (cuts_of (opening_in lines) shown (shown.core.front.committed + 1))) whole.holds.parts
               (length-map (cuts_of (opening_in lines) shown shown.core.front.committed) (λ (e : PartEnd). e.end) ∙ e.froms) (tos_count may.1)
               (λ i part source there here. (let m = source_here may.0 may.1 fine i part source there here in
-              bucket_is (stores × logs) s.job.bound shown.core.front.committed part _ _ s.job.partitions t.number shown.core.reduces m.0 source (y.0, y.1.0) m.2 waits m.3))
+              bucket_is (stores × logs) s.job.bound shown.core.front.committed part _ _ s.job.partitions t.number shown.core.reduces m.0 source (y.0, y.1.0) m.2 waits m.3)))
               ∙ parts_feed s.job.bound shown.core.front.committed (parts_in s) (cut_of (cuts_of (opening_in lines) shown shown.core.front.committed)) (cut_of (cuts_of (opening_in lines) shown (shown.core.front.committed + 1))) s.job.partitions t.number;
         }
 
@@ -368,7 +369,7 @@ module _ {D L S F : Type 0} (stores logs : Type 0) (history : D → History) (li
       pub is : IsOutWork (Owns stores logs history lines shown) written (setting_of lines shown.opening) (cuts_of (opening_in lines) shown) shown.core.front.committed work
       pub room : length work.rows.items + length load.shares.items ≤ vec_capacity work.rows
       pub raise : CanRaise (length work.seen) load.sources.items
-      pub times : Owns stores logs history lines shown → (stream : ℕ) → raised_in load.sources.items (seen_at work.seen) stream ≡ seen (setting_of lines shown.opening).job.bound (parts_in (setting_of lines shown.opening)) (offsets (cuts_of (opening_in lines) shown)) stream (shown.core.front.committed + 1)
+      pub times : Owns stores logs history lines shown → (stream : ℕ) → later (seen_at work.seen stream) (time_in_sources stream load.sources.items) ≡ seen (setting_of lines shown.opening).job.bound (parts_in (setting_of lines shown.opening)) (offsets (cuts_of (opening_in lines) shown)) stream (shown.core.front.committed + 1)
       pub rows : Owns stores logs history lines shown → AreShown (setting_of lines shown.opening) (cuts_of (opening_in lines) shown) shown.core.front.committed (map (λ share. share.rows.items) load.shares.items)
       pub printable : All (All (IfTime IsStampTime)) (joined (map (λ share. share.rows.items) load.shares.items))
 
@@ -399,11 +400,12 @@ module _ {D L S F : Type 0} (stores logs : Type 0) (history : D → History) (li
               let own = whole.holds.logs i part.0 m.0 source part.1 m.1 here in
               let below = streams_below i part.0 part.1 in
               (omega (arith, below, own.stream, streams), (source_safe (stores × logs) s.job.bound shown.core.front.committed part.0 _ _ s.job.partitions shown.core.reduces m.0 source m.2 m.3).years)));
-          times = λ y stream. all_times s.job.bound (parts_in s) load.sources.items (cut_of (cuts_of (opening_in lines) shown shown.core.front.committed)) (cut_of (cuts_of (opening_in lines) shown (shown.core.front.committed + 1))) (seen_at w.0.seen)
+          times = λ y stream. ap (λ (times : List (Option ℤ)). later (seen_at w.0.seen stream) (greatest times))
+              (all_parts (time_of_stream s.job.bound stream) (time_of_source stream) (parts_in s) load.sources.items (cut_of (cuts_of (opening_in lines) shown shown.core.front.committed)) (cut_of (cuts_of (opening_in lines) shown (shown.core.front.committed + 1)))
               whole.holds.parts (length-map (cuts_of (opening_in lines) shown shown.core.front.committed) (λ (e : PartEnd). e.end) ∙ e.froms) (tos_count may.1)
               (λ i part source there here. (let m = source_here may.0 may.1 maps_fine i part source there here in
-              ((whole.holds.logs i part m.0 source there m.1 here).stream, time_is (stores × logs) s.job.bound shown.core.front.committed part _ _ s.job.partitions shown.core.reduces m.0 source (y.0, y.1.0) m.2 m.3))) stream
-              ∙ raise_times s.job.bound (parts_in s) (offsets (cuts_of (opening_in lines) shown)) shown.core.front.committed (seen_at w.0.seen) (λ other. w.2.times.are y other) stream;
+              time_same stream source.stream part.stream (time_of source.fed) _ (whole.holds.logs i part m.0 source there m.1 here).stream (time_is (stores × logs) s.job.bound shown.core.front.committed part _ _ s.job.partitions shown.core.reduces m.0 source (y.0, y.1.0) m.2 m.3))))
+              ∙ raise_times s.job.bound (parts_in s) (offsets (cuts_of (opening_in lines) shown)) shown.core.front.committed stream (seen_at w.0.seen stream) (w.2.times.are y stream);
           rows = λ y. record {
             count = length-map load.shares.items (λ (share : Share S). share.rows.items) ∙ count;
             each = λ p less. (let share = there_at load.shares.items p (omega (arith, less, count)) in

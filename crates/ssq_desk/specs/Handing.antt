@@ -1,11 +1,11 @@
 -- What is taken out of a desk for a task.
-use Rattle.std.specs.Prelude.{◌≡◌, ◌<◌, ℕ, ℤ, List, [], ◌∷◌, length, map, set, Option, Some, None, IfSome}
+use Rattle.std.specs.Prelude.{◌≡◌, ◌<◌, ◌==◌, ℕ, ℤ, List, [], ◌∷◌, length, map, set, Option, Some, None, IfSome, if◌then◌else◌}
 use Rattle.ssq_time.specs.Time.{IsLineTime}
 use Rattle.ssq_route.specs.Buckets.{bucket_at}
 use Rattle.ssq_meaning.specs.FedRows.{FedRow}
+use Rattle.ssq_meaning.specs.Times.{greatest}
 use Rattle.ssq_meaning.specs.Epochs.{joined}
 use Rattle.ssq_feed.specs.declared.task.FedRows.{FedRows}
-use Rattle.ssq_terms.specs.Rows.{raised_by}
 use Rattle.ssq_task.specs.declared.partition.Held.{Held}
 use Rattle.ssq_task.specs.declared.partition.State.{State}
 use Rattle.ssq_desk.specs.declared.desk.Source.{Source}
@@ -60,7 +60,10 @@ module _ {L : Type 0} where
   abbrev pub buckets_in : ℕ → List (Source L) → List FedRow
   buckets_in p sources = joined (map (λ source. bucket_in_fed p source.fed) sources)
 
-  -- the greatest times, once that of each source is taken in
-  abbrev pub raised_in : List (Source L) → (ℕ → Option ℤ) → ℕ → Option ℤ
-  raised_in [] known = known
-  raised_in (source ∷ sources) known = raised_in sources (raised_by source.stream (time_of source.fed) known)
+  -- the greatest time of what a source has, where it is one of this stream
+  abbrev pub time_of_source : ℕ → Source L → Option ℤ
+  time_of_source stream source = if source.stream == stream then time_of source.fed else None
+
+  -- the greatest time of a stream among what the sources have
+  abbrev pub time_in_sources : ℕ → List (Source L) → Option ℤ
+  time_in_sources stream sources = greatest (map (time_of_source stream) sources)

@@ -4,8 +4,8 @@ ghost use Rattle.std.specs.Prelude.{◌≡◌, ◌<◌, ◌≤◌, ◌+◌, ◌+
 ghost use Rattle.ssq_time.specs.Time.{IsLineTime};
 ghost use Rattle.ssq_water.specs.Water.{seen_at};
 ghost use Rattle.ssq_task.specs.Lists.{joined_vecs};
-ghost use Rattle.ssq_terms.specs.Rows.{raised_by};
-ghost use Rattle.ssq_desk.specs.Handing.{state_with, IsTaken, AreTaken, HasBucket, HasLineTime, CanRaise, bucket_in_fed, buckets_in, time_of, raised_in};
+ghost use Rattle.ssq_meaning.specs.Times.{later};
+ghost use Rattle.ssq_desk.specs.Handing.{state_with, IsTaken, AreTaken, HasBucket, HasLineTime, CanRaise, bucket_in_fed, buckets_in, time_of_source, time_in_sources};
 
 use crate::desk::{Share, Source};
 use ssq_meaning::FedRow;
@@ -108,7 +108,7 @@ pub(crate) fn take_buckets<L: Log>(
 fn raise_one<L: Log>(seen: &mut Seen, source: &Source<L>)
     requires stream { source.now.stream < length seen.old }
     requires years { HasLineTime source.now }
-    ensures times { (stream : ℕ) → seen_at seen.new stream ≡ raised_by source.now.stream (time_of source.now.fed) (seen_at seen.old) stream }
+    ensures times { (stream : ℕ) → seen_at seen.new stream ≡ later (seen_at seen.old stream) (time_of_source stream source.now) }
     ensures streams { length seen.new ≡ length seen.old }
 {
     if let Some(fed) = &source.fed {
@@ -121,7 +121,7 @@ fn raise_one<L: Log>(seen: &mut Seen, source: &Source<L>)
 /// Takes in the greatest time of what each source has.
 pub(crate) fn raise_all<L: Log>(seen: &mut Seen, sources: &[Source<L>])
     requires { CanRaise (length seen.old) sources.now }
-    ensures times { (stream : ℕ) → seen_at seen.new stream ≡ raised_in sources.now (seen_at seen.old) stream }
+    ensures times { (stream : ℕ) → seen_at seen.new stream ≡ later (seen_at seen.old stream) (time_in_sources stream sources.now) }
     ensures streams { length seen.new ≡ length seen.old }
 {
     let Some((source, rest)) = sources.split_first() else {

@@ -1,5 +1,5 @@
 -- What the tasks of an epoch bring, put together.
-use Rattle.std.specs.Prelude.{◌≡◌, ◌≤◌, ◌+◌, ◌==◌, ℕ, ℤ, List, [], ◌∷◌, length, Option, None, if◌then◌else◌}
+use Rattle.std.specs.Prelude.{◌≡◌, ◌≤◌, ◌+◌, ℕ, ℤ, List, [], length, Option, None}
 use Rattle.std.specs.List.Sorted.{IsPermutation}
 use Rattle.ssq_shape.specs.declared.bound.Bound.{Bound}
 use Rattle.ssq_meaning.specs.FedRows.{FedRow}
@@ -9,7 +9,7 @@ use Rattle.ssq_meaning.specs.Cut.{Cut, of_parts}
 use Rattle.ssq_meaning.specs.Cut.{Cuts as Offsets}
 use Rattle.ssq_meaning.specs.Times.{later}
 use Rattle.ssq_meaning.specs.Feeding.{fed_in, time_in, fault_in}
-use Rattle.ssq_meaning.specs.Epochs.{joined, fed_between, seen, bucket, out}
+use Rattle.ssq_meaning.specs.Epochs.{joined, fed_between, time_between, seen, bucket, out}
 use Rattle.ssq_sink.specs.Sink.{sink_text}
 use Rattle.ssq_core.specs.Course.{Cuts}
 use Rattle.ssq_course.specs.Setting.{Setting, parts_in, cuts_of, rows_at, partition_out}
@@ -50,18 +50,7 @@ abbrev pub PartitionsCountRows : Type 0
 PartitionsCountRows = (s : Setting) (cuts : Cuts) (e : ℕ) (shown : List (List Values)) → 1 ≤ s.job.partitions → AreShown s cuts e shown
     → length (joined shown) ≡ length (out s.job.bound (parts_in s) (cuts_of cuts) e)
 
--- the greatest times of the streams, once the greatest time of a part of this stream is taken in
-abbrev pub raised_by : ℕ → Option ℤ → (ℕ → Option ℤ) → ℕ → Option ℤ
-raised_by stream time known other = if other == stream then later (known other) time else known other
-
--- and once that of each part is, one after the other
-unfoldable pub raised : Bound → List Part → Cut → Cut → (ℕ → Option ℤ) → ℕ → Option ℤ
-raised query [] froms tos known = known
-raised query (part ∷ parts) [] tos known = known
-raised query (part ∷ parts) (from ∷ froms) [] known = known
-raised query (part ∷ parts) (from ∷ froms) (to ∷ tos) known = raised query parts froms tos (raised_by part.stream (time_in query part from to) known)
-
--- they are those at the end of the epoch
-abbrev pub PartsRaiseTimes : Type 0
-PartsRaiseTimes = (query : Bound) (parts : List Part) (cuts : Offsets) (e : ℕ) (known : ℕ → Option ℤ) → ((stream : ℕ) → known stream ≡ seen query parts cuts stream e)
-    → (stream : ℕ) → raised query parts (cuts e) (cuts (e + 1)) known stream ≡ seen query parts cuts stream (e + 1)
+-- the greatest time of a stream that was known, and that of an epoch's lines, give the greatest at the end of the epoch
+abbrev pub LinesRaiseTimes : Type 0
+LinesRaiseTimes = (query : Bound) (parts : List Part) (cuts : Offsets) (e stream : ℕ) (known : Option ℤ) → known ≡ seen query parts cuts stream e
+    → later known (time_between query parts (cuts e) (cuts (e + 1)) stream) ≡ seen query parts cuts stream (e + 1)

@@ -1,6 +1,6 @@
 //! What the tasks of an epoch bring, put together.
 
-ghost use Rattle.ssq_terms.specs.Rows.{PartsFeedPartitions, PartsWithoutLinesAreQuiet, PartitionsShowRows, PartitionsCountRows, PartsRaiseTimes};
+ghost use Rattle.ssq_terms.specs.Rows.{PartsFeedPartitions, PartsWithoutLinesAreQuiet, PartitionsShowRows, PartitionsCountRows, LinesRaiseTimes};
 
 use ssq_course::partitions_show_rows;
 
@@ -11,7 +11,7 @@ pub fn tasks_bring_the_epoch()
     ensures quiet { PartsWithoutLinesAreQuiet }
     ensures shown { PartitionsShowRows }
     ensures counted { PartitionsCountRows }
-    ensures seen { PartsRaiseTimes }
+    ensures seen { LinesRaiseTimes }
 {
     partitions_show_rows();
 }

@@ -5,6 +5,7 @@ use Rattle.std.proofs.lemmas.List.{with_items_is}
 use Rattle.std.proofs.lemmas.Option.{same_Some}
 use Rattle.ssq_time.specs.Time.{IsStampTime}
 use Rattle.ssq_value.specs.Kind.{IfTime}
+use Rattle.ssq_meaning.specs.Times.{later}
 use Rattle.ssq_meaning.specs.Epochs.{joined}
 use Rattle.ssq_meaning.specs.Meaning.{Values}
 use Rattle.ssq_water.specs.Water.{seen_at}
@@ -23,7 +24,7 @@ use Rattle.ssq_desk.specs.declared.desk.Source.{Source}
 use Rattle.ssq_desk.specs.declared.round.Round.{Round}
 use Rattle.ssq_desk.specs.Round.{setting_of, Owns}
 use Rattle.ssq_desk.specs.Contents.{IsOutWork}
-use Rattle.ssq_desk.specs.Handing.{CanRaise, raised_in}
+use Rattle.ssq_desk.specs.Handing.{CanRaise, time_in_sources}
 use Rattle.ssq_desk.specs.Handed.{IsOutOf}
 use Rattle.ssq_desk.specs.Tasks.{IsOutTask, out_id}
 use Rattle.ssq_desk.specs.Whole.{IsWhole, HoldsIn, opening_in}
@@ -69,7 +70,7 @@ returns-clause-task g c =
       epoch = m.2;
       times = record {
         streams = c.raise_all.ensures.streams ∙ is.times.streams;
-        are = λ y stream. c.raise_all.ensures.times stream ∙ (λ i. raised_in (c.as_slice.ensures.value i) (seen_at ((sym same i).seen)) stream) ∙ h.times y stream;
+        are = λ y stream. c.raise_all.ensures.times stream ∙ (λ i. later (seen_at ((sym same i).seen) stream) (time_in_sources stream (c.as_slice.ensures.value i))) ∙ h.times y stream;
       };
       printable = subst (λ (l : List (List Values)). All (All (IfTime IsStampTime)) (joined l)) (sym rows) h.printable;
       rows = λ y. subst (λ (l : List (List Values)). AreShown (setting_of g.L.Log.lines s.ledger.opening) (cuts_of (opening_in g.L.Log.lines) s.ledger) s.ledger.core.front.committed l) (sym rows) (h.rows y);
