@@ -1,49 +1,47 @@
 -- What becomes of the inputs in one call and another behind it.
-use Rattle.std.proofs.Common.{◌≡◌, ◌<◌, ◌⊎◌, ◌≤◌, ◌+◌, ◌-◌, ◌^◌, ◌++◌, ◌∷◌, [], ℕ, zero, suc, List, map, min, refl, sym, ap, ◌∙◌, subst, inl, inr, arith}
+use Rattle.std.proofs.Common.{◌≡◌, ◌<◌, ◌≤◌, ◌+◌, ◌-◌, ◌^◌, ◌++◌, ◌∷◌, [], ℕ, List, map, min, sum, sym, ap, ◌∙◌, subst, arith}
 use Rattle.std.specs.List.{sum_by}
-use Rattle.std.proofs.lemmas.List.{map-id}
-use Rattle.std.proofs.lemmas.List.Sums.{sum_by-cons}
+use Rattle.std.proofs.lemmas.List.{map-append, map-id, reverse-append}
+use Rattle.std.proofs.lemmas.List.Sums.{sum-map, sum_by_push}
 use Rattle.ssq_outside.specs.Faults.{Rises}
 use Rattle.ssq_outside.specs.Logs.{Held}
 use Rattle.ssq_logs.specs.Went.{returned_with, faults_with, InputsWent}
 
 one_back : {L : Type 0} (answers : L → List ℕ) (logs : List L) (log : L) (before : List (List ℕ)) → answers log ∷ returned_with (map answers logs) before ≡ returned_with (map answers (logs ++ log ∷ [])) before
-one_back answers [] log before = refl
-one_back answers (l ∷ logs) log before = one_back answers logs log (answers l ∷ before)
+one_back answers logs log before =
+    sym (ap (λ (back : List (List ℕ)). returned_with back before) (map-append answers logs (log ∷ []))
+    ∙ ap (λ (back : List (List ℕ)). back ++ before) (reverse-append (map answers logs) (answers log ∷ [])))
+
+capped : (before all one both most : ℕ) → both ≡ all + one → min (min (before + all) most + one) most ≡ min (before + both) most
+capped before all one both most is = omega (arith, is)
+
+one_count : (counts : List ℕ) (count before : ℕ) → min (faults_with counts before + count) (2 ^ 64 - 1) ≡ faults_with (counts ++ count ∷ []) before
+one_count [] count before = let one : sum (count ∷ []) ≡ count = omega arith in ap (λ n. min (before + n) (2 ^ 64 - 1)) (sym one)
+one_count (first ∷ more) count before =
+    capped before (sum (first ∷ more)) count (sum ((first ∷ more) ++ count ∷ [])) (2 ^ 64 - 1) (sum_by_push (λ n. n) (first ∷ more) count)
 
 -- the faults of one log more
 pub faults_more : {L : Type 0} (faults : L → ℕ) (logs : List L) (log : L) (before : ℕ) → min (faults_with (map faults logs) before + faults log) (2 ^ 64 - 1) ≡ faults_with (map faults (logs ++ log ∷ [])) before
-faults_more faults [] log before = refl
-faults_more faults (l ∷ logs) log before = faults_more faults logs log (min (before + faults l) (2 ^ 64 - 1))
+faults_more faults logs log before =
+    one_count (map faults logs) (faults log) before ∙ ap (λ (counts : List ℕ). faults_with counts before) (sym (map-append faults logs (log ∷ [])))
 
-kept_one : (before faults now most : ℕ) → min (min (before + faults) most) most ≤ now → min before most ≤ now
-kept_one before faults now most h = omega (arith, h)
+kept : (before all most : ℕ) → min before most ≤ min (before + all) most
+kept before all most = omega arith
 
-rises_one : (before faults now most : ℕ) → 0 < faults → min (min (before + faults) most) most ≤ now → min (before + 1) most ≤ now
-rises_one before faults now most some h = omega (arith, some, h)
-
-rises_on : (before faults now most : ℕ) → min (min (before + faults) most + 1) most ≤ now → min (before + 1) most ≤ now
-rises_on before faults now most h = omega (arith, h)
+risen : (before all most : ℕ) → 0 < all → min (before + 1) most ≤ min (before + all) most
+risen before all most some = omega (arith, some)
 
 -- no fault is forgotten
-pub faults_kept : (faults : List ℕ) (before : ℕ) → min before (2 ^ 64 - 1) ≤ faults_with faults before
+pub faults_kept : (counts : List ℕ) (before : ℕ) → min before (2 ^ 64 - 1) ≤ faults_with counts before
 faults_kept [] before = omega arith
-faults_kept (f ∷ faults) before = kept_one before f (faults_with faults (min (before + f) (2 ^ 64 - 1))) (2 ^ 64 - 1) (faults_kept faults (min (before + f) (2 ^ 64 - 1)))
-
-some_fault : (f : ℕ) → (f ≡ 0) ⊎ (0 < f)
-some_fault zero = inl refl
-some_fault (suc f) = inr (omega arith)
+faults_kept (first ∷ more) before = kept before (sum (first ∷ more)) (2 ^ 64 - 1)
 
 -- where one log failed, the count rose
 pub faults_rise : {L : Type 0} (faults : L → ℕ) (logs : List L) (before : ℕ) → 0 < sum_by faults logs → Rises before (faults_with (map faults logs) before)
 faults_rise faults [] before some = absurd (omega (arith, some))
 faults_rise faults (log ∷ logs) before some =
-    let all : sum_by faults (log ∷ logs) ≡ faults log + sum_by faults logs = sum_by-cons faults log logs in
-    let mid : ℕ = min (before + faults log) (2 ^ 64 - 1) in
-    elim (some_fault (faults log)) [
-      | inl none ↦ rises_on before (faults log) (faults_with (map faults logs) mid) (2 ^ 64 - 1) (faults_rise faults logs mid (omega (arith, some, none, all)))
-      | inr here ↦ rises_one before (faults log) (faults_with (map faults logs) mid) (2 ^ 64 - 1) here (faults_kept (map faults logs) mid)
-    ]
+    let all : sum (map faults (log ∷ logs)) ≡ sum_by faults (log ∷ logs) = sum-map faults (log ∷ logs) in
+    risen before (sum (map faults (log ∷ logs))) (2 ^ 64 - 1) (omega (arith, some, all))
 
 -- those that a loop took are all
 pub all_added : {L : Type 0} (faults : L → ℕ) (taken logs : List L) (before now : ℕ) → map (λ (log : L). log) taken ≡ logs → now ≡ faults_with (map faults taken) before → now ≡ faults_with (map faults logs) before

@@ -1,16 +1,16 @@
 -- What becomes of the inputs in a call.
-use Rattle.std.specs.Prelude.{◌≡◌, ◌≤◌, ◌+◌, ◌-◌, ◌^◌, ℕ, List, [], ◌∷◌, min}
+use Rattle.std.specs.Prelude.{◌≡◌, ◌≤◌, ◌+◌, ◌-◌, ◌^◌, ◌++◌, ℕ, List, [], ◌∷◌, reverse, min, sum}
 use Rattle.ssq_outside.specs.Logs.{Held}
 
--- the logs that came back by what they had answered, the last one first, once these came back behind those, each after the one before it
+-- the logs that came back by what they had answered, the last one first, once these came back behind those
 abbrev pub returned_with : List (List ℕ) → List (List ℕ) → List (List ℕ)
-returned_with [] before = before
-returned_with (answers ∷ more) before = returned_with more (answers ∷ before)
+returned_with back before = reverse back ++ before
 
--- a count of faults once logs with these counts came back, one after the other: it stays at the last value of its 64 bits
+-- a count of faults once logs with these counts came back: all of them together, at most the last value of its 64 bits; as it was where
+-- none came back
 abbrev pub faults_with : List ℕ → ℕ → ℕ
 faults_with [] before = before
-faults_with (faults ∷ more) before = faults_with more (min (before + faults) (2 ^ 64 - 1))
+faults_with (first ∷ more) before = min (before + sum (first ∷ more)) (2 ^ 64 - 1)
 
 module _ {I : Type 0} (tells : Type 0) (held : I → Held) (returned : I → List (List ℕ)) (available : I → List ℕ → ℕ → ℕ) where
   -- They hold what they held, logs with these answers came back and no others, and no line went away.
