@@ -107,9 +107,8 @@ impl Kept {
         ensures { (epochs : List (List Values)) → IsKept bound.now epochs self → IfOk result (λ text. text ≡ table_text bound.now epochs) }
     {
         match self {
-            Kept::Each(text) => Ok(utf8_text(text)),
+            Kept::Each(text) | Kept::Last(text) => Ok(utf8_text(text)),
             Kept::Latest(latest) => latest.into_text(alloc, bound),
-            Kept::Last(text) => Ok(utf8_text(text)),
         }
     }
 }
