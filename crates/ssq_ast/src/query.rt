@@ -17,6 +17,7 @@ pub struct Stream {
     pub at: usize,
     pub name: Ident,
     pub columns: Sequence<ColumnDecl>,
+    /// The name of its source, without quotes.
     pub source: Text,
     pub watermark: Option<Watermark>,
 }
@@ -81,10 +82,13 @@ pub struct Condition {
     pub value: Expr,
 }
 
+/// Which rows without a partner are shown, joined with NULLs.
 #[derive(Clone, Copy)]
 pub enum JoinKind {
     Inner,
+    /// Those of the stream of FROM.
     Left,
+    /// Those of the stream of JOIN.
     Right,
 }
 
@@ -111,6 +115,7 @@ pub struct GroupBy {
     pub items: Sequence<Group>,
 }
 
+/// What rows are grouped by.
 #[derive(Drop)]
 pub enum Group {
     Column(Ident),
@@ -126,6 +131,7 @@ pub struct Window {
     pub slide: Option<Span>,
 }
 
+/// Whether the least comes first or the greatest.
 #[derive(Clone, Copy)]
 pub enum Direction {
     Ascending,
@@ -149,7 +155,10 @@ pub struct Limit {
 /// Which rows of the result an epoch shows.
 #[derive(Clone, Copy)]
 pub enum Mode {
+    /// Each row once, when no line that comes later can change it.
     Append,
+    /// The groups for which the epoch accepted a row. Without groups as in Append.
     Update,
+    /// All groups.
     Complete,
 }

@@ -18,9 +18,11 @@ use std::alloc::{AllocError, Global};
 /// What ON joins by AND, by its kind.
 #[derive(Drop)]
 pub struct Parts {
+    /// The key equalities.
     pub keys: Sequence<KeyPair>,
     /// The BETWEENs. A query without a fault has one at most.
     pub bounds: Sequence<TimeBound>,
+    /// What is neither.
     pub rest: Sequence<Typed>,
 }
 

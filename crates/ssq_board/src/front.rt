@@ -12,6 +12,7 @@ pub enum RowFault {
     NotObject,
     /// The first column, in declared order from 0, whose field has a value of another type.
     WrongType { column: usize },
+    /// Its event time is missing.
     NoEventTime,
 }
 

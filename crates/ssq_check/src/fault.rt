@@ -10,23 +10,36 @@ use thiserror::Error;
 /// A rule of binding that is broken. Of two at one place the one that stands first here is told.
 #[derive(Clone, Copy, Debug, PartialEq, Eq)]
 pub enum Cause {
+    /// A name stands for nothing.
     UnknownName,
+    /// A name is given twice, or stands for two columns.
     DoubleName,
+    /// An operand, a condition or a column has another type than its place takes.
     WrongType,
+    /// What DIV or % divides by is no number other than 0.
     BadDivisor,
+    /// A column of a query with groups is no group column and stands in no aggregate, or HAVING stands without groups.
     NotGrouped,
+    /// An aggregate stands in WHERE, in ON or in an aggregate.
     AggregateHere,
+    /// There is one more of its kind than there may be.
     TooMany,
+    /// A BETWEEN among the ANDs of ON is no bound on the times of both streams, or the second one.
     BadBound,
+    /// The slide of a window is above its size, or it is the second window.
     BadWindow,
+    /// Two of JOIN, DEDUPLICATE and groups stand in one query.
     TwoStateful,
+    /// DISTINCT is read, and never taken.
     Distinct,
+    /// LIMIT is read, and never taken.
     Limit,
 }
 
 /// A rule that is broken, and where.
 #[derive(Clone, Copy, Debug, PartialEq, Eq)]
 pub struct BindFault {
+    /// The place of the token at which it is told: of its first byte, counted from 0.
     pub at: usize,
     pub cause: Cause,
 }

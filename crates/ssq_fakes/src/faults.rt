@@ -32,6 +32,7 @@ impl Plan for Vec<u64> {
 /// The calls that an object has had, and how often it failed. Both numbers stop at the end of their 64 bits.
 #[derive(Drop)]
 pub struct Faults<P> {
+    /// Which calls are to fail.
     pub plan: P,
     pub calls: u64,
     pub count: u64,

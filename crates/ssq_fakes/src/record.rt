@@ -21,6 +21,7 @@ pub enum Event {
 impl Event {
     ghost use Rattle.ssq_fakes.specs.Records.{is_about, name_of, content_of, is_sync};
 
+    /// Whether it gave this name bytes, or removed its file.
     pub fn is_about(&self, name: Name) -> bool
         ensures { result ≡ is_about self.now name }
     {
@@ -42,6 +43,7 @@ impl Event {
         }
     }
 
+    /// The bytes that it gave a name.
     pub fn content(&self) -> Option<&[u8]>
         ensures { option_map (λ bytes. bytes.now) result ≡ content_of self.now }
     {
@@ -51,6 +53,7 @@ impl Event {
         }
     }
 
+    /// Whether it settled the names.
     pub fn is_sync(&self) -> bool
         ensures { result ≡ is_sync self.now }
     {

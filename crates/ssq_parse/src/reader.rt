@@ -42,6 +42,7 @@ impl<'a> Model for Reader<'a> {
 }
 
 impl<'a> Reader<'a> {
+    /// In front of all these tokens.
     pub fn new(tokens: &'a [Token<'a>]) -> Reader<'a>
         ensures { result ≡ map lexed tokens.now }
     {
@@ -88,6 +89,7 @@ impl<'a> Reader<'a> {
         }
     }
 
+    /// Whether this keyword is next.
     pub fn sees_keyword(&self, wanted: Keyword) -> bool
         ensures { result ≡ sees (is_keyword wanted) self.now }
     {
@@ -97,6 +99,7 @@ impl<'a> Reader<'a> {
         }
     }
 
+    /// Whether a name is next.
     pub fn sees_name(&self) -> bool
         ensures { result ≡ sees is_name self.now }
     {
@@ -160,6 +163,7 @@ impl<'a> Reader<'a> {
         &tokens[..count]
     }
 
+    /// Takes a keyword that has to be next, and tells its place.
     #[tactic(auto, unfolding(crate::specs::Reading::keyword_at))]
     pub fn keyword(&mut self, wanted: Keyword) -> Result<usize, Stop>
         ensures { Reads (keyword_at wanted self.old) result self.new }
@@ -170,6 +174,7 @@ impl<'a> Reader<'a> {
         }
     }
 
+    /// Takes a symbol that has to be next, and tells its place.
     #[tactic(auto, unfolding(crate::specs::Reading::symbol_at))]
     pub fn symbol(&mut self, wanted: Symbol) -> Result<usize, Stop>
         ensures { Reads (symbol_at wanted self.old) result self.new }
@@ -180,6 +185,7 @@ impl<'a> Reader<'a> {
         }
     }
 
+    /// Takes a name that has to be next.
     #[tactic(auto, unfolding(crate::specs::Reading::name_at))]
     pub fn name(&mut self, alloc: Global) -> Result<Ident, Stop>
         ensures { Reads (name_at self.old) result self.new }
@@ -218,6 +224,7 @@ impl<'a> Reader<'a> {
         }
     }
 
+    /// Takes a number that has to be next.
     #[tactic(auto, unfolding(crate::specs::Reading::number_at))]
     pub fn number(&mut self) -> Result<i64, Stop>
         ensures { Reads (number_at self.old) result self.new }

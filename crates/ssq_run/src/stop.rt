@@ -21,6 +21,7 @@ pub enum Wrong {
     NotObject,
     /// The first column, in declared order, of which it has a value of another type.
     WrongType { column: Text },
+    /// Its event time is missing.
     NoEventTime,
 }
 
