@@ -1,5 +1,6 @@
 -- Generated input: a query over a stream of two parts, and the lines of these.
-use Rattle.std.specs.Prelude.{ℕ, zero, suc, ◌+◌, ◌*◌, ◌%◌, ◌==◌, ℤ, pos, ◌+ℤ◌, ◌-ℤ◌, List, [], ◌∷◌, ◌++◌, codes, decimal, slice_get, if◌then◌else◌}
+use Rattle.std.specs.Prelude.{ℕ, zero, suc, ◌+◌, ◌*◌, ◌%◌, ◌==◌, ℤ, pos, ◌+ℤ◌, ◌-ℤ◌, List, [], ◌∷◌, map, filter, codes, decimal, slice_get, if◌then◌else◌}
+use Rattle.std.specs.List.{range_with_len}
 use Rattle.std.specs.Option.{option_map_or}
 use Rattle.std.specs.Str.{bytes_eq}
 use Rattle.ssq_value.specs.declared.value.Value.{Value}
@@ -39,14 +40,9 @@ line_with x i = row_text column_names (row_with x i)
 abbrev pub line_at : (number i : ℕ) → Line
 line_at number i = line_with (number_at number i) i
 
--- Of lines the part's own: those so far, and line i where its turn is, which is at i mod 2.
-abbrev pub turn : {A : Type 0} → (i part : ℕ) → List A → A → List A
-turn i part lines line = if i % 2 == part then lines ++ line ∷ [] else lines
-
--- of the first n lines those of a part, in their order
+-- of the first n lines those of a part, in their order: line i is of part i mod 2
 unfoldable pub part_lines : (number n part : ℕ) → List Line
-part_lines number zero part = []
-part_lines number (suc n) part = turn n part (part_lines number n part) (line_at number n)
+part_lines number n part = map (line_at number) (filter (λ i. i % 2 == part) (range_with_len 0 n))
 
 -- the lines of both parts
 abbrev pub parts_made : (number n : ℕ) → List (List Line)

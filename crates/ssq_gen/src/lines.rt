@@ -1,11 +1,11 @@
 //! The lines of both parts.
 
-ghost use Rattle.std.specs.Prelude.{◌≡◌, ◌≤◌, ◌<◌, ◌%◌, ◌∷◌, ◌++◌, [], List, ℕ, map, decimal, IfOk, OnOk};
+ghost use Rattle.std.specs.Prelude.{◌≡◌, ◌≤◌, ◌<◌, ◌%◌, ◌==◌, ◌∷◌, ◌++◌, [], List, ℕ, map, decimal, if◌then◌else◌, IfOk, OnOk};
 ghost use Rattle.std.specs.List.{All};
 ghost use Rattle.ssq_json.specs.RowText.{heads_of};
 ghost use Rattle.ssq_time.specs.Time.{IsStampTime};
 ghost use Rattle.ssq_value.specs.Kind.{IfTime};
-ghost use Rattle.ssq_gen.specs.Made.{column_names, line_with, next_number, part_lines, row_with, time_of_line, turn};
+ghost use Rattle.ssq_gen.specs.Made.{column_names, line_with, next_number, part_lines, row_with, time_of_line};
 
 use ssq_json::{Heads, put_row};
 use ssq_value::{Row, Text, Value};
@@ -90,8 +90,8 @@ fn put_line(
     at: u32,
     line: Vec<u8>,
 ) -> Result<(), AllocError>
-    ensures even { OnOk result (even.new.items ≡ turn at 0 even.old.items line) }
-    ensures odd { OnOk result (odd.new.items ≡ turn at 1 odd.old.items line) }
+    ensures even { OnOk result (even.new.items ≡ even.old.items ++ (if at % 2 == 0 then line ∷ [] else [])) }
+    ensures odd { OnOk result (odd.new.items ≡ odd.old.items ++ (if at % 2 == 1 then line ∷ [] else [])) }
 {
     if at % 2 == 0 {
         even.push(line)?;

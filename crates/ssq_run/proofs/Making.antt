@@ -1,5 +1,5 @@
 -- A run over generated input is not refused and meets no limit.
-use Rattle.std.proofs.Common.{◌≡◌, ◌<◌, ◌≤◌, ◌+◌, ◌*◌, ◌-◌, ◌%◌, ◌==◌, ◌∙◌, ℕ, zero, suc, Bool, true, false, List, [], ◌∷◌, ◌++◌, length, map, sum, All, Option, Some, None, Result, refl, sym, ap, subst, arith, if◌then◌else◌}
+use Rattle.std.proofs.Common.{◌≡◌, ◌<◌, ◌≤◌, ◌+◌, ◌*◌, ◌-◌, ◌%◌, ◌==◌, ◌∙◌, ℕ, zero, suc, Bool, true, false, List, [], ◌∷◌, ◌++◌, length, map, sum, All, Option, Some, None, Result, refl, sym, ap, subst, add-one, arith, if◌then◌else◌}
 use Rattle.std.specs.Prelude.{slice_get, unwrap_or}
 use Rattle.std.specs.Option.{option_map_or}
 use Rattle.std.specs.Str.{bytes_eq}
@@ -20,6 +20,7 @@ use Rattle.ssq_runner.specs.declared.fault.RunFault.{RunFault}
 use Rattle.ssq_runner.specs.Complete.{CanGoOn, HasRoom, IsNoRefusal, IsNoLimit, RunsGoOn, RunsMeetNoLimit, is_empty, most_epochs}
 use Rattle.ssq_runner.specs.Sources.{IsSettingFor, RunOver}
 use Rattle.ssq_gen.specs.Made.{line_at, made_held, part_lines, parts_made, source}
+use Rattle.ssq_gen.proofs.Turns.{part_lines-next}
 use Rattle.ssq_run.specs.declared.stop.Stop.{Stop}
 use Rattle.ssq_run.specs.Generated.{GenEnd, in_memory, made_cap, made_partitions, made_setting, setting_over}
 use Rattle.ssq_run.specs.Stopping.{IsToldAs, stop_of_end}
@@ -33,14 +34,16 @@ nothing_there q = refl
 abbrev most_made : ℕ
 most_made = 10000000
 
-turn_long : (own : Bool) (n : ℕ) (lines : List Line) (one : Line) → length lines ≤ n → length (if own then lines ++ one ∷ [] else lines) ≤ n + 1
-turn_long true n lines one least = let len = length-append lines (one ∷ []) in omega (arith, len, least)
-turn_long false n lines one least = omega (arith, least)
+one_long : (own : Bool) (n : ℕ) (lines : List Line) (one : Line) → length lines ≤ n → length (lines ++ (if own then one ∷ [] else [])) ≤ n + 1
+one_long true n lines one least = let len = length-append lines (one ∷ []) in omega (arith, len, least)
+one_long false n lines one least = let len = length-append lines [] in omega (arith, len, least)
 
 part_long : (number n part : ℕ) → length (part_lines number n part) ≤ n
 unfolding part_lines
 part_long number zero part = omega arith
-part_long number (suc n) part = let least = turn_long (n % 2 == part) n (part_lines number n part) (line_at number n) (part_long number n part) in omega (arith, least)
+part_long number (suc n) part =
+    subst (λ (m : ℕ). length (part_lines number m part) ≤ m) (add-one n)
+    (subst (λ (lines : List Line). length lines ≤ n + 1) (sym (part_lines-next number n part)) (one_long (n % 2 == part) n (part_lines number n part) (line_at number n) (part_long number n part)))
 
 lines_long : (own : Bool) (number n part : ℕ) → length (if own then option_map_or (λ (lines : List Line). lines) (slice_get (parts_made number n) part) [] else []) ≤ n
 lines_long false number n part = omega arith
