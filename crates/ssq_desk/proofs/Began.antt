@@ -29,7 +29,7 @@ use Rattle.ssq_board.proofs.Lists.{at_length, replicate_at, nat_lt-not}
 use Rattle.ssq_ledger.specs.Shown.{Shown, HasRisen, did}
 use Rattle.ssq_desk.specs.declared.desk.Load.{Load}
 use Rattle.ssq_desk.specs.declared.desk.Share.{Share}
-use Rattle.ssq_desk.specs.declared.desk.Source.{Source}
+use Rattle.ssq_desk.specs.declared.desk.PartLog.{PartLog}
 use Rattle.ssq_desk.specs.declared.desk.OutWork.{OutWork}
 use Rattle.ssq_desk.specs.declared.first.Made.{Made}
 use Rattle.ssq_desk.specs.declared.round.Round.{Round}
@@ -44,19 +44,19 @@ use Rattle.ssq_desk.specs.First.{AreIndexes, held_of}
 use Rattle.ssq_desk.specs.Making.{AreReady}
 use Rattle.ssq_desk.proofs.Staging.{staged_count, staged_keys, staged_ready, held_length, held_at}
 use Rattle.ssq_desk.proofs.Holding.{holds_stopped}
-use Rattle.ssq_desk.specs.First.{sources_of, IsMadeOf, first_shown, BeginsAs, BeginsWork}
+use Rattle.ssq_desk.specs.First.{part_logs_of, IsMadeOf, first_shown, BeginsAs, BeginsWork}
 use Rattle.ssq_desk.specs.Contents.{IsOutWork, IsHeldOf, IsKeyOf, AreSeen, keeping_in}
 use Rattle.ssq_desk.specs.declared.told.Told.{Told}
 use Rattle.ssq_desk.specs.Closing.{AreTold}
 use Rattle.ssq_desk.specs.Whole.{IsWhole, IsKept, ArePlans}
 use Rattle.ssq_desk.proofs.Firsts.{IsFirstMade, opened_holds}
 use Rattle.ssq_desk.proofs.Settling.{risen_stops, risen_no_log}
-use Rattle.ssq_desk.proofs.Beginnings.{from_count, plans_are, times_are, same_cuts, sources_count, source_at, own_lines, map_at, slice_or, slice_below}
+use Rattle.ssq_desk.proofs.Beginnings.{from_count, plans_are, times_are, same_cuts, part_logs_count, part_log_at, own_lines, map_at, slice_or, slice_below}
 use Rattle.ssq_desk.proofs.Planned.{at_get}
 
 -- what a desk holds beside its ledger where its round begins
-abbrev pub load_of : {L S F : Type 0} → Round L → Made L S → Vec Plan → Vec (Source L) → Vec (Share S) → Vec (Option Held) → Option (OutWork S F) → Load L S F
-load_of round made plans sources shares held out = record { view = round.view; plans = plans; sources = sources; shares = shares; held = held; out = out; seen = made.seen; pending = None; told = made.rooms.told; kept = record { meta = round.opened.meta; lines = made.rooms.lines; logs = made.rooms.logs; stores = made.rooms.stores; closings = made.rooms.closings } }
+abbrev pub load_of : {L S F : Type 0} → Round L → Made L S → Vec Plan → Vec (PartLog L) → Vec (Share S) → Vec (Option Held) → Option (OutWork S F) → Load L S F
+load_of round made plans part_logs shares held out = record { view = round.view; plans = plans; part_logs = part_logs; shares = shares; held = held; out = out; seen = made.seen; pending = None; told = made.rooms.told; kept = record { meta = round.opened.meta; lines = made.rooms.lines; logs = made.rooms.logs; stores = made.rooms.stores; closings = made.rooms.closings } }
 
 -- the start of a round
 abbrev start_in : {L : Type 0} → (L → List Line) → Round L → Start
@@ -103,10 +103,10 @@ module _ {D L S F : Type 0} (stores logs : Type 0) (history : D → History) (li
   abbrev start : Start
   start = start_in lines round
 
-  first_made : IsFirstMade reads lines available went round.logs.items s r start.from (sources_of made.begun.parts.items made.begun.ends.items round.logs.items)
+  first_made : IsFirstMade reads lines available went round.logs.items s r start.from (part_logs_of made.begun.parts.items made.begun.ends.items round.logs.items)
   first_made = record {
-    parts = sources_count made.begun.parts.items made.begun.ends.items round.logs.items (each_part lines round is m) (each_end lines round is m) ∙ (logs_are lines round is m);
-    logs = λ i part source there here. (let p = source_at made.begun.parts.items made.begun.ends.items round.logs.items i source here in
+    parts = part_logs_count made.begun.parts.items made.begun.ends.items round.logs.items (each_part lines round is m) (each_end lines round is m) ∙ (logs_are lines round is m);
+    logs = λ i part part_log there here. (let p = part_log_at made.begun.parts.items made.begun.ends.items round.logs.items i part_log here in
         let at : get_or made.begun.parts.items i (end_at part 0) ≡ end_at part 0 =
         ap (λ (ends : Ends). get_or ends i (end_at part 0)) (parts_are lines round is m)
         ∙ get_or-map (λ (q : Part). end_at q 0) (parts_in s) i part (end_at part 0) (slice_below (parts_in s) i part there)
@@ -125,10 +125,10 @@ module _ {D L S F : Type 0} (stores logs : Type 0) (history : D → History) (li
             },
           );
         });
-    begins = λ i source here. (let p = source_at made.begun.parts.items made.begun.ends.items round.logs.items i source here in
+    begins = λ i part_log here. (let p = part_log_at made.begun.parts.items made.begun.ends.items round.logs.items i part_log here in
         let none : PartEnd = record { stream = 0; part = 0; end = 0 } in
         sym (p.from_is none) ∙ sym (get_or-map (λ (e : PartEnd). e.end) made.begun.ends.items i none 0 p.end_below) ∙ ap (λ (ends : Ends). get_or (numbers ends) i 0) (ends_are lines round is m));
-    nothing = λ i source here. (source_at made.begun.parts.items made.begun.ends.items round.logs.items i source here).nothing;
+    nothing = λ i part_log here. (part_log_at made.begun.parts.items made.begun.ends.items round.logs.items i part_log here).nothing;
   }
 
   next_is : start.is_planned ≡ true → cuts (start.committed + 1) ≡ start.to
@@ -151,10 +151,10 @@ module _ {D L S F : Type 0} (stores logs : Type 0) (history : D → History) (li
   shares_are fewer true held shares old new (Some work) before later begun =
       (staged_count fewer fewer written (λ t. t) held made.room.shares.items shares begun.4, staged_keys fewer fewer written (λ t. t) (length round.logs.items) held made.room.shares.items shares m.room.fresh begun.4)
 
-  module _ (plans : Vec Plan) (sources : Vec (Source L)) (shares : Vec (Share S)) (held : Vec (Option Held)) (closings : List (List Timed)) (indexes : AreIndexes (Unit {0}) s.job.bound round.opened.stores closings) (count : length shares.items ≡ length made.room.shares.items)
-      (no_keys : All (λ (x : Share S). x.key ≡ None) shares.items) (held_is : held.items ≡ held_of round.opened.stores closings) (plans_is : plans.items ≡ round.opened.plans) (sources_is : sources.items ≡ sources_of made.begun.parts.items made.begun.ends.items round.logs.items) where
-    placed : IsFirstMade reads lines available went round.logs.items s r start.from sources.items
-    placed = subst (λ (l : List (Source L)). IsFirstMade reads lines available went round.logs.items s r start.from l) (sym sources_is) first_made
+  module _ (plans : Vec Plan) (part_logs : Vec (PartLog L)) (shares : Vec (Share S)) (held : Vec (Option Held)) (closings : List (List Timed)) (indexes : AreIndexes (Unit {0}) s.job.bound round.opened.stores closings) (count : length shares.items ≡ length made.room.shares.items)
+      (no_keys : All (λ (x : Share S). x.key ≡ None) shares.items) (held_is : held.items ≡ held_of round.opened.stores closings) (plans_is : plans.items ≡ round.opened.plans) (part_logs_is : part_logs.items ≡ part_logs_of made.begun.parts.items made.begun.ends.items round.logs.items) where
+    placed : IsFirstMade reads lines available went round.logs.items s r start.from part_logs.items
+    placed = subst (λ (l : List (PartLog L)). IsFirstMade reads lines available went round.logs.items s r start.from l) (sym part_logs_is) first_made
 
     own_plans : ArePlans owned round.opened.plans s cuts (planned_by start.is_planned start.committed) plans.items
     own_plans = subst (λ (l : List Plan). ArePlans owned round.opened.plans s cuts (planned_by start.is_planned start.committed) l) (sym plans_is) (plans_are owned s round.opened r is (λ t. t.1.1))
@@ -198,11 +198,11 @@ module _ {D L S F : Type 0} (stores logs : Type 0) (history : D → History) (li
         })
 
     begun_whole : (now : D) (out : Option (OutWork S F)) → (start.is_planned ≡ true → (work : OutWork S F) × (out ≡ Some work) × IsOutWork owned written s cuts start.committed work × AreReady owned written s.job.partitions (length (parts_in s)) (keeping_in s) shares.items)
-        → IsWhole stores logs history lines available answers faults written sealed (did (first_shown lines round disk r) now []) (load_of round made plans sources shares held out)
+        → IsWhole stores logs history lines available answers faults written sealed (did (first_shown lines round disk r) now []) (load_of round made plans part_logs shares held out)
     begun_whole now out work = record {
       round = is;
       view = record { bound = refl; partitions = refl; windows = is.runs.windows };
-      holds = opened_holds reads owned lines available went round.logs.items written sealed s cuts r start sources.items shares.items held.items placed (count ∙ m.room.count) no_keys held_count held_here out made.seen None seen_are
+      holds = opened_holds reads owned lines available went round.logs.items written sealed s cuts r start part_logs.items shares.items held.items placed (count ∙ m.room.count) no_keys held_count held_here out made.seen None seen_are
           (λ planned. (from_count s round.opened r is, refl, next_is planned, work planned));
       plans = own_plans;
       told = nothing_told;
@@ -212,13 +212,13 @@ module _ {D L S F : Type 0} (stores logs : Type 0) (history : D → History) (li
     }
 
     stopped_whole : (now : D) (f : Cause) (before later : ℕ) (out : Option (OutWork S F)) → HasRisen f before later
-        → IsWhole stores logs history lines available answers faults written sealed (did (first_shown lines round disk r) now (entry.Stop f ∷ [])) (load_of round made plans sources shares held out)
+        → IsWhole stores logs history lines available answers faults written sealed (did (first_shown lines round disk r) now (entry.Stop f ∷ [])) (load_of round made plans part_logs shares held out)
     stopped_whole now f before later out risen = record {
       round = is;
       view = record { bound = refl; partitions = refl; windows = is.runs.windows };
-      holds = holds_stopped reads owned lines available went round.logs.items written sealed s cuts r.available (first_shown lines round disk r).core f sources.items shares.items held.items out made.seen None
+      holds = holds_stopped reads owned lines available went round.logs.items written sealed s cuts r.available (first_shown lines round disk r).core f part_logs.items shares.items held.items out made.seen None
           placed.parts (count ∙ m.room.count) held_count
-          (λ i part at source there here mine. (let p = placed.logs i part source there mine in record { stream = p.stream; number = p.number; log = λ back. p.log (λ away. away) }))
+          (λ i part at part_log there here mine. (let p = placed.logs i part part_log there mine in record { stream = p.stream; number = p.number; log = λ back. p.log (λ away. away) }))
           (λ opened q here. absurd (no_rest start.is_planned opened (replicate_at r.partitions q (first_place start.is_planned) place.Rests here)))
           (λ q g here. absurd (no_fault start.is_planned g (replicate_at r.partitions q (first_place start.is_planned) (place.Back (Some g)) here)))
           (λ opened q at share here mine. subst (λ (at : Place). IsKeyOf owned s cuts start.committed q at share.key) (sym (replicate_at r.partitions q (first_place start.is_planned) at here)) (first_key start.is_planned q share (subst (λ (x : Share S). x.key ≡ None) (at_get shares.items q share share mine) (no_keys q share (at_length shares.items q share mine)))))
@@ -252,18 +252,18 @@ module _ {D L S F : Type 0} (stores logs : Type 0) (history : D → History) (li
     -- whatever came of the files of its tasks
     pub began : (fewer : Type 0) (b : Bool) (old new : Shown D (Round L)) (out : Option (OutWork S F)) (before later : ℕ) → (owned → fewer) → start.is_planned ≡ b → old ≡ first_shown lines round disk r
         → BeginsWork fewer written b made.room.rows made.room.seen held.items made.room.shares.items shares.items before later old new out
-        → BeginsAs before later (first_shown lines round disk r) new × IsWhole stores logs history lines available answers faults written sealed new (load_of round made plans sources shares held out)
+        → BeginsAs before later (first_shown lines round disk r) new × IsWhole stores logs history lines available answers faults written sealed new (load_of round made plans part_logs shares held out)
     began fewer false old new out before later so planned old_is begun =
         let same : new ≡ did (first_shown lines round disk r) new.disk [] =
         begun.0 ∙ old_is ∙ ap (λ (d : D). did (first_shown lines round disk r) d []) (sym (ap (λ (x : Shown D (Round L)). x.disk) (begun.0 ∙ old_is))) in (
           inl same,
-          subst (λ (x : Shown D (Round L)). IsWhole stores logs history lines available answers faults written sealed x (load_of round made plans sources shares held out)) (sym same)
+          subst (λ (x : Shown D (Round L)). IsWhole stores logs history lines available answers faults written sealed x (load_of round made plans part_logs shares held out)) (sym same)
               (begun_whole new.disk out (λ yes. absurd (true≢false (sym yes ∙ planned)))),
         )
     began fewer true old new None before later so planned old_is begun =
         let same = begun.1 ∙ ap (λ (x : Shown D (Round L)). did x new.disk (entry.Stop begun.0 ∷ [])) old_is in (
           inr (begun.0, same, begun.2),
-          subst (λ (x : Shown D (Round L)). IsWhole stores logs history lines available answers faults written sealed x (load_of round made plans sources shares held None)) (sym same) (stopped_whole new.disk begun.0 before later None begun.2),
+          subst (λ (x : Shown D (Round L)). IsWhole stores logs history lines available answers faults written sealed x (load_of round made plans part_logs shares held None)) (sym same) (stopped_whole new.disk begun.0 before later None begun.2),
         )
     began fewer true old new (Some work) before later so planned old_is begun =
         let same = begun.0 ∙ ap (λ (x : Shown D (Round L)). did x new.disk []) old_is in
@@ -275,17 +275,17 @@ module _ {D L S F : Type 0} (stores logs : Type 0) (history : D → History) (li
           commit_empty = λ t. (begun.3 (so t)).1;
         } in (
           inl same,
-          subst (λ (x : Shown D (Round L)). IsWhole stores logs history lines available answers faults written sealed x (load_of round made plans sources shares held (Some work))) (sym same)
+          subst (λ (x : Shown D (Round L)). IsWhole stores logs history lines available answers faults written sealed x (load_of round made plans part_logs shares held (Some work))) (sym same)
               (begun_whole new.disk (Some work) (λ yes. (work, refl, own, first_ready fewer so begun.4))),
         )
 
   -- So a desk is whole that holds what was made, with whatever came of the files of its tasks.
-  pub opens : (plans : Vec Plan) (sources : Vec (Source L)) (held : Vec (Option Held)) (closings : List (List Timed)) → AreIndexes (Unit {0}) s.job.bound round.opened.stores closings → held.items ≡ held_of round.opened.stores closings → plans.items ≡ round.opened.plans
-      → sources.items ≡ sources_of made.begun.parts.items made.begun.ends.items round.logs.items → (news : List (Share S)) (fewer : Type 0) (b : Bool) (old new : Shown D (Round L)) (out : Option (OutWork S F)) (before later : ℕ) → (owned → fewer) → start.is_planned ≡ b → old ≡ first_shown lines round disk r
+  pub opens : (plans : Vec Plan) (part_logs : Vec (PartLog L)) (held : Vec (Option Held)) (closings : List (List Timed)) → AreIndexes (Unit {0}) s.job.bound round.opened.stores closings → held.items ≡ held_of round.opened.stores closings → plans.items ≡ round.opened.plans
+      → part_logs.items ≡ part_logs_of made.begun.parts.items made.begun.ends.items round.logs.items → (news : List (Share S)) (fewer : Type 0) (b : Bool) (old new : Shown D (Round L)) (out : Option (OutWork S F)) (before later : ℕ) → (owned → fewer) → start.is_planned ≡ b → old ≡ first_shown lines round disk r
       → BeginsWork fewer written b made.room.rows made.room.seen held.items made.room.shares.items news before later old new out
-      → BeginsAs before later (first_shown lines round disk r) new × IsWhole stores logs history lines available answers faults written sealed new (load_of round made plans sources (with_items made.room.shares news) held out)
-  opens plans sources held closings indexes held_is plans_is sources_is news fewer b old new out before later so planned old_is begun =
+      → BeginsAs before later (first_shown lines round disk r) new × IsWhole stores logs history lines available answers faults written sealed new (load_of round made plans part_logs (with_items made.room.shares news) held out)
+  opens plans part_logs held closings indexes held_is plans_is part_logs_is news fewer b old new out before later so planned old_is begun =
       let are = shares_are fewer b held.items news old new out before later begun in
       let all : (with_items made.room.shares news).items ≡ news = with_items_is made.room.shares news (are.0 ∙ sym made.room.shares.ok.0) in
-      began plans sources (with_items made.room.shares news) held closings indexes (ap length all ∙ are.0) (subst (λ (l : List (Share S)). All (λ (share : Share S). share.key ≡ None) l) (sym all) are.1) held_is plans_is sources_is fewer b old new out before later so planned old_is
+      began plans part_logs (with_items made.room.shares news) held closings indexes (ap length all ∙ are.0) (subst (λ (l : List (Share S)). All (λ (share : Share S). share.key ≡ None) l) (sym all) are.1) held_is plans_is part_logs_is fewer b old new out before later so planned old_is
       (subst (λ (l : List (Share S)). BeginsWork fewer written b made.room.rows made.room.seen held.items made.room.shares.items l before later old new out) (sym all) begun)

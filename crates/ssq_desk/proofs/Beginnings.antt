@@ -39,9 +39,9 @@ use Rattle.ssq_board.specs.Follows.{Terms}
 use Rattle.ssq_board.specs.Laws.{IsOpenedAt}
 use Rattle.ssq_promise.specs.Run.{Begins}
 use Rattle.ssq_ledger.specs.Shown.{TellsPlans, first_state}
-use Rattle.ssq_desk.specs.declared.desk.Source.{Source}
+use Rattle.ssq_desk.specs.declared.desk.PartLog.{PartLog}
 use Rattle.ssq_desk.specs.Round.{IsRound, IsOwned, is_due, is_due_on, mark_of, opening_of, start_at}
-use Rattle.ssq_desk.specs.First.{sources_of}
+use Rattle.ssq_desk.specs.First.{part_logs_of}
 use Rattle.ssq_desk.specs.Contents.{AreSeen}
 use Rattle.ssq_desk.specs.Whole.{ArePlans}
 use Rattle.ssq_desk.proofs.Ends.{planned_first}
@@ -85,45 +85,45 @@ map_at f [] i a e = absurd (some-ne-none a (sym e))
 map_at f (x ∷ l) zero a e = ap (λ y. some (f y)) (some-injective x a e)
 map_at f (x ∷ l) (suc i) a e = map_at f l i a e
 
--- a part's source, with its log
-pub record IsPlaced {L : Type 0} (parts ends : List PartEnd) (logs : List L) (i : ℕ) (source : Source L) : Type 0 where
+-- what the desk has of a part, with its log
+pub record IsPlaced {L : Type 0} (parts ends : List PartEnd) (logs : List L) (i : ℕ) (part_log : PartLog L) : Type 0 where
   pub log : L
   pub here : get_elem? logs i ≡ some log
-  pub log_is : source.log ≡ Some log
-  pub stream_is : (d : PartEnd) → (get_or parts i d).stream ≡ source.stream
-  pub part_is : (d : PartEnd) → (get_or parts i d).part ≡ source.part
-  pub from_is : (d : PartEnd) → (get_or ends i d).end ≡ source.from
-  pub nothing : source.fed ≡ None
+  pub log_is : part_log.log ≡ Some log
+  pub stream_is : (d : PartEnd) → (get_or parts i d).stream ≡ part_log.stream
+  pub part_is : (d : PartEnd) → (get_or parts i d).part ≡ part_log.part
+  pub from_is : (d : PartEnd) → (get_or ends i d).end ≡ part_log.from
+  pub nothing : part_log.fed ≡ None
   pub part_below : i < length parts
   pub end_below : i < length ends
 
 module _ {L : Type 0} where
-  pub sources_count : (parts ends : List PartEnd) (logs : List L) → length parts ≡ length logs → length ends ≡ length logs → length (sources_of parts ends logs) ≡ length logs
-  sources_count [] [] [] p e = refl
-  sources_count [] [] (log ∷ logs) p e = absurd (omega (arith, p))
-  sources_count [] (end ∷ ends) logs p e = absurd (omega (arith, p, e))
-  sources_count (part ∷ parts) [] logs p e = absurd (omega (arith, p, e))
-  sources_count (part ∷ parts) (end ∷ ends) [] p e = absurd (omega (arith, p))
-  sources_count (part ∷ parts) (end ∷ ends) (log ∷ logs) p e = omega (arith, sources_count parts ends logs (omega (arith, p)) (omega (arith, e)))
+  pub part_logs_count : (parts ends : List PartEnd) (logs : List L) → length parts ≡ length logs → length ends ≡ length logs → length (part_logs_of parts ends logs) ≡ length logs
+  part_logs_count [] [] [] p e = refl
+  part_logs_count [] [] (log ∷ logs) p e = absurd (omega (arith, p))
+  part_logs_count [] (end ∷ ends) logs p e = absurd (omega (arith, p, e))
+  part_logs_count (part ∷ parts) [] logs p e = absurd (omega (arith, p, e))
+  part_logs_count (part ∷ parts) (end ∷ ends) [] p e = absurd (omega (arith, p))
+  part_logs_count (part ∷ parts) (end ∷ ends) (log ∷ logs) p e = omega (arith, part_logs_count parts ends logs (omega (arith, p)) (omega (arith, e)))
 
-  pub source_at : (parts ends : List PartEnd) (logs : List L) (i : ℕ) (source : Source L) → get_elem? (sources_of parts ends logs) i ≡ some source → IsPlaced parts ends logs i source
-  source_at [] ends logs i source e = absurd (some-ne-none source (sym e))
-  source_at (part ∷ parts) [] logs i source e = absurd (some-ne-none source (sym e))
-  source_at (part ∷ parts) (end ∷ ends) [] i source e = absurd (some-ne-none source (sym e))
-  source_at (part ∷ parts) (end ∷ ends) (log ∷ logs) zero source e =
-      let same = some-injective (record { stream = part.stream; part = part.part; from = end.end; log = Some log; fed = None }) source e in record {
+  pub part_log_at : (parts ends : List PartEnd) (logs : List L) (i : ℕ) (part_log : PartLog L) → get_elem? (part_logs_of parts ends logs) i ≡ some part_log → IsPlaced parts ends logs i part_log
+  part_log_at [] ends logs i part_log e = absurd (some-ne-none part_log (sym e))
+  part_log_at (part ∷ parts) [] logs i part_log e = absurd (some-ne-none part_log (sym e))
+  part_log_at (part ∷ parts) (end ∷ ends) [] i part_log e = absurd (some-ne-none part_log (sym e))
+  part_log_at (part ∷ parts) (end ∷ ends) (log ∷ logs) zero part_log e =
+      let same = some-injective (record { stream = part.stream; part = part.part; from = end.end; log = Some log; fed = None }) part_log e in record {
         log = log;
         here = refl;
-        log_is = sym (ap (λ (x : Source L). x.log) same);
-        stream_is = λ d. ap (λ (x : Source L). x.stream) same;
-        part_is = λ d. ap (λ (x : Source L). x.part) same;
-        from_is = λ d. ap (λ (x : Source L). x.from) same;
-        nothing = sym (ap (λ (x : Source L). x.fed) same);
+        log_is = sym (ap (λ (x : PartLog L). x.log) same);
+        stream_is = λ d. ap (λ (x : PartLog L). x.stream) same;
+        part_is = λ d. ap (λ (x : PartLog L). x.part) same;
+        from_is = λ d. ap (λ (x : PartLog L). x.from) same;
+        nothing = sym (ap (λ (x : PartLog L). x.fed) same);
         part_below = omega arith;
         end_below = omega arith;
       }
-  source_at (part ∷ parts) (end ∷ ends) (log ∷ logs) (suc i) source e =
-      let is = source_at parts ends logs i source e in record {
+  part_log_at (part ∷ parts) (end ∷ ends) (log ∷ logs) (suc i) part_log e =
+      let is = part_log_at parts ends logs i part_log e in record {
         log = is.log;
         here = is.here;
         log_is = is.log_is;

@@ -42,7 +42,7 @@ use Rattle.ssq_desk.specs.declared.desk.Load.{Load}
 use Rattle.ssq_desk.specs.declared.desk.OutWork.{OutWork}
 use Rattle.ssq_desk.specs.declared.desk.Pending.{Pending}
 use Rattle.ssq_desk.specs.declared.desk.Share.{Share}
-use Rattle.ssq_desk.specs.declared.desk.Source.{Source}
+use Rattle.ssq_desk.specs.declared.desk.PartLog.{PartLog}
 use Rattle.ssq_desk.specs.declared.round.Round.{Round}
 use Rattle.ssq_desk.specs.Closing.{HasFaulty}
 use Rattle.ssq_desk.specs.Contents.{Holds, IsHeldAt, IsKeyOf, IsReducedCause, IsShare, IsStopOf, key_in, keeping_in}
@@ -70,9 +70,9 @@ with_settled c settled = with_front c (record { planned = c.front.planned; commi
 
 module _ {L S F : Type 0} (reads owned : Type 0) (lines : L → List Line) (available : L → ℕ) (went : L → L → Type 0) (opened : List L) (written : S → List ℕ) (sealed : F → List ℕ) (s : Setting) (cuts : Cuts) (found : List ℕ) where
   -- what is held says nothing of that
-  resettled : (c : Core) (settled : Bool) (sources : List (Source L)) (shares : List (Share S)) (held : List (Option Held)) (out : Option (OutWork S F)) (times : List (Option ℤ)) (pending : Option (Pending F))
-      → Holds reads owned lines available went opened written sealed s cuts found c sources shares held out times pending → Holds reads owned lines available went opened written sealed s cuts found (with_settled c settled) sources shares held out times pending
-  resettled c settled sources shares held out times pending h = record {
+  resettled : (c : Core) (settled : Bool) (part_logs : List (PartLog L)) (shares : List (Share S)) (held : List (Option Held)) (out : Option (OutWork S F)) (times : List (Option ℤ)) (pending : Option (Pending F))
+      → Holds reads owned lines available went opened written sealed s cuts found c part_logs shares held out times pending → Holds reads owned lines available went opened written sealed s cuts found (with_settled c settled) part_logs shares held out times pending
+  resettled c settled part_logs shares held out times pending h = record {
     parts = h.parts;
     partitions = h.partitions;
     keeping = h.keeping;
@@ -90,7 +90,7 @@ module _ {L S F : Type 0} (reads owned : Type 0) (lines : L → List Line) (avai
 
 -- with another share of a partition, and with what it keeps
 abbrev pub with_share : {L S F : Type 0} → Load L S F → Vec (Share S) → Vec (Option Held) → Load L S F
-with_share load shares held = record { view = load.view; plans = load.plans; sources = load.sources; shares = shares; held = held; out = load.out; seen = load.seen; pending = load.pending; told = load.told; kept = load.kept }
+with_share load shares held = record { view = load.view; plans = load.plans; part_logs = load.part_logs; shares = shares; held = held; out = load.out; seen = load.seen; pending = load.pending; told = load.told; kept = load.kept }
 
 -- A reduce task is back with its outcome, under the number of its partition: what is so of the desk, and of the task.
 pub record IsBackAt {D L S F : Type 0} (stores logs : Type 0) (history : D → History) (lines : L → List Line) (available : L → ℕ) (answers : L → List ℕ) (faults : L → ℕ) (tells : Type 0) (written : S → List ℕ) (sealed : F → List ℕ) (counts : S → ℕ) (shown : Shown D (Round L)) (load : Load L S F)
@@ -127,7 +127,7 @@ module _ {D L S F : Type 0} {stores logs : Type 0} {history : D → History} {li
   -- no line of the epoch has a fault, once a reduce task is with a worker
   lines_are_good : (p : ℕ) → c.front.stop ≡ None → get_elem? c.reduces p ≡ some place.Away → owned → fault_between s.job.bound (parts_in s) (cut_of (cuts e)) (cut_of (cuts (e + 1))) ≡ None
   lines_are_good p run away t =
-      lines_good (stores × logs) s cuts e c.reduces c.maps load.sources.items (whole.holds.epoch run opened).mapped (order.sound.maps ∙ whole.round.parts) whole.holds.parts
+      lines_good (stores × logs) s cuts e c.reduces c.maps load.part_logs.items (whole.holds.epoch run opened).mapped (order.sound.maps ∙ whole.round.parts) whole.holds.parts
       (maps_done owned history (opening_in lines) shown legal p away) (t.0, t.1.0)
 
   module _ (leasts : KeysAreLeast) (p : ℕ) (f : Option Cause) (x : Share S) (own : Option Held) (away : get_elem? c.reduces p ≡ some place.Away) (causes : (g : Cause) → f ≡ Some g → IsReducedCause g)
@@ -157,9 +157,9 @@ module _ {D L S F : Type 0} {stores logs : Type 0} {history : D → History} {li
 
     -- what is held then
     holds_back : (c.front.stop ≡ None → IsShare owned written s cuts e p (place.Back f) x) → (c.front.stop ≡ None → p < length load.held.items → IsHeldAt owned s cuts (is_open c) e p (place.Back f) own)
-        → HoldsIn stores logs history lines available answers faults written sealed shown cuts (with_reduce c stop p (place.Back f)) load.sources.items shares (set load.held.items p own) load.out load.seen load.pending
+        → HoldsIn stores logs history lines available answers faults written sealed shown cuts (with_reduce c stop p (place.Back f)) load.part_logs.items shares (set load.held.items p own) load.out load.seen load.pending
     holds_back share held =
-        holds_reduced (stores × logs) owned lines available (LogWent logs lines available answers faults) shown.opening.logs.items written sealed s cuts shown.scope.available c stop f p x own load.sources.items load.shares.items load.held.items load.out load.seen load.pending
+        holds_reduced (stores × logs) owned lines available (LogWent logs lines available answers faults) shown.opening.logs.items written sealed s cuts shown.scope.available c stop f p x own load.part_logs.items load.shares.items load.held.items load.out load.seen load.pending
         (runs_by c.front.stop (due c (reduce_id e p) f)) whole.holds away (λ run _. share run) held (λ _. key) causes
         (λ stopped. by_stop c.front.stop (due_stop places) cause.KeyOverflow stopped (λ before. absurd (no_key_before before)) (λ run is. ((cause_counts places cause.KeyOverflow is).first refl).0))
         (λ g stopped. by_stop c.front.stop (due_stop places) g stopped
@@ -167,7 +167,7 @@ module _ {D L S F : Type 0} {stores logs : Type 0} {history : D → History} {li
         (λ run is. due_stops run g is))
 
     -- and where a log stopped the desk, that was before
-    no_log : stop ≡ Some cause.LogFault → HasFaulty faults c.maps load.sources.items
+    no_log : stop ≡ Some cause.LogFault → HasFaulty faults c.maps load.part_logs.items
     no_log stopped =
         by_stop c.front.stop (due_stop places) cause.LogFault stopped whole.faulty
         (λ run is. absurd (causes cause.LogFault (none_due c.reduces p f cause.LogFault refl (order.sound.calm run kind.Reduce) is)))
@@ -216,7 +216,7 @@ module _ {D L S F : Type 0} {stores logs : Type 0} {history : D → History} {li
       key : IsKeyOf owned s cuts e task.partition (place.Back f) x.key
       key = own_key owned s cuts e task.partition o f x.key fault own_all key_is
 
-      holds : HoldsIn stores logs history lines available answers faults written sealed shown cuts (with_reduce c (or_stop c.front.stop (due c (reduce_id e task.partition) f)) task.partition (place.Back f)) load.sources.items (set load.shares.items task.partition x)
+      holds : HoldsIn stores logs history lines available answers faults written sealed shown cuts (with_reduce c (or_stop c.front.stop (due c (reduce_id e task.partition) f)) task.partition (place.Back f)) load.part_logs.items (set load.shares.items task.partition x)
           (set load.held.items task.partition held) load.out load.seen load.pending
       holds =
           holds_back leasts task.partition f x held away causes key
@@ -230,8 +230,8 @@ module _ {D L S F : Type 0} {stores logs : Type 0} {history : D → History} {li
       reported disk epoch shares helds shares_are helds_are =
           moved_whole stores logs history lines available answers faults written sealed shown load whole disk (entry.Report (reduce_id epoch task.partition) f) (with_share load shares helds) (λ cuts c. refl) refl refl refl refl whole.told whole.told_room
           (no_log leasts task.partition f x held away causes key)
-          (subst (λ (l : List (Option Held)). HoldsIn stores logs history lines available answers faults written sealed shown cuts (after shown.scope c (entry.Report (reduce_id epoch task.partition) f)) load.sources.items shares.items l load.out load.seen load.pending) (sym helds_are)
-          (subst (λ (l : List (Share S)). HoldsIn stores logs history lines available answers faults written sealed shown cuts (after shown.scope c (entry.Report (reduce_id epoch task.partition) f)) load.sources.items l (set load.held.items task.partition held) load.out load.seen load.pending) (sym shares_are) holds))
+          (subst (λ (l : List (Option Held)). HoldsIn stores logs history lines available answers faults written sealed shown cuts (after shown.scope c (entry.Report (reduce_id epoch task.partition) f)) load.part_logs.items shares.items l load.out load.seen load.pending) (sym helds_are)
+          (subst (λ (l : List (Share S)). HoldsIn stores logs history lines available answers faults written sealed shown cuts (after shown.scope c (entry.Report (reduce_id epoch task.partition) f)) load.part_logs.items l (set load.held.items task.partition held) load.out load.seen load.pending) (sym shares_are) holds))
 
   -- a reduce task is back with its rows
   module _ {tells : Type 0} {counts : S → ℕ} (laws : PartitionsAreBrought tells written sealed counts) (leasts : KeysAreLeast) (task : ReduceTask S F) (held : Option Held) (brought : ReducedRows F) (of : IsReduceOf stores logs history lines written shown task) (is : IsReduced tells written sealed counts task (reduced_by task held (Ok brought))) where
@@ -257,10 +257,10 @@ module _ {D L S F : Type 0} {stores logs : Type 0} {history : D → History} {li
       versioned =
           moved_whole stores logs history lines available answers faults written sealed shown load whole disk (entry.Version (reduce_id epoch task.partition)) (with_share load shares helds) (λ cuts c. refl) refl refl refl refl whole.told whole.told_room
           (no_log leasts task.partition None x held away (causes laws leasts task held (Ok brought) of is None x away refl key_is rows_are) (key laws leasts task held (Ok brought) of is None x away refl key_is rows_are))
-          (subst (λ (l : List (Option Held)). HoldsIn stores logs history lines available answers faults written sealed shown cuts (after shown.scope c (entry.Version (reduce_id epoch task.partition))) load.sources.items shares.items l load.out load.seen load.pending) (sym helds_are)
-          (subst (λ (l : List (Share S)). HoldsIn stores logs history lines available answers faults written sealed shown cuts (after shown.scope c (entry.Version (reduce_id epoch task.partition))) load.sources.items l (set load.held.items task.partition held) load.out load.seen load.pending) (sym shares_are)
+          (subst (λ (l : List (Option Held)). HoldsIn stores logs history lines available answers faults written sealed shown cuts (after shown.scope c (entry.Version (reduce_id epoch task.partition))) load.part_logs.items shares.items l load.out load.seen load.pending) (sym helds_are)
+          (subst (λ (l : List (Share S)). HoldsIn stores logs history lines available answers faults written sealed shown cuts (after shown.scope c (entry.Version (reduce_id epoch task.partition))) load.part_logs.items l (set load.held.items task.partition held) load.out load.seen load.pending) (sym shares_are)
           (resettled (stores × logs) owned lines available (LogWent logs lines available answers faults) shown.opening.logs.items written sealed s cuts shown.scope.available
-          (with_reduce c (or_stop c.front.stop (due c (reduce_id e task.partition) None)) task.partition (place.Back None)) (is_stopped c.front.stop && c.front.settled) load.sources.items (set load.shares.items task.partition x) (set load.held.items task.partition held) load.out load.seen load.pending
+          (with_reduce c (or_stop c.front.stop (due c (reduce_id e task.partition) None)) task.partition (place.Back None)) (is_stopped c.front.stop && c.front.settled) load.part_logs.items (set load.shares.items task.partition x) (set load.held.items task.partition held) load.out load.seen load.pending
           (holds laws leasts task held (Ok brought) of is None x away refl key_is rows_are))))
 
       -- that failed
@@ -268,9 +268,9 @@ module _ {D L S F : Type 0} {stores logs : Type 0} {history : D → History} {li
       missed =
           moved_whole stores logs history lines available answers faults written sealed shown load whole disk (entry.Missed (reduce_id epoch task.partition)) (with_share load shares helds) (λ cuts c. refl) refl refl refl refl whole.told whole.told_room
           (λ stopped. absurd (subst IsReducedCause (same_Some cause.DiskFault cause.LogFault stopped) tt))
-          (subst (λ (l : List (Option Held)). HoldsIn stores logs history lines available answers faults written sealed shown cuts (after shown.scope c (entry.Missed (reduce_id epoch task.partition))) load.sources.items shares.items l load.out load.seen load.pending) (sym helds_are)
-          (subst (λ (l : List (Share S)). HoldsIn stores logs history lines available answers faults written sealed shown cuts (after shown.scope c (entry.Missed (reduce_id epoch task.partition))) load.sources.items l (set load.held.items task.partition held) load.out load.seen load.pending) (sym shares_are)
-          (holds_reduced (stores × logs) owned lines available (LogWent logs lines available answers faults) shown.opening.logs.items written sealed s cuts shown.scope.available c (Some cause.DiskFault) (Some cause.DiskFault) task.partition x held load.sources.items load.shares.items load.held.items load.out load.seen load.pending
+          (subst (λ (l : List (Option Held)). HoldsIn stores logs history lines available answers faults written sealed shown cuts (after shown.scope c (entry.Missed (reduce_id epoch task.partition))) load.part_logs.items shares.items l load.out load.seen load.pending) (sym helds_are)
+          (subst (λ (l : List (Share S)). HoldsIn stores logs history lines available answers faults written sealed shown cuts (after shown.scope c (entry.Missed (reduce_id epoch task.partition))) load.part_logs.items l (set load.held.items task.partition held) load.out load.seen load.pending) (sym shares_are)
+          (holds_reduced (stores × logs) owned lines available (LogWent logs lines available answers faults) shown.opening.logs.items written sealed s cuts shown.scope.available c (Some cause.DiskFault) (Some cause.DiskFault) task.partition x held load.part_logs.items load.shares.items load.held.items load.out load.seen load.pending
           (λ none. absurd (true≢false (ap is_some none))) whole.holds away
           (λ run _. back_share owned written s cuts e task.partition failed (Some cause.DiskFault) x tt tt refl tt)
           (λ run less here. absurd (here tt)) (λ _. key_is) (λ g met. subst IsReducedCause (same_Some cause.DiskFault g met) tt)

@@ -50,7 +50,7 @@ use Rattle.ssq_board.proofs.Sounds.{open_less}
 use Rattle.ssq_ledger.specs.Shown.{Shown, IsLegal, IsInOrder, state, first_state, cuts_of, shelf_of}
 use Rattle.ssq_desk.specs.declared.closed.NextRound.{NextRound}
 use Rattle.ssq_desk.specs.declared.desk.Load.{Load}
-use Rattle.ssq_desk.specs.declared.desk.Source.{Source}
+use Rattle.ssq_desk.specs.declared.desk.PartLog.{PartLog}
 use Rattle.ssq_desk.specs.declared.round.Round.{Round}
 use Rattle.ssq_desk.specs.declared.told.Told.{Told}
 use Rattle.ssq_desk.specs.Round.{setting_of, Owns}
@@ -70,23 +70,23 @@ use Rattle.ssq_desk.proofs.Telling.{between_most, sum_most, told_less}
 module _ {D L S F : Type 0} (stores logs : Type 0) (history : D → History) (lines : L → List Line) (available : L → ℕ) (answers : L → List ℕ) (faults : L → ℕ) (written : S → List ℕ) (sealed : F → List ℕ) (shown : Shown D (Round L)) (load : Load L S F)
     (whole : IsWhole stores logs history lines available answers faults written sealed shown load) (legal : IsLegal (Owns stores logs history lines shown) history (opening_in lines) shown) (order : IsInOrder shown.scope shown.core)
     (next : ready_of shown.scope shown.core ≡ ready.Commit) where
-  -- the sources begin where the epochs before end
-  froms_are : map (λ (x : Source L). x.from) load.sources.items ≡ cut_of (cuts_of (opening_in lines) shown shown.core.front.committed)
+  -- the parts begin where the epochs before end
+  froms_are : map (λ (x : PartLog L). x.from) load.part_logs.items ≡ cut_of (cuts_of (opening_in lines) shown shown.core.front.committed)
   froms_are =
       let may = commit_may shown.scope shown.core false next in
       let epoch = whole.holds.epoch may.0 may.2 in
       let parts = whole.holds.parts in
       let maps = order.sound.maps in
       let each = whole.round.parts in
-      ext_get_or 0 (map (λ (x : Source L). x.from) load.sources.items) (cut_of (cuts_of (opening_in lines) shown shown.core.front.committed))
-      (length-map load.sources.items (λ (x : Source L). x.from) ∙ parts ∙ sym epoch.froms ∙ sym (length-map (cuts_of (opening_in lines) shown shown.core.front.committed) (λ (e : PartEnd). e.end)))
+      ext_get_or 0 (map (λ (x : PartLog L). x.from) load.part_logs.items) (cut_of (cuts_of (opening_in lines) shown shown.core.front.committed))
+      (length-map load.part_logs.items (λ (x : PartLog L). x.from) ∙ parts ∙ sym epoch.froms ∙ sym (length-map (cuts_of (opening_in lines) shown shown.core.front.committed) (λ (e : PartEnd). e.end)))
       (λ i less. (
-      let below : i < length load.sources.items = (let n = length-map load.sources.items (λ (x : Source L). x.from) in omega (arith, less, n)) in
-      let source = there_at load.sources.items i below in
+      let below : i < length load.part_logs.items = (let n = length-map load.part_logs.items (λ (x : PartLog L). x.from) in omega (arith, less, n)) in
+      let part_log = there_at load.part_logs.items i below in
       let part = part_there (parts_in (setting_of lines shown.opening)) i (omega (arith, below, parts)) in
       let at = there_at shown.core.maps i (omega (arith, below, parts, maps, each)) in
-      get_or-map (λ (x : Source L). x.from) load.sources.items i source.0 0 below ∙ ap (λ (x : Source L). x.from) (at_get load.sources.items i source.0 source.0 source.1)
-      ∙ (epoch.mapped i part.0 at.0 source.0 part.1 at.1 source.1).begins))
+      get_or-map (λ (x : PartLog L). x.from) load.part_logs.items i part_log.0 0 below ∙ ap (λ (x : PartLog L). x.from) (at_get load.part_logs.items i part_log.0 part_log.0 part_log.1)
+      ∙ (epoch.mapped i part.0 at.0 part_log.0 part.1 at.1 part_log.1).begins))
 
   tos_are : map (λ (e : PartEnd). e.end) shown.core.ends ≡ cut_of (cuts_of (opening_in lines) shown (shown.core.front.committed + 1))
   tos_are =
@@ -100,15 +100,15 @@ module _ {D L S F : Type 0} (stores logs : Type 0) (history : D → History) (li
   plan_below = (let may = commit_may shown.scope shown.core false next in let less = open_less shown.core may.2 in let count = whole.plans.count in omega (arith, less, count))
 
   -- its lines can be counted
-  pub few_lines : lines_between (map (λ (x : Source L). x.from) load.sources.items) (map (λ (e : PartEnd). e.end) shown.core.ends) < 2 ^ 64
+  pub few_lines : lines_between (map (λ (x : PartLog L). x.from) load.part_logs.items) (map (λ (e : PartEnd). e.end) shown.core.ends) < 2 ^ 64
   few_lines =
       let count = length-map shown.core.ends (λ (e : PartEnd). e.end) ∙ order.sound.ends in
-      let between = between_most (map (λ (x : Source L). x.from) load.sources.items) (map (λ (e : PartEnd). e.end) shown.core.ends) in
+      let between = between_most (map (λ (x : PartLog L). x.from) load.part_logs.items) (map (λ (e : PartEnd). e.end) shown.core.ends) in
       let most = sum_most (map (λ (e : PartEnd). e.end) shown.core.ends) shown.scope.available count (ends_within stores logs history lines available answers faults written sealed shown load whole legal order) in
       let few = whole.round.few_lines in omega (arith, between, most, few)
 
   -- what is told of it
-  pub told_right : (told : Told) → told.epoch ≡ shown.core.front.committed → told.lines ≡ lines_between (map (λ (x : Source L). x.from) load.sources.items) (map (λ (e : PartEnd). e.end) shown.core.ends)
+  pub told_right : (told : Told) → told.epoch ≡ shown.core.front.committed → told.lines ≡ lines_between (map (λ (x : PartLog L). x.from) load.part_logs.items) (map (λ (e : PartEnd). e.end) shown.core.ends)
       → ((d : Plan) → told.watermark ≡ (get_or load.plans.items shown.core.front.committed d).watermark)
       → (Owns stores logs history lines shown → told.rows ≡ length (out (setting_of lines shown.opening).job.bound (parts_in (setting_of lines shown.opening)) (offsets (cuts_of (opening_in lines) shown)) shown.core.front.committed))
       → IsToldOf (Owns stores logs history lines shown) (setting_of lines shown.opening) (cuts_of (opening_in lines) shown) shown.core.front.committed told
@@ -231,46 +231,46 @@ module _ {D L S F : Type 0} (stores logs : Type 0) (history : D → History) (li
       (state legal.0 shown.core (shelf_of (opening_in lines) shown) cuts) legal.2 (first_ahead shown.scope (opening_in lines shown.opening).start (let few = numbers.few_plans in omega (arith, few, planned)))
 
   -- no log is with a worker
-  pub there_back : (list_any is_away shown.core.maps ≡ false) → (i : ℕ) (source : Source L) → get_elem? load.sources.items i ≡ some source
-      → (own : L) × (source.log ≡ Some own) × ((before : L) × (get_elem? shown.opening.logs.items i ≡ some before) × LogWent logs lines available answers faults before own)
-  there_back none i source here =
-      let less = at_length load.sources.items i source here in
+  pub there_back : (list_any is_away shown.core.maps ≡ false) → (i : ℕ) (part_log : PartLog L) → get_elem? load.part_logs.items i ≡ some part_log
+      → (own : L) × (part_log.log ≡ Some own) × ((before : L) × (get_elem? shown.opening.logs.items i ≡ some before) × LogWent logs lines available answers faults before own)
+  there_back none i part_log here =
+      let less = at_length load.part_logs.items i part_log here in
       let parts = whole.holds.parts in
       let maps = order.sound.maps in
       let each = whole.round.parts in
       let part = part_there (parts_in s) i (omega (arith, less, parts)) in
       let at = there_at shown.core.maps i (omega (arith, less, parts, maps, each)) in
-      let log = (whole.holds.logs i part.0 at.0 source part.1 at.1 here).log (none_away shown.core.maps i at.0 none at.1) in
+      let log = (whole.holds.logs i part.0 at.0 part_log part.1 at.1 here).log (none_away shown.core.maps i at.0 none at.1) in
       (log.0, log.1, (log.2.before, log.2.before_is, log.2.has_gone))
 
-  pub logs_there : (list_any is_away shown.core.maps ≡ false) → All (λ (x : Source L). IsSome x.log) load.sources.items
-  logs_there none = all_at (λ (x : Source L). IsSome x.log) load.sources.items (λ i source here. ap is_some (there_back none i source here).1)
+  pub logs_there : (list_any is_away shown.core.maps ≡ false) → All (λ (x : PartLog L). IsSome x.log) load.part_logs.items
+  logs_there none = all_at (λ (x : PartLog L). IsSome x.log) load.part_logs.items (λ i part_log here. ap is_some (there_back none i part_log here).1)
 
   -- each log went on from the one that was opened
-  pub logs_back : (list_any is_away shown.core.maps ≡ false) → (back : List L) → map (λ (log : L). Some log) back ≡ map (λ (x : Source L). x.log) load.sources.items
+  pub logs_back : (list_any is_away shown.core.maps ≡ false) → (back : List L) → map (λ (log : L). Some log) back ≡ map (λ (x : PartLog L). x.log) load.part_logs.items
       → AllZip (LogWent logs lines available answers faults) shown.opening.logs.items back
   logs_back none back same =
-      let count : length back ≡ length load.sources.items = sym (length-map back (λ (log : L). Some log)) ∙ ap length same ∙ length-map load.sources.items (λ (x : Source L). x.log) in
+      let count : length back ≡ length load.part_logs.items = sym (length-map back (λ (log : L). Some log)) ∙ ap length same ∙ length-map load.part_logs.items (λ (x : PartLog L). x.log) in
       let opened : length shown.opening.logs.items ≡ length (parts_in s) = sym (length-map shown.opening.logs.items lines) ∙ whole.round.logs in
       let parts = whole.holds.parts in
       all_zip (LogWent logs lines available answers faults) shown.opening.logs.items back (omega (arith, count, opened, parts)) (λ i before own there here. (
       let less = at_length back i own here in
-      let source = there_at load.sources.items i (omega (arith, less, count)) in
-      let log = there_back none i source.0 source.1 in
-      let both : some (Some own) ≡ some source.0.log = sym (get_map (λ (log : L). Some log) back i own here) ∙ ap (λ l. get_elem? l i) same ∙ get_map (λ (x : Source L). x.log) load.sources.items i source.0 source.1 in
-      let own_is : log.0 ≡ own = same_log log.0 own (sym log.1 ∙ sym (some-injective (Some own) source.0.log both)) in
+      let part_log = there_at load.part_logs.items i (omega (arith, less, count)) in
+      let log = there_back none i part_log.0 part_log.1 in
+      let both : some (Some own) ≡ some part_log.0.log = sym (get_map (λ (log : L). Some log) back i own here) ∙ ap (λ l. get_elem? l i) same ∙ get_map (λ (x : PartLog L). x.log) load.part_logs.items i part_log.0 part_log.1 in
+      let own_is : log.0 ≡ own = same_log log.0 own (sym log.1 ∙ sym (some-injective (Some own) part_log.0.log both)) in
       let before_is : log.2.0 ≡ before = some-injective log.2.0 before (sym log.2.1 ∙ there) in
       subst (λ (x : L). LogWent logs lines available answers faults x own) before_is (subst (λ (x : L). LogWent logs lines available answers faults log.2.0 x) own_is log.2.2)))
 
   -- a log that stopped the desk is among them, and counts a fault
-  pub faulty_back : (back : List L) → map (λ (log : L). Some log) back ≡ map (λ (x : Source L). x.log) load.sources.items → shown.core.front.stop ≡ Some cause.LogFault → 0 < sum_by faults back
+  pub faulty_back : (back : List L) → map (λ (log : L). Some log) back ≡ map (λ (x : PartLog L). x.log) load.part_logs.items → shown.core.front.stop ≡ Some cause.LogFault → 0 < sum_by faults back
   faulty_back back same stopped =
       let was = whole.faulty stopped in
-      let count : length back ≡ length load.sources.items = sym (length-map back (λ (log : L). Some log)) ∙ ap length same ∙ length-map load.sources.items (λ (x : Source L). x.log) in
-      let less = at_length load.sources.items was.at was.source was.source_is in
+      let count : length back ≡ length load.part_logs.items = sym (length-map back (λ (log : L). Some log)) ∙ ap length same ∙ length-map load.part_logs.items (λ (x : PartLog L). x.log) in
+      let less = at_length load.part_logs.items was.at was.part_log was.part_log_is in
       let own = there_at back was.at (omega (arith, less, count)) in
-      let both : some (Some own.0) ≡ some was.source.log = sym (get_map (λ (log : L). Some log) back was.at own.0 own.1) ∙ ap (λ l. get_elem? l was.at) same ∙ get_map (λ (x : Source L). x.log) load.sources.items was.at was.source was.source_is in
-      let own_is : was.log ≡ own.0 = same_log was.log own.0 (sym was.log_is ∙ sym (some-injective (Some own.0) was.source.log both)) in
+      let both : some (Some own.0) ≡ some was.part_log.log = sym (get_map (λ (log : L). Some log) back was.at own.0 own.1) ∙ ap (λ l. get_elem? l was.at) same ∙ get_map (λ (x : PartLog L). x.log) load.part_logs.items was.at was.part_log was.part_log_is in
+      let own_is : was.log ≡ own.0 = same_log was.log own.0 (sym was.log_is ∙ sym (some-injective (Some own.0) was.part_log.log both)) in
       let part = one_of_sum faults back was.at own.0 own.1 in
       let counted = was.counted in
       let same_count = ap faults own_is in omega (arith, part, counted, same_count)

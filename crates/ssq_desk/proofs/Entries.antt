@@ -76,14 +76,14 @@ module _ {D L S F : Type 0} (stores logs : Type 0) (history : D → History) (li
       let now : Cuts = cuts_of (opening_in lines) (did shown disk other) in record {
         round = w.round;
         view = w.view;
-        holds = subst (λ (c : Core). HoldsIn stores logs history lines available answers faults written sealed shown now c load.sources.items load.shares.items load.held.items load.out load.seen load.pending) (sym cores)
-            (subst (λ (x : Cuts). HoldsIn stores logs history lines available answers faults written sealed shown x was load.sources.items load.shares.items load.held.items load.out load.seen load.pending) (sym cuts) w.holds);
+        holds = subst (λ (c : Core). HoldsIn stores logs history lines available answers faults written sealed shown now c load.part_logs.items load.shares.items load.held.items load.out load.seen load.pending) (sym cores)
+            (subst (λ (x : Cuts). HoldsIn stores logs history lines available answers faults written sealed shown x was load.part_logs.items load.shares.items load.held.items load.out load.seen load.pending) (sym cuts) w.holds);
         plans = subst (λ (c : Core). ArePlans (Owns stores logs history lines shown) shown.opening.opened.plans s now c.front.planned load.plans.items) (sym cores)
             (subst (λ (x : Cuts). ArePlans (Owns stores logs history lines shown) shown.opening.opened.plans s x was.front.planned load.plans.items) (sym cuts) w.plans);
         told = subst (λ (c : Core). AreTold (Owns stores logs history lines shown) s now shown.opening.opened.committed c.front.committed load.told.items) (sym cores)
             (subst (λ (x : Cuts). AreTold (Owns stores logs history lines shown) s x shown.opening.opened.committed was.front.committed load.told.items) (sym cuts) w.told);
         told_room = subst (λ (c : Core). is_open c ≡ true → length load.told.items < vec_capacity load.told) (sym cores) w.told_room;
-        faulty = subst (λ (c : Core). c.front.stop ≡ Some cause.LogFault → HasFaulty faults c.maps load.sources.items) (sym cores) w.faulty;
+        faulty = subst (λ (c : Core). c.front.stop ≡ Some cause.LogFault → HasFaulty faults c.maps load.part_logs.items) (sym cores) w.faulty;
         kept = w.kept;
       }
 

@@ -24,13 +24,13 @@ use Rattle.std.specs.List.{filter_map, list_all}
 use Rattle.ssq_board.specs.declared.front.Cause.TheVariants as cause
 use Rattle.ssq_board.specs.Core.{Core, is_open, is_fine, is_here, fault_at, stopped_front, with_front}
 use Rattle.ssq_board.proofs.Lists.{at_length, put_else, set_length, all_fine}
-use Rattle.ssq_desk.specs.declared.desk.Source.{Source}
+use Rattle.ssq_desk.specs.declared.desk.PartLog.{PartLog}
 use Rattle.ssq_desk.specs.declared.desk.Share.{Share}
 use Rattle.ssq_desk.specs.declared.desk.OutWork.{OutWork}
 use Rattle.ssq_desk.specs.declared.desk.Pending.{Pending}
 use Rattle.ssq_desk.specs.Handing.{IsTaken}
 use Rattle.ssq_task.specs.declared.partition.Held.{Held}
-use Rattle.ssq_desk.specs.Contents.{IsSourceOf, IsMapped, IsBrought, IsShare, IsKeyOf, IsHeldAt, IsStopOf, Holds, IsPending, IsReducedCause, key_in, keeping_in}
+use Rattle.ssq_desk.specs.Contents.{IsPartLogOf, IsMapped, IsBrought, IsShare, IsKeyOf, IsHeldAt, IsStopOf, Holds, IsPending, IsReducedCause, key_in, keeping_in}
 
 -- what is put into a list is there
 pub put_is : {A : Type 0} (l : List A) (i : ℕ) (a x : A) → get_elem? (set l i a) i ≡ some x → a ≡ x
@@ -63,7 +63,7 @@ put_one {A} {B} P l m i a each here j x y ex ey = elim (same_or_not i j) [
   | inr other ↦ each j x y (sym (put_else l i j a other) ∙ ex) ey
 ]
 
--- a map task was moved, and its source is another
+-- a map task was moved, and what the desk has of its part is another
 abbrev pub with_map : Core → Option Cause → ℕ → Place → Core
 with_map c stop i p = record { front = stopped_front c.front stop; ends = c.ends; maps = set c.maps i p; reduces = c.reduces; outs = c.outs }
 
@@ -102,7 +102,7 @@ brought_less tells query epoch part from to partitions reduces p fed left time b
     by t q waits (inl same) = absurd (away_not_waits (put_is reduces p place.Away place.Waits (subst (λ (k : ℕ). get_elem? (set reduces p place.Away) k ≡ some place.Waits) (sym same) waits)))
     by t q waits (inr other) = ap (λ l. bucket_at l q) buckets ∙ bucket_else fed.buckets p q other ∙ b.rows t q (sym (put_else reduces p q place.Away other) ∙ waits)
 
-mapped_less : {L : Type 0} (tells : Type 0) (query : Bound) (epoch : ℕ) (part : Part) (from to partitions : ℕ) (reduces : List Place) (p : ℕ) (at : Place) (old new : Source L) → IsTaken p old new
+mapped_less : {L : Type 0} (tells : Type 0) (query : Bound) (epoch : ℕ) (part : Part) (from to partitions : ℕ) (reduces : List Place) (p : ℕ) (at : Place) (old new : PartLog L) → IsTaken p old new
     → IsMapped tells query epoch part from to partitions reduces at old → IsMapped tells query epoch part from to partitions (set reduces p place.Away) at new
 mapped_less tells query epoch part from to partitions reduces p at old new taken m = record {
   begins = taken.from_is ∙ m.begins;
@@ -112,9 +112,9 @@ mapped_less tells query epoch part from to partitions reduces p at old new taken
   fault = m.fault;
 }
 
-source_less : {L : Type 0} (reads : Type 0) (lines : L → List Line) (available : L → ℕ) (went : L → L → Type 0) (opened : List L) (i : ℕ) (part : Part) (found p : ℕ) (at : Place) (old new : Source L) → IsTaken p old new
-    → IsSourceOf reads lines available went opened i part found at old → IsSourceOf reads lines available went opened i part found at new
-source_less reads lines available went opened i part found p at old new taken s = record {
+part_log_less : {L : Type 0} (reads : Type 0) (lines : L → List Line) (available : L → ℕ) (went : L → L → Type 0) (opened : List L) (i : ℕ) (part : Part) (found p : ℕ) (at : Place) (old new : PartLog L) → IsTaken p old new
+    → IsPartLogOf reads lines available went opened i part found at old → IsPartLogOf reads lines available went opened i part found at new
+part_log_less reads lines available went opened i part found p at old new taken s = record {
   stream = s.stream ∙ sym taken.stream_is;
   number = s.number ∙ sym taken.part_is;
   log = λ here. (let l = s.log here in (l.0, taken.log_is ∙ l.1, l.2));
@@ -167,21 +167,21 @@ never_key reads owned s cuts e f right is = subst (IsStopOf reads owned s cuts e
 
 module _ {L S F : Type 0} (reads owned : Type 0) (lines : L → List Line) (available : L → ℕ) (went : L → L → Type 0) (opened : List L) (written : S → List ℕ) (sealed : F → List ℕ) (s : Setting) (cuts : Cuts) (found : List ℕ) where
   -- a map task is elsewhere
-  pub holds_map : (c : Core) (stop : Option Cause) (i : ℕ) (p : Place) (x : Source L) (sources : List (Source L)) (shares : List (Share S)) (held : List (Option Held)) (out : Option (OutWork S F)) (times : List (Option ℤ)) (pending : Option (Pending F))
-      → (stop ≡ None → c.front.stop ≡ None) → Holds reads owned lines available went opened written sealed s cuts found c sources shares held out times pending
-      → ((part : Part) → slice_get (parts_in s) i ≡ Some part → IsSourceOf reads lines available went opened i part (get_or found i 0) p x)
+  pub holds_map : (c : Core) (stop : Option Cause) (i : ℕ) (p : Place) (x : PartLog L) (part_logs : List (PartLog L)) (shares : List (Share S)) (held : List (Option Held)) (out : Option (OutWork S F)) (times : List (Option ℤ)) (pending : Option (Pending F))
+      → (stop ≡ None → c.front.stop ≡ None) → Holds reads owned lines available went opened written sealed s cuts found c part_logs shares held out times pending
+      → ((part : Part) → slice_get (parts_in s) i ≡ Some part → IsPartLogOf reads lines available went opened i part (get_or found i 0) p x)
       → (c.front.stop ≡ None → is_open c ≡ true → (part : Part) → slice_get (parts_in s) i ≡ Some part
       → IsMapped reads s.job.bound c.front.committed part (get_or (cut_of (cuts c.front.committed)) i 0) (get_or (cut_of (cuts (c.front.committed + 1))) i 0) s.job.partitions c.reduces p x)
       → (stop ≡ Some cause.KeyOverflow → list_all is_here c.reduces ≡ true)
       → ((f : Cause) → stop ≡ Some f → IsStopOf reads owned s cuts c.front.committed (key_in shares) f)
-      → Holds reads owned lines available went opened written sealed s cuts found (with_map c stop i p) (set sources i x) shares held out times pending
-  holds_map c stop i p x sources shares held out times pending runs h source mapped still stops = record {
-    parts = set_length sources i x ∙ h.parts;
+      → Holds reads owned lines available went opened written sealed s cuts found (with_map c stop i p) (set part_logs i x) shares held out times pending
+  holds_map c stop i p x part_logs shares held out times pending runs h part_log mapped still stops = record {
+    parts = set_length part_logs i x ∙ h.parts;
     partitions = h.partitions;
     keeping = h.keeping;
     logs = λ j part at own there place_is own_is.
-        put_both (λ j at own. (part : Part) → slice_get (parts_in s) j ≡ Some part → IsSourceOf reads lines available went opened j part (get_or found j 0) at own) c.maps sources i p x
-        (λ j at own place_is own_is part there. h.logs j part at own there place_is own_is) source j at own place_is own_is part there;
+        put_both (λ j at own. (part : Part) → slice_get (parts_in s) j ≡ Some part → IsPartLogOf reads lines available went opened j part (get_or found j 0) at own) c.maps part_logs i p x
+        (λ j at own place_is own_is part there. h.logs j part at own there place_is own_is) part_log j at own place_is own_is part there;
     reduced = h.reduced;
     dealt = h.dealt;
     keys = h.keys;
@@ -192,7 +192,7 @@ module _ {L S F : Type 0} (reads owned : Type 0) (lines : L → List Line) (avai
       froms = e.froms;
       mapped = λ j part at own there place_is own_is.
           put_both (λ j at own. (part : Part) → slice_get (parts_in s) j ≡ Some part
-          → IsMapped reads s.job.bound c.front.committed part (get_or (cut_of (cuts c.front.committed)) j 0) (get_or (cut_of (cuts (c.front.committed + 1))) j 0) s.job.partitions c.reduces at own) c.maps sources i p x
+          → IsMapped reads s.job.bound c.front.committed part (get_or (cut_of (cuts c.front.committed)) j 0) (get_or (cut_of (cuts (c.front.committed + 1))) j 0) s.job.partitions c.reduces at own) c.maps part_logs i p x
           (λ j at own place_is own_is part there. e.mapped j part at own there place_is own_is) (mapped (runs run) is_opened) j at own place_is own_is part there;
       shared = e.shared;
       last = e.last;
@@ -203,16 +203,16 @@ module _ {L S F : Type 0} (reads owned : Type 0) (lines : L → List Line) (avai
   }
 
   -- a reduce task is handed out, with its buckets
-  pub holds_claimed : (c : Core) (i : ℕ) (x : Share S) (sources left : List (Source L)) (shares : List (Share S)) (held : List (Option Held)) (out : Option (OutWork S F)) (times : List (Option ℤ)) (pending : Option (Pending F))
-      → Holds reads owned lines available went opened written sealed s cuts found c sources shares held out times pending → length left ≡ length sources → get_elem? c.reduces i ≡ some place.Waits
-      → ((j : ℕ) (old new : Source L) → get_elem? sources j ≡ some old → get_elem? left j ≡ some new → IsTaken i old new) → c.front.stop ≡ None → x.key ≡ None
+  pub holds_claimed : (c : Core) (i : ℕ) (x : Share S) (part_logs left : List (PartLog L)) (shares : List (Share S)) (held : List (Option Held)) (out : Option (OutWork S F)) (times : List (Option ℤ)) (pending : Option (Pending F))
+      → Holds reads owned lines available went opened written sealed s cuts found c part_logs shares held out times pending → length left ≡ length part_logs → get_elem? c.reduces i ≡ some place.Waits
+      → ((j : ℕ) (old new : PartLog L) → get_elem? part_logs j ≡ some old → get_elem? left j ≡ some new → IsTaken i old new) → c.front.stop ≡ None → x.key ≡ None
       → Holds reads owned lines available went opened written sealed s cuts found (with_reduce c c.front.stop i place.Away) left (set shares i x) (set held i None) out times pending
-  holds_claimed c i x sources left shares held out times pending h count waits_there taken runs no_key = record {
+  holds_claimed c i x part_logs left shares held out times pending h count waits_there taken runs no_key = record {
     parts = count ∙ h.parts;
     partitions = set_length shares i x ∙ h.partitions;
     keeping = set_length held i None ∙ h.keeping;
-    logs = λ j part at own there place_is own_is. (let old = there_in sources left j own (sym count) own_is in
-        source_less reads lines available went opened j part (get_or found j 0) i at old.0 own (taken j old.0 own old.1 own_is) (h.logs j part at old.0 there place_is old.1));
+    logs = λ j part at own there place_is own_is. (let old = there_in part_logs left j own (sym count) own_is in
+        part_log_less reads lines available went opened j part (get_or found j 0) i at old.0 own (taken j old.0 own old.1 own_is) (h.logs j part at old.0 there place_is old.1));
     reduced = put_reduced c.reduces i place.Away h.reduced (λ f b. absurd (away_not_fault f b));
     dealt = λ is_opened. put_dealt c.reduces i place.Away (h.dealt is_opened) (λ e. cc);
     keys = λ is_opened. put_both (λ p at share. IsKeyOf owned s cuts c.front.committed p at share.key) c.reduces shares i place.Away x (h.keys is_opened) no_key;
@@ -221,7 +221,7 @@ module _ {L S F : Type 0} (reads owned : Type 0) (lines : L → List Line) (avai
     seen_so_far = h.seen_so_far;
     epoch = λ run is_opened. (let e = h.epoch run is_opened in record {
       froms = e.froms;
-      mapped = λ j part at own there place_is own_is. (let old = there_in sources left j own (sym count) own_is in
+      mapped = λ j part at own there place_is own_is. (let old = there_in part_logs left j own (sym count) own_is in
           mapped_less reads s.job.bound c.front.committed part _ _ s.job.partitions c.reduces i at old.0 own (taken j old.0 own old.1 own_is) (e.mapped j part at old.0 there place_is old.1));
       shared = λ waits. put_both (λ p at share. IsShare owned written s cuts c.front.committed p at share) c.reduces shares i place.Away x (λ j at share. e.shared waits j at share)
           (record { there = λ r. absurd (away_not_rests r); empty = λ w. absurd (away_not_waits w); stage = λ w. absurd (away_not_waits w); shown = λ b. absurd (away_not_back b); printable = λ b. absurd (away_not_back b) });
@@ -251,16 +251,16 @@ module _ {L S F : Type 0} (reads owned : Type 0) (lines : L → List Line) (avai
       back_not_waits e = cc
 
   -- a reduce task is back
-  pub holds_reduced : (c : Core) (stop f : Option Cause) (i : ℕ) (x : Share S) (own : Option Held) (sources : List (Source L)) (shares : List (Share S)) (held : List (Option Held)) (out : Option (OutWork S F)) (times : List (Option ℤ)) (pending : Option (Pending F))
-      → (stop ≡ None → c.front.stop ≡ None) → Holds reads owned lines available went opened written sealed s cuts found c sources shares held out times pending
+  pub holds_reduced : (c : Core) (stop f : Option Cause) (i : ℕ) (x : Share S) (own : Option Held) (part_logs : List (PartLog L)) (shares : List (Share S)) (held : List (Option Held)) (out : Option (OutWork S F)) (times : List (Option ℤ)) (pending : Option (Pending F))
+      → (stop ≡ None → c.front.stop ≡ None) → Holds reads owned lines available went opened written sealed s cuts found c part_logs shares held out times pending
       → get_elem? c.reduces i ≡ some place.Away → (c.front.stop ≡ None → is_open c ≡ true → IsShare owned written s cuts c.front.committed i (place.Back f) x)
       → (c.front.stop ≡ None → i < length held → IsHeldAt owned s cuts (is_open c) c.front.committed i (place.Back f) own)
       → (is_open c ≡ true → IsKeyOf owned s cuts c.front.committed i (place.Back f) x.key)
       → ((g : Cause) → f ≡ Some g → IsReducedCause g)
       → (stop ≡ Some cause.KeyOverflow → list_all is_here (set c.reduces i (place.Back f)) ≡ true)
       → ((g : Cause) → stop ≡ Some g → IsStopOf reads owned s cuts c.front.committed (key_in (set shares i x)) g)
-      → Holds reads owned lines available went opened written sealed s cuts found (with_reduce c stop i (place.Back f)) sources (set shares i x) (set held i own) out times pending
-  holds_reduced c stop f i x own sources shares held out times pending runs h away share mine key no_line still stops = record {
+      → Holds reads owned lines available went opened written sealed s cuts found (with_reduce c stop i (place.Back f)) part_logs (set shares i x) (set held i own) out times pending
+  holds_reduced c stop f i x own part_logs shares held out times pending runs h away share mine key no_line still stops = record {
     parts = h.parts;
     partitions = set_length shares i x ∙ h.partitions;
     keeping = set_length held i own ∙ h.keeping;
@@ -301,13 +301,13 @@ module _ {L S F : Type 0} (reads owned : Type 0) (lines : L → List Line) (avai
   }
 
   -- the out task is elsewhere, and not at the desk
-  pub holds_out : (c : Core) (stop : Option Cause) (p : Place) (sources : List (Source L)) (shares more : List (Share S)) (held : List (Option Held)) (out left : Option (OutWork S F)) (times : List (Option ℤ)) (pending : Option (Pending F))
-      → (stop ≡ None → c.front.stop ≡ None) → Holds reads owned lines available went opened written sealed s cuts found c sources shares held out times pending → (p ≡ place.Waits → ⊥)
+  pub holds_out : (c : Core) (stop : Option Cause) (p : Place) (part_logs : List (PartLog L)) (shares more : List (Share S)) (held : List (Option Held)) (out left : Option (OutWork S F)) (times : List (Option ℤ)) (pending : Option (Pending F))
+      → (stop ≡ None → c.front.stop ≡ None) → Holds reads owned lines available went opened written sealed s cuts found c part_logs shares held out times pending → (p ≡ place.Waits → ⊥)
       → map key_of more ≡ map key_of shares → (c.front.stop ≡ None → is_open c ≡ true → list_all is_fine c.reduces ≡ true)
       → (stop ≡ Some cause.KeyOverflow → list_all is_here c.reduces ≡ true)
       → ((g : Cause) → stop ≡ Some g → IsStopOf reads owned s cuts c.front.committed (key_in shares) g)
-      → Holds reads owned lines available went opened written sealed s cuts found (with_out c stop p) sources more held left times pending
-  holds_out c stop p sources shares more held out left times pending runs h gone same fine still stops = record {
+      → Holds reads owned lines available went opened written sealed s cuts found (with_out c stop p) part_logs more held left times pending
+  holds_out c stop p part_logs shares more held out left times pending runs h gone same fine still stops = record {
     parts = h.parts;
     partitions = same_count key_of more shares same ∙ h.partitions;
     keeping = h.keeping;
@@ -331,15 +331,15 @@ module _ {L S F : Type 0} (reads owned : Type 0) (lines : L → List Line) (avai
   }
 
   -- A desk that stops, for a cause that may stop it whatever keys there are: of its tasks nothing more is said.
-  pub holds_stopped : (c : Core) (f : Cause) (sources : List (Source L)) (shares : List (Share S)) (held : List (Option Held)) (out : Option (OutWork S F)) (times : List (Option ℤ)) (pending : Option (Pending F))
-      → length sources ≡ length (parts_in s) → length shares ≡ s.job.partitions → length held ≡ keeping_in s
-      → ((i : ℕ) (part : Part) (at : Place) (source : Source L) → slice_get (parts_in s) i ≡ Some part → get_elem? c.maps i ≡ some at → get_elem? sources i ≡ some source → IsSourceOf reads lines available went opened i part (get_or found i 0) at source)
+  pub holds_stopped : (c : Core) (f : Cause) (part_logs : List (PartLog L)) (shares : List (Share S)) (held : List (Option Held)) (out : Option (OutWork S F)) (times : List (Option ℤ)) (pending : Option (Pending F))
+      → length part_logs ≡ length (parts_in s) → length shares ≡ s.job.partitions → length held ≡ keeping_in s
+      → ((i : ℕ) (part : Part) (at : Place) (part_log : PartLog L) → slice_get (parts_in s) i ≡ Some part → get_elem? c.maps i ≡ some at → get_elem? part_logs i ≡ some part_log → IsPartLogOf reads lines available went opened i part (get_or found i 0) at part_log)
       → (is_open c ≡ true → (p : ℕ) → get_elem? c.reduces p ≡ some place.Rests → ⊥)
       → ((p : ℕ) (g : Cause) → get_elem? c.reduces p ≡ some (place.Back (Some g)) → IsReducedCause g)
       → (is_open c ≡ true → (p : ℕ) (at : Place) (share : Share S) → get_elem? c.reduces p ≡ some at → get_elem? shares p ≡ some share → IsKeyOf owned s cuts c.front.committed p at share.key)
       → ((key : Option Values) → IsStopOf reads owned s cuts c.front.committed key f)
-      → Holds reads owned lines available went opened written sealed s cuts found (with_front c (stopped_front c.front (Some f))) sources shares held out times pending
-  holds_stopped c f sources shares held out times pending parts partitions keeping logs dealt reduced keys right = record {
+      → Holds reads owned lines available went opened written sealed s cuts found (with_front c (stopped_front c.front (Some f))) part_logs shares held out times pending
+  holds_stopped c f part_logs shares held out times pending parts partitions keeping logs dealt reduced keys right = record {
     parts = parts;
     partitions = partitions;
     keeping = keeping;
@@ -356,11 +356,11 @@ module _ {L S F : Type 0} (reads owned : Type 0) (lines : L → List Line) (avai
   }
 
   -- A desk that runs on and moves no task: names are synced, or the rows of its epoch are published.
-  pub holds_on : (c : Core) (fresh settled is_written : Bool) (sources : List (Source L)) (shares : List (Share S)) (held : List (Option Held)) (out : Option (OutWork S F)) (times : List (Option ℤ)) (old pending : Option (Pending F))
-      → Holds reads owned lines available went opened written sealed s cuts found c sources shares held out times old → c.front.stop ≡ None
+  pub holds_on : (c : Core) (fresh settled is_written : Bool) (part_logs : List (PartLog L)) (shares : List (Share S)) (held : List (Option Held)) (out : Option (OutWork S F)) (times : List (Option ℤ)) (old pending : Option (Pending F))
+      → Holds reads owned lines available went opened written sealed s cuts found c part_logs shares held out times old → c.front.stop ≡ None
       → (is_open c ≡ true → is_written ≡ true → (p : Pending F) × (pending ≡ Some p) × IsPending owned sealed s cuts c.front.committed p)
-      → Holds reads owned lines available went opened written sealed s cuts found (with_front c (record { planned = c.front.planned; committed = c.front.committed; fresh = fresh; settled = settled; written = is_written; has_lines = c.front.has_lines; due = c.front.due; stop = None })) sources shares held out times pending
-  holds_on c fresh settled is_written sources shares held out times old pending h runs commit = record {
+      → Holds reads owned lines available went opened written sealed s cuts found (with_front c (record { planned = c.front.planned; committed = c.front.committed; fresh = fresh; settled = settled; written = is_written; has_lines = c.front.has_lines; due = c.front.due; stop = None })) part_logs shares held out times pending
+  holds_on c fresh settled is_written part_logs shares held out times old pending h runs commit = record {
     parts = h.parts;
     partitions = h.partitions;
     keeping = h.keeping;

@@ -13,7 +13,7 @@ use Rattle.ssq_plans.specs.declared.plan.Plan.{Plan}
 use Rattle.ssq_desk.specs.declared.desk.Load.{Load}
 use Rattle.ssq_desk.specs.declared.desk.OutWork.{OutWork}
 use Rattle.ssq_desk.specs.declared.desk.Share.{Share}
-use Rattle.ssq_desk.specs.declared.desk.Source.{Source}
+use Rattle.ssq_desk.specs.declared.desk.PartLog.{PartLog}
 use Rattle.ssq_desk.specs.declared.room.Room.{Room}
 use Rattle.ssq_desk.specs.declared.told.Told.{Told}
 use Rattle.ssq_task.specs.declared.partition.Held.{Held}
@@ -29,21 +29,21 @@ unmade_by planned before now disk.Fault few risen = (few, risen refl)
 unmade_by planned before now disk.NoMemory few risen = (few, tt)
 
 -- with more room for plans and for what is told, the room for the tasks is as much
-pub room_over : {L S F : Type 0} (old mid : Load L S F) (room : Room S) → IsSameLoad old mid → HasRoom old.view.partitions (length old.sources.items) old.seen room → HasRoom mid.view.partitions (length mid.sources.items) mid.seen room
+pub room_over : {L S F : Type 0} (old mid : Load L S F) (room : Room S) → IsSameLoad old mid → HasRoom old.view.partitions (length old.part_logs.items) old.seen room → HasRoom mid.view.partitions (length mid.part_logs.items) mid.seen room
 room_over {L} old mid room same has =
-    subst (λ (v : View). HasRoom v.partitions (length mid.sources.items) mid.seen room) (sym same.view_is)
-    (subst (λ (x : Vec (Source L)). HasRoom old.view.partitions (length x.items) mid.seen room) (sym same.sources_are)
-    (subst (λ (t : List (Option ℤ)). HasRoom old.view.partitions (length old.sources.items) t room) (sym same.seen_is) has))
+    subst (λ (v : View). HasRoom v.partitions (length mid.part_logs.items) mid.seen room) (sym same.view_is)
+    (subst (λ (x : Vec (PartLog L)). HasRoom old.view.partitions (length x.items) mid.seen room) (sym same.part_logs_are)
+    (subst (λ (t : List (Option ℤ)). HasRoom old.view.partitions (length old.part_logs.items) t room) (sym same.seen_is) has))
 
 -- what was put in place
-abbrev pub with_work : {L S F : Type 0} → Load L S F → Vec (Source L) → Vec (Share S) → OutWork S F → Load L S F
-with_work old sources shares work = record { view = old.view; plans = old.plans; sources = sources; shares = shares; held = old.held; out = Some work; seen = old.seen; pending = old.pending; told = old.told; kept = old.kept }
+abbrev pub with_work : {L S F : Type 0} → Load L S F → Vec (PartLog L) → Vec (Share S) → OutWork S F → Load L S F
+with_work old part_logs shares work = record { view = old.view; plans = old.plans; part_logs = part_logs; shares = shares; held = old.held; out = Some work; seen = old.seen; pending = old.pending; told = old.told; kept = old.kept }
 
--- With room for the plan and to tell, with sources that begin at these ends, and with the partitions' files and the out task's work in their room, all is made.
+-- With room for the plan and to tell, with parts that begin at these ends, and with the partitions' files and the out task's work in their room, all is made.
 pub put_made : {L S F : Type 0} (tells : Type 0) (written : S → List ℕ) (ends : List PartEnd) (old new : Load L S F) (room : Room S) (shares : Vec (Share S)) (work : OutWork S F)
-    → length old.plans.items < vec_capacity old.plans → length old.told.items < vec_capacity old.told → length old.sources.items ≡ length ends → HasRoom old.view.partitions (length old.sources.items) old.seen room
+    → length old.plans.items < vec_capacity old.plans → length old.told.items < vec_capacity old.told → length old.part_logs.items ≡ length ends → HasRoom old.view.partitions (length old.part_logs.items) old.seen room
     → AreStaged tells written old.held.items room.shares.items shares.items → work.rows ≡ room.rows → work.seen ≡ room.seen → (tells → written work.stages.rows ≡ []) → (tells → written work.stages.commit ≡ [])
-    → AreBegun ends old.sources.items new.sources.items → new ≡ with_work old new.sources shares work → IsMadeFor tells written ends old new room.ends
+    → AreBegun ends old.part_logs.items new.part_logs.items → new ≡ with_work old new.part_logs shares work → IsMadeFor tells written ends old new room.ends
 put_made {L} {S} {F} tells written ends old new room shares work plans told each has staged rows times rows_empty commit_empty begun is = record {
   view_is = ap (λ (l : Load L S F). l.view) is;
   plans_are = ap (λ (l : Load L S F). l.plans.items) is;
@@ -52,8 +52,8 @@ put_made {L} {S} {F} tells written ends old new room shares work plans told each
   told_room = subst (λ (v : Vec Told). length v.items < vec_capacity v) (sym (ap (λ (l : Load L S F). l.told) is)) told;
   kept_is = ap (λ (l : Load L S F). l.kept) is;
   begun = begun;
-  ready = subst (λ (v : Vec (Share S)). AreReady tells written old.view.partitions (length old.sources.items) (length old.held.items) v.items) (sym (ap (λ (l : Load L S F). l.shares) is))
-      (staged_ready tells tells written (λ t. t) old.view.partitions (length old.sources.items) old.held.items room.shares.items shares.items has.count has.fresh staged);
+  ready = subst (λ (v : Vec (Share S)). AreReady tells written old.view.partitions (length old.part_logs.items) (length old.held.items) v.items) (sym (ap (λ (l : Load L S F). l.shares) is))
+      (staged_ready tells tells written (λ t. t) old.view.partitions (length old.part_logs.items) old.held.items room.shares.items shares.items has.count has.fresh staged);
   held_is = ap (λ (l : Load L S F). l.held) is;
   work = (
     work,
@@ -81,12 +81,12 @@ made_over {L} {S} {F} tells written ends old mid new here same made = record {
   told_are = made.told_are ∙ same.told_are;
   told_room = made.told_room;
   kept_is = made.kept_is ∙ same.kept_is;
-  begun = subst (λ (olds : Vec (Source L)). AreBegun ends olds.items new.sources.items) same.sources_are made.begun;
+  begun = subst (λ (olds : Vec (PartLog L)). AreBegun ends olds.items new.part_logs.items) same.part_logs_are made.begun;
   ready = record {
     count = made.ready.count ∙ ap (λ (v : View). v.partitions) same.view_is;
     each = λ p share here. (let own = made.ready.each p share here in record {
       none = own.none;
-      room = subst (λ (olds : Vec (Source L)). length olds.items ≤ vec_capacity share.buckets) same.sources_are own.room;
+      room = subst (λ (olds : Vec (PartLog L)). length olds.items ≤ vec_capacity share.buckets) same.part_logs_are own.room;
       stage = subst (λ (held : Vec (Option Held)). IsStageOf tells written (length held.items) p share.stage) same.held_is own.stage;
       no_key = own.no_key;
     });

@@ -23,7 +23,7 @@ use Rattle.ssq_board.proofs.Lists.{all_fine, at_length, there_at}
 use Rattle.ssq_terms.specs.Partitions.{KeysAreLeast, overflow_of}
 use Rattle.ssq_terms.proofs.Showing.{are_quiet}
 use Rattle.ssq_desk.specs.declared.desk.Share.{Share}
-use Rattle.ssq_desk.specs.declared.desk.Source.{Source}
+use Rattle.ssq_desk.specs.declared.desk.PartLog.{PartLog}
 use Rattle.ssq_desk.specs.Contents.{IsKeyOf, IsMapped, IsReducedCause, IsStopOf, key_in}
 use Rattle.ssq_desk.proofs.Planned.{slice_below}
 use Rattle.ssq_desk.proofs.Reducing.{reduced_cases}
@@ -31,12 +31,12 @@ use Rattle.ssq_desk.proofs.Reducing.{reduced_cases}
 -- ---- lines without a fault
 
 -- a map task that is back without a fault, or was not there, has met none
-good_part : {L : Type 0} (tells : Type 0) (query : Bound) (epoch : ℕ) (part : Part) (from to partitions : ℕ) (reduces : List Place) (own : Place) (source : Source L) → tells → is_fine own ≡ true → IsMapped tells query epoch part from to partitions reduces own source → fault_in query part from to ≡ None
-good_part tells query epoch part from to partitions reduces place.Rests source t fine m = (are_quiet query part from to (m.quiet refl)).fault
-good_part tells query epoch part from to partitions reduces (place.Back None) source t fine m = (m.brought refl).2.good t
-good_part tells query epoch part from to partitions reduces (place.Back (Some f)) source t fine m = absurd (true≢false (sym fine))
-good_part tells query epoch part from to partitions reduces place.Waits source t fine m = absurd (true≢false (sym fine))
-good_part tells query epoch part from to partitions reduces place.Away source t fine m = absurd (true≢false (sym fine))
+good_part : {L : Type 0} (tells : Type 0) (query : Bound) (epoch : ℕ) (part : Part) (from to partitions : ℕ) (reduces : List Place) (own : Place) (part_log : PartLog L) → tells → is_fine own ≡ true → IsMapped tells query epoch part from to partitions reduces own part_log → fault_in query part from to ≡ None
+good_part tells query epoch part from to partitions reduces place.Rests part_log t fine m = (are_quiet query part from to (m.quiet refl)).fault
+good_part tells query epoch part from to partitions reduces (place.Back None) part_log t fine m = (m.brought refl).2.good t
+good_part tells query epoch part from to partitions reduces (place.Back (Some f)) part_log t fine m = absurd (true≢false (sym fine))
+good_part tells query epoch part from to partitions reduces place.Waits part_log t fine m = absurd (true≢false (sym fine))
+good_part tells query epoch part from to partitions reduces place.Away part_log t fine m = absurd (true≢false (sym fine))
 
 -- where no part has one between two cuts, there is none
 good_between : (query : Bound) (parts : List Part) (froms tos : Cut) → ((i : ℕ) (part : Part) → slice_get parts i ≡ Some part → fault_in query part (get_or froms i 0) (get_or tos i 0) ≡ None) → fault_between query parts froms tos ≡ None
@@ -48,17 +48,17 @@ good_between query (part ∷ parts) (from ∷ froms) (to ∷ tos) good =
     ap (λ o. or_else o (fault_between query parts froms tos)) (good 0 part refl) ∙ good_between query parts froms tos (λ i q here. good (suc i) q here)
 
 -- all map tasks of an epoch are done
-pub lines_good : {L : Type 0} (tells : Type 0) (s : Setting) (cuts : Cuts) (e : ℕ) (reduces places : List Place) (sources : List (Source L))
-    → ((i : ℕ) (part : Part) (own : Place) (source : Source L) → slice_get (parts_in s) i ≡ Some part → get_elem? places i ≡ some own → get_elem? sources i ≡ some source
-    → IsMapped tells s.job.bound e part (get_or (cut_of (cuts e)) i 0) (get_or (cut_of (cuts (e + 1))) i 0) s.job.partitions reduces own source)
-    → length places ≡ length (parts_in s) → length sources ≡ length (parts_in s) → list_all is_fine places ≡ true → tells → fault_between s.job.bound (parts_in s) (cut_of (cuts e)) (cut_of (cuts (e + 1))) ≡ None
-lines_good tells s cuts e reduces places sources mapped each_place each_source fine t =
+pub lines_good : {L : Type 0} (tells : Type 0) (s : Setting) (cuts : Cuts) (e : ℕ) (reduces places : List Place) (part_logs : List (PartLog L))
+    → ((i : ℕ) (part : Part) (own : Place) (part_log : PartLog L) → slice_get (parts_in s) i ≡ Some part → get_elem? places i ≡ some own → get_elem? part_logs i ≡ some part_log
+    → IsMapped tells s.job.bound e part (get_or (cut_of (cuts e)) i 0) (get_or (cut_of (cuts (e + 1))) i 0) s.job.partitions reduces own part_log)
+    → length places ≡ length (parts_in s) → length part_logs ≡ length (parts_in s) → list_all is_fine places ≡ true → tells → fault_between s.job.bound (parts_in s) (cut_of (cuts e)) (cut_of (cuts (e + 1))) ≡ None
+lines_good tells s cuts e reduces places part_logs mapped each_place each_part_log fine t =
     good_between s.job.bound (parts_in s) (cut_of (cuts e)) (cut_of (cuts (e + 1)))
     (λ i part here. (
     let less = slice_below (parts_in s) i part here in
     let own = there_at places i (omega (arith, less, each_place)) in
-    let source = there_at sources i (omega (arith, less, each_source)) in
-    good_part tells s.job.bound e part _ _ s.job.partitions reduces own.0 source.0 t (all_fine is_fine places i own.0 fine own.1) (mapped i part own.0 source.0 here own.1 source.1)))
+    let part_log = there_at part_logs i (omega (arith, less, each_part_log)) in
+    good_part tells s.job.bound e part _ _ s.job.partitions reduces own.0 part_log.0 t (all_fine is_fine places i own.0 fine own.1) (mapped i part own.0 part_log.0 here own.1 part_log.1)))
 
 -- ---- keys
 

@@ -5,30 +5,30 @@ use Rattle.std.proofs.lemmas.List.{append_assoc, map-append}
 use Rattle.std.proofs.lemmas.List.Elements.{All-tail}
 use Rattle.std.specs.List.{AllZip}
 use Rattle.ssq_plans.specs.declared.part.PartEnd.{PartEnd}
-use Rattle.ssq_desk.specs.declared.desk.Source.{Source}
-use Rattle.ssq_desk.specs.First.{sources_of}
+use Rattle.ssq_desk.specs.declared.desk.PartLog.{PartLog}
+use Rattle.ssq_desk.specs.First.{part_logs_of}
 
 -- these parts have theirs, and the others are to get these
-pub record IsPlacing {L : Type 0} (parts ends : List PartEnd) (logs rest : List L) (sources : List (Source L)) (capacity : ℕ) : Type 0 where
-  pub items : sources ++ sources_of (drop (length sources) parts) (drop (length sources) ends) rest ≡ sources_of parts ends logs
-  pub each_part : length parts ≡ length sources + length rest
-  pub each_end : length ends ≡ length sources + length rest
-  pub room : length sources + length rest ≤ capacity
+pub record IsPlacing {L : Type 0} (parts ends : List PartEnd) (logs rest : List L) (part_logs : List (PartLog L)) (capacity : ℕ) : Type 0 where
+  pub items : part_logs ++ part_logs_of (drop (length part_logs) parts) (drop (length part_logs) ends) rest ≡ part_logs_of parts ends logs
+  pub each_part : length parts ≡ length part_logs + length rest
+  pub each_end : length ends ≡ length part_logs + length rest
+  pub room : length part_logs + length rest ≤ capacity
 
--- the logs of these sources are taken, and those of the others are to be
-pub record IsTaking {L : Type 0} (sources rest : List (Source L)) (logs : List L) (capacity : ℕ) : Type 0 where
-  pub items : map (λ (log : L). Some log) logs ++ map (λ (x : Source L). x.log) rest ≡ map (λ (x : Source L). x.log) sources
-  pub there : All (λ (x : Source L). IsSome x.log) rest
+-- the logs of these parts are taken, and those of the others are to be
+pub record IsTaking {L : Type 0} (part_logs rest : List (PartLog L)) (logs : List L) (capacity : ℕ) : Type 0 where
+  pub items : map (λ (log : L). Some log) logs ++ map (λ (x : PartLog L). x.log) rest ≡ map (λ (x : PartLog L). x.log) part_logs
+  pub there : All (λ (x : PartLog L). IsSome x.log) rest
   pub room : length logs + length rest ≤ capacity
 
 -- one log more is taken
-pub one_taken : {L : Type 0} (sources : List (Source L)) (x : Source L) (rest : List (Source L)) (logs : List L) (own : L) (capacity more : ℕ) → x.log ≡ Some own → capacity ≡ more → IsTaking sources (x ∷ rest) logs capacity
-    → IsTaking sources rest (logs ++ own ∷ []) more
-one_taken {L} sources x rest logs own capacity more log_is same is = record {
-  items = ap (λ (l : List (Option L)). l ++ map (λ (y : Source L). y.log) rest) (map-append (λ (log : L). Some log) logs (own ∷ []))
-      ∙ append_assoc (map (λ (log : L). Some log) logs) (Some own ∷ []) (map (λ (y : Source L). y.log) rest)
-      ∙ ap (λ (o : Option L). map (λ (log : L). Some log) logs ++ o ∷ map (λ (y : Source L). y.log) rest) (sym log_is) ∙ is.items;
-  there = All-tail (λ (y : Source L). IsSome y.log) x rest is.there;
+pub one_taken : {L : Type 0} (part_logs : List (PartLog L)) (x : PartLog L) (rest : List (PartLog L)) (logs : List L) (own : L) (capacity more : ℕ) → x.log ≡ Some own → capacity ≡ more → IsTaking part_logs (x ∷ rest) logs capacity
+    → IsTaking part_logs rest (logs ++ own ∷ []) more
+one_taken {L} part_logs x rest logs own capacity more log_is same is = record {
+  items = ap (λ (l : List (Option L)). l ++ map (λ (y : PartLog L). y.log) rest) (map-append (λ (log : L). Some log) logs (own ∷ []))
+      ∙ append_assoc (map (λ (log : L). Some log) logs) (Some own ∷ []) (map (λ (y : PartLog L). y.log) rest)
+      ∙ ap (λ (o : Option L). map (λ (log : L). Some log) logs ++ o ∷ map (λ (y : PartLog L). y.log) rest) (sym log_is) ∙ is.items;
+  there = All-tail (λ (y : PartLog L). IsSome y.log) x rest is.there;
   room = (let room = is.room in let count = length-append logs (own ∷ []) in omega (arith, room, count, same));
 }
 

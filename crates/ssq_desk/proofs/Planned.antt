@@ -20,11 +20,11 @@ use Rattle.ssq_board.specs.declared.front.Place.TheVariants as place
 use Rattle.ssq_board.specs.declared.front.Entry.TheVariants as entry
 use Rattle.ssq_board.specs.Core.{Scope, Core, after, dealt, extended, has_line_at, is_fine, next_ends}
 use Rattle.ssq_board.proofs.Lists.{at_length, there_at, all_fine, const_at, dealt_at, nat_lt-not, nat_lt-is}
-use Rattle.ssq_desk.specs.declared.desk.Source.{Source}
+use Rattle.ssq_desk.specs.declared.desk.PartLog.{PartLog}
 use Rattle.ssq_desk.specs.declared.desk.Share.{Share}
 use Rattle.ssq_desk.specs.declared.desk.OutWork.{OutWork}
 use Rattle.ssq_desk.specs.declared.desk.Pending.{Pending}
-use Rattle.ssq_desk.specs.Contents.{is_away, is_gone, epochs_at, keeping_in, IsSourceOf, IsMapped, IsShare, IsKeyOf, IsHeldOf, IsHeldAt, AreSeen, IsOutWork, Holds}
+use Rattle.ssq_desk.specs.Contents.{is_away, is_gone, epochs_at, keeping_in, IsPartLogOf, IsMapped, IsShare, IsKeyOf, IsHeldOf, IsHeldAt, AreSeen, IsOutWork, Holds}
 use Rattle.ssq_desk.specs.Room.{AreBegun}
 use Rattle.ssq_desk.specs.Making.{AreReady}
 use Rattle.ssq_desk.proofs.Keeping.{between_held}
@@ -82,21 +82,21 @@ fine_not_gone place.Away fine gone = true≢false (sym fine)
 fine_not_gone (place.Back None) fine gone = gone
 fine_not_gone (place.Back (Some f)) fine gone = true≢false (sym fine)
 
--- the source of a part that begins an epoch is its part's as before
-pub begun_source : {L : Type 0} (reads : Type 0) (lines : L → List Line) (available : L → ℕ) (went : L → L → Type 0) (opened : List L) (ends : List PartEnd) (olds news : List (Source L)) → AreBegun ends olds news
-    → (i : ℕ) (part : Part) (found : ℕ) (at : Place) (source : Source L) → get_elem? news i ≡ some source → ((old : Source L) → get_elem? olds i ≡ some old → IsSourceOf reads lines available went opened i part found at old)
-    → IsSourceOf reads lines available went opened i part found at source
-begun_source {L} reads lines available went opened ends olds news begun i part found at source mine was =
-    let before : i < length olds = omega (arith, at_length news i source mine, begun.0) in
+-- what the desk has of a part that begins an epoch is that part's as before
+pub begun_part_log : {L : Type 0} (reads : Type 0) (lines : L → List Line) (available : L → ℕ) (went : L → L → Type 0) (opened : List L) (ends : List PartEnd) (olds news : List (PartLog L)) → AreBegun ends olds news
+    → (i : ℕ) (part : Part) (found : ℕ) (at : Place) (part_log : PartLog L) → get_elem? news i ≡ some part_log → ((old : PartLog L) → get_elem? olds i ≡ some old → IsPartLogOf reads lines available went opened i part found at old)
+    → IsPartLogOf reads lines available went opened i part found at part_log
+begun_part_log {L} reads lines available went opened ends olds news begun i part found at part_log mine was =
+    let before : i < length olds = omega (arith, at_length news i part_log mine, begun.0) in
     let end : PartEnd = record { stream = 0; part = 0; end = 0 } in
-    let is = begun.1 i source before end in
+    let is = begun.1 i part_log before end in
     let old = there_at olds i before in
     let own = was old.0 old.1 in
-    let same_old : get_or olds i source ≡ old.0 = at_get olds i old.0 source old.1 in
-    let same_new : get_or news i source ≡ source = at_get news i source source mine in record {
-      stream = own.stream ∙ sym (ap (λ (x : Source L). x.stream) (sym same_new) ∙ is.stream_is ∙ ap (λ (x : Source L). x.stream) same_old);
-      number = own.number ∙ sym (ap (λ (x : Source L). x.part) (sym same_new) ∙ is.part_is ∙ ap (λ (x : Source L). x.part) same_old);
-      log = λ here. (let it = own.log here in (it.0, ap (λ (x : Source L). x.log) (sym same_new) ∙ is.log_is ∙ ap (λ (x : Source L). x.log) same_old ∙ it.1, it.2));
+    let same_old : get_or olds i part_log ≡ old.0 = at_get olds i old.0 part_log old.1 in
+    let same_new : get_or news i part_log ≡ part_log = at_get news i part_log part_log mine in record {
+      stream = own.stream ∙ sym (ap (λ (x : PartLog L). x.stream) (sym same_new) ∙ is.stream_is ∙ ap (λ (x : PartLog L). x.stream) same_old);
+      number = own.number ∙ sym (ap (λ (x : PartLog L). x.part) (sym same_new) ∙ is.part_is ∙ ap (λ (x : PartLog L). x.part) same_old);
+      log = λ here. (let it = own.log here in (it.0, ap (λ (x : PartLog L). x.log) (sym same_new) ∙ is.log_is ∙ ap (λ (x : PartLog L). x.log) same_old ∙ it.1, it.2));
     }
 
 module _ (owned : Type 0) (s : Setting) (cuts other : Cuts) (e : ℕ) (same : AreSameUpTo cuts other e) where
@@ -120,7 +120,7 @@ module _ (owned : Type 0) (s : Setting) (cuts other : Cuts) (e : ℕ) (same : Ar
   held_stays p (Some own) are = record { partition_is = are.partition_is; version = are.version; state = λ t. state_stays p (Some own.store) (are.state t); index = are.index }
 
 -- What is made for the next epoch before it is planned.
-pub record IsMade {L S F : Type 0} (owned : Type 0) (written : S → List ℕ) (s : Setting) (cuts : Cuts) (c : Core) (olds news : List (Source L)) (shares : List (Share S)) (work : OutWork S F) : Type 0 where
+pub record IsMade {L S F : Type 0} (owned : Type 0) (written : S → List ℕ) (s : Setting) (cuts : Cuts) (c : Core) (olds news : List (PartLog L)) (shares : List (Share S)) (work : OutWork S F) : Type 0 where
   pub begun : AreBegun c.ends olds news
   pub ready : AreReady owned written s.job.partitions (length (parts_in s)) (keeping_in s) shares
   pub out : IsOutWork owned written s cuts c.front.committed work
@@ -136,7 +136,7 @@ pub record IsBetween (s : Setting) (cuts : Cuts) (r : Scope) (c : Core) : Type 0
   pub each_map : length c.maps ≡ length (parts_in s)
 
 module _ {L S F : Type 0} (reads owned : Type 0) (lines : L → List Line) (available : L → ℕ) (went : L → L → Type 0) (opened : List L) (written : S → List ℕ) (sealed : F → List ℕ) (s : Setting) (cuts : Cuts) (r : Scope) (c : Core)
-    (olds news : List (Source L)) (shares : List (Share S)) (work : OutWork S F) (times : List (Option ℤ)) (made : IsMade owned written s cuts c olds news shares work) (between : IsBetween s cuts r c) where
+    (olds news : List (PartLog L)) (shares : List (Share S)) (work : OutWork S F) (times : List (Option ℤ)) (made : IsMade owned written s cuts c olds news shares work) (between : IsBetween s cuts r c) where
   next : Ends
   next = next_ends r.cap c.ends r.available
 
@@ -154,25 +154,25 @@ module _ {L S F : Type 0} (reads owned : Type 0) (lines : L → List Line) (avai
   unfolding then_cuts
   next_are = ap (λ (b : Bool). if b then next else cuts (c.front.committed + 1)) (nat_lt-is c.front.planned (c.front.committed + 1) (omega (arith, between.closed)))
 
-  -- the source of a part, as it was
-  begun_of : (i : ℕ) (source : Source L) → get_elem? news i ≡ some source → i < length olds
-  begun_of i source here = omega (arith, at_length news i source here, made.begun.0)
+  -- what the desk has of a part, as it was
+  begun_of : (i : ℕ) (part_log : PartLog L) → get_elem? news i ≡ some part_log → i < length olds
+  begun_of i part_log here = omega (arith, at_length news i part_log here, made.begun.0)
 
-  mapped : (reduces : List Place) (i : ℕ) (part : Part) (at : Place) (source : Source L) → slice_get (parts_in s) i ≡ Some part → get_elem? (dealt c.ends next) i ≡ some at → get_elem? news i ≡ some source
-      → IsMapped reads s.job.bound c.front.committed part (get_or (cut_of (then_cuts c.front.committed)) i 0) (get_or (cut_of (then_cuts (c.front.committed + 1))) i 0) s.job.partitions reduces at source
-  mapped reduces i part at source there here mine =
+  mapped : (reduces : List Place) (i : ℕ) (part : Part) (at : Place) (part_log : PartLog L) → slice_get (parts_in s) i ≡ Some part → get_elem? (dealt c.ends next) i ≡ some at → get_elem? news i ≡ some part_log
+      → IsMapped reads s.job.bound c.front.committed part (get_or (cut_of (then_cuts c.front.committed)) i 0) (get_or (cut_of (then_cuts (c.front.committed + 1))) i 0) s.job.partitions reduces at part_log
+  mapped reduces i part at part_log there here mine =
       let below : i < length c.ends = omega (arith, slice_below (parts_in s) i part there, between.each_end) in
-      let before : i < length olds = begun_of i source mine in
+      let before : i < length olds = begun_of i part_log mine in
       let end : PartEnd = record { stream = 0; part = 0; end = 0 } in
-      let is = made.begun.1 i source before end in
+      let is = made.begun.1 i part_log before end in
       let from_is : get_or (cut_of (then_cuts c.front.committed)) i 0 ≡ (get_or c.ends i end).end = ap (λ (ends : Ends). get_or (cut_of ends) i 0) ends_are ∙ get_or-map (λ (e : PartEnd). e.end) c.ends i end 0 below in record {
-        begins = ap (λ (x : Source L). x.from) (sym (at_get news i source source mine)) ∙ is.from_is ∙ sym from_is;
+        begins = ap (λ (x : PartLog L). x.from) (sym (at_get news i part_log part_log mine)) ∙ is.from_is ∙ sym from_is;
         quiet = λ rests. elim (dealt_at c.ends next i at here) [
           | inl w ↦ absurd (waits_not_rests at w.0 rests)
           | inr q ↦ subst (λ (tos : Ends). get_or (cut_of tos) i 0 ≤ get_or (cut_of (then_cuts c.front.committed)) i 0) (sym next_are)
               (subst (λ (froms : Ends). get_or (cut_of next) i 0 ≤ get_or (cut_of froms) i 0) (sym ends_are) (quiet_of c.ends next i below q.1))
         ];
-        none = λ rests. ap (λ (x : Source L). x.fed) (sym (at_get news i source source mine)) ∙ is.nothing;
+        none = λ rests. ap (λ (x : PartLog L). x.fed) (sym (at_get news i part_log part_log mine)) ∙ is.nothing;
         brought = λ back. elim (dealt_at c.ends next i at here) [ inl w ↦ absurd (waits_not_back at None w.0 back) | inr q ↦ absurd (rests_not_back at None q.0 back) ];
         fault = λ f back. elim (dealt_at c.ends next i at here) [ inl w ↦ absurd (waits_not_back at (Some f) w.0 back) | inr q ↦ absurd (rests_not_back at (Some f) q.0 back) ];
       }
@@ -190,14 +190,14 @@ module _ {L S F : Type 0} (reads owned : Type 0) (lines : L → List Line) (avai
 
   -- the log of a part is where it was
   logged : (pending : Option (Pending F)) (out : Option (OutWork S F)) (old_shares : List (Share S)) (held : List (Option Held)) → Holds reads owned lines available went opened written sealed s cuts r.available c olds old_shares held out times pending
-      → (i : ℕ) (part : Part) (at : Place) (source : Source L) → slice_get (parts_in s) i ≡ Some part → get_elem? (dealt c.ends next) i ≡ some at → get_elem? news i ≡ some source
-      → IsSourceOf reads lines available went opened i part (get_or r.available i 0) at source
-  logged pending out old_shares held holds i part at source there here mine =
+      → (i : ℕ) (part : Part) (at : Place) (part_log : PartLog L) → slice_get (parts_in s) i ≡ Some part → get_elem? (dealt c.ends next) i ≡ some at → get_elem? news i ≡ some part_log
+      → IsPartLogOf reads lines available went opened i part (get_or r.available i 0) at part_log
+  logged pending out old_shares held holds i part at part_log there here mine =
       let placed = there_at c.maps i (omega (arith, slice_below (parts_in s) i part there, between.each_map)) in
       let back = fine_not_away placed.0 (all_fine is_fine c.maps i placed.0 between.back placed.1) in
-      begun_source reads lines available went opened c.ends olds news made.begun i part (get_or r.available i 0) at source mine (λ old was. by_place placed.0 back (holds.logs i part placed.0 old there placed.1 was))
+      begun_part_log reads lines available went opened c.ends olds news made.begun i part (get_or r.available i 0) at part_log mine (λ old was. by_place placed.0 back (holds.logs i part placed.0 old there placed.1 was))
     where
-      by_place : (before : Place) → (is_away before → ⊥) → {old : Source L} → IsSourceOf reads lines available went opened i part (get_or r.available i 0) before old → IsSourceOf reads lines available went opened i part (get_or r.available i 0) at old
+      by_place : (before : Place) → (is_away before → ⊥) → {old : PartLog L} → IsPartLogOf reads lines available went opened i part (get_or r.available i 0) before old → IsPartLogOf reads lines available went opened i part (get_or r.available i 0) at old
       by_place before back was = record { stream = was.stream; number = was.number; log = λ here. was.log back }
 
   -- once the epoch is planned, what was made for it is what its tasks are to take

@@ -24,7 +24,7 @@ use Rattle.ssq_board.specs.Shown.{first}
 use Rattle.ssq_board.proofs.Lists.{nat_lt-not, nat_lt-is}
 use Rattle.ssq_ledger.specs.Shown.{Shown, IsLegal, IsInOrder, state, first_state, cuts_of, shelf_of, did}
 use Rattle.ssq_desk.specs.declared.desk.Load.{Load}
-use Rattle.ssq_desk.specs.declared.desk.Source.{Source}
+use Rattle.ssq_desk.specs.declared.desk.PartLog.{PartLog}
 use Rattle.ssq_desk.specs.declared.desk.Share.{Share}
 use Rattle.ssq_desk.specs.declared.desk.OutWork.{OutWork}
 use Rattle.ssq_desk.specs.declared.desk.Pending.{Pending}
@@ -136,7 +136,7 @@ pub record HasPlan {L S F : Type 0} (old new : Load L S F) (plan : Plan) : Type 
   pub plans_are : new.plans.items ≡ old.plans.items ++ plan ∷ []
   pub told_is : new.told ≡ old.told
   pub kept_is : new.kept ≡ old.kept
-  pub sources_are : new.sources.items ≡ old.sources.items
+  pub part_logs_are : new.part_logs.items ≡ old.part_logs.items
   pub shares_are : new.shares.items ≡ old.shares.items
   pub held_is : new.held.items ≡ old.held.items
   pub out_is : new.out ≡ old.out
@@ -171,17 +171,17 @@ module _ {D L S F : Type 0} (stores logs : Type 0) (history : D → History) (li
         rows_empty = work_is.rows_empty;
         commit_empty = work_is.commit_empty;
       } in
-      let all : IsMade (Owns stores logs history lines shown) written s cuts c load.sources.items made.sources.items made.shares.items work = record {
+      let all : IsMade (Owns stores logs history lines shown) written s cuts c load.part_logs.items made.part_logs.items made.shares.items work = record {
         begun = is_made.begun;
-        ready = ready_in (Owns stores logs history lines shown) written load.view.partitions s.job.partitions (length load.sources.items) (length (parts_in s)) (length load.held.items) (keeping_in s) made.shares.items whole.view.partitions whole.holds.parts whole.holds.keeping is_made.ready;
+        ready = ready_in (Owns stores logs history lines shown) written load.view.partitions s.job.partitions (length load.part_logs.items) (length (parts_in s)) (length load.held.items) (keeping_in s) made.shares.items whole.view.partitions whole.holds.parts whole.holds.keeping is_made.ready;
         out = out;
       } in
       let goes : IsTrue (follows (cuts c.front.planned) (next_ends r.cap c.ends r.available)) = subst (λ (from : Ends). IsTrue (follows from (next_ends r.cap c.ends r.available))) (sym b.ends) (next_follows r.cap c.ends r.available) in
       let stays : AreSameUpTo cuts later c.front.planned = λ e le. sym (ap (λ (x : Bool). if x then next_ends r.cap c.ends r.available else cuts e) (nat_lt-not c.front.planned e le)) in
-      let h = planned (stores × logs) (Owns stores logs history lines shown) lines available (LogWent logs lines available answers faults) shown.opening.logs.items written sealed s cuts r c load.sources.items made.sources.items made.shares.items work load.seen all b load.pending load.out load.shares.items load.held.items whole.holds in
-      let moved : HoldsIn stores logs history lines available answers faults written sealed shown (cuts_of (opening_in lines) (did shown disk (entry.Plan c.front.planned ∷ []))) core now.sources.items now.shares.items now.held.items now.out now.seen now.pending =
-      (let sources = sym has.sources_are in let shares = sym has.shares_are in let held = sym (has.held_is ∙ ap (λ (v : Vec (Option Held)). v.items) is_made.held_is) in let outs = sym (has.out_is ∙ is_made.work.1) in let seen = sym (has.seen_is ∙ is_made.seen_is) in let pending = sym (has.pending_is ∙ is_made.pending_is) in
-      transported (stores × logs) (Owns stores logs history lines shown) lines available (LogWent logs lines available answers faults) shown.opening.logs.items written sealed s r.available core _ _ _ _ _ _ _ _ _ _ _ _ _ _ (sym same) sources shares held outs seen pending h) in record {
+      let h = planned (stores × logs) (Owns stores logs history lines shown) lines available (LogWent logs lines available answers faults) shown.opening.logs.items written sealed s cuts r c load.part_logs.items made.part_logs.items made.shares.items work load.seen all b load.pending load.out load.shares.items load.held.items whole.holds in
+      let moved : HoldsIn stores logs history lines available answers faults written sealed shown (cuts_of (opening_in lines) (did shown disk (entry.Plan c.front.planned ∷ []))) core now.part_logs.items now.shares.items now.held.items now.out now.seen now.pending =
+      (let part_logs = sym has.part_logs_are in let shares = sym has.shares_are in let held = sym (has.held_is ∙ ap (λ (v : Vec (Option Held)). v.items) is_made.held_is) in let outs = sym (has.out_is ∙ is_made.work.1) in let seen = sym (has.seen_is ∙ is_made.seen_is) in let pending = sym (has.pending_is ∙ is_made.pending_is) in
+      transported (stores × logs) (Owns stores logs history lines shown) lines available (LogWent logs lines available answers faults) shown.opening.logs.items written sealed s r.available core _ _ _ _ _ _ _ _ _ _ _ _ _ _ (sym same) part_logs shares held outs seen pending h) in record {
         round = whole.round;
         view = subst (IsViewOf s) (sym (has.view_is ∙ is_made.view_is)) whole.view;
         holds = moved;
@@ -196,14 +196,14 @@ module _ {D L S F : Type 0} (stores logs : Type 0) (history : D → History) (li
       }
     where
       transported : {L S F : Type 0} (reads owned : Type 0) (lines : L → List Line) (available : L → ℕ) (went : L → L → Type 0) (opened : List L) (written : S → List ℕ) (sealed : F → List ℕ) (s : Setting) (found : List ℕ) (core : Core)
-          (cuts cuts' : Cuts) (sources sources' : List (Source L)) (shares shares' : List (Share S)) (held held' : List (Option Held)) (out out' : Option (OutWork S F)) (seen seen' : List (Option ℤ)) (pending pending' : Option (Pending F))
-          → cuts ≡ cuts' → sources ≡ sources' → shares ≡ shares' → held ≡ held' → out ≡ out' → seen ≡ seen' → pending ≡ pending'
-          → Holds reads owned lines available went opened written sealed s cuts found core sources shares held out seen pending → Holds reads owned lines available went opened written sealed s cuts' found core sources' shares' held' out' seen' pending'
-      transported {L} {S} {F} reads owned lines available went opened written sealed s found core cuts cuts' sources sources' shares shares' held held' out out' seen seen' pending pending' a b c k d e f h =
-          subst (λ (x : Cuts). Holds reads owned lines available went opened written sealed s x found core sources' shares' held' out' seen' pending') a
-          (subst (λ (x : List (Source _)). Holds reads owned lines available went opened written sealed s cuts found core x shares' held' out' seen' pending') b
-          (subst (λ (x : List (Share S)). Holds reads owned lines available went opened written sealed s cuts found core sources x held' out' seen' pending') c
-          (subst (λ (x : List (Option Held)). Holds reads owned lines available went opened written sealed s cuts found core sources shares x out' seen' pending') k
-          (subst (λ (x : Option (OutWork _ _)). Holds reads owned lines available went opened written sealed s cuts found core sources shares held x seen' pending') d
-          (subst (λ (x : List (Option ℤ)). Holds reads owned lines available went opened written sealed s cuts found core sources shares held out x pending') e
-          (subst (λ (x : Option (Pending _)). Holds reads owned lines available went opened written sealed s cuts found core sources shares held out seen x) f h))))))
+          (cuts cuts' : Cuts) (part_logs part_logs' : List (PartLog L)) (shares shares' : List (Share S)) (held held' : List (Option Held)) (out out' : Option (OutWork S F)) (seen seen' : List (Option ℤ)) (pending pending' : Option (Pending F))
+          → cuts ≡ cuts' → part_logs ≡ part_logs' → shares ≡ shares' → held ≡ held' → out ≡ out' → seen ≡ seen' → pending ≡ pending'
+          → Holds reads owned lines available went opened written sealed s cuts found core part_logs shares held out seen pending → Holds reads owned lines available went opened written sealed s cuts' found core part_logs' shares' held' out' seen' pending'
+      transported {L} {S} {F} reads owned lines available went opened written sealed s found core cuts cuts' part_logs part_logs' shares shares' held held' out out' seen seen' pending pending' a b c k d e f h =
+          subst (λ (x : Cuts). Holds reads owned lines available went opened written sealed s x found core part_logs' shares' held' out' seen' pending') a
+          (subst (λ (x : List (PartLog _)). Holds reads owned lines available went opened written sealed s cuts found core x shares' held' out' seen' pending') b
+          (subst (λ (x : List (Share S)). Holds reads owned lines available went opened written sealed s cuts found core part_logs x held' out' seen' pending') c
+          (subst (λ (x : List (Option Held)). Holds reads owned lines available went opened written sealed s cuts found core part_logs shares x out' seen' pending') k
+          (subst (λ (x : Option (OutWork _ _)). Holds reads owned lines available went opened written sealed s cuts found core part_logs shares held x seen' pending') d
+          (subst (λ (x : List (Option ℤ)). Holds reads owned lines available went opened written sealed s cuts found core part_logs shares held out x pending') e
+          (subst (λ (x : Option (Pending _)). Holds reads owned lines available went opened written sealed s cuts found core part_logs shares held out seen x) f h))))))

@@ -128,7 +128,7 @@ module _ {D L S F : Type 0} (stores logs : Type 0) (history : D → History) (li
       let more : Option Cause = due_stop (set shown.core.outs 0 (place.Back f)) in
       moved_whole stores logs history lines available answers faults written sealed shown load whole disk (entry.Report (out_id epoch) f) load (λ cuts c. refl) refl refl refl refl whole.told whole.told_room
       (λ stopped. faulty_by old more (λ e. whole.faulty e) (λ run is_due. absurd (no_log (out_stops shown.core.outs f cause.LogFault order.sound.outs is_due))) stopped)
-      (holds_out (stores × logs) (Owns stores logs history lines shown) lines available (LogWent logs lines available answers faults) shown.opening.logs.items written sealed s cuts shown.scope.available shown.core (or_stop old (if is_stopped old then None else more)) (place.Back f) load.sources.items load.shares.items load.shares.items load.held.items load.out load.out load.seen load.pending
+      (holds_out (stores × logs) (Owns stores logs history lines shown) lines available (LogWent logs lines available answers faults) shown.opening.logs.items written sealed s cuts shown.scope.available shown.core (or_stop old (if is_stopped old then None else more)) (place.Back f) load.part_logs.items load.shares.items load.shares.items load.held.items load.out load.out load.seen load.pending
       (runs_by old (if is_stopped old then None else more)) whole.holds back_waits refl
       (λ run opened. elim (whole.holds.epoch run opened).last [ inl waits ↦ absurd (waits_away (sym waits ∙ may.2)) | inr fine ↦ fine ])
       (still_by old more whole.holds.still (λ is_due. never_key (stores × logs) (Owns stores logs history lines shown) s cuts shown.core.front.committed cause.KeyOverflow (may_stop (stores × logs) (Owns stores logs history lines shown) s cuts shown.core.front.committed shown.scope shown.core f cause.KeyOverflow has (out_stops shown.core.outs f cause.KeyOverflow order.sound.outs is_due)) refl))
@@ -150,7 +150,7 @@ module _ {D L S F : Type 0} (stores logs : Type 0) (history : D → History) (li
   published_whole disk p may is =
       moved_whole stores logs history lines available answers faults written sealed shown load whole disk (entry.OutFile shown.core.front.committed) (with_pending load (Some p)) (λ cuts c. refl) refl refl refl refl whole.told whole.told_room (λ e. absurd (true≢false (sym (ap is_some e))))
       (holds_on (stores × logs) (Owns stores logs history lines shown) lines available (LogWent logs lines available answers faults) shown.opening.logs.items written sealed (setting_of lines shown.opening) (cuts_of (opening_in lines) shown) shown.scope.available shown.core shown.core.front.fresh false true
-      load.sources.items load.shares.items load.held.items load.out load.seen load.pending (Some p) whole.holds may.0 (λ opened written_is. (p, refl, is)))
+      load.part_logs.items load.shares.items load.held.items load.out load.seen load.pending (Some p) whole.holds may.0 (λ opened written_is. (p, refl, is)))
 
   -- so it is once they are to be published, or that failed
   pub after_rows : {E : Type 0} (now : Shown D (Round L)) (result : Result (Unit {0}) E) (risen : Type 0) (p : Pending F) → May shown.scope shown.core (entry.OutFile shown.core.front.committed) → IsCommitOf stores logs history lines sealed shown p

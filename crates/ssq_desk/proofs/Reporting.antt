@@ -28,7 +28,7 @@ use Rattle.ssq_board.specs.Laws.{IsCauseOf}
 use Rattle.ssq_board.proofs.Leasts.{cause_counts}
 use Rattle.ssq_board.proofs.Lists.{all_fine, at_length, there_at}
 use Rattle.ssq_terms.proofs.Showing.{are_quiet}
-use Rattle.ssq_desk.specs.declared.desk.Source.{Source}
+use Rattle.ssq_desk.specs.declared.desk.PartLog.{PartLog}
 use Rattle.std.proofs.lemmas.List.{get_or_default}
 use Rattle.std.proofs.lemmas.List.Elements.{All-filter}
 use Rattle.std.proofs.lemmas.Option.{same_Some}
@@ -88,28 +88,28 @@ first_between query (x ∷ parts) (from ∷ froms) (to ∷ tos) (suc p) part at 
     ∙ first_between query parts froms tos p part at (omega (arith, a)) (omega (arith, b)) there is (λ i q less here. before (suc i) q (omega (arith, less)) here)
 
 -- a part without a fault: it was read, or has no new lines
-good_of : {L : Type 0} (tells : Type 0) (query : Bound) (epoch : ℕ) (part : Part) (from to partitions : ℕ) (reduces : List Place) (at : Place) (source : Source L) → tells → is_here at ≡ true → ((f : Cause) → at ≡ place.Back (Some f) → ⊥)
-    → IsMapped tells query epoch part from to partitions reduces at source → fault_in query part from to ≡ None
-good_of tells query epoch part from to partitions reduces place.Rests source t here no_fault m = (are_quiet query part from to (m.quiet refl)).fault
-good_of tells query epoch part from to partitions reduces (place.Back None) source t here no_fault m = (m.brought refl).2.good t
-good_of tells query epoch part from to partitions reduces (place.Back (Some f)) source t here no_fault m = absurd (no_fault f refl)
-good_of tells query epoch part from to partitions reduces place.Waits source t here no_fault m = absurd (true≢false (sym here))
-good_of tells query epoch part from to partitions reduces place.Away source t here no_fault m = absurd (true≢false (sym here))
+good_of : {L : Type 0} (tells : Type 0) (query : Bound) (epoch : ℕ) (part : Part) (from to partitions : ℕ) (reduces : List Place) (at : Place) (part_log : PartLog L) → tells → is_here at ≡ true → ((f : Cause) → at ≡ place.Back (Some f) → ⊥)
+    → IsMapped tells query epoch part from to partitions reduces at part_log → fault_in query part from to ≡ None
+good_of tells query epoch part from to partitions reduces place.Rests part_log t here no_fault m = (are_quiet query part from to (m.quiet refl)).fault
+good_of tells query epoch part from to partitions reduces (place.Back None) part_log t here no_fault m = (m.brought refl).2.good t
+good_of tells query epoch part from to partitions reduces (place.Back (Some f)) part_log t here no_fault m = absurd (no_fault f refl)
+good_of tells query epoch part from to partitions reduces place.Waits part_log t here no_fault m = absurd (true≢false (sym here))
+good_of tells query epoch part from to partitions reduces place.Away part_log t here no_fault m = absurd (true≢false (sym here))
 
-module _ {L : Type 0} (tells : Type 0) (s : Setting) (cuts : Cuts) (e : ℕ) (reduces places : List Place) (sources : List (Source L)) where
+module _ {L : Type 0} (tells : Type 0) (s : Setting) (cuts : Cuts) (e : ℕ) (reduces places : List Place) (part_logs : List (PartLog L)) where
   -- all map tasks of an epoch
   abbrev pub AllMapped : Type 0
-  AllMapped = (i : ℕ) (part : Part) (at : Place) (source : Source L) → slice_get (parts_in s) i ≡ Some part → get_elem? places i ≡ some at → get_elem? sources i ≡ some source
-      → IsMapped tells s.job.bound e part (get_or (cut_of (cuts e)) i 0) (get_or (cut_of (cuts (e + 1))) i 0) s.job.partitions reduces at source
+  AllMapped = (i : ℕ) (part : Part) (at : Place) (part_log : PartLog L) → slice_get (parts_in s) i ≡ Some part → get_elem? places i ≡ some at → get_elem? part_logs i ≡ some part_log
+      → IsMapped tells s.job.bound e part (get_or (cut_of (cuts e)) i 0) (get_or (cut_of (cuts (e + 1))) i 0) s.job.partitions reduces at part_log
 
-  module _ (mapped : AllMapped) (each_place : length places ≡ length (parts_in s)) (each_source : length sources ≡ length (parts_in s)) (froms : length (cut_of (cuts e)) ≡ length (parts_in s)) (tos : length (cut_of (cuts (e + 1))) ≡ length (parts_in s)) where
+  module _ (mapped : AllMapped) (each_place : length places ≡ length (parts_in s)) (each_part_log : length part_logs ≡ length (parts_in s)) (froms : length (cut_of (cuts e)) ≡ length (parts_in s)) (tos : length (cut_of (cuts (e + 1))) ≡ length (parts_in s)) where
     -- what a task of the phase met is its own cause
     cause_at : (f : Cause) (p : ℕ) → get_elem? places p ≡ some (place.Back (Some f)) → (part : Part) × (slice_get (parts_in s) p ≡ Some part) × IsCauseIn tells s.job.bound part (get_or (cut_of (cuts e)) p 0) (get_or (cut_of (cuts (e + 1))) p 0) f
     cause_at f p here =
         let less = at_length places p (place.Back (Some f)) here in
         let part = part_there (parts_in s) p (omega (arith, less, each_place)) in
-        let source = there_at sources p (omega (arith, less, each_place, each_source)) in
-        (part.0, part.1, (mapped p part.0 (place.Back (Some f)) source.0 part.1 here source.1).fault f refl)
+        let part_log = there_at part_logs p (omega (arith, less, each_place, each_part_log)) in
+        (part.0, part.1, (mapped p part.0 (place.Back (Some f)) part_log.0 part.1 here part_log.1).fault f refl)
 
     -- a line's cause for which the phase stops is the epoch's fault
     line_stops : (f : Cause) (at : LineAt) → tells → line_of f ≡ Some at → is_of_epoch f ≡ true → (c : IsCauseOf places f) → (part : Part) → slice_get (parts_in s) c.place_of ≡ Some part
@@ -119,9 +119,9 @@ module _ {L : Type 0} (tells : Type 0) (s : Setting) (cuts : Cuts) (e : ℕ) (re
         let between = first_between s.job.bound (parts_in s) (cut_of (cuts e)) (cut_of (cuts (e + 1))) c.place_of part at froms tos there (found ∙ is)
         (λ i q less here. (
         let placed = there_at places i (let b = slice_below (parts_in s) i q here in omega (arith, b, each_place)) in
-        let source = there_at sources i (let b = slice_below (parts_in s) i q here in omega (arith, b, each_source)) in
-        good_of tells s.job.bound e q _ _ s.job.partitions reduces placed.0 source.0 t (all_fine is_here places i placed.0 all placed.1)
-        (λ g back. (let later = ((c.first line).1 i g (placed.1 ∙ ap some back)).1 in omega (arith, less, later))) (mapped i q placed.0 source.0 here placed.1 source.1))) in
+        let part_log = there_at part_logs i (let b = slice_below (parts_in s) i q here in omega (arith, b, each_part_log)) in
+        good_of tells s.job.bound e q _ _ s.job.partitions reduces placed.0 part_log.0 t (all_fine is_here places i placed.0 all placed.1)
+        (λ g back. (let later = ((c.first line).1 i g (placed.1 ∙ ap some back)).1 in omega (arith, less, later))) (mapped i q placed.0 part_log.0 here placed.1 part_log.1))) in
         ap (λ o. or_else (option_map of_line o) (option_map of_key (key_fault s.job.bound (parts_in s) (cuts_of cuts) e))) between
 
     -- The phase stops for a cause that a Stop of the desk may have.

@@ -37,13 +37,13 @@ use Rattle.ssq_board.proofs.Lists.{at_length, there_at, set_length, put_here, pu
 use Rattle.ssq_ledger.specs.Shown.{Shown, IsLegal, IsInOrder, cuts_of}
 use Rattle.ssq_terms.specs.Laws.{FaultsAreOfTasks}
 use Rattle.ssq_desk.specs.declared.desk.Load.{Load}
-use Rattle.ssq_desk.specs.declared.desk.Source.{Source}
+use Rattle.ssq_desk.specs.declared.desk.PartLog.{PartLog}
 use Rattle.ssq_desk.specs.declared.round.Round.{Round}
 use Rattle.ssq_desk.specs.Round.{setting_of, Owns}
 use Rattle.ssq_desk.specs.Tasks.{map_id}
 use Rattle.ssq_desk.specs.Handed.{IsMapOf}
 use Rattle.ssq_desk.specs.Results.{cause_of_feed, fault_of}
-use Rattle.ssq_desk.specs.Contents.{IsSourceOf, IsMapped, IsCauseIn, IsStopOf, key_in}
+use Rattle.ssq_desk.specs.Contents.{IsPartLogOf, IsMapped, IsCauseIn, IsStopOf, key_in}
 use Rattle.ssq_desk.specs.Closing.{HasFaulty}
 use Rattle.ssq_desk.specs.Whole.{IsWhole, HoldsIn, opening_in}
 use Rattle.ssq_desk.proofs.Holding.{holds_map, put_both, put_is}
@@ -82,7 +82,7 @@ back_rests f e = cc
 
 module _ {L : Type 0} (tells logs : Type 0) (lines : L → List Line) (available : L → ℕ) (answers : L → List ℕ) (faults : L → ℕ) (so : tells → logs) where
   -- what a desk keeps of a map task that is back
-  pub back_mapped : (query : Bound) (epoch : ℕ) (part : Part) (from to partitions : ℕ) (reduces : List Place) (before after : L) (outcome : Result FedRows FeedFault) (f : Option Cause) (x : Source L)
+  pub back_mapped : (query : Bound) (epoch : ℕ) (part : Part) (from to partitions : ℕ) (reduces : List Place) (before after : L) (outcome : Result FedRows FeedFault) (f : Option Cause) (x : PartLog L)
       → ((p : ℕ) → get_elem? reduces p ≡ some place.Waits → p < partitions) → (tells → lines before ≡ part.lines) → (tells → to ≤ available after)
       → x.from ≡ from → f ≡ fault_of (cause_of_feed part.stream part.part) outcome → IfOk outcome (λ fed. x.fed ≡ Some fed)
       → IfOk outcome (λ fed. IsFedFrom logs query epoch (record { stream = part.stream; part = part.part; lines = lines before }) from to partitions fed.time fed.buckets)
@@ -133,9 +133,9 @@ first_none : (o p : Option Cause) → or_stop o p ≡ None → o ≡ None
 first_none None p e = refl
 first_none (Some f) p e = e
 
--- the source whose log is with a worker
-pub old_source : {L : Type 0} (c : Core) (sources : List (Source L)) (i : ℕ) → length c.maps ≡ length sources → get_elem? c.maps i ≡ some place.Away → (old : Source L) × (get_elem? sources i ≡ some old)
-old_source c sources i each away = there_at sources i (let less = at_length c.maps i place.Away away in omega (arith, less, each))
+-- the part whose log is with a worker
+pub old_part_log : {L : Type 0} (c : Core) (part_logs : List (PartLog L)) (i : ℕ) → length c.maps ≡ length part_logs → get_elem? c.maps i ≡ some place.Away → (old : PartLog L) × (get_elem? part_logs i ≡ some old)
+old_part_log c part_logs i each away = there_at part_logs i (let less = at_length c.maps i place.Away away in omega (arith, less, each))
 
 is_logs : Option Cause → Bool
 is_logs (Some cause.LogFault) = true
@@ -210,11 +210,11 @@ module _ {D L S F : Type 0} (stores logs : Type 0) (history : D → History) (li
   map_right faulty opened t = back_own (stores × logs) logs lines available answers faults (λ both. both.1) (setting_of lines shown.opening) (cuts_of (opening_in lines) shown) shown.core.front.committed done.number of.part task.log done.log done.outcome
       (fault_of (cause_of_feed done.stream done.part) done.outcome) faulty back_here.there back_here.lines_are (back_here.enough opened) back_here.fault back_here.rows back_here.why (t.0, t.1.0)
 
-  -- where it is taken back, in place of this source
-  pub map_back : (old x : Source L) → (may : May shown.scope shown.core (entry.Report (map_id done.epoch done.number) (fault_of (cause_of_feed done.stream done.part) done.outcome))) → get_elem? load.sources.items done.number ≡ some old
+  -- where it is taken back, in place of this one
+  pub map_back : (old x : PartLog L) → (may : May shown.scope shown.core (entry.Report (map_id done.epoch done.number) (fault_of (cause_of_feed done.stream done.part) done.outcome))) → get_elem? load.part_logs.items done.number ≡ some old
       → x.stream ≡ old.stream → x.part ≡ old.part → x.from ≡ old.from → x.log ≡ Some done.log → IfOk done.outcome (λ fed. x.fed ≡ Some fed)
       → HoldsIn stores logs history lines available answers faults written sealed shown (cuts_of (opening_in lines) shown)
-      (after shown.scope shown.core (entry.Report (map_id done.epoch done.number) (fault_of (cause_of_feed done.stream done.part) done.outcome))) (set load.sources.items done.number x) load.shares.items load.held.items load.out load.seen load.pending
+      (after shown.scope shown.core (entry.Report (map_id done.epoch done.number) (fault_of (cause_of_feed done.stream done.part) done.outcome))) (set load.part_logs.items done.number x) load.shares.items load.held.items load.out load.seen load.pending
   map_back old x may here stream part from log fed =
       let s : Setting = setting_of lines shown.opening in
       let cuts : Cuts = cuts_of (opening_in lines) shown in
@@ -222,7 +222,7 @@ module _ {D L S F : Type 0} (stores logs : Type 0) (history : D → History) (li
       let f : Option Cause = fault_of (cause_of_feed done.stream done.part) done.outcome in
       let away : get_elem? c.maps done.number ≡ some place.Away = may.2 in
       let h : IsBackHere = back_here in
-      let source : (q : Part) → slice_get (parts_in s) done.number ≡ Some q → IsSourceOf (stores × logs) lines available (LogWent logs lines available answers faults) shown.opening.logs.items done.number q (get_or shown.scope.available done.number 0) (place.Back f) x = λ q there.
+      let part_log : (q : Part) → slice_get (parts_in s) done.number ≡ Some q → IsPartLogOf (stores × logs) lines available (LogWent logs lines available answers faults) shown.opening.logs.items done.number q (get_or shown.scope.available done.number 0) (place.Back f) x = λ q there.
       (let was = whole.holds.logs done.number q place.Away old there away here in
       let same = same_Some of.part q (sym h.there ∙ there) in record {
         stream = was.stream ∙ sym stream;
@@ -247,8 +247,8 @@ module _ {D L S F : Type 0} (stores logs : Type 0) (history : D → History) (li
       (back_mapped (stores × logs) logs lines available answers faults (λ both. both.1) s.job.bound c.front.committed of.part _ _ s.job.partitions c.reduces task.log done.log done.outcome f x
       (λ p waits. (let l = at_length c.reduces p place.Waits waits in let reduces = order.sound.reduces in let scoped = whole.round.partitions in omega (arith, l, reduces, scoped)))
       h.lines_are (h.enough opened) (from ∙ was.begins) h.fault fed h.rows h.why)) in
-      holds_map (stores × logs) (Owns stores logs history lines shown) lines available (LogWent logs lines available answers faults) shown.opening.logs.items written sealed s cuts shown.scope.available c (or_stop c.front.stop (due c (map_id done.epoch done.number) f)) done.number (place.Back f) x load.sources.items load.shares.items load.held.items load.out load.seen load.pending
-      (first_none c.front.stop (due c (map_id done.epoch done.number) f)) whole.holds source mapped (stills mapped c.front.stop refl) (stops mapped c.front.stop refl)
+      holds_map (stores × logs) (Owns stores logs history lines shown) lines available (LogWent logs lines available answers faults) shown.opening.logs.items written sealed s cuts shown.scope.available c (or_stop c.front.stop (due c (map_id done.epoch done.number) f)) done.number (place.Back f) x load.part_logs.items load.shares.items load.held.items load.out load.seen load.pending
+      (first_none c.front.stop (due c (map_id done.epoch done.number) f)) whole.holds part_log mapped (stills mapped c.front.stop refl) (stops mapped c.front.stop refl)
     where
       f : Option Cause
       f = fault_of (cause_of_feed done.stream done.part) done.outcome
@@ -262,13 +262,13 @@ module _ {D L S F : Type 0} (stores logs : Type 0) (history : D → History) (li
           let cuts : Cuts = cuts_of (opening_in lines) shown in
           let epoch = whole.holds.epoch run may.0 in
           let due_is : due_stop (set c.maps done.number (place.Back f)) ≡ Some g = sym (ap (λ o. or_stop o (if is_stopped o then None else due_stop (set c.maps done.number (place.Back f)))) run) ∙ e in
-          map_stops (stores × logs) s cuts c.front.committed c.reduces (set c.maps done.number (place.Back f)) (set load.sources.items done.number x)
+          map_stops (stores × logs) s cuts c.front.committed c.reduces (set c.maps done.number (place.Back f)) (set load.part_logs.items done.number x)
           (λ j part at own there place_is own_is.
           put_both (λ j at own. (part : Part) → slice_get (parts_in s) j ≡ Some part
-          → IsMapped (stores × logs) s.job.bound c.front.committed part (get_or (cut_of (cuts c.front.committed)) j 0) (get_or (cut_of (cuts (c.front.committed + 1))) j 0) s.job.partitions c.reduces at own) c.maps load.sources.items done.number (place.Back f) x
+          → IsMapped (stores × logs) s.job.bound c.front.committed part (get_or (cut_of (cuts c.front.committed)) j 0) (get_or (cut_of (cuts (c.front.committed + 1))) j 0) s.job.partitions c.reduces at own) c.maps load.part_logs.items done.number (place.Back f) x
           (λ j at own p o part there. epoch.mapped j part at own there p o) (mapped run may.0) j at own place_is own_is part there)
           (set_length c.maps done.number (place.Back f) ∙ order.sound.maps ∙ sym (parts_count stores logs history lines available answers faults written sealed shown load whole legal order))
-          (set_length load.sources.items done.number x ∙ whole.holds.parts)
+          (set_length load.part_logs.items done.number x ∙ whole.holds.parts)
           (length-map (cuts c.front.committed) (λ (e : PartEnd). e.end) ∙ epoch.froms)
           (tos_count stores logs history lines available answers faults written sealed shown load whole legal order may.0) (Owns stores logs history lines shown) g due_is
 
@@ -287,9 +287,9 @@ module _ {D L S F : Type 0} (stores logs : Type 0) (history : D → History) (li
       stills mapped None run e = absurd (due_stops mapped run cause.KeyOverflow e None)
 
   -- and where a log stopped the desk, that log counts a fault
-  pub map_faulty : (old x : Source L) → (may : May shown.scope shown.core (entry.Report (map_id done.epoch done.number) (fault_of (cause_of_feed done.stream done.part) done.outcome))) → get_elem? load.sources.items done.number ≡ some old → x.log ≡ Some done.log
+  pub map_faulty : (old x : PartLog L) → (may : May shown.scope shown.core (entry.Report (map_id done.epoch done.number) (fault_of (cause_of_feed done.stream done.part) done.outcome))) → get_elem? load.part_logs.items done.number ≡ some old → x.log ≡ Some done.log
       → (after shown.scope shown.core (entry.Report (map_id done.epoch done.number) (fault_of (cause_of_feed done.stream done.part) done.outcome))).front.stop ≡ Some cause.LogFault
-      → HasFaulty faults (set shown.core.maps done.number (place.Back (fault_of (cause_of_feed done.stream done.part) done.outcome))) (set load.sources.items done.number x)
+      → HasFaulty faults (set shown.core.maps done.number (place.Back (fault_of (cause_of_feed done.stream done.part) done.outcome))) (set load.part_logs.items done.number x)
   map_faulty old x may here log stopped = faulty_by shown.core.front.stop (due_stop (set shown.core.maps done.number (place.Back f))) before now stopped
     where
       f : Option Cause
@@ -298,20 +298,20 @@ module _ {D L S F : Type 0} (stores logs : Type 0) (history : D → History) (li
       not_both : some place.Away ≡ some (place.Back (Some cause.LogFault)) → ⊥
       not_both e = cc
 
-      before : shown.core.front.stop ≡ Some cause.LogFault → HasFaulty faults (set shown.core.maps done.number (place.Back f)) (set load.sources.items done.number x)
+      before : shown.core.front.stop ≡ Some cause.LogFault → HasFaulty faults (set shown.core.maps done.number (place.Back f)) (set load.part_logs.items done.number x)
       before e =
           let was = whole.faulty e in
           let other : was.at ≡ done.number → ⊥ = λ same. not_both (sym may.2 ∙ ap (λ k. get_elem? shown.core.maps k) (sym same) ∙ was.here) in record {
             at = was.at;
-            source = was.source;
+            part_log = was.part_log;
             log = was.log;
             here = put_else shown.core.maps done.number was.at (place.Back f) other ∙ was.here;
-            source_is = put_else load.sources.items done.number was.at x other ∙ was.source_is;
+            part_log_is = put_else load.part_logs.items done.number was.at x other ∙ was.part_log_is;
             log_is = was.log_is;
             counted = was.counted;
           }
 
-      now : shown.core.front.stop ≡ None → due_stop (set shown.core.maps done.number (place.Back f)) ≡ Some cause.LogFault → HasFaulty faults (set shown.core.maps done.number (place.Back f)) (set load.sources.items done.number x)
+      now : shown.core.front.stop ≡ None → due_stop (set shown.core.maps done.number (place.Back f)) ≡ Some cause.LogFault → HasFaulty faults (set shown.core.maps done.number (place.Back f)) (set load.part_logs.items done.number x)
       now run is_due =
           let c = cause_counts (set shown.core.maps done.number (place.Back f)) cause.LogFault is_due in
           elim (cases_eq c.place_of done.number) [
@@ -319,10 +319,10 @@ module _ {D L S F : Type 0} (stores logs : Type 0) (history : D → History) (li
                 let own : f ≡ Some cause.LogFault = ap fault_at (put_is shown.core.maps done.number (place.Back f) (place.Back (Some cause.LogFault))
                 (subst (λ (k : ℕ). get_elem? (set shown.core.maps done.number (place.Back f)) k ≡ some (place.Back (Some cause.LogFault))) same c.here)) in record {
                   at = done.number;
-                  source = x;
+                  part_log = x;
                   log = done.log;
                   here = put_here shown.core.maps done.number place.Away (place.Back f) may.2 ∙ ap (λ (o : Option Cause). some (place.Back o)) own;
-                  source_is = put_here load.sources.items done.number old x here;
+                  part_log_is = put_here load.part_logs.items done.number old x here;
                   log_is = log;
                   counted = log_counts logs lines available answers faults task.view.bound.now task.stream task.part task.from task.to task.log done.log done.stream done.part done.outcome own is.fault;
                 })

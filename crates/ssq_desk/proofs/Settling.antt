@@ -57,7 +57,7 @@ closed_then c near = nat_lt-not c.front.committed c.front.planned near
 
 -- with a commit that was published
 abbrev pub with_commit : {L S F : Type 0} → Load L S F → Pending F → Vec Told → Load L S F
-with_commit load p told = record { view = load.view; plans = load.plans; sources = load.sources; shares = load.shares; held = load.held; out = load.out; seen = p.seen; pending = None; told = told; kept = load.kept }
+with_commit load p told = record { view = load.view; plans = load.plans; part_logs = load.part_logs; shares = load.shares; held = load.held; out = load.out; seen = p.seen; pending = None; told = told; kept = load.kept }
 
 module _ {D L S F : Type 0} (stores logs : Type 0) (history : D → History) (lines : L → List Line) (available : L → ℕ) (answers : L → List ℕ) (faults : L → ℕ) (written : S → List ℕ) (sealed : F → List ℕ) (shown : Shown D (Round L)) (load : Load L S F)
     (whole : IsWhole stores logs history lines available answers faults written sealed shown load) (disk : D) where
@@ -66,7 +66,7 @@ module _ {D L S F : Type 0} (stores logs : Type 0) (history : D → History) (li
   synced_whole clock runs =
       moved_whole stores logs history lines available answers faults written sealed shown load whole disk (entry.Sync clock) load (λ cuts c. refl) refl refl refl refl whole.told whole.told_room (λ e. absurd (true≢false (sym (ap is_some e))))
       (holds_on (stores × logs) (Owns stores logs history lines shown) lines available (LogWent logs lines available answers faults) shown.opening.logs.items written sealed (setting_of lines shown.opening) (cuts_of (opening_in lines) shown) shown.scope.available shown.core true true shown.core.front.written
-      load.sources.items load.shares.items load.held.items load.out load.seen load.pending load.pending whole.holds runs (whole.holds.commit runs))
+      load.part_logs.items load.shares.items load.held.items load.out load.seen load.pending load.pending whole.holds runs (whole.holds.commit runs))
 
   -- the epoch is committed, and no other is planned
   pub committed_whole : (due : Bool) (p : Pending F) (told : Vec Told) → shown.core.front.stop ≡ None → is_open shown.core ≡ true → list_all is_fine shown.core.reduces ≡ true → shown.core.front.planned ≤ shown.core.front.committed + 1
@@ -116,12 +116,12 @@ module _ {D L S F : Type 0} (stores logs : Type 0) (history : D → History) (li
   pub after_commit : (now : Shown D (Round L)) (p : Pending F) (none : Option (Pending F)) (told : Vec Told) → shown.core.front.planned ≤ shown.core.front.committed + 1 → none ≡ None → load.pending ≡ Some p
       → ready_of shown.scope shown.core ≡ ready.Commit → ((due : Bool) × (now ≡ did shown now.disk (entry.Commit shown.core.front.committed due ∷ [])))
       → AreTold (Owns stores logs history lines shown) (setting_of lines shown.opening) (cuts_of (opening_in lines) shown) shown.opening.opened.committed (shown.core.front.committed + 1) told.items
-      → IsWhole stores logs history lines available answers faults written sealed now (record { view = load.view; plans = load.plans; sources = load.sources; shares = load.shares; held = load.held; out = load.out; seen = p.seen; pending = none; told = told; kept = load.kept })
+      → IsWhole stores logs history lines available answers faults written sealed now (record { view = load.view; plans = load.plans; part_logs = load.part_logs; shares = load.shares; held = load.held; out = load.out; seen = p.seen; pending = none; told = told; kept = load.kept })
   after_commit now p none told near none_is p_is next done are =
       let h = pending_here next in
       let own = subst (IsPending (Owns stores logs history lines shown) sealed (setting_of lines shown.opening) (cuts_of (opening_in lines) shown) shown.core.front.committed) (same_Some h.0 p (sym h.1 ∙ p_is)) h.2 in
-      subst (λ (x : Shown D (Round L)). IsWhole stores logs history lines available answers faults written sealed x (record { view = load.view; plans = load.plans; sources = load.sources; shares = load.shares; held = load.held; out = load.out; seen = p.seen; pending = none; told = told; kept = load.kept })) (sym done.1)
-      (subst (λ (o : Option (Pending F)). IsWhole stores logs history lines available answers faults written sealed (did shown now.disk (entry.Commit shown.core.front.committed done.0 ∷ [])) (record { view = load.view; plans = load.plans; sources = load.sources; shares = load.shares; held = load.held; out = load.out; seen = p.seen; pending = o; told = told; kept = load.kept })) (sym none_is)
+      subst (λ (x : Shown D (Round L)). IsWhole stores logs history lines available answers faults written sealed x (record { view = load.view; plans = load.plans; part_logs = load.part_logs; shares = load.shares; held = load.held; out = load.out; seen = p.seen; pending = none; told = told; kept = load.kept })) (sym done.1)
+      (subst (λ (o : Option (Pending F)). IsWhole stores logs history lines available answers faults written sealed (did shown now.disk (entry.Commit shown.core.front.committed done.0 ∷ [])) (record { view = load.view; plans = load.plans; part_logs = load.part_logs; shares = load.shares; held = load.held; out = load.out; seen = p.seen; pending = o; told = told; kept = load.kept })) (sym none_is)
       (let m = commit_may shown.scope shown.core false next in committed_whole stores logs history lines available answers faults written sealed shown load whole now.disk done.0 p told m.0 m.2 (commit_fine shown.scope shown.core next) near are own))
 
   -- its commit could not be published

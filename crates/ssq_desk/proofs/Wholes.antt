@@ -23,7 +23,7 @@ use Rattle.ssq_desk.specs.declared.round.Round.{Round}
 use Rattle.ssq_desk.specs.Round.{setting_of, Owns}
 use Rattle.std.specs.Global.{Vec}
 use Rattle.ssq_outside.specs.History.{History}
-use Rattle.ssq_desk.specs.declared.desk.Source.{Source}
+use Rattle.ssq_desk.specs.declared.desk.PartLog.{PartLog}
 use Rattle.ssq_desk.specs.declared.desk.Share.{Share}
 use Rattle.ssq_desk.specs.declared.desk.OutWork.{OutWork}
 use Rattle.ssq_desk.specs.declared.desk.Pending.{Pending}
@@ -33,7 +33,7 @@ use Rattle.ssq_desk.specs.Room.{AreBegun}
 use Rattle.ssq_desk.specs.Making.{IsUnmade, IsSameLoad, IsMadeFor}
 use Rattle.ssq_desk.specs.Tasks.{IsViewOf}
 use Rattle.ssq_desk.proofs.Holding.{holds_stopped}
-use Rattle.ssq_desk.proofs.Planned.{begun_source}
+use Rattle.ssq_desk.proofs.Planned.{begun_part_log}
 use Rattle.ssq_desk.specs.declared.told.Told.{Told}
 use Rattle.ssq_desk.specs.Closing.{AreTold, HasFaulty}
 use Rattle.ssq_desk.specs.Whole.{IsWhole, IsKept, HoldsIn, ArePlans, opening_in}
@@ -107,7 +107,7 @@ module _ {D O : Type 0} where
 
 -- with another commit that is to be published
 abbrev pub with_pending : {L S F : Type 0} → Load L S F → Option (Pending F) → Load L S F
-with_pending load pending = record { view = load.view; plans = load.plans; sources = load.sources; shares = load.shares; held = load.held; out = load.out; seen = load.seen; pending = pending; told = load.told; kept = load.kept }
+with_pending load pending = record { view = load.view; plans = load.plans; part_logs = load.part_logs; shares = load.shares; held = load.held; out = load.out; seen = load.seen; pending = pending; told = load.told; kept = load.kept }
 
 module _ {D L S F : Type 0} (stores logs : Type 0) (history : D → History) (lines : L → List Line) (available : L → ℕ) (answers : L → List ℕ) (faults : L → ℕ) (written : S → List ℕ) (sealed : F → List ℕ) (shown : Shown D (Round L)) (load : Load L S F)
     (whole : IsWhole stores logs history lines available answers faults written sealed shown load) where
@@ -117,7 +117,7 @@ module _ {D L S F : Type 0} (stores logs : Type 0) (history : D → History) (li
       let same : cuts_of (opening_in lines) (did shown disk []) ≡ cuts_of (opening_in lines) shown = ap (cuts_after (opening_in lines shown.opening) shown.scope) (append-nil shown.history) in record {
         round = whole.round;
         view = whole.view;
-        holds = subst (λ (cuts : Cuts). HoldsIn stores logs history lines available answers faults written sealed shown cuts shown.core load.sources.items load.shares.items load.held.items load.out load.seen load.pending) (sym same) whole.holds;
+        holds = subst (λ (cuts : Cuts). HoldsIn stores logs history lines available answers faults written sealed shown cuts shown.core load.part_logs.items load.shares.items load.held.items load.out load.seen load.pending) (sym same) whole.holds;
         plans = subst (λ (cuts : Cuts). ArePlans (Owns stores logs history lines shown) shown.opening.opened.plans (setting_of lines shown.opening) cuts shown.core.front.planned load.plans.items) (sym same) whole.plans;
         told = subst (λ (cuts : Cuts). AreTold (Owns stores logs history lines shown) (setting_of lines shown.opening) cuts shown.opening.opened.committed shown.core.front.committed load.told.items) (sym same) whole.told;
         told_room = whole.told_room;
@@ -135,8 +135,8 @@ module _ {D L S F : Type 0} (stores logs : Type 0) (history : D → History) (li
       let same : cuts_of (opening_in lines) (did shown disk (entry.Stop f ∷ [])) ≡ old = cuts_then (opening_in lines shown.opening) shown.scope shown.history (entry.Stop f) in record {
         round = whole.round;
         view = whole.view;
-        holds = subst (λ (cuts : Cuts). HoldsIn stores logs history lines available answers faults written sealed shown cuts (after shown.scope shown.core (entry.Stop f)) load.sources.items load.shares.items load.held.items load.out load.seen pending) (sym same)
-            (holds_stopped (stores × logs) (Owns stores logs history lines shown) lines available (LogWent logs lines available answers faults) shown.opening.logs.items written sealed s old shown.scope.available shown.core f load.sources.items load.shares.items load.held.items load.out load.seen pending
+        holds = subst (λ (cuts : Cuts). HoldsIn stores logs history lines available answers faults written sealed shown cuts (after shown.scope shown.core (entry.Stop f)) load.part_logs.items load.shares.items load.held.items load.out load.seen pending) (sym same)
+            (holds_stopped (stores × logs) (Owns stores logs history lines shown) lines available (LogWent logs lines available answers faults) shown.opening.logs.items written sealed s old shown.scope.available shown.core f load.part_logs.items load.shares.items load.held.items load.out load.seen pending
             h.parts h.partitions h.keeping h.logs h.dealt h.reduced h.keys right);
         plans = subst (λ (cuts : Cuts). ArePlans (Owns stores logs history lines shown) shown.opening.opened.plans s cuts shown.core.front.planned load.plans.items) (sym same) whole.plans;
         told = subst (λ (cuts : Cuts). AreTold (Owns stores logs history lines shown) s cuts shown.opening.opened.committed shown.core.front.committed load.told.items) (sym same) whole.told;
@@ -154,36 +154,36 @@ module _ {D L S F : Type 0} (stores logs : Type 0) (history : D → History) (li
       let cuts : Cuts = cuts_of (opening_in lines) shown in record {
         round = whole.round;
         view = subst (IsViewOf s) (sym same.view_is) whole.view;
-        holds = subst (λ (x : Vec (Source L)). HoldsIn stores logs history lines available answers faults written sealed shown cuts shown.core x.items now.shares.items now.held.items now.out now.seen now.pending) (sym same.sources_are)
-            (subst (λ (x : Vec (Share S)). HoldsIn stores logs history lines available answers faults written sealed shown cuts shown.core load.sources.items x.items now.held.items now.out now.seen now.pending) (sym same.shares_are)
-            (subst (λ (x : Vec (Option Held)). HoldsIn stores logs history lines available answers faults written sealed shown cuts shown.core load.sources.items load.shares.items x.items now.out now.seen now.pending) (sym same.held_is)
-            (subst (λ (x : Option (OutWork S F)). HoldsIn stores logs history lines available answers faults written sealed shown cuts shown.core load.sources.items load.shares.items load.held.items x now.seen now.pending) (sym same.out_is)
-            (subst (λ (x : List (Option ℤ)). HoldsIn stores logs history lines available answers faults written sealed shown cuts shown.core load.sources.items load.shares.items load.held.items load.out x now.pending) (sym same.seen_is)
-            (subst (λ (x : Option (Pending F)). HoldsIn stores logs history lines available answers faults written sealed shown cuts shown.core load.sources.items load.shares.items load.held.items load.out load.seen x) (sym same.pending_is) whole.holds)))));
+        holds = subst (λ (x : Vec (PartLog L)). HoldsIn stores logs history lines available answers faults written sealed shown cuts shown.core x.items now.shares.items now.held.items now.out now.seen now.pending) (sym same.part_logs_are)
+            (subst (λ (x : Vec (Share S)). HoldsIn stores logs history lines available answers faults written sealed shown cuts shown.core load.part_logs.items x.items now.held.items now.out now.seen now.pending) (sym same.shares_are)
+            (subst (λ (x : Vec (Option Held)). HoldsIn stores logs history lines available answers faults written sealed shown cuts shown.core load.part_logs.items load.shares.items x.items now.out now.seen now.pending) (sym same.held_is)
+            (subst (λ (x : Option (OutWork S F)). HoldsIn stores logs history lines available answers faults written sealed shown cuts shown.core load.part_logs.items load.shares.items load.held.items x now.seen now.pending) (sym same.out_is)
+            (subst (λ (x : List (Option ℤ)). HoldsIn stores logs history lines available answers faults written sealed shown cuts shown.core load.part_logs.items load.shares.items load.held.items load.out x now.pending) (sym same.seen_is)
+            (subst (λ (x : Option (Pending F)). HoldsIn stores logs history lines available answers faults written sealed shown cuts shown.core load.part_logs.items load.shares.items load.held.items load.out load.seen x) (sym same.pending_is) whole.holds)))));
         plans = subst (λ (x : List Plan). ArePlans (Owns stores logs history lines shown) shown.opening.opened.plans s cuts shown.core.front.planned x) (sym same.plans_are) whole.plans;
         told = subst (λ (x : List Told). AreTold (Owns stores logs history lines shown) s cuts shown.opening.opened.committed shown.core.front.committed x) (sym same.told_are) whole.told;
         told_room = λ opened. absurd (true≢false (sym opened ∙ closed));
-        faulty = λ e. subst (λ (x : Vec (Source L)). HasFaulty faults shown.core.maps x.items) (sym same.sources_are) (whole.faulty e);
+        faulty = λ e. subst (λ (x : Vec (PartLog L)). HasFaulty faults shown.core.maps x.items) (sym same.part_logs_are) (whole.faulty e);
         kept = subst (IsKept s shown.opening.opened) (sym same.kept_is) whole.kept;
       }
 
   -- what was made for an epoch that is not to come
   pub unplanned_whole : (disk : D) (f : Cause) (made now : Load L S F) (here : Vec PartEnd) → (f ≡ cause.LogFault → ⊥) → is_open shown.core ≡ false → IsMadeFor (Owns stores logs history lines shown) written shown.core.ends load made here
-      → now.view ≡ made.view → now.plans.items ≡ made.plans.items → now.sources.items ≡ made.sources.items → length now.shares.items ≡ length made.shares.items → now.held ≡ made.held → now.told.items ≡ made.told.items → now.kept ≡ made.kept
+      → now.view ≡ made.view → now.plans.items ≡ made.plans.items → now.part_logs.items ≡ made.part_logs.items → length now.shares.items ≡ length made.shares.items → now.held ≡ made.held → now.told.items ≡ made.told.items → now.kept ≡ made.kept
       → ((key : Option Values) → IsStopOf (stores × logs) (Owns stores logs history lines shown) (setting_of lines shown.opening) (cuts_of (opening_in lines) shown) shown.core.front.committed key f)
       → IsWhole stores logs history lines available answers faults written sealed (did shown disk (entry.Stop f ∷ [])) now
-  unplanned_whole disk f made now here no_log closed is view plans sources shares held told kept right =
+  unplanned_whole disk f made now here no_log closed is view plans part_logs shares held told kept right =
       let s : Setting = setting_of lines shown.opening in
       let old : Cuts = cuts_of (opening_in lines) shown in
       let same : cuts_of (opening_in lines) (did shown disk (entry.Stop f ∷ [])) ≡ old = cuts_then (opening_in lines shown.opening) shown.scope shown.history (entry.Stop f) in
-      let begun : AreBegun shown.core.ends load.sources.items now.sources.items = subst (λ (x : List (Source L)). AreBegun shown.core.ends load.sources.items x) (sym sources) is.begun in
-      let h = holds_stopped (stores × logs) (Owns stores logs history lines shown) lines available (LogWent logs lines available answers faults) shown.opening.logs.items written sealed s old shown.scope.available shown.core f now.sources.items now.shares.items now.held.items now.out now.seen now.pending
+      let begun : AreBegun shown.core.ends load.part_logs.items now.part_logs.items = subst (λ (x : List (PartLog L)). AreBegun shown.core.ends load.part_logs.items x) (sym part_logs) is.begun in
+      let h = holds_stopped (stores × logs) (Owns stores logs history lines shown) lines available (LogWent logs lines available answers faults) shown.opening.logs.items written sealed s old shown.scope.available shown.core f now.part_logs.items now.shares.items now.held.items now.out now.seen now.pending
       (begun.0 ∙ whole.holds.parts) (shares ∙ is.ready.count ∙ whole.view.partitions) (ap (λ (v : Vec (Option Held)). length v.items) (held ∙ is.held_is) ∙ whole.holds.keeping)
-      (λ i part at source there here mine. begun_source (stores × logs) lines available (LogWent logs lines available answers faults) shown.opening.logs.items shown.core.ends load.sources.items now.sources.items begun i part (get_or shown.scope.available i 0) at source mine (λ before was. whole.holds.logs i part at before there here was))
+      (λ i part at part_log there here mine. begun_part_log (stores × logs) lines available (LogWent logs lines available answers faults) shown.opening.logs.items shown.core.ends load.part_logs.items now.part_logs.items begun i part (get_or shown.scope.available i 0) at part_log mine (λ before was. whole.holds.logs i part at before there here was))
       (λ opened. absurd (true≢false (sym opened ∙ closed))) whole.holds.reduced (λ opened. absurd (true≢false (sym opened ∙ closed))) right in record {
         round = whole.round;
         view = subst (IsViewOf s) (sym (view ∙ is.view_is)) whole.view;
-        holds = subst (λ (cuts : Cuts). HoldsIn stores logs history lines available answers faults written sealed shown cuts (after shown.scope shown.core (entry.Stop f)) now.sources.items now.shares.items now.held.items now.out now.seen now.pending) (sym same) h;
+        holds = subst (λ (cuts : Cuts). HoldsIn stores logs history lines available answers faults written sealed shown cuts (after shown.scope shown.core (entry.Stop f)) now.part_logs.items now.shares.items now.held.items now.out now.seen now.pending) (sym same) h;
         plans = subst (λ (cuts : Cuts). ArePlans (Owns stores logs history lines shown) shown.opening.opened.plans s cuts shown.core.front.planned now.plans.items) (sym same) (subst (λ (x : List Plan). ArePlans (Owns stores logs history lines shown) shown.opening.opened.plans s old shown.core.front.planned x) (sym (plans ∙ is.plans_are)) whole.plans);
         told = subst (λ (cuts : Cuts). AreTold (Owns stores logs history lines shown) s cuts shown.opening.opened.committed shown.core.front.committed now.told.items) (sym same)
             (subst (λ (x : List Told). AreTold (Owns stores logs history lines shown) s old shown.opening.opened.committed shown.core.front.committed x) (sym (told ∙ is.told_are)) whole.told);

@@ -24,7 +24,7 @@ use Rattle.ssq_board.specs.declared.front.Place.{Place}
 use Rattle.ssq_board.specs.declared.front.Place.TheVariants as place
 use Rattle.ssq_board.specs.Core.{Core}
 use Rattle.ssq_board.specs.Shelf.{Shelf}
-use Rattle.ssq_desk.specs.declared.desk.Source.{Source}
+use Rattle.ssq_desk.specs.declared.desk.PartLog.{PartLog}
 use Rattle.ssq_desk.specs.declared.told.Told.{Told}
 use Rattle.ssq_desk.specs.Contents.{keeping_in}
 
@@ -49,13 +49,13 @@ pub record AreTold (owned : Type 0) (s : Setting) (cuts : Cuts) (first next : �
   pub each : (i : ℕ) (t : Told) → get_elem? told i ≡ some t → IsToldOf owned s cuts (first + i) t
 
 -- a map task met a fault of its log, and the log is back, which counts the fault
-pub record HasFaulty {L : Type 0} (faults : L → ℕ) (maps : List Place) (sources : List (Source L)) : Type 0 where
+pub record HasFaulty {L : Type 0} (faults : L → ℕ) (maps : List Place) (part_logs : List (PartLog L)) : Type 0 where
   pub at : ℕ
-  pub source : Source L
+  pub part_log : PartLog L
   pub log : L
   pub here : get_elem? maps at ≡ some (place.Back (Some cause.LogFault))
-  pub source_is : get_elem? sources at ≡ some source
-  pub log_is : source.log ≡ Some log
+  pub part_log_is : get_elem? part_logs at ≡ some part_log
+  pub log_is : part_log.log ≡ Some log
   pub counted : 0 < faults log
 
 -- the stores of what partitions keep, and their indexes, in order

@@ -33,7 +33,7 @@ use Rattle.ssq_board.specs.Core.{Core, is_open, is_fine, is_here}
 use Rattle.ssq_outside.specs.declared.name.Name.TheVariants as name
 use Rattle.ssq_terms.specs.Rows.{bucket_in, IsShownOf}
 use Rattle.ssq_terms.specs.Partitions.{HoldsStateOf, overflow_of}
-use Rattle.ssq_desk.specs.declared.desk.Source.{Source}
+use Rattle.ssq_desk.specs.declared.desk.PartLog.{PartLog}
 use Rattle.ssq_desk.specs.declared.desk.Share.{Share}
 use Rattle.ssq_desk.specs.declared.desk.OutWork.{OutWork}
 use Rattle.ssq_desk.specs.declared.desk.Pending.{Pending}
@@ -93,11 +93,11 @@ module _ {L : Type 0} (reads : Type 0) (lines : L → List Line) (available : L 
     pub before_is : get_elem? opened i ≡ some before
     pub has_gone : went before log
 
-  -- a source is the i-th part's, and has its log where no worker does
-  pub record IsSourceOf (i : ℕ) (part : Part) (found : ℕ) (at : Place) (source : Source L) : Type 0 where
-    pub stream : part.stream ≡ source.stream
-    pub number : part.part ≡ source.part
-    pub log : (is_away at → ⊥) → (own : L) × (source.log ≡ Some own) × IsLogOf i part found own
+  -- it is the i-th part's, and has its log where no worker does
+  pub record IsPartLogOf (i : ℕ) (part : Part) (found : ℕ) (at : Place) (part_log : PartLog L) : Type 0 where
+    pub stream : part.stream ≡ part_log.stream
+    pub number : part.part ≡ part_log.part
+    pub log : (is_away at → ⊥) → (own : L) × (part_log.log ≡ Some own) × IsLogOf i part found own
 
 -- What a map task of an epoch brought of the lines from one offset up to another: for each partition whose reduce task still waits the rows of its
 -- bucket, each of which a state can hold, and the greatest time; and none of the lines has a fault.
@@ -109,12 +109,12 @@ pub record IsBrought (reads : Type 0) (query : Bound) (epoch : ℕ) (part : Part
   pub good : reads → fault_in query part from to ≡ None
   pub rows : reads → (p : ℕ) → get_elem? reduces p ≡ some place.Waits → bucket_at fed.buckets p ≡ bucket_in query epoch partitions p part from to
 
--- what a source has of the epoch that runs, by the place of its map task
-pub record IsMapped {L : Type 0} (reads : Type 0) (query : Bound) (epoch : ℕ) (part : Part) (from to partitions : ℕ) (reduces : List Place) (at : Place) (source : Source L) : Type 0 where
-  pub begins : source.from ≡ from
+-- what the desk has of a part for the epoch that runs, by the place of its map task
+pub record IsMapped {L : Type 0} (reads : Type 0) (query : Bound) (epoch : ℕ) (part : Part) (from to partitions : ℕ) (reduces : List Place) (at : Place) (part_log : PartLog L) : Type 0 where
+  pub begins : part_log.from ≡ from
   pub quiet : at ≡ place.Rests → to ≤ from
-  pub none : at ≡ place.Rests → source.fed ≡ None
-  pub brought : at ≡ place.Back None → (fed : FedRows) × (source.fed ≡ Some fed) × IsBrought reads query epoch part from to partitions reduces fed
+  pub none : at ≡ place.Rests → part_log.fed ≡ None
+  pub brought : at ≡ place.Back None → (fed : FedRows) × (part_log.fed ≡ Some fed) × IsBrought reads query epoch part from to partitions reduces fed
   pub fault : (f : Cause) → at ≡ place.Back (Some f) → IsCauseIn reads query part from to f
 
 -- Why a reduce task brought nothing: a key overflows, the disk failed, or memory ran out.
@@ -196,10 +196,10 @@ pub record IsPending {F : Type 0} (owned : Type 0) (sealed : F → List ℕ) (s 
 
 module _ {L S F : Type 0} (reads owned : Type 0) (written : S → List ℕ) where
   -- What the tasks of the epoch that runs are to take, and what they brought.
-  pub record IsEpoch (s : Setting) (cuts : Cuts) (c : Core) (sources : List (Source L)) (shares : List (Share S)) (out : Option (OutWork S F)) : Type 0 where
+  pub record IsEpoch (s : Setting) (cuts : Cuts) (c : Core) (part_logs : List (PartLog L)) (shares : List (Share S)) (out : Option (OutWork S F)) : Type 0 where
     pub froms : length (cuts c.front.committed) ≡ length (parts_in s)
-    pub mapped : (i : ℕ) (part : Part) (at : Place) (source : Source L) → slice_get (parts_in s) i ≡ Some part → get_elem? c.maps i ≡ some at → get_elem? sources i ≡ some source
-        → IsMapped reads s.job.bound c.front.committed part (get_or (cut_of (cuts c.front.committed)) i 0) (get_or (cut_of (cuts (c.front.committed + 1))) i 0) s.job.partitions c.reduces at source
+    pub mapped : (i : ℕ) (part : Part) (at : Place) (part_log : PartLog L) → slice_get (parts_in s) i ≡ Some part → get_elem? c.maps i ≡ some at → get_elem? part_logs i ≡ some part_log
+        → IsMapped reads s.job.bound c.front.committed part (get_or (cut_of (cuts c.front.committed)) i 0) (get_or (cut_of (cuts (c.front.committed + 1))) i 0) s.job.partitions c.reduces at part_log
     pub shared : get_elem? c.outs 0 ≡ some place.Waits → (p : ℕ) (at : Place) (share : Share S) → get_elem? c.reduces p ≡ some at → get_elem? shares p ≡ some share → IsShare owned written s cuts c.front.committed p at share
     -- the out task is the last: once it is claimed all reduce tasks are back
     pub last : (get_elem? c.outs 0 ≡ some place.Waits) ⊎ (list_all is_fine c.reduces ≡ true)
@@ -207,12 +207,12 @@ module _ {L S F : Type 0} (reads owned : Type 0) (written : S → List ℕ) wher
 
 module _ {L S F : Type 0} (reads owned : Type 0) (lines : L → List Line) (available : L → ℕ) (went : L → L → Type 0) (opened : List L) (written : S → List ℕ) (sealed : F → List ℕ) where
   -- What a desk holds. As long as it runs, this is what its tasks need.
-  pub record Holds (s : Setting) (cuts : Cuts) (found : List ℕ) (c : Core) (sources : List (Source L)) (shares : List (Share S)) (held : List (Option Held)) (out : Option (OutWork S F)) (times : List (Option ℤ)) (pending : Option (Pending F)) : Type 0 where
-    pub parts : length sources ≡ length (parts_in s)
+  pub record Holds (s : Setting) (cuts : Cuts) (found : List ℕ) (c : Core) (part_logs : List (PartLog L)) (shares : List (Share S)) (held : List (Option Held)) (out : Option (OutWork S F)) (times : List (Option ℤ)) (pending : Option (Pending F)) : Type 0 where
+    pub parts : length part_logs ≡ length (parts_in s)
     pub partitions : length shares ≡ s.job.partitions
     pub keeping : length held ≡ keeping_in s
-    pub logs : (i : ℕ) (part : Part) (at : Place) (source : Source L) → slice_get (parts_in s) i ≡ Some part → get_elem? c.maps i ≡ some at → get_elem? sources i ≡ some source
-        → IsSourceOf reads lines available went opened i part (get_or found i 0) at source
+    pub logs : (i : ℕ) (part : Part) (at : Place) (part_log : PartLog L) → slice_get (parts_in s) i ≡ Some part → get_elem? c.maps i ≡ some at → get_elem? part_logs i ≡ some part_log
+        → IsPartLogOf reads lines available went opened i part (get_or found i 0) at part_log
     -- each partition has its task in the epoch that runs; what it met is one of the causes of a reduce task, and where it is a key it is told
     pub dealt : is_open c ≡ true → (p : ℕ) → get_elem? c.reduces p ≡ some place.Rests → ⊥
     pub reduced : (p : ℕ) (f : Cause) → get_elem? c.reduces p ≡ some (place.Back (Some f)) → IsReducedCause f
@@ -221,6 +221,6 @@ module _ {L S F : Type 0} (reads owned : Type 0) (lines : L → List Line) (avai
     pub still : c.front.stop ≡ Some cause.KeyOverflow → list_all is_here c.reduces ≡ true
     pub kept : c.front.stop ≡ None → (p : ℕ) (at : Place) (own : Option Held) → get_elem? c.reduces p ≡ some at → get_elem? held p ≡ some own → IsHeldAt owned s cuts (is_open c) c.front.committed p at own
     pub seen_so_far : c.front.stop ≡ None → AreSeen owned s cuts c.front.committed times
-    pub epoch : c.front.stop ≡ None → is_open c ≡ true → IsEpoch reads owned written s cuts c sources shares out
+    pub epoch : c.front.stop ≡ None → is_open c ≡ true → IsEpoch reads owned written s cuts c part_logs shares out
     pub commit : c.front.stop ≡ None → is_open c ≡ true → c.front.written ≡ true → (p : Pending F) × (pending ≡ Some p) × IsPending owned sealed s cuts c.front.committed p
     pub stop : (f : Cause) → c.front.stop ≡ Some f → IsStopOf reads owned s cuts c.front.committed (key_in shares) f

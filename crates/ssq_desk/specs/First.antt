@@ -17,7 +17,7 @@ use Rattle.ssq_board.specs.declared.front.Entry.TheVariants as entry
 use Rattle.ssq_board.specs.Core.{Scope}
 use Rattle.ssq_board.specs.Shown.{first}
 use Rattle.ssq_ledger.specs.Shown.{Shown, HasRisen, did}
-use Rattle.ssq_desk.specs.declared.desk.Source.{Source}
+use Rattle.ssq_desk.specs.declared.desk.PartLog.{PartLog}
 use Rattle.ssq_desk.specs.declared.desk.Share.{Share}
 use Rattle.ssq_desk.specs.declared.desk.OutWork.{OutWork}
 use Rattle.ssq_desk.specs.declared.first.Begun.{Begun}
@@ -29,11 +29,11 @@ use Rattle.ssq_desk.specs.Round.{start_at}
 use Rattle.ssq_desk.specs.Whole.{opening_in}
 
 -- the parts with their logs, each beginning where it ends so far
-abbrev pub sources_of : {L : Type 0} → List PartEnd → List PartEnd → List L → List (Source L)
-sources_of [] ends logs = []
-sources_of (part ∷ parts) [] logs = []
-sources_of (part ∷ parts) (end ∷ ends) [] = []
-sources_of (part ∷ parts) (end ∷ ends) (log ∷ logs) = record { stream = part.stream; part = part.part; from = end.end; log = Some log; fed = None } ∷ sources_of parts ends logs
+abbrev pub part_logs_of : {L : Type 0} → List PartEnd → List PartEnd → List L → List (PartLog L)
+part_logs_of [] ends logs = []
+part_logs_of (part ∷ parts) [] logs = []
+part_logs_of (part ∷ parts) (end ∷ ends) [] = []
+part_logs_of (part ∷ parts) (end ∷ ends) (log ∷ logs) = record { stream = part.stream; part = part.part; from = end.end; log = Some log; fed = None } ∷ part_logs_of parts ends logs
 
 -- what partitions keep: each store with its index
 abbrev pub held_of : List Store → List (List Timed) → List (Option Held)
@@ -48,8 +48,8 @@ pub record AreIndexes (owned : Type 0) (bound : Bound) (stores : List Store) (cl
 
 -- there is room for so many logs, streams and stores
 pub record HasRooms {L : Type 0} (logs streams stores : ℕ) (rooms : Rooms L) : Type 0 where
-  pub no_sources : rooms.sources.items ≡ []
-  pub sources_room : logs ≤ vec_capacity rooms.sources
+  pub no_part_logs : rooms.part_logs.items ≡ []
+  pub part_logs_room : logs ≤ vec_capacity rooms.part_logs
   pub no_told : rooms.told.items ≡ []
   pub told_room : 0 < vec_capacity rooms.told
   pub no_lines : rooms.lines.items ≡ []

@@ -8,7 +8,7 @@ use Rattle.ssq_meaning.specs.Epochs.{joined}
 use Rattle.ssq_feed.specs.declared.task.FedRows.{FedRows}
 use Rattle.ssq_task.specs.declared.partition.Held.{Held}
 use Rattle.ssq_task.specs.declared.partition.State.{State}
-use Rattle.ssq_desk.specs.declared.desk.Source.{Source}
+use Rattle.ssq_desk.specs.declared.desk.PartLog.{PartLog}
 
 -- what a reduce task gets of its partition: what the partition keeps, with its file aside
 abbrev pub state_with : {S : Type 0} → Option Held → Option S → Option (State S)
@@ -16,8 +16,8 @@ state_with (Some held) (Some stage) = Some (record { held = held; stage = stage 
 state_with (Some held) None = None
 state_with None stage = None
 
--- a bucket was taken out of what a source has, or it had none
-pub record IsTaken {L : Type 0} (p : ℕ) (old new : Source L) : Type 0 where
+-- a bucket was taken out of what was fed of a part, or nothing was
+pub record IsTaken {L : Type 0} (p : ℕ) (old new : PartLog L) : Type 0 where
   pub stream_is : new.stream ≡ old.stream
   pub part_is : new.part ≡ old.part
   pub from_is : new.from ≡ old.from
@@ -25,45 +25,45 @@ pub record IsTaken {L : Type 0} (p : ℕ) (old new : Source L) : Type 0 where
   pub none : old.fed ≡ None → new.fed ≡ None
   pub taken : (fed : FedRows) → old.fed ≡ Some fed → (left : FedRows) × (new.fed ≡ Some left) × (left.time ≡ fed.time) × (left.buckets ≡ set fed.buckets p [])
 
--- the bucket of a partition in what a source has
+-- the bucket of a partition in what was fed of a part
 abbrev pub bucket_in_fed : ℕ → Option FedRows → List FedRow
 bucket_in_fed p None = []
 bucket_in_fed p (Some fed) = bucket_at fed.buckets p
 
--- what a source has can be apart by so many partitions
-abbrev pub HasBucket : {L : Type 0} → ℕ → Source L → Type 0
-HasBucket p source = IfSome source.fed (λ fed. p < length fed.buckets)
+-- what was fed of a part can be apart by so many partitions
+abbrev pub HasBucket : {L : Type 0} → ℕ → PartLog L → Type 0
+HasBucket p part_log = IfSome part_log.fed (λ fed. p < length fed.buckets)
 
--- the greatest time of what a source has
+-- the greatest time of what was fed of a part
 abbrev pub time_of : Option FedRows → Option ℤ
 time_of None = None
 time_of (Some fed) = fed.time
 
 -- the time is one of a line
-abbrev pub HasLineTime : {L : Type 0} → Source L → Type 0
-HasLineTime source = IfSome (time_of source.fed) IsLineTime
+abbrev pub HasLineTime : {L : Type 0} → PartLog L → Type 0
+HasLineTime part_log = IfSome (time_of part_log.fed) IsLineTime
 
 module _ {L : Type 0} where
-  -- from each source the bucket was taken
-  abbrev pub AreTaken : ℕ → List (Source L) → List (Source L) → Type 0
+  -- from each part the bucket was taken
+  abbrev pub AreTaken : ℕ → List (PartLog L) → List (PartLog L) → Type 0
   AreTaken p [] [] = Unit {0}
   AreTaken p [] (new ∷ news) = ⊥
   AreTaken p (old ∷ olds) [] = ⊥
   AreTaken p (old ∷ olds) (new ∷ news) = IsTaken p old new × AreTaken p olds news
 
-  -- each source is of one of the first so many streams, and its greatest time is one of a line
-  abbrev pub CanRaise : ℕ → List (Source L) → Type 0
+  -- each part is of one of the first so many streams, and its greatest time is one of a line
+  abbrev pub CanRaise : ℕ → List (PartLog L) → Type 0
   CanRaise streams [] = Unit {0}
-  CanRaise streams (source ∷ sources) = (source.stream < streams) × HasLineTime source × CanRaise streams sources
+  CanRaise streams (part_log ∷ part_logs) = (part_log.stream < streams) × HasLineTime part_log × CanRaise streams part_logs
 
-  -- the buckets of a partition, source by source
-  abbrev pub buckets_in : ℕ → List (Source L) → List FedRow
-  buckets_in p sources = joined (map (λ source. bucket_in_fed p source.fed) sources)
+  -- the buckets of a partition, part by part
+  abbrev pub buckets_in : ℕ → List (PartLog L) → List FedRow
+  buckets_in p part_logs = joined (map (λ part_log. bucket_in_fed p part_log.fed) part_logs)
 
-  -- the greatest time of what a source has, where it is one of this stream
-  abbrev pub time_of_source : ℕ → Source L → Option ℤ
-  time_of_source stream source = if source.stream == stream then time_of source.fed else None
+  -- the greatest time of what was fed of a part, where that is one of this stream
+  abbrev pub time_of_part_log : ℕ → PartLog L → Option ℤ
+  time_of_part_log stream part_log = if part_log.stream == stream then time_of part_log.fed else None
 
-  -- the greatest time of a stream among what the sources have
-  abbrev pub time_in_sources : ℕ → List (Source L) → Option ℤ
-  time_in_sources stream sources = greatest (map (time_of_source stream) sources)
+  -- the greatest time of a stream among what was fed of the parts
+  abbrev pub time_in_part_logs : ℕ → List (PartLog L) → Option ℤ
+  time_in_part_logs stream part_logs = greatest (map (time_of_part_log stream) part_logs)

@@ -38,7 +38,7 @@ module _ {L S F : Type 0} where
     pub plans_are : new.plans.items ≡ old.plans.items
     pub told_are : new.told.items ≡ old.told.items
     pub kept_is : new.kept ≡ old.kept
-    pub sources_are : new.sources ≡ old.sources
+    pub part_logs_are : new.part_logs ≡ old.part_logs
     pub shares_are : new.shares ≡ old.shares
     pub held_is : new.held ≡ old.held
     pub out_is : new.out ≡ old.out
@@ -53,7 +53,7 @@ module _ {L S F : Type 0} where
     pub rows_empty : owned → written work.stages.rows ≡ []
     pub commit_empty : owned → written work.stages.commit ≡ []
 
-  -- Each source begins where its part ends so far, the partitions and the out task have their room, and there is room for the plan, whose
+  -- Each part begins where it ends so far, the partitions and the out task have their room, and there is room for the plan, whose
   -- ends are to be put here, and to tell of the epoch.
   pub record IsMadeFor (owned : Type 0) (written : S → List ℕ) (ends : List PartEnd) (old new : Load L S F) (here : Vec PartEnd) : Type 0 where
     pub view_is : new.view ≡ old.view
@@ -62,8 +62,8 @@ module _ {L S F : Type 0} where
     pub told_are : new.told.items ≡ old.told.items
     pub told_room : length new.told.items < vec_capacity new.told
     pub kept_is : new.kept ≡ old.kept
-    pub begun : AreBegun ends old.sources.items new.sources.items
-    pub ready : AreReady owned written old.view.partitions (length old.sources.items) (length old.held.items) new.shares.items
+    pub begun : AreBegun ends old.part_logs.items new.part_logs.items
+    pub ready : AreReady owned written old.view.partitions (length old.part_logs.items) (length old.held.items) new.shares.items
     pub held_is : new.held ≡ old.held
     pub work : (w : OutWork S F) × (new.out ≡ Some w) × IsWorkFor owned written old w
     pub seen_is : new.seen ≡ old.seen

@@ -1,7 +1,7 @@
 -- What is made for an epoch before its plan is published.
 use Rattle.std.specs.Prelude.{◌≡◌, ◌≤◌, ◌<◌, ℕ, ℤ, List, [], ◌∷◌, length, get_or, All, Option, None, IsSomeAnd, vec_capacity}
 use Rattle.ssq_plans.specs.declared.part.PartEnd.{PartEnd}
-use Rattle.ssq_desk.specs.declared.desk.Source.{Source}
+use Rattle.ssq_desk.specs.declared.desk.PartLog.{PartLog}
 use Rattle.ssq_desk.specs.declared.desk.Share.{Share}
 use Rattle.ssq_desk.specs.declared.room.Room.{Room}
 
@@ -37,8 +37,8 @@ pub record HasRoom {S : Type 0} (partitions parts : ℕ) (times : List (Option �
   pub rows_room : partitions ≤ vec_capacity room.rows
   pub times_are : room.seen ≡ times
 
--- a source begins at this offset, nothing was brought of it yet, and all else of it is as it was
-pub record IsBegun {L : Type 0} (offset : ℕ) (old new : Source L) : Type 0 where
+-- a part begins at this offset, nothing was brought of it yet, and all else of it is as it was
+pub record IsBegun {L : Type 0} (offset : ℕ) (old new : PartLog L) : Type 0 where
   pub from_is : new.from ≡ offset
   pub nothing : new.fed ≡ None
   pub stream_is : new.stream ≡ old.stream
@@ -46,9 +46,9 @@ pub record IsBegun {L : Type 0} (offset : ℕ) (old new : Source L) : Type 0 whe
   pub log_is : new.log ≡ old.log
 
 -- it begins at the end of the part at this place
-abbrev pub BeginsAt : {L : Type 0} → List PartEnd → ℕ → Source L → Source L → Type 0
+abbrev pub BeginsAt : {L : Type 0} → List PartEnd → ℕ → PartLog L → PartLog L → Type 0
 BeginsAt ends i old new = (end : PartEnd) → IsBegun (get_or ends i end).end old new
 
 -- each begins at the end of its part
-abbrev pub AreBegun : {L : Type 0} → List PartEnd → List (Source L) → List (Source L) → Type 0
-AreBegun {L} ends olds news = (length news ≡ length olds) × ((i : ℕ) (source : Source L) → i < length olds → BeginsAt ends i (get_or olds i source) (get_or news i source))
+abbrev pub AreBegun : {L : Type 0} → List PartEnd → List (PartLog L) → List (PartLog L) → Type 0
+AreBegun {L} ends olds news = (length news ≡ length olds) × ((i : ℕ) (part_log : PartLog L) → i < length olds → BeginsAt ends i (get_or olds i part_log) (get_or news i part_log))

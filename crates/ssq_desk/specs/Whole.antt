@@ -17,7 +17,7 @@ use Rattle.ssq_board.specs.declared.front.Cause.TheVariants as cause
 use Rattle.ssq_board.specs.Core.{Core, is_open}
 use Rattle.ssq_desk.specs.declared.desk.Kept.{Kept}
 use Rattle.ssq_desk.specs.declared.desk.Load.{Load}
-use Rattle.ssq_desk.specs.declared.desk.Source.{Source}
+use Rattle.ssq_desk.specs.declared.desk.PartLog.{PartLog}
 use Rattle.ssq_desk.specs.declared.desk.Share.{Share}
 use Rattle.ssq_desk.specs.declared.desk.OutWork.{OutWork}
 use Rattle.ssq_desk.specs.declared.desk.Pending.{Pending}
@@ -56,10 +56,10 @@ opening_in lines round = opening_of (setting_of lines round) round.opened
 
 module _ {D L S F : Type 0} (stores logs : Type 0) (history : D → History) (lines : L → List Line) (available : L → ℕ) (answers : L → List ℕ) (faults : L → ℕ) (written : S → List ℕ) (sealed : F → List ℕ) where
   -- what the desk of a round holds, with these cuts
-  abbrev pub HoldsIn : Shown D (Round L) → Cuts → Core → List (Source L) → List (Share S) → List (Option Held) → Option (OutWork S F) → List (Option ℤ) → Option (Pending F) → Type 0
-  HoldsIn shown cuts core sources shares held out times pending =
+  abbrev pub HoldsIn : Shown D (Round L) → Cuts → Core → List (PartLog L) → List (Share S) → List (Option Held) → Option (OutWork S F) → List (Option ℤ) → Option (Pending F) → Type 0
+  HoldsIn shown cuts core part_logs shares held out times pending =
       Holds (stores × logs) (Owns stores logs history lines shown) lines available (LogWent logs lines available answers faults) shown.opening.logs.items written sealed (setting_of lines shown.opening) cuts shown.scope.available core
-      sources shares held out times pending
+      part_logs shares held out times pending
 
   -- What was opened is in order, the load is that of the ledger, and it has the plans of all planned epochs. What is said of lines, and of
   -- what map tasks bring, holds where disk and logs tell what they hold; all else that is said of contents, where also what was opened is
@@ -67,11 +67,11 @@ module _ {D L S F : Type 0} (stores logs : Type 0) (history : D → History) (li
   pub record IsWhole (shown : Shown D (Round L)) (load : Load L S F) : Type 0 where
     pub round : IsRound (setting_of lines shown.opening) shown.opening.opened shown.scope
     pub view : IsViewOf (setting_of lines shown.opening) load.view
-    pub holds : HoldsIn shown (cuts_of (opening_in lines) shown) shown.core load.sources.items load.shares.items load.held.items load.out load.seen load.pending
+    pub holds : HoldsIn shown (cuts_of (opening_in lines) shown) shown.core load.part_logs.items load.shares.items load.held.items load.out load.seen load.pending
     pub plans : ArePlans (Owns stores logs history lines shown) shown.opening.opened.plans (setting_of lines shown.opening) (cuts_of (opening_in lines) shown) shown.core.front.planned load.plans.items
     -- each epoch that was committed is told, and there is room for the one that runs
     pub told : AreTold (Owns stores logs history lines shown) (setting_of lines shown.opening) (cuts_of (opening_in lines) shown) shown.opening.opened.committed shown.core.front.committed load.told.items
     pub told_room : is_open shown.core ≡ true → length load.told.items < vec_capacity load.told
     -- where a log stopped it, that log counts a fault
-    pub faulty : shown.core.front.stop ≡ Some cause.LogFault → HasFaulty faults shown.core.maps load.sources.items
+    pub faulty : shown.core.front.stop ≡ Some cause.LogFault → HasFaulty faults shown.core.maps load.part_logs.items
     pub kept : IsKept (setting_of lines shown.opening) shown.opening.opened load.kept

@@ -10,7 +10,7 @@ ghost use Rattle.ssq_board.specs.Core.{ready_of};
 ghost use Rattle.ssq_ledger.specs.Shown.{HasRisen, did};
 ghost use Rattle.ssq_desk.specs.Closing.{lines_between};
 
-use crate::desk::{Desk, Load, Pending, Source};
+use crate::desk::{Desk, Load, PartLog, Pending};
 use crate::due::is_due;
 use crate::told::Told;
 use ssq_board::Cause;
@@ -66,14 +66,14 @@ fn take_pending<F: Drop>(pending: &mut Option<Pending<F>>) -> Pending<F>
     own
 }
 
-/// How many lines lie between the offsets where the sources begin and these ends.
-fn lines_between<L: Log>(sources: &[Source<L>], ends: &[PartEnd]) -> u64
-    requires { lines_between (map (λ source. source.from) sources.now) (map (λ end. end.end) ends.now) < 2 ^ 64 }
-    ensures { result ≡ lines_between (map (λ source. source.from) sources.now) (map (λ end. end.end) ends.now) }
+/// How many lines lie between the offsets where the parts begin and these ends.
+fn lines_between<L: Log>(part_logs: &[PartLog<L>], ends: &[PartEnd]) -> u64
+    requires { lines_between (map (λ part_log. part_log.from) part_logs.now) (map (λ end. end.end) ends.now) < 2 ^ 64 }
+    ensures { result ≡ lines_between (map (λ part_log. part_log.from) part_logs.now) (map (λ end. end.end) ends.now) }
 {
-    match (sources.split_first(), ends.split_first()) {
-        (Some((source, sources)), Some((end, ends))) => {
-            end.end.saturating_sub(source.from) + lines_between(sources, ends)
+    match (part_logs.split_first(), ends.split_first()) {
+        (Some((part_log, part_logs)), Some((end, ends))) => {
+            end.end.saturating_sub(part_log.from) + lines_between(part_logs, ends)
         }
         _ => 0,
     }
@@ -87,15 +87,15 @@ fn tell<'a, L: Log, S: Stage>(
     rows: u64,
 ) -> Told
     requires plan { epoch < length load.now.plans.items }
-    requires few { lines_between (map (λ source. source.from) load.now.sources.items) (map (λ end. end.end) ends.now) < 2 ^ 64 }
+    requires few { lines_between (map (λ part_log. part_log.from) load.now.part_logs.items) (map (λ end. end.end) ends.now) < 2 ^ 64 }
     ensures epoch { result.epoch ≡ epoch }
-    ensures lines { result.lines ≡ lines_between (map (λ source. source.from) load.now.sources.items) (map (λ end. end.end) ends.now) }
+    ensures lines { result.lines ≡ lines_between (map (λ part_log. part_log.from) load.now.part_logs.items) (map (λ end. end.end) ends.now) }
     ensures rows { result.rows ≡ rows }
     ensures watermark { (default : _) → result.watermark ≡ (get_or load.now.plans.items epoch default).watermark }
 {
     Told {
         epoch,
-        lines: lines_between(load.sources.as_slice(), ends),
+        lines: lines_between(load.part_logs.as_slice(), ends),
         watermark: load.plans[epoch as usize].watermark,
         rows,
     }

@@ -50,9 +50,9 @@ impl<'a, D: Disk, L: Log> Desk<'a, D, L> {
         self.ledger.is_in_order();
         let number = id.number as usize;
         let to = self.ledger.ends()[number].end;
-        let source = &mut self.load.sources[number];
-        let (stream, part, from) = (source.stream, source.part, source.from);
-        let log = take_log(source);
+        let part_log = &mut self.load.part_logs[number];
+        let (stream, part, from) = (part_log.stream, part_log.part, part_log.from);
+        let log = take_log(part_log);
         self.ledger.claim(id);
         MapTask {
             view: self.load.view,
@@ -83,7 +83,7 @@ impl<'a, D: Disk, L: Log> Desk<'a, D, L> {
         let share = &mut self.load.shares[number];
         let stage = take_stage(share);
         let mut rows = take_room(self.alloc, share);
-        take_buckets(self.alloc, &mut self.load.sources, id.number, &mut rows);
+        take_buckets(self.alloc, &mut self.load.part_logs, id.number, &mut rows);
         self.ledger.claim(id);
         ReduceTask {
             view: self.load.view,
@@ -114,7 +114,7 @@ impl<'a, D: Disk, L: Log> Desk<'a, D, L> {
             stages,
         } = work;
         take_rows(self.alloc, &mut self.load.shares, &mut rows);
-        raise_all(&mut seen, self.load.sources.as_slice());
+        raise_all(&mut seen, self.load.part_logs.as_slice());
         self.ledger.claim(id);
         OutTask {
             view: self.load.view,

@@ -20,7 +20,7 @@ ghost use Rattle.ssq_desk.specs.Whole.{opening_in};
 ghost use Rattle.ssq_desk.specs.First.{AreIndexes};
 ghost use Rattle.ssq_desk.specs.Closing.{AreTold, IsNext, closings_in, stores_in};
 
-use crate::desk::{Desk, Kept, Load, Source};
+use crate::desk::{Desk, Kept, Load, PartLog};
 use crate::keys::take_key;
 use crate::told::Told;
 use ssq_board::{Cause, Entry, Front, Ready};
@@ -60,29 +60,29 @@ pub struct Closed<D: Disk, L: Log> {
     pub next: Option<NextRound>,
 }
 
-/// Takes the log of a source over.
-fn take_over<L: Log>(logs: &mut Vec<L>, source: Source<L>)
+/// Takes the log of a part over.
+fn take_over<L: Log>(logs: &mut Vec<L>, part_log: PartLog<L>)
     requires room { length logs.old.items < vec_capacity logs.old }
-    requires there { IsSome source.log }
-    ensures taken { (own : _) × (source.log ≡ Some own) × (logs.new.items ≡ logs.old.items ++ own ∷ []) }
+    requires there { IsSome part_log.log }
+    ensures taken { (own : _) × (part_log.log ≡ Some own) × (logs.new.items ≡ logs.old.items ++ own ∷ []) }
     ensures capacity { vec_capacity logs.new ≡ vec_capacity logs.old }
 {
-    let Source { log, .. } = source;
+    let PartLog { log, .. } = part_log;
     if let Some(log) = log {
         logs.push_reserved(log);
     }
 }
 
-/// The logs of the sources, in the room that was made for them.
-fn logs_of<L: Log>(room: Vec<L>, sources: Vec<Source<L>>) -> Vec<L>
+/// The logs of the parts, in the room that was made for them.
+fn logs_of<L: Log>(room: Vec<L>, part_logs: Vec<PartLog<L>>) -> Vec<L>
     requires none { room.items ≡ [] }
-    requires fits { length sources.items ≤ vec_capacity room }
-    requires there { All (λ source. IsSome source.log) sources.items }
-    ensures { map (λ log. Some log) result.items ≡ map (λ source. source.log) sources.items }
+    requires fits { length part_logs.items ≤ vec_capacity room }
+    requires there { All (λ part_log. IsSome part_log.log) part_logs.items }
+    ensures { map (λ log. Some log) result.items ≡ map (λ part_log. part_log.log) part_logs.items }
 {
     let mut logs = room;
-    for source in sources {
-        take_over(&mut logs, source);
+    for part_log in part_logs {
+        take_over(&mut logs, part_log);
     }
     logs
 }
@@ -265,7 +265,7 @@ impl<'a, D: Disk, L: Log> Desk<'a, D, L> {
         let Load {
             view,
             plans,
-            sources,
+            part_logs,
             mut shares,
             held,
             seen,
@@ -287,7 +287,7 @@ impl<'a, D: Disk, L: Log> Desk<'a, D, L> {
         );
         Closed {
             disk,
-            logs: logs_of(logs, sources),
+            logs: logs_of(logs, part_logs),
             history,
             told,
             stop: front.stop,

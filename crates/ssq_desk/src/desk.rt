@@ -15,9 +15,9 @@ use ssq_water::Seen;
 use std::alloc::Global;
 use std::marker::Model;
 
-/// A part of a stream.
+/// A part of a stream, with its log and what was fed of it.
 #[derive(Drop)]
-pub(crate) struct Source<L: Log> {
+pub(crate) struct PartLog<L: Log> {
     pub(crate) stream: u32,
     pub(crate) part: u32,
     /// The offset of the first line that the epoch that runs has of it.
@@ -82,7 +82,8 @@ pub(crate) struct Load<'a, L: Log, S: Stage> {
     pub(crate) view: View<'a>,
     /// The plans of all planned epochs.
     pub(crate) plans: Vec<Plan>,
-    pub(crate) sources: Vec<Source<L>>,
+    /// The parts of the streams, stream by stream.
+    pub(crate) part_logs: Vec<PartLog<L>>,
     pub(crate) shares: Vec<Share<S>>,
     /// What each partition that keeps state keeps, where no worker has it.
     pub(crate) held: Vec<Option<Held>>,

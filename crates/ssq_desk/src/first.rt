@@ -6,9 +6,9 @@ ghost use Rattle.ssq_open.specs.Epochs.{cut_of};
 ghost use Rattle.ssq_water.specs.Water.{HasDelays, seen_at};
 ghost use Rattle.ssq_desk.specs.Round.{is_due, mark_of};
 ghost use Rattle.ssq_task.specs.Committing.{told};
-ghost use Rattle.ssq_desk.specs.First.{sources_of, held_of, HasRooms, IsBegunOn, IsMadeOf};
+ghost use Rattle.ssq_desk.specs.First.{part_logs_of, held_of, HasRooms, IsBegunOn, IsMadeOf};
 
-use crate::desk::Source;
+use crate::desk::PartLog;
 use crate::due::is_due;
 use crate::room::{Room, make_room};
 use crate::told::Told;
@@ -28,7 +28,7 @@ use std::alloc::{AllocError, Global};
 #[derive(Drop)]
 pub(crate) struct Rooms<L: Log> {
     /// For the parts with their logs.
-    pub(crate) sources: Vec<Source<L>>,
+    pub(crate) part_logs: Vec<PartLog<L>>,
     /// To tell of one epoch.
     pub(crate) told: Vec<Told>,
     /// For the greatest times of the watermarked streams.
@@ -145,7 +145,7 @@ fn make_rooms<L: Log>(
 ) -> Result<Rooms<L>, AllocError>
     ensures { IfOk result (HasRooms logs streams stores) }
 {
-    let sources = Vec::with_capacity(alloc, logs)?;
+    let part_logs = Vec::with_capacity(alloc, logs)?;
     let told = Vec::with_capacity(alloc, 1)?;
     let lines = Vec::with_capacity(alloc, streams)?;
     let logs = Vec::with_capacity(alloc, logs)?;
@@ -153,7 +153,7 @@ fn make_rooms<L: Log>(
     let closings = Vec::with_capacity(alloc, stores)?;
     let stores = Vec::with_capacity(alloc, stores)?;
     Ok(Rooms {
-        sources,
+        part_logs,
         told,
         lines,
         logs,
@@ -214,21 +214,21 @@ pub(crate) fn with_closings(
 
 /// The parts with their logs, in the room that was made for them.
 pub(crate) fn with_logs<L: Log>(
-    room: Vec<Source<L>>,
+    room: Vec<PartLog<L>>,
     parts: &[PartEnd],
     ends: &[PartEnd],
     logs: Vec<L>,
-) -> Vec<Source<L>>
+) -> Vec<PartLog<L>>
     requires none { room.items ≡ [] }
     requires fits { length logs.items ≤ vec_capacity room }
     requires parts { length parts.now ≡ length logs.items }
     requires ends { length ends.now ≡ length logs.items }
-    ensures { result.items ≡ sources_of parts.now ends.now logs.items }
+    ensures { result.items ≡ part_logs_of parts.now ends.now logs.items }
 {
-    let mut sources = room;
+    let mut part_logs = room;
     for log in logs {
-        let at = sources.as_slice().len();
-        sources.push_reserved(Source {
+        let at = part_logs.as_slice().len();
+        part_logs.push_reserved(PartLog {
             stream: parts[at].stream,
             part: parts[at].part,
             from: ends[at].end,
@@ -236,5 +236,5 @@ pub(crate) fn with_logs<L: Log>(
             fed: None,
         });
     }
-    sources
+    part_logs
 }

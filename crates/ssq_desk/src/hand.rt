@@ -5,9 +5,9 @@ ghost use Rattle.ssq_time.specs.Time.{IsLineTime};
 ghost use Rattle.ssq_water.specs.Water.{seen_at};
 ghost use Rattle.ssq_task.specs.Lists.{joined_vecs};
 ghost use Rattle.ssq_meaning.specs.Times.{later};
-ghost use Rattle.ssq_desk.specs.Handing.{state_with, IsTaken, AreTaken, HasBucket, HasLineTime, CanRaise, bucket_in_fed, buckets_in, time_of_source, time_in_sources};
+ghost use Rattle.ssq_desk.specs.Handing.{state_with, IsTaken, AreTaken, HasBucket, HasLineTime, CanRaise, bucket_in_fed, buckets_in, time_of_part_log, time_in_part_logs};
 
-use crate::desk::{Share, Source};
+use crate::desk::{PartLog, Share};
 use ssq_meaning::FedRow;
 use ssq_outside::Log;
 use ssq_task::{Held, State};
@@ -16,13 +16,13 @@ use ssq_water::{Seen, raise};
 use std::alloc::Global;
 use std::mem;
 
-/// Takes the log of a source out.
-pub(crate) fn take_log<L: Log>(source: &mut Source<L>) -> L
-    requires { (own : _) × (source.old.log ≡ Some own) }
-    ensures log { source.old.log ≡ Some result }
-    ensures rest { source.new ≡ record { stream = source.old.stream; part = source.old.part; from = source.old.from; log = None; fed = source.old.fed } }
+/// Takes the log of a part out.
+pub(crate) fn take_log<L: Log>(part_log: &mut PartLog<L>) -> L
+    requires { (own : _) × (part_log.old.log ≡ Some own) }
+    ensures log { part_log.old.log ≡ Some result }
+    ensures rest { part_log.new ≡ record { stream = part_log.old.stream; part = part_log.old.part; from = part_log.old.from; log = None; fed = part_log.old.fed } }
 {
-    let Some(log) = mem::replace(&mut source.log, None) else {
+    let Some(log) = mem::replace(&mut part_log.log, None) else {
         unreachable!()
     };
     log
@@ -66,68 +66,68 @@ pub(crate) fn state_with<S: Drop>(held: Option<Held>, stage: Option<S>) -> Optio
     }
 }
 
-/// Takes the bucket of a partition out of what a source has.
+/// Takes the bucket of a partition out of what was fed of a part.
 fn take_bucket<L: Log>(
     alloc: Global,
-    source: &mut Source<L>,
+    part_log: &mut PartLog<L>,
     partition: u32,
     into: &mut Vec<Vec<FedRow>>,
 )
     requires room { length into.old.items < vec_capacity into.old }
-    requires below { HasBucket partition source.old }
-    ensures taken { IsTaken partition source.old source.new }
-    ensures rows { joined_vecs into.new.items ≡ joined_vecs into.old.items ++ bucket_in_fed partition source.old.fed }
+    requires below { HasBucket partition part_log.old }
+    ensures taken { IsTaken partition part_log.old part_log.new }
+    ensures rows { joined_vecs into.new.items ≡ joined_vecs into.old.items ++ bucket_in_fed partition part_log.old.fed }
     ensures len { length into.new.items ≤ length into.old.items + 1 }
     ensures capacity { vec_capacity into.new ≡ vec_capacity into.old }
 {
-    if let Some(fed) = &mut source.fed {
+    if let Some(fed) = &mut part_log.fed {
         into.push_reserved(fed.buckets.take(alloc, partition));
     }
 }
 
-/// Takes the bucket of a partition out of what each source has.
+/// Takes the bucket of a partition out of what was fed of each part.
 pub(crate) fn take_buckets<L: Log>(
     alloc: Global,
-    sources: &mut [Source<L>],
+    part_logs: &mut [PartLog<L>],
     partition: u32,
     into: &mut Vec<Vec<FedRow>>,
 )
-    requires room { length into.old.items + length sources.old ≤ vec_capacity into.old }
-    requires below { All (HasBucket partition) sources.old }
-    ensures taken { AreTaken partition sources.old sources.new }
-    ensures rows { joined_vecs into.new.items ≡ joined_vecs into.old.items ++ buckets_in partition sources.old }
+    requires room { length into.old.items + length part_logs.old ≤ vec_capacity into.old }
+    requires below { All (HasBucket partition) part_logs.old }
+    ensures taken { AreTaken partition part_logs.old part_logs.new }
+    ensures rows { joined_vecs into.new.items ≡ joined_vecs into.old.items ++ buckets_in partition part_logs.old }
 {
-    let Some((source, rest)) = sources.split_first_mut() else {
+    let Some((part_log, rest)) = part_logs.split_first_mut() else {
         return;
     };
-    take_bucket(alloc, source, partition, into);
+    take_bucket(alloc, part_log, partition, into);
     take_buckets(alloc, rest, partition, into);
 }
 
-/// Takes in the greatest time of what a source has.
-fn raise_one<L: Log>(seen: &mut Seen, source: &Source<L>)
-    requires stream { source.now.stream < length seen.old }
-    requires years { HasLineTime source.now }
-    ensures times { (stream : ℕ) → seen_at seen.new stream ≡ later (seen_at seen.old stream) (time_of_source stream source.now) }
+/// Takes in the greatest time of what was fed of a part.
+fn raise_one<L: Log>(seen: &mut Seen, part_log: &PartLog<L>)
+    requires stream { part_log.now.stream < length seen.old }
+    requires years { HasLineTime part_log.now }
+    ensures times { (stream : ℕ) → seen_at seen.new stream ≡ later (seen_at seen.old stream) (time_of_part_log stream part_log.now) }
     ensures streams { length seen.new ≡ length seen.old }
 {
-    if let Some(fed) = &source.fed {
+    if let Some(fed) = &part_log.fed {
         if let Some(time) = fed.time {
-            raise(seen, source.stream, time);
+            raise(seen, part_log.stream, time);
         }
     }
 }
 
-/// Takes in the greatest time of what each source has.
-pub(crate) fn raise_all<L: Log>(seen: &mut Seen, sources: &[Source<L>])
-    requires { CanRaise (length seen.old) sources.now }
-    ensures times { (stream : ℕ) → seen_at seen.new stream ≡ later (seen_at seen.old stream) (time_in_sources stream sources.now) }
+/// Takes in the greatest time of what was fed of each part.
+pub(crate) fn raise_all<L: Log>(seen: &mut Seen, part_logs: &[PartLog<L>])
+    requires { CanRaise (length seen.old) part_logs.now }
+    ensures times { (stream : ℕ) → seen_at seen.new stream ≡ later (seen_at seen.old stream) (time_in_part_logs stream part_logs.now) }
     ensures streams { length seen.new ≡ length seen.old }
 {
-    let Some((source, rest)) = sources.split_first() else {
+    let Some((part_log, rest)) = part_logs.split_first() else {
         return;
     };
-    raise_one(seen, source);
+    raise_one(seen, part_log);
     raise_all(seen, rest);
 }
 

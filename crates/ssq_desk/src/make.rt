@@ -22,14 +22,14 @@ fn room_for<'a, L: Log, S: Stage>(
     ensures same { IsSameLoad load.old load.new }
     ensures plan { OnOk result (length load.new.plans.items < vec_capacity load.new.plans) }
     ensures told { OnOk result (length load.new.told.items < vec_capacity load.new.told) }
-    ensures room { IfOk result (λ room. HasRoom load.old.view.partitions (length load.old.sources.items) load.old.seen room) }
+    ensures room { IfOk result (λ room. HasRoom load.old.view.partitions (length load.old.part_logs.items) load.old.seen room) }
 {
     load.plans.reserve(1)?;
     load.told.reserve(1)?;
     make_room(
         alloc,
         load.view.partitions,
-        load.sources.as_slice().len(),
+        load.part_logs.as_slice().len(),
         &load.seen,
     )
 }
@@ -41,11 +41,11 @@ fn put<'a, D: Disk, L: Log>(
     shares: Vec<Share<D::Stage>>,
     work: OutWork<D::Stage>,
 )
-    requires each { length load.old.sources.items ≡ length ends.now }
-    ensures begun { AreBegun ends.now load.old.sources.items load.new.sources.items }
-    ensures rest { load.new ≡ record { view = load.old.view; plans = load.old.plans; sources = load.new.sources; shares = shares; held = load.old.held; out = Some work; seen = load.old.seen; pending = load.old.pending; told = load.old.told; kept = load.old.kept } }
+    requires each { length load.old.part_logs.items ≡ length ends.now }
+    ensures begun { AreBegun ends.now load.old.part_logs.items load.new.part_logs.items }
+    ensures rest { load.new ≡ record { view = load.old.view; plans = load.old.plans; part_logs = load.new.part_logs; shares = shares; held = load.old.held; out = Some work; seen = load.old.seen; pending = load.old.pending; told = load.old.told; kept = load.old.kept } }
 {
-    begin_at(&mut load.sources, ends);
+    begin_at(&mut load.part_logs, ends);
     load.shares = shares;
     load.out = Some(work);
 }
@@ -58,7 +58,7 @@ pub(crate) fn make<'a, D: Disk, O: Opening, L: Log>(
     ledger: &mut Ledger<D, O>,
     load: &mut Load<'a, L, D::Stage>,
 ) -> Result<Vec<PartEnd>, Cause>
-    requires each { length load.old.sources.items ≡ length ledger.old.core.ends }
+    requires each { length load.old.part_logs.items ≡ length ledger.old.core.ends }
     ensures did { ledger.new ≡ did ledger.old ledger.new.disk [] }
     ensures same { D.tells → D.history ledger.new.disk ≡ D.history ledger.old.disk }
     ensures counted { D.faults ledger.old.disk ≤ D.faults ledger.new.disk }
@@ -91,7 +91,7 @@ pub(crate) fn drop_files<'a, D: Disk, O: Opening, L: Log>(
     ensures same { D.tells → D.history ledger.new.disk ≡ D.history ledger.old.disk }
     ensures counted { D.faults ledger.old.disk ≤ D.faults ledger.new.disk }
     ensures count { length load.new.shares.items ≡ length load.old.shares.items }
-    ensures kept { load.new ≡ record { view = load.old.view; plans = load.old.plans; sources = load.old.sources; shares = load.new.shares; held = load.old.held; out = None; seen = load.old.seen; pending = load.old.pending; told = load.old.told; kept = load.old.kept } }
+    ensures kept { load.new ≡ record { view = load.old.view; plans = load.old.plans; part_logs = load.old.part_logs; shares = load.new.shares; held = load.old.held; out = None; seen = load.old.seen; pending = load.old.pending; told = load.old.told; kept = load.old.kept } }
 {
     if let Some(work) = mem::replace(&mut load.out, None) {
         let OutWork { stages, .. } = work;

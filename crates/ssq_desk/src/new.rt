@@ -89,7 +89,7 @@ impl<'a, D: Disk, L: Log> Desk<'a, D, L> {
             }
         };
         let Rooms {
-            sources,
+            part_logs,
             told,
             lines,
             logs: room_for_logs,
@@ -97,7 +97,7 @@ impl<'a, D: Disk, L: Log> Desk<'a, D, L> {
             stores: room_for_stores,
             closings: room_for_closings,
         } = rooms;
-        let sources = with_logs(sources, parts.as_slice(), ends.as_slice(), logs);
+        let part_logs = with_logs(part_logs, parts.as_slice(), ends.as_slice(), logs);
         let Room {
             mut shares,
             rows,
@@ -120,7 +120,7 @@ impl<'a, D: Disk, L: Log> Desk<'a, D, L> {
             load: Load {
                 view,
                 plans: plans.into_vec(),
-                sources,
+                part_logs,
                 shares,
                 held,
                 out,

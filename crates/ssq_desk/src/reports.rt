@@ -95,9 +95,9 @@ impl<'a, D: Disk, L: Log> Desk<'a, D, L> {
             ..
         } = done;
         let (fed, fault) = split_fed(stream, part, outcome);
-        let source = &mut self.load.sources[number as usize];
-        source.log = Some(log);
-        source.fed = fed;
+        let part_log = &mut self.load.part_logs[number as usize];
+        part_log.log = Some(log);
+        part_log.fed = fed;
         self.ledger.report(
             TaskId {
                 epoch,

@@ -5,7 +5,7 @@ ghost use Rattle.ssq_outside.specs.Faults.{Rises};
 ghost use Rattle.ssq_ledger.specs.Shown.{did};
 ghost use Rattle.ssq_desk.specs.Room.{IsFresh, AreBegun, AreStaged, HasRoom};
 
-use crate::desk::{Share, Source};
+use crate::desk::{PartLog, Share};
 use ssq_ledger::{Ledger, Opening};
 use ssq_meaning::FedRow;
 use ssq_outside::{Disk, DiskError, Log, Stage};
@@ -191,13 +191,13 @@ pub(crate) fn discard_deltas<D: Disk, O: Opening>(
     discard_deltas(ledger, rest);
 }
 
-/// Each source begins at the end of its part, and nothing was brought of it yet.
-pub(crate) fn begin_at<L: Log>(sources: &mut [Source<L>], ends: &[PartEnd])
-    requires { length sources.old ≡ length ends.now }
-    ensures { AreBegun ends.now sources.old sources.new }
+/// Each part begins at its end here, and nothing was brought of it yet.
+pub(crate) fn begin_at<L: Log>(part_logs: &mut [PartLog<L>], ends: &[PartEnd])
+    requires { length part_logs.old ≡ length ends.now }
+    ensures { AreBegun ends.now part_logs.old part_logs.new }
 {
-    for (at, source) in sources.iter_mut().enumerate() {
-        source.from = ends[at].end;
-        source.fed = None;
+    for (at, part_log) in part_logs.iter_mut().enumerate() {
+        part_log.from = ends[at].end;
+        part_log.fed = None;
     }
 }

@@ -2,8 +2,8 @@ use Rattle.ssq_desk.proofs.first.make_rooms.Goals as goal
 
 pub returns : goal.returns
 returns g c = record {
-  no_sources = c.in_ok-sources.ensures.items;
-  sources_room = c.in_ok-sources.ensures.capacity;
+  no_part_logs = c.in_ok-part_logs.ensures.items;
+  part_logs_room = c.in_ok-part_logs.ensures.capacity;
   no_told = c.in_ok-told.ensures.items;
   told_room = c.in_ok-told.ensures.capacity;
   no_lines = c.in_ok-lines.ensures.items;

@@ -7,4 +7,4 @@ abbrev pub invariant-loop-log : goal.invariant-loop-log
 invariant-loop-log g l =
     (goal.iterator-loop-log g).can_next l.log-iterator ×
     (goal.iterator-loop-log g).is_finite l.log-iterator ×
-    IsPlacing l.parts l.ends l.fn.logs.items l.log-iterator.rest.items l.sources.items (vec_capacity l.sources)
+    IsPlacing l.parts l.ends l.fn.logs.items l.log-iterator.rest.items l.part_logs.items (vec_capacity l.part_logs)

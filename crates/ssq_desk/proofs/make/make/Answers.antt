@@ -21,12 +21,12 @@ returns-clause-made g c =
     let all : shares.items ≡ c.begin_files.new.shares = with_items_is room.shares c.begin_files.new.shares (files.count ∙ ap length c.deref_mut.ensures.value ∙ sym room.shares.ok.0) in
     made_over g.D.Disk.tells g.D.Stage.Stage.written c.args.ledger.now.core.ends old mid c.put.new.load room.ends c.in_ok-room.ensures.same
     (put_made g.D.Disk.tells g.D.Stage.Stage.written c.args.ledger.now.core.ends mid c.put.new.load room shares (record { rows = room.rows; seen = room.seen; stages = c.in_ok-stages.stages }) c.in_ok-room.ensures.plan c.in_ok-room.ensures.told
-    (ap (λ v. length v.items) c.in_ok-room.ensures.same.sources_are ∙ c.requires.each) (room_over old mid room c.in_ok-room.ensures.same c.in_ok-room.ensures.room)
+    (ap (λ v. length v.items) c.in_ok-room.ensures.same.part_logs_are ∙ c.requires.each) (room_over old mid room c.in_ok-room.ensures.same c.in_ok-room.ensures.room)
     (subst (λ (news : List (Share g.row.D-Stage.Denot)). AreStaged g.D.Disk.tells g.D.Stage.Stage.written mid.held.items room.shares.items news) (sym all)
     (subst (λ (olds : List (Share g.row.D-Stage.Denot)). AreStaged g.D.Disk.tells g.D.Stage.Stage.written mid.held.items olds c.begin_files.new.shares) c.deref_mut.ensures.value
     (subst (λ held. AreStaged g.D.Disk.tells g.D.Stage.Stage.written held c.deref_mut.result.now c.begin_files.new.shares) c.as_slice.ensures.value files.staged)))
     refl refl (λ t. (files.empty t).0) (λ t. (files.empty t).1)
-    (subst (λ (ends : List PartEnd). AreBegun ends mid.sources.items c.put.new.load.sources.items) ends c.put.ensures.begun) c.put.ensures.rest)
+    (subst (λ (ends : List PartEnd). AreBegun ends mid.part_logs.items c.put.new.load.part_logs.items) ends c.put.ensures.begun) c.put.ensures.rest)
 
 pub returns-in_err-stages-clause-unmade : goal.returns-in_err-stages-clause-unmade
 returns-in_err-stages-clause-unmade g c =

@@ -8,8 +8,8 @@ use Rattle.ssq_desk.proofs.room.begin_at.Goals as goal
 pub loop-at-preserved : goal.loop-at-preserved
 loop-at-preserved g c =
     let none : PartEnd = record { stream = 0; part = 0; end = 0 } in
-    let below : c.loop-at.at < length c.args.sources.now = omega (arith, c.loop-at-test.true, c.loop-at.auto.sources) in
-    one_more (BeginsAt c.args.ends.now) c.args.sources.now c.loop-at.sources c.loop-at.at c.index-sources-at.result _ c.loop-at.invariant c.loop-at.auto.sources below (λ end. record {
+    let below : c.loop-at.at < length c.args.part_logs.now = omega (arith, c.loop-at-test.true, c.loop-at.auto.part_logs) in
+    one_more (BeginsAt c.args.ends.now) c.args.part_logs.now c.loop-at.part_logs c.loop-at.at c.index-part_logs-at.result _ c.loop-at.invariant c.loop-at.auto.part_logs below (λ end. record {
       from_is = ap (λ (e : PartEnd). e.end) (get_or_default c.args.ends.now c.loop-at.at none end (omega (arith, below, c.requires)));
       nothing = refl;
       stream_is = refl;
@@ -19,4 +19,4 @@ loop-at-preserved g c =
 
 pub returns : goal.returns
 returns g c =
-    (c.loop-at.auto.sources, all_done (BeginsAt c.args.ends.now) c.args.sources.now c.loop-at.sources c.loop-at.at c.loop-at.invariant (omega (arith, c.loop-at-test.false, c.loop-at.auto.sources)))
+    (c.loop-at.auto.part_logs, all_done (BeginsAt c.args.ends.now) c.args.part_logs.now c.loop-at.part_logs c.loop-at.at c.loop-at.invariant (omega (arith, c.loop-at-test.false, c.loop-at.auto.part_logs)))

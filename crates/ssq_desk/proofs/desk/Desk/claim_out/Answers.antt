@@ -20,11 +20,11 @@ use Rattle.ssq_terms.specs.Rows.{AreShown}
 use Rattle.ssq_desk.specs.declared.desk.Load.{Load}
 use Rattle.ssq_desk.specs.declared.desk.OutWork.{OutWork}
 use Rattle.ssq_desk.specs.declared.desk.Share.{Share}
-use Rattle.ssq_desk.specs.declared.desk.Source.{Source}
+use Rattle.ssq_desk.specs.declared.desk.PartLog.{PartLog}
 use Rattle.ssq_desk.specs.declared.round.Round.{Round}
 use Rattle.ssq_desk.specs.Round.{setting_of, Owns}
 use Rattle.ssq_desk.specs.Contents.{IsOutWork}
-use Rattle.ssq_desk.specs.Handing.{CanRaise, time_in_sources}
+use Rattle.ssq_desk.specs.Handing.{CanRaise, time_in_part_logs}
 use Rattle.ssq_desk.specs.Handed.{IsOutOf}
 use Rattle.ssq_desk.specs.Tasks.{IsOutTask, out_id}
 use Rattle.ssq_desk.specs.Whole.{IsWhole, HoldsIn, opening_in}
@@ -38,7 +38,7 @@ raise_all-requires g c =
     let h = out_here _ _ _ _ _ _ _ _ _ _ _ c.self.invariant c.is_legal.ensures.legal c.is_in_order.ensures c.args.id c.requires.out.0 c.requires.out.1 m in
     let same = same_Some h.work c.in-Some.work (sym h.here ∙ sym c.replace.ensures.value ∙ c.in-Some.is) in
     subst (λ (w : OutWork g.row.D-Stage.Denot g.row.D-Stage-Sealed.Denot). CanRaise (length w.seen) c.as_slice.result.now) same
-    (subst (λ (l : List (Source g.row.L.Denot)). CanRaise (length h.work.seen) l) (sym c.as_slice.ensures.value) h.raise)
+    (subst (λ (l : List (PartLog g.row.L.Denot)). CanRaise (length h.work.seen) l) (sym c.as_slice.ensures.value) h.raise)
 
 pub invariant_of-self : goal.invariant_of-self
 invariant_of-self g c =
@@ -46,13 +46,13 @@ invariant_of-self g c =
     let more = c.take_rows.new.shares in
     let count = c.take_rows.ensures.count ∙ ap length c.deref_mut.ensures.value in
     let items : (with_items s.load.shares more).items ≡ more = with_items_is s.load.shares more (count ∙ sym s.load.shares.ok.0) in
-    let n : Load g.row.L.Denot g.row.D-Stage.Denot g.row.D-Stage-Sealed.Denot = record { view = s.load.view; plans = s.load.plans; sources = s.load.sources; shares = with_items s.load.shares more; held = s.load.held; out = c.replace.new.dest; seen = s.load.seen; pending = s.load.pending; told = s.load.told; kept = s.load.kept } in
+    let n : Load g.row.L.Denot g.row.D-Stage.Denot g.row.D-Stage-Sealed.Denot = record { view = s.load.view; plans = s.load.plans; part_logs = s.load.part_logs; shares = with_items s.load.shares more; held = s.load.held; out = c.replace.new.dest; seen = s.load.seen; pending = s.load.pending; told = s.load.told; kept = s.load.kept } in
     let held = out_claimed _ _ _ _ _ _ _ _ _ _ _ c.self.invariant c.is_legal.ensures.legal c.is_in_order.ensures c.args.id more c.replace.new.dest c.requires.out.0 c.requires.out.1 (subst (λ (x : Shown g.row.D.Denot (Round g.row.L.Denot)). May x.scope x.core (entry.Claim c.args.id)) (sym c.self.view_is) c.requires.may) (c.take_rows.ensures.keys ∙ ap (map (λ (x : Share g.row.D-Stage.Denot). x.key)) c.deref_mut.ensures.value) in
     subst (λ (x : Shown g.row.D.Denot (Round g.row.L.Denot)). IsWhole g.D.Disk.tells g.L.Log.tells g.D.Disk.history g.L.Log.lines g.L.Log.available g.L.Log.answers g.L.Log.faults g.D.Stage.Stage.written g.D.Stage.Stage.sealed x n) (sym c.claim.ensures)
     (moved_whole _ _ _ _ _ _ _ _ _ s.ledger s.load c.self.invariant s.ledger.disk (entry.Claim c.args.id) n (λ cuts m. refl) refl refl refl refl c.self.invariant.told c.self.invariant.told_room
     (λ e. absurd (runs_without s.ledger.core.front.stop cause.LogFault (subst (λ (x : Shown g.row.D.Denot (Round g.row.L.Denot)). May x.scope x.core (entry.Claim c.args.id)) (sym c.self.view_is) c.requires.may).0 e))
     (subst (λ (l : List (Share g.row.D-Stage.Denot)). HoldsIn g.D.Disk.tells g.L.Log.tells g.D.Disk.history g.L.Log.lines g.L.Log.available g.L.Log.answers g.L.Log.faults g.D.Stage.Stage.written g.D.Stage.Stage.sealed s.ledger (cuts_of (opening_in g.L.Log.lines) s.ledger)
-    (after s.ledger.scope s.ledger.core (entry.Claim c.args.id)) s.load.sources.items l s.load.held.items c.replace.new.dest s.load.seen s.load.pending) (sym items) held))
+    (after s.ledger.scope s.ledger.core (entry.Claim c.args.id)) s.load.part_logs.items l s.load.held.items c.replace.new.dest s.load.seen s.load.pending) (sym items) held))
 
 pub returns-clause-task : goal.returns-clause-task
 returns-clause-task g c =
@@ -70,7 +70,7 @@ returns-clause-task g c =
       epoch = m.2;
       times = record {
         streams = c.raise_all.ensures.streams ∙ is.times.streams;
-        are = λ y stream. c.raise_all.ensures.times stream ∙ (λ i. later (seen_at ((sym same i).seen) stream) (time_in_sources stream (c.as_slice.ensures.value i))) ∙ h.times y stream;
+        are = λ y stream. c.raise_all.ensures.times stream ∙ (λ i. later (seen_at ((sym same i).seen) stream) (time_in_part_logs stream (c.as_slice.ensures.value i))) ∙ h.times y stream;
       };
       printable = subst (λ (l : List (List Values)). All (All (IfTime IsStampTime)) (joined l)) (sym rows) h.printable;
       rows = λ y. subst (λ (l : List (List Values)). AreShown (setting_of g.L.Log.lines s.ledger.opening) (cuts_of (opening_in g.L.Log.lines) s.ledger) s.ledger.core.front.committed l) (sym rows) (h.rows y);

@@ -16,7 +16,7 @@ use Rattle.ssq_meaning.specs.Fit.{IsFitRow}
 use Rattle.ssq_task.specs.Lists.{joined_vecs}
 use Rattle.ssq_desk.specs.declared.desk.Load.{Load}
 use Rattle.ssq_desk.specs.declared.desk.Share.{Share}
-use Rattle.ssq_desk.specs.declared.desk.Source.{Source}
+use Rattle.ssq_desk.specs.declared.desk.PartLog.{PartLog}
 use Rattle.ssq_desk.specs.declared.round.Round.{Round}
 use Rattle.ssq_meaning.specs.FedRows.{FedRow}
 use Rattle.ssq_ledger.specs.Shown.{cuts_of}
@@ -52,8 +52,8 @@ pub take_buckets-requires-clause-below : goal.take_buckets-requires-clause-below
 take_buckets-requires-clause-below g c =
     let m = subst (λ (x : Shown g.row.D.Denot (Round g.row.L.Denot)). May x.scope x.core (entry.Claim c.args.id)) (sym c.self.view_is) c.requires.may in
     let h = reduce_here _ _ _ _ _ _ _ _ _ _ _ c.self.invariant c.is_legal.ensures.legal c.is_in_order.ensures c.args.id c.requires.reduce m in
-    subst (λ (l : List (Source g.row.L.Denot)). All (HasBucket c.args.id.number) l) (sym c.deref_mut-2.ensures.value)
-    (all_at (HasBucket c.args.id.number) c.self.inside.load.sources.items (λ i source here. (h.safe i source here).buckets c.args.id.number h.less))
+    subst (λ (l : List (PartLog g.row.L.Denot)). All (HasBucket c.args.id.number) l) (sym c.deref_mut-2.ensures.value)
+    (all_at (HasBucket c.args.id.number) c.self.inside.load.part_logs.items (λ i part_log here. (h.safe i part_log here).buckets c.args.id.number h.less))
 
 pub invariant_of-self : goal.invariant_of-self
 invariant_of-self g c =
@@ -62,22 +62,22 @@ invariant_of-self g c =
     let h = reduce_here _ _ _ _ _ _ _ _ _ _ _ c.self.invariant c.is_legal.ensures.legal c.is_in_order.ensures c.args.id c.requires.reduce m in
     let same = c.index_mut-share.ensures.value ∙ at_get c.self.inside.load.shares.items c.args.id.number h.share _ h.here in
     let no_key = c.take_room-rows.ensures.rest.1 ∙ ap (λ (x : Share g.row.D-Stage.Denot). x.key) (c.take_stage-stage.ensures.rest) ∙ ap (λ (x : Share g.row.D-Stage.Denot). x.key) same ∙ h.no_key in
-    let left = c.take_buckets.new.sources in
-    let taken = subst (λ (l : List (Source g.row.L.Denot)). AreTaken c.args.id.number l left) c.deref_mut-2.ensures.value c.take_buckets.ensures.taken in
-    let all = taken_at c.args.id.number s.load.sources.items left taken in
-    let items : (with_items s.load.sources left).items ≡ left = with_items_is s.load.sources left (all.0 ∙ sym s.load.sources.ok.0) in
+    let left = c.take_buckets.new.part_logs in
+    let taken = subst (λ (l : List (PartLog g.row.L.Denot)). AreTaken c.args.id.number l left) c.deref_mut-2.ensures.value c.take_buckets.ensures.taken in
+    let all = taken_at c.args.id.number s.load.part_logs.items left taken in
+    let items : (with_items s.load.part_logs left).items ≡ left = with_items_is s.load.part_logs left (all.0 ∙ sym s.load.part_logs.ok.0) in
     let kept = c.take_held-held.new.held in
     let kept_is : kept ≡ set s.load.held.items c.args.id.number None = c.take_held-held.ensures.rest ∙ ap (λ (l : List (Option Held)). set l c.args.id.number None) c.deref_mut.ensures.value in
     let kept_items : (with_items s.load.held kept).items ≡ set s.load.held.items c.args.id.number None =
     with_items_is s.load.held kept (ap length kept_is ∙ set_length s.load.held.items c.args.id.number None ∙ sym s.load.held.ok.0) ∙ kept_is in
-    let n : Load g.row.L.Denot g.row.D-Stage.Denot g.row.D-Stage-Sealed.Denot = record { view = s.load.view; plans = s.load.plans; sources = with_items s.load.sources left; shares = with_item s.load.shares c.args.id.number c.take_room-rows.new.share; held = with_items s.load.held kept; out = s.load.out; seen = s.load.seen; pending = s.load.pending; told = s.load.told; kept = s.load.kept } in
+    let n : Load g.row.L.Denot g.row.D-Stage.Denot g.row.D-Stage-Sealed.Denot = record { view = s.load.view; plans = s.load.plans; part_logs = with_items s.load.part_logs left; shares = with_item s.load.shares c.args.id.number c.take_room-rows.new.share; held = with_items s.load.held kept; out = s.load.out; seen = s.load.seen; pending = s.load.pending; told = s.load.told; kept = s.load.kept } in
     let held = reduce_claimed _ _ _ _ _ _ _ _ _ _ _ c.self.invariant c.is_legal.ensures.legal c.is_in_order.ensures c.args.id c.take_room-rows.new.share left no_key c.requires.reduce m taken in
     subst (λ (x : Shown g.row.D.Denot (Round g.row.L.Denot)). IsWhole g.D.Disk.tells g.L.Log.tells g.D.Disk.history g.L.Log.lines g.L.Log.available g.L.Log.answers g.L.Log.faults g.D.Stage.Stage.written g.D.Stage.Stage.sealed x n) (sym c.claim.ensures)
     (moved_whole _ _ _ _ _ _ _ _ _ s.ledger s.load c.self.invariant s.ledger.disk (entry.Claim c.args.id) n (λ cuts m. refl) refl refl refl refl c.self.invariant.told c.self.invariant.told_room
     (λ e. absurd (runs_without s.ledger.core.front.stop cause.LogFault m.0 e))
     (subst (λ (l : List (Option Held)). HoldsIn g.D.Disk.tells g.L.Log.tells g.D.Disk.history g.L.Log.lines g.L.Log.available g.L.Log.answers g.L.Log.faults g.D.Stage.Stage.written g.D.Stage.Stage.sealed s.ledger (cuts_of (opening_in g.L.Log.lines) s.ledger)
-    (after s.ledger.scope s.ledger.core (entry.Claim c.args.id)) n.sources.items (set s.load.shares.items c.args.id.number c.take_room-rows.new.share) l s.load.out s.load.seen s.load.pending) (sym kept_items)
-    (subst (λ (l : List (Source g.row.L.Denot)). HoldsIn g.D.Disk.tells g.L.Log.tells g.D.Disk.history g.L.Log.lines g.L.Log.available g.L.Log.answers g.L.Log.faults g.D.Stage.Stage.written g.D.Stage.Stage.sealed s.ledger (cuts_of (opening_in g.L.Log.lines) s.ledger)
+    (after s.ledger.scope s.ledger.core (entry.Claim c.args.id)) n.part_logs.items (set s.load.shares.items c.args.id.number c.take_room-rows.new.share) l s.load.out s.load.seen s.load.pending) (sym kept_items)
+    (subst (λ (l : List (PartLog g.row.L.Denot)). HoldsIn g.D.Disk.tells g.L.Log.tells g.D.Disk.history g.L.Log.lines g.L.Log.available g.L.Log.answers g.L.Log.faults g.D.Stage.Stage.written g.D.Stage.Stage.sealed s.ledger (cuts_of (opening_in g.L.Log.lines) s.ledger)
     (after s.ledger.scope s.ledger.core (entry.Claim c.args.id)) l (set s.load.shares.items c.args.id.number c.take_room-rows.new.share) (set s.load.held.items c.args.id.number None) s.load.out s.load.seen s.load.pending) (sym items) held)))
 
 pub returns-clause-task : goal.returns-clause-task

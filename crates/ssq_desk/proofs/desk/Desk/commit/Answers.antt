@@ -9,7 +9,7 @@ use Rattle.ssq_board.specs.Core.{ready_of}
 use Rattle.ssq_board.proofs.Readies.{commit_may}
 use Rattle.ssq_ledger.specs.Shown.{Shown, cuts_of}
 use Rattle.ssq_desk.specs.declared.desk.Pending.{Pending}
-use Rattle.ssq_desk.specs.declared.desk.Source.{Source}
+use Rattle.ssq_desk.specs.declared.desk.PartLog.{PartLog}
 use Rattle.ssq_desk.specs.declared.round.Round.{Round}
 use Rattle.ssq_desk.specs.Closing.{AreTold, IsToldOf, lines_between}
 use Rattle.ssq_meaning.specs.Times.{delays, is_above, watermark_by}
@@ -33,7 +33,7 @@ told_is g c =
     let mine : h.0 ≡ c.take_pending-pending.result = same_Some h.0 c.take_pending-pending.result (sym h.1 ∙ c.take_pending-pending.ensures.is) in
     told_right g.D.Disk.tells g.L.Log.tells g.D.Disk.history g.L.Log.lines g.L.Log.available g.L.Log.answers g.L.Log.faults g.D.Stage.Stage.written g.D.Stage.Stage.sealed s.ledger s.load c.self.invariant c.is_legal.ensures.legal c.is_in_order.ensures next c.tell-told.result
     (c.tell-told.ensures.epoch ∙ ap (λ (f : Front). f.committed) c.front-epoch.ensures)
-    (c.tell-told.ensures.lines ∙ (λ i. lines_between (map (λ (x : Source g.row.L.Denot). x.from) s.load.sources.items) (map (λ (e : PartEnd). e.end) (c.ends.ensures i))))
+    (c.tell-told.ensures.lines ∙ (λ i. lines_between (map (λ (x : PartLog g.row.L.Denot). x.from) s.load.part_logs.items) (map (λ (e : PartEnd). e.end) (c.ends.ensures i))))
     (λ (d : Plan). c.tell-told.ensures.watermark d ∙ (λ i. (get_or s.load.plans.items ((c.front-epoch.ensures i).committed) d).watermark))
     (λ t. c.tell-told.ensures.rows ∙ ap (λ (p : Pending g.row.D-Stage-Sealed.Denot). p.count) (sym mine) ∙ h.2.rows t)
 
@@ -55,7 +55,7 @@ tell-told-requires-clause-few g c =
     let s = c.self.inside in
     let next = subst (λ (x : Shown g.row.D.Denot (Round g.row.L.Denot)). ready_of x.scope x.core ≡ ready.Commit) (sym c.self.view_is) c.requires in
     let ends = c.ends.ensures in
-    subst (λ (n : ℕ). n < 2 ^ 64) (λ i. lines_between (map (λ (x : Source g.row.L.Denot). x.from) s.load.sources.items) (map (λ (e : PartEnd). e.end) (sym ends i)))
+    subst (λ (n : ℕ). n < 2 ^ 64) (λ i. lines_between (map (λ (x : PartLog g.row.L.Denot). x.from) s.load.part_logs.items) (map (λ (e : PartEnd). e.end) (sym ends i)))
     (few_lines g.D.Disk.tells g.L.Log.tells g.D.Disk.history g.L.Log.lines g.L.Log.available g.L.Log.answers g.L.Log.faults g.D.Stage.Stage.written g.D.Stage.Stage.sealed s.ledger s.load c.self.invariant c.is_legal.ensures.legal c.is_in_order.ensures next)
 
 pub commit-requires-clause-right : goal.commit-requires-clause-right

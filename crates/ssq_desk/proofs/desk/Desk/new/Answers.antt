@@ -16,7 +16,7 @@ use Rattle.ssq_ledger.specs.Shown.{Shown}
 use Rattle.ssq_desk.specs.declared.desk.Share.{Share}
 use Rattle.ssq_desk.specs.declared.round.Round.{Round}
 use Rattle.ssq_desk.specs.Round.{OwnsRound, setting_of}
-use Rattle.ssq_desk.specs.First.{sources_of, held_of, IsMadeOf, BeginsAs, BeginsWork, first_shown}
+use Rattle.ssq_desk.specs.First.{part_logs_of, held_of, IsMadeOf, BeginsAs, BeginsWork, first_shown}
 use Rattle.ssq_desk.specs.Whole.{IsWhole, opening_in}
 use Rattle.ssq_desk.proofs.Beginnings.{lines_below, terms, tells_plans}
 use Rattle.ssq_desk.proofs.Beginnings.{start_is as begins_well}
@@ -43,20 +43,20 @@ start_made g c = start_is g.L.Log.lines (round_by g c.args.view c.args.opened c.
 begun : (g : Over) (c : After-into_vec-3 g) → IsMadeOf c.args.view.bound.now c.args.view.partitions c.args.opened (length c.args.logs.items) c.in-Ok.made
     → BeginsAs (g.D.Disk.faults c.in-Ok-new.ledger.disk) (g.D.Disk.faults c.begin_out-out.new.ledger.disk) (first_shown g.L.Log.lines (round_by g c.args.view c.args.opened c.args.logs) c.args.disk (scope_by c.args.view c.args.available c.args.cap)) c.begin_out-out.new.ledger
     × IsWhole g.D.Disk.tells g.L.Log.tells g.D.Disk.history g.L.Log.lines g.L.Log.available g.L.Log.answers g.L.Log.faults g.D.Stage.Stage.written g.D.Stage.Stage.sealed c.begin_out-out.new.ledger
-    (load_of (round_by g c.args.view c.args.opened c.args.logs) c.in-Ok.made c.into_vec-3.result c.with_logs-sources.result (with_items c.in-Ok.made.room.shares c.begin_out-out.new.shares) c.with_closings-held.result c.begin_out-out.result)
+    (load_of (round_by g c.args.view c.args.opened c.args.logs) c.in-Ok.made c.into_vec-3.result c.with_logs-part_logs.result (with_items c.in-Ok.made.room.shares c.begin_out-out.new.shares) c.with_closings-held.result c.begin_out-out.result)
 begun g c m =
     let round = round_by g c.args.view c.args.opened c.args.logs in
     let r = scope_by c.args.view c.args.available c.args.cap in
     let held = c.with_closings-held.ensures ∙ ap (λ (stores : List Store). held_of stores c.args.closings.items) c.into_vec-2.ensures in
-    let sources = c.with_logs-sources.ensures ∙ (λ i. sources_of (c.as_slice-2.ensures.value i) (c.as_slice-3.ensures.value i) c.args.logs.items) in
+    let part_logs = c.with_logs-part_logs.ensures ∙ (λ i. part_logs_of (c.as_slice-2.ensures.value i) (c.as_slice-3.ensures.value i) c.args.logs.items) in
     let old_is = c.in-Ok-new.ensures.made ∙ ap (λ (x : Round g.row.L.Denot). first_shown g.L.Log.lines x c.args.disk r) c.of-opening.ensures in
     let planned = sym (ap (λ (x : Start). x.is_planned) (c.start.view_is ∙ start_is g.L.Log.lines round c.requires.round m)) in
     let before = g.D.Disk.faults c.in-Ok-new.ledger.disk in
     let later = g.D.Disk.faults c.begin_out-out.new.ledger.disk in
     let work = subst (λ (olds : List (Share g.row.D-Stage.Denot)). BeginsWork g.D.Disk.tells g.D.Stage.Stage.written c.start.inside.is_planned c.in-Ok.made.room.rows c.in-Ok.made.room.seen c.with_closings-held.result.items olds c.begin_out-out.new.shares before later c.in-Ok-new.ledger c.begin_out-out.new.ledger c.begin_out-out.result) c.deref_mut.ensures.value
     (subst (λ (own : List (Option Held)). BeginsWork g.D.Disk.tells g.D.Stage.Stage.written c.start.inside.is_planned c.in-Ok.made.room.rows c.in-Ok.made.room.seen own c.deref_mut.result.now c.begin_out-out.new.shares before later c.in-Ok-new.ledger c.begin_out-out.new.ledger c.begin_out-out.result) c.as_slice-4.ensures.value c.begin_out-out.ensures.begun) in
-    opens g.D.Disk.tells g.L.Log.tells g.D.Disk.history g.L.Log.lines g.L.Log.available g.L.Log.answers g.L.Log.faults g.D.Stage.Stage.written g.D.Stage.Stage.sealed round c.args.disk r c.in-Ok.made c.requires.round m c.requires.long c.into_vec-3.result c.with_logs-sources.result c.with_closings-held.result c.args.closings.items c.requires.indexes held
-    c.into_vec-3.ensures sources c.begin_out-out.new.shares g.D.Disk.tells c.start.inside.is_planned c.in-Ok-new.ledger c.begin_out-out.new.ledger c.begin_out-out.result before later (λ t. t.0) planned old_is work
+    opens g.D.Disk.tells g.L.Log.tells g.D.Disk.history g.L.Log.lines g.L.Log.available g.L.Log.answers g.L.Log.faults g.D.Stage.Stage.written g.D.Stage.Stage.sealed round c.args.disk r c.in-Ok.made c.requires.round m c.requires.long c.into_vec-3.result c.with_logs-part_logs.result c.with_closings-held.result c.args.closings.items c.requires.indexes held
+    c.into_vec-3.ensures part_logs c.begin_out-out.new.shares g.D.Disk.tells c.start.inside.is_planned c.in-Ok-new.ledger c.begin_out-out.new.ledger c.begin_out-out.result before later (λ t. t.0) planned old_is work
 
 pub make_first-requires-clause-streams : goal.make_first-requires-clause-streams
 make_first-requires-clause-streams g c =
@@ -84,14 +84,14 @@ pub new-requires-clause-plans : goal.new-requires-clause-plans
 new-requires-clause-plans g c =
     tells_plans (setting_of g.L.Log.lines c.of-opening.result.value)
 
-pub with_logs-sources-requires-clause-parts : goal.with_logs-sources-requires-clause-parts
-with_logs-sources-requires-clause-parts g c =
-    let at = (goal.at.with_logs-sources-requires-clause-parts g c).In-Ok in
+pub with_logs-part_logs-requires-clause-parts : goal.with_logs-part_logs-requires-clause-parts
+with_logs-part_logs-requires-clause-parts g c =
+    let at = (goal.at.with_logs-part_logs-requires-clause-parts g c).In-Ok in
     ap length c.as_slice-2.ensures.value ∙ each_part g.L.Log.lines (round_by g c.args.view c.args.opened c.args.logs) c.requires.round (made_of g at)
 
-pub with_logs-sources-requires-clause-ends : goal.with_logs-sources-requires-clause-ends
-with_logs-sources-requires-clause-ends g c =
-    let at = (goal.at.with_logs-sources-requires-clause-ends g c).In-Ok in
+pub with_logs-part_logs-requires-clause-ends : goal.with_logs-part_logs-requires-clause-ends
+with_logs-part_logs-requires-clause-ends g c =
+    let at = (goal.at.with_logs-part_logs-requires-clause-ends g c).In-Ok in
     ap length c.as_slice-3.ensures.value ∙ each_end g.L.Log.lines (round_by g c.args.view c.args.opened c.args.logs) c.requires.round (made_of g at)
 
 pub with_closings-held-requires-clause-fits : goal.with_closings-held-requires-clause-fits

@@ -63,7 +63,7 @@ invariant_of-self-in-Ok-plan g c =
     let old = c.self.inside.ledger in
     let tells = Owns g.D.Disk.tells g.L.Log.tells g.D.Disk.history g.L.Log.lines old in
     let load = c.make.new.load in
-    let now : Load g.row.L.Denot g.row.D-Stage.Denot g.row.D-Stage-Sealed.Denot = record { view = load.view; plans = c.push_reserved.new.self; sources = load.sources; shares = load.shares; held = load.held; out = load.out; seen = load.seen; pending = load.pending; told = load.told; kept = load.kept } in
+    let now : Load g.row.L.Denot g.row.D-Stage.Denot g.row.D-Stage-Sealed.Denot = record { view = load.view; plans = c.push_reserved.new.self; part_logs = load.part_logs; shares = load.shares; held = load.held; out = load.out; seen = load.seen; pending = load.pending; told = load.told; kept = load.kept } in
     let plan : Plan = record { epoch = c.front-epoch.result.planned; watermark = c.watermark-watermark.result; ends = c.from_vec.result } in
     let next : ready_of old.scope old.core ≡ ready.Plan = subst (λ (x : Shown g.row.D.Denot (Round g.row.L.Denot)). ready_of x.scope x.core ≡ ready.Plan) (sym c.self.view_is) c.requires in
     let b = between g.D.Disk.tells g.L.Log.tells g.D.Disk.history g.L.Log.lines g.L.Log.available g.L.Log.answers g.L.Log.faults g.D.Stage.Stage.written g.D.Stage.Stage.sealed old c.self.inside.load c.self.invariant c.is_legal.ensures.legal c.is_in_order.ensures next in
@@ -76,7 +76,7 @@ invariant_of-self-in-Ok-plan g c =
     c.from_vec.ensures ∙ c.copied-ends.ensures ∙ c.ends.ensures ∙ ap (λ (x : Shown g.row.D.Denot (Round g.row.L.Denot)). x.core.ends) c.in-Ok-plan.ensures.done
     ∙ ap (λ (x : Shown g.row.D.Denot (Round g.row.L.Denot)). next_ends x.scope.cap x.core.ends x.scope.available) c.make.ensures.did in
     let whole = planned_whole g.D.Disk.tells g.L.Log.tells g.D.Disk.history g.L.Log.lines g.L.Log.available g.L.Log.answers g.L.Log.faults g.D.Stage.Stage.written g.D.Stage.Stage.sealed old c.self.inside.load load now c.self.invariant c.is_legal.ensures.legal c.is_in_order.ensures c.in-Ok.ends made plan
-    (record { view_is = refl; plans_are = c.push_reserved.ensures.items; told_is = refl; kept_is = refl; sources_are = refl; shares_are = refl; held_is = refl; out_is = refl; seen_is = refl; pending_is = refl }) c.plan.new.self.disk next epoch mark ends (for_some c.watermark-watermark.result IsStampTime c.watermark-watermark.ensures.years) in
+    (record { view_is = refl; plans_are = c.push_reserved.ensures.items; told_is = refl; kept_is = refl; part_logs_are = refl; shares_are = refl; held_is = refl; out_is = refl; seen_is = refl; pending_is = refl }) c.plan.new.self.disk next epoch mark ends (for_some c.watermark-watermark.result IsStampTime c.watermark-watermark.ensures.years) in
     subst (λ (x : Shown g.row.D.Denot (Round g.row.L.Denot)). IsWhole g.D.Disk.tells g.L.Log.tells g.D.Disk.history g.L.Log.lines g.L.Log.available g.L.Log.answers g.L.Log.faults g.D.Stage.Stage.written g.D.Stage.Stage.sealed x now)
     (sym (c.in-Ok-plan.ensures.done ∙ ap (λ (x : Shown g.row.D.Denot (Round g.row.L.Denot)). did x c.plan.new.self.disk (entry.Plan x.core.front.planned ∷ [])) c.make.ensures.did ∙ did_then old c.make.new.ledger.disk c.plan.new.self.disk [] (entry.Plan old.core.front.planned ∷ []))) whole
 
@@ -95,6 +95,6 @@ invariant_of-self-in-Err-plan g c =
     let may = last_may tells o.job old.scope o.due old.history (entry.Stop c.in-Err-plan.cause) (first_state o old.scope (g.D.Disk.history old.opened)) (state legal.0 (did old c.plan.new.self.disk es).core (shelf_of (opening_in g.L.Log.lines) (did old c.plan.new.self.disk es)) (cuts_of (opening_in g.L.Log.lines) (did old c.plan.new.self.disk es))) legal.2 in
     let right = cause_stops (g.D.Disk.tells × g.L.Log.tells) tells (setting_of g.L.Log.lines old.opening) (cuts_of (opening_in g.L.Log.lines) old) old.core.front.committed old.scope may.0 c.in-Err-plan.cause may.1.1 in
     let whole = unplanned_whole g.D.Disk.tells g.L.Log.tells g.D.Disk.history g.L.Log.lines g.L.Log.available g.L.Log.answers g.L.Log.faults g.D.Stage.Stage.written g.D.Stage.Stage.sealed old c.self.inside.load c.self.invariant c.drop_files.new.ledger.disk c.in-Err-plan.cause load c.drop_files.new.load c.in-Ok.ends (cause_no_log old.scope may.0 c.in-Err-plan.cause may.1.1) (plan_runs old.scope old.core next).1 made
-    (ap (λ (l : Load _ _ _). l.view) c.drop_files.ensures.kept) (ap (λ (l : Load _ _ _). l.plans.items) c.drop_files.ensures.kept) (ap (λ (l : Load _ _ _). l.sources.items) c.drop_files.ensures.kept) c.drop_files.ensures.count (ap (λ (l : Load _ _ _). l.held) c.drop_files.ensures.kept) (ap (λ (l : Load _ _ _). l.told.items) c.drop_files.ensures.kept) (ap (λ (l : Load _ _ _). l.kept) c.drop_files.ensures.kept) right in
+    (ap (λ (l : Load _ _ _). l.view) c.drop_files.ensures.kept) (ap (λ (l : Load _ _ _). l.plans.items) c.drop_files.ensures.kept) (ap (λ (l : Load _ _ _). l.part_logs.items) c.drop_files.ensures.kept) c.drop_files.ensures.count (ap (λ (l : Load _ _ _). l.held) c.drop_files.ensures.kept) (ap (λ (l : Load _ _ _). l.told.items) c.drop_files.ensures.kept) (ap (λ (l : Load _ _ _). l.kept) c.drop_files.ensures.kept) right in
     subst (λ (x : Shown g.row.D.Denot (Round g.row.L.Denot)). IsWhole g.D.Disk.tells g.L.Log.tells g.D.Disk.history g.L.Log.lines g.L.Log.available g.L.Log.answers g.L.Log.faults g.D.Stage.Stage.written g.D.Stage.Stage.sealed x c.drop_files.new.load)
     (sym (c.drop_files.ensures.did ∙ ap (λ (x : Shown g.row.D.Denot (Round g.row.L.Denot)). did x c.drop_files.new.ledger.disk []) stopped ∙ did_then old c.plan.new.self.disk c.drop_files.new.ledger.disk es [])) whole
