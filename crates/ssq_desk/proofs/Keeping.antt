@@ -1,21 +1,16 @@
 -- What partitions keep, from epoch to epoch.
-use Rattle.std.proofs.Common.{◌≡◌, ◌<◌, ◌⊎◌, ◌≤◌, ◌+◌, ℕ, Bool, true, false, true≢false, List, set, Option, Some, None, inl, inr, refl, sym, ap, ◌∙◌, subst, arith}
+use Rattle.std.proofs.Common.{◌≡◌, ◌<◌, ◌+◌, ℕ, Bool, true, false, true≢false, List, Option, Some, None, inl, inr, refl, sym}
 use Rattle.std.specs.Prelude.{not, IsSomeAnd}
 use Rattle.std.specs.List.{list_all, list_any}
-use mathlib.Core.Option.{some}
-use lib.ListN.{get_elem?}
-use Rattle.ssq_store.specs.declared.store.Store.{Store}
 use Rattle.ssq_task.specs.declared.partition.Held.{Held}
-use Rattle.ssq_core.specs.Course.{Cuts, AreSameUpTo}
-use Rattle.ssq_course.specs.Setting.{Setting, state_at}
-use Rattle.ssq_board.specs.declared.front.Cause.{Cause}
+use Rattle.ssq_core.specs.Course.{Cuts}
+use Rattle.ssq_course.specs.Setting.{Setting}
 use Rattle.ssq_board.specs.declared.front.Place.{Place}
 use Rattle.ssq_board.specs.declared.front.Place.TheVariants as place
 use Rattle.ssq_board.specs.declared.front.Ready.TheVariants as ready
 use Rattle.ssq_board.specs.Core.{Scope, Core, ready_of, ready_tasks, is_open, is_fine, is_more, is_stopped, is_waiting}
 use Rattle.ssq_board.proofs.Readies.{past, chosen}
-use Rattle.ssq_terms.specs.Partitions.{HoldsStateOf}
-use Rattle.ssq_desk.specs.Contents.{IsStageOf, IsHeldOf, IsHeldAt, epochs_at, is_gone, keeping_in}
+use Rattle.ssq_desk.specs.Contents.{IsStageOf, IsHeldOf, IsHeldAt, is_gone, keeping_in}
 use Rattle.ssq_desk.specs.Handing.{state_with}
 use Rattle.ssq_desk.specs.Tasks.{IsStateFor}
 

@@ -1,6 +1,6 @@
 -- Files aside that were begun for partitions, and what these keep as it was opened.
-use Rattle.std.proofs.Common.{◌≡◌, ◌<◌, ◌≤◌, ◌+◌, ℕ, zero, suc, true≢false, List, [], ◌∷◌, length, get_or, Option, Some, None, refl, sym, ap, ◌∙◌, subst, arith}
-use Rattle.std.specs.Prelude.{All, is_some, IsSomeAnd, slice_get, vec_capacity}
+use Rattle.std.proofs.Common.{◌≡◌, ◌<◌, ◌≤◌, ℕ, zero, suc, List, [], ◌∷◌, length, get_or, Option, Some, None, refl, sym, ap, ◌∙◌, subst, arith}
+use Rattle.std.specs.Prelude.{All, IsSomeAnd, slice_get, vec_capacity}
 use Rattle.std.proofs.lemmas.List.Elements.{All-nil, All-cons, All-head, All-tail}
 use mathlib.Core.Option.{some, some-injective, some-ne-none}
 use lib.ListN.{get_elem?}
@@ -11,7 +11,7 @@ use Rattle.ssq_desk.specs.declared.desk.Share.{Share}
 use Rattle.ssq_desk.specs.Contents.{IsStageOf}
 use Rattle.ssq_desk.specs.First.{held_of}
 use Rattle.ssq_desk.specs.Making.{IsReady, AreReady}
-use Rattle.ssq_desk.specs.Room.{IsFresh, IsStaged, AreStaged}
+use Rattle.ssq_desk.specs.Room.{IsFresh, AreStaged}
 
 stage_of : {S : Type 0} (tells owned : Type 0) (written : S → List ℕ) → (owned → tells) → (keeping p : ℕ) (stage : Option S) → p < keeping → IsSomeAnd stage (λ stage. tells → written stage ≡ []) → IsStageOf owned written keeping p stage
 stage_of tells owned written so keeping p None less is = absurd is
