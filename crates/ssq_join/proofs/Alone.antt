@@ -1,6 +1,6 @@
 -- Rows that are over without a partner, one after the other.
 use Rattle.std.proofs.Common.{◌≡◌, ◌<◌, ◌≤◌, ◌+◌, ◌-◌, ◌++◌, ℕ, suc, zero, [], ◌∷◌, List, Option, Some, None, Bool, true, false, All, IfOk, Result, refl, ap, sym, ◌∙◌, subst, arith, add-one, filter, length, map, take, get_or}
-use Rattle.std.specs.Prelude.{◌&&◌, IsSomeAnd, not, if◌then◌else◌, option_copied}
+use Rattle.std.specs.Prelude.{◌&&◌, ◌==◌, IsSomeAnd, slice_get, not, if◌then◌else◌, option_copied}
 use Rattle.std.specs.Borrow.{Bor}
 use Rattle.std.specs.Int.{w32, w64, to_be_bytes}
 use Rattle.std.specs.List.{AllByRecursion}
@@ -15,7 +15,7 @@ use Rattle.ssq_shape.specs.declared.bound.Bound.{Bound}
 use Rattle.ssq_shape.specs.declared.bound.Joining.{Joining}
 use Rattle.ssq_meaning.specs.FedRows.{FedRow}
 use Rattle.ssq_meaning.specs.Fit.{IsFit}
-use Rattle.ssq_meaning.specs.Join.{Considered, alone_of, is_left, joined_alone, nulls, row_key, row_value}
+use Rattle.ssq_meaning.specs.Join.{Considered, alone_of, is_left, joined_alone, nulls, row_key, row_value, side_byte}
 use Rattle.ssq_meaning.specs.Meaning.{Values, layout_at}
 use Rattle.ssq_step.specs.declared.rows.KeptRow.{KeptRow}
 use Rattle.ssq_step.specs.declared.shown.Shown.{Shown}
@@ -49,9 +49,9 @@ found_value (Some other) value own is same =
     let two : other.now ≡ own = cc in
     ap (λ (b : Bor (List ℕ)). b.now) (sym one) ∙ two
 
-pub is_read : (row : FedRow) (met : Bool) (read : Option KeptRow) → IsSomeAnd read (λ own. (own.left ≡ is_left row.stream) × (own.values ≡ row.values) × (own.met ≡ met)) → IsSomeAnd read (IsRead row met)
+pub is_read : (row : FedRow) (met : Bool) (read : Option KeptRow) → IsSomeAnd read (λ own. (own.left ≡ is_left row.stream) × (own.values ≡ row.values) × (own.met ≡ met)) → IsSomeAnd read (IsRead row)
 is_read row met None is = is
-is_read row met (Some own) is = record { left = is.0; values = is.1; met = is.2 }
+is_read row met (Some own) is = record { left = is.0; values = is.1 }
 
 -- whether it is shown
 pub not_shown : (query : Bound) (joining : Joining) (met : FedRow → Bool) (row : FedRow) (all : List Considered) (found : Shown) → is_shown_alone joining met row ≡ false → Tells found all
@@ -87,6 +87,20 @@ key_is row byte rest is =
     let long : length rest ≡ length (keys_of row.key) + 16 = ap (λ (l : List ℕ). length l) same ∙ length-append (keys_of row.key) place in
     let end : length rest - 16 ≡ length (keys_of row.key) = omega (arith, long) in
     (λ i. take (end i) (same i)) ∙ take_front (keys_of row.key) place
+
+-- the first byte tells the side
+side_of_byte : (left : Bool) → (side_byte left == 0) ≡ left
+side_of_byte true = refl
+side_of_byte false = refl
+
+pub side_is : (row : FedRow) (key : List ℕ) (first : ℕ) → Some first ≡ slice_get key 0 → key ≡ row_key row → (first == 0) ≡ is_left row.stream
+side_is row key first is same =
+    ap (λ byte. byte == 0) (some_is first (side_byte (is_left row.stream)) (is ∙ ap (λ (bytes : List ℕ). slice_get bytes 0) same)) ∙ side_of_byte (is_left row.stream)
+
+pub no_side : (row : FedRow) (key : List ℕ) → None ≡ slice_get key 0 → key ≡ row_key row → ⊥
+no_side row key is same =
+    let no : None ≡ Some (side_byte (is_left row.stream)) = is ∙ ap (λ (bytes : List ℕ). slice_get bytes 0) same in
+    absurd cc
 
 -- ---- one after the other
 

@@ -44,7 +44,7 @@ flagged_none (x ∷ bytes) none = absurd (omega (arith, none))
 flagged_row : (met : Bool) (row : FedRow) → flagged (row_value met row) ≡ row_value true row
 flagged_row met row = flagged_last (keys_of row.values) (met_byte met)
 
-is_flagged_row : (met : Bool) (row : FedRow) → is_flagged (row_value met row) ≡ met
+pub is_flagged_row : (met : Bool) (row : FedRow) → is_flagged (row_value met row) ≡ met
 is_flagged_row true row = is_flagged_last (keys_of row.values) 1
 is_flagged_row false row = is_flagged_last (keys_of row.values) 0
 

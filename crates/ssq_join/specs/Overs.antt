@@ -13,10 +13,9 @@ use Rattle.ssq_join.specs.Steps.{IsKept}
 use Rattle.ssq_join.specs.Telling.{Tells}
 
 -- what is read of a row
-pub record IsRead (row : FedRow) (has_met : Bool) (read : KeptRow) : Type 0 where
+pub record IsRead (row : FedRow) (read : KeptRow) : Type 0 where
   pub left : read.left ≡ is_left row.stream
   pub values : read.values ≡ row.values
-  pub met : read.met ≡ has_met
 
 -- a row is shown alone where rows of its side are, and it met no partner
 abbrev pub is_shown_alone : Joining → (met : FedRow → Bool) → FedRow → Bool

@@ -40,7 +40,8 @@ fn flagged(value: &Bytes) -> Result<Bytes, AllocError>
     short(bytes)
 }
 
-fn is_flagged(value: &Bytes) -> bool
+/// Whether what is kept of a row says that it met a partner.
+pub(crate) fn is_flagged(value: &Bytes) -> bool
     ensures { result ≡ is_flagged value.now }
 {
     match value.as_slice().split_last() {

@@ -1,20 +1,19 @@
 //! Rows that are over without a partner.
 
-ghost use Rattle.std.specs.Prelude.{◌≡◌, ◌∷◌, Bool, List, All, Some, IfOk, IfSome, IsSomeAnd};
+ghost use Rattle.std.specs.Prelude.{◌≡◌, ◌∷◌, Bool, List, All, Some, false, IfOk, IsSomeAnd};
 ghost use Rattle.ssq_value.specs.Key.{keys_of};
 ghost use Rattle.ssq_shape.specs.declared.bound.Bound.{Bound as Query};
-ghost use Rattle.ssq_shape.specs.declared.bound.Joining.{Joining as Joins};
 ghost use Rattle.ssq_meaning.specs.FedRows.{FedRow as Fed};
 ghost use Rattle.ssq_meaning.specs.Fit.{IsFit};
-ghost use Rattle.ssq_meaning.specs.Join.{Considered as Told, alone_of, is_outer_side, joined_alone, nulls, row_key, row_value};
+ghost use Rattle.ssq_meaning.specs.Join.{Considered as Told, alone_of, is_left, is_outer_side, joined_alone, nulls, row_key, row_value};
 ghost use Rattle.ssq_step.specs.Indexing.{seen};
 ghost use Rattle.ssq_step.specs.Rows.{stream_of};
-ghost use Rattle.ssq_version.specs.State.{value_at};
 ghost use Rattle.ssq_step.specs.Shown.{ArePrintable};
 ghost use Rattle.ssq_join.specs.Overs.{AreOver, IsHeld, IsRead, TellsAlone, with_alone};
 ghost use Rattle.ssq_join.specs.Steps.{IsKept};
 ghost use Rattle.ssq_join.specs.Telling.{Tells};
 
+use crate::changed::is_flagged;
 use crate::found::with_shown;
 use crate::judge::show_row;
 use ssq_field::Bytes;
@@ -66,6 +65,16 @@ fn is_outer_side(kind: JoinKind, left: bool) -> bool
     }
 }
 
+/// Whether the row that is kept under these bytes is of a side whose rows are shown without a partner, by their first byte.
+fn is_of_outer_side(kind: JoinKind, key: &[u8]) -> bool
+    ensures { (row : Fed) → key.now ≡ row_key row → result ≡ is_outer_side kind (is_left row.stream) }
+{
+    match key.first() {
+        Some(side) => is_outer_side(kind, *side == 0),
+        None => false,
+    }
+}
+
 /// The bytes of the join key among those under which a row is kept: those between its side and its place.
 fn key_part(key: &[u8]) -> Option<&[u8]>
     ensures { (row : Fed) → key.now ≡ row_key row → IsSomeAnd result (λ own. own.now ≡ keys_of row.key) }
@@ -85,23 +94,6 @@ fn join_key(alloc: Global, joining: &Joining, key: &Bytes) -> Result<Option<Row>
     }
 }
 
-/// The row that is kept under these bytes.
-fn row_at(
-    alloc: Global,
-    bound: &Bound,
-    state: &StateMap,
-    key: &Bytes,
-) -> Result<Option<KeptRow>, AllocError>
-    ensures read { (joining : Joins) (row : Fed) (met : Bool) → IsKept bound.now joining row → key.now ≡ row_key row → value_at state.now key.now ≡ Some (row_value met row) →
-        IfOk result (λ read. IsSomeAnd read (IsRead row met)) }
-    ensures fit { IfOk result (λ read. IfSome read (λ row. All IsFit row.values)) }
-{
-    match state.get(key) {
-        Some(value) => read_row(alloc, bound, key, value),
-        None => Ok(None),
-    }
-}
-
 /// Shows a row without a partner.
 fn show_alone(
     alloc: Global,
@@ -112,13 +104,38 @@ fn show_alone(
 ) -> Result<Shown, AllocError>
     requires fit { All IsFit row.values }
     requires printable { ArePrintable found.rows.items }
-    ensures told { (fed : Fed) (met : Bool) (all : List Told) → IsRead fed met row → own.now ≡ fed.key → Tells found all →
+    ensures told { (fed : Fed) (all : List Told) → IsRead fed row → own.now ≡ fed.key → Tells found all →
         IfOk result (λ now. Tells now (alone_of bound.now fed ∷ all)) }
     ensures printable { IfOk result (λ now. ArePrintable now.rows.items) }
 {
     let values = joined_alone(alloc, bound, row)?;
     let shown = show_row(alloc, bound, values.as_slice())?;
     with_shown(alloc, found, own, shown)
+}
+
+/// Takes in a row that met no partner, by what is kept of it.
+fn take_alone(
+    alloc: Global,
+    bound: &Bound,
+    joining: &Joining,
+    key: &Bytes,
+    value: &Bytes,
+    found: Shown,
+) -> Result<Shown, AllocError>
+    requires printable { ArePrintable found.rows.items }
+    ensures told { (row : Fed) (all : List Told) → IsKept bound.now joining.now row → key.now ≡ row_key row → value.now ≡ row_value false row → Tells found all →
+        IfOk result (λ now. Tells now (alone_of bound.now row ∷ all)) }
+    ensures printable { IfOk result (λ now. ArePrintable now.rows.items) }
+{
+    let read = read_row(alloc, bound, key, value)?;
+    let Some(row) = read else {
+        return Ok(found);
+    };
+    let own = join_key(alloc, joining, key)?;
+    let Some(own) = own else {
+        return Ok(found);
+    };
+    show_alone(alloc, bound, own.as_slice(), row, found)
 }
 
 /// Takes in a row that is over, where it met no partner and is shown without one.
@@ -135,18 +152,16 @@ fn take_over(
         IfOk result (λ now. Tells now (with_alone bound.now joining.now met row all)) }
     ensures printable { IfOk result (λ now. ArePrintable now.rows.items) }
 {
-    let read = row_at(alloc, bound, state, key)?;
-    let Some(row) = read else {
-        return Ok(found);
-    };
-    if row.met || !is_outer_side(joining.kind, row.left) {
+    if !is_of_outer_side(joining.kind, key.as_slice()) {
         return Ok(found);
     }
-    let own = join_key(alloc, joining, key)?;
-    let Some(own) = own else {
+    let Some(value) = state.get(key) else {
         return Ok(found);
     };
-    show_alone(alloc, bound, own.as_slice(), row, found)
+    if is_flagged(value) {
+        return Ok(found);
+    }
+    take_alone(alloc, bound, joining, key, value, found)
 }
 
 /// Takes in the rows that are over, each by the bytes under which it is kept.

@@ -14,7 +14,7 @@ show_row-requires c =
     subst (All IsFit) (sym (c.as_slice.ensures.value ∙ c.in_ok-values.ensures)) (alone_fits c.args.bound.now c.args.row.left c.args.row.values c.requires.fit)
 
 pub returns-clause-told : goal.returns-clause-told
-returns-clause-told c fed met all read own tells =
+returns-clause-told c fed all read own tells =
     let query = c.args.bound.now in
     let row = c.args.row in
     let values = c.as_slice.ensures.value ∙ c.in_ok-values.ensures ∙ (λ i. joined_alone query (read.left i) (read.values i)) in
