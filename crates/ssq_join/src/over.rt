@@ -13,6 +13,7 @@ ghost use Rattle.ssq_join.specs.Overs.{AreOver, IsHeld, IsRead, TellsAlone, with
 ghost use Rattle.ssq_join.specs.Steps.{IsKept};
 ghost use Rattle.ssq_join.specs.Telling.{Tells};
 
+use crate::bytes::PLACE;
 use crate::changed::is_flagged;
 use crate::found::with_shown;
 use crate::judge::show_row;
@@ -80,7 +81,7 @@ fn key_part(key: &[u8]) -> Option<&[u8]>
     ensures { (row : Fed) → key.now ≡ row_key row → IsSomeAnd result (λ own. own.now ≡ keys_of row.key) }
 {
     let (_, rest) = key.split_first()?;
-    let end = rest.len().checked_sub(16)?;
+    let end = rest.len().checked_sub(PLACE)?;
     Some(&rest[..end])
 }
 
