@@ -107,8 +107,8 @@ pub fn step(
     watermark: Option<i64>,
 ) -> Result<Stepped, StepFault>
     requires { All IsFitRow rows.now }
-    // The change leads from the state over the rows before to that over these rows too, the rows that are shown are the epoch's, and no key
-    // overflows.
+    // The change leads from the state over the rows before to that over these rows too, the rows that are shown are the epoch's, as a bag, and
+    // no key overflows.
     ensures stepped { (joining : Joins) (old : List Fed) (before : Option ℤ) → Given bound.now joining state.now closing.now old rows.now before watermark →
         IfOk result (IsStep (join bound.now joining) state.now old rows.now before watermark) }
     // It fails on the least key on which the epoch overflows, or where memory ran out.
