@@ -8,7 +8,8 @@ use Rattle.ssq_version.proofs.Values.{by_case, first_at, is_itself, none_behind,
 use Rattle.ssq_meaning.specs.FedRows.{FedRow}
 use Rattle.ssq_meaning.specs.Feeding.{or_else}
 use Rattle.ssq_meaning.specs.Join.{met_byte, row_key, row_value}
-use Rattle.ssq_join.specs.Changing.{IsGone, SaysBytes, SaysFlags, SaysFresh, SaysIf, SaysRows, find_row, flag_of, flag_said, flagged, flagged_if, fresh_said, is_flagged, said_of, said_of_row}
+use Rattle.ssq_step.specs.Forgetting.{IsGone}
+use Rattle.ssq_join.specs.Changing.{SaysBytes, SaysFlags, SaysFresh, SaysIf, SaysRows, find_row, flag_of, flag_said, flagged, flagged_if, fresh_said, is_flagged, said_of, said_of_row}
 use Rattle.ssq_join.specs.Meeting.{entry_with}
 use Rattle.ssq_join.specs.Telling.{among}
 use Rattle.ssq_join.proofs.Finding.{found_key, value_found}

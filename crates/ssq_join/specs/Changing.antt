@@ -67,10 +67,6 @@ flag_said met old = if met then option_map (λ value. Some value) (flag_of old) 
 abbrev pub SaysFlags : (old : State) → (met : List (List ℕ)) → (before after : Change) → Type 0
 SaysFlags old met before after = (key : List ℕ) → value_at after key ≡ or_else (flag_said (among met key) (value_at old key)) (value_at before key)
 
--- it says of each of these keys that it goes, and of each other what was said
-abbrev pub IsGone : List (List ℕ) → (before after : Change) → Type 0
-IsGone keys before after = (key : List ℕ) → value_at after key ≡ (if among keys key then Some None else value_at before key)
-
 -- What is said of some bytes: that they go, or else that what is kept met its first partner, or else that the new entry is kept.
 abbrev pub said_of : (over met : Bool) → (old fresh : Option (List ℕ)) → Option (Option (List ℕ))
 said_of over met old fresh =

@@ -3,20 +3,13 @@
 ghost use Rattle.std.specs.Prelude.{◌≡◌, IfOk, IfSome, OnOk, option_copied};
 ghost use Rattle.ssq_version.specs.State.{Ascends, IsShort, value_at};
 ghost use Rattle.ssq_step.specs.Indexing.{seen};
-ghost use Rattle.ssq_join.specs.Changing.{IsGone, SaysBytes, SaysFlags, SaysFresh, SaysIf, flag_of, flagged, flagged_if, is_flagged};
+ghost use Rattle.ssq_join.specs.Changing.{SaysBytes, SaysFlags, SaysFresh, SaysIf, flag_of, flagged, flagged_if, is_flagged};
 
 use ssq_field::Bytes;
-use ssq_step::short;
+use ssq_step::{forget, short};
 use ssq_version::{Change, Draft, StateMap};
 use std::alloc::{AllocError, Global};
 use std::collections::{BTreeMap, BTreeSet};
-
-fn copied(bytes: &Bytes) -> Result<Bytes, AllocError>
-    ensures bytes { IfOk result (λ copy. copy ≡ bytes.now) }
-    ensures short { IfOk result IsShort }
-{
-    short(bytes.clone()?)
-}
 
 /// The bytes with 1, which says that a partner was met, as the last.
 fn with_flag(bytes: Bytes) -> Result<Bytes, AllocError>
@@ -112,7 +105,7 @@ fn put_flag(draft: &mut Draft, state: &StateMap, key: &Bytes) -> Result<(), Allo
     ensures { OnOk result (SaysIf key.now (flag_of (value_at state.now key.now)) draft.old draft.new) }
 {
     if let Some(value) = flag_of(state.get(key))? {
-        draft.put(copied(key)?, value)?;
+        draft.put(short(key.clone()?)?, value)?;
     }
     Ok(())
 }
@@ -123,16 +116,6 @@ fn put_flags(draft: &mut Draft, state: &StateMap, met: &BTreeSet<Bytes>) -> Resu
 {
     for key in met.iter() {
         put_flag(draft, state, key)?;
-    }
-    Ok(())
-}
-
-/// Says that these keys are kept no more.
-fn forget(draft: &mut Draft, keys: &[&Bytes]) -> Result<(), AllocError>
-    ensures { OnOk result (IsGone (seen keys.now) draft.old draft.new) }
-{
-    for key in keys {
-        draft.remove(copied(key)?)?;
     }
     Ok(())
 }
