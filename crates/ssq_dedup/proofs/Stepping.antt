@@ -1,5 +1,5 @@
--- The step leads to the state over its rows too, and shows the epoch's rows.
-use Rattle.std.proofs.Common.{◌≡◌, ◌++◌, ℕ, ℤ, [], ◌∷◌, Some, None, List, Option, Bool, true, false, All, refl, ap, sym, subst, ◌∙◌, length}
+-- The step leads to the state over its rows too, and shows the epoch's rows, as a bag.
+use Rattle.std.proofs.Common.{◌≡◌, ◌++◌, ℕ, ℤ, [], ◌∷◌, Some, None, List, Option, Bool, true, false, All, refl, ap, sym, subst, ◌∙◌, inl, inr, length}
 use Rattle.std.specs.Prelude.{◌&&◌, ◌||◌, not, if◌then◌else◌, is_some}
 use Rattle.std.specs.BTreeMap.{is_at}
 use Rattle.std.specs.Cmp.Lexicographic.{slice_cmp}
@@ -26,10 +26,11 @@ use Rattle.ssq_meaning.specs.Operator.{dedup}
 use Rattle.ssq_meaning.proofs.FitRows.{spelled}
 use Rattle.ssq_meaning.proofs.Keys.{same_is}
 use Rattle.ssq_step.specs.declared.stepped.Stepped.{Stepped}
+use Rattle.ssq_step.specs.Forgetting.{IsGone}
 use Rattle.ssq_step.specs.Indexing.{AreDueKeys, Indexes, IsIndexBy, IsReadableKey, Timed}
 use Rattle.ssq_step.specs.Steps.{IsStep}
 use Rattle.ssq_step.proofs.ByBytes.{any_by}
-use Rattle.ssq_dedup.specs.Firsts.{HoldsKeys, IsGone, IsKeyed, SaysFirsts, first_among, said_if}
+use Rattle.ssq_dedup.specs.Firsts.{HoldsKeys, IsKeyed, SaysFirsts, first_among, said_if}
 use Rattle.ssq_dedup.specs.Steps.{Given, IsKept}
 use Rattle.ssq_dedup.proofs.Taking.{among_are}
 
@@ -98,7 +99,7 @@ some_entry true = refl
 some_entry false = refl
 
 by_flags : (closed was touched : Bool) → (closed ≡ true → touched ≡ false)
-    → entry_if (is_held_next closed was touched) ≡ value_after (if was && closed then Some None else said_if (not was && touched)) (entry_if was)
+    → entry_if (is_held_next closed was touched) ≡ value_after (if was && closed then Some None else said_if (not was && touched) None) (entry_if was)
 by_flags true true true ends = let no : true ≡ false = ends refl in absurd cc
 by_flags true false true ends = let no : true ≡ false = ends refl in absurd cc
 by_flags true true false ends = refl
@@ -126,7 +127,7 @@ module _ (query : Bound) (columns : List ℕ) (state : State) (closing : List Ti
   pub indexes : Indexes (length columns) (closing_time query columns) state closing
   indexes = subst (λ (shape : Shape). Indexes (key_length_by shape) (key_time_by shape query) state closing) given.repeats (subst (λ (shape : Shape). IsIndexBy shape query state closing) given.repeats given.indexed)
 
-  module _ (next : AreNext) (ended : AreEnded) (first change : Change) (keys : List (List ℕ)) (says : SaysFirsts (length columns) (is_held query columns old before) new first)
+  module _ (next : AreNext) (ended : AreEnded) (first change : Change) (keys : List (List ℕ)) (says : SaysFirsts (length columns) (is_held query columns old before) new [] first)
       (due : AreDueKeys (length columns) (closing_time query columns) state now keys) (gone : IsGone keys first change) where
     -- the keys that go are those that are kept and closed
     goes : (key : Values) → IsReadableKey (length columns) key → list_any (is_at (by_bytes (keys_of key))) keys ≡ (is_held query columns old before key && is_closed query columns now key)
@@ -135,7 +136,7 @@ module _ (query : Bound) (columns : List ℕ) (state : State) (closing : List Ti
         (due key is ∙ ap (λ b. if b && is_closed query columns now key then 1 else 0) (ap is_some (holds key is) ∙ some_entry (is_held query columns old before key)))
 
     said : (key : Values) → IsReadableKey (length columns) key → value_at change (keys_of key)
-        ≡ (if is_held query columns old before key && is_closed query columns now key then Some None else said_if (not (is_held query columns old before key) && has_key new key))
+        ≡ (if is_held query columns old before key && is_closed query columns now key then Some None else said_if (not (is_held query columns old before key) && has_key new key) None)
     said key is = gone (keys_of key) ∙ (λ i. if goes key is i then Some None else says.told key is i)
 
     at_key : (key : Values) → IsReadableKey (length columns) key → value_at (kept query columns (old ++ new) now) (keys_of key) ≡ value_after (value_at change (keys_of key)) (value_at state (keys_of key))
@@ -162,18 +163,19 @@ module _ (query : Bound) (columns : List ℕ) (state : State) (closing : List Ti
         at_bytes q key.0 key.1 (key_readable columns old key.0 olds key.2)
 
     pub leads : IsAfter change state (kept query columns (old ++ new) now)
-    leads q = by (list_any (is_at (by_bytes q)) keys) refl (value_at first q) refl (value_at state q) refl (value_at (kept query columns (old ++ new) now) q) refl
+    leads q = elim (says.only q) [
+      | inl key ↦ at_bytes q key.0 key.1 key.2
+      | inr same ↦ by (list_any (is_at (by_bytes q)) keys) refl (value_at state q) refl (value_at (kept query columns (old ++ new) now) q) refl same
+    ]
       where
-        by : (b : Bool) → list_any (is_at (by_bytes q)) keys ≡ b → (f : Option (Option (List ℕ))) → value_at first q ≡ f → (s : Option (List ℕ)) → value_at state q ≡ s
-            → (n : Option (List ℕ)) → value_at (kept query columns (old ++ new) now) q ≡ n
-            → value_at (kept query columns (old ++ new) now) q ≡ value_after (value_at change q) (value_at state q)
-        by b any f first_is s state_is (Some v) new_is = new_entry q v new_is
-        by b any f first_is (Some v) state_is None new_is = old_entry q v state_is
-        by true any f first_is None state_is None new_is =
+        by : (b : Bool) → list_any (is_at (by_bytes q)) keys ≡ b → (s : Option (List ℕ)) → value_at state q ≡ s → (n : Option (List ℕ)) → value_at (kept query columns (old ++ new) now) q ≡ n
+            → value_at first q ≡ None → value_at (kept query columns (old ++ new) now) q ≡ value_after (value_at change q) (value_at state q)
+        by b any s state_is (Some v) new_is unsaid = new_entry q v new_is
+        by b any (Some v) state_is None new_is unsaid = old_entry q v state_is
+        by true any None state_is None new_is unsaid =
             new_is ∙ sym (ap (λ c. value_after c (value_at state q)) (gone q ∙ ap (λ b. if b then Some None else value_at first q) any))
-        by false any (Some what) first_is None state_is None new_is = let key = says.only q what first_is in at_bytes q key.0 key.1 key.2
-        by false any None first_is None state_is None new_is =
-            new_is ∙ sym ((λ i. value_after ((gone q ∙ ap (λ b. if b then Some None else value_at first q) any ∙ first_is) i) (state_is i)))
+        by false any None state_is None new_is unsaid =
+            new_is ∙ sym ((λ i. value_after ((gone q ∙ ap (λ b. if b then Some None else value_at first q) any ∙ unsaid) i) (state_is i)))
 
     pub is_step : AreKnown → (stepped : Stepped) → stepped.change ≡ change → stepped.rows.items ≡ values_in (first_among (is_held query columns old before) [] new)
         → IsStep (dedup query columns) state old new before now stepped

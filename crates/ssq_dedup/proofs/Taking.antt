@@ -1,19 +1,17 @@
 -- One row more.
-use Rattle.std.proofs.Common.{◌≡◌, ◌<◌, ◌+◌, ◌++◌, ℕ, [], ◌∷◌, Some, None, List, Option, Bool, true, false, cond, All, refl, ap, sym, subst, ◌∙◌, take, length, get_or, map, arith}
+use Rattle.std.proofs.Common.{◌≡◌, ◌⊎◌, ◌<◌, ◌+◌, ◌++◌, ℕ, [], ◌∷◌, Some, List, Option, Bool, true, false, cond, All, refl, ap, sym, subst, ◌∙◌, inl, inr, take, length, get_or}
 use Rattle.std.specs.Prelude.{◌&&◌, ◌||◌, not, if◌then◌else◌, is_some}
 use Rattle.std.specs.BTreeMap.{is_at}
 use Rattle.std.specs.List.{AllByRecursion}
-use Rattle.std.specs.Option.{option_or}
 use Rattle.std.proofs.lemmas.List.{append_assoc, append-nil, map-append, take_more}
-use Rattle.std.proofs.lemmas.List.Elements.{All-get_or, All-push, All-weaker, recursion_from_All}
+use Rattle.std.proofs.lemmas.List.Elements.{All-get_or, All-push, All-weaker}
 use Rattle.ssq_time.specs.Time.{IsStampTime}
 use Rattle.ssq_value.specs.declared.value.Value.{Value}
 use Rattle.ssq_value.specs.declared.value.Value.TheVariants as value
 use Rattle.ssq_value.specs.Kind.{IfTime}
 use Rattle.ssq_value.specs.Key.{IsSpelled, keys_of}
-use Rattle.ssq_version.specs.State.{Change, IsShort, IsShortEntry, State, by_bytes, last_at, value_at}
-use Rattle.ssq_version.proofs.LastSaid.{last_has}
-use Rattle.ssq_version.proofs.Values.{is_itself, one_key}
+use Rattle.ssq_version.specs.State.{Change, State, by_bytes, value_at}
+use Rattle.ssq_version.proofs.Values.{by_case, is_itself, one_key}
 use Rattle.ssq_meaning.specs.FedRows.{FedRow}
 use Rattle.ssq_meaning.specs.Dedup.{firsts, values_in}
 use Rattle.ssq_meaning.specs.DedupLaws.{entry_if}
@@ -25,7 +23,7 @@ use Rattle.ssq_meaning.proofs.Counted.{has_key-append}
 use Rattle.ssq_meaning.proofs.FitRows.{spelled}
 use Rattle.ssq_meaning.proofs.Keys.{same_back, same_is, same_itself}
 use Rattle.ssq_step.specs.Indexing.{IsReadableKey}
-use Rattle.ssq_dedup.specs.Firsts.{HoldsKeys, IsKeyed, SaysFirsts, Takes, TakesIf, first_among, kept_entry, said_if}
+use Rattle.ssq_dedup.specs.Firsts.{HoldsKeys, IsKeyed, SaysFirsts, Takes, TakesIf, first_among, said_if}
 
 or_false : (b : Bool) → (b || false) ≡ b
 or_false true = refl
@@ -110,11 +108,6 @@ takes_by state row has_row is_kept has kept before after shown more takes =
     let known : (false || is_kept) ≡ (has_row || is_some (value_at state (keys_of row.key))) = λ i. sym has i || kept i in
     subst (λ b. TakesIf b row before after shown more) known takes
 
-pub short_pushed : (key value : List ℕ) (before after : Change) → after ≡ before ++ (key, Some value) ∷ [] → IsShort key → value ≡ [] → All IsShortEntry before → All IsShortEntry after
-short_pushed key value before after pushed short none was =
-    let empty : IsShort [] = omega arith in
-    subst (All IsShortEntry) (sym pushed) (All-push IsShortEntry before (key, Some value) was (short, subst IsShort (sym none) empty))
-
 has_more : (done : List FedRow) (row : FedRow) (key : Values) → has_key (done ++ row ∷ []) key ≡ (has_key done key || is_same key row.key)
 has_more done row key = has_key-append done (row ∷ []) key ∙ ap (λ b. has_key done key || b) (or_false (is_same key row.key))
 
@@ -129,19 +122,18 @@ keys_more rows at row inside is old new more was key =
     ∙ ap (λ l. has_key l key) (sym (one_more rows at row inside is))
 
 module _ (is_held : Values → Bool) (done : List FedRow) (row : FedRow) where
-  -- what is listed of the rows that are no repeats, with one row more
-  list_more : {A : Type 0} (f : FedRow → A) (known : Bool) → (is_held row.key || has_key done row.key) ≡ known → (before after : List A) → after ≡ before ++ map f (if known then [] else row ∷ [])
-      → before ≡ map f (first_among is_held [] done) → after ≡ map f (first_among is_held [] (done ++ row ∷ []))
+  -- the rows that are shown, with one row more
+  shown_more : (known : Bool) → (is_held row.key || has_key done row.key) ≡ known → (shown more : List Values) → more ≡ shown ++ values_in (if known then [] else row ∷ [])
+      → shown ≡ values_in (first_among is_held [] done) → more ≡ values_in (first_among is_held [] (done ++ row ∷ []))
   unfolding first_among
-  list_more f known is before after added was =
+  shown_more known is shown more added was =
       added
-      ∙ (λ i. was i ++ map f (if sym is i then [] else row ∷ []))
-      ∙ sym (ap (map f) (first_among-append is_held [] done (row ∷ [])) ∙ map-append f (first_among is_held [] done) (first_among is_held done (row ∷ [])))
+      ∙ (λ i. was i ++ values_in (if sym is i then [] else row ∷ []))
+      ∙ sym (ap values_in (first_among-append is_held [] done (row ∷ [])) ∙ map-append (λ (row : FedRow). row.values) (first_among is_held [] done) (first_among is_held done (row ∷ [])))
 
-  adds : (known : Bool) (before after : Change) (shown more : List Values) → TakesIf known row before after shown more
-      → (after ≡ before ++ map kept_entry (if known then [] else row ∷ [])) × (more ≡ shown ++ values_in (if known then [] else row ∷ []))
-  adds true before after shown more takes = (takes.0 ∙ sym (append-nil before), takes.1 ∙ sym (append-nil shown))
-  adds false before after shown more takes = takes
+  shows : (known : Bool) (before after : Change) (shown more : List Values) → TakesIf known row before after shown more → more ≡ shown ++ values_in (if known then [] else row ∷ [])
+  shows true before after shown more takes = takes.1 ∙ sym (append-nil shown)
+  shows false before after shown more takes = takes.1
 
   known_is : (count : ℕ) (state : State) → HoldsKeys count state is_held → IsKeyed count row → (has_row : Bool) → has_row ≡ has_key done row.key
       → (has_row || is_some (value_at state (keys_of row.key))) ≡ (is_held row.key || has_key done row.key)
@@ -153,97 +145,80 @@ module _ (is_held : Values → Bool) (done : List FedRow) (row : FedRow) where
       by false true = refl
       by false false = refl
 
--- the entries so far and the rows shown are those of the rows that are no repeats
-abbrev pub AreFirsts : (Values → Bool) → List FedRow → Change → List Values → Type 0
-AreFirsts is_held done entries shown = (entries ≡ map kept_entry (first_among is_held [] done)) × (shown ≡ values_in (first_among is_held [] done))
+-- ---- what is said
 
-pub begins : (is_held : Values → Bool) (entries : Change) (shown : List Values) → entries ≡ [] → shown ≡ [] → AreFirsts is_held [] entries shown
-unfolding first_among
-begins is_held entries shown empty none = (empty, none)
+-- what is said of a key behind one row more, whose key was known or not
+flags : (known same held has : Bool) (said : Option (Option (List ℕ))) → (same ≡ true → (held || has) ≡ known)
+    → (if known then said_if (not held && has) said else (if same then Some (Some []) else said_if (not held && has) said)) ≡ said_if (not held && (has || same)) said
+flags true false true has said is = refl
+flags true false false true said is = refl
+flags true false false false said is = refl
+flags true true true has said is = refl
+flags true true false true said is = refl
+flags true true false false said is = let no : false ≡ true = is refl in absurd cc
+flags false false true has said is = refl
+flags false false false true said is = refl
+flags false false false false said is = refl
+flags false true true has said is = let no : true ≡ false = is refl in absurd cc
+flags false true false true said is = let no : true ≡ false = is refl in absurd cc
+flags false true false false said is = refl
 
-pub row_more : (count : ℕ) (is_held : Values → Bool) (state : State) → HoldsKeys count state is_held → (rows : List FedRow) → All (IsKeyed count) rows → (at : ℕ) (row : FedRow)
-    → at < length rows → row ≡ get_or rows at row → (has_row : Bool) → has_row ≡ has_key (take at rows) row.key → (before after : Change) (shown more : List Values)
-    → Takes state row has_row before after shown more → AreFirsts is_held (take at rows) before shown → AreFirsts is_held (take (at + 1) rows) after more
-row_more count is_held state holds rows keyed at row inside is has_row has before after shown more takes was =
-    let done = take at rows in
-    let known = known_is is_held done row count state holds (subst (IsKeyed count) (sym is) (All-get_or (IsKeyed count) rows at row inside keyed)) has_row has in
-    let added = adds is_held done row (is_held row.key || has_key done row.key) before after shown more (subst (λ b. TakesIf b row before after shown more) known takes) in
-    subst (λ (l : List FedRow). AreFirsts is_held l after more) (sym (one_more rows at row inside is)) (
-      list_more is_held done row kept_entry (is_held row.key || has_key done row.key) refl before after added.0 was.0,
-      list_more is_held done row (λ (row : FedRow). row.values) (is_held row.key || has_key done row.key) refl shown more added.1 was.1,
-    )
+none_said : (b : Bool) (said : Option (Option (List ℕ))) → said ≡ said_if (b && false) said
+none_said true said = refl
+none_said false said = refl
 
--- ---- what the entries say
+still : {K A : Type 0} (before now after : A) → after ≡ now → K ⊎ (now ≡ before) → K ⊎ (after ≡ before)
+still before now after same was = elim was [
+  | inl key ↦ inl key
+  | inr unsaid ↦ inr (same ∙ unsaid)
+]
 
-module _ (count : ℕ) (is_held : Values → Bool) where
-  -- what is said of a key: of the row in front, and of those behind it
-  flags : (known same held earlier behind : Bool) → (same ≡ true → (held || earlier) ≡ known)
-      → (if known then said_if (not (held || (earlier || same)) && behind) else option_or (said_if (not (held || (earlier || same)) && behind)) (if same then Some (Some []) else None))
-      ≡ said_if (not (held || earlier) && (same || behind))
-  flags true false true earlier behind is = refl
-  flags true false false true behind is = refl
-  flags true false false false behind is = refl
-  flags true true true earlier behind is = refl
-  flags true true false true behind is = refl
-  flags true true false false behind is = let no : false ≡ true = is refl in absurd cc
-  flags false false true earlier behind is = refl
-  flags false false false true behind is = refl
-  flags false false false false true is = refl
-  flags false false false false false is = refl
-  flags false true true earlier behind is = let no : true ≡ false = is refl in absurd cc
-  flags false true false true behind is = let no : true ≡ false = is refl in absurd cc
-  flags false true false false behind is = refl
+module _ (apart : AreApart) (count : ℕ) (is_held : Values → Bool) (done : List FedRow) (row : FedRow) (keyed : IsKeyed count row) (before now after : Change) (shown more : List Values) where
+  told_by : (known : Bool) → TakesIf known row now after shown more → (key : Values) → IsReadableKey count key
+      → value_at after (keys_of key) ≡ (if known then value_at now (keys_of key) else (if is_same key row.key then Some (Some []) else value_at now (keys_of key)))
+  told_by true takes key readable = ap (λ (c : Change). value_at c (keys_of key)) takes.0
+  told_by false takes key readable =
+      takes.0 (keys_of key) ∙ ap (λ b. if b then Some (Some []) else value_at now (keys_of key)) (same_bytes apart count row.key key keyed readable ∙ same_back row.key key)
 
-  none_said : (b : Bool) → None ≡ said_if (b && false)
-  none_said true = refl
-  none_said false = refl
+  only_by : (known : Bool) → TakesIf known row now after shown more → (bytes : List ℕ) → ((key : Values) × (bytes ≡ keys_of key) × IsReadableKey count key) ⊎ (value_at now bytes ≡ value_at before bytes)
+      → ((key : Values) × (bytes ≡ keys_of key) × IsReadableKey count key) ⊎ (value_at after bytes ≡ value_at before bytes)
+  only_by true takes bytes was = still (value_at before bytes) (value_at now bytes) (value_at after bytes) (ap (λ (c : Change). value_at c bytes) takes.0) was
+  only_by false takes bytes was =
+      by_case (is_at (by_bytes (keys_of row.key)) bytes)
+      (λ at. inl (row.key, sym (one_key (keys_of row.key) bytes at), keyed))
+      (λ other. still (value_at before bytes) (value_at now bytes) (value_at after bytes) (takes.0 bytes ∙ ap (λ b. if b then Some (Some []) else value_at now bytes) other) was)
 
-  last_told : AreApart → (earlier rows : List FedRow) → AllByRecursion (IsKeyed count) rows → (key : Values) → IsReadableKey count key
-      → last_at (map kept_entry (first_among is_held earlier rows)) (keys_of key) ≡ said_if (not (is_held key || has_key earlier key) && has_key rows key)
-  unfolding first_among
-  last_told apart earlier [] all key readable = none_said (not (is_held key || has_key earlier key))
-  last_told apart earlier (row ∷ rows) all key readable =
-      let rest : last_at others (keys_of key) ≡ said_if (not (is_held key || (has_key earlier key || is_same key row.key)) && has_key rows key) =
-      last_told apart (earlier ++ row ∷ []) rows all.1 key readable ∙ ap (λ b. said_if (not (is_held key || b) && has_key rows key)) (has_more earlier row key) in
-      split (is_held row.key || has_key earlier row.key)
-      ∙ (λ i. if (is_held row.key || has_key earlier row.key) then rest i else option_or (rest i) (if same_bytes apart count key row.key readable all.0 i then Some (Some []) else None))
-      ∙ flags (is_held row.key || has_key earlier row.key) (is_same key row.key) (is_held key) (has_key earlier key) (has_key rows key) (λ same. ap (λ k. is_held k || has_key earlier k) (same_is key row.key same))
-    where
-      others : Change
-      others = map kept_entry (first_among is_held (earlier ++ row ∷ []) rows)
-
-      split : (known : Bool) → last_at (map kept_entry (if known then first_among is_held (earlier ++ row ∷ []) rows else row ∷ first_among is_held (earlier ++ row ∷ []) rows)) (keys_of key)
-          ≡ (if known then last_at others (keys_of key) else option_or (last_at others (keys_of key)) (if is_at (by_bytes (keys_of key)) (keys_of row.key) then Some (Some []) else None))
-      split true = refl
-      split false = refl
-
-  -- the entry is of a key that is read back from its bytes
-  abbrev IsOfKey : List ℕ × Option (List ℕ) → Type 0
-  IsOfKey entry = (key : Values) × (entry.0 ≡ keys_of key) × IsReadableKey count key
-
-  of_keys : (earlier rows : List FedRow) → AllByRecursion (IsKeyed count) rows → AllByRecursion IsOfKey (map kept_entry (first_among is_held earlier rows))
-  unfolding first_among
-  of_keys earlier [] all = tt
-  of_keys earlier (row ∷ rows) all = by (is_held row.key || has_key earlier row.key) (of_keys (earlier ++ row ∷ []) rows all.1)
-    where
-      by : (known : Bool) → AllByRecursion IsOfKey (map kept_entry (first_among is_held (earlier ++ row ∷ []) rows))
-          → AllByRecursion IsOfKey (map kept_entry (if known then first_among is_held (earlier ++ row ∷ []) rows else row ∷ first_among is_held (earlier ++ row ∷ []) rows))
-      by true rest = rest
-      by false rest = ((row.key, refl, all.0), rest)
-
-  pub says_firsts : AreApart → (rows : List FedRow) → All (IsKeyed count) rows → (entries change : Change) → ((bytes : List ℕ) → value_at change bytes ≡ last_at entries bytes)
-      → entries ≡ map kept_entry (first_among is_held [] rows) → SaysFirsts count is_held rows change
-  says_firsts apart rows keyed entries change said are = record {
+  says_more : (known : Bool) → (is_held row.key || has_key done row.key) ≡ known → TakesIf known row now after shown more → SaysFirsts count is_held done before now
+      → SaysFirsts count is_held (done ++ row ∷ []) before after
+  says_more known is takes says = record {
     told = λ key readable.
-        said (keys_of key)
-        ∙ ap (λ l. last_at l (keys_of key)) are
-        ∙ last_told apart [] rows each key readable
-        ∙ ap (λ b. said_if (not b && has_key rows key)) (or_false (is_held key));
-    only = λ bytes what has. last_has IsOfKey (map kept_entry (first_among is_held [] rows)) (of_keys [] rows each) bytes what (sym (said bytes ∙ ap (λ l. last_at l bytes) are) ∙ has);
+        told_by known takes key readable
+        ∙ (λ i. if known then says.told key readable i else (if is_same key row.key then Some (Some []) else says.told key readable i))
+        ∙ flags known (is_same key row.key) (is_held key) (has_key done key) (value_at before (keys_of key)) (λ same. ap (λ k. is_held k || has_key done k) (same_is key row.key same) ∙ is)
+        ∙ ap (λ b. said_if (not (is_held key) && b) (value_at before (keys_of key))) (sym (has_more done row key));
+    only = λ bytes. only_by known takes bytes (says.only bytes);
   }
-    where
-      each : AllByRecursion (IsKeyed count) rows
-      each = recursion_from_All (IsKeyed count) rows keyed
+
+-- what is said so far, and the rows shown, are those of the rows that are no repeats
+abbrev pub AreFirsts : ℕ → (Values → Bool) → List FedRow → (before now : Change) → List Values → Type 0
+AreFirsts count is_held done before now shown = SaysFirsts count is_held done before now × (shown ≡ values_in (first_among is_held [] done))
+
+pub begins : (count : ℕ) (is_held : Values → Bool) (before : Change) (shown : List Values) → shown ≡ [] → AreFirsts count is_held [] before before shown
+unfolding first_among
+begins count is_held before shown none = (record { told = λ key readable. none_said (not (is_held key)) (value_at before (keys_of key)); only = λ bytes. inr refl }, none)
+
+pub row_more : AreApart → (count : ℕ) (is_held : Values → Bool) (state : State) → HoldsKeys count state is_held → (rows : List FedRow) → All (IsKeyed count) rows → (at : ℕ) (row : FedRow)
+    → at < length rows → row ≡ get_or rows at row → (has_row : Bool) → has_row ≡ has_key (take at rows) row.key → (before now after : Change) (shown more : List Values)
+    → Takes state row has_row now after shown more → AreFirsts count is_held (take at rows) before now shown → AreFirsts count is_held (take (at + 1) rows) before after more
+row_more apart count is_held state holds rows keyed at row inside is has_row has before now after shown more takes was =
+    let done = take at rows in
+    let known : Bool = is_held row.key || has_key done row.key in
+    let own : IsKeyed count row = subst (IsKeyed count) (sym is) (All-get_or (IsKeyed count) rows at row inside keyed) in
+    let taken : TakesIf (is_held row.key || has_key done row.key) row now after shown more = subst (λ b. TakesIf b row now after shown more) (known_is is_held done row count state holds own has_row has) takes in
+    subst (λ (l : List FedRow). AreFirsts count is_held l before after more) (sym (one_more rows at row inside is)) (
+      says_more apart count is_held done row own before now after shown more known refl taken was.0,
+      shown_more is_held done row known refl shown more (shows is_held done row known now after shown more taken) was.1,
+    )
 
 -- ---- what can be printed
 

@@ -1,9 +1,7 @@
 -- The rows that are no repeats, by the keys that are kept.
-use Rattle.std.specs.Prelude.{◌≡◌, ◌++◌, ◌&&◌, ◌||◌, ℕ, Bool, true, false, not, if◌then◌else◌, List, [], ◌∷◌, Option, Some, None, is_some}
-use Rattle.std.specs.BTreeMap.{is_at}
-use Rattle.std.specs.List.{list_any}
+use Rattle.std.specs.Prelude.{◌≡◌, ◌⊎◌, ◌++◌, ◌&&◌, ◌||◌, ℕ, Bool, true, false, not, if◌then◌else◌, List, [], ◌∷◌, Option, Some, is_some}
 use Rattle.ssq_value.specs.Key.{keys_of}
-use Rattle.ssq_version.specs.State.{Change, State, by_bytes, value_at}
+use Rattle.ssq_version.specs.State.{Change, IsToldAt, State, value_at}
 use Rattle.ssq_meaning.specs.FedRows.{FedRow}
 use Rattle.ssq_meaning.specs.DedupLaws.{entry_if}
 use Rattle.ssq_meaning.specs.Group.{has_key}
@@ -26,14 +24,10 @@ first_among is_held earlier (row ∷ rows) =
 
 -- ---- a row more
 
--- what a change says of the key of a row that is shown: that it is kept, with nothing behind it
-abbrev pub kept_entry : FedRow → List ℕ × Option (List ℕ)
-kept_entry row = (keys_of row.key, Some [])
-
--- A row whose key is known changes nothing and is not shown. The key of each other row is kept, and the row is shown.
+-- A row whose key is known changes nothing and is not shown. The key of each other row is kept, with nothing behind it, and the row is shown.
 abbrev pub TakesIf : (is_known : Bool) → FedRow → (before after : Change) → (shown more : List Values) → Type 0
 TakesIf true row before after shown more = (after ≡ before) × (more ≡ shown)
-TakesIf false row before after shown more = (after ≡ before ++ kept_entry row ∷ []) × (more ≡ shown ++ row.values ∷ [])
+TakesIf false row before after shown more = IsToldAt (keys_of row.key) (Some []) before after × (more ≡ shown ++ row.values ∷ [])
 
 -- a key is known where a row before it has it, or the state
 abbrev pub Takes : State → FedRow → (has_row : Bool) → (before after : Change) → (shown more : List Values) → Type 0
@@ -41,16 +35,12 @@ Takes state row has_row before after shown more = TakesIf (has_row || is_some (v
 
 -- ---- what a change says
 
--- what is said of a key that is new: that it is kept
-abbrev pub said_if : Bool → Option (Option (List ℕ))
-said_if true = Some (Some [])
-said_if false = None
+-- what is said of a key: of one that is new that it is kept, and of any other what was said
+abbrev pub said_if : (is_new : Bool) → (was_said : Option (Option (List ℕ))) → Option (Option (List ℕ))
+said_if true was_said = Some (Some [])
+said_if false was_said = was_said
 
--- The change says of each key that rows have and that was not kept that it is kept, and nothing else.
-pub record SaysFirsts (count : ℕ) (is_held : Values → Bool) (rows : List FedRow) (change : Change) : Type 0 where
-  pub told : (key : Values) → IsReadableKey count key → value_at change (keys_of key) ≡ said_if (not (is_held key) && has_key rows key)
-  pub only : (bytes : List ℕ) (said : Option (List ℕ)) → value_at change bytes ≡ Some said → (key : Values) × (bytes ≡ keys_of key) × IsReadableKey count key
-
--- it says of each of these keys that it goes, and of each other what was said
-abbrev pub IsGone : List (List ℕ) → (before after : Change) → Type 0
-IsGone keys before after = (bytes : List ℕ) → value_at after bytes ≡ (if list_any (is_at (by_bytes bytes)) keys then Some None else value_at before bytes)
+-- The change says of each key that rows have and that was not kept that it is kept, and of all other bytes what was said.
+pub record SaysFirsts (count : ℕ) (is_held : Values → Bool) (rows : List FedRow) (before after : Change) : Type 0 where
+  pub told : (key : Values) → IsReadableKey count key → value_at after (keys_of key) ≡ said_if (not (is_held key) && has_key rows key) (value_at before (keys_of key))
+  pub only : (bytes : List ℕ) → ((key : Values) × (bytes ≡ keys_of key) × IsReadableKey count key) ⊎ (value_at after bytes ≡ value_at before bytes)

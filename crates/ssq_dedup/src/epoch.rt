@@ -11,19 +11,18 @@ ghost use Rattle.ssq_meaning.specs.Dedup.{values_in};
 ghost use Rattle.ssq_meaning.specs.Fit.{IsFitRow};
 ghost use Rattle.ssq_meaning.specs.Group.{is_same};
 ghost use Rattle.ssq_meaning.specs.Operator.{dedup};
-ghost use Rattle.ssq_version.specs.State.{IsShort, IsShortEntry, value_at};
-ghost use Rattle.ssq_step.specs.Indexing.{seen};
+ghost use Rattle.ssq_version.specs.State.{value_at};
 ghost use Rattle.ssq_step.specs.Steps.{IsStep};
 ghost use Rattle.ssq_step.specs.declared.fault.StepFault.TheVariants.{NoMemory};
-ghost use Rattle.ssq_dedup.specs.Firsts.{HoldsKeys, IsGone, IsKeyed, SaysFirsts, Takes, first_among};
+ghost use Rattle.ssq_dedup.specs.Firsts.{HoldsKeys, IsKeyed, SaysFirsts, Takes, first_among};
 ghost use Rattle.ssq_dedup.specs.Steps.{Given, KeepsRepeats};
 
 use ssq_field::Bytes;
 use ssq_meaning::{FedRow, first_rows_are_told_by_what_is_kept, kept_keys_are_found};
 use ssq_shape::{Bound, Shape};
-use ssq_step::{Closing, Key, StepFault, Stepped, bytes_of_key, copied_row, short};
+use ssq_step::{Closing, Key, StepFault, Stepped, bytes_of_key, copied_row, forget};
 use ssq_value::{Row, Value, keys_are_apart};
-use ssq_version::{Change, StateMap};
+use ssq_version::{Change, Draft, StateMap};
 use std::alloc::{AllocError, Global};
 use std::collections::HashSet;
 
@@ -47,14 +46,13 @@ fn take_row<'a>(
     alloc: Global,
     state: &StateMap,
     keys: &mut HashSet<Key<'a>>,
-    entries: &mut Vec<(Bytes, Option<Bytes>)>,
+    draft: &mut Draft,
     shown: &mut Vec<Row>,
     row: &'a FedRow,
 ) -> Result<(), AllocError>
     requires { IsFitRow row.now }
     ensures keys { OnOk result ((key : List Cell) → contains is_same keys.new key ≡ (is_same row.now.key key || contains is_same keys.old key)) }
-    ensures taken { OnOk result (Takes state.now row.now (contains is_same keys.old row.now.key) entries.old.items entries.new.items shown.old.items shown.new.items) }
-    ensures short { All IsShortEntry entries.old.items → OnOk result (All IsShortEntry entries.new.items) }
+    ensures taken { OnOk result (Takes state.now row.now (contains is_same keys.old row.now.key) draft.old draft.new shown.old.items shown.new.items) }
 {
     let is_new = note_key(keys, row.key())?;
     if !is_new {
@@ -65,48 +63,31 @@ fn take_row<'a>(
         return Ok(());
     }
     shown.push(copied_row(alloc, row.values())?)?;
-    entries.push((key, Some(Bytes::new(alloc))))?;
+    draft.put(key, Bytes::new(alloc))?;
     Ok(())
 }
 
-/// The rows that are no repeats, and that their keys are kept from now on. The state is asked once for each key.
-fn first_rows(alloc: Global, state: &StateMap, rows: &[FedRow]) -> Result<Stepped, AllocError>
+/// The rows that are no repeats. The draft says of their keys that they are kept from now on. The state is asked once for each key.
+fn first_rows(
+    alloc: Global,
+    state: &StateMap,
+    draft: &mut Draft,
+    rows: &[FedRow],
+) -> Result<Vec<Row>, AllocError>
     requires { All IsFitRow rows.now }
-    ensures change { (count : ℕ) (is_held : List Cell → Bool) → HoldsKeys count state.now is_held → All (IsKeyed count) rows.now →
-        IfOk result (λ stepped. SaysFirsts count is_held rows.now stepped.change) }
+    ensures says { (count : ℕ) (is_held : List Cell → Bool) → HoldsKeys count state.now is_held → All (IsKeyed count) rows.now →
+        OnOk result (SaysFirsts count is_held rows.now draft.old draft.new) }
     ensures rows { (count : ℕ) (is_held : List Cell → Bool) → HoldsKeys count state.now is_held → All (IsKeyed count) rows.now →
-        IfOk result (λ stepped. stepped.rows.items ≡ values_in (first_among is_held [] rows.now)) }
-    ensures printable { IfOk result (λ stepped. All (All (IfTime IsStampTime)) stepped.rows.items) }
+        IfOk result (λ shown. shown.items ≡ values_in (first_among is_held [] rows.now)) }
+    ensures printable { IfOk result (λ shown. All (All (IfTime IsStampTime)) shown.items) }
 {
     keys_are_apart();
     let mut keys = HashSet::with_capacity(alloc, rows.len())?;
-    let mut entries = Vec::new(alloc);
     let mut shown = Vec::new(alloc);
     for row in rows {
-        take_row(alloc, state, &mut keys, &mut entries, &mut shown, row)?;
+        take_row(alloc, state, &mut keys, draft, &mut shown, row)?;
     }
-    let change = Change::of_entries(alloc, entries)?;
-    Ok(Stepped {
-        change,
-        rows: shown,
-    })
-}
-
-fn copied(key: &Bytes) -> Result<Bytes, AllocError>
-    ensures bytes { IfOk result (λ copy. copy ≡ key.now) }
-    ensures short { IfOk result IsShort }
-{
-    short(key.clone()?)
-}
-
-/// Says that these keys are kept no more.
-fn forget(alloc: Global, change: &mut Change, keys: &[&Bytes]) -> Result<(), AllocError>
-    ensures { OnOk result (IsGone (seen keys.now) change.old change.new) }
-{
-    for key in keys {
-        change.remove(copied(key)?)?;
-    }
-    Ok(())
+    Ok(shown)
 }
 
 /// The step of a query that deduplicates.
@@ -125,10 +106,11 @@ fn step_rows(
 {
     kept_keys_are_found();
     first_rows_are_told_by_what_is_kept();
-    let first = first_rows(alloc, state, rows)?;
-    let Stepped { mut change, rows } = first;
+    let mut draft = Draft::new(alloc);
+    let rows = first_rows(alloc, state, &mut draft, rows)?;
     let keys = closing.past(alloc, now)?;
-    forget(alloc, &mut change, keys.as_slice())?;
+    forget(&mut draft, keys.as_slice())?;
+    let change = draft.into_change(alloc)?;
     Ok(Stepped { change, rows })
 }
 
@@ -148,7 +130,7 @@ pub fn step(
     watermark: Option<i64>,
 ) -> Result<Stepped, StepFault>
     requires { All IsFitRow rows.now }
-    // The change leads from the state over the rows before to that over these rows too, and the rows that are shown are the epoch's.
+    // The change leads from the state over the rows before to that over these rows too, and the rows that are shown are the epoch's, as a bag.
     ensures stepped { (columns : List ℕ) (old : List Fed) (before : Option ℤ) → Given bound.now columns state.now closing.now old rows.now before watermark →
         IfOk result (IsStep (dedup bound.now columns) state.now old rows.now before watermark) }
     // It fails only where memory ran out.

@@ -4,7 +4,6 @@ use Rattle.std.specs.HashSet.{contains}
 use Rattle.ssq_time.specs.Time.{IsStampTime}
 use Rattle.ssq_value.specs.declared.value.Value.{Value}
 use Rattle.ssq_value.specs.Kind.{IfTime}
-use Rattle.ssq_version.specs.State.{IsShortEntry}
 use Rattle.ssq_meaning.specs.Group.{has_key, is_same}
 use Rattle.ssq_dedup.specs.Firsts.{HoldsKeys, IsKeyed}
 use Rattle.ssq_dedup.proofs.Taking.{AreFirsts}
@@ -13,7 +12,6 @@ use Rattle.ssq_dedup.proofs.epoch.first_rows.Given as goal
 abbrev pub invariant-loop-row : goal.invariant-loop-row
 invariant-loop-row l = record {
   keys : (key : List Value) → contains is_same l.keys key ≡ has_key (take l.row-index l.rows) key;
-  firsts : (count : ℕ) (is_held : List Value → Bool) → HoldsKeys count l.state is_held → All (IsKeyed count) l.rows → AreFirsts is_held (take l.row-index l.rows) l.entries.items l.shown.items;
-  short : All IsShortEntry l.entries.items;
+  firsts : (count : ℕ) (is_held : List Value → Bool) → HoldsKeys count l.state is_held → All (IsKeyed count) l.rows → AreFirsts count is_held (take l.row-index l.rows) l.fn.draft l.draft l.shown.items;
   printable : All (All (IfTime IsStampTime)) l.shown.items;
 }

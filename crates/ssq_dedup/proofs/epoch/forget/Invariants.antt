@@ -1,7 +1,0 @@
-use Rattle.std.proofs.Common.{take}
-use Rattle.ssq_step.specs.Indexing.{seen}
-use Rattle.ssq_dedup.specs.Firsts.{IsGone}
-use Rattle.ssq_dedup.proofs.epoch.forget.Given as goal
-
-abbrev pub invariant-loop-key : goal.invariant-loop-key
-invariant-loop-key l = IsGone (seen (take l.key-index l.keys)) l.fn.change l.change
