@@ -46,9 +46,9 @@ items = record { Form = WrittenItem; wrote = item_words; good = IsRegularItem Is
 abbrev as_v : Words
 as_v = keyword key.As ∷ name v ∷ []
 
-bare_next : (is_name : Bool) (value : Expr) (at : ℕ) (rest : Ahead) → RefusesNext rest (bare_at is_name value at rest)
+bare_next : (is_name : Bool) (value : Expr) (at : ℕ) (rest : Ahead) → RefusesNext as_v rest (bare_at is_name value at rest)
 bare_next true (e.Column column) at rest = tt
-bare_next is_name other at rest = refl
+bare_next is_name other at rest = (refl, tt)
 
 -- behind the words of an expression an item that is no column goes on with AS, and behind that with a name
 module _ (start : Ahead) (w : Written) (regular : IsRegular w) (flag : Bool) (value : Tree) where
@@ -57,7 +57,7 @@ module _ (start : Ahead) (w : Written) (regular : IsRegular w) (flag : Bool) (va
   label_begun t ts took false is = begun_next item_words (IsRegularItem IsRegular) start (t ∷ ts) (words w) as_v (bare_at flag value.value value.at (t ∷ ts)) (bare_next flag value.value value.at (t ∷ ts)) took (named_item w v) regular refl
   label_begun t ts took true is =
       begun_any item_words (IsRegularItem IsRegular) start (name_at ts) (λ label. Ok (item_of value.value value.at label.0, label.1))
-      (begun_next item_words (IsRegularItem IsRegular) start ts (words w ++ keyword key.As ∷ []) (name v ∷ []) (name_at ts) (name_next ts)
+      (begun_next item_words (IsRegularItem IsRegular) start ts (words w ++ keyword key.As ∷ []) (name v ∷ []) (name_at ts) (name_next (name v ∷ []) ts)
       (took_more took (took_one t ts (keyword key.As) (is refl))) (named_item w v) regular (sym (append_assoc (words w) (keyword key.As ∷ []) (name v ∷ []))))
       (λ label. tt)
 

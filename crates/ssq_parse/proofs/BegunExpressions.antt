@@ -116,7 +116,7 @@ null_on : (what : NullTest) (depth : ℕ) (start ts us : Ahead) (t : Lexed) (lef
 null_on what depth start ts us t left sl word u took is =
     made_then 3 start us (null_test what t.start left) (λ tested. keyword_at key.Null tested.1 >>= (λ null. Ok (tested.0, null.1))) (null_test_made what t.start left)
     (λ x. begun_any words (Fits 3) start (keyword_at key.Null us) (λ null. Ok (x, null.1))
-    (begun_next words (Fits 3) start us (words sl.written ++ keyword key.Is ∷ u) (keyword key.Null ∷ []) (keyword_at key.Null us) (keyword_next key.Null us)
+    (begun_next words (Fits 3) start us (words sl.written ++ keyword key.Is ∷ u) (keyword key.Null ∷ []) (keyword_at key.Null us) (keyword_next key.Null (keyword key.Null ∷ []) us)
     (took_more sl.took (took_more (took_one t ts (keyword key.Is) word) took)) (null_tested sl.written what) (omega arith, (sl.tight, sl.regular))
     (ap (λ test. words sl.written ++ keyword key.Is ∷ test) is ∙ sym (append_assoc (words sl.written) (keyword key.Is ∷ u) (keyword key.Null ∷ []))))
     (λ null. tt))
@@ -170,7 +170,7 @@ module _ (depth : ℕ) (inner : Reader) (sound : (k : ℕ) → depth ≡ suc k �
 
       and_begun : IfBegun words (Fits 3) start (keyword_at key.And low.1)
       and_begun =
-          begun_next words (Fits 3) start low.1 so_far (keyword key.And ∷ keyword key.True ∷ []) (keyword_at key.And low.1) (keyword_next key.And low.1) took_low
+          begun_next words (Fits 3) start low.1 so_far (keyword key.And ∷ keyword key.True ∷ []) (keyword_at key.And low.1) (keyword_next key.And (keyword key.And ∷ keyword key.True ∷ []) low.1) took_low
           (spec.between sl.written sm.written (of_truth true)) (omega arith, (sl.tight, sl.regular, sm.tight, sm.regular, omega arith, tt)) refl
 
       high_begun : (us : Ahead) → Took low.1 us (keyword key.And ∷ []) → IfBegun words (Fits 3) start (sum_at depth inner us)

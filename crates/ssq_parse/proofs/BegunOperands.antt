@@ -10,7 +10,7 @@ use Rattle.ssq_lex.specs.declared.keyword.Keyword.{Keyword}
 use Rattle.ssq_lex.specs.declared.keyword.Keyword.TheVariants as key
 use Rattle.ssq_lex.specs.declared.symbol.Symbol.TheVariants as mark
 use Rattle.ssq_lex.specs.Lexeme.{Lexeme, keyword, name, number, quoted, symbol, Lexed}
-use Rattle.ssq_parse.specs.declared.fault.ParseCause.TheVariants.{TooDeep}
+use Rattle.ssq_parse.specs.declared.fault.ParseCause.TheVariants.{Expected, TooDeep}
 use Rattle.ssq_parse.specs.declared.tree.Tree.{Tree}
 use Rattle.ssq_parse.specs.Expressions.{Reader, inside_at, bracketed_at, argument_at, aggregate_at, rows_by, count_at, column_by, column_at, timestamp_at, interval_at, worded_at, primary_by, primary_at}
 use Rattle.ssq_parse.specs.Reading.{Ahead, ◌>>=◌, refused, place, seen, is_symbol, symbol_at, name_at, span_at, moment_at}
@@ -30,8 +30,8 @@ abbrev pub Begins : ℕ → Reader → Type 0
 Begins asked reader = (tokens : Ahead) → IfBegun words (Fits asked) tokens (reader tokens)
 
 -- where none of an operand is read
-none_begun : (tokens : Ahead) → Begun words (Fits 7) tokens (place tokens)
-none_begun tokens = record { front = []; rest = tokens; took = took_none tokens; here = refl; written = of_truth true; is_good = (omega arith, tt); more = keyword key.True ∷ []; said = refl }
+none_begun : (tokens : Ahead) → Begun words (Fits 7) tokens (record { at = place tokens; cause = Expected })
+none_begun tokens = record { front = []; rest = tokens; took = took_none tokens; here = refl; written = of_truth true; is_good = (omega arith, tt); more = keyword key.True ∷ []; said = refl; text = tt }
 
 -- ---- operands without brackets
 
@@ -40,7 +40,7 @@ module _ (t : Lexed) (ts : Ahead) where
   unfolding timestamp_at
   timestamp_begun word =
       begun_any words (Fits 7) (t ∷ ts) (moment_at ts) (λ moment. Ok (leaf t.start (e.Timestamp moment.0 t.start), moment.1))
-      (begun_next words (Fits 7) (t ∷ ts) ts (keyword key.Timestamp ∷ []) (quoted some_moment.text ∷ []) (moment_at ts) (moment_next ts)
+      (begun_next words (Fits 7) (t ∷ ts) ts (keyword key.Timestamp ∷ []) (quoted some_moment.text ∷ []) (moment_at ts) (moment_next some_moment.text ts)
       (took_one t ts (keyword key.Timestamp) word) (of_moment some_moment) (omega arith, some_moment_is) refl)
       (λ moment. tt)
 
@@ -48,7 +48,7 @@ module _ (t : Lexed) (ts : Ahead) where
   unfolding interval_at
   interval_begun word =
       begun_any words (Fits 7) (t ∷ ts) (span_at ts) (λ span. Ok (leaf t.start (e.Interval span.0 t.start), span.1))
-      (begun_next words (Fits 7) (t ∷ ts) ts (keyword key.Interval ∷ []) (quoted some_span.text ∷ []) (span_at ts) (span_next ts)
+      (begun_next words (Fits 7) (t ∷ ts) ts (keyword key.Interval ∷ []) (quoted some_span.text ∷ []) (span_at ts) (span_next some_span.text ts)
       (took_one t ts (keyword key.Interval) word) (of_span some_span) (omega arith, some_span_is) refl)
       (λ span. tt)
 
@@ -56,7 +56,7 @@ module _ (t : Lexed) (ts : Ahead) where
       → IfBegun words (Fits 7) (t ∷ ts) (column_by (record { text = text; at = t.start }) (if b then Some d.start else None) (d ∷ us))
   column_by_dot text word d us took true dot =
       begun_any words (Fits 7) (t ∷ ts) (name_at us) (λ column. Ok (leaf t.start (e.Column (record { stream = Some (record { text = text; at = t.start }); column = column.0 })), column.1))
-      (begun_next words (Fits 7) (t ∷ ts) us (name text ∷ symbol mark.Dot ∷ []) (name text ∷ []) (name_at us) (name_next us)
+      (begun_next words (Fits 7) (t ∷ ts) us (name text ∷ symbol mark.Dot ∷ []) (name text ∷ []) (name_at us) (name_next (name text ∷ []) us)
       (took_more took (took_one d us (symbol mark.Dot) (dot refl))) (of_column (record { stream = Some text; column = text })) (omega arith, tt) refl)
       (λ column. tt)
   column_by_dot text word d us took false dot = tt
@@ -85,7 +85,7 @@ module _ (depth : ℕ) (inner : Reader) (sound : (k : ℕ) → depth ≡ suc k �
       (said : (w : Written) → words (make w) ≡ u ++ (words w ++ symbol mark.RightParen ∷ [])) where
     unclosed : (found : Tree × Ahead) → In depth us found → IfBegun words (Fits 7) start (symbol_at mark.RightParen found.1)
     unclosed found (k, is, sp) =
-        begun_next words (Fits 7) start found.1 (u ++ words sp.written) (symbol mark.RightParen ∷ []) (symbol_at mark.RightParen found.1) (symbol_next mark.RightParen found.1)
+        begun_next words (Fits 7) start found.1 (u ++ words sp.written) (symbol mark.RightParen ∷ []) (symbol_at mark.RightParen found.1) (symbol_next mark.RightParen (symbol mark.RightParen ∷ []) found.1)
         (took_more took sp.took) (make sp.written) (fits sp.written sp.regular) (said sp.written ∙ sym (append_assoc u (words sp.written) (symbol mark.RightParen ∷ [])))
 
     closed_begun : (bracket : ℕ) (f : Tree → Tree)
@@ -116,7 +116,7 @@ module _ (depth : ℕ) (inner : Reader) (sound : (k : ℕ) → depth ≡ suc k �
     aggregate_begun f word =
         begun_then words (Fits 7) (t ∷ ts) (λ bracket. Took ts bracket.1 (symbol mark.LeftParen ∷ [])) (symbol_at mark.LeftParen ts) (λ bracket. argument_at depth inner f t.start bracket.0 bracket.1)
         (symbol_sound mark.LeftParen ts)
-        (begun_next words (Fits 7) (t ∷ ts) ts (keyword (function_key f) ∷ []) (in_brackets (keyword key.True ∷ [])) (symbol_at mark.LeftParen ts) (symbol_next mark.LeftParen ts)
+        (begun_next words (Fits 7) (t ∷ ts) ts (keyword (function_key f) ∷ []) (in_brackets (keyword key.True ∷ [])) (symbol_at mark.LeftParen ts) (symbol_next mark.LeftParen (in_brackets (keyword key.True ∷ [])) ts)
         (took_one t ts (keyword (function_key f)) word) (of_function f (of_truth true)) (omega arith, tt) refl)
         (λ bracket opened. argument_begun f bracket.1 bracket.0 word opened)
 
@@ -126,7 +126,7 @@ module _ (depth : ℕ) (inner : Reader) (sound : (k : ℕ) → depth ≡ suc k �
     starred word s vs opened star bracket true = tt
     starred word s vs opened star bracket false =
         begun_any words (Fits 7) (t ∷ ts) (symbol_at mark.RightParen vs) (λ closed. Ok (leaf t.start (e.CountRows t.start), closed.1))
-        (begun_next words (Fits 7) (t ∷ ts) vs (keyword key.Count ∷ symbol mark.LeftParen ∷ symbol mark.Star ∷ []) (symbol mark.RightParen ∷ []) (symbol_at mark.RightParen vs) (symbol_next mark.RightParen vs)
+        (begun_next words (Fits 7) (t ∷ ts) vs (keyword key.Count ∷ symbol mark.LeftParen ∷ symbol mark.Star ∷ []) (symbol mark.RightParen ∷ []) (symbol_at mark.RightParen vs) (symbol_next mark.RightParen (symbol mark.RightParen ∷ []) vs)
         (took_more (took_one t ts (keyword key.Count) word) (took_more opened (took_one s vs (symbol mark.Star) star))) of_rows (omega arith, tt) refl)
         (λ closed. tt)
 
@@ -146,7 +146,7 @@ module _ (depth : ℕ) (inner : Reader) (sound : (k : ℕ) → depth ≡ suc k �
         begun_then words (Fits 7) (t ∷ ts) (λ bracket. Took ts bracket.1 (symbol mark.LeftParen ∷ [])) (symbol_at mark.LeftParen ts)
         (λ bracket. rows_by depth inner t.start bracket.0 (seen (is_symbol mark.Star) bracket.1) bracket.1)
         (symbol_sound mark.LeftParen ts)
-        (begun_next words (Fits 7) (t ∷ ts) ts (keyword key.Count ∷ []) (in_brackets (symbol mark.Star ∷ [])) (symbol_at mark.LeftParen ts) (symbol_next mark.LeftParen ts)
+        (begun_next words (Fits 7) (t ∷ ts) ts (keyword key.Count ∷ []) (in_brackets (symbol mark.Star ∷ [])) (symbol_at mark.LeftParen ts) (symbol_next mark.LeftParen (in_brackets (symbol mark.Star ∷ [])) ts)
         (took_one t ts (keyword key.Count) word) of_rows (omega arith, tt) refl)
         (λ bracket opened. rows_begun word bracket.0 bracket.1 opened)
 

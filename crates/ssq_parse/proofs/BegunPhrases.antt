@@ -1,4 +1,4 @@
--- Readers that take a phrase of the grammar, or what begins one where a token is missing.
+-- Readers that take a phrase of the grammar, or what begins one where a token is missing or a text is refused.
 use Rattle.std.proofs.Common.{◌≡◌, ℕ, Bool, true, false, sym, ◌∙◌, zero, suc, List, [], ◌∷◌, ◌++◌, map, drop, length, refl, Option, Some, None, Ok, Err, append-nil}
 use Rattle.std.specs.Prelude.{if◌then◌else◌}
 use Rattle.ssq_ast.specs.Expression.{Words}
@@ -8,7 +8,7 @@ use Rattle.ssq_lex.specs.declared.symbol.Symbol.{Symbol}
 use Rattle.ssq_lex.specs.declared.symbol.Symbol.TheVariants as mark
 use Rattle.ssq_lex.specs.Lexeme.{Lexeme, keyword, symbol, Lexed}
 use Rattle.ssq_parse.specs.Queries.{list_then, list_from, list_at}
-use Rattle.ssq_parse.specs.Reading.{Ahead, Read, ◌>>=◌, seen, is_keyword, is_symbol, keyword_at, symbol_at}
+use Rattle.ssq_parse.specs.Reading.{Ahead, Read, Refusal, ◌>>=◌, seen, is_keyword, is_symbol, keyword_at, symbol_at}
 use Rattle.ssq_parse.specs.Written.{Took, IfRead}
 use Rattle.ssq_parse.proofs.Begun.{Begun, IfBegun, at_end, begun_map, RefusesNext, keyword_next, symbol_next}
 use Rattle.ssq_parse.proofs.Local.{IfMissing, if_missing}
@@ -66,12 +66,12 @@ pub record Taken (L : Phrases) (tokens rest : Ahead) : Type 0 where
   pub is_good : L.good written
   pub took : Took tokens rest (L.wrote written)
 
-abbrev pub BegunBy : Phrases → Ahead → Option ℕ → Type 0
-BegunBy L tokens at = Begun L.wrote L.good tokens at
+abbrev pub BegunBy : Phrases → Ahead → Refusal → Type 0
+BegunBy L tokens refusal = Begun L.wrote L.good tokens refusal
 
 abbrev pub Told : {A : Type 0} → Phrases → Ahead → Read A → Type 0
 Told L tokens (Ok found) = Taken L tokens found.1
-Told L tokens (Err refusal) = IfMissing refusal.cause refusal.at (BegunBy L tokens refusal.at)
+Told L tokens (Err refusal) = IfMissing refusal.cause refusal.at (BegunBy L tokens refusal)
 
 pub record Tells {A : Type 0} (L : Phrases) (reader : Ahead → Read A) : Type 0 where
   pub told : (tokens : Ahead) → Told L tokens (reader tokens)
@@ -85,25 +85,25 @@ told_by L tokens (Ok found) taken begun = taken
 told_by L tokens (Err refusal) taken begun = begun
 
 -- a reader that refuses the next token, or takes a phrase
-next_told : {A : Type 0} (L : Phrases) (tokens : Ahead) (read : Read A) → IfRead read (λ found. Taken L tokens found.1) → RefusesNext tokens read → Told L tokens read
+next_told : {A : Type 0} (L : Phrases) (tokens : Ahead) (read : Read A) → IfRead read (λ found. Taken L tokens found.1) → RefusesNext (L.wrote L.one) tokens read → Told L tokens read
 next_told L tokens (Ok found) taken next = taken
 next_told L tokens (Err refusal) taken next =
-    if_missing refusal.cause refusal.at (λ here. record { front = []; rest = tokens; took = took_none tokens; here = here; written = L.one; is_good = L.fine; more = L.wrote L.one; said = refl }) next
+    if_missing refusal.cause refusal.at (λ refuses. record { front = []; rest = tokens; took = took_none tokens; here = refuses.0; written = L.one; is_good = L.fine; more = L.wrote L.one; said = refl; text = refuses.1 }) next
 
-pub next_tells : {A : Type 0} (L : Phrases) (reader : Ahead → Read A) → ((tokens : Ahead) → IfRead (reader tokens) (λ found. Taken L tokens found.1)) → ((tokens : Ahead) → RefusesNext tokens (reader tokens))
+pub next_tells : {A : Type 0} (L : Phrases) (reader : Ahead → Read A) → ((tokens : Ahead) → IfRead (reader tokens) (λ found. Taken L tokens found.1)) → ((tokens : Ahead) → RefusesNext (L.wrote L.one) tokens (reader tokens))
     → Tells L reader
 next_tells L reader taken next = record { told = λ tokens. next_told L tokens (reader tokens) (taken tokens) (next tokens) }
 
 pub word_tells : (k : Keyword) → Tells (word (keyword k)) (keyword_at k)
-word_tells k = next_tells (word (keyword k)) (keyword_at k) (λ tokens. keep (keyword_at k tokens) (keyword_sound k tokens) (λ found took. record { written = tt; is_good = tt; took = took })) (keyword_next k)
+word_tells k = next_tells (word (keyword k)) (keyword_at k) (λ tokens. keep (keyword_at k tokens) (keyword_sound k tokens) (λ found took. record { written = tt; is_good = tt; took = took })) (keyword_next k (keyword k ∷ []))
 
 pub symbol_tells : (s : Symbol) → Tells (word (symbol s)) (symbol_at s)
-symbol_tells s = next_tells (word (symbol s)) (symbol_at s) (λ tokens. keep (symbol_at s tokens) (symbol_sound s tokens) (λ found took. record { written = tt; is_good = tt; took = took })) (symbol_next s)
+symbol_tells s = next_tells (word (symbol s)) (symbol_at s) (λ tokens. keep (symbol_at s tokens) (symbol_sound s tokens) (λ found took. record { written = tt; is_good = tt; took = took })) (symbol_next s (symbol s ∷ []))
 
 -- ---- the same words as phrases of another kind
 
 module _ (L M : Phrases) (turn : Becomes L M) (tokens : Ahead) where
-  begun_as : {at : Option ℕ} → BegunBy L tokens at → BegunBy M tokens at
+  begun_as : {refusal : Refusal} → BegunBy L tokens refusal → BegunBy M tokens refusal
   begun_as b = record {
     front = b.front;
     rest = b.rest;
@@ -113,6 +113,7 @@ module _ (L M : Phrases) (turn : Becomes L M) (tokens : Ahead) where
     is_good = turn.made b.written b.is_good;
     more = b.more;
     said = turn.said b.written b.is_good ∙ b.said;
+    text = b.text;
   }
 
   taken_as : (rest : Ahead) → Taken L tokens rest → Taken M tokens rest
@@ -130,11 +131,11 @@ tells_as {L = L} {M = M} {r = r} turn t = record { told = λ tokens. told_as L M
 -- ---- one behind the other
 
 module _ (L M : Phrases) (tokens : Ahead) where
-  begun_front : {at : Option ℕ} → BegunBy L tokens at → BegunBy (both L M) tokens at
+  begun_front : {refusal : Refusal} → BegunBy L tokens refusal → BegunBy (both L M) tokens refusal
   begun_front = begun_map L.wrote L.good (both L M).wrote (both L M).good [] (M.wrote M.one) (took_none tokens) (λ w. (w, M.one)) (λ w is. (is, M.fine)) (λ w. refl)
 
   module _ (mid : Ahead) (t : Taken L tokens mid) where
-    begun_back : {at : Option ℕ} → BegunBy M mid at → BegunBy (both L M) tokens at
+    begun_back : {refusal : Refusal} → BegunBy M mid refusal → BegunBy (both L M) tokens refusal
     begun_back = begun_map M.wrote M.good (both L M).wrote (both L M).good (L.wrote t.written) [] t.took (λ w. (t.written, w)) (λ w is. (t.is_good, is)) (λ w. at_end _ (L.wrote t.written) (M.wrote w) refl)
 
     told_more : {A : Type 0} (read : Read A) → Told M mid read → Told (both L M) tokens read
@@ -212,7 +213,7 @@ module _ {A : Type 0} (L : Phrases) (part : Ahead → Read A) (tells : Tells L p
 
   list_from_tells : (turns : ℕ) (found : List A) → Tells (listed L) (list_from part turns found)
   unfolding list_from
-  list_from_tells zero found = next_tells (listed L) (list_from part zero found) (λ tokens. tt) (λ tokens. refl)
+  list_from_tells zero found = next_tells (listed L) (list_from part zero found) (λ tokens. tt) (λ tokens. (refl, tt))
   list_from_tells (suc turns) found =
       tells_as (record { make = λ w. w.0 ∷ w.1; made = λ w is. (tt, is); said = λ w is. one_said w.0 w.1 })
       (followed tells (λ x. if_symbol mark.Comma (list_then (list_from part turns) (found ++ x ∷ [])) (pure others [] tt refl (found ++ x ∷ []))

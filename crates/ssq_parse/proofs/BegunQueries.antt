@@ -8,14 +8,14 @@ use Rattle.ssq_ast.specs.Statement.{WrittenSelect, WrittenQuery, separated, dist
 use Rattle.ssq_lex.specs.declared.keyword.Keyword.TheVariants as key
 use Rattle.ssq_lex.specs.declared.symbol.Symbol.TheVariants as mark
 use Rattle.ssq_lex.specs.Cut.{cut_of}
-use Rattle.ssq_lex.specs.Lexeme.{Lexeme, keyword, name}
+use Rattle.ssq_lex.specs.Lexeme.{Lexeme, keyword, name, quoted}
 use Rattle.ssq_parse.specs.Begun.{BeginsQuery, or_end, IsBegun}
 use Rattle.ssq_parse.specs.declared.fault.ParseCause.{ParseCause}
 use Rattle.ssq_parse.specs.declared.fault.ParseCause.TheVariants as cause
 use Rattle.ssq_parse.specs.Queries.{item_at, select_from, select_at, alone, whole_query, query_from, query_at}
-use Rattle.ssq_parse.specs.Reading.{Ahead, Made, Read, place, behind}
+use Rattle.ssq_parse.specs.Reading.{Ahead, Made, Read, Refusal, place, behind}
 use Rattle.ssq_parse.specs.Written.{says, starts, Took}
-use Rattle.ssq_parse.proofs.Begun.{Begun}
+use Rattle.ssq_parse.proofs.Begun.{Begun, BeginsText}
 use Rattle.ssq_parse.proofs.BegunPhrases.{Phrases, word, both, listed, Becomes, Taken, BegunBy, Told, Tells, word_tells, symbol_tells, tells_as, followed, last, skip, if_keyword, list_tells}
 use Rattle.ssq_parse.proofs.BegunClauses.{items, items_tell, conditions, conditions_tell, joins, joins_tell, deduplicates, deduplicates_tell, groupings, groupings_tell, orderings, orderings_tell, limits, limits_tell, modes, modes_tell}
 use Rattle.ssq_parse.proofs.BegunStreams.{v, names, names_tell, streams_tell, semicolon}
@@ -132,13 +132,13 @@ queries_tell = tells_as (record { make = λ w. record { streams = w.0; select = 
 
 abbrev pub IfMade : Ahead → Made Query → Type 0
 IfMade tokens (Ok query) = Unit {0}
-IfMade tokens (Err refusal) = IfMissing refusal.cause refusal.at (Begun query_words (IsRegularQuery IsRegular) tokens refusal.at)
+IfMade tokens (Err refusal) = IfMissing refusal.cause refusal.at (Begun query_words (IsRegularQuery IsRegular) tokens refusal)
 
 -- behind a whole query nothing stands
 alone_begun : (tokens : Ahead) (query : Query) (rest : Ahead) → Taken queries tokens rest → (at : Option ℕ) → IfMade tokens (alone query at rest)
 alone_begun tokens query rest t None = tt
 alone_begun tokens query rest t (Some at) =
-    record { front = query_words t.written; rest = rest; took = t.took; here = refl; written = t.written; is_good = t.is_good; more = []; said = sym (append-nil (query_words t.written)) }
+    record { front = query_words t.written; rest = rest; took = t.took; here = refl; written = t.written; is_good = t.is_good; more = []; said = sym (append-nil (query_words t.written)); text = tt }
 
 made_begun : (tokens : Ahead) (read : Read Query) → Told queries tokens read → IfMade tokens (whole_query read)
 made_begun tokens (Ok found) told = alone_begun tokens found.0 found.1 told (place found.1)
@@ -174,7 +174,7 @@ alone_all tokens query rest t (Some at) here all = absurd (cc)
 made_all : (tokens : Ahead) (read : Read Query) → Told queries tokens read → ReadsAll (whole_query read) → BeginsQuery (says tokens)
 made_all tokens (Ok found) told all = alone_all tokens found.0 found.1 told (place found.1) refl all
 made_all tokens (Err refusal) told all =
-    let b : BegunBy queries tokens refusal.at = missing_none refusal.cause refusal.at all told in
+    let b : BegunBy queries tokens refusal = missing_none refusal.cause refusal.at all told in
     all_by tokens b.rest (b.here ∙ all) b.front b.took b.written b.is_good b.more b.said
 
 -- tokens that are read to their end begin a query
@@ -194,8 +194,8 @@ place_first [] = refl
 place_first (t ∷ ts) = refl
 
 -- what is said of tokens, said of the file that they are cut from
-pub is_begun : (file : List ℕ) (at : Option ℕ) → Begun query_words (IsRegularQuery IsRegular) (cut_of file).tokens at → IsBegun file (or_end (length file) at)
-is_begun file at b = record {
+pub is_begun : (file : List ℕ) (refusal : Refusal) → Begun query_words (IsRegularQuery IsRegular) (cut_of file).tokens refusal → IsBegun file (or_end (length file) refusal.at)
+is_begun file refusal b = record {
   front = b.front;
   rest = says b.rest;
   said = b.took.said;
@@ -204,3 +204,13 @@ is_begun file at b = record {
       (first_behind (length b.front) (starts (cut_of file).tokens) (starts b.rest) b.took.left ∙ place_first b.rest ∙ b.here);
   begins = record { written = b.written; regular = b.is_good; more = b.more; said = b.said };
 }
+
+with_text : (w : WrittenQuery) → IsRegularQuery IsRegular w → (front more : Words) → BeginsText more → query_words w ≡ front ++ more → (text : List ℕ) × BeginsQuery (front ++ quoted text ∷ [])
+with_text w is front (quoted text ∷ more) begins said = (text, record { written = w; regular = is; more = more; said = said ∙ sym (append_assoc front (quoted text ∷ []) more) })
+with_text w is front other begins said = absurd begins
+
+-- where the grammar goes on with a text, the words in front and that text begin a query
+pub text_begins : (file : List ℕ) (refusal : Refusal) (b : Begun query_words (IsRegularQuery IsRegular) (cut_of file).tokens refusal) → BeginsText b.more
+    → (text : List ℕ) × BeginsQuery ((is_begun file refusal b).front ++ quoted text ∷ [])
+unfolding is_begun
+text_begins file refusal b begins = with_text b.written b.is_good b.front b.more begins b.said

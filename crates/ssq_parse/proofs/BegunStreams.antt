@@ -30,25 +30,25 @@ abbrev pub names : Phrases
 names = record { Form = List ℕ; wrote = name_words; good = Always; one = v; fine = tt }
 
 pub names_tell : Tells names name_at
-names_tell = next_tells names name_at (λ tokens. keep (name_at tokens) (name_sound tokens) (λ found n. record { written = found.0.text; is_good = tt; took = n.0 })) name_next
+names_tell = next_tells names name_at (λ tokens. keep (name_at tokens) (name_sound tokens) (λ found n. record { written = found.0.text; is_good = tt; took = n.0 })) (name_next (name v ∷ []))
 
 abbrev texts : Phrases
 texts = record { Form = List ℕ; wrote = λ text. quoted text ∷ []; good = Always; one = v; fine = tt }
 
 texts_tell : Tells texts quoted_at
-texts_tell = next_tells texts quoted_at (λ tokens. keep (quoted_at tokens) (quoted_sound tokens) (λ found took. record { written = found.0.1; is_good = tt; took = took })) quoted_next
+texts_tell = next_tells texts quoted_at (λ tokens. keep (quoted_at tokens) (quoted_sound tokens) (λ found took. record { written = found.0.1; is_good = tt; took = took })) (quoted_next (quoted v ∷ []))
 
 abbrev pub numbers : Phrases
 numbers = record { Form = ℤ; wrote = λ n. number n ∷ []; good = Always; one = pos 1; fine = tt }
 
 pub numbers_tell : Tells numbers number_at
-numbers_tell = next_tells numbers number_at (λ tokens. keep (number_at tokens) (number_sound tokens) (λ found took. record { written = found.0; is_good = tt; took = took })) number_next
+numbers_tell = next_tells numbers number_at (λ tokens. keep (number_at tokens) (number_sound tokens) (λ found took. record { written = found.0; is_good = tt; took = took })) (number_next (number (pos 1) ∷ []))
 
 abbrev pub spans : Phrases
 spans = record { Form = Span; wrote = λ span. quoted span.text ∷ []; good = IsSpanText; one = some_span; fine = some_span_is }
 
 pub spans_tell : Tells spans span_at
-spans_tell = next_tells spans span_at (λ tokens. keep (span_at tokens) (span_sound tokens) (λ found s. record { written = found.0; is_good = s.1; took = s.0 })) span_next
+spans_tell = next_tells spans span_at (λ tokens. keep (span_at tokens) (span_sound tokens) (λ found s. record { written = found.0; is_good = s.1; took = s.0 })) (span_next some_span.text)
 
 -- ---- declarations
 

@@ -24,7 +24,7 @@ use Rattle.ssq_parse.specs.Queries.{query_at}
 use Rattle.ssq_parse.specs.Reading.{Ahead, Made, Refusal}
 use Rattle.ssq_parse.specs.Written.{says, starts}
 use Rattle.ssq_parse.proofs.Begun.{Begun}
-use Rattle.ssq_parse.proofs.BegunQueries.{IfMade, ReadsAll, query_begun, all_begin, is_begun}
+use Rattle.ssq_parse.proofs.BegunQueries.{IfMade, ReadsAll, query_begun, all_begin, is_begun, text_begins}
 use Rattle.ssq_parse.specs.Deep.{DeepBy}
 use Rattle.ssq_parse.proofs.DeepLemmas.{IfDeep}
 use Rattle.ssq_parse.proofs.DeepQueries.{IsDeep, query_deep}
@@ -93,15 +93,17 @@ at_end cause.TooDeep p = p
 at_end other p = absurd p
 
 ended_first : (file : List ℕ) (fault : Option LexRefusal) → (cut_of file).fault ≡ fault → (c : ParseCause) → Stands (cut_of file).tokens (record { at = None; cause = c })
-    → Begun query_words (IsRegularQuery IsRegular) (cut_of file).tokens None → BeginsQuery (says (cut_of file).tokens) → IfFirst file (Err (ended (length file) fault))
-ended_first file None ends c s b all = record { begun = is_begun file None b; first = first_of_file file (record { at = None; cause = c }) s }
+    → Begun query_words (IsRegularQuery IsRegular) (cut_of file).tokens (record { at = None; cause = c }) → BeginsQuery (says (cut_of file).tokens) → IfFirst file (Err (ended (length file) fault))
+ended_first file None ends c s b all = record { begun = is_begun file (record { at = None; cause = c }) b; first = first_of_file file (record { at = None; cause = c }) s }
 ended_first file (Some refusal) ends c s b all = lexical file refusal ends all
 
 placed_first : (file : List ℕ) (fault : Option LexRefusal) → (cut_of file).fault ≡ fault → (c : ParseCause) (at : Option ℕ) → IfMissing c at (Stands (cut_of file).tokens (record { at = at; cause = c }))
-    → IfMissing c at (Begun query_words (IsRegularQuery IsRegular) (cut_of file).tokens at) → IfDeep c at (DeepBy 0 (cut_of file).tokens)
+    → IfMissing c at (Begun query_words (IsRegularQuery IsRegular) (cut_of file).tokens (record { at = at; cause = c })) → IfDeep c at (DeepBy 0 (cut_of file).tokens)
     → (at ≡ None → BeginsQuery (says (cut_of file).tokens)) → IfFirst file (Err (placed (ended (length file) fault) at c))
-placed_first file fault ends cause.Expected (Some at) s b d all = record { begun = is_begun file (Some at) b; first = first_of_file file (record { at = Some at; cause = cause.Expected }) s }
-placed_first file fault ends cause.BadText (Some at) s b d all = record { begun = is_begun file (Some at) b; first = first_of_file file (record { at = Some at; cause = cause.BadText }) s; bad = s.bad }
+placed_first file fault ends cause.Expected (Some at) s b d all = record { begun = is_begun file (record { at = Some at; cause = cause.Expected }) b; first = first_of_file file (record { at = Some at; cause = cause.Expected }) s }
+placed_first file fault ends cause.BadText (Some at) s b d all =
+    let refusal : Refusal = record { at = Some at; cause = cause.BadText } in
+    record { begun = is_begun file refusal b; first = first_of_file file refusal s; takes = text_begins file refusal b b.text; bad = s.bad }
 placed_first file fault ends cause.TooDeep (Some at) s b d all = d
 placed_first file fault ends c None s b d all = ended_first file fault ends c (at_end c s) (at_end c b) (all refl)
 placed_first file fault ends c (Some at) s b d all = absurd s

@@ -52,7 +52,8 @@ last_word [] = None
 last_word (w ∷ []) = Some w
 last_word (w ∷ v ∷ ws) = last_word (v ∷ ws)
 
--- Behind DELAY and INTERVAL, and behind a comma in WINDOW, a text has to be a span of time, and behind TIMESTAMP a time.
+-- The text is no span of time behind DELAY, INTERVAL or a comma, or no time behind TIMESTAMP. Where the grammar has some text, but not this one, the
+-- comma is one in WINDOW, and TIMESTAMP begins a literal.
 abbrev pub IsBadBehind : Option Lexeme → List ℕ → Type 0
 IsBadBehind (Some (keyword key.Delay)) text = span_of text ≡ None
 IsBadBehind (Some (keyword key.Interval)) text = span_of text ≡ None
@@ -60,15 +61,17 @@ IsBadBehind (Some (symbol mark.Comma)) text = span_of text ≡ None
 IsBadBehind (Some (keyword key.Timestamp)) text = time_of text ≡ None
 IsBadBehind other text = ⊥
 
--- the next word is a text, and is not what it has to be behind the word in front of it
+-- the next word is a text, and is no such span or time behind the word in front of it
 abbrev pub IsBadNext : Option Lexeme → Option Lexeme → Type 0
 IsBadNext front (Some (quoted text)) = IsBadBehind front text
 IsBadNext front other = ⊥
 
--- The token at this place is a text that is no span or no time where one has to stand: what stands in front of it begins a query, and no query has it there.
+-- The token at this place is a text that is no span or no time where one has to stand: what stands in front of it begins a query, a query goes on with
+-- some text there, and none with this one. So it stands where the grammar has a text for a span or for a time, and not where it has none.
 pub record IsMisread (file : List ℕ) (at : ℕ) : Type 0 where
   pub begun : IsBegun file at
   pub first : IsFirst file at
+  pub takes : (text : List ℕ) × BeginsQuery (begun.front ++ quoted text ∷ [])
   pub bad : IsBadNext (last_word (says first.taken)) (next_word (says first.rest))
 
 -- The token at this place is a bracket with which more than 64 stand open, or an operator with which a tree grows higher than 64.
