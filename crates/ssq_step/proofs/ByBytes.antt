@@ -8,6 +8,7 @@ use Rattle.std.proofs.lemmas.List.{map-append, take_all, take_more}
 use Rattle.std.proofs.lemmas.List.Folds.{list_any-append}
 use Rattle.ssq_version.specs.State.{Change, IsToldAt, by_bytes, value_at}
 use Rattle.ssq_version.proofs.Values.{either_way}
+use Rattle.ssq_step.specs.Forgetting.{IsGone}
 use Rattle.ssq_step.specs.Indexing.{seen, stands}
 
 -- whether a key that stands among others at most once does so
@@ -24,11 +25,7 @@ any_by q (other ∷ keys) b is = by (is_at (by_bytes q) other) b (any_by q keys)
 
 -- ---- keys that go
 
--- it is said of each of these keys that it goes, and of each other what was said
-abbrev pub AreGone : List (List ℕ) → (before after : Change) → Type 0
-AreGone keys before after = (q : List ℕ) → value_at after q ≡ (if list_any (is_at (by_bytes q)) keys then Some None else value_at before q)
-
-gone_more : (keys : List (List ℕ)) (key : List ℕ) (before old new : Change) → IsToldAt key None old new → AreGone keys before old → AreGone (keys ++ key ∷ []) before new
+gone_more : (keys : List (List ℕ)) (key : List ℕ) (before old new : Change) → IsToldAt key None old new → IsGone keys before old → IsGone (keys ++ key ∷ []) before new
 gone_more keys key before old new told was q =
     told q
     ∙ (λ i. if either_way key q i then Some None else was q i)
@@ -43,12 +40,12 @@ gone_more keys key before old new told was q =
 
 -- one key more goes, by its bytes
 pub gone_on : (keys : List (Bor (List ℕ))) (at : ℕ) (key : Bor (List ℕ)) {bytes : List ℕ} → at < length keys → key ≡ get_or keys at key → bytes ≡ key.now → (before old new : Change) → IsToldAt bytes None old new
-    → AreGone (seen (take at keys)) before old → AreGone (seen (take (at + 1) keys)) before new
+    → IsGone (seen (take at keys)) before old → IsGone (seen (take (at + 1) keys)) before new
 gone_on keys at key inside is same before old new told was =
     let took : take (at + 1) keys ≡ take at keys ++ key ∷ [] = take_more keys at key inside ∙ ap (λ k. take at keys ++ k ∷ []) (sym is) in
-    subst (λ (l : List (List ℕ)). AreGone l before new) (sym (ap seen took ∙ map-append (λ (key : Bor (List ℕ)). key.now) (take at keys) (key ∷ [])))
+    subst (λ (l : List (List ℕ)). IsGone l before new) (sym (ap seen took ∙ map-append (λ (key : Bor (List ℕ)). key.now) (take at keys) (key ∷ [])))
     (gone_more (seen (take at keys)) key.now before old new (subst (λ (k : List ℕ). IsToldAt k None old new) same told) was)
 
 -- none is left
-pub gone_all : (keys : List (Bor (List ℕ))) (at : ℕ) (before after : Change) → length keys ≤ at → AreGone (seen (take at keys)) before after → AreGone (seen keys) before after
-gone_all keys at before after most was = subst (λ (l : List (Bor (List ℕ))). AreGone (seen l) before after) (take_all at keys most) was
+pub gone_all : (keys : List (Bor (List ℕ))) (at : ℕ) (before after : Change) → length keys ≤ at → IsGone (seen (take at keys)) before after → IsGone (seen keys) before after
+gone_all keys at before after most was = subst (λ (l : List (Bor (List ℕ))). IsGone (seen l) before after) (take_all at keys most) was
