@@ -10,7 +10,7 @@
 - 1,000,000 lines of one part in one epoch.
 
 Checkpoints lie in new folders inside FOLDER; without one, where temporary files lie. In a folder of memory (/dev/shm) the disk's
-syncs cost nothing. A program that does not take 8 parts is measured over 1 alone. It is not part of the gate.
+syncs cost nothing. It is not part of the gate.
 """
 import collections
 import json
@@ -58,14 +58,12 @@ class Work:
                 file.write(text)
 
     def run(self, *words, before=()):
-        """Runs to the end: seconds, and what it used. None where the program does not take the parts."""
+        """Runs to the end: seconds, and what it used."""
         start = time.perf_counter()
         run = subprocess.Popen([*before, SSQ, "run", "q.sql", *words], cwd=self.folder, stdout=subprocess.PIPE, text=True)
         output = run.stdout.read()
         _, status, used = os.wait4(run.pid, 0)
         seconds = time.perf_counter() - start
-        if output.startswith("stopped 9 OtherParts"):
-            return None
         if status != 0:
             sys.exit(f"it stopped: {output[-200:]}")
         return seconds, used
@@ -82,9 +80,6 @@ class Work:
 
 def measure_epochs(place, parts):
     with Work(place, parts) as work:
-        if work.run_epochs() is None:
-            print(f"{parts} parts: not taken")
-            return
         done = 0
         for at in (100, 1000, 4000):
             work.grow(LINES * (at - done))

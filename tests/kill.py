@@ -7,8 +7,7 @@ A query with a watermark reads three parts, to which a writer appends while runs
 runs. Each run is killed (SIGKILL) after a random time, from the first millisecond on, so that openings are hit too, and the
 next one begins on what is left: one to five killed runs for each checkpoint, then one that is let end by itself.
 
-- plain: WHERE and SELECT. A program that takes one part alone, and no watermark, is tried over one part without one; the last line
-  says so.
+- plain: WHERE and SELECT.
 - group: overlapping windows and a key with NULLs, in Append, Update and Complete in turn, over three partitions. Some rows are late,
   some of them for one of their windows alone.
 - dedup: rows without repeats, in Append by a key and the event time, so that keys are forgotten, and in Update by two other columns, so
@@ -81,17 +80,17 @@ class Job:
         return model.Epochs(self.query, logs, cuts, self.partitions, self.parts - self.rights)
 
 
-def plain_job(parts, watched):
+def plain_job():
     query = Query(
-        text=f"{STREAM}{WATERMARK if watched else ''}; SELECT k, v + 1 AS w, ts FROM s WHERE v > 10 OUTPUT APPEND;",
+        text=f"{STREAM}{WATERMARK}; SELECT k, v + 1 AS w, ts FROM s WHERE v > 10 OUTPUT APPEND;",
         columns=COLUMNS,
-        event="ts" if watched else None,
-        delay=10 * SECOND if watched else None,
+        event="ts",
+        delay=10 * SECOND,
         where=lambda row: compare(row["v"], ">", 10),
         items={"k": lambda row: row["k"], "w": lambda row: compute(row["v"], "+", 1), "ts": lambda row: row["ts"]},
         mode=Mode.APPEND,
     )
-    return Job("three parts with a watermark" if watched else "one part, since the program takes no more", query, parts)
+    return Job("three parts with a watermark", query, 3)
 
 
 def group_job(mode):
@@ -384,7 +383,8 @@ def refusal_of(job):
     return output if run.returncode else None
 
 
-JOBS = {  # shapes with several queries, each
+JOBS = {  # the queries of each shape
+    "plain": [plain_job()],
     "group": [group_job(mode) for mode in Mode],
     "dedup": [dedup_job(mode) for mode in (Mode.APPEND, Mode.UPDATE)],
     "join": [*map(join_job, (Outer.LEFT, Outer.RIGHT, Outer.NEITHER)), join_job(Outer.NEITHER, None)],
@@ -393,16 +393,9 @@ MANY = {"group": "groups in each mode", "dedup": "rows without repeats", "join":
 
 
 def jobs_taken(shape):
-    """Plain: three parts with a watermark where the program takes them, else one part without. Else the queries of the shape."""
-    if shape in JOBS:
-        jobs = JOBS[shape]
-        refusal = next(filter(None, map(refusal_of, jobs)), None)
-    else:
-        jobs = [plain_job(3, True)]
-        refusal = refusal_of(jobs[0])
-        if refusal and refusal.startswith("stopped 9 OtherParts"):
-            jobs = [plain_job(1, False)]
-            refusal = refusal_of(jobs[0])
+    """The queries of the shape, none of which may be refused."""
+    jobs = JOBS[shape]
+    refusal = next(filter(None, map(refusal_of, jobs)), None)
     if refusal:
         sys.exit(f"the query is not taken: {refusal}")
     return jobs

@@ -14,7 +14,7 @@ pub enum ModeFault {
     /// A join in Update.
     #[error("a join needs APPEND")]
     JoinNeedsAppend,
-    /// An outer join without a bound: no row would ever be without a partner.
+    /// An outer join without a bound: of no row would it ever be known that it meets no partner.
     #[error("an outer join needs a bound between event times")]
     OuterNeedsBound,
     /// A bound, and a stream without a watermark.

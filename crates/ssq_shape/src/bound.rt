@@ -8,7 +8,7 @@ use ssq_value::{ColType, Schema, Sequence, Text};
 pub enum Mode {
     /// Those that will not change any more.
     Append,
-    /// Those that changed.
+    /// The groups for which the epoch accepted a row. Without groups as in Append.
     Update,
     /// All.
     Complete,
