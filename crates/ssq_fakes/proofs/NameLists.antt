@@ -9,8 +9,8 @@ use Rattle.ssq_outside.proofs.NameOrder.{name_before-trans, name_before-other}
 use Rattle.ssq_outside.proofs.Names.{same_name-true, same_name-same}
 use Rattle.ssq_fakes.specs.declared.record.Event.{Event}
 use Rattle.ssq_fakes.specs.declared.record.Event.TheVariants.{Put, Gone, Synced}
-use Rattle.ssq_fakes.specs.Records.{is_about, name_of, content_of, content_in, is_sync, is_changed_in}
-use Rattle.ssq_fakes.specs.Names.{place_of, with_name, with_some, names_from}
+use Rattle.ssq_fakes.specs.Records.{is_about, name_of, content_in, is_sync, is_changed_in}
+use Rattle.ssq_fakes.specs.Names.{place_of, with_name, with_some, names_from, Lists}
 use Rattle.ssq_fakes.specs.Disks.{has_name}
 
 -- whether this name stands at that place
@@ -157,15 +157,6 @@ pub mentioned : (events : List Event) (q : Name) (names : List Name) → is_ment
 mentioned [] q names there = cc
 mentioned (event ∷ older) q names there = mention_by (is_about event q) true event older q names refl there (mentioned older q (with_some (name_of event) names))
 
-content_by : (b : Bool) (event : Event) (older : List Event) (q : Name) → is_some (if b then content_of event else content_in older q) ≡ true
-    → (is_some (content_in older q) ≡ true → is_mentioned older q ≡ true) → (if b then true else is_mentioned older q) ≡ true
-content_by true event older q there later = refl
-content_by false event older q there later = later there
-
-there_is_mentioned : (events : List Event) (q : Name) → is_some (content_in events q) ≡ true → is_mentioned events q ≡ true
-there_is_mentioned [] q there = cc
-there_is_mentioned (event ∷ older) q there = content_by (is_about event q) event older q there (there_is_mentioned older q)
-
 changed_by : (s b r x : Bool) → (if s then false else if b then true else r) ≡ true → (r ≡ true → x ≡ true) → (if b then true else x) ≡ true
 changed_by true b r x is later = cc
 changed_by false true r x is later = refl
@@ -218,38 +209,25 @@ test-filter P [] q among = absurd (omega (arith, among.1))
 test-filter P (m ∷ ms) q among = test_by P (P m) m q ms refl among (test-filter P ms q)
 
 -- of a record's names those of which a test is true, which is true of none but those that changed
-pub record Chosen (P : Name → Bool) (names : List Name) : Type 0 where
-  pub there : (q : Name) → Contains names q → P q ≡ true
-  pub all : (q : Name) → P q ≡ true → Contains names q
-  pub in_order : AllPairs (λ m n. IsTrue (name_before m n)) names
-
-chosen : (P : Name → Bool) (events : List Event) → ((q : Name) → P q ≡ true → is_mentioned events q ≡ true) → Chosen P (filter P (names_from [] events))
+chosen : (P : Name → Bool) (events : List Event) → ((q : Name) → P q ≡ true → is_mentioned events q ≡ true) → Lists P (filter P (names_from [] events))
 chosen P events mention = record {
   there = test-filter P (names_from [] events);
   all = λ q holds. Contains-has_name _ q (has_name-filter P (names_from [] events) q holds (mentioned events q [] (mention q holds)));
   in_order = AllPairs-filter (λ m n. IsTrue (name_before m n)) P (names_from [] events) (in_order (names_from [] events) (Ascend-names_from [] events tt));
 }
 
--- the names with a file
-pub chosen_present : (events : List Event) → Chosen (λ q. is_some (content_in events q)) (filter (λ q. is_some (content_in events q)) (names_from [] events))
-chosen_present events = chosen (λ q. is_some (content_in events q)) events (there_is_mentioned events)
-
 change_mentioned : (events : List Event) (q : Name) → is_changed_in events q ≡ true → is_mentioned events q ≡ true
 change_mentioned [] q is = cc
 change_mentioned (event ∷ older) q is = changed_by (is_sync event) (is_about event q) (is_changed_in older q) (is_mentioned older q) is (change_mentioned older q)
 
 -- the names that changed
-pub chosen_changed : (events : List Event) → Chosen (is_changed_in events) (filter (λ q. is_changed_in events q) (names_from [] events))
+pub chosen_changed : (events : List Event) → Lists (is_changed_in events) (filter (λ q. is_changed_in events q) (names_from [] events))
 chosen_changed events = chosen (is_changed_in events) events (change_mentioned events)
 
 -- the names with a file, by what stands at each
-pub are_names : (files : Files) (events : List Event) (names : List Name) → ((q : Name) → files q ≡ content_in events q) → names ≡ filter (λ q. is_some (content_in events q)) (names_from [] events) → AreNames files names
-are_names files events names files_are is =
-    let P : Name → Bool = λ q. is_some (content_in events q) in
-    let M : List Name → Type 0 = Chosen P in
-    let found : Chosen P names = subst M (sym is) (chosen_present events) in
-    record {
-      there = λ q among. rw (files_are q) (found.there q among);
-      all = λ q there. found.all q (rw (files_are q) at there);
-      in_order = found.in_order;
-    }
+pub are_names : (files : Files) (events : List Event) (names : List Name) → ((q : Name) → files q ≡ content_in events q) → Lists (λ q. is_some (content_in events q)) names → AreNames files names
+are_names files events names files_are found = record {
+  there = λ q among. rw (files_are q) (found.there q among);
+  all = λ q there. found.all q (rw (files_are q) at there);
+  in_order = found.in_order;
+}

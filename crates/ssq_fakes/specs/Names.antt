@@ -1,5 +1,5 @@
 -- Lists of names in their order.
-use Rattle.std.specs.Prelude.{ℕ, suc, List, [], ◌∷◌, Option, None, Some, if◌then◌else◌}
+use Rattle.std.specs.Prelude.{◌≡◌, ℕ, suc, Bool, true, List, [], ◌∷◌, Option, None, Some, if◌then◌else◌, Contains, AllPairs, IsTrue}
 use Rattle.ssq_outside.specs.declared.name.Name.{Name}
 use Rattle.ssq_outside.specs.Files.{same_name, name_before}
 use Rattle.ssq_fakes.specs.declared.record.Event.{Event}
@@ -23,3 +23,9 @@ with_some (Some name) names = with_name name names
 abbrev pub names_from : List Name → List Event → List Name
 names_from names [] = names
 names_from names (event ∷ older) = names_from (with_some (name_of event) names) older
+
+-- exactly the names of which the test is true, each once, in their order
+pub record Lists (test : Name → Bool) (names : List Name) : Type 0 where
+  pub there : (q : Name) → Contains names q → test q ≡ true
+  pub all : (q : Name) → test q ≡ true → Contains names q
+  pub in_order : AllPairs (λ m n. IsTrue (name_before m n)) names

@@ -1,13 +1,31 @@
 //! Lists of names in their order.
 
-ghost use Rattle.std.specs.Prelude.{◌≡◌, ◌≤◌, length, slice_get, OnOk, false};
+ghost use Rattle.std.specs.Prelude.{◌≡◌, ◌≤◌, ◌||◌, not, length, slice_get, OnOk, IfOk, false};
+ghost use Rattle.ssq_outside.specs.declared.name.Name.{Name};
 ghost use Rattle.std.specs.Option.{option_map_or};
 ghost use Rattle.ssq_outside.specs.Files.{same_name};
 ghost use Rattle.ssq_fakes.specs.Crashes.{index_of};
-ghost use Rattle.ssq_fakes.specs.Names.{place_of, with_name, with_some};
+ghost use Rattle.ssq_fakes.specs.Disks.{has_name};
+ghost use Rattle.ssq_fakes.specs.Names.{place_of, with_name, with_some, Lists};
 
 use ssq_outside::Name;
-use std::alloc::AllocError;
+use std::alloc::{AllocError, Global};
+use std::collections::BTreeSet;
+
+/// Adds the name to these, and says whether it is new among them.
+pub fn add(names: &mut BTreeSet<Name>, name: Name) -> Result<bool, AllocError>
+    ensures new { IfOk result (λ is_new. is_new ≡ not (has_name names.old.keys name)) }
+    ensures added { OnOk result ((q : Name) → has_name names.new.keys q ≡ (same_name q name || has_name names.old.keys q)) }
+{
+    Ok(names.insert(name)?)
+}
+
+/// The names in their order.
+pub fn listed(alloc: Global, names: BTreeSet<Name>) -> Result<Vec<Name>, AllocError>
+    ensures { IfOk result (λ list. Lists (has_name names.keys) list.items) }
+{
+    names.into_iter().collect(alloc)
+}
 
 /// How many of the names come before this one, of names in their order.
 fn place(names: &[Name], name: Name) -> usize

@@ -2,9 +2,10 @@
 
 ghost use Rattle.std.specs.Prelude.{◌≡◌, ◌+◌, [], ◌∷◌, length, drop, filter, min, option_map, is_some, IfOk, MatchOption};
 
-use crate::names::insert_some;
+use crate::names::{add, insert_some, listed};
 use ssq_outside::Name;
 use std::alloc::{AllocError, Global};
+use std::collections::BTreeSet;
 use std::mem;
 
 /// What changed on a disk.
@@ -64,6 +65,50 @@ impl Event {
     }
 }
 
+/// What events that are met from the newest say of which names have a file.
+#[derive(Drop)]
+struct Found {
+    /// The names that were met.
+    met: BTreeSet<Name>,
+    /// Of these the ones that have a file.
+    present: BTreeSet<Name>,
+}
+
+impl Found {
+    ghost use Rattle.std.specs.Prelude.{◌&&◌, ◌||◌, not, OnOk};
+    ghost use Rattle.ssq_fakes.specs.Records.{is_about, content_of};
+    ghost use Rattle.ssq_fakes.specs.Disks.{has_name};
+
+    fn nothing(alloc: Global) -> Self
+        ensures met { result.met.keys ≡ [] }
+        ensures present { result.present.keys ≡ [] }
+    {
+        Found {
+            met: BTreeSet::new(alloc),
+            present: BTreeSet::new(alloc),
+        }
+    }
+
+    /// Takes in the next older event. It counts where its name was not met yet.
+    fn take(&mut self, event: &Event) -> Result<(), AllocError>
+        ensures met { OnOk result ((q : Name) → has_name self.new.met.keys q ≡ (is_about event.now q || has_name self.old.met.keys q)) }
+        ensures present { OnOk result ((q : Name) → has_name self.new.present.keys q ≡ (has_name self.old.present.keys q || (is_about event.now q && not (has_name self.old.met.keys q) && is_some (content_of event.now)))) }
+    {
+        match event {
+            Event::Put(name, _) => {
+                if add(&mut self.met, *name)? {
+                    add(&mut self.present, *name)?;
+                }
+            },
+            Event::Gone(name) => {
+                add(&mut self.met, *name)?;
+            },
+            Event::Synced => {},
+        }
+        Ok(())
+    }
+}
+
 /// Events, the newest first. The room of an event is the box that holds those before it, so that one can be added
 /// without taking memory.
 pub enum Record {
@@ -85,7 +130,7 @@ impl Drop for Record {
 impl Record {
     ghost use Rattle.ssq_fakes.specs.Records.{events_of, had_after, content_in, is_unsettled, is_changed_in};
     ghost use Rattle.ssq_fakes.specs.Crashes.{content_at};
-    ghost use Rattle.ssq_fakes.specs.Names.{names_from};
+    ghost use Rattle.ssq_fakes.specs.Names.{names_from, Lists};
 
     /// Adds an event in this room.
     pub fn push(&mut self, event: Event, mut room: Box<Record>)
@@ -191,13 +236,17 @@ impl Record {
         Ok(names)
     }
 
-    /// The names that have a file, each once, in their order.
+    /// The names that have a file, each once, in their order. Each event is met once, the newest first.
     pub fn present(&self, alloc: Global) -> Result<Vec<Name>, AllocError>
-        ensures { IfOk result (λ names. names.items ≡ filter (λ q. is_some (content_in (events_of self.now) q)) (names_from [] (events_of self.now))) }
+        ensures { IfOk result (λ names. Lists (λ q. is_some (content_in (events_of self.now) q)) names.items) }
     {
-        let mut names = self.names(alloc)?;
-        names.retain(|name| self.has(*name));
-        Ok(names)
+        let mut found = Found::nothing(alloc);
+        let mut at = self;
+        while let Record::Then(event, older) = at {
+            found.take(event)?;
+            at = older;
+        }
+        listed(alloc, found.present)
     }
 
     /// The names that changed since the last sync, each once, in their order.
