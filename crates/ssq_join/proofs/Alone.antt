@@ -31,11 +31,13 @@ use Rattle.ssq_join.specs.Telling.{Tells}
 pub kept_as : (query : Bound) (joining : Joining) (row : FedRow) (met : Bool) → IsKept query joining row → (key value : List ℕ) → key ≡ row_key row → value ≡ row_value met row
     → IsKeptRow query (is_left row.stream) row.values met key value
 kept_as query joining row met is key value key_is value_is = record {
-  rest = keys_of row.key ++ (to_be_bytes w32 row.epoch ++ (to_be_bytes w32 row.part ++ to_be_bytes w64 row.offset));
-  side = key_is;
+  bytes = record {
+    rest = keys_of row.key ++ (to_be_bytes w32 row.epoch ++ (to_be_bytes w32 row.part ++ to_be_bytes w64 row.offset));
+    side = key_is;
+    spelled = value_is;
+  };
   fit = is.fit.values;
   many = is.many;
-  spelled = value_is;
 }
 
 pub kept_row : (query : Bound) (joining : Joining) (row : FedRow) (met : Bool) → IsKept query joining row → IsKeptRow query (is_left row.stream) row.values met (row_key row) (row_value met row)

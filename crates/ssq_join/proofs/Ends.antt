@@ -78,10 +78,10 @@ module _ (apart : KeysAreApart) (query : Bound) (joining : Joining) (bounded : I
   -- no other row is kept so
   same_end : (met : Bool) (left : Bool) (values : Values) (flag : Bool) → IsKeptRow query left values flag (row_key row) (row_value met row) → end_of joining left values ≡ end_of joining side row.values
   same_end met left values flag own =
-      let first : side_byte side ≡ side_byte left = cc_head (row_key row) (side_byte left) own.rest own.side in
+      let first : side_byte side ≡ side_byte left = cc_head (row_key row) (side_byte left) own.bytes.rest own.bytes.side in
       let same : side ≡ left = side_is side left first in
       let long : length row.values ≡ length values = is.many ∙ ap (width_of query) same ∙ sym own.many in
-      let one : row.values ≡ values = (apart row.values values (met_byte met ∷ []) (met_byte flag ∷ []) long (All-weaker IsFit IsSpelled spelled row.values is.fit.values) (All-weaker IsFit IsSpelled spelled values own.fit) own.spelled).0 in
+      let one : row.values ≡ values = (apart row.values values (met_byte met ∷ []) (met_byte flag ∷ []) long (All-weaker IsFit IsSpelled spelled row.values is.fit.values) (All-weaker IsFit IsSpelled spelled values own.fit) own.bytes.spelled).0 in
       λ i. end_of joining (sym same i) (sym one i)
     where
       first_or : List ℕ → ℕ

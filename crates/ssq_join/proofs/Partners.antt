@@ -103,11 +103,9 @@ module _ (query : Bound) (joining : Joining) (row other : FedRow) (was : Bool) (
   -- it is a row that is kept so
   pub is_kept_row : IsKeptRow query (is_left other.stream) other.values was key value
   is_kept_row = record {
-    rest = rest_of (row_key other);
-    side = is.at;
+    bytes = record { rest = rest_of (row_key other); side = is.at; spelled = is.kept };
     fit = is.own.fit.values;
     many = is.own.many;
-    spelled = is.kept;
   } where
     rest_of : List ℕ → List ℕ
     rest_of [] = []

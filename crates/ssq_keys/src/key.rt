@@ -1,11 +1,12 @@
-//! A key of so many values.
+//! Keys of so many values.
 
 ghost use Rattle.std.specs.Prelude.{◌≡◌, Some, List, length, All, IfOk, IfSome};
 ghost use Rattle.ssq_value.specs.declared.value.Value.{Value as Cell};
 ghost use Rattle.ssq_value.specs.Key.{keys_of};
+ghost use Rattle.ssq_shape.specs.Evaluation.{cell_at, time_in};
 ghost use Rattle.ssq_shape.specs.Fit.{IsFit};
 
-use crate::value::value_and_rest;
+use crate::value::{spelled_and_rest, value_and_rest};
 use ssq_value::Row;
 use std::alloc::{AllocError, Global};
 
@@ -30,4 +31,22 @@ pub fn read_key(alloc: Global, bytes: &[u8], count: usize) -> Result<Option<Row>
     } else {
         Ok(None)
     }
+}
+
+/// The time at a place among so many values that the bytes spell, all of them, in microseconds since 1970; no value is copied. None where the
+/// value there is no time, and where the bytes spell no so many values that a state can hold.
+pub fn time_at(bytes: &[u8], count: usize, place: usize) -> Option<i64>
+    ensures found { IfSome result (λ time. (key : List Cell) × All IsFit key × (length key ≡ count) × (keys_of key ≡ bytes.now) × (time_in (cell_at key place) ≡ Some time)) }
+    ensures each { (key : List Cell) → All IsFit key → length key ≡ count → keys_of key ≡ bytes.now → result ≡ time_in (cell_at key place) }
+{
+    let mut time = None;
+    let mut rest = bytes;
+    for at in 0..count {
+        let (value, behind) = spelled_and_rest(rest)?;
+        if at == place {
+            time = value.time();
+        }
+        rest = behind;
+    }
+    if rest.is_empty() { time } else { None }
 }

@@ -4,5 +4,5 @@
 mod key;
 mod value;
 
-pub use key::read_key;
+pub use key::{read_key, time_at};
 pub use value::value_and_rest;

@@ -6,8 +6,9 @@ ghost use Rattle.std.specs.Str.{IsUtf8};
 ghost use Rattle.ssq_time.specs.Time.{IsStampTime};
 ghost use Rattle.ssq_value.specs.declared.value.Value.{Value as Cell};
 ghost use Rattle.ssq_value.specs.Key.{raised, key_of};
-ghost use Rattle.ssq_shape.specs.Evaluation.{longest};
+ghost use Rattle.ssq_shape.specs.Evaluation.{longest, time_in};
 ghost use Rattle.ssq_shape.specs.Fit.{IsFit};
+ghost use Rattle.ssq_keys.specs.Spelled.{value_of};
 
 use ssq_field::{take_be32, take_be64};
 use ssq_time::is_stamp_time;
@@ -101,35 +102,81 @@ fn text_and_rest(bytes: &[u8]) -> Option<(&str, &[u8])>
     Some((text, rest))
 }
 
+/// A value as bytes spell it: its text stands in them.
+#[derive(Clone, Copy)]
+pub(crate) enum Spelled<'a> {
+    Null,
+    Truth(bool),
+    Int(i64),
+    Time(i64),
+    Text(&'a str),
+}
+
+impl Spelled<'_> {
+    /// The value, with a text of its own.
+    fn to_value(self, alloc: Global) -> Result<Value, AllocError>
+        ensures { IfOk result (λ value. value ≡ value_of self.entry) }
+    {
+        Ok(match self {
+            Spelled::Null => Value::Null,
+            Spelled::Truth(truth) => Value::Truth(truth),
+            Spelled::Int(number) => Value::Int(number),
+            Spelled::Time(time) => Value::Time(time),
+            Spelled::Text(text) => Value::Text(Text::from_str(alloc, text)?),
+        })
+    }
+
+    /// The time, where it is one, in microseconds since 1970.
+    pub(crate) fn time(self) -> Option<i64>
+        ensures { result ≡ time_in (value_of self.entry) }
+    {
+        match self {
+            Spelled::Time(time) => Some(time),
+            _ => None,
+        }
+    }
+}
+
 /// The value that the bytes in front spell, and what follows them. None where they spell none that a state can hold: a time is of the
 /// years 0001 to 9999, and a text is UTF-8 of at most 1,048,576 bytes.
+pub(crate) fn spelled_and_rest(bytes: &[u8]) -> Option<(Spelled<'_>, &[u8])>
+    ensures found { IfSome result (λ parts. bytes.now ≡ key_of (value_of parts.0) ++ parts.1.now) }
+    ensures fit { IfSome result (λ parts. IsFit (value_of parts.0)) }
+    ensures each { (value : Cell) (rest : List ℕ) → IsFit value → bytes.now ≡ key_of value ++ rest →
+        IsSomeAnd result (λ parts. (value_of parts.0 ≡ value) × (parts.1.now ≡ rest)) }
+{
+    let (kind, behind) = bytes.split_first()?;
+    match *kind {
+        0 => Some((Spelled::Null, behind)),
+        1 => {
+            let (truth, rest) = truth_and_rest(behind)?;
+            Some((Spelled::Truth(truth), rest))
+        }
+        2 => {
+            let (number, rest) = number_and_rest(behind)?;
+            Some((Spelled::Int(number), rest))
+        }
+        3 => {
+            let (time, rest) = time_and_rest(behind)?;
+            Some((Spelled::Time(time), rest))
+        }
+        4 => {
+            let (text, rest) = text_and_rest(behind)?;
+            Some((Spelled::Text(text), rest))
+        }
+        _ => None,
+    }
+}
+
+/// The value that the bytes in front spell, with a text of its own, and what follows them. None where they spell none that a state can hold.
 pub fn value_and_rest(alloc: Global, bytes: &[u8]) -> Result<Option<(Value, &[u8])>, AllocError>
     ensures found { IfOk result (λ found. IfSome found (λ parts. bytes.now ≡ key_of parts.0 ++ parts.1.now)) }
     ensures fit { IfOk result (λ found. IfSome found (λ parts. IsFit parts.0)) }
     ensures each { (value : Cell) (rest : List ℕ) → IsFit value → bytes.now ≡ key_of value ++ rest →
         IfOk result (λ found. IsSomeAnd found (λ parts. (parts.0 ≡ value) × (parts.1.now ≡ rest))) }
 {
-    let Some((kind, behind)) = bytes.split_first() else {
-        return Ok(None);
-    };
-    match *kind {
-        0 => Ok(Some((Value::Null, behind))),
-        1 => match truth_and_rest(behind) {
-            Some((truth, rest)) => Ok(Some((Value::Truth(truth), rest))),
-            None => Ok(None),
-        },
-        2 => match number_and_rest(behind) {
-            Some((number, rest)) => Ok(Some((Value::Int(number), rest))),
-            None => Ok(None),
-        },
-        3 => match time_and_rest(behind) {
-            Some((time, rest)) => Ok(Some((Value::Time(time), rest))),
-            None => Ok(None),
-        },
-        4 => match text_and_rest(behind) {
-            Some((text, rest)) => Ok(Some((Value::Text(Text::from_str(alloc, text)?), rest))),
-            None => Ok(None),
-        },
-        _ => Ok(None),
+    match spelled_and_rest(bytes) {
+        Some((spelled, rest)) => Ok(Some((spelled.to_value(alloc)?, rest))),
+        None => Ok(None),
     }
 }

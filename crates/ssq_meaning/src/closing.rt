@@ -155,7 +155,8 @@ fn time_at(row: &[Value], column: usize) -> Option<i64>
     }
 }
 
-fn event_column(left: bool, bound: TimeBound) -> usize
+/// The column of a side of a join that its bound is on, counted from 0: the event column of the side's stream.
+pub fn event_column(left: bool, bound: TimeBound) -> usize
     ensures { result ≡ event_column left bound }
 {
     if left { bound.left } else { bound.right }

@@ -14,7 +14,9 @@ mod laws;
 mod line;
 mod total;
 
-pub use closing::{closing_time, join_time, key_length, key_time, keys_have_times, repeat_time};
+pub use closing::{
+    closing_time, event_column, join_time, key_length, key_time, keys_have_times, repeat_time,
+};
 pub use dedup::{
     epochs_without_repeats_follow, first_rows_add_up, first_rows_are_told_by_what_is_kept,
     first_rows_fall_into_partitions, forgotten_keys_lose_no_row, kept_keys_are_found,

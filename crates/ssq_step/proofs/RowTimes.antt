@@ -1,19 +1,21 @@
 -- The rows of a join by their times, through a change.
-use Rattle.std.proofs.Common.{◌≡◌, ℕ, ℤ, [], ◌∷◌, Some, None, List, Option, Bool, true, false, refl, ap, sym, subst, ◌∙◌}
-use Rattle.std.specs.Prelude.{◌&&◌, if◌then◌else◌, FitsSigned, IfSome, IsSomeAnd, is_some, option_map}
+use Rattle.std.proofs.Common.{◌≡◌, ℕ, ℤ, [], ◌∷◌, Some, None, List, Option, All, Bool, true, false, length, refl, ap, sym, subst, ◌∙◌}
+use Rattle.std.specs.Prelude.{◌&&◌, if◌then◌else◌, FitsSigned, IfSome, option_map}
 use Rattle.std.specs.BTreeMap.{is_at}
 use Rattle.std.specs.Ordering.{int_cmp, is_eq}
 use Rattle.std.specs.Int.{w64}
 use Rattle.std.proofs.lemmas.Option.{IfSome_then}
 use Rattle.ssq_version.specs.State.{Ascends, Change, IsAfter, State, by_bytes, value_after, value_at}
 use Rattle.ssq_version.proofs.Values.{IsRest, first_at, is_itself, less_rest, none_behind, one_key, other_way, others_at}
+use Rattle.ssq_value.specs.Key.{keys_of}
+use Rattle.ssq_shape.specs.Evaluation.{cell_at, time_in}
 use Rattle.ssq_shape.specs.declared.bound.Bound.{Bound}
 use Rattle.ssq_shape.specs.declared.bound.Joining.{Joining}
 use Rattle.ssq_shape.specs.declared.bound.TimeBound.{TimeBound}
-use Rattle.ssq_meaning.specs.Join.{join_time, last_time}
+use Rattle.ssq_meaning.specs.Fit.{IsFit}
+use Rattle.ssq_meaning.specs.Join.{event_column, join_time, last_time}
 use Rattle.ssq_meaning.specs.Meaning.{Values}
-use Rattle.ssq_step.specs.declared.rows.KeptRow.{KeptRow}
-use Rattle.ssq_step.specs.Rows.{HasTime, HasTimeIf, IndexesRows, IsKeptRow, StandsAt, TurnsAt, end_of, stream_of}
+use Rattle.ssq_step.specs.Rows.{HasParts, HasTime, HasTimeIf, IndexesRows, IsTimed, StandsAt, TurnsAt, end_of, stream_of, width_of}
 use Rattle.ssq_step.specs.Timed.{Timed, by_time, has}
 use Rattle.ssq_step.proofs.Timing.{and_false, and_true, at_time, on_the_way, with_bytes}
 
@@ -222,36 +224,59 @@ followed_all query joining old new left entries none was key =
 
 -- ---- what is read of a row
 
-module _ {A : Type 0} (P : A → Type 0) where
-  pub if_some : (found : Option A) (x : A) → found ≡ Some x → IfSome found P → P x
-  if_some found x is has = subst (λ (o : Option A). IfSome o P) is has
+pub parts_as : (key value other another : List ℕ) (left : Bool) (values : List ℕ) (met : Bool) → other ≡ key → another ≡ value → HasParts other another left values met → HasParts key value left values met
+parts_as key value other another left values met same alike own = record { rest = own.rest; side = sym same ∙ own.side; spelled = sym alike ∙ own.spelled }
 
-  pub some_and : (found : Option A) (x : A) → found ≡ Some x → IsSomeAnd found P → P x
-  some_and found x is has = subst (λ (o : Option A). IsSomeAnd o P) is has
+module _ (query : Bound) (joining : Joining) (key value : List ℕ) where
+  -- where these are the bytes of no row, it has no time
+  pub no_time : ((left : Bool) (values : List ℕ) (met : Bool) → HasParts key value left values met → ⊥) → HasTime query joining key value None
+  no_time none = record { found = tt; each = λ t is. absurd (none is.left (keys_of is.values) is.met is.row.bytes) }
 
-  pub none_and : (found : Option A) → found ≡ None → IsSomeAnd found P → ⊥
-  none_and found is has = subst (λ (o : Option A). IsSomeAnd o P) is has
+  -- where the join has no bound, no row has a time
+  pub unbounded : joining.bound ≡ None → HasTime query joining key value None
+  unbounded none = record { found = tt; each = λ t is. absurd (never joining.bound is.left (join_time joining.bound (stream_of is.left) is.values) t none is.time) }
+    where
+      never : (bound : Option TimeBound) (left : Bool) (time : Option ℤ) (t : ℤ) → bound ≡ None → last_time bound left time ≡ Some t → ⊥
+      never None left time t none is = cc
+      never (Some bound) left time t none is = cc
 
--- the time of the row that is read
-pub row_has_time : (query : Bound) (joining : Joining) (key value : List ℕ) (row : KeptRow) (time : Option ℤ) → IsKeptRow query row.left row.values row.met key value
-    → ((left : Bool) (values : Values) (met : Bool) → IsKeptRow query left values met key value → (row.left ≡ left) × (row.values ≡ values) × (row.met ≡ met))
-    → IfSome time (λ last. (end_of joining row.left row.values ≡ Some last) × FitsSigned w64 last) → ((last : ℤ) → FitsSigned w64 last → end_of joining row.left row.values ≡ Some last → time ≡ Some last)
-    → HasTime query joining key value time
-row_has_time query joining key value row time own one found each = record {
-  found = IfSome_then time found (λ last has. record { left = row.left; values = row.values; met = row.met; row = own; time = has.0; fits = has.1 });
-  each = λ t is.
-      let same = one is.left is.values is.met is.row in
-      each t is.fits ((λ i. end_of joining (same.0 i) (same.1 i)) ∙ is.time);
-}
+no_last : (bound : Option TimeBound) (left : Bool) (t : ℤ) → last_time bound left None ≡ Some t → ⊥
+no_last None left t is = cc
+no_last (Some bound) true t is = cc
+no_last (Some bound) false t is = cc
 
--- where there is no such row, it has no time
-pub no_time : (query : Bound) (joining : Joining) (key value : List ℕ) → ((left : Bool) (values : Values) (met : Bool) → IsKeptRow query left values met key value → ⊥) → HasTime query joining key value None
-no_time query joining key value none = record { found = tt; each = λ t is. absurd (none is.left is.values is.met is.row) }
+-- the time of a row of a side is in the column of that side
+in_column : (bound : Option TimeBound) (limits : TimeBound) (left : Bool) (values : Values) → bound ≡ Some limits → join_time bound (stream_of left) values ≡ time_in (cell_at values (event_column left limits))
+in_column bound limits true values is = ap (λ b. join_time b 0 values) is
+in_column bound limits false values is = ap (λ b. join_time b 1 values) is
 
--- where the join has no bound, no row has a time
-pub unbounded : (query : Bound) (joining : Joining) (key value : List ℕ) → is_some joining.bound ≡ false → HasTime query joining key value None
-unbounded query joining key value none = record { found = tt; each = λ t is. absurd (never joining.bound is.left (join_time joining.bound (stream_of is.left) is.values) t none is.time) }
-  where
-    never : (bound : Option TimeBound) (left : Bool) (time : Option ℤ) (t : ℤ) → is_some bound ≡ false → last_time bound left time ≡ Some t → ⊥
-    never None left time t none is = cc
-    never (Some bound) left time t none is = cc
+-- So many values that a state can hold have these bytes, and the time is that in this column.
+abbrev pub HasTimeIn : (bytes : List ℕ) (count column : ℕ) → ℤ → Type 0
+HasTimeIn bytes count column t = (own : Values) × All IsFit own × (length own ≡ count) × (keys_of own ≡ bytes) × (time_in (cell_at own column) ≡ Some t)
+
+module _ (query : Bound) (joining : Joining) (key value : List ℕ) (limits : TimeBound) (left met : Bool) (bytes : List ℕ) (time : Option ℤ) (bound_is : joining.bound ≡ Some limits) (own : HasParts key value left bytes met) where
+  timed : (time : Option ℤ) → IfSome time (HasTimeIn bytes (width_of query left) (event_column left limits)) → (last : ℤ) → last_time joining.bound left time ≡ Some last → FitsSigned w64 last → IsTimed query joining key value last
+  timed None has last is fits = absurd (no_last joining.bound left last is)
+  timed (Some t) has last is fits = record {
+    left = left;
+    values = has.0;
+    met = met;
+    row = record { bytes = subst (λ b. HasParts key value left b met) (sym has.3) own; fit = has.1; many = has.2 };
+    time = ap (last_time joining.bound left) (in_column joining.bound limits left has.0 bound_is ∙ has.4) ∙ is;
+    fits = fits;
+  }
+
+  -- the time of the row with these bytes
+  pub row_has_time : (result : Option ℤ) → IfSome time (HasTimeIn bytes (width_of query left) (event_column left limits))
+      → ((values : Values) → All IsFit values → length values ≡ width_of query left → keys_of values ≡ bytes → time ≡ time_in (cell_at values (event_column left limits)))
+      → ((l : Bool) (b : List ℕ) (m : Bool) → HasParts key value l b m → (left ≡ l) × (bytes ≡ b) × (met ≡ m))
+      → IfSome result (λ last. (last_time joining.bound left time ≡ Some last) × FitsSigned w64 last) → ((last : ℤ) → FitsSigned w64 last → last_time joining.bound left time ≡ Some last → result ≡ Some last)
+      → HasTime query joining key value result
+  row_has_time result has each_time one found each = record {
+    found = IfSome_then result found (λ last is. timed time has last is.0 is.1);
+    each = λ t is.
+        let same = one is.left (keys_of is.values) is.met is.row.bytes in
+        let own_time : time ≡ join_time joining.bound (stream_of left) is.values =
+        each_time is.values is.row.fit (is.row.many ∙ ap (width_of query) (sym same.0)) (sym same.1) ∙ sym (in_column joining.bound limits left is.values bound_is) in
+        each t is.fits (ap (last_time joining.bound left) own_time ∙ ap (λ l. end_of joining l is.values) same.0 ∙ is.time);
+  }

@@ -19,13 +19,17 @@ stream_of false = 1
 abbrev pub width_of : Bound → (left : Bool) → ℕ
 width_of query left = length (layout_at query (stream_of left)).columns
 
--- A row of a side is kept under these bytes, with these behind them: its values, and whether it met a partner.
-pub record IsKeptRow (query : Bound) (left : Bool) (values : Values) (met : Bool) (key value : List ℕ) : Type 0 where
+-- The bytes under which a row is kept begin with its side, and those that are kept of it are the bytes of its values, and whether it met a partner.
+pub record HasParts (key value : List ℕ) (left : Bool) (values : List ℕ) (met : Bool) : Type 0 where
   pub rest : List ℕ
   pub side : key ≡ side_byte left ∷ rest
+  pub spelled : value ≡ values ++ met_byte met ∷ []
+
+-- A row of a side is kept under these bytes, with these behind them: its values, and whether it met a partner.
+pub record IsKeptRow (query : Bound) (left : Bool) (values : Values) (met : Bool) (key value : List ℕ) : Type 0 where
+  pub bytes : HasParts key value left (keys_of values) met
   pub fit : All IsFit values
   pub many : length values ≡ width_of query left
-  pub spelled : value ≡ keys_of values ++ met_byte met ∷ []
 
 -- the greatest time that a partner of a row can have
 abbrev pub end_of : Joining → (left : Bool) → Values → Option ℤ

@@ -60,7 +60,7 @@ impl Closing {
         ensures { (new : Kept) → IsAfter change.now state.now new → IsIndex bound.now state.now self.old → OnOk result (IsIndex bound.now new self.new) }
     {
         match &bound.shape {
-            Shape::Join(joining) => follow_rows(alloc, bound, joining, &mut self.0, state, change),
+            Shape::Join(joining) => follow_rows(bound, joining, &mut self.0, state, change),
             Shape::Plain | Shape::Group(_) | Shape::Dedup(_) => {
                 follow_change(alloc, bound, &mut self.0, state, change)
             },

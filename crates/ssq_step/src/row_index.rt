@@ -12,19 +12,10 @@ use std::alloc::{AllocError, Global};
 use std::collections::BTreeSet;
 
 /// The time of what is kept under these bytes, if anything is.
-fn time_if(
-    alloc: Global,
-    bound: &Bound,
-    joining: &Joining,
-    key: &Bytes,
-    value: Option<&Bytes>,
-) -> Result<Option<i64>, AllocError>
-    ensures { IfOk result (HasTimeIf bound.now joining.now key.now (option_copied value.entry)) }
+fn time_if(bound: &Bound, joining: &Joining, key: &Bytes, value: Option<&Bytes>) -> Option<i64>
+    ensures { HasTimeIf bound.now joining.now key.now (option_copied value.entry) result }
 {
-    match value {
-        Some(value) => row_time(alloc, bound, joining, key, value),
-        None => Ok(None),
-    }
+    row_time(bound, joining, key, value?)
 }
 
 /// A time with the bytes of a key, where there is a time.
@@ -93,15 +84,13 @@ pub(crate) fn row_entries(
     states_are_kept(state);
     let mut entries = BTreeSet::new(alloc);
     for (key, value) in state.iter(alloc)? {
-        let time = row_time(alloc, bound, joining, key, value)?;
-        put_under(&mut entries, key, time)?;
+        put_under(&mut entries, key, row_time(bound, joining, key, value))?;
     }
     Ok(entries)
 }
 
 /// Follows the state through a change, by the state before it.
 pub(crate) fn follow_rows(
-    alloc: Global,
     bound: &Bound,
     joining: &Joining,
     entries: &mut BTreeSet<(i64, Bytes)>,
@@ -113,8 +102,8 @@ pub(crate) fn follow_rows(
 {
     changes_are_kept(change);
     for (key, value) in change.iter() {
-        let old = time_if(alloc, bound, joining, key, state.get(key))?;
-        let new = time_if(alloc, bound, joining, key, value.as_ref())?;
+        let old = time_if(bound, joining, key, state.get(key));
+        let new = time_if(bound, joining, key, value.as_ref());
         turn_row(entries, key, old, new)?;
     }
     Ok(())

@@ -5,11 +5,11 @@ ghost use Rattle.std.specs.Int.{w64};
 ghost use Rattle.ssq_value.specs.declared.value.Value.{Value as Cell};
 ghost use Rattle.ssq_meaning.specs.Fit.{IsFit};
 ghost use Rattle.ssq_meaning.specs.Join.{last_time, met_byte, side_byte};
-ghost use Rattle.ssq_step.specs.Rows.{HasTime, IsKeptRow, end_of, stream_of, width_of};
+ghost use Rattle.ssq_step.specs.Rows.{HasTime, IsKeptRow, HasParts, stream_of, width_of};
 
 use ssq_field::Bytes;
-use ssq_keys::read_key;
-use ssq_meaning::join_time;
+use ssq_keys::{read_key, time_at};
+use ssq_meaning::event_column;
 use ssq_shape::{Bound, Joining, TimeBound};
 use ssq_value::{Row, Value};
 use std::alloc::{AllocError, Global};
@@ -63,6 +63,26 @@ pub fn width_of(bound: &Bound, left: bool) -> usize
     }
 }
 
+/// The bytes of a row that is kept, taken apart.
+#[derive(Clone, Copy)]
+struct RowBytes<'a> {
+    left: bool,
+    values: &'a [u8],
+    met: bool,
+}
+
+/// The parts of the bytes under which a row is kept, and of those that are. None where these are no row's.
+fn parts_of<'a>(key: &[u8], value: &'a [u8]) -> Option<RowBytes<'a>>
+    ensures found { IfSome result (λ parts. HasParts key.now value.now parts.left parts.values.now parts.met) }
+    ensures each { (left : Bool) (values : List ℕ) (met : Bool) → HasParts key.now value.now left values met →
+        IsSomeAnd result (λ parts. (parts.left ≡ left) × (parts.values.now ≡ values) × (parts.met ≡ met)) }
+{
+    let left = side_of(key)?;
+    let (last, values) = value.split_last()?;
+    let met = met_of(*last)?;
+    Some(RowBytes { left, values, met })
+}
+
 /// The row that is kept under these bytes, with these behind them. None where it is none that can be kept.
 pub fn read_row(
     alloc: Global,
@@ -74,16 +94,10 @@ pub fn read_row(
     ensures each { (left : Bool) (values : List Cell) (met : Bool) → IsKeptRow bound.now left values met key.now value.now →
         IfOk result (λ found. IsSomeAnd found (λ row. (row.left ≡ left) × (row.values ≡ values) × (row.met ≡ met))) }
 {
-    let Some(left) = side_of(key.as_slice()) else {
+    let Some(RowBytes { left, values, met }) = parts_of(key.as_slice(), value.as_slice()) else {
         return Ok(None);
     };
-    let Some((last, front)) = value.as_slice().split_last() else {
-        return Ok(None);
-    };
-    let Some(met) = met_of(*last) else {
-        return Ok(None);
-    };
-    match read_key(alloc, front, width_of(bound, left))? {
+    match read_key(alloc, values, width_of(bound, left))? {
         Some(values) => Ok(Some(KeptRow { left, values, met })),
         None => Ok(None),
     }
@@ -103,31 +117,13 @@ fn last_time(bound: Option<TimeBound>, left: bool, time: Option<i64>) -> Option<
     }
 }
 
-fn end_of(joining: &Joining, row: &KeptRow) -> Option<i64>
-    ensures found { IfSome result (λ last. (end_of joining.now row.now.left row.now.values ≡ Some last) × FitsSigned w64 last) }
-    ensures each { (last : ℤ) → FitsSigned w64 last → end_of joining.now row.now.left row.now.values ≡ Some last → result ≡ Some last }
-{
-    let time = join_time(joining.bound, stream_of(row.left), row.values.as_slice());
-    last_time(joining.bound, row.left, time)
-}
-
 /// The time at which the row that is kept under these bytes is over, in microseconds since 1970: where a watermark is at or above it, the row is
-/// kept no more. None where it has none, or is no row: without a bound no row is read.
-pub(crate) fn row_time(
-    alloc: Global,
-    bound: &Bound,
-    joining: &Joining,
-    key: &Bytes,
-    value: &Bytes,
-) -> Result<Option<i64>, AllocError>
-    ensures { IfOk result (HasTime bound.now joining.now key.now value.now) }
+/// kept no more. None where it has none, or is no row, and without a bound. No value of it is copied.
+pub(crate) fn row_time(bound: &Bound, joining: &Joining, key: &Bytes, value: &Bytes) -> Option<i64>
+    ensures { HasTime bound.now joining.now key.now value.now result }
 {
-    if joining.bound.is_none() {
-        return Ok(None);
-    }
-    let found = read_row(alloc, bound, key, value)?;
-    match found {
-        Some(row) => Ok(end_of(joining, &row)),
-        None => Ok(None),
-    }
+    let limits = joining.bound?;
+    let RowBytes { left, values, .. } = parts_of(key.as_slice(), value.as_slice())?;
+    let time = time_at(values, width_of(bound, left), event_column(left, limits));
+    last_time(joining.bound, left, time)
 }

@@ -13,7 +13,7 @@ pub loop-key-preserved : goal.loop-key-preserved
 loop-key-preserved c =
     walk_on c.args.state.now c.loop-key.key-iterator c.next.new.self c.in-Some.key.now c.in-Some.value.now c.in-Some.ensures.steps c.loop-key.invariant.2
     (rows_on c.args.bound.now c.args.joining.now c.args.state.now c.loop-key.key-iterator c.next.new.self c.in-Some.key.now c.in-Some.value.now c.loop-key.entries.keys c.put_under.new.entries.keys
-    c.in_ok-time.time c.in-Some.ensures.steps c.loop-key.invariant.2 c.in_ok-time.ensures c.in_ok-put_under.ensures c.loop-key.invariant.3)
+    c.row_time.result c.in-Some.ensures.steps c.loop-key.invariant.2 c.row_time.ensures c.in_ok-put_under.ensures c.loop-key.invariant.3)
 
 pub returns : goal.returns
 returns c = rows_all c.args.bound.now c.args.joining.now c.args.state.now c.loop-key.key-iterator c.loop-key.entries.keys c.in-None.ensures.steps.0 c.loop-key.invariant.3
