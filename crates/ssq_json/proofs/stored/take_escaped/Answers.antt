@@ -11,5 +11,5 @@ returns-in-Some-behind-clause-each c = λ read rest utf8 is.
 pub returns-clause-each : goal.returns-clause-each
 returns-clause-each c = λ read rest utf8 is.
     let same : c.in_ok-bytes.bytes.items ≡ read = c.in_ok-bytes.ensures read rest (unquoted c.args.text.now c.in-Some.inside.now read rest c.in-Some.ensures.found is) in
-    let front : c.as_slice.result.now ≡ quoted read = c.as_slice.ensures.value ∙ c.in_ok-put_text.ensures.text ∙ ap₂ (λ before text. before ++ quoted text) c.new-quoted.ensures.items (c.deref.ensures ∙ ap (λ v. v.items) c.in-Ok.ensures.ok ∙ same) in
+    let front : c.as_slice.result.now ≡ quoted read = c.as_slice.ensures.value ∙ c.in_ok-put_text.ensures.text.ok ∙ ap₂ (λ before text. before ++ quoted text) c.new-quoted.ensures.items (c.deref.ensures ∙ ap (λ v. v.items) c.in-Ok.ensures.ok ∙ same) in
     c.in-None.ensures.each rest (is ∙ ap (λ q. q ++ rest) (sym front))

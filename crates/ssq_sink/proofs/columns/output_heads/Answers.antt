@@ -9,5 +9,5 @@ loop-output-init c = c.none-heads.ensures ∙ sym heads_of-none
 
 pub loop-output-preserved : goal.loop-output-preserved
 loop-output-preserved c =
-    c.in_ok-push.ensures (map (λ output. output.name) (take c.loop-output.output-index c.args.outputs.now)) c.loop-output.invariant
+    c.in_ok-push.ensures.ok (map (λ output. output.name) (take c.loop-output.output-index c.args.outputs.now)) c.loop-output.invariant
     ∙ ap heads_of (sym (map-more (λ output. output.name) c.args.outputs.now c.loop-output.output-index c.output-item.result c.loop-output-test.true c.output-item.is))

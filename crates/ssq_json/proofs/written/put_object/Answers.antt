@@ -1,5 +1,5 @@
 use Rattle.ssq_json.proofs.Utf8.{appended, left_brace, right_brace}
-use Rattle.ssq_json.proofs.written.put_row.Goals as goal
+use Rattle.ssq_json.proofs.written.put_object.Goals as goal
 
 pub returns-clause-utf8 : goal.returns-clause-utf8
 returns-clause-utf8 c before =
