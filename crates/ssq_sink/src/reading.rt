@@ -150,6 +150,36 @@ fn sinks<D: Disk>(alloc: Global, disk: &mut D) -> Result<u64, SinkFault>
     Ok(count_sinks(names.as_slice()))
 }
 
+/// The table of a query, and how many sink files it was read of.
+#[derive(Drop)]
+pub struct Counted {
+    pub sinks: u64,
+    pub table: Text,
+}
+
+/// The table of a query as [`table`] gives it, and how many sink files there are. The names on the disk are listed once.
+///
+/// # Errors
+///
+/// As of [`table`].
+pub fn counted_table<D: Disk>(
+    alloc: Global,
+    disk: &mut D,
+    bound: &Bound,
+) -> Result<Counted, SinkFault>
+    ensures sinks { D.tells → IfOk result (λ read. AreCounted (files_now (D.history disk.old)) read.sinks) }
+    ensures read { D.tells → IfOk result (λ read. IsTable bound.now (files_now (D.history disk.old)) read.table) }
+    ensures bad { D.tells → IfErr result (IfDamaged (IsBadSink bound.now (files_now (D.history disk.old)))) }
+    ensures same { D.tells → D.history disk.new ≡ D.history disk.old }
+    // A fault of the disk is answered only where it was counted.
+    ensures counted { D.faults disk.old ≤ D.faults disk.new }
+    ensures cause { IfErr result (λ fault. HasRisen fault (D.faults disk.old) (D.faults disk.new)) }
+{
+    let sinks = sinks(alloc, disk)?;
+    let table = first_files(alloc, disk, bound, sinks)?;
+    Ok(Counted { sinks, table })
+}
+
 /// The table of a query, of its sink files: all rows, one file after the other; of groups in Update the last row of each key, in the order of a sink
 /// file; in Complete the rows of the last file. Nothing on the disk is changed.
 ///
@@ -166,6 +196,6 @@ pub fn table<D: Disk>(alloc: Global, disk: &mut D, bound: &Bound) -> Result<Text
     ensures counted { D.faults disk.old ≤ D.faults disk.new }
     ensures cause { IfErr result (λ fault. HasRisen fault (D.faults disk.old) (D.faults disk.new)) }
 {
-    let count = sinks(alloc, disk)?;
-    first_files(alloc, disk, bound, count)
+    let Counted { sinks: _, table } = counted_table(alloc, disk, bound)?;
+    Ok(table)
 }
