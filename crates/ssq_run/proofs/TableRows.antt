@@ -2,18 +2,13 @@
 use Rattle.std.proofs.Common.{◌≡◌, ◌<◌, ℕ, zero, suc, List, length, Option, None, sym, ap, subst, ◌∙◌, arith, inl, inr}
 use Rattle.std.specs.Prelude.{map, IsSome}
 use Rattle.std.proofs.lemmas.Bool.{cases_lt}
-use Rattle.ssq_outside.specs.declared.name.Name.TheVariants as name
-use Rattle.ssq_outside.specs.declared.name.Name.{Name}
 use Rattle.ssq_outside.specs.Files.{Files}
-use Rattle.ssq_outside.specs.History.{History, files_now}
 use Rattle.ssq_shape.specs.declared.bound.Bound.{Bound}
 use Rattle.ssq_shape.specs.declared.bound.Output.{Output}
 use Rattle.ssq_shape.specs.Plain.{output_names}
 use Rattle.ssq_json.specs.Stored.{AreRows}
 use Rattle.ssq_meaning.specs.Meaning.{Values}
-use Rattle.ssq_sink.specs.declared.fault.SinkFault.{SinkFault}
-use Rattle.ssq_sink.specs.Fault.{IfDamaged}
-use Rattle.ssq_sink.specs.Table.{AreCounted, AreSinks, IsBadSink, IsTable, output_kinds, reading, table_text}
+use Rattle.ssq_sink.specs.Table.{AreCounted, AreSinks, IsTable, output_kinds, reading, table_text}
 use Rattle.ssq_tables.specs.Agreeing.{rows_read}
 use Rattle.ssq_tables.proofs.Reading.{table_rows}
 use Rattle.ssq_gen.specs.Counts.{IsRows, counts_line}
@@ -38,13 +33,6 @@ one_count files n m one other = elim (cases_lt n m) [
 ]
 
 -- ---- a table that was read
-
--- of files that are as they were
-pub bad_before : (bound : Bound) (old new : History) (fault : SinkFault) → new ≡ old → IfDamaged (IsBadSink bound (files_now new)) fault → IfDamaged (IsBadSink bound (files_now old)) fault
-bad_before bound old new fault same bad = subst (λ h. IfDamaged (IsBadSink bound (files_now h)) fault) same bad
-
-pub table_before : (bound : Bound) (old new : History) (text : List ℕ) → new ≡ old → IsTable bound (files_now new) text → IsTable bound (files_now old) text
-table_before bound old new text same is = subst (λ h. IsTable bound (files_now h) text) same is
 
 -- its rows, under the heads of these outputs
 pub rows_of_table : (bound : Bound) (files : Files) (outputs : List Output) (text table : List ℕ) → outputs ≡ bound.outputs → table ≡ text → IsTable bound files text → IsRows (map (λ output. output.name) outputs) (map (λ output. output.kind) outputs) table

@@ -15,10 +15,10 @@ use crate::stop::Stop;
 use ssq_bind::{queries_are_typed, queries_read_their_streams};
 use ssq_fakes::{MemDisk, MemInputs, MemOut};
 use ssq_gen::{CountsFault, counts_line, made};
-use ssq_outside::{Disk, Gate};
+use ssq_outside::Gate;
 use ssq_runner::{Ask, run_query, runs_go_on};
 use ssq_shape::Bound;
-use ssq_sink::{SinkFault, count_sinks, table};
+use ssq_sink::{SinkFault, counted_table};
 use ssq_tables::checkpoints_hold_tables;
 use std::alloc::Global;
 
@@ -35,17 +35,14 @@ fn counted(alloc: Global, bound: &Bound, disk: MemDisk, lines: u32) -> Result<St
     ensures bad { IfErr result (IfDamaged (IsBadSink bound.now (files_now (disk_history disk)))) }
 {
     let mut disk = disk;
-    let names = disk.names(alloc)?;
-    let epochs = count_sinks(names.as_slice());
-    drop(names);
-    let table = table(alloc, &mut disk, bound)?;
+    let read = counted_table(alloc, &mut disk, bound)?;
     drop(disk);
     match counts_line(
         alloc,
         lines,
-        epochs,
+        read.sinks,
         bound.outputs.as_slice(),
-        table.as_bytes(),
+        read.table.as_bytes(),
     ) {
         Ok(line) => Ok(line),
         Err(CountsFault::NotRows) => unreachable!(),
