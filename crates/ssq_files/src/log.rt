@@ -112,7 +112,7 @@ impl<F: Read + Seek + Drop> Lines<F> {
             let block = self.blocks.rest(self.scanned);
             if let Some(last) = memrchr(b'\n', block) {
                 self.counted = Mark {
-                    line: later(self.counted.line, memchr_iter(b'\n', block).count()),
+                    line: later(self.counted.line, ends_in(block)),
                     byte: later(self.scanned, last).saturating_add(1),
                 };
                 self.marks.pass(self.counted);
@@ -180,6 +180,11 @@ impl<F: Read + Seek + Drop> Lines<F> {
         }
         Err(io::Error::from(ErrorKind::UnexpectedEof))
     }
+}
+
+/// How many lines end in the block. The iterator's own `count` looks at each byte, where `next` looks at 32 at a time.
+fn ends_in(block: &[u8]) -> usize {
+    Iterator::count(memchr_iter(b'\n', block))
 }
 
 /// So many bytes or lines later.
