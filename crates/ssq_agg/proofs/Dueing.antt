@@ -1,16 +1,11 @@
 -- The groups that are shown are those that are due.
 use Rattle.std.proofs.Common.{◌≡◌, ◌+◌, ◌++◌, ℕ, suc, ℤ, [], ◌∷◌, Some, None, List, Option, Result, Ok, Err, Bool, true, false, cond, refl, ap, sym, ◌∙◌, subst, arith, map, filter, length}
 use Rattle.std.specs.Prelude.{◌&&◌, ◌||◌, not, IfOk, All, if◌then◌else◌, is_some, is_err}
-use Rattle.std.specs.declared.cmp.Ordering.TheVariants.{Less}
-use Rattle.std.specs.BTreeMap.{BTreeMap, get, is_at}
-use Rattle.std.specs.List.{AllByRecursion}
-use Rattle.std.specs.List.Sorted.{IsStrictlySortedBy}
+use Rattle.std.specs.List.{AllByRecursion, IsDistinct}
 use Rattle.std.specs.Map.{lookup}
-use Rattle.std.specs.Ordering.{is_eq}
 use Rattle.std.proofs.lemmas.List.{append_assoc, length-append, map-append}
 use Rattle.std.proofs.lemmas.List.Elements.{filter-append, recursion_from_All}
 use Rattle.std.proofs.lemmas.List.Sums.{fold-append}
-use Rattle.ssq_value.specs.Order.{values_cmp}
 use Rattle.ssq_shape.specs.declared.bound.Bound.{Bound}
 use Rattle.ssq_shape.specs.declared.bound.Grouping.{Grouping}
 use Rattle.ssq_shape.specs.declared.bound.Mode.{Mode}
@@ -26,7 +21,7 @@ use Rattle.ssq_agg.specs.Closed.{is_ended, AreClosed, AreAll}
 use Rattle.ssq_agg.specs.Groups.{Held}
 use Rattle.ssq_agg.specs.Shown.{Pair, Shows, shown_rows, least_fault, row_if, shown_of, fault_if, pairs_of, others_of}
 use Rattle.ssq_agg.specs.Steps.{AreDue, ShowsDue, keys_of_groups, or_kept}
-use Rattle.ssq_agg.proofs.Taking.{same_back, same_is}
+use Rattle.ssq_agg.proofs.Taking.{same_is}
 
 pub if_ok : {T E : Type 0} {P Q : T → Type 0} (r : Result T E) → IfOk r P → ((x : T) → P x → Q x) → IfOk r Q
 if_ok (Ok x) holds give = give x holds
@@ -48,22 +43,22 @@ all_append P (x ∷ xs) ys a b = (a.0, all_append P xs ys a.1 b)
 
 -- ---- the entries of a map
 
-apart : (key : Values) (keys : List Values) → AllByRecursion (λ y. values_cmp key y ≡ Less) keys → times key keys ≡ 0
+apart : (key : Values) (keys : List Values) → AllByRecursion (λ y. is_same key y ≡ false) keys → times key keys ≡ 0
 apart key [] all = refl
-apart key (y ∷ keys) all = ap (λ r. length (if is_eq r then y ∷ filter (is_same key) keys else filter (is_same key) keys)) all.0 ∙ apart key keys all.1
+apart key (y ∷ keys) all = ap (λ b. length (if b then y ∷ filter (is_same key) keys else filter (is_same key) keys)) all.0 ∙ apart key keys all.1
 
 -- each key of a map is there once
-entries_once : (key : Values) (entries : List Pair) → IsStrictlySortedBy values_cmp (keys_of_pairs entries)
-    → times key (keys_of_pairs entries) ≡ (if is_some (lookup (is_at (values_cmp key)) entries) then 1 else 0)
-unfolding IsStrictlySortedBy
-entries_once key [] sorted = refl
-entries_once key (entry ∷ entries) sorted = by (is_same key entry.0) refl (entries_once key entries sorted.1)
+entries_once : (key : Values) (entries : List Pair) → IsDistinct is_same (keys_of_pairs entries)
+    → times key (keys_of_pairs entries) ≡ (if is_some (lookup (is_same key) entries) then 1 else 0)
+unfolding IsDistinct
+entries_once key [] distinct = refl
+entries_once key (entry ∷ entries) distinct = by (is_same key entry.0) refl (entries_once key entries distinct.1)
   where
-    by : (b : Bool) → is_same key entry.0 ≡ b → times key (keys_of_pairs entries) ≡ (if is_some (lookup (is_at (values_cmp key)) entries) then 1 else 0)
+    by : (b : Bool) → is_same key entry.0 ≡ b → times key (keys_of_pairs entries) ≡ (if is_some (lookup (is_same key) entries) then 1 else 0)
         → length (if b then entry.0 ∷ filter (is_same key) (keys_of_pairs entries) else filter (is_same key) (keys_of_pairs entries))
-        ≡ (if is_some (if b then Some entry.1 else lookup (is_at (values_cmp key)) entries) then 1 else 0)
+        ≡ (if is_some (if b then Some entry.1 else lookup (is_same key) entries) then 1 else 0)
     by true same rest =
-        let none : times key (keys_of_pairs entries) ≡ 0 = ap (λ k. times k (keys_of_pairs entries)) (same_is key entry.0 same) ∙ apart entry.0 (keys_of_pairs entries) sorted.0 in
+        let none : times key (keys_of_pairs entries) ≡ 0 = ap (λ k. times k (keys_of_pairs entries)) (same_is key entry.0 same) ∙ apart entry.0 (keys_of_pairs entries) distinct.0 in
         omega (arith, none)
     by false other rest = rest
 
@@ -78,33 +73,6 @@ others_keys found (group ∷ groups) = by (not (is_some (found group.key))) (oth
         ≡ (if b then group.key ∷ filter (λ key. not (is_some (found key))) (keys_of_groups groups) else filter (λ key. not (is_some (found key))) (keys_of_groups groups))
     by true rest = ap (λ l. group.key ∷ l) rest
     by false rest = rest
-
-pub others_are : (has : Values → Bool) (found : Held) → ((key : Values) → has key ≡ is_some (found key)) → (groups : List Group) → filter (λ (group : Group). not (has group.key)) groups ≡ others_of found groups
-others_are has found same [] = refl
-others_are has found same (group ∷ groups) = λ i. if not (same group.key i) then group ∷ others_are has found same groups i else others_are has found same groups i
-
--- the keys so far, with those of the entries that are left, are those of a map
-pub keys_more : (touched : BTreeMap Values (List Total)) (old new : Values → Bool) (left rest : List Pair) (own : Values) (totals : List Total) (key : Values) → key ≡ own
-    → ((q : Values) → new q ≡ cond (is_same key q) true (old q)) → left ≡ (own, totals) ∷ rest → ((q : Values) → (old q || is_some (lookup (is_at (values_cmp q)) left)) ≡ is_some (get values_cmp touched q))
-    → (q : Values) → (new q || is_some (lookup (is_at (values_cmp q)) rest)) ≡ is_some (get values_cmp touched q)
-keys_more touched old new left rest own totals key same put steps was q =
-    ap (λ b. b || is_some (lookup (is_at (values_cmp q)) rest)) (put q ∙ ap (λ b. cond b true (old q)) (ap (λ k. is_same k q) same ∙ same_back own q))
-    ∙ by (is_same q own) (old q) (lookup (is_at (values_cmp q)) rest)
-    ∙ ap (λ l. old q || is_some (lookup (is_at (values_cmp q)) l)) (sym steps)
-    ∙ was q
-  where
-    by : (b old : Bool) (found : Option (List Total)) → (cond b true old || is_some found) ≡ (old || is_some (if b then Some totals else found))
-    by true true found = refl
-    by true false found = refl
-    by false old found = refl
-
-pub keys_all : (touched : BTreeMap Values (List Total)) (keys : Values → Bool) (left : List Pair) → left ≡ [] → ((q : Values) → (keys q || is_some (lookup (is_at (values_cmp q)) left)) ≡ is_some (get values_cmp touched q))
-    → (q : Values) → keys q ≡ is_some (get values_cmp touched q)
-keys_all touched keys left none was q = by (keys q) ∙ ap (λ l. keys q || is_some (lookup (is_at (values_cmp q)) l)) (sym none) ∙ was q
-  where
-    by : (b : Bool) → b ≡ (b || false)
-    by true = refl
-    by false = refl
 
 -- a test decides how often a key is left
 pub times_left : (key : Values) (p : Values → Bool) (keys : List Values) → times key (filter p keys) ≡ (if p key then times key keys else 0)
@@ -168,12 +136,12 @@ module _ (query : Bound) (grouping : Grouping) (own : Held) (time : Values → O
 
   -- ---- Update
 
-  pub update_due : query.mode ≡ mode.Update → (entries : List Pair) → IsStrictlySortedBy values_cmp (keys_of_pairs entries) → ((key : Values) → found key ≡ lookup (is_at (values_cmp key)) entries)
+  pub update_due : query.mode ≡ mode.Update → (entries : List Pair) → IsDistinct is_same (keys_of_pairs entries) → ((key : Values) → found key ≡ lookup (is_same key) entries)
       → All (λ (pair : Pair). found pair.0 ≡ Some pair.1) entries → (nothing shown : Shown) → nothing.rows.items ≡ [] → nothing.fault ≡ None
       → Shows query grouping entries nothing shown → ShowsDue query grouping own time now found shown
-  update_due is entries sorted finds all nothing shown no_rows no_fault shows =
+  update_due is entries distinct finds all nothing shown no_rows no_fault shows =
       made mode.Update is entries (record {
-        due = λ key. entries_once key entries sorted ∙ ap (λ o. if is_some o then 1 else 0) (sym (finds key));
+        due = λ key. entries_once key entries distinct ∙ ap (λ o. if is_some o then 1 else 0) (sym (finds key));
         each = recursion_from_All (λ (pair : Pair). found pair.0 ≡ Some pair.1) entries all;
       }) nothing shown no_rows no_fault shows
 
@@ -221,16 +189,16 @@ module _ (query : Bound) (grouping : Grouping) (own : Held) (time : Values → O
         ∙ sym (fold-append (λ own pair. fault_if (is_err (shown_of query grouping pair)) pair.0 own) before.fault one other);
   }
 
-  pub complete_due : query.mode ≡ mode.Complete → (entries : List Pair) → IsStrictlySortedBy values_cmp (keys_of_pairs entries) → ((key : Values) → found key ≡ lookup (is_at (values_cmp key)) entries)
+  pub complete_due : query.mode ≡ mode.Complete → (entries : List Pair) → IsDistinct is_same (keys_of_pairs entries) → ((key : Values) → found key ≡ lookup (is_same key) entries)
       → All (λ (pair : Pair). found pair.0 ≡ Some pair.1) entries → (all others : List Group) → AreAll own all → others ≡ others_of found all
       → (nothing between shown : Shown) → nothing.rows.items ≡ [] → nothing.fault ≡ None
       → Shows query grouping entries nothing between → Shows query grouping (pairs_of others) between shown → ShowsDue query grouping own time now found shown
-  complete_due is entries sorted finds each all others are left nothing between shown no_rows no_fault first second =
+  complete_due is entries distinct finds each all others are left nothing between shown no_rows no_fault first second =
       made mode.Complete is (entries ++ pairs_of (others_of found all)) (record {
         due = λ key.
             ap (times key) (map-append (λ (pair : Pair). pair.0) entries (pairs_of (others_of found all)))
             ∙ times-append key (keys_of_pairs entries) (keys_of_pairs (pairs_of (others_of found all)))
-            ∙ (λ i. (entries_once key entries sorted ∙ ap (λ o. if is_some o then 1 else 0) (sym (finds key))) i
+            ∙ (λ i. (entries_once key entries distinct ∙ ap (λ o. if is_some o then 1 else 0) (sym (finds key))) i
             + (ap (times key) (pairs_keys (others_of found all) ∙ others_keys found all) ∙ times_left key (λ key. not (is_some (found key))) (keys_of_groups all)
             ∙ ap (λ n. if not (is_some (found key)) then n else 0) (are.once key)) i)
             ∙ either_once (own key) (found key);

@@ -1,11 +1,10 @@
 -- What is read from a state, and what comes of it, a state can hold.
 use Rattle.std.proofs.Common.{◌≡◌, ℕ, [], ◌∷◌, Some, None, List, Option, Bool, true, false, All, refl, sym, subst, ◌∙◌}
 use Rattle.std.specs.Prelude.{if◌then◌else◌, IfSome, option_map, option_to_list}
-use Rattle.std.specs.BTreeMap.{BTreeMap, get}
+use Rattle.std.specs.HashMap.{HashMap, get}
 use Rattle.std.specs.List.{AllByRecursion}
 use Rattle.std.proofs.lemmas.List.Elements.{All-weaker, All-from_recursion, All-append, All-nil, All-cons}
 use Rattle.ssq_value.specs.Key.{keys_of}
-use Rattle.ssq_value.specs.Order.{values_cmp}
 use Rattle.ssq_version.specs.State.{State, value_at}
 use Rattle.ssq_shape.specs.declared.bound.Aggregate.{Aggregate}
 use Rattle.ssq_shape.specs.declared.bound.Function.{Function}
@@ -92,5 +91,5 @@ read_fit grouping (entry ∷ entries) groups are =
 
 -- ---- the entries of a map of groups
 
-pub entries_fit : (groups : BTreeMap Values (List Total)) → AreFitGroups groups → All (λ entry. get values_cmp groups entry.0 ≡ Some entry.1) groups.entries → All (λ entry. IsFitGroup entry.0 entry.1) groups.entries
-entries_fit groups fit found = All-weaker (λ (entry : Values × List Total). get values_cmp groups entry.0 ≡ Some entry.1) (λ entry. IsFitGroup entry.0 entry.1) (λ entry is. fit entry.0 entry.1 is) groups.entries found
+pub entries_fit : {S : Type 0} (groups : HashMap Values (List Total) S) → AreFitGroups groups → All (λ entry. get is_same groups entry.0 ≡ Some entry.1) groups.entries → All (λ entry. IsFitGroup entry.0 entry.1) groups.entries
+entries_fit groups fit found = All-weaker (λ (entry : Values × List Total). get is_same groups entry.0 ≡ Some entry.1) (λ entry. IsFitGroup entry.0 entry.1) (λ entry is. fit entry.0 entry.1 is) groups.entries found

@@ -1,7 +1,6 @@
 pub mod Spellings
 pub mod Totalling
 pub mod Reading
-pub mod Hashed
 pub mod Taking
 pub mod Fitting
 pub mod Saying

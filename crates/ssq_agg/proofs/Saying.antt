@@ -1,11 +1,10 @@
 -- What a change says of groups.
-use Rattle.std.proofs.Common.{◌≡◌, ◌<◌, ◌+◌, ◌++◌, ℕ, [], ◌∷◌, Some, None, List, Option, Bool, true, false, All, refl, ap, sym, subst, ◌∙◌, take, length, get_or, map}
+use Rattle.std.proofs.Common.{◌≡◌, ◌<◌, ◌+◌, ◌++◌, ℕ, [], ◌∷◌, Some, None, List, Option, Bool, true, false, All, refl, ap, sym, subst, ◌∙◌, append_assoc, append-nil, take, length, get_or, map}
 use Rattle.std.specs.Prelude.{◌||◌, if◌then◌else◌}
-use Rattle.std.specs.declared.cmp.Ordering.TheVariants.{Less}
-use Rattle.std.specs.BTreeMap.{BTreeMap, get, is_at}
+use Rattle.std.specs.BTreeMap.{is_at}
 use Rattle.std.specs.Cmp.Lexicographic.{nat_list_cmp_total}
-use Rattle.std.specs.List.{AllByRecursion}
-use Rattle.std.specs.List.Sorted.{IsStrictlySortedBy}
+use Rattle.std.specs.HashMap.{HashMap, get}
+use Rattle.std.specs.List.{AllByRecursion, IsDistinct}
 use Rattle.std.specs.Map.{lookup}
 use Rattle.std.specs.Option.{option_or}
 use Rattle.std.specs.Ordering.{is_eq}
@@ -13,7 +12,6 @@ use Rattle.std.proofs.lemmas.Cmp.{tied_itself}
 use Rattle.std.proofs.lemmas.List.{map-append, take_more}
 use Rattle.std.proofs.lemmas.List.Elements.{All-push, All-tail, All-weaker, recursion_from_All}
 use Rattle.ssq_value.specs.Key.{IsSpelled, keys_of}
-use Rattle.ssq_value.specs.Order.{values_cmp}
 use Rattle.ssq_value.specs.OrderLaws.{values_cmp_total}
 use Rattle.ssq_version.specs.State.{Change, IsShortEntry, by_bytes, last_at, value_at}
 use Rattle.ssq_version.proofs.LastSaid.{last_has, or_none}
@@ -28,7 +26,6 @@ use Rattle.ssq_agg.specs.Readable.{IsFitGroup}
 use Rattle.ssq_agg.specs.Shown.{Pair}
 use Rattle.ssq_agg.specs.Steps.{AreKeys, AreTouchedKeys, Says, gone_entry, is_among, keys_of_groups, put_entry, said_if}
 use Rattle.ssq_agg.proofs.Dueing.{keys_of_pairs}
-use Rattle.ssq_agg.proofs.Hashed.{none_left, one_on}
 use Rattle.ssq_agg.proofs.Taking.{same_is}
 
 -- the law of keys
@@ -53,23 +50,23 @@ same_bytes apart many key other is are = by (is_at (by_bytes (keys_of key)) (key
 
 -- ---- what the entries say
 
-once : (key : Values) (rest : List Pair) → AllByRecursion (λ y. values_cmp key y ≡ Less) (keys_of_pairs rest) → lookup (is_at (values_cmp key)) rest ≡ None
+once : (key : Values) (rest : List Pair) → AllByRecursion (λ y. is_same key y ≡ false) (keys_of_pairs rest) → lookup (is_same key) rest ≡ None
 once key [] all = refl
-once key (entry ∷ rest) all = ap (λ r. if is_eq r then Some entry.1 else lookup (is_at (values_cmp key)) rest) all.0 ∙ once key rest all.1
+once key (entry ∷ rest) all = ap (λ b. if b then Some entry.1 else lookup (is_same key) rest) all.0 ∙ once key rest all.1
 
 -- the keys of a map's entries are those of so many values, each of them once
 pub record AreOnce (many : ℕ) (pairs : List Pair) : Type 0 where
   pub keys : AllByRecursion (λ (entry : Pair). IsKeySpelled many entry.0) pairs
-  pub ordered : IsStrictlySortedBy values_cmp (keys_of_pairs pairs)
+  pub distinct : IsDistinct is_same (keys_of_pairs pairs)
 
 behind : (many : ℕ) (pair : Pair) (pairs : List Pair) → AreOnce many (pair ∷ pairs) → AreOnce many pairs
-unfolding IsStrictlySortedBy
-behind many pair pairs are = record { keys = are.keys.1; ordered = are.ordered.1 }
+unfolding IsDistinct
+behind many pair pairs are = record { keys = are.keys.1; distinct = are.distinct.1 }
 
 -- a key that is in front stands nowhere behind it
-none_behind : (many : ℕ) (pair : Pair) (pairs : List Pair) → AreOnce many (pair ∷ pairs) → (key : Values) → is_same key pair.0 ≡ true → lookup (is_at (values_cmp key)) pairs ≡ None
-unfolding IsStrictlySortedBy
-none_behind many pair pairs are key same = ap (λ k. lookup (is_at (values_cmp k)) pairs) (same_is key pair.0 same) ∙ once pair.0 pairs are.ordered.0
+none_behind : (many : ℕ) (pair : Pair) (pairs : List Pair) → AreOnce many (pair ∷ pairs) → (key : Values) → is_same key pair.0 ≡ true → lookup (is_same key) pairs ≡ None
+unfolding IsDistinct
+none_behind many pair pairs are key same = ap (λ k. lookup (is_same k) pairs) (same_is key pair.0 same) ∙ once pair.0 pairs are.distinct.0
 
 -- what is said of a key by the entry in front, and by those behind it
 put_by : (same : Bool) (found : Option (List Total)) (totals : List Total) → (same ≡ true → found ≡ None)
@@ -86,18 +83,18 @@ gone_by false false None = refl
 
 module _ (many : ℕ) where
   last_put : AreApart → (pairs : List Pair) → AreOnce many pairs → (key : Values) → IsKeySpelled many key
-      → last_at (map put_entry pairs) (keys_of key) ≡ said_if (lookup (is_at (values_cmp key)) pairs) false
+      → last_at (map put_entry pairs) (keys_of key) ≡ said_if (lookup (is_same key) pairs) false
   last_put apart [] are key is = refl
   last_put apart (pair ∷ pairs) are key is =
       (λ i. option_or (last_put apart pairs (behind many pair pairs are) key is i) (if same_bytes apart many key pair.0 is are.keys.0 i then Some (Some (totals_bytes pair.1)) else None))
-      ∙ put_by (is_same key pair.0) (lookup (is_at (values_cmp key)) pairs) pair.1 (none_behind many pair pairs are key)
+      ∙ put_by (is_same key pair.0) (lookup (is_same key) pairs) pair.1 (none_behind many pair pairs are key)
 
   last_said : AreApart → (closed : List Group) (pairs : List Pair) → AreKeys many (keys_of_groups closed) → AreOnce many pairs → (key : Values) → IsKeySpelled many key
-      → last_at (map gone_entry closed ++ map put_entry pairs) (keys_of key) ≡ said_if (lookup (is_at (values_cmp key)) pairs) (is_among closed key)
+      → last_at (map gone_entry closed ++ map put_entry pairs) (keys_of key) ≡ said_if (lookup (is_same key) pairs) (is_among closed key)
   last_said apart [] pairs keys are key is = last_put apart pairs are key is
   last_said apart (group ∷ closed) pairs keys are key is =
       (λ i. option_or (last_said apart closed pairs keys.1 are key is i) (if same_bytes apart many key group.key is keys.0 i then Some None else None))
-      ∙ gone_by (is_same key group.key) (is_among closed key) (lookup (is_at (values_cmp key)) pairs)
+      ∙ gone_by (is_same key group.key) (is_among closed key) (lookup (is_same key) pairs)
 
   -- the entry is of a key of so many values
   abbrev IsOfKey : List ℕ × Option (List ℕ) → Type 0
@@ -109,8 +106,8 @@ module _ (many : ℕ) where
   of_keys [] (pair ∷ pairs) keys are = ((pair.0, refl, are.0), of_keys [] pairs keys are.1)
   of_keys (group ∷ closed) pairs keys are = ((group.key, refl, keys.0), of_keys closed pairs keys.1 are)
 
-  pub says_all : AreApart → (touched : BTreeMap Values (List Total)) (closed : List Group) → AreKeys many (keys_of_groups closed) → AreOnce many touched.entries → (entries change : Change)
-      → ((bytes : List ℕ) → value_at change bytes ≡ last_at entries bytes) → entries ≡ map gone_entry closed ++ map put_entry touched.entries → Says many (get values_cmp touched) closed change
+  pub says_all : {S : Type 0} → AreApart → (touched : HashMap Values (List Total) S) (closed : List Group) → AreKeys many (keys_of_groups closed) → AreOnce many touched.entries → (entries change : Change)
+      → ((bytes : List ℕ) → value_at change bytes ≡ last_at entries bytes) → entries ≡ map gone_entry closed ++ map put_entry touched.entries → Says many (get is_same touched) closed change
   says_all apart touched closed keys once entries change said are = record {
     told = λ key is. said (keys_of key) ∙ ap (λ l. last_at l (keys_of key)) are ∙ last_said apart closed touched.entries keys once key is;
     only = λ bytes what has.
@@ -118,13 +115,21 @@ module _ (many : ℕ) where
   }
 
 -- the keys of a map of groups, entry by entry
-pub entries_keys : (many : ℕ) (groups : BTreeMap Values (List Total)) → AreTouchedKeys many groups → All (λ entry. get values_cmp groups entry.0 ≡ Some entry.1) groups.entries
+pub entries_keys : {S : Type 0} (many : ℕ) (groups : HashMap Values (List Total) S) → AreTouchedKeys many groups → All (λ entry. get is_same groups entry.0 ≡ Some entry.1) groups.entries
     → AllByRecursion (λ (entry : Pair). IsKeySpelled many entry.0) groups.entries
 entries_keys many groups keys found =
     recursion_from_All (λ (entry : Pair). IsKeySpelled many entry.0) groups.entries
-    (All-weaker (λ (entry : Pair). get values_cmp groups entry.0 ≡ Some entry.1) (λ (entry : Pair). IsKeySpelled many entry.0) (λ entry is. keys entry.0 entry.1 is) groups.entries found)
+    (All-weaker (λ (entry : Pair). get is_same groups entry.0 ≡ Some entry.1) (λ (entry : Pair). IsKeySpelled many entry.0) (λ entry is. keys entry.0 entry.1 is) groups.entries found)
 
 -- ---- an entry more
+
+module _ {A : Type 0} (made left all : List A) where
+  one_on : (more rest : List A) (x y : A) → more ≡ made ++ x ∷ [] → x ≡ y → left ≡ y ∷ rest → made ++ left ≡ all → more ++ rest ≡ all
+  one_on more rest x y pushed same steps is =
+      ap (λ l. l ++ rest) pushed ∙ append_assoc made (x ∷ []) rest ∙ ap (λ z. made ++ z ∷ rest) same ∙ ap (λ l. made ++ l) (sym steps) ∙ is
+
+  none_left : left ≡ [] → made ++ left ≡ all → made ≡ all
+  none_left none is = sym (append-nil made) ∙ ap (λ l. made ++ l) (sym none) ∙ is
 
 pub short_more : (entry : List ℕ × Option (List ℕ)) (before after : Change) → after ≡ before ++ entry ∷ [] → IsShortEntry entry → All IsShortEntry before → All IsShortEntry after
 short_more entry before after pushed short was = subst (All IsShortEntry) (sym pushed) (All-push IsShortEntry before entry was short)

@@ -1,8 +1,7 @@
 -- Groups that can be kept as bytes, and read back from them.
 use Rattle.std.specs.Prelude.{◌≡◌, ◌<◌, ◌^◌, List, [], ◌∷◌, All, length, Option, Some, FitsSigned}
-use Rattle.std.specs.BTreeMap.{BTreeMap, get}
+use Rattle.std.specs.HashMap.{HashMap, get}
 use Rattle.std.specs.Int.{w128}
-use Rattle.ssq_value.specs.Order.{values_cmp}
 use Rattle.ssq_shape.specs.declared.bound.Aggregate.{Aggregate}
 use Rattle.ssq_shape.specs.declared.bound.Function.{Function}
 use Rattle.ssq_shape.specs.declared.bound.Function.TheVariants as function
@@ -10,6 +9,7 @@ use Rattle.ssq_shape.specs.declared.bound.Grouping.{Grouping}
 use Rattle.ssq_meaning.specs.declared.total.Total.{Total}
 use Rattle.ssq_meaning.specs.declared.total.Total.TheVariants as total
 use Rattle.ssq_meaning.specs.Fit.{IsFit}
+use Rattle.ssq_meaning.specs.Group.{is_same}
 use Rattle.ssq_meaning.specs.GroupLaws.{IsKeySpelled}
 use Rattle.ssq_meaning.specs.Meaning.{Values}
 use Rattle.ssq_step.specs.Indexing as index
@@ -33,8 +33,8 @@ AreFit groups = All (λ (group : Group). IsFitGroup group.key group.totals) grou
 abbrev pub AreFitAt : (Values → Option (List Total)) → Type 0
 AreFitAt found = (key : Values) (totals : List Total) → found key ≡ Some totals → IsFitGroup key totals
 
-abbrev pub AreFitGroups : BTreeMap Values (List Total) → Type 0
-AreFitGroups groups = AreFitAt (get values_cmp groups)
+abbrev pub AreFitGroups : {S : Type 0} → HashMap Values (List Total) S → Type 0
+AreFitGroups groups = AreFitAt (get is_same groups)
 
 -- a total of this function, which is read back from its bytes
 abbrev pub IsTotalOf : Function → Total → Type 0

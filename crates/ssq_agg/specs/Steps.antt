@@ -1,10 +1,9 @@
 -- The step of an epoch.
 use Rattle.std.specs.Prelude.{◌≡◌, ◌++◌, ℕ, ℤ, Bool, true, false, if◌then◌else◌, List, All, length, map, Option, Some, None, is_some}
-use Rattle.std.specs.BTreeMap.{BTreeMap, get}
+use Rattle.std.specs.HashMap.{HashMap, get}
 use Rattle.std.specs.List.{AllByRecursion, list_any}
 use Rattle.std.specs.List.Sorted.{IsPermutation}
 use Rattle.ssq_value.specs.Key.{keys_of}
-use Rattle.ssq_value.specs.Order.{values_cmp}
 use Rattle.ssq_version.specs.State.{State, Change, value_at}
 use Rattle.ssq_shape.specs.declared.bound.Bound.{Bound}
 use Rattle.ssq_shape.specs.declared.bound.Grouping.{Grouping}
@@ -78,14 +77,14 @@ abbrev pub is_among : List Group → Values → Bool
 is_among groups key = list_any (is_same key) (keys_of_groups groups)
 
 abbrev pub after : Moved → Held → Held
-after moved own key = after_if (get values_cmp moved.touched key) (is_among moved.closed.items key) (own key)
+after moved own key = after_if (get is_same moved.touched key) (is_among moved.closed.items key) (own key)
 
 -- keys of so many values, each of which has a spelling
 abbrev pub AreKeys : ℕ → List Values → Type 0
 AreKeys many keys = AllByRecursion (IsKeySpelled many) keys
 
-abbrev pub AreTouchedKeys : ℕ → BTreeMap Values (List Total) → Type 0
-AreTouchedKeys many groups = (key : Values) (totals : List Total) → get values_cmp groups key ≡ Some totals → IsKeySpelled many key
+abbrev pub AreTouchedKeys : {S : Type 0} → ℕ → HashMap Values (List Total) S → Type 0
+AreTouchedKeys many groups = (key : Values) (totals : List Total) → get is_same groups key ≡ Some totals → IsKeySpelled many key
 
 -- A step leaves of groups what all accepted rows leave at the new watermark, it shows the epoch's rows, as a bag, and no key overflows.
 pub record IsMove (query : Bound) (grouping : Grouping) (old new : List FedRow) (before now : Option ℤ) (moved : Moved) : Type 0 where

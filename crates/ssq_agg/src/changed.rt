@@ -1,8 +1,8 @@
 //! What a step changes in the state.
 
 ghost use Rattle.std.specs.Prelude.{◌≡◌, ◌++◌, ◌∷◌, [], ℕ, Some, All, map, IfOk, OnOk};
-ghost use Rattle.std.specs.BTreeMap.{get};
-ghost use Rattle.ssq_value.specs.Order.{values_cmp};
+ghost use Rattle.std.specs.HashMap.{get};
+ghost use Rattle.ssq_meaning.specs.Group.{is_same};
 ghost use Rattle.ssq_value.specs.Key.{keys_of};
 ghost use Rattle.ssq_version.specs.State.{IsShortEntry};
 ghost use Rattle.ssq_meaning.specs.Fit.{IsFit};
@@ -18,7 +18,7 @@ use ssq_step::{Key, bytes_of_key, short};
 use ssq_value::keys_are_apart;
 use ssq_version::Change;
 use std::alloc::{AllocError, Global};
-use std::collections::BTreeMap;
+use std::collections::HashMap;
 
 /// Says that a group has these totals from now on.
 fn put_group(
@@ -73,12 +73,12 @@ fn removed(
 /// in order once.
 pub(crate) fn changed(
     alloc: Global,
-    touched: &BTreeMap<Key<'_>, Totals>,
+    touched: &HashMap<Key<'_>, Totals>,
     closed: &[Group],
 ) -> Result<Change, AllocError>
     requires touched { AreFitGroups touched.now }
     requires closed { AreFit closed.now }
-    ensures { (many : ℕ) → AreKeys many (keys_of_groups closed.now) → AreTouchedKeys many touched.now → IfOk result (Says many (get values_cmp touched.now) closed.now) }
+    ensures { (many : ℕ) → AreKeys many (keys_of_groups closed.now) → AreTouchedKeys many touched.now → IfOk result (Says many (get is_same touched.now) closed.now) }
 {
     keys_are_apart();
     let room = closed.len().saturating_add(touched.len());

@@ -1,10 +1,8 @@
 //! The step of an epoch.
 
-ghost use Rattle.std.specs.Prelude.{◌≡◌, [], ℤ, List, Option, All, filter, is_some, not, IfOk, IfErr};
-ghost use Rattle.std.specs.BTreeMap.{get};
-ghost use Rattle.std.specs.HashSet.{contains};
+ghost use Rattle.std.specs.Prelude.{◌≡◌, [], ℤ, List, Option, All, is_some, IfOk, IfErr};
+ghost use Rattle.std.specs.HashMap.{get};
 ghost use Rattle.ssq_value.specs.declared.value.Value.{Value as Cell};
-ghost use Rattle.ssq_value.specs.Order.{values_cmp};
 ghost use Rattle.ssq_shape.specs.declared.bound.Bound.{Bound as Query};
 ghost use Rattle.ssq_shape.specs.declared.bound.Grouping.{Grouping as Groups};
 ghost use Rattle.ssq_meaning.specs.FedRows.{FedRow as Fed};
@@ -33,13 +31,13 @@ use ssq_step::{Closing, Key, Shown, StepFault, Stepped};
 use ssq_value::{Row, Value};
 use ssq_version::{Change, StateMap, states_are_kept};
 use std::alloc::{AllocError, Global};
-use std::collections::{BTreeMap, HashSet};
+use std::collections::HashMap;
 
 /// What becomes of groups in an epoch.
 #[derive(Drop)]
 pub(crate) struct Moved<'a> {
     /// The groups that have new rows, each with its totals after them.
-    pub touched: BTreeMap<Key<'a>, Totals>,
+    pub touched: HashMap<Key<'a>, Totals>,
     /// The groups that were kept and are closed, and so are kept no more.
     pub closed: Vec<Group>,
     /// The rows that the epoch shows, in no order.
@@ -62,53 +60,27 @@ fn closed_groups(
     groups_at(alloc, grouping, state, keys.as_slice())
 }
 
-/// The keys that were touched, lent.
-fn touched_keys<'a>(
-    alloc: Global,
-    touched: &BTreeMap<Key<'a>, Totals>,
-) -> Result<HashSet<Key<'a>>, AllocError>
-    ensures { IfOk result (λ keys. (key : List Cell) → contains is_same keys key ≡ is_some (get values_cmp touched.now key)) }
+fn is_touched(touched: &HashMap<Key<'_>, Totals>, key: &[Value]) -> bool
+    ensures { result ≡ is_some (get is_same touched.now key.now) }
 {
-    let mut keys = HashSet::with_capacity(alloc, touched.len())?;
-    for (key, _totals) in touched.iter() {
-        keys.insert(Key::of(key.values()))?;
-    }
-    Ok(keys)
-}
-
-fn is_among(keys: &HashSet<Key<'_>>, key: &[Value]) -> bool
-    ensures { result ≡ contains is_same keys.now key.now }
-{
-    keys.contains(&Key::of(key))
-}
-
-/// Those of the groups whose keys are not among these.
-fn without(
-    alloc: Global,
-    groups: Vec<Group>,
-    keys: &HashSet<Key<'_>>,
-) -> Result<Vec<Group>, AllocError>
-    ensures { IfOk result (λ others. others.items ≡ filter (λ group. not (contains is_same keys.now group.key)) groups.items) }
-{
-    let mut others = Vec::new(alloc);
-    for group in groups {
-        if !is_among(keys, group.key.as_slice()) {
-            others.push(group)?;
-        }
-    }
-    Ok(others)
+    touched.contains_key(&Key::of(key))
 }
 
 /// Those of the groups that were not touched.
 fn others(
     alloc: Global,
     groups: Vec<Group>,
-    touched: &BTreeMap<Key<'_>, Totals>,
+    touched: &HashMap<Key<'_>, Totals>,
 ) -> Result<Vec<Group>, AllocError>
-    ensures { IfOk result (λ others. others.items ≡ others_of (get values_cmp touched.now) groups.items) }
+    ensures { IfOk result (λ others. others.items ≡ others_of (get is_same touched.now) groups.items) }
 {
-    let keys = touched_keys(alloc, touched)?;
-    without(alloc, groups, &keys)
+    let mut others = Vec::new(alloc);
+    for group in groups {
+        if !is_touched(touched, group.key.as_slice()) {
+            others.push(group)?;
+        }
+    }
+    Ok(others)
 }
 
 /// Shows the groups that are due: in Append those that are closed, in Update those that were touched, in Complete all.
@@ -118,13 +90,13 @@ fn show_due(
     grouping: &Grouping,
     state: &StateMap,
     now: Option<i64>,
-    touched: &BTreeMap<Key<'_>, Totals>,
+    touched: &HashMap<Key<'_>, Totals>,
     closed: &[Group],
 ) -> Result<Shown, AllocError>
     requires touched { AreFitGroups touched.now }
     requires closed { AreFit closed.now }
     ensures due { (own : Own) → Holds grouping.now state.now own → AreClosed own (closing_time bound.now grouping.now) now closed.now →
-        IfOk result (ShowsDue bound.now grouping.now own (closing_time bound.now grouping.now) now (get values_cmp touched.now)) }
+        IfOk result (ShowsDue bound.now grouping.now own (closing_time bound.now grouping.now) now (get is_same touched.now)) }
     ensures printable { IfOk result (λ shown. ArePrintable shown.rows.items) }
 {
     states_are_kept(state);

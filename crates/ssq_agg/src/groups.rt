@@ -1,11 +1,9 @@
 //! The groups that an epoch's rows touch.
 
 ghost use Rattle.std.specs.Prelude.{◌≡◌, Some, List, if◌then◌else◌, All, IfOk, OnOk};
-ghost use Rattle.std.specs.BTreeMap.{get};
 ghost use Rattle.std.specs.HashMap.{get as found};
 ghost use Rattle.std.specs.List.{AllByRecursion};
 ghost use Rattle.ssq_value.specs.declared.value.Value.{Value as Cell};
-ghost use Rattle.ssq_value.specs.Order.{values_cmp};
 ghost use Rattle.ssq_meaning.specs.Fit.{IsFit, IsFitRow};
 ghost use Rattle.ssq_meaning.specs.Group.{is_same, members};
 ghost use Rattle.ssq_meaning.specs.Totals.{with_row};
@@ -22,7 +20,7 @@ use ssq_step::Key;
 use ssq_value::Value;
 use ssq_version::StateMap;
 use std::alloc::{AllocError, Global};
-use std::collections::{BTreeMap, HashMap};
+use std::collections::HashMap;
 
 /// The totals from which a key goes on.
 fn started(
@@ -67,36 +65,22 @@ fn take_row<'a>(
     Ok(())
 }
 
-/// The groups in the order of their keys.
-fn in_order<'a>(
-    alloc: Global,
-    groups: HashMap<Key<'a>, Totals>,
-) -> Result<BTreeMap<Key<'a>, Totals>, AllocError>
-    ensures { IfOk result (λ ordered. (key : List Cell) → get values_cmp ordered key ≡ found is_same groups.entry key) }
-{
-    let mut entries = Vec::with_capacity(alloc, groups.len())?;
-    for (key, totals) in groups {
-        entries.push((key, totals))?;
-    }
-    entries.into_iter().collect(alloc)
-}
-
-/// The groups that the rows touch, each with its totals after them, by the order of keys. A group that was touched is looked up once.
+/// The groups that the rows touch, each with its totals after them. A group that was touched is looked up once.
 pub(crate) fn touched<'a>(
     alloc: Global,
     grouping: &Grouping,
     state: &StateMap,
     rows: &'a [FedRow],
-) -> Result<BTreeMap<Key<'a>, Totals>, AllocError>
+) -> Result<HashMap<Key<'a>, Totals>, AllocError>
     requires { All IsFitRow rows.now }
     ensures groups { (own : Own) → Holds grouping.now state.now own → AllByRecursion (λ row. IsKey grouping.now row.key) rows.now →
         AreSteady grouping.now.aggregates own rows.now →
-        IfOk result (λ groups. (key : List Cell) → get values_cmp groups key ≡ touched grouping.now.aggregates (own key) (members rows.now key)) }
+        IfOk result (λ groups. (key : List Cell) → found is_same groups key ≡ touched grouping.now.aggregates (own key) (members rows.now key)) }
     ensures fit { IfOk result AreFitGroups }
 {
     let mut groups = HashMap::new(alloc);
     for row in rows {
         take_row(alloc, grouping, state, &mut groups, row)?;
     }
-    in_order(alloc, groups)
+    Ok(groups)
 }

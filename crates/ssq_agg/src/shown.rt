@@ -1,8 +1,8 @@
 //! What an epoch shows of groups.
 
 ghost use Rattle.std.specs.Prelude.{◌≡◌, [], ◌∷◌, Some, All, IfOk};
-ghost use Rattle.std.specs.BTreeMap.{IsOrdered, get};
-ghost use Rattle.ssq_value.specs.Order.{values_cmp};
+ghost use Rattle.std.specs.HashMap.{IsUnique, get};
+ghost use Rattle.ssq_meaning.specs.Group.{is_same};
 ghost use Rattle.ssq_step.specs.Shown.{ArePrintable};
 ghost use Rattle.ssq_agg.specs.Readable.{AreFit, AreFitGroups, IsFitGroup};
 ghost use Rattle.ssq_agg.specs.Shown.{Shows, pairs_of};
@@ -15,7 +15,7 @@ use ssq_shape::{Bound, Grouping};
 use ssq_step::{Key, Shown};
 use ssq_value::Value;
 use std::alloc::{AllocError, Global};
-use std::collections::BTreeMap;
+use std::collections::HashMap;
 
 /// Shows one more group.
 fn show_group(
@@ -45,15 +45,15 @@ pub(crate) fn show_touched(
     bound: &Bound,
     grouping: &Grouping,
     shown: Shown,
-    groups: &BTreeMap<Key<'_>, Totals>,
+    groups: &HashMap<Key<'_>, Totals>,
 ) -> Result<Shown, AllocError>
     requires fit { AreFitGroups groups.now }
     requires printable { ArePrintable shown.rows.items }
     ensures shown { IfOk result (λ now. Shows bound.now grouping.now groups.now.entries shown now) }
     ensures printable { IfOk result (λ now. ArePrintable now.rows.items) }
-    // The keys of a map ascend, and each is found in it.
-    ensures ordered { IsOrdered values_cmp groups.now }
-    ensures found { All (λ entry. get values_cmp groups.now entry.0 ≡ Some entry.1) groups.now.entries }
+    // Each key of a map is there once, and is found in it.
+    ensures unique { IsUnique is_same groups.now }
+    ensures found { All (λ entry. get is_same groups.now entry.0 ≡ Some entry.1) groups.now.entries }
 {
     let mut shown = shown;
     for (key, totals) in groups.iter() {

@@ -27,4 +27,4 @@ returns c = λ many closed touched.
     let all = put_all c.args.closed.now c.args.touched.now.entries c.loop-key.key-iterator c.loop-key.entries.items c.in-None.ensures.steps.0 c.loop-key.invariant in
     if_ok c.of_entries.result c.of_entries.ensures (λ change said.
     says_all many c.keys_are_apart.ensures.whatever_follows c.args.touched.now c.args.closed.now closed
-    (record { keys = entries_keys many c.args.touched.now touched c.iter-key-items.ensures.found; ordered = c.iter-key-items.ensures.ordered }) c.loop-key.entries.items change said all)
+    (record { keys = entries_keys many c.args.touched.now touched c.iter-key-items.ensures.found; distinct = c.iter-key-items.ensures.unique }) c.loop-key.entries.items change said all)

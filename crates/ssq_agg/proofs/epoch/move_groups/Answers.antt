@@ -1,12 +1,11 @@
 use Rattle.std.proofs.Common.{◌≡◌, ◌++◌, [], ℤ, true, List, None, Option, sym, ◌∙◌, subst}
-use Rattle.std.specs.BTreeMap.{get}
+use Rattle.std.specs.HashMap.{get}
 use Rattle.std.specs.List.Sorted.{IsPermutation}
 use Rattle.std.proofs.lemmas.Result.{err_from_is_err_and}
-use Rattle.ssq_value.specs.Order.{values_cmp}
 use Rattle.ssq_shape.specs.declared.bound.Bound.{Bound}
 use Rattle.ssq_shape.specs.declared.bound.Grouping.{Grouping}
 use Rattle.ssq_meaning.specs.FedRows.{FedRow}
-use Rattle.ssq_meaning.specs.Group.{closing_time, is_closed, members}
+use Rattle.ssq_meaning.specs.Group.{closing_time, is_closed, is_same, members}
 use Rattle.ssq_meaning.specs.GroupLaws.{held, next_held}
 use Rattle.ssq_meaning.specs.Meaning.{Values}
 use Rattle.ssq_meaning.specs.Operator.{group}
@@ -32,7 +31,7 @@ module _ (c : After-show_due) (old : List FedRow) (before : Option ℤ) (given :
   own = held query grouping old before
 
   abbrev found : Held
-  found = get values_cmp c.in_ok-touched.touched
+  found = get is_same c.in_ok-touched.touched
 
   -- what was touched of a key
   found_is : (key : Values) → found key ≡ touched grouping.aggregates (own key) (members c.args.rows.now key)

@@ -1,7 +1,7 @@
 use Rattle.std.proofs.Common.{length, sym, subst}
-use Rattle.std.specs.BTreeMap.{get}
+use Rattle.std.specs.HashMap.{get}
 use Rattle.std.proofs.lemmas.Result.{err_from_is_err_and}
-use Rattle.ssq_value.specs.Order.{values_cmp}
+use Rattle.ssq_meaning.specs.Group.{is_same}
 use Rattle.ssq_agg.specs.Readable.{AreFit}
 use Rattle.ssq_agg.specs.Steps.{AreKeys, Says, keys_of_groups}
 use Rattle.ssq_agg.proofs.Changing.{leads}
@@ -26,7 +26,7 @@ returns-clause-stepped c old before given =
     let says = c.in_ok-change.ensures (length grouping.keys) (subst (λ groups. AreKeys (length grouping.keys) (keys_of_groups groups)) (sym c.as_slice.ensures.value) is.closed_keys) is.touched_keys in
     record {
       leads = leads query grouping c.args.state.now c.args.closing.now old c.args.rows.now before c.args.now moved c.in_ok-change.change c.kept_groups_are_found.ensures.found given is
-          (subst (λ groups. Says (length grouping.keys) (get values_cmp moved.touched) groups c.in_ok-change.change) c.as_slice.ensures.value says);
+          (subst (λ groups. Says (length grouping.keys) (get is_same moved.touched) groups c.in_ok-change.change) c.as_slice.ensures.value says);
       shown = is.shown;
       faultless = is.faultless;
     }

@@ -1,15 +1,11 @@
-use Rattle.std.proofs.Common.{◌≡◌, ◌<◌, ◌∙◌, List, length, arith, ap, sym, subst}
-use Rattle.std.specs.BTreeMap.{get}
+use Rattle.std.proofs.Common.{◌<◌, ◌∙◌, length, arith, ap, sym, subst}
 use Rattle.std.specs.HashMap.{get as found}
 use Rattle.std.proofs.lemmas.List.Elements.{All-from_recursion, All-get_or}
 use Rattle.std.proofs.lemmas.List.{take_all}
-use Rattle.std.proofs.lemmas.Result.{IfOk-weaker}
-use Rattle.ssq_value.specs.declared.value.Value.{Value}
-use Rattle.ssq_value.specs.Order.{values_cmp}
 use Rattle.ssq_meaning.specs.Fit.{IsFitRow}
 use Rattle.ssq_meaning.specs.Group.{is_same, members}
 use Rattle.ssq_agg.specs.Groups.{touched}
-use Rattle.ssq_agg.specs.Readable.{AreFitGroups, IsKey}
+use Rattle.ssq_agg.specs.Readable.{IsKey}
 use Rattle.ssq_agg.proofs.Taking.{steady, one_more}
 use Rattle.ssq_agg.proofs.groups.touched.Goals as goal
 
@@ -35,14 +31,8 @@ take_row-requires c =
     subst IsFitRow (sym c.row-item.is) (All-get_or IsFitRow c.args.rows.now c.loop-row.row-index c.row-item.result inside c.requires)
 
 pub returns-clause-groups : goal.returns-clause-groups
-returns-clause-groups c = λ own holds keys are.
-    let aggregates = c.args.grouping.now.aggregates in
-    let all = take_all c.loop-row.row-index c.args.rows.now (omega (arith, c.loop-row-test.false)) in
-    IfOk-weaker c.in_order.result (λ groups. (key : List Value) → get values_cmp groups key ≡ found is_same c.loop-row.groups key)
-    (λ groups. (key : List Value) → get values_cmp groups key ≡ touched aggregates (own key) (members c.args.rows.now key))
-    (λ groups same key. same key ∙ c.loop-row.invariant.0 own holds keys are key ∙ ap (λ rows. touched aggregates (own key) (members rows key)) all) c.in_order.ensures
+returns-clause-groups c = λ own holds keys are key.
+    c.loop-row.invariant.0 own holds keys are key ∙ ap (λ rows. touched c.args.grouping.now.aggregates (own key) (members rows key)) (take_all c.loop-row.row-index c.args.rows.now (omega (arith, c.loop-row-test.false)))
 
 pub returns-clause-fit : goal.returns-clause-fit
-returns-clause-fit c =
-    IfOk-weaker c.in_order.result (λ groups. (key : List Value) → get values_cmp groups key ≡ found is_same c.loop-row.groups key) AreFitGroups
-    (λ groups same key totals is. c.loop-row.invariant.1 key totals (sym (same key) ∙ is)) c.in_order.ensures
+returns-clause-fit c = c.loop-row.invariant.1
