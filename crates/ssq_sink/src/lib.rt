@@ -13,7 +13,7 @@ pub use columns::Columns;
 pub use epoch::{epoch_text, order_is_free};
 pub use fault::SinkFault;
 pub use order::row_orders_are_total;
-pub use reading::{Counted, Reading, count_sinks, counted_table, table};
+pub use reading::{Counted, Reading, counted_table, table};
 
 #[cfg(test)]
 mod tests;

@@ -62,7 +62,7 @@ fn raised(count: u64, name: Name) -> u64
 }
 
 /// How many sink files there have to be where the files have these names: all up to the last that is there.
-pub fn count_sinks(names: &[Name]) -> u64
+fn count_sinks(names: &[Name]) -> u64
     ensures counted { (files : Files) → AreNames files names.now → AreCounted files result }
     ensures few { result ≤ 2 ^ 32 }
 {
