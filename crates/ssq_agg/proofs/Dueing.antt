@@ -1,5 +1,5 @@
 -- The groups that are shown are those that are due.
-use Rattle.std.proofs.Common.{◌≡◌, ◌+◌, ◌++◌, ℕ, suc, ℤ, [], ◌∷◌, Some, None, List, Option, Result, Ok, Err, Bool, true, false, cond, refl, ap, sym, ◌∙◌, subst, arith, map, filter, length}
+use Rattle.std.proofs.Common.{◌≡◌, ◌+◌, ◌++◌, ℕ, suc, ℤ, [], ◌∷◌, Some, None, List, Option, Result, Ok, Err, Bool, true, false, refl, ap, sym, ◌∙◌, subst, arith, map, filter, length}
 use Rattle.std.specs.Prelude.{◌&&◌, ◌||◌, not, IfOk, All, if◌then◌else◌, is_some, is_err}
 use Rattle.std.specs.List.{AllByRecursion, IsDistinct}
 use Rattle.std.specs.Map.{lookup}

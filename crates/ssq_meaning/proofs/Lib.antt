@@ -37,3 +37,4 @@ pub mod Handing
 pub mod FitRows
 pub mod FewRows
 pub mod Untimed
+pub mod KeyPlaces

@@ -9,6 +9,7 @@ pub mod Group
 pub mod Dedup
 pub mod Join
 pub mod Keyed
+pub mod Placed
 pub mod Windows
 pub mod Fit
 pub mod Feeding

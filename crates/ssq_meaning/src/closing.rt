@@ -10,7 +10,7 @@ ghost use Rattle.ssq_meaning.specs.Dedup as repeats;
 ghost use Rattle.ssq_meaning.specs.Group.{closing_time, end_of, event_time, time_by, window_end};
 ghost use Rattle.ssq_meaning.specs.Join.{event_column, join_time};
 ghost use Rattle.ssq_meaning.specs.Keyed.{key_length, key_time, keys_have_times, keys_have_times_in};
-ghost use Rattle.ssq_meaning.specs.Windows.{HasWindow, HasWindows};
+ghost use Rattle.ssq_meaning.specs.Windows.{HasWindow};
 
 use ssq_shape::{
     Bound, GroupKey, Grouping, Mode, Shape, TimeBound, TimeKey, event_of, is_column_of, is_event,
@@ -27,7 +27,7 @@ fn time_in(value: &Value) -> Option<i64>
     }
 }
 
-fn sum_of(start: i64, size: i64) -> i64
+pub(crate) fn sum_of(start: i64, size: i64) -> i64
     requires start { IsStampTime start }
     requires size { IsSpan size }
     ensures { result ≡ start +ℤ size }
@@ -199,20 +199,4 @@ pub fn keys_have_times(bound: &Bound) -> bool
     ensures none { keys_have_times bound.now ≡ false → (key : List Cell) → key_time bound.now key ≡ None }
 {
     keys_have_times_in(bound.mode, time_key(bound))
-}
-
-/// The time of a key of the query, in microseconds since 1970: where the watermark is at or above it, rows of the key are late and the key is
-/// kept no more. There is none of a key that stays open, and none where nothing is kept.
-///
-/// The key has times of the years 0001 to 9999.
-pub fn key_time(bound: &Bound, key: &[Value]) -> Option<i64>
-    requires windows { HasWindows bound.now }
-    requires years { AllByRecursion (IfTime IsStampTime) key.now }
-    ensures { result ≡ key_time bound.now key.now }
-{
-    match &bound.shape {
-        Shape::Group(grouping) => closing_time(bound, grouping, key),
-        Shape::Dedup(columns) => repeat_time(bound, columns.as_slice(), key),
-        Shape::Plain | Shape::Join(_) => None,
-    }
 }

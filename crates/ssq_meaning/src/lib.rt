@@ -12,10 +12,11 @@ mod groups;
 mod join;
 mod laws;
 mod line;
+mod place;
 mod total;
 
 pub use closing::{
-    closing_time, event_column, join_time, key_length, key_time, keys_have_times, repeat_time,
+    closing_time, event_column, join_time, key_length, keys_have_times, repeat_time,
 };
 pub use dedup::{
     epochs_without_repeats_follow, first_rows_add_up, first_rows_are_told_by_what_is_kept,
@@ -43,4 +44,5 @@ pub use laws::{
     partitions_show_all_rows, rows_add_up, watermarks_never_fall,
 };
 pub use line::LineFault;
+pub use place::{KeyPlace, key_place};
 pub use total::Total;

@@ -1,3 +1,4 @@
+pub mod Stamps
 pub mod Timing
 pub mod RowTimes
 pub mod Hashed

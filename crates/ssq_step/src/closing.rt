@@ -12,8 +12,8 @@ ghost use Rattle.ssq_step.specs.Rows.{StandsAt};
 
 use crate::row_index::{follow_rows, row_entries};
 use ssq_field::Bytes;
-use ssq_keys::read_key;
-use ssq_meaning::{key_length, key_time, keys_have_times};
+use ssq_keys::time_at;
+use ssq_meaning::{key_length, key_place, keys_have_times};
 use ssq_shape::{Bound, Shape};
 use ssq_version::{Change, StateMap, changes_are_kept, states_are_kept};
 use std::alloc::{AllocError, Global};
@@ -51,7 +51,6 @@ impl Closing {
     /// Follows the state through a change, by the state before it. After an `Err` the index is of no use.
     pub fn follow(
         &mut self,
-        alloc: Global,
         bound: &Bound,
         state: &StateMap,
         change: &Change,
@@ -62,7 +61,7 @@ impl Closing {
         match &bound.shape {
             Shape::Join(joining) => follow_rows(bound, joining, &mut self.0, state, change),
             Shape::Plain | Shape::Group(_) | Shape::Dedup(_) => {
-                follow_change(alloc, bound, &mut self.0, state, change)
+                follow_change(bound, &mut self.0, state, change)
             },
         }
     }
@@ -94,17 +93,24 @@ fn is_past(now: Option<i64>, entry: &(i64, Bytes)) -> bool
     }
 }
 
+/// The time of the key that has these bytes; none where they are no key's, or it stays open.
+fn time_of(bound: &Bound, key: &[u8]) -> Option<i64>
+    requires { HasWindows bound.now }
+    ensures { (own : List Cell) → IsReadableKey (key_length bound.now) own → keys_of own ≡ key.now → result ≡ key_time bound.now own }
+{
+    let place = key_place(bound)?;
+    let own = time_at(key, key_length(bound), place.at())?;
+    Some(place.time(own))
+}
+
 /// The time of the key that has these bytes, with them; none where they are no key's, or it stays open.
-fn entry_of(alloc: Global, bound: &Bound, key: &Bytes) -> Result<Option<(i64, Bytes)>, AllocError>
+fn entry_of(bound: &Bound, key: &Bytes) -> Result<Option<(i64, Bytes)>, AllocError>
     requires { HasWindows bound.now }
     ensures time { (own : List Cell) → IsReadableKey (key_length bound.now) own → keys_of own ≡ key.now →
         IfOk result (λ entry. entry ≡ option_map (λ t. (t, key.now)) (key_time bound.now own)) }
     ensures key { IfOk result (λ entry. IfSome entry (λ entry. entry.1 ≡ key.now)) }
 {
-    let Some(own) = read_key(alloc, key.as_slice(), key_length(bound))? else {
-        return Ok(None);
-    };
-    match key_time(bound, own.as_slice()) {
+    match time_of(bound, key.as_slice()) {
         Some(time) => Ok(Some((time, key.clone()?))),
         None => Ok(None),
     }
@@ -112,7 +118,6 @@ fn entry_of(alloc: Global, bound: &Bound, key: &Bytes) -> Result<Option<(i64, By
 
 /// Puts the key with these bytes under its time, where it has one.
 fn put_key(
-    alloc: Global,
     bound: &Bound,
     entries: &mut BTreeSet<(i64, Bytes)>,
     key: &Bytes,
@@ -120,7 +125,7 @@ fn put_key(
     requires { HasWindows bound.now }
     ensures { OnOk result (Turns (key_length bound.now) (key_time bound.now) key.now true entries.old.keys entries.new.keys) }
 {
-    if let Some(entry) = entry_of(alloc, bound, key)? {
+    if let Some(entry) = entry_of(bound, key)? {
         entries.insert(entry)?;
     }
     Ok(())
@@ -128,7 +133,6 @@ fn put_key(
 
 /// Takes the key with these bytes away.
 fn remove_key(
-    alloc: Global,
     bound: &Bound,
     entries: &mut BTreeSet<(i64, Bytes)>,
     key: &Bytes,
@@ -136,7 +140,7 @@ fn remove_key(
     requires { HasWindows bound.now }
     ensures { OnOk result (Turns (key_length bound.now) (key_time bound.now) key.now false entries.old.keys entries.new.keys) }
 {
-    if let Some(entry) = entry_of(alloc, bound, key)? {
+    if let Some(entry) = entry_of(bound, key)? {
         entries.remove(&entry);
     }
     Ok(())
@@ -157,14 +161,13 @@ fn entries_of(
     states_are_kept(state);
     let mut entries = BTreeSet::new(alloc);
     for (key, _) in state.iter(alloc)? {
-        put_key(alloc, bound, &mut entries, key)?;
+        put_key(bound, &mut entries, key)?;
     }
     Ok(entries)
 }
 
 /// Follows what a change says of a key of the state: whether it stays, or comes, or goes.
 fn follow_key(
-    alloc: Global,
     bound: &Bound,
     entries: &mut BTreeSet<(i64, Bytes)>,
     state: &StateMap,
@@ -175,16 +178,15 @@ fn follow_key(
     ensures { OnOk result (TurnsIf (key_length bound.now) (key_time bound.now) key.now (is_some (value_at state.now key.now)) is_there entries.old.keys entries.new.keys) }
 {
     if !is_there {
-        return remove_key(alloc, bound, entries, key);
+        return remove_key(bound, entries, key);
     }
     match state.get(key) {
         Some(_) => Ok(()),
-        None => put_key(alloc, bound, entries, key),
+        None => put_key(bound, entries, key),
     }
 }
 
 fn follow_change(
-    alloc: Global,
     bound: &Bound,
     entries: &mut BTreeSet<(i64, Bytes)>,
     state: &StateMap,
@@ -199,7 +201,7 @@ fn follow_change(
     }
     changes_are_kept(change);
     for (key, value) in change.iter() {
-        follow_key(alloc, bound, entries, state, key, value.is_some())?;
+        follow_key(bound, entries, state, key, value.is_some())?;
     }
     Ok(())
 }

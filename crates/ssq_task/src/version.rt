@@ -65,8 +65,7 @@ fn advance(alloc: Global, bound: &Bound, held: &mut Held, change: Change) -> Res
 {
     versions_are_one();
     changes_are_kept(&change);
-    held.closing
-        .follow(alloc, bound, &held.store.state, &change)?;
+    held.closing.follow(bound, &held.store.state, &change)?;
     held.store.advance(change)?;
     states_are_kept(&held.store.state);
     Ok(())
