@@ -1,5 +1,5 @@
 -- The texts of records and of their lines, part by part.
-use Rattle.std.proofs.Common.{◌≡◌, ◌≢◌, ℕ, ℤ, List, ◌++◌, length, get_or, codes, decimal, Option, refl, sym, ap, subst, ◌∙◌, append_assoc, arith}
+use Rattle.std.proofs.Common.{◌≡◌, ◌≢◌, ◌≤◌, ℕ, ℤ, List, ◌++◌, length, get_or, codes, decimal, Option, refl, sym, ap, subst, ◌∙◌, append_assoc, length-append, arith}
 use Rattle.ssq_plans.specs.declared.meta.Meta.{Meta}
 use Rattle.ssq_plans.specs.declared.part.PartEnd.{PartEnd}
 use Rattle.ssq_plans.specs.declared.plan.Plan.{Plan}
@@ -12,8 +12,19 @@ use Rattle.ssq_plans.specs.Records.{lines, time_or_none, parts_line, part_line, 
 pub part_split : (p : PartEnd) (rest : List ℕ) → part_line p ++ rest ≡ codes "part " ++ (decimal p.stream ++ (codes " " ++ (decimal p.part ++ (codes " " ++ (decimal p.end ++ (codes "\n" ++ rest))))))
 part_split p rest = simp append_assoc
 
+-- what follows two fronts is not longer than the text
+pub tail_len : (front digits rest text : List ℕ) → text ≡ front ++ (digits ++ rest) → length rest ≤ length text
+tail_len front digits rest text is =
+    let whole = ap length is ∙ length-append front (digits ++ rest) in
+    let behind = length-append digits rest in
+    omega (arith, whole, behind)
+
 pub part_is : (p : PartEnd) (stream part end : ℕ) → stream ≡ p.stream → part ≡ p.part → end ≡ p.end → (let made : PartEnd = record { stream = stream; part = part; end = end } in made) ≡ p
 part_is p stream part end s i e = rw (s, i, e) refl
+
+-- a part's line is what its numbers were found in, one behind the other
+pub part_joined : (p : PartEnd) (text part end line rest : List ℕ) → text ≡ codes "part " ++ (decimal p.stream ++ part) → part ≡ codes " " ++ (decimal p.part ++ end) → end ≡ codes " " ++ (decimal p.end ++ line) → line ≡ codes "\n" ++ rest → text ≡ part_line p ++ rest
+part_joined p text part end line rest h1 h2 h3 h4 = rw (h1, h2, h3, h4) (sym (part_split p rest))
 
 -- ---- records
 
@@ -69,6 +80,10 @@ query_joined text behind rest query end shown len h1 h2 h3 h4 h5 h6 = rw (h1, h2
 
 pub seen_split : (s : SeenBy) (rest : List ℕ) → seen_line s ++ rest ≡ codes "seen " ++ (decimal s.stream ++ (codes " " ++ (time_or_none s.time ++ (codes "\n" ++ rest))))
 seen_split s rest = simp append_assoc
+
+-- a stream's line is what its values were found in, one behind the other
+pub seen_joined : (s : SeenBy) (text stop line end rest : List ℕ) (stream : ℕ) (time : Option ℤ) → stream ≡ s.stream → time ≡ s.time → text ≡ codes "seen " ++ (decimal stream ++ stop) → stop ≡ codes " " ++ line → line ≡ time_or_none time ++ end → end ≡ codes "\n" ++ rest → text ≡ seen_line s ++ rest
+seen_joined s text stop line end rest stream time e t h1 h2 h3 h4 = rw (h1, h2, h3, h4, e, t) (sym (seen_split s rest))
 
 -- the stream and the time are all
 pub seen_is : (a b : SeenBy) → a.stream ≡ b.stream → a.time ≡ b.time → a ≡ b
