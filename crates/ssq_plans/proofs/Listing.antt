@@ -20,6 +20,10 @@ pub lines-end : {X : Type 0} (spelled : ℕ → X → List ℕ) (out : List ℕ)
 unfolding lines
 lines-end spelled out at xs h = rw (drop_all at xs h) (append-nil out)
 
+-- what is written and what is left stay the whole with one more line
+pub lines-stay : {X : Type 0} (spelled : ℕ → X → List ℕ) (out new whole : List ℕ) (at : ℕ) (xs : List X) (x : X) → new ≡ out ++ spelled at x → at < length xs → x ≡ get_or xs at x → out ++ lines spelled at (drop at xs) ≡ whole → new ++ lines spelled (at + 1) (drop (at + 1) xs) ≡ whole
+lines-stay spelled out new whole at xs x put h e is = ap (λ ts. ts ++ lines spelled (at + 1) (drop (at + 1) xs)) put ∙ lines-next spelled out at xs x h e ∙ is
+
 pub ruleset line_steps = (lines-next, lines-end)
 
 -- the times of lines are printed

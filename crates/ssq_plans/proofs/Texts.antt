@@ -23,7 +23,7 @@ state_text text after after_slash tail p v h1 h2 h3 = rw (h1, h2, h3) (simp appe
 -- ---- no two names have one text
 
 -- the text of a file of the state is its numbers, each before what no digit begins
-state_split : (p v : ℕ) (tail : List ℕ) → codes "state/" ++ decimal p ++ codes "/" ++ decimal v ++ tail ≡ codes "state/" ++ (decimal p ++ (codes "/" ++ (decimal v ++ tail)))
+pub state_split : (p v : ℕ) (tail : List ℕ) → codes "state/" ++ decimal p ++ codes "/" ++ decimal v ++ tail ≡ codes "state/" ++ (decimal p ++ (codes "/" ++ (decimal v ++ tail)))
 state_split p v tail = simp append_assoc
 
 -- two texts of the state that are one have the same numbers and the same end
