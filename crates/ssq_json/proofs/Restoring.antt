@@ -1,5 +1,5 @@
 -- Rows are read back from their lines.
-use Rattle.std.proofs.Common.{◌≡◌, ◌≢◌, ℕ, zero, suc, ◌+◌, ◌/◌, ◌%◌, ◌^◌, ◌<◌, ◌≤◌, ◌==◌, ℤ, pos, negsuc, Bool, true, false, true≢false, List, [], ◌∷◌, ◌++◌, length, take, drop, slice_index, Option, Some, None, is_some, inl, inr, ◌⊎◌, refl, sym, ap, ap₂, ◌∙◌, subst, arith, append_assoc, append-nil, IsUtf8, codes, decimal}
+use Rattle.std.proofs.Common.{◌≡◌, ◌≢◌, ℕ, zero, suc, ◌+◌, ◌-◌, ◌-ℤ◌, to_z, of_z, ◌/◌, ◌%◌, ◌^◌, ◌<◌, ◌≤◌, ◌==◌, ℤ, pos, negsuc, Bool, true, false, true≢false, List, [], ◌∷◌, ◌++◌, length, take, drop, slice_index, Option, Some, None, is_some, inl, inr, ◌⊎◌, refl, sym, ap, ap₂, ◌∙◌, subst, arith, append_assoc, append-nil, IsUtf8, codes, decimal}
 use Rattle.std.specs.Prelude.{unsigned_abs, FitsSigned, unwrap_or, nat_eq, MatchOption, IfSome, IsSomeAnd}
 use Rattle.std.specs.Cmp.Lexicographic.{bytes_decides, pointwise, same_text}
 use Rattle.std.specs.Int.{w64, int_div_euclid, int_rem_euclid}
@@ -7,7 +7,8 @@ use Rattle.std.specs.Fmt.{signed_decimal}
 use Rattle.std.specs.List.{list_all}
 use Rattle.std.proofs.lemmas.Bool.{cases_eq, cases_lt, cases_order, ne_eqb}
 use Rattle.std.proofs.lemmas.Bool.Decides.{nat_tests}
-use Rattle.std.proofs.lemmas.List.{append_cancel_left, drop_all, take-append-drop}
+use Rattle.std.proofs.lemmas.Int.{ints, to_z_pos, to_z-of_z}
+use Rattle.std.proofs.lemmas.List.{append_cancel_left, drop_all, take-append-drop, take_rest}
 use Rattle.json.specs.Print.{escape, escape_byte, quoted}
 use Rattle.json.specs.Text.{content, plain}
 use Rattle.json.proofs.Printed.Strings.{content-escape, escape_byte_plain}
@@ -104,7 +105,8 @@ AreLeft text done left = (bytes rest : List ℕ) → text ≡ escape bytes ++ 34
 pub all_left : (text : List ℕ) → AreLeft text [] text
 all_left text bytes rest is = (bytes, refl, is)
 
-none_is_not : {A R : Type 0} {x : A} → None ≡ Some x → R
+-- none is found where one is
+pub none_is_not : {A R : Type 0} {x : A} → None ≡ Some x → R
 none_is_not e = absurd (true≢false (sym (ap is_some e)))
 
 some_is : {A : Type 0} {x y : A} → Some x ≡ Some y → x ≡ y
@@ -132,7 +134,8 @@ none_left text done left none before bytes rest whole = go (before bytes rest wh
 quoted-inside : (s r : List ℕ) → quoted s ++ r ≡ 34 ∷ (escape s ++ 34 ∷ r)
 quoted-inside s r = ap (λ l. 34 ∷ l) (append_assoc (escape s) (34 ∷ []) r)
 
-tail_is : {x y : ℕ} {xs ys : List ℕ} → x ∷ xs ≡ y ∷ ys → xs ≡ ys
+-- what follows the first is one
+pub tail_is : {x y : ℕ} {xs ys : List ℕ} → x ∷ xs ≡ y ∷ ys → xs ≡ ys
 tail_is e = ap (λ l. drop 1 l) e
 
 -- behind the first quote
@@ -392,6 +395,50 @@ no_minus_first n rest others small e = go (decimal n) refl (decimal_passes n sma
         let first : d ≡ 45 = ap (λ l. slice_index l 0) (ap (λ l. l ++ rest) (sym is) ∙ e) in
         let all : list_all is_digit (45 ∷ ds) ≡ true = ap (λ x. list_all is_digit (x ∷ ds)) (sym first) ∙ ap (list_all is_digit) (sym is) ∙ digits in
         true≢false (sym all)
+
+less_one : (n : ℕ) → negsuc 0 -ℤ pos n ≡ negsuc n
+less_one n = omega (arith, ints)
+
+down : (n : ℕ) → n < 2 ^ 63 → negsuc 0 -ℤ to_z w64 n ≡ negsuc n
+down n low = ap (λ z. negsuc 0 -ℤ z) (to_z_pos w64 n low) ∙ less_one n
+
+below_fits : (n : ℕ) → n < 2 ^ 63 → FitsSigned w64 (negsuc n)
+below_fits n low = record { sfits = omega (arith, low) }
+
+-- counted down from -1 it is a number of 64 bits
+pub down_fits : (n : ℕ) → n < 2 ^ 63 → FitsSigned w64 (negsuc 0 -ℤ to_z w64 n)
+down_fits n low = subst (FitsSigned w64) (sym (down n low)) (below_fits n low)
+
+counted_down : (n : ℕ) → n < 2 ^ 63 → to_z w64 (of_z w64 (negsuc 0 -ℤ to_z w64 n)) ≡ negsuc n
+counted_down n low = ap (λ z. to_z w64 (of_z w64 z)) (down n low) ∙ to_z-of_z w64 (negsuc n) (below_fits n low)
+
+-- the digits behind a minus are the number's
+pub below_found : (text : List ℕ) (size len : ℕ) → 1 ≤ size → size ≤ 2 ^ 63 → text ≡ decimal size ++ drop len text → (let z : ℤ = to_z w64 (of_z w64 (negsuc 0 -ℤ to_z w64 (size - 1))) in (45 ∷ text ≡ signed_decimal z ++ take (length text - len) (drop len text)) × FitsSigned w64 z)
+below_found text size len some low is =
+    let n = size - 1 in
+    let e : size ≡ suc n = omega (arith, some) in
+    let small : n < 2 ^ 63 = omega (arith, low, some) in
+    let z = counted_down n small in (
+      ap (λ (t : List ℕ). 45 ∷ t) (is ∙ ap (λ (k : ℕ). decimal k ++ drop len text) e) ∙ ap₂ (λ (z : ℤ) (rest : List ℕ). signed_decimal z ++ rest) (sym z) (sym (take_rest text len)),
+      subst (FitsSigned w64) (sym z) (below_fits n small),
+    )
+
+-- the number whose digits stand behind a minus is found
+pub below_each : (text rest : List ℕ) (size len n : ℕ) → ◌≡◌ {A = Option (ℕ × ℕ)} (Some (size, len)) (Some (suc n, length (decimal (suc n)))) → n < 2 ^ 63 → text ≡ decimal (suc n) ++ rest → (to_z w64 (of_z w64 (negsuc 0 -ℤ to_z w64 (size - 1))) ≡ negsuc n) × (take (length text - len) (drop len text) ≡ rest)
+below_each text rest size len n found low is =
+    let pair : ◌≡◌ {A = ℕ × ℕ} (size, len) (suc n, length (decimal (suc n))) = some_is found in
+    let first : size ≡ suc n = ap (λ p. p.0) pair in
+    let one_less : size - 1 ≡ n = omega (arith, first) in (
+      ap (λ (k : ℕ). to_z w64 (of_z w64 (negsuc 0 -ℤ to_z w64 k))) one_less ∙ counted_down n low,
+      take_rest text len ∙ ap (λ p. drop p.1 text) pair ∙ ap (drop (length (decimal (suc n)))) is ∙ drop-front (decimal (suc n)) rest,
+    )
+
+-- digits of more than a negative number of 64 bits has, or of 0, are no number's behind a minus
+pub not_below : (size len n most : ℕ) → ◌≡◌ {A = Option (ℕ × ℕ)} (Some (size, len)) (Some (suc n, most)) → n < 2 ^ 63 → (1 ≤ size) × (size ≤ 2 ^ 63)
+not_below size len n most found low =
+    let pair : ◌≡◌ {A = ℕ × ℕ} (size, len) (suc n, most) = some_is found in
+    let first : size ≡ suc n = ap (λ p. p.0) pair in
+    (omega (arith, first), omega (arith, first, low))
 
 -- behind a minus stands a number below zero
 pub below_zero : (number : ℤ) (rest text digits : List ℕ) (P : ℤ → List ℕ → Type 0) → FitsSigned w64 number → NoDigit rest → text ≡ 45 ∷ digits → text ≡ signed_decimal number ++ rest
