@@ -33,6 +33,11 @@ pub quotes : {E : Type 0} (r : Result (Unit {0}) E) (text : List ℕ) → IsUtf8
 quotes (Ok done) text utf8 = IsUtf8-quoted text utf8
 quotes (Err error) text utf8 = tt
 
+-- bytes that are UTF-8 are it at Ok
+pub at_ok : {T E : Type 0} (r : Result T E) (text : List ℕ) → IsUtf8 text → OnOk r (IsUtf8 text)
+at_ok (Ok done) text utf8 = utf8
+at_ok (Err error) text utf8 = tt
+
 pub left_brace : IsUtf8 (123 ∷ [])
 left_brace = IsUtf8-are_ascii (123 ∷ []) refl
 
