@@ -1,9 +1,98 @@
-use Rattle.std.proofs.Common.{List, ◌∷◌, suc, length, Option, Some, refl, sym, ap, ◌∙◌, subst, arith}
+use Rattle.std.proofs.Common.{◌≡◌, true≢false, List, [], ◌∷◌, suc, length, Option, Some, Result, Ok, Err, refl, sym, ap, ◌∙◌, subst, arith}
+use Rattle.std.specs.Prelude.{is_ok}
+use Rattle.std.proofs.lemmas.Result.{err_from_is_err_and}
 use Rattle.ssq_task.specs.declared.partition.Held.{Held}
 use Rattle.ssq_desk.specs.declared.desk.Share.{Share}
 use Rattle.ssq_desk.specs.Room.{AreStaged}
 use Rattle.ssq_desk.proofs.Upkeeps.{did_still}
+use Rattle.ssq_desk.proofs.Wholes.{did_nothing}
 use Rattle.ssq_desk.proofs.room.+begin_deltas.Goals as goal
+
+none_left : {X : Type 0} (xs : List X) → length xs ≡ 0 → xs ≡ []
+none_left [] none = refl
+none_left (x ∷ xs) none = absurd (omega (arith, none))
+
+abbrev as_err : {A B E : Type 0} → E → Result A E → Result B E
+as_err why (Ok x) = Err why
+as_err why (Err other) = Err other
+
+pub returns-in_default-clause-did : goal.returns-in_default-clause-did
+returns-in_default-clause-did g t c = did_nothing c.args.ledger.now
+
+pub returns-in_default-clause-same : goal.returns-in_default-clause-same
+returns-in_default-clause-same g t c = λ tells. refl
+
+pub returns-in_default-clause-staged : goal.returns-in_default-clause-staged
+returns-in_default-clause-staged g t c =
+    subst (λ (held : List (Option Held)). AreStaged g.D.Disk.tells g.D.Stage.Stage.written held c.args.shares.now c.args.shares.now) (sym (none_left c.args.held.now c.in_default.ensures.cases)) refl
+
+pub returns-in_default-clause-kept : goal.returns-in_default-clause-kept
+returns-in_default-clause-kept g t c = tt
+
+pub returns-in_default-clause-count : goal.returns-in_default-clause-count
+returns-in_default-clause-count g t c = refl
+
+pub returns-in_default-clause-counted : goal.returns-in_default-clause-counted
+returns-in_default-clause-counted g t c = omega arith
+
+pub returns-in_default-clause-cause : goal.returns-in_default-clause-cause
+returns-in_default-clause-cause g t c = λ fault. absurd (true≢false (ap is_ok fault))
+
+pub returns-in_default-split_first_mut-clause-did : goal.returns-in_default-split_first_mut-clause-did
+returns-in_default-split_first_mut-clause-did g t c = did_nothing c.args.ledger.now
+
+pub returns-in_default-split_first_mut-clause-same : goal.returns-in_default-split_first_mut-clause-same
+returns-in_default-split_first_mut-clause-same g t c = λ tells. refl
+
+pub returns-in_default-split_first_mut-clause-staged : goal.returns-in_default-split_first_mut-clause-staged
+returns-in_default-split_first_mut-clause-staged g t c =
+    subst (λ (shares : List (Share g.row.D-Stage.Denot)). AreStaged g.D.Disk.tells g.D.Stage.Stage.written c.args.held.now shares shares) (sym (none_left c.args.shares.now c.in_default-split_first_mut.ensures.cases))
+    (subst (λ (held : List (Option Held)). AreStaged {S = g.row.D-Stage.Denot} g.D.Disk.tells g.D.Stage.Stage.written held [] []) (sym c.in-Some.ensures.cases.0) refl)
+
+pub returns-in_default-split_first_mut-clause-kept : goal.returns-in_default-split_first_mut-clause-kept
+returns-in_default-split_first_mut-clause-kept g t c = tt
+
+pub returns-in_default-split_first_mut-clause-count : goal.returns-in_default-split_first_mut-clause-count
+returns-in_default-split_first_mut-clause-count g t c = refl
+
+pub returns-in_default-split_first_mut-clause-counted : goal.returns-in_default-split_first_mut-clause-counted
+returns-in_default-split_first_mut-clause-counted g t c = omega arith
+
+pub returns-in_default-split_first_mut-clause-cause : goal.returns-in_default-split_first_mut-clause-cause
+returns-in_default-split_first_mut-clause-cause g t c = λ fault. absurd (true≢false (ap is_ok fault))
+
+pub returns-in_err-stage-clause-did : goal.returns-in_err-stage-clause-did
+returns-in_err-stage-clause-did g t c = c.stage.ensures.did
+
+pub returns-in_err-stage-clause-same : goal.returns-in_err-stage-clause-same
+returns-in_err-stage-clause-same g t c = c.stage.ensures.same
+
+pub returns-in_err-stage-clause-staged : goal.returns-in_err-stage-clause-staged
+returns-in_err-stage-clause-staged g t c = (let p = err_from_is_err_and c.from_residual.result c.from_residual.ensures.1 in rw (p.1) tt)
+
+pub returns-in_err-stage-clause-kept : goal.returns-in_err-stage-clause-kept
+returns-in_err-stage-clause-kept g t c = (let p = err_from_is_err_and c.from_residual.result c.from_residual.ensures.1 in rw (p.1) (sym c.in-Some-split_first_mut.ensures.cases.0))
+
+pub returns-in_err-stage-clause-count : goal.returns-in_err-stage-clause-count
+returns-in_err-stage-clause-count g t c = sym (ap length c.in-Some-split_first_mut.ensures.cases.0)
+
+pub returns-in_err-stage-clause-counted : goal.returns-in_err-stage-clause-counted
+returns-in_err-stage-clause-counted g t c = c.stage.ensures.counted
+
+pub returns-in_err-stage-clause-cause : goal.returns-in_err-stage-clause-cause
+returns-in_err-stage-clause-cause g t c = (let p = err_from_is_err_and c.from_residual.result c.from_residual.ensures.1 in rw (p.1, p.2) (λ fault. c.in_err-stage.ensures.cause (ap (as_err c.in_err-stage.field-0.0) fault)))
+
+pub begin_deltas-requires : goal.begin_deltas-requires
+begin_deltas-requires g t c κs within = (omega (arith, c.decreases, c.in-Some-split_first_mut.ensures.cases.1), within)
+
+pub returns-in-Ok-clause-kept : goal.returns-in-Ok-clause-kept
+returns-in-Ok-clause-kept g t c = tt
+
+pub returns-in-Ok-clause-cause : goal.returns-in-Ok-clause-cause
+returns-in-Ok-clause-cause g t c = λ fault. absurd (true≢false (ap is_ok fault))
+
+pub returns-in-Err-clause-staged : goal.returns-in-Err-clause-staged
+returns-in-Err-clause-staged g t c = tt
 
 pub returns-in-Ok-clause-did : goal.returns-in-Ok-clause-did
 returns-in-Ok-clause-did g t c = did_still c.args.ledger.now c.stage.new.self c.begin_deltas.new.ledger c.stage.ensures.did c.begin_deltas.ensures.did
