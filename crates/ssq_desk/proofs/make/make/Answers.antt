@@ -1,4 +1,4 @@
-use Rattle.std.proofs.Common.{◌≡◌, ◌∙◌, List, Err, length, refl, rules, sym, ap, subst}
+use Rattle.std.proofs.Common.{◌≡◌, ◌∙◌, List, Err, length, refl, rules, sym, ap, subst, arith}
 use Rattle.std.proofs.lemmas.Result.{err_from_is_err_and}
 use Rattle.std.specs.Global.{Vec}
 use Rattle.std.specs.Vec.{with_items}
@@ -8,6 +8,7 @@ use Rattle.ssq_ledger.specs.Shown.{Shown}
 use Rattle.ssq_desk.specs.declared.desk.Share.{Share}
 use Rattle.ssq_desk.specs.Room.{AreBegun, AreStaged}
 use Rattle.ssq_desk.proofs.Makings.{made_over, put_made, room_over, unmade_by}
+use Rattle.ssq_desk.proofs.Wholes.{did_nothing}
 use Rattle.ssq_desk.proofs.make.make.Goals as goal
 
 pub returns-clause-made : goal.returns-clause-made
@@ -34,3 +35,69 @@ returns-in_err-stages-clause-unmade g c =
     let few : planned ≡ 4294967295 → ⊥ = search rules in
     let p = err_from_is_err_and c.from_residual-in_err-stages.result c.from_residual-in_err-stages.ensures.1 in
     rw (p.1, p.2) (unmade_by planned (g.D.Disk.faults c.args.ledger.now.disk) (g.D.Disk.faults c.begin_files.new.ledger.disk) c.in_err-stages.field-0.0 few (λ e. c.in_err-stages.ensures.cause (ap Err e)))
+
+pub returns-then-is_none-clause-did : goal.returns-then-is_none-clause-did
+returns-then-is_none-clause-did g c = did_nothing c.args.ledger.now
+
+pub returns-then-is_none-clause-same : goal.returns-then-is_none-clause-same
+returns-then-is_none-clause-same g c = λ tells. refl
+
+pub returns-then-is_none-clause-counted : goal.returns-then-is_none-clause-counted
+returns-then-is_none-clause-counted g c = omega arith
+
+pub returns-then-is_none-clause-made : goal.returns-then-is_none-clause-made
+returns-then-is_none-clause-made g c = tt
+
+pub returns-then-is_none-clause-fits : goal.returns-then-is_none-clause-fits
+returns-then-is_none-clause-fits g c = tt
+
+pub returns-in_err-room-clause-did : goal.returns-in_err-room-clause-did
+returns-in_err-room-clause-did g c = did_nothing c.args.ledger.now
+
+pub returns-in_err-room-clause-same : goal.returns-in_err-room-clause-same
+returns-in_err-room-clause-same g c = λ tells. refl
+
+pub returns-in_err-room-clause-counted : goal.returns-in_err-room-clause-counted
+returns-in_err-room-clause-counted g c = omega arith
+
+pub returns-in_err-room-clause-made : goal.returns-in_err-room-clause-made
+returns-in_err-room-clause-made g c = (let p = err_from_is_err_and c.from_residual.result c.from_residual.ensures.1 in rw p.1 tt)
+
+pub returns-in_err-room-clause-fits : goal.returns-in_err-room-clause-fits
+returns-in_err-room-clause-fits g c = (let p = err_from_is_err_and c.from_residual.result c.from_residual.ensures.1 in rw p.1 tt)
+
+pub returns-in_err-room-clause-kept : goal.returns-in_err-room-clause-kept
+returns-in_err-room-clause-kept g c = (let p = err_from_is_err_and c.from_residual.result c.from_residual.ensures.1 in rw p.1 c.room_for.ensures.same)
+
+pub returns-in_err-stages-clause-did : goal.returns-in_err-stages-clause-did
+returns-in_err-stages-clause-did g c = c.begin_files.ensures.did
+
+pub returns-in_err-stages-clause-same : goal.returns-in_err-stages-clause-same
+returns-in_err-stages-clause-same g c = c.begin_files.ensures.same
+
+pub returns-in_err-stages-clause-counted : goal.returns-in_err-stages-clause-counted
+returns-in_err-stages-clause-counted g c = c.begin_files.ensures.counted
+
+pub returns-in_err-stages-clause-made : goal.returns-in_err-stages-clause-made
+returns-in_err-stages-clause-made g c = (let p = err_from_is_err_and c.from_residual-in_err-stages.result c.from_residual-in_err-stages.ensures.1 in rw p.1 tt)
+
+pub returns-in_err-stages-clause-fits : goal.returns-in_err-stages-clause-fits
+returns-in_err-stages-clause-fits g c = (let p = err_from_is_err_and c.from_residual-in_err-stages.result c.from_residual-in_err-stages.ensures.1 in rw p.1 tt)
+
+pub returns-in_err-stages-clause-kept : goal.returns-in_err-stages-clause-kept
+returns-in_err-stages-clause-kept g c = (let p = err_from_is_err_and c.from_residual-in_err-stages.result c.from_residual-in_err-stages.ensures.1 in rw p.1 c.room_for.ensures.same)
+
+pub returns-clause-did : goal.returns-clause-did
+returns-clause-did g c = c.begin_files.ensures.did
+
+pub returns-clause-same : goal.returns-clause-same
+returns-clause-same g c = c.begin_files.ensures.same
+
+pub returns-clause-counted : goal.returns-clause-counted
+returns-clause-counted g c = c.begin_files.ensures.counted
+
+pub returns-clause-unmade : goal.returns-clause-unmade
+returns-clause-unmade g c = tt
+
+pub returns-clause-kept : goal.returns-clause-kept
+returns-clause-kept g c = tt
