@@ -13,6 +13,7 @@ use Rattle.ssq_value.specs.declared.value.Value.TheVariants.{Time}
 use Rattle.ssq_window.specs.Window.{AreWindows, first_start, window_count}
 use Rattle.ssq_meaning.specs.Fit.{IsFit}
 use Rattle.ssq_meaning.specs.Group.{window_starts}
+use Rattle.ssq_meaning.specs.Windows.{IsWindow}
 use Rattle.ssq_feed.specs.Keys.{starts_of}
 use Rattle.ssq_feed.specs.declared.starts.Starts.{Starts}
 
@@ -93,3 +94,18 @@ start_is first slide from nth fits from_fits is =
       is,
       to_z-of_z w64 (pos nth *ℤ slide) fits.distance_fits,
     ) refl
+
+-- ---- a time and a window, as numbers of 64 bits
+
+line_time_fits : (t : ℤ) → IsLineTime t → FitsSigned w64 t
+line_time_fits t years = record { sfits = grind (arith, ints, years.0, years.1) }
+
+-- the years of a time, of the number that is handed on
+pub line_time_handed : (t : ℤ) → IsLineTime t → IsLineTime (to_z w64 (of_z w64 t))
+line_time_handed t years = subst IsLineTime (sym (to_z-of_z w64 t (line_time_fits t years))) years
+
+-- the window, of the numbers that are handed on
+pub window_handed : (size slide : ℤ) → IsWindow size slide → IsWindow (to_z w64 (of_z w64 size)) (to_z w64 (of_z w64 slide))
+window_handed size slide window =
+    subst (λ s. IsWindow s (to_z w64 (of_z w64 slide))) (sym (to_z-of_z w64 size (span_fits size window.size_is)))
+    (subst (IsWindow size) (sym (to_z-of_z w64 slide (span_fits slide window.slide_is))) window)

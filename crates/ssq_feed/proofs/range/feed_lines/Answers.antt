@@ -46,3 +46,46 @@ loop-at-preserved g c =
       len = c.in_ok-hand_on.ensures.len ∙ c.loop-at.invariant.len;
       log = went_on g.L.Log.tells g.L.Log.lines g.L.Log.available g.L.Log.answers g.L.Log.faults c.args.log.now c.loop-at.log c.read_line.new.log c.loop-at.invariant.log c.read_line.ensures.log;
     }
+
+pub new-requires : goal.new-requires
+new-requires g c = c.requires.partitions
+
+pub returns-in_err-dealer-clause-log : goal.returns-in_err-dealer-clause-log
+returns-in_err-dealer-clause-log g c = record { same = λ is. refl; grown = λ is. omega arith; unasked = λ is. refl; counted = omega arith }
+
+pub returns-in_err-read_line-clause-rows : goal.returns-in_err-read_line-clause-rows
+returns-in_err-read_line-clause-rows g c =
+    let p = err_from_is_err_and c.from_residual-in_err-read_line.result c.from_residual-in_err-read_line.ensures.1 in
+    rw (p.1) tt
+
+pub returns-in_err-read_line-clause-log : goal.returns-in_err-read_line-clause-log
+returns-in_err-read_line-clause-log g c =
+    went_on g.L.Log.tells g.L.Log.lines g.L.Log.available g.L.Log.answers g.L.Log.faults c.args.log.now c.loop-at.log c.read_line.new.log c.loop-at.invariant.log c.read_line.ensures.log
+
+pub take_line-requires-clause-schema : goal.take_line-requires-clause-schema
+take_line-requires-clause-schema g c = c.requires.schema
+
+pub take_line-requires-clause-windows : goal.take_line-requires-clause-windows
+take_line-requires-clause-windows g c = c.requires.windows
+
+pub returns-in_err-gift-clause-rows : goal.returns-in_err-gift-clause-rows
+returns-in_err-gift-clause-rows g c =
+    let p = err_from_is_err_and c.from_residual-in_err-gift.result c.from_residual-in_err-gift.ensures.1 in
+    rw (p.1) tt
+
+pub returns-in_err-gift-clause-log : goal.returns-in_err-gift-clause-log
+returns-in_err-gift-clause-log g c =
+    went_on g.L.Log.tells g.L.Log.lines g.L.Log.available g.L.Log.answers g.L.Log.faults c.args.log.now c.loop-at.log c.read_line.new.log c.loop-at.invariant.log c.read_line.ensures.log
+
+pub hand_on-requires : goal.hand_on-requires
+hand_on-requires g c = c.in_ok-gift.ensures.fit
+
+pub returns-in_err-hand_on-clause-log : goal.returns-in_err-hand_on-clause-log
+returns-in_err-hand_on-clause-log g c =
+    went_on g.L.Log.tells g.L.Log.lines g.L.Log.available g.L.Log.answers g.L.Log.faults c.args.log.now c.loop-at.log c.read_line.new.log c.loop-at.invariant.log c.read_line.ensures.log
+
+pub loop-at-smaller : goal.loop-at-smaller
+loop-at-smaller g c = omega (arith, c.loop-at-test.true)
+
+pub returns-clause-log : goal.returns-clause-log
+returns-clause-log g c = c.loop-at.invariant.log

@@ -1,14 +1,16 @@
 use Rattle.std.proofs.Common.{◌≡◌, ◌∷◌, ◌++◌, ◌-◌, ◌∙◌, [], List, Option, ℤ, ap, sym, subst, arith, length, take, drop, take_all, length-drop}
 use Rattle.std.specs.Prelude.{OnOk}
 use Rattle.std.specs.List.{AllByRecursion}
+use Rattle.std.proofs.lemmas.List.Elements.{All-take, All-drop}
 use Rattle.ssq_shape.specs.declared.bound.GroupKey.{GroupKey}
+use Rattle.ssq_meaning.specs.Fit.{IsFit, IsFitRow}
 use Rattle.ssq_meaning.specs.FedRows.{FedRow}
 use Rattle.ssq_meaning.specs.Group.{closing_time, row_keys}
 use Rattle.ssq_meaning.specs.Meaning.{Values}
 use Rattle.ssq_meaning.specs.Windows.{HasWindow}
 use Rattle.ssq_feed.specs.Keys.{all_of, begun_with}
 use Rattle.ssq_feed.specs.Dealing.{Deals, from_origin, member_rows}
-use Rattle.ssq_feed.proofs.Members.{deals_value, deals_part, deals_nothing, rows_of_key, value_fits, goes_on, on_ok}
+use Rattle.ssq_feed.proofs.Members.{deals_none, deals_value, deals_part, deals_nothing, rows_of_key, value_fits, goes_on, on_ok}
 use Rattle.ssq_feed.proofs.dealer.Dealer.+deal_groups.Goals as goal
 
 pub returns-in_default : goal.returns-in_default
@@ -102,3 +104,37 @@ returns t c =
     c.args.self.now.buckets c.loop-nth.self.buckets c.deal_groups-2.new.self.buckets all last value
     (rw (sym at_last) c.loop-nth.invariant) c.in_ok-value-2.ensures
     (subst (P (take from.arguments cells)) on.key (subst (λ (arguments : Values). P arguments (drop from.arguments longer)) on.same deals))))
+
+pub slice_bounds-closing_time-count : goal.slice_bounds-closing_time-count
+slice_bounds-closing_time-count t c = omega (arith, c.requires.arguments, ap (λ (cells : Values). length cells) c.deref.ensures.value)
+
+pub closing_time-time-requires-clause-sizes : goal.closing_time-time-requires-clause-sizes
+closing_time-time-requires-clause-sizes t c = c.requires.windows.each
+
+pub member-requires : goal.member-requires
+member-requires t c = c.requires.arguments
+
+pub deal-requires : goal.deal-requires
+deal-requires t c =
+    let from = c.args.from.now in
+    subst IsFitRow (sym c.in_ok-row.ensures) (record {
+      key = All-drop IsFit from.arguments c.args.cells.items c.requires.cells;
+      values = All-take IsFit from.arguments c.args.cells.items c.requires.cells;
+    })
+
+pub of-values-requires-clause-window : goal.of-values-requires-clause-window
+of-values-requires-clause-window t c =
+    let P : List GroupKey → Type 0 = AllByRecursion HasWindow in
+    (subst P c.in-Some.ensures.cases.0 c.requires.left).0
+
+pub of-values-requires-clause-read : goal.of-values-requires-clause-read
+of-values-requires-clause-read t c = c.requires.read
+
+pub loop-nth-init : goal.loop-nth-init
+loop-nth-init t c = deals_none c.args.self.now.buckets
+
+pub value-requires : goal.value-requires
+value-requires t c = omega (arith, c.loop-nth-test.true, c.count.ensures, c.in-Some-checked_sub.ensures.0, c.in-Some-checked_sub.ensures.1)
+
+pub value-requires-2 : goal.value-requires-2
+value-requires-2 t c = omega (arith, c.count.ensures, c.in-Some-checked_sub.ensures.0, c.in-Some-checked_sub.ensures.1)
