@@ -1,4 +1,5 @@
 use Rattle.std.proofs.Common.{◌∙◌, ap, sym, refl, length}
+use Rattle.std.proofs.lemmas.List.{append-nil}
 use Rattle.ssq_bind.specs.Value.{unary_value, null_value, shift_of, value_of, aggregates_of}
 use Rattle.ssq_check.proofs.Places.{found_one, found_both}
 use Rattle.ssq_bind.proofs.Opened.{on_ok, one_value, two_values, three_values, found_given, found_three, value_aggregate, found_aggregate, value_unary, found_unary, value_null, found_null, value_binary, found_binary, value_between, found_between}
@@ -55,3 +56,46 @@ pub value_of-returns-in_ok-most-in-Between-clause-found : goal.value_of-returns-
 value_of-returns-in_ok-most-in-Between-clause-found t c =
     found_three c.args.found.now c.operand_of-in-Between.new.found c.operand_of-in-Between-2.new.found c.operand_of-in-Between-3.new.found _ _ _ (aggregates_of c.args.context.now c.args.within c.args.value.now) c.in_ok-tested-in-Between.ensures.found c.in_ok-least-in-Between.ensures.found c.in_ok-most-in-Between.ensures.found
     (found_between c.args.context.now c.args.within (length c.args.found.now) c.args.value.now c.in-Between.operand c.get-in-Between.result.now c.in-Between.at c.in-Between.low c.get-in-Between-2.result.now c.in-Between.high c.get-in-Between-3.result.now c.in-Between.is c.get-in-Between.ensures c.get-in-Between-2.ensures c.get-in-Between-3.ensures)
+
+pub value_of-returns-in-Number-clause-found : goal.value_of-returns-in-Number-clause-found
+unfolding aggregates_of
+value_of-returns-in-Number-clause-found t c = rw (c.in-Number.is) (sym (append-nil c.args.found.now))
+
+pub value_of-returns-in-Truth-clause-found : goal.value_of-returns-in-Truth-clause-found
+unfolding aggregates_of
+value_of-returns-in-Truth-clause-found t c = rw (c.in-Truth.is) (sym (append-nil c.args.found.now))
+
+pub value_of-returns-in-Timestamp-clause-found : goal.value_of-returns-in-Timestamp-clause-found
+unfolding aggregates_of
+value_of-returns-in-Timestamp-clause-found t c = rw (c.in-Timestamp.is) (sym (append-nil c.args.found.now))
+
+pub value_of-returns-in-Interval-clause-found : goal.value_of-returns-in-Interval-clause-found
+unfolding aggregates_of
+value_of-returns-in-Interval-clause-found t c = rw (c.in-Interval.is) (sym (append-nil c.args.found.now))
+
+pub value_of-returns-in-Truth-clause-value : goal.value_of-returns-in-Truth-clause-value
+unfolding value_of
+value_of-returns-in-Truth-clause-value t c = rw (c.in-Truth.is) refl
+
+pub value_of-returns-in-Interval-clause-value : goal.value_of-returns-in-Interval-clause-value
+unfolding value_of
+value_of-returns-in-Interval-clause-value t c = rw (c.in-Interval.is) refl
+
+pub value_of-returns-in-Column-clause-value : goal.value_of-returns-in-Column-clause-value
+unfolding value_of
+value_of-returns-in-Column-clause-value t c = rw (c.in-Column.is) c.column_value.ensures
+
+pub value_of-returns-in-Column-clause-found : goal.value_of-returns-in-Column-clause-found
+unfolding aggregates_of
+value_of-returns-in-Column-clause-found t c = on_ok c.column_value.result _ (rw (c.in-Column.is) (sym (append-nil c.args.found.now)))
+
+pub value_of-returns-in-CountRows-clause-value : goal.value_of-returns-in-CountRows-clause-value
+unfolding value_of
+value_of-returns-in-CountRows-clause-value t c = rw (c.in-CountRows.is) c.numbered.ensures.value
+
+pub value_of-returns-in-CountRows-clause-found : goal.value_of-returns-in-CountRows-clause-found
+unfolding aggregates_of
+value_of-returns-in-CountRows-clause-found t c = rw (c.in-CountRows.is) c.numbered.ensures.found
+
+pub operand_of-returns-clause-found : goal.operand_of-returns-clause-found
+operand_of-returns-clause-found t c = on_ok c.new.result _ c.in_ok-typed.ensures.found
