@@ -80,8 +80,8 @@ impl fmt::Display for Refusal {
         match self {
             Refusal::Parse { at, cause } => write!(f, "{} at {at}", parse_name(*cause)),
             Refusal::Bind(fault) => write!(f, "{} at {}", rule_name(fault.cause), fault.at),
-            Refusal::Mode(fault) => write!(f, "{}", mode_name(*fault)),
-            Refusal::NoMemory => write!(f, "NoMemory"),
+            Refusal::Mode(fault) => f.write_str(mode_name(*fault)),
+            Refusal::NoMemory => f.write_str("NoMemory"),
         }
     }
 }

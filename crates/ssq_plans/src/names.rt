@@ -21,7 +21,7 @@ impl fmt::Display for NameText {
 
     fn fmt<W: fmt::Write>(&self, f: &mut fmt::Formatter<W>) -> fmt::Result {
         match self.0 {
-            Name::Meta => write!(f, "metadata"),
+            Name::Meta => f.write_str("metadata"),
             Name::Plan(epoch) => write!(f, "offsets/{epoch}"),
             Name::Commit(epoch) => write!(f, "commits/{epoch}"),
             Name::Out(epoch) => write!(f, "sink/{epoch}"),

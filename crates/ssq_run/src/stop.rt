@@ -34,11 +34,11 @@ impl fmt::Display for Wrong {
 
     fn fmt<W: fmt::Write>(&self, f: &mut fmt::Formatter<W>) -> fmt::Result {
         match self {
-            Wrong::TooLong => write!(f, "TooLong"),
-            Wrong::NotJson => write!(f, "NotJson"),
-            Wrong::NotObject => write!(f, "NotObject"),
+            Wrong::TooLong => f.write_str("TooLong"),
+            Wrong::NotJson => f.write_str("NotJson"),
+            Wrong::NotObject => f.write_str("NotObject"),
             Wrong::WrongType { column } => write!(f, "WrongType {}", column.as_str()),
-            Wrong::NoEventTime => write!(f, "NoEventTime"),
+            Wrong::NoEventTime => f.write_str("NoEventTime"),
         }
     }
 }
@@ -155,7 +155,7 @@ impl fmt::Display for Stop {
 
     fn fmt<W: fmt::Write>(&self, f: &mut fmt::Formatter<W>) -> fmt::Result {
         match self {
-            Stop::Usage => write!(f, "stopped 2 Usage"),
+            Stop::Usage => f.write_str("stopped 2 Usage"),
             Stop::Refused(refusal) => write!(f, "stopped 3 {refusal}"),
             Stop::BadLine {
                 stream,
@@ -173,9 +173,9 @@ impl fmt::Display for Stop {
                 offset,
             } => write!(f, "stopped 5 Overflow {} {part} {offset}", stream.as_str()),
             Stop::KeyOverflow { key } => write!(f, "stopped 5 Overflow key {}", key.as_str()),
-            Stop::LogFault => write!(f, "stopped 6 LogFault"),
-            Stop::DiskFault => write!(f, "stopped 7 DiskFault"),
-            Stop::OutFault => write!(f, "stopped 8 OutFault"),
+            Stop::LogFault => f.write_str("stopped 6 LogFault"),
+            Stop::DiskFault => f.write_str("stopped 7 DiskFault"),
+            Stop::OutFault => f.write_str("stopped 8 OutFault"),
             Stop::OtherQuery { kept } => write!(f, "stopped 9 OtherQuery {}", kept.as_str()),
             Stop::OtherPartitions { kept, asked } => {
                 write!(f, "stopped 9 OtherPartitions {kept} {asked}")
@@ -196,7 +196,7 @@ impl fmt::Display for Stop {
                 stream.as_str()
             ),
             Stop::Damaged { name } => write!(f, "stopped 9 Damaged {}", NameText(*name)),
-            Stop::NoMemory => write!(f, "stopped 10 NoMemory"),
+            Stop::NoMemory => f.write_str("stopped 10 NoMemory"),
             Stop::FullParts { stream } => write!(f, "stopped 11 Full parts {} 65", stream.as_str()),
             Stop::FullLines {
                 stream,
@@ -207,7 +207,7 @@ impl fmt::Display for Stop {
                 "stopped 11 Full lines {} {part} {lines}",
                 stream.as_str()
             ),
-            Stop::FullEpochs => write!(f, "stopped 11 Full epochs"),
+            Stop::FullEpochs => f.write_str("stopped 11 Full epochs"),
         }
     }
 }
