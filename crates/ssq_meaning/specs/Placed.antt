@@ -24,6 +24,7 @@ abbrev pub placed_time : Option KeyPlace → Values → Option ℤ
 placed_time None key = None
 placed_time (Some place) key = option_map (time_from place) (time_in (cell_at key (place_at place)))
 
+-- a window's size is a span of the language
 abbrev pub HasSpan : KeyPlace → Type 0
 HasSpan (Event at) = Unit {0}
 HasSpan (Window at size) = IsSpan size
@@ -33,5 +34,6 @@ abbrev pub end_if : Option GroupKey → Value → Option ℤ
 end_if None start = None
 end_if (Some part) start = end_of part start
 
+-- where the window ends of a key, by the part of GROUP BY that stands there
 abbrev pub end_at : List GroupKey → Values → ℕ → Option ℤ
 end_at parts key at = end_if (slice_get parts at) (cell_at key at)
