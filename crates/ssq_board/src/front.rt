@@ -4,7 +4,7 @@ use ssq_outside::{DiskError, Name, TaskId};
 use std::alloc::AllocError;
 
 /// Why a line is no row of its stream.
-#[derive(Clone, Copy, Debug, PartialEq, Eq)]
+#[derive(Clone, Copy, Debug)]
 pub enum RowFault {
     /// The line has more than 1048576 bytes.
     TooLong,
@@ -17,7 +17,7 @@ pub enum RowFault {
 }
 
 /// Why a task or a call brought nothing.
-#[derive(Clone, Copy, Debug, PartialEq, Eq)]
+#[derive(Clone, Copy, Debug)]
 pub enum Cause {
     /// This line is no row of its stream.
     BadLine {
