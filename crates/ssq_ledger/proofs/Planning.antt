@@ -1,18 +1,17 @@
 -- The next plan, and why there is none.
-use Rattle.std.proofs.Common.{◌≡◌, ◌≤◌, ◌+◌, ℕ, zero, suc, ℤ, List, Option, None, if◌then◌else◌, sym, ap, add-one, ◌∙◌, subst, arith}
+use Rattle.std.proofs.Common.{◌≡◌, ◌≤◌, ◌+◌, ℕ, ℤ, Option, if◌then◌else◌, sym, ap, ◌∙◌, subst, arith}
 use Rattle.ssq_outside.specs.declared.disk.DiskError.{DiskError}
 use Rattle.ssq_outside.specs.declared.disk.DiskError.TheVariants as disk
 use Rattle.ssq_outside.specs.declared.name.Name.TheVariants as name
 use Rattle.ssq_plans.specs.Records.{plan_text}
-use Rattle.ssq_plans.specs.declared.seen.SeenBy.{SeenBy}
-use Rattle.ssq_core.specs.Course.{Ends, Cuts, Job, IsCausal, AreSameUpTo, truth}
+use Rattle.ssq_core.specs.Course.{Ends, Cuts, Job, truth}
 use Rattle.ssq_board.specs.declared.front.Entry.TheVariants as entry
 use Rattle.ssq_board.specs.Causes.{cause_of_disk}
 use Rattle.ssq_board.specs.Core.{Scope, Core, May, HasCause, after, cuts_by, extended, next_ends}
 use Rattle.ssq_board.specs.Shown.{IsSound}
 use Rattle.ssq_board.proofs.Lists.{nat_lt-is, nat_lt-not}
 use Rattle.ssq_board.proofs.Sounds.{step_sound}
-use Rattle.ssq_ledger.specs.Shown.{TellsPlans, MarksFollowCommits}
+use Rattle.ssq_ledger.specs.Shown.{TellsPlans}
 
 -- the next cut changes none before it
 before_next : (cuts : Cuts) (n : ℕ) (ends : Ends) (e : ℕ) → e ≤ n → cuts e ≡ extended cuts n ends e
@@ -37,16 +36,3 @@ seal_may r c disk.NoMemory = tt
 
 pub planned_sound : (r : Scope) (c n : Core) (e : ℕ) → May r c (entry.Plan e) → IsSound r c → n ≡ after r c (entry.Plan e) → IsSound r n
 planned_sound r c n e may d is = subst (IsSound r) (sym is) (step_sound r c (entry.Plan e) may d)
-
--- a watermark hangs on the epochs before, since the commit that gives it does
-module _ (job : Job) (mark : List SeenBy → Option ℤ) (causal : IsCausal job) (first : (cuts : Cuts) → (job.course cuts).watermark 0 ≡ None)
-    (next : (cuts : Cuts) (e : ℕ) → (job.course cuts).watermark (e + 1) ≡ mark ((job.course cuts).seen (e + 1))) (cuts other : Cuts) where
-  next_mark : (e : ℕ) → AreSameUpTo cuts other (e + 1) → (job.course cuts).watermark (e + 1) ≡ (job.course other).watermark (e + 1)
-  next_mark e same = next cuts e ∙ ap mark ((causal.agrees cuts other (e + 1) same).seen e (omega arith)) ∙ sym (next other e)
-
-  mark_follows : (e : ℕ) → AreSameUpTo cuts other e → (job.course cuts).watermark e ≡ (job.course other).watermark e
-  mark_follows zero same = first cuts ∙ sym (first other)
-  mark_follows (suc e) same = subst (λ (n : ℕ). AreSameUpTo cuts other n → (job.course cuts).watermark n ≡ (job.course other).watermark n) (add-one e) (next_mark e) same
-
-pub marks_follow : MarksFollowCommits
-marks_follow job mark causal ends first next = record { ends = ends; watermark = mark_follows job mark causal first next }

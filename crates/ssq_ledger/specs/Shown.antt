@@ -1,11 +1,10 @@
 -- What a ledger shows, and what is so of every ledger.
-use Rattle.std.specs.Prelude.{◌≡◌, ◌⊎◌, ◌+◌, ◌≤◌, ◌^◌, ◌++◌, [], ◌∷◌, ℕ, ℤ, Bool, true, false, List, length, Option, Some, None, Result, Ok, Err}
+use Rattle.std.specs.Prelude.{◌≡◌, ◌⊎◌, ◌+◌, ◌≤◌, ◌^◌, ◌++◌, [], ◌∷◌, ℕ, Bool, true, false, List, length, Option, Some, None, Result, Ok, Err}
 use Rattle.ssq_outside.specs.History.{History}
 use Rattle.ssq_outside.specs.Faults.{Rises}
 use Rattle.ssq_outside.specs.declared.gate.TaskId.{TaskId}
 use Rattle.ssq_outside.specs.declared.name.Name.TheVariants as name
-use Rattle.ssq_plans.specs.declared.seen.SeenBy.{SeenBy}
-use Rattle.ssq_core.specs.Course.{Cuts, Job, IsCausal, AreSameUpTo, truth}
+use Rattle.ssq_core.specs.Course.{Cuts, Job, AreSameUpTo, truth}
 use Rattle.ssq_board.specs.declared.front.Cause.{Cause}
 use Rattle.ssq_board.specs.declared.front.Cause.TheVariants as cause
 use Rattle.std.specs.List.{list_all}
@@ -58,11 +57,6 @@ first_state o r opened = state opened (first r o.start) o.shelf o.cuts
 pub record TellsPlans (job : Job) : Type 0 where
   pub ends : (cuts : Cuts) (e : ℕ) → (job.course cuts).ends e ≡ cuts e
   pub watermark : (cuts other : Cuts) (e : ℕ) → AreSameUpTo cuts other e → (job.course cuts).watermark e ≡ (job.course other).watermark e
-
--- So they do where the first watermark is none, and each later one is given by the commit before it.
-abbrev pub MarksFollowCommits : Type 0
-MarksFollowCommits = (job : Job) (mark : List SeenBy → Option ℤ) → IsCausal job → ((cuts : Cuts) (e : ℕ) → (job.course cuts).ends e ≡ cuts e) → ((cuts : Cuts) → (job.course cuts).watermark 0 ≡ None)
-    → ((cuts : Cuts) (e : ℕ) → (job.course cuts).watermark (e + 1) ≡ mark ((job.course cuts).seen (e + 1))) → TellsPlans job
 
 pub record IsLedger (tells : Type 0) (o : Opening) (opened : History) (r : Scope) (disk : History) (core : Core) (entries : List Entry) (capacity : ℕ) : Type 0 where
   -- the entries may come one after another, and lead to what the ledger is: with the disk as it is, where it tells that

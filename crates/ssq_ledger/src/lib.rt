@@ -7,7 +7,6 @@
 mod board;
 mod calls;
 mod ends;
-mod law;
 mod ledger;
 mod names;
 mod places;
@@ -15,6 +14,5 @@ mod plan;
 mod scope;
 mod upkeep;
 
-pub use law::marks_follow_commits;
 pub use ledger::{Ledger, Opening};
 pub use scope::{Scope, Start};
