@@ -185,6 +185,65 @@ PAYMENTS = Query(
     items={"id": lambda row: row["id"], "ts": lambda row: row["ts"], "cents": lambda row: row["cents"]},
     mode=Mode.APPEND,
 )
+CLICKS = Query(
+    text="CREATE STREAM impressions (ts TIMESTAMP, ad BIGINT, page STRING) FROM 'impressions' WATERMARK FOR ts DELAY '10 minutes'; "
+    "CREATE STREAM clicks (ts TIMESTAMP, ad BIGINT, visitor STRING) FROM 'clicks' WATERMARK FOR ts DELAY '5 minutes'; "
+    "SELECT impressions.ad AS ad, page, visitor, impressions.ts AS shown, clicks.ts AS clicked FROM impressions JOIN clicks "
+    "ON impressions.ad = clicks.ad AND clicks.ts BETWEEN impressions.ts AND impressions.ts + INTERVAL '1 hour' OUTPUT APPEND;",
+    columns={"ts": Kind.TIMESTAMP, "ad": Kind.BIGINT, "page": Kind.STRING},
+    stream="impressions",
+    event="ts",
+    delay=minutes(10),
+    join=Join(
+        "clicks",
+        {"ts": Kind.TIMESTAMP, "ad": Kind.BIGINT, "visitor": Kind.STRING},
+        (("ad", "ad"),),
+        Outer.NEITHER,
+        "ts",
+        minutes(5),
+        (minutes(0), minutes(60)),
+    ),
+    items={
+        "ad": lambda row: row["impressions.ad"],
+        "page": lambda row: row["impressions.page"],
+        "visitor": lambda row: row["clicks.visitor"],
+        "shown": lambda row: row["impressions.ts"],
+        "clicked": lambda row: row["clicks.ts"],
+    },
+    mode=Mode.APPEND,
+)
+UNPAID = Query(
+    text="CREATE STREAM orders (ts TIMESTAMP, id BIGINT, cents BIGINT) FROM 'orders' WATERMARK FOR ts DELAY '5 minutes'; "
+    "CREATE STREAM payments (ts TIMESTAMP, id BIGINT) FROM 'payments' WATERMARK FOR ts DELAY '5 minutes'; "
+    "SELECT orders.id AS id, cents, payments.ts AS paid FROM orders LEFT JOIN payments "
+    "ON orders.id = payments.id AND payments.ts BETWEEN orders.ts AND orders.ts + INTERVAL '30 minutes' WHERE payments.ts IS NULL OUTPUT APPEND;",
+    columns={"ts": Kind.TIMESTAMP, "id": Kind.BIGINT, "cents": Kind.BIGINT},
+    stream="orders",
+    event="ts",
+    delay=minutes(5),
+    join=Join(
+        "payments",
+        {"ts": Kind.TIMESTAMP, "id": Kind.BIGINT},
+        (("id", "id"),),
+        Outer.LEFT,
+        "ts",
+        minutes(5),
+        (minutes(0), minutes(30)),
+    ),
+    where=lambda row: row["payments.ts"] is None,
+    items={"id": lambda row: row["orders.id"], "cents": lambda row: row["orders.cents"], "paid": lambda row: row["payments.ts"]},
+    mode=Mode.APPEND,
+)
+# Each folder of examples/: its query, the lines of a part that its epochs take, and its streams.
+EXAMPLES = {
+    "clicks": (CLICKS, 2, "impressions", "clicks"),
+    "dedup": (PAYMENTS, 4, "payments"),
+    "first": (FILTER, 2, "s"),
+    "leaders": (GAMES, 6, "games"),
+    "totals": (SALES, 4, "sales"),
+    "unpaid": (UNPAID, 2, "orders", "payments"),
+    "windows": (VISITS, 4, "visits"),
+}
 
 
 class Plain(unittest.TestCase):
@@ -552,29 +611,25 @@ class Joined(unittest.TestCase):
 
 
 class Examples(unittest.TestCase):
-    def judge(self, name, query, most):
+    def judge(self, name, query, most, *streams):
         folder = ROOT / "examples" / name
+        logs = [folder / f"{stream}.0.jsonl" for stream in streams]
         self.assertEqual((folder / "query.sql").read_text().split(), query.text.split())
-        (log,) = folder.glob("*.jsonl")
-        self.assertIn(f"--max-lines {most}", (folder / "words").read_text())
-        epochs = run(query, log.read_bytes().split(b"\n")[:-1], most=most)
+        self.assertEqual(sorted(folder.glob("*.jsonl")), sorted(logs))
+        words = (folder / "words").read_text().split()
+        self.assertEqual(words[words.index("--max-lines") + 1], str(most))
+        epochs = run(query, *(log.read_bytes().split(b"\n")[:-1] for log in logs), most=most, lefts=1)
         kept = {int(path.name): path.read_bytes() for path in (folder / "sink").iterdir()}
         self.assertEqual({e: epochs.sink(e) for e in range(len(epochs.cuts))}, kept)
 
-    def test_windows(self):
-        self.judge("windows", VISITS, 4)
+    def test_none_is_left_out(self):
+        folders = {folder.name for folder in (ROOT / "examples").iterdir() if folder.is_dir()}
+        self.assertEqual(EXAMPLES.keys(), folders)
 
-    def test_totals(self):
-        self.judge("totals", SALES, 4)
-
-    def test_leaders(self):
-        self.judge("leaders", GAMES, 6)
-
-    def test_dedup(self):
-        self.judge("dedup", PAYMENTS, 4)
-
-    def test_the_first(self):
-        self.judge("first", FILTER, 2)
+    def test_each_has_these_sink_files(self):
+        for name, example in EXAMPLES.items():
+            with self.subTest(name):
+                self.judge(name, *example)
 
 
 class State(unittest.TestCase):
