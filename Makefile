@@ -23,7 +23,7 @@ bin/ssq: $(SOURCES)
 
 demo: bin/ssq
 	@rm -rf demo && mkdir demo && for example in first windows; do \
-		cp -R examples/$$example demo/ && cd demo/$$example && rm -rf sink && \
+		cp -R examples/$$example demo/ && cd demo/$$example && rm -rf sink checkpoint && \
 		cat query.sql *.jsonl && \
 		echo "\$$ ssq $$(cat words)" && ../../bin/ssq $$(cat words) && \
 		for file in checkpoint/sink/*; do echo "\$$ cat $$file"; cat "$$file"; done && \
@@ -35,7 +35,7 @@ demo: bin/ssq
 # Each folder has a query, its logs, the words behind `ssq` and the sink files that these give.
 examples: bin/ssq
 	@for example in examples/*/; do \
-		rm -rf demo && cp -R "$$example" demo && mkdir -p demo/wanted && mv demo/sink demo/wanted/ && \
+		rm -rf demo && cp -R "$$example" demo && rm -rf demo/checkpoint && mkdir -p demo/wanted && mv demo/sink demo/wanted/ && \
 		(cd demo && ../bin/ssq $$(cat words) > told && diff -r wanted/sink checkpoint/sink) && echo "$$example gives what it keeps" || exit 1; \
 	done; rm -rf demo
 
