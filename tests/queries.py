@@ -1,12 +1,13 @@
 #!/usr/bin/env python3
-"""Runs random queries with groups, DEDUPLICATE or JOIN over random logs, and judges every file that they leave.
+"""Runs random queries with groups, DEDUPLICATE or JOIN over random logs, and judges every file that they leave, and what is told of them.
 
     python3 tests/queries.py [QUERIES] [SEED] [--shape group|dedup|join]      (100, of groups; `make` builds bin/ssq)
 
 Each query with groups has other keys, windows, aggregates, HAVING, ORDER BY, mode and watermark; each with DEDUPLICATE other columns, items,
-mode and watermark; each join another kind, key, bound, rest of ON and WHERE. It runs up to three times, over logs of one to three parts that grow in between, in one to five partitions, with a cap or
-none. Some rows are late, some lines bad, and some results overflow. What each run has to print, its status, and each file of the checkpoint are computed from the logs (tests/model.py), and
-compared byte for byte.
+mode and watermark; each join another kind, key, bound, rest of ON and WHERE. It runs up to three times, over logs of one to three parts that
+grow in between, in one to five partitions, with a cap or none. Some rows are late, some lines bad, and some results overflow. What each run has
+to print, its status, each file of the checkpoint, and what `show`, `status` and `explain` write before and behind each run are computed from the
+logs (tests/model.py), and compared byte for byte.
 
 It is not part of the gate, since it takes minutes.
 """
@@ -304,6 +305,46 @@ def found_files(root):
     return {str(path.relative_to(root)): path.read_bytes() for path in paths}
 
 
+# ---- what is told of a query and its checkpoint
+
+
+def table_of(epochs, commits):
+    """What `show` writes of the sink files of so many epochs."""
+    query = epochs.query
+    if query.group is None or query.mode is Mode.APPEND:
+        return b"".join(map(epochs.sink, range(commits)))
+    if query.mode is Mode.COMPLETE:
+        return epochs.sink(commits - 1) if commits else b""
+    last = {key: row for e in range(commits) for key, row in epochs.shown(e)}
+    return "".join(model.row_text(query.items, row) for row in sorted(last.values(), key=model.row_order)).encode()
+
+
+def status_of(epochs, commits):
+    """What `status` writes of so many commits."""
+    planned = len(epochs.cuts)
+    lines = [f"partitions {epochs.partitions}", f"planned {planned}", f"committed {commits}"]
+    lines.append(f"watermark {model.stamp(epochs.watermark(planned - 1))}")
+    lines += [f"part {' '.join(map(str, epochs.place(at)))} {end}" for at, end in enumerate(epochs.begin(planned))]
+    return "".join(line + "\n" for line in lines).encode()
+
+
+def late_by(query):
+    """The time of the query's keys or rows, as `explain` calls it."""
+    if query.join is not None:
+        return "both" if query.join.bound else "none"
+    parts = query.group or query.distinct or ()
+    if any(isinstance(part, Window) and part.column == query.event for part in parts):
+        return "window_end"
+    return query.event if query.event in parts else "none"
+
+
+def explained(query):
+    """What `explain` writes."""
+    shape = "Join" if query.join else "Dedup" if query.distinct else "Plain" if query.group is None else "Group"
+    closes = "yes" if query.closes() else "no"
+    return f"{query.text}\nshape {shape} mode {query.mode.name.title()} late {late_by(query)} closes {closes}\n".encode()
+
+
 @dataclasses.dataclass
 class Trial:
     """One query with its logs, run after run."""
@@ -340,15 +381,29 @@ class Trial:
         status = 0 if output[-1].startswith("done") else int(output[-1].split()[1])
         assert done.returncode == status, f"status {done.returncode}, and not {status}"
         wanted, self.commits = wanted_files(epochs)
+        self.judge_files(wanted)
+        self.judge_answers(table_of(epochs, self.commits), status_of(epochs, self.commits))
+        self.judge_files(wanted)
+        return epochs
+
+    def judge_files(self, wanted):
         found = found_files(self.folder / "checkpoint")
         for name in sorted(wanted.keys() | found.keys()):
             assert found.get(name) == wanted.get(name), f"{name} holds\n{found.get(name)}\nand not\n{wanted.get(name)}"
-        return epochs
+
+    def judge_answers(self, table=b"", status=b"no checkpoint\n"):
+        """What is told between runs; before the first there is no checkpoint."""
+        for verb, wanted in ("show", table), ("status", status), ("explain", explained(self.query)):
+            done = subprocess.run([SSQ, verb, "q.sql"], cwd=self.folder, stdout=subprocess.PIPE)
+            assert done.returncode == 0, f"{verb} ends with status {done.returncode}"
+            assert done.stdout == wanted, f"{verb} tells\n{done.stdout.decode()}\nand not\n{wanted.decode()}"
 
 
 def trial(folder, chance, shape):
     """What came of a query, in numbers."""
     own = Trial(folder, chance, shape)
+    own.judge_answers()
+    assert not (folder / "checkpoint").exists(), "a checkpoint is there before the first run"
     for _ in range(chance.randrange(1, 4)):
         own.grow()
         epochs = own.run()
@@ -372,7 +427,7 @@ def main():
         except AssertionError as wrong:
             sys.exit(f"seed {seed}: {wrong}; what is left is in {folder}")
         shutil.rmtree(folder)
-    print(f"{ask.queries} queries from seed {ask.seed} on, {found['epochs']} epochs, each file right;")
+    print(f"{ask.queries} queries from seed {ask.seed} on, {found['epochs']} epochs, each file and answer right;")
     print(f"{found['late']} rows late, {found['closing']} epochs without lines, {found['stopped']} queries stopped by a line or a key")
 
 
