@@ -1,13 +1,13 @@
 #!/usr/bin/env python3
-"""Runs random queries with groups, DEDUPLICATE or JOIN over random logs, and judges every file that they leave, and what is told of them.
+"""Runs random queries over random logs, and judges every file that they leave, and what is told of them.
 
-    python3 tests/queries.py [QUERIES] [SEED] [--shape group|dedup|join]      (100, of groups; `make` builds bin/ssq)
+    python3 tests/queries.py [QUERIES] [SEED] [--shape plain|group|dedup|join]      (100, of groups; `make` builds bin/ssq)
 
-Each query with groups has other keys, windows, aggregates, HAVING, ORDER BY, mode and watermark; each with DEDUPLICATE other columns, items,
-mode and watermark; each join another kind, key, bound, rest of ON and WHERE. It runs up to three times, over logs of one to three parts that
-grow in between, in one to five partitions, with a cap or none. Some rows are late, some lines bad, and some results overflow. What each run has
-to print, its status, each file of the checkpoint, and what `show`, `status` and `explain` write before and behind each run are computed from the
-logs (tests/model.py), and compared byte for byte.
+Each query has other expressions in its items and in WHERE, another mode and another watermark; each with groups other keys, windows, aggregates,
+HAVING and ORDER BY; each with DEDUPLICATE other columns; each join another kind, key, bound and rest of ON. It runs up to three times, over logs
+of one to three parts that grow in between, in one to five partitions, with a cap or none. Some rows are late, some lines bad, and some results
+overflow. What each run has to print, its status, each file of the checkpoint, and what `show`, `status` and `explain` write before and behind
+each run are computed from the logs (tests/model.py), and compared byte for byte.
 
 It is not part of the gate, since it takes minutes.
 """
@@ -15,6 +15,8 @@ import argparse
 import collections
 import dataclasses
 import datetime
+import enum
+import functools
 import json
 import pathlib
 import random
@@ -26,7 +28,8 @@ import time
 import typing
 
 import model
-from model import Aggregate, Direction, Epochs, Function, Join, Kind, Mode, Outer, Overflow, Query, Window, compare, compute, disjunction
+from model import Aggregate, Direction, Epochs, Function, Join, Kind, Mode, Outer, Overflow, Query, Window
+from model import compare, compute, conjunction, disjunction, negation
 
 SSQ = pathlib.Path(__file__).resolve().parent.parent / "bin" / "ssq"
 COLUMNS = {"ts": Kind.TIMESTAMP, "k": Kind.STRING, "v": Kind.BIGINT, "b": Kind.BOOLEAN, "u": Kind.TIMESTAMP}
@@ -34,49 +37,230 @@ SECOND = datetime.timedelta(seconds=1)
 START = datetime.datetime(2024, 1, 1)
 MOST = 2**63 - 1
 TEXTS = ["a", "b", "c", "", 'q"\\\n', "é", None]
+LITERALS = {
+    Kind.BIGINT: [*range(10)] * 4 + [MOST],
+    Kind.STRING: [*TEXTS[:-1], "it's", "é'"],
+    Kind.TIMESTAMP: [START, START + 20 * SECOND, START + datetime.timedelta(seconds=5, milliseconds=500)],
+    Kind.BOOLEAN: [False, True],
+}
 BAD_LINES = [b"{", b"[]", b'{"ts":null}', b'{"v":"x","ts":"2024-01-01T00:00:00Z"}', b'{"k":1,"ts":"2024-01-01T00:00:00Z"}']
+
+
+# ---- expressions
+
+
+class Level(enum.IntEnum):
+    """How tightly the grammar binds a part of an expression."""
+
+    OR = 0
+    AND = 1
+    NOT = 2
+    COMPARISON = 3
+    SUM = 4
+    PRODUCT = 5
+    MINUS = 6
+    OPERAND = 7
+
+
+@dataclasses.dataclass
+class Term:
+    """A part of a query's text, which is canonical, its value and its type."""
+
+    text: str
+    value: typing.Callable
+    kind: Kind = Kind.BIGINT
+    level: Level = Level.OPERAND
+
+    def under(self, level):
+        """Its text where the grammar has this level: in brackets where another tree would be read without them."""
+        return self.text if self.level >= level else f"({self.text})"
+
+
+def named(name, kind):
+    """A column, as the query and the model's rows name it."""
+    return Term(name, lambda row: row[name], kind)
+
+
+def literal(value):
+    """A number that is not negative, a truth value, a time or a text."""
+    if isinstance(value, bool):
+        return Term(str(value).upper(), lambda row: value, Kind.BOOLEAN)
+    if isinstance(value, int):
+        return Term(str(value), lambda row: value)
+    if isinstance(value, str):
+        doubled = value.replace("'", "''")
+        return Term(f"'{doubled}'", lambda row: value, Kind.STRING)
+    return Term(f"TIMESTAMP '{model.stamp(value)}'", lambda row: value, Kind.TIMESTAMP)
+
+
+def span(number, unit):
+    """An INTERVAL, which stands right of a time and a sign; `unit` is seconds, minutes, hours or days."""
+    return Term(f"INTERVAL '{number} {unit}'", lambda row: datetime.timedelta(**{unit: number}))
+
+
+def computed(left, sign, right):
+    """Arithmetic, or || of texts."""
+    level = Level.PRODUCT if sign in ("*", "DIV", "%") else Level.SUM
+    text = f"{left.under(level)} {sign} {right.under(level + 1)}"
+    return Term(text, lambda row: compute(left.value(row), sign, right.value(row)), left.kind, level)
+
+
+def minus(term):
+    return Term(f"- {term.under(Level.MINUS)}", lambda row: compute(0, "-", term.value(row)), level=Level.MINUS)
+
+
+def truth(text, value, level):
+    return Term(text, value, Kind.BOOLEAN, level)
+
+
+def compared(left, sign, right):
+    text = f"{left.under(Level.SUM)} {sign} {right.under(Level.SUM)}"
+    return truth(text, lambda row: compare(left.value(row), sign, right.value(row)), Level.COMPARISON)
+
+
+def between(term, least, most):
+    """BETWEEN, which does not evaluate its right end where the term is below its left one."""
+
+    def is_between(row):
+        value = term.value(row)
+        return conjunction(compare(value, ">=", least.value(row)), lambda: compare(value, "<=", most.value(row)))
+
+    text = f"{term.under(Level.SUM)} BETWEEN {least.under(Level.SUM)} AND {most.under(Level.SUM)}"
+    return truth(text, is_between, Level.COMPARISON)
+
+
+def is_null(term):
+    return truth(f"{term.under(Level.SUM)} IS NULL", lambda row: term.value(row) is None, Level.COMPARISON)
+
+
+def is_not_null(term):
+    return truth(f"{term.under(Level.SUM)} IS NOT NULL", lambda row: term.value(row) is not None, Level.COMPARISON)
+
+
+def opposite(term):
+    """NOT."""
+    return truth(f"NOT {term.under(Level.NOT)}", lambda row: negation(term.value(row)), Level.NOT)
+
+
+def both(left, right):
+    """AND."""
+    text = f"{left.under(Level.AND)} AND {right.under(Level.NOT)}"
+    return truth(text, lambda row: conjunction(left.value(row), lambda: right.value(row)), Level.AND)
+
+
+def either(left, right):
+    """OR."""
+    text = f"{left.under(Level.OR)} OR {right.under(Level.AND)}"
+    return truth(text, lambda row: disjunction(left.value(row), lambda: right.value(row)), Level.OR)
+
+
+@dataclasses.dataclass
+class Maker:
+    """Makes expressions over some columns."""
+
+    chance: random.Random
+    columns: dict
+
+    def column(self, kind=None):
+        name = self.chance.choice([name for name, own in self.columns.items() if kind in (None, own)])
+        return named(name, self.columns[name])
+
+    def literal(self, kind):
+        if kind is Kind.BIGINT and self.chance.random() < 0.05:
+            return computed(minus(literal(MOST)), "-", literal(1))  # the least one
+        return literal(self.chance.choice(LITERALS[kind]))
+
+    def term(self, kind=None, height=2):
+        """An expression of a type, or of any, that has at most so many operators one in the other."""
+        kind = kind or self.chance.choice(list(Kind))
+        if height == 0 or self.chance.random() < 0.2:
+            return self.column(kind) if self.chance.random() < 0.75 else self.literal(kind)
+        makers = {Kind.BIGINT: self.number, Kind.STRING: self.text, Kind.TIMESTAMP: self.time, Kind.BOOLEAN: self.truth}
+        return makers[kind](height - 1)
+
+    def number(self, height):
+        term, divisor = self.term(Kind.BIGINT, height), literal(self.chance.choice([1, 2, 3, 7]))
+        sign = self.chance.choice(["+", "-", "*", "DIV", "%", "minus"])
+        if sign == "minus":
+            return minus(term)
+        if sign in ("DIV", "%"):
+            return computed(term, sign, self.chance.choice([divisor, minus(divisor)]))
+        return computed(term, sign, self.term(Kind.BIGINT, height))
+
+    def text(self, height):
+        return computed(self.term(Kind.STRING, height), "||", self.term(Kind.STRING, height))
+
+    def time(self, height):
+        far = span(*self.chance.choice([(5, "seconds"), (90, "minutes"), (36, "hours"), (366, "days")]))
+        return computed(self.term(Kind.TIMESTAMP, height), self.chance.choice("+-"), far)
+
+    def truth(self, height):
+        kind = self.chance.choice(list(Kind))
+        one, other, third = (self.term(kind, height) for _ in range(3))
+        sign = self.chance.choice(["=", "<>", "<", "<=", ">", ">="])
+        makers = [
+            lambda: compared(one, sign, other),
+            lambda: between(one, other, third),
+            lambda: self.chance.choice([is_null, is_not_null])(one),
+            lambda: opposite(self.term(Kind.BOOLEAN, height)),
+            lambda: self.chance.choice([both, either])(self.term(Kind.BOOLEAN, height), self.term(Kind.BOOLEAN, height)),
+            self.guarded,
+        ]
+        return self.chance.choice(makers)()
+
+    def guarded(self):
+        """A condition with a part that overflows on just the rows on which it is not to be evaluated."""
+        number, edge = self.column(Kind.BIGINT), literal(self.chance.randrange(1, 8))
+        above = compared(computed(number, "+", computed(literal(MOST), "-", edge)), "<", literal(MOST))
+        below = minus(computed(computed(number, "-", literal(MOST)), "-", edge))
+        makers = [
+            lambda: either(compared(number, ">", edge), above),
+            lambda: both(compared(number, "<=", edge), above),
+            lambda: between(number, edge, below),
+        ]
+        return self.chance.choice(makers)()
+
+    def condition(self):
+        """Mostly one that most rows meet."""
+        number = self.column(Kind.BIGINT)
+        common = either(is_null(number), compared(number, ">", literal(self.chance.randrange(8))))
+        return self.chance.choice([common, self.guarded(), self.term(Kind.BOOLEAN, 3), either(self.term(Kind.BOOLEAN), common)])
+
+    def where(self):
+        """What stands behind FROM, and its value: None where there is no WHERE."""
+        if self.chance.random() < 0.3:
+            return "", None
+        condition = self.condition()
+        return f" WHERE {condition.text}", condition.value
+
+    def rest(self):
+        """A condition of ON that is no AND, no equality and no BETWEEN by itself: those would be more conditions, a key and a bound."""
+        number = [self.term(Kind.BIGINT), self.term(Kind.BIGINT)]
+        common = compared(number[0], self.chance.choice(["<", "<=", "<>"]), number[1])
+        condition = self.term(Kind.BOOLEAN)
+        return self.chance.choice([common, opposite(condition), either(condition, common), is_not_null(condition)])
 
 
 # ---- queries
 
 
 @dataclasses.dataclass
-class Term:
-    """A part of a query's text, and its value."""
-
-    text: str
-    value: typing.Callable
-    kind: Kind = Kind.BIGINT
-
-
-def number(chance, v="v"):
-    """An argument that is a number."""
-    return chance.choice([
-        Term(v, lambda row: row[v]),
-        Term(f"{v} * 3", lambda row: compute(row[v], "*", 3)),
-        Term(f"{v} % 7", lambda row: compute(row[v], "%", 7)),
-        Term(f"{v} DIV 2 - 1", lambda row: compute(compute(row[v], "DIV", 2), "-", 1)),
-    ])
-
-
-def column(chance, stream=""):
-    name = chance.choice(list(COLUMNS))
-    return Term(stream + name, lambda row: row[stream + name], COLUMNS[name])
-
-
-@dataclasses.dataclass
 class Draft:
     """A query that is made: its aggregates so far, in the order of SELECT and HAVING, and its items with their texts."""
 
-    chance: random.Random
+    maker: Maker
     aggregates: list = dataclasses.field(default_factory=list)
     items: dict = dataclasses.field(default_factory=dict)
     texts: list = dataclasses.field(default_factory=list)
 
+    @property
+    def chance(self):
+        return self.maker.chance
+
     def aggregate(self):
         """One aggregate more, as a term of a group."""
         function, at = self.chance.choice([*Function, Function.SUM]), len(self.aggregates)
-        argument = number(self.chance) if function is Function.SUM else self.chance.choice([number, column])(self.chance)
+        argument = self.maker.term(Kind.BIGINT if function is Function.SUM else None)
         if function is Function.COUNT and self.chance.random() < 0.5:
             self.aggregates.append(Aggregate(function))
             return Term("COUNT(*)", lambda group: group[at])
@@ -101,8 +285,7 @@ class Draft:
     def add_aggregate(self, name):
         term = self.aggregate()
         if term.kind is Kind.BIGINT and self.chance.random() < 0.25:
-            more = self.chance.choice([1, MOST // 2, MOST - 40])
-            term = Term(f"{term.text} + {more}", lambda group, of=term.value: compute(of(group), "+", more))
+            term = computed(term, "+", literal(self.chance.choice([1, MOST // 2, MOST - 40])))
         self.add(name, term)
 
     def having(self):
@@ -111,11 +294,9 @@ class Draft:
         while term.kind is not Kind.BIGINT:
             self.aggregates.pop()
             term = self.aggregate()
-        least = self.chance.randrange(6)
         if self.chance.random() < 0.2:
-            times = MOST // 4
-            term = Term(f"{term.text} * {times}", lambda group, of=term.value: compute(of(group), "*", times))
-        return Term(f" HAVING {term.text} > {least}", lambda group: compare(term.value(group), ">", least))
+            term = computed(term, "*", literal(MOST // 4))
+        return compared(term, ">", literal(self.chance.randrange(6)))
 
 
 def made_group(chance):
@@ -147,21 +328,21 @@ def made_grouped(chance):
     mode, delay, group = chance.choice(list(Mode)), chance.choice([None, 1, 5, 10, 30]), made_group(chance)
     if mode is Mode.APPEND and not (delay and has_time(group)):
         return made_grouped(chance)
-    draft = Draft(chance)
+    maker = Maker(chance, COLUMNS)
+    draft = Draft(maker)
     for part in group:
         if mode is Mode.UPDATE or chance.random() < 0.8:
             draft.add_key(part)
     for at in range(chance.randrange(0 if draft.items else 1, 4)):
         draft.add_aggregate(f"a{at}")
     having = draft.having() if mode is not Mode.UPDATE and chance.random() < 0.4 else None
-    least = chance.choice([None, chance.randrange(8)])
+    where_text, where = maker.where()
     order = [(name, chance.choice(list(Direction))) for name in chance.sample(list(draft.items), min(2, len(draft.items)))]
     order = order if mode is Mode.COMPLETE and chance.random() < 0.7 else []
     text = [
-        f"{stream_text(delay)}SELECT {', '.join(draft.texts)} FROM s",
-        "" if least is None else f" WHERE v IS NULL OR v > {least}",
+        f"{stream_text(delay)}SELECT {', '.join(draft.texts)} FROM s{where_text}",
         f" GROUP BY {', '.join(map(group_text, group))}" if group else "",
-        having.text if having else "",
+        f" HAVING {having.text}" if having else "",
         f" ORDER BY {', '.join(name + ' DESC' * (way is Direction.DESC) for name, way in order)}" if order else "",
         f" OUTPUT {mode.name};",
     ]
@@ -172,7 +353,7 @@ def made_grouped(chance):
         mode=mode,
         event="ts" if delay else None,
         delay=delay * SECOND if delay else None,
-        where=None if least is None else lambda row: disjunction(row["v"] is None, lambda: compare(row["v"], ">", least)),
+        where=where,
         group=group,
         aggregates=tuple(draft.aggregates),
         having=having.value if having else None,
@@ -180,34 +361,38 @@ def made_grouped(chance):
     )
 
 
-def made_distinct(chance):
-    """The first row of each key. An item may overflow, also on a row that is late or a repeat."""
+def made_rowwise(chance, distinct=()):
+    """Items of each row that WHERE leaves. With columns of DEDUPLICATE, of the first row of each key; an item may overflow also on a row that is
+    late or a repeat."""
     mode, delay = chance.choice([Mode.APPEND, Mode.UPDATE]), chance.choice([None, 1, 5, 10, 30])
-    columns = chance.sample(list(COLUMNS), chance.randrange(1, 4))
-    draft = Draft(chance)
-    for at in range(chance.randrange(1, 5)):
-        draft.add(f"a{at}", chance.choice([number, column])(chance))
-    least = chance.choice([None, chance.randrange(8)])
-    text = [
-        f"{stream_text(delay)}SELECT {', '.join(draft.texts)} FROM s",
-        "" if least is None else f" WHERE v IS NULL OR v > {least}",
-        f" DEDUPLICATE BY {', '.join(columns)} OUTPUT {mode.name};",
-    ]
+    maker = Maker(chance, COLUMNS)
+    draft = Draft(maker)
+    for name in chance.sample(list(COLUMNS), chance.randrange(3)):
+        draft.add(name, named(name, COLUMNS[name]))
+    for at in range(chance.randrange(0 if draft.items else 1, 5)):
+        draft.add(f"a{at}", maker.term(height=3))
+    where_text, where = maker.where()
+    repeats = f" DEDUPLICATE BY {', '.join(distinct)}" if distinct else ""
     return Query(
-        text="".join(text),
+        text=f"{stream_text(delay)}SELECT {', '.join(draft.texts)} FROM s{where_text}{repeats} OUTPUT {mode.name};",
         columns=COLUMNS,
         items=draft.items,
         mode=mode,
         event="ts" if delay else None,
         delay=delay * SECOND if delay else None,
-        where=None if least is None else lambda row: disjunction(row["v"] is None, lambda: compare(row["v"], ">", least)),
-        distinct=tuple(columns),
+        where=where,
+        distinct=distinct or None,
     )
 
 
-def shifted_text(by):
+def made_distinct(chance):
+    return made_rowwise(chance, tuple(chance.sample(list(COLUMNS), chance.randrange(1, 4))))
+
+
+def shifted_time(by):
     """The left row's time, and a span behind it or before."""
-    return f"l.ts {'-' if by < 0 else '+'} INTERVAL '{abs(by)} seconds'" if by else "l.ts"
+    left = named("l.ts", Kind.TIMESTAMP)
+    return computed(left, "-" if by < 0 else "+", span(abs(by), "seconds")) if by else left
 
 
 def made_joined(chance):
@@ -216,27 +401,23 @@ def made_joined(chance):
     bound = (-chance.choice([0, 0, 5, 20]), chance.choice([0, 5, 10, 40])) if None not in delays and chance.random() < 0.8 else None
     if outer is not Outer.NEITHER and not bound:
         return made_joined(chance)
+    maker = Maker(chance, {f"{stream}.{name}": kind for stream in "lr" for name, kind in COLUMNS.items()})
     keys = chance.sample(["k", "b", "v", "u"], chance.choice([0, 1, 1, 2]))
-    rest = []
-    for _ in range(chance.choice([0, 0, 1, 2])):
-        left, right, sign = number(chance, "l.v"), number(chance, "r.v"), chance.choice(["<", "<=", "<>"])
-        rest.append(Term(f"{left.text} {sign} {right.text}", lambda row, a=left, s=sign, b=right: compare(a.value(row), s, b.value(row))))
-    conditions = [f"l.{name} = r.{name}" for name in keys] + [term.text for term in rest]
+    rest = [maker.rest() for _ in range(chance.choice([0, 0, 1, 2]))]
+    conditions = [compared(named(f"l.{name}", COLUMNS[name]), "=", named(f"r.{name}", COLUMNS[name])) for name in keys]
     if bound:
-        conditions.insert(len(keys), f"r.ts BETWEEN {shifted_text(bound[0])} AND {shifted_text(bound[1])}")
+        conditions.append(between(named("r.ts", Kind.TIMESTAMP), *map(shifted_time, bound)))
+    conditions += rest
     if not conditions:
         return made_joined(chance)
-    draft, side = Draft(chance), chance.choice("lr")
+    draft = Draft(maker)
     for at in range(chance.randrange(1, 5)):
-        own = chance.choice("lr") + "."
-        draft.add(f"a{at}", chance.choice([number(chance, f"{own}v"), column(chance, own)]))
-    least = chance.choice([None, chance.randrange(8)])
+        draft.add(f"a{at}", maker.term())
+    where_text, where = maker.where()
     words = {Outer.NEITHER: "JOIN", Outer.LEFT: "LEFT JOIN", Outer.RIGHT: "RIGHT JOIN"}[outer]
     text = [
         *map(stream_text, delays, "lr"),
-        f"SELECT {', '.join(draft.texts)} FROM l {words} r ON {' AND '.join(conditions)}",
-        "" if least is None else f" WHERE {side}.v IS NULL OR {side}.v > {least}",
-        " OUTPUT APPEND;",
+        f"SELECT {', '.join(draft.texts)} FROM l {words} r ON {functools.reduce(both, conditions).text}{where_text} OUTPUT APPEND;",
     ]
     events = ["ts" if delay else None for delay in delays]
     spans = [delay * SECOND if delay else None for delay in delays]
@@ -251,11 +432,11 @@ def made_joined(chance):
         event=events[0],
         delay=spans[0],
         join=Join("r", COLUMNS, pairs, outer, events[1], spans[1], near, tuple(term.value for term in rest)),
-        where=None if least is None else lambda row: disjunction(row[f"{side}.v"] is None, lambda: compare(row[f"{side}.v"], ">", least)),
+        where=where,
     )
 
 
-MAKERS = {"group": made_grouped, "dedup": made_distinct, "join": made_joined}
+MAKERS = {"plain": made_rowwise, "group": made_grouped, "dedup": made_distinct, "join": made_joined}
 
 
 # ---- logs
