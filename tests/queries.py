@@ -6,8 +6,9 @@
 Each query has other expressions in its items and in WHERE, another mode and another watermark; each with groups other keys, windows, aggregates,
 HAVING and ORDER BY; each with DEDUPLICATE other columns; each join another kind, key, bound and rest of ON. It runs up to three times, over logs
 of one to three parts that grow in between, in one to five partitions, with a cap or none. Some rows are late, some lines bad, and some results
-overflow. What each run has to print, its status, each file of the checkpoint, and what `show`, `status` and `explain` write before and behind
-each run are computed from the logs (tests/model.py), and compared byte for byte.
+overflow. Of a twentieth of the queries the logs take several of the blocks in which logs are read. What each run has to print, its status, each
+file of the checkpoint, and what `show`, `status` and `explain` write before and behind each run are computed from the logs (tests/model.py), and
+compared byte for byte.
 
 It is not part of the gate, since it takes minutes.
 """
@@ -36,6 +37,7 @@ COLUMNS = {"ts": Kind.TIMESTAMP, "k": Kind.STRING, "v": Kind.BIGINT, "b": Kind.B
 SECOND = datetime.timedelta(seconds=1)
 START = datetime.datetime(2024, 1, 1)
 MOST = 2**63 - 1
+BLOCK = 262_144  # the bytes of a log that are read at once
 TEXTS = ["a", "b", "c", "", 'q"\\\n', "é", None]
 LITERALS = {
     Kind.BIGINT: [*range(10)] * 4 + [MOST],
@@ -458,6 +460,18 @@ def made_line(chance, number, wild):
     return json.dumps(present, ensure_ascii=chance.random() < 0.5).encode()
 
 
+def padded_line(chance, line, size, wild):
+    """A line of a long log that so far has so many bytes: a tenth are padded with blanks, which change nothing, but make a wild one too long now and
+    then. Of some the line feed ends the block that is begun, or begins the next one."""
+    if chance.random() < 0.9:
+        return line
+    room = BLOCK - size % BLOCK
+    lengths = [chance.randrange(60_000) for _ in range(6)] + [BLOCK - 1, BLOCK, room - 1, room, room - 1, room, model.LONGEST]
+    if wild and chance.random() < 0.05:
+        lengths = [model.LONGEST + 1]
+    return line.ljust(chance.choice(lengths))
+
+
 # ---- runs
 
 
@@ -539,16 +553,19 @@ class Trial:
         self.logs = [[] for _ in range(self.chance.randrange(1, 4) if self.query.join is None else self.chance.randrange(2, 5))]
         self.lefts = len(self.logs) if self.query.join is None else self.chance.randrange(1, len(self.logs))
         self.partitions = self.chance.choice([1, 1, 2, 3, 5])
-        self.wild = self.chance.random() < 0.4
+        self.wild, self.long = self.chance.random() < 0.4, self.chance.random() < 0.05
         self.cuts, self.commits = [], 0
         (self.folder / "q.sql").write_text(self.query.text)
 
     def grow(self):
         for part, log in enumerate(self.logs):
-            log += [made_line(self.chance, len(log) + more, self.wild) for more in range(self.chance.randrange(40))]
             stream, number = (0, part) if part < self.lefts else (1, part - self.lefts)
-            name = self.query.sources()[stream].stream
-            (self.folder / f"{name}.{number}.jsonl").write_bytes(b"".join(line + b"\n" for line in log))
+            path = self.folder / f"{self.query.sources()[stream].stream}.{number}.jsonl"
+            with path.open("ab") as file:
+                for _ in range(self.chance.randrange(40)):
+                    line = made_line(self.chance, len(log), self.wild)
+                    log.append(padded_line(self.chance, line, file.tell(), self.wild) if self.long else line)
+                    file.write(log[-1] + b"\n")
 
     def run(self):
         """One run, judged. Its epochs."""
@@ -591,7 +608,8 @@ def trial(folder, chance, shape):
     done = range(own.commits)
     late = sum(len(epochs.fed(e)) - len(epochs.on_time(e)) for e in done)
     closing = sum(epochs.begin(e) == epochs.cuts[e] for e in done)
-    return collections.Counter(epochs=own.commits, late=late, closing=closing, stopped=len(own.cuts) - own.commits)
+    blocks = sum(sum(map(len, log)) // BLOCK for log in own.logs)
+    return collections.Counter(epochs=own.commits, late=late, closing=closing, stopped=len(own.cuts) - own.commits, blocks=blocks)
 
 
 def main():
@@ -609,7 +627,7 @@ def main():
             sys.exit(f"seed {seed}: {wrong}; what is left is in {folder}")
         shutil.rmtree(folder)
     print(f"{ask.queries} queries from seed {ask.seed} on, {found['epochs']} epochs, each file and answer right;")
-    print(f"{found['late']} rows late, {found['closing']} epochs without lines, {found['stopped']} queries stopped by a line or a key")
+    print(f"{found['late']} rows late, {found['closing']} epochs without lines, {found['stopped']} queries stopped by a line or a key, {found['blocks']} full blocks of logs")
 
 
 if __name__ == "__main__":
