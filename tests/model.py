@@ -327,12 +327,24 @@ def no_number(word):
     raise ValueError(word)
 
 
+def refuse_halves(found):
+    """Half of a pair of surrogates is no character, so no UTF-8 has it."""
+    json_text(found).encode()
+
+
+def whole_object(fields):
+    """An object none of whose fields has half a pair, those included that stand again behind."""
+    refuse_halves(fields)
+    return dict(fields)
+
+
 def json_of(line):
     """The JSON that a line is. Lines that nest over a hundred deep, which serde_json refuses, are not asked for here."""
+    hook = whole_object if b"\\u" in line else None
     try:
-        found = json.loads(line.decode(), parse_int=number_of, parse_float=float_of, parse_constant=no_number)
-        if b"\\u" in line:
-            json_text(found).encode()  # half of a pair of surrogates is no character
+        found = json.loads(line.decode(), parse_int=number_of, parse_float=float_of, parse_constant=no_number, object_pairs_hook=hook)
+        if hook:
+            refuse_halves(found)
     except ValueError:
         raise BadLine("NotJson") from None
     return found

@@ -5,7 +5,7 @@
 
 Each query has other expressions in its items and in WHERE, another mode and another watermark; each with groups other keys, windows, aggregates,
 HAVING and ORDER BY; each with DEDUPLICATE other columns; each join another kind, key, bound and rest of ON. It runs up to three times, over logs
-of one to three parts that grow in between, in one to five partitions, with a cap or none. Some rows are late, some lines bad, and some results
+of up to three parts that grow in between, in one to twelve partitions, with a cap or none. Some rows are late, some lines bad, and some results
 overflow. Of a twentieth of the queries the logs take several of the blocks in which logs are read. What each run has to print, its status, each
 file of the checkpoint, and what `show`, `status` and `explain` write before and behind each run are computed from the logs (tests/model.py), and
 compared byte for byte.
@@ -45,7 +45,27 @@ LITERALS = {
     Kind.TIMESTAMP: [START, START + 20 * SECOND, START + datetime.timedelta(seconds=5, milliseconds=500)],
     Kind.BOOLEAN: [False, True],
 }
-BAD_LINES = [b"{", b"[]", b'{"ts":null}', b'{"v":"x","ts":"2024-01-01T00:00:00Z"}', b'{"k":1,"ts":"2024-01-01T00:00:00Z"}']
+TIME_FIELD = b'"ts":"2024-01-01T00:00:00Z"'
+ODD_FIELDS = [  # most are bad
+    b'"v":"x"',
+    b'"v":1.0',
+    b'"v":-0',
+    b'"v":9223372036854775808',
+    b'"v":1.0,"v":1',
+    b'"k":1',
+    b'"b":"true"',
+    b'"u":"0999-12-31T23:59:59Z"',
+    b'"u":"2023-02-29T00:00:00Z"',
+    b'"x":1e999',
+    b'"x":1e999,"x":1',
+    b'"x":"\\ud800"',
+    b'"x":"\\ud800","x":1',
+    b'"x":[{"\\udc00":1}],"x":1',
+    b'"x":"\\ud83d\\ude00"',
+    b'"k":"\xff"',
+]
+ODD_LINES = [b"{", b"[]", b'["\\ud800"]', b'{"ts":null}', b'{"ts":"0999-12-31T23:59:59Z"}']
+ODD_LINES += [b"{" + field + b"," + TIME_FIELD + b"}" for field in ODD_FIELDS]
 
 
 # ---- expressions
@@ -449,7 +469,7 @@ def made_line(chance, number, wild):
     if chance.random() < 0.04:
         return b" \t"
     if wild and chance.random() < 0.004:
-        return chance.choice(BAD_LINES)
+        return chance.choice(ODD_LINES)
     at = START + datetime.timedelta(seconds=number // 2 + chance.randrange(-15, 15), milliseconds=chance.choice([0, 0, 0, 500]))
     v = chance.choice([None, *range(-3, 20)])
     if wild and chance.random() < 0.01:
@@ -550,9 +570,9 @@ class Trial:
 
     def __post_init__(self):
         self.query = MAKERS[self.shape](self.chance)
-        self.logs = [[] for _ in range(self.chance.randrange(1, 4) if self.query.join is None else self.chance.randrange(2, 5))]
-        self.lefts = len(self.logs) if self.query.join is None else self.chance.randrange(1, len(self.logs))
-        self.partitions = self.chance.choice([1, 1, 2, 3, 5])
+        counts = [0 if self.chance.random() < 0.05 else self.chance.randrange(1, 4) for _ in self.query.sources()]
+        self.logs, self.lefts = [[] for _ in range(sum(counts))], counts[0]
+        self.partitions = self.chance.choice([1, 1, 1, 2, 2, 3, 3, 5, 5, 12])
         self.wild, self.long = self.chance.random() < 0.4, self.chance.random() < 0.05
         self.cuts, self.commits = [], 0
         (self.folder / "q.sql").write_text(self.query.text)
@@ -572,8 +592,7 @@ class Trial:
         most = self.chance.choice([None, 1, 3, 7, 20])
         self.cuts = model.cuts_of_run(self.query, [self.logs], most, self.cuts, self.lefts)
         epochs = Epochs(self.query, self.logs, self.cuts, self.partitions, self.lefts)
-        words = [SSQ, "run", "q.sql", "--partitions", str(self.partitions), "--rounds", self.chance.choice("12")]
-        done = subprocess.run(words + (["--max-lines", str(most)] if most else []), cwd=self.folder, stdout=subprocess.PIPE)
+        done = subprocess.run([SSQ, "run", "q.sql", *self.options(most)], cwd=self.folder, stdout=subprocess.PIPE)
         output = epochs.output(self.commits)
         assert done.stdout.decode().splitlines() == output, f"told\n{done.stdout.decode()}\nand not\n{output}"
         status = 0 if output[-1].startswith("done") else int(output[-1].split()[1])
@@ -583,6 +602,12 @@ class Trial:
         self.judge_answers(table_of(epochs, self.commits), status_of(epochs, self.commits))
         self.judge_files(wanted)
         return epochs
+
+    def options(self, most):
+        """Partitions are asked for where the run would take others without."""
+        options = ["--rounds", self.chance.choice("12")] + (["--max-lines", str(most)] if most else [])
+        kept = self.partitions if (self.folder / "checkpoint").exists() else 1
+        return options if kept == self.partitions and self.chance.random() < 0.5 else options + ["--partitions", str(self.partitions)]
 
     def judge_files(self, wanted):
         found = found_files(self.folder / "checkpoint")
@@ -626,8 +651,8 @@ def main():
         except AssertionError as wrong:
             sys.exit(f"seed {seed}: {wrong}; what is left is in {folder}")
         shutil.rmtree(folder)
-    print(f"{ask.queries} queries from seed {ask.seed} on, {found['epochs']} epochs, each file and answer right;")
-    print(f"{found['late']} rows late, {found['closing']} epochs without lines, {found['stopped']} queries stopped by a line or a key, {found['blocks']} full blocks of logs")
+    print(f"{ask.queries} queries from seed {ask.seed} on, {found['epochs']} epochs, each file and answer right; {found['blocks']} full blocks of logs,")
+    print(f"{found['late']} rows late, {found['closing']} epochs without lines, {found['stopped']} queries stopped by a line or a key")
 
 
 if __name__ == "__main__":

@@ -692,6 +692,8 @@ class Values(unittest.TestCase):
         query = Query(text="", columns=columns, items={}, mode=Mode.APPEND, event="ts")
         found = read_line(query, b'{"n":1,"n":2,"ts":"2024-01-01T00:00:00Z","b":false,"x":[1.5],"k":null}')
         self.assertEqual(found, {"n": 2, "k": None, "b": False, "ts": datetime.datetime(2024, 1, 1)})
+        whole = read_line(query, b'{"ts":"2024-01-01T00:00:00Z","k":"a","k":"\\ud83d\\ude00"}')
+        self.assertEqual(whole["k"], "\U0001f600")
         causes = {
             b"": None,
             b" " * 1_048_577: "TooLong",
@@ -699,6 +701,9 @@ class Values(unittest.TestCase):
             b'{"x":1e999}': "NotJson",
             b'{"x":NaN}': "NotJson",
             b'{"x":"\\ud800"}': "NotJson",
+            b'{"x":"\\ud800","x":1}': "NotJson",
+            b'{"x":["\\ud800"],"x":1}': "NotJson",
+            b'["\\ud800"]': "NotJson",
             b'{"x":"\xff"}': "NotJson",
             b"[]": "NotObject",
             b'{"k":1,"n":true}': "WrongType n",
