@@ -17,10 +17,11 @@ next one begins on what is left: one to five killed runs for each checkpoint, th
 
 After each run the plans are read, to learn the cuts, and nothing else is taken from the program: what each plan, commit, sink
 file and file of the state has to hold, and each line that was printed, is computed from the logs (tests/model.py), and compared
-byte for byte. Plans that were there stay. Each epoch whose line was printed has its commit and its sink file, and none is printed
-twice. Of the state each delta is there that the next run needs, and no file that may not be. After the last run each line of the
-logs is in exactly one epoch, no window is left to be closed, and of the state there is exactly what upkeep leaves. Every second kill of
-a query that keeps state waits for a moment at which upkeep is due; it is told how many left a snapshot to be made or a file to be removed.
+byte for byte. Plans and commits that were there stay. Each epoch whose line was printed has its commit and its sink file. A run prints
+the lines of the epochs that it commits, in order and from the first one on: a killed one some, one that ends by itself all. Of the state
+each delta is there that the next run needs, and no file that may not be. After the last run each line of the logs is in exactly one epoch,
+no window is left to be closed, and of the state there is exactly what upkeep leaves. Every second kill of a query that keeps state waits
+for a moment at which upkeep is due; it is told how many left a snapshot to be made or a file to be removed.
 
 It is not part of the gate, since it takes minutes and its timing is the machine's. A killed process loses nothing that the
 system had taken from it, so this shows crashes of the program, and not of the machine. Those are proved over a disk that does what
@@ -209,6 +210,7 @@ class Checkpoint:
     def __init__(self, folder, job):
         self.folder, self.job = folder, job
         self.told, self.cuts = [], []
+        self.commits = self.untold = 0  # how many there were when it was judged last, and how many of them that run did not tell
         self.wanted, self.lines = {}, []  # each file that its epochs may have, and the line that tells each epoch
         (folder / "q.sql").write_text(job.query.text + "\n")
 
@@ -218,8 +220,9 @@ class Checkpoint:
         paths = (path for kind in ("offsets", "commits", "sink", "state") for path in (root / kind).rglob("*"))
         return {str(path.relative_to(root)): path.read_bytes() for path in paths if path.is_file()}
 
-    def judge(self, output):
-        """Checks what a run printed and each file that is there, against the logs. The epochs, and the number of commits."""
+    def judge(self, output, is_done=False):
+        """Checks what a run printed, which may have ended by itself, and each file that is there, against the logs. The epochs, and the
+        number of commits."""
         files = self.files()
         counts = {kind: sum(name.startswith(kind) for name in files) for kind in ("offsets", "commits", "sink")}
         plans, commits, sinks = counts.values()
@@ -245,7 +248,8 @@ class Checkpoint:
             assert name in self.wanted, f"{name} is no file of these epochs"
             assert content == self.wanted[name], f"{name} holds\n{legible(name, content)}\nand not\n{legible(name, self.wanted[name])}"
         self.judge_state(files, plans, commits)
-        self.judge_output(output, self.lines[:commits])
+        self.judge_output(output, commits, is_done)
+        self.commits = commits
         return epochs, commits
 
     def judge_cuts(self, epochs):
@@ -282,15 +286,16 @@ class Checkpoint:
             found = [re.fullmatch(rf"state/{partition}/(\d+)[.](delta|snapshot)", name) for name in files]
             yield tuple(sorted(int(name[1]) for name in found if name and name[2] == kind) for kind in ("delta", "snapshot"))
 
-    def judge_output(self, output, committed):
-        """Each whole line tells an epoch that is committed, in order and for the first time."""
-        for line in output[: output.rfind("\n") + 1].splitlines():
-            if line.startswith("done epochs "):
-                assert line == f"done epochs {len(committed)}", line
-            else:
-                assert line in committed, f"told, and not so: {line}"
-                assert not self.told or committed.index(line) > self.told[-1], f"told again or late: {line}"
-                self.told.append(committed.index(line))
+    def judge_output(self, output, commits, is_done):
+        """It tells each epoch that was committed since the last run, in order, and then that all is done. Where the run did not end by itself
+        the end of that may be missing; what is missing is told by no later run, since it is committed."""
+        assert commits >= self.commits and commits > max(self.told, default=-1), f"{commits} commits of {self.commits}, and told {self.told[-1:]}"
+        new = self.lines[self.commits : commits]
+        wanted = "".join(f"{line}\n" for line in [*new, f"done epochs {commits}"])
+        assert (output == wanted) if is_done else wanted.startswith(output), f"it told\n{output}\nand not\n{wanted}"
+        told = min(output.count("\n"), len(new))
+        self.told += range(self.commits, self.commits + told)
+        self.untold = len(new) - told
 
 
 def legible(name, content):
@@ -338,9 +343,8 @@ def whole_run(folder, job):
 
 def last_run(checkpoint):
     """Runs to the end over logs that grow no more, and judges all that is there then. The epochs."""
-    output = whole_run(checkpoint.folder, checkpoint.job)
-    epochs, commits = checkpoint.judge(output)
-    assert len(epochs.cuts) == commits and output.endswith(f"done epochs {commits}\n"), output[-200:]
+    epochs, commits = checkpoint.judge(whole_run(checkpoint.folder, checkpoint.job), is_done=True)
+    assert len(epochs.cuts) == commits, f"{len(epochs.cuts)} plans, and {commits} commits"
     assert epochs.next_cut() is None, f"not each line is in an epoch, or a window is left to be closed: {epochs.cuts[-1:]}"
     checkpoint.judge_end(commits)
     return epochs

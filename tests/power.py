@@ -248,7 +248,9 @@ class Trial:
             printed = lines if stop else printed
         else:
             assert done.returncode in (0, -signal.SIGKILL if broken else 0), printed
-        self.checkpoint.judge(printed)
+        self.checkpoint.judge(printed, is_done=done.returncode == 0)
+        if done.returncode == 7:  # the commit of the last epoch may be there and not settled
+            assert self.checkpoint.untold <= 1, f"{self.checkpoint.untold} epochs that {broken} left are not told: {printed}"
         self.found.update(runs=1, killed=int(done.returncode < 0), failed=int(failed))
         self.machine.opened, before = {}, len(self.machine.output)
         for call in traced(trace):
