@@ -5,7 +5,7 @@
 
 strace has to be there (for this script alone), and bin/ssq (`make` builds it). The queries are those of tests/kill.py. Runs go over logs that grow.
 Some are broken: killed in front of a sync, or a sync, or a call that writes, renames, removes or makes a file or a folder, fails, for which the run has to
-stop and to say so. The next one begins on names that are not synced; behind some the power is lost, and the next one begins on what may be left.
+stop and to say so. The first three always are. The next one begins on names that are not synced; behind some the power is lost, and the next one begins on what may be left.
 
 strace tells each call by which a run makes, writes, renames, removes and syncs files and folders, and these are played on a model of a file system.
 After a power loss a name may be, by itself, what it was when its folder was last synced, or anything that it was since; a new folder is a name in
@@ -43,6 +43,7 @@ STRANGE = "open,creat,pwrite64,writev,pwritev,pwritev2,truncate,ftruncate,falloc
 LONGEST = 1 << 24  # bytes of a text in a trace
 RUNS = 6  # over one checkpoint
 BREAKS = ["fsync:signal=KILL"] * 5 + ["fsync:error=EIO"] * 3 + ["write:error=ENOSPC", "rename:error=EIO", "unlink:error=EIO", "mkdir:error=ENOSPC"]
+FIRST = ["fsync:signal=KILL:when=7", "fsync:error=EIO:when=3", "fsync:error=EIO:when=20"]  # in the first epoch, in the opening, behind some commits
 FAULTS = {7: "DiskFault", 8: "OutFault"}
 LEAST, MOST = operator.itemgetter(0), operator.itemgetter(-1)
 CAP = 3  # lines of a part in an epoch: few, since each image is run on and judged to the end
@@ -219,7 +220,7 @@ class Trial:
     def go(self):
         for run in range(1, RUNS + 1):
             self.grow(run / RUNS)
-            if self.run(self.broken() if run < RUNS else None) and self.chance.random() < 0.5:
+            if self.run(self.broken(run)) and self.chance.random() < 0.5:
                 self.start_again()
         self.found["epochs"] = len(last_run(self.checkpoint).cuts)
 
@@ -227,11 +228,15 @@ class Trial:
         """Each log gets about so much of its text; its last line may be there in part."""
         for whole, log in zip(self.job.logs(self.whole), self.job.logs(self.folder)):
             text = whole.read_bytes()
-            log.write_bytes(text[: len(text) if share == 1 else int(len(text) * share) - self.chance.randrange(100)])
+            end = len(text) if share == 1 else max(0, int(len(text) * share) - self.chance.randrange(100))
+            with open(log, "ab") as file:
+                file.write(text[file.tell() : end])
 
-    def broken(self):
-        """How a run is broken: at which of its calls of one kind, if it comes to it, and by what. Some are not."""
-        if self.chance.random() < 0.2:
+    def broken(self, run):
+        """How a run is broken: at which of its calls of one kind, if it comes to it, and by what. Some are not, nor is the last one."""
+        if run <= len(FIRST):
+            return FIRST[run - 1]
+        if run == RUNS or self.chance.random() < 0.2:
             return None
         return f"{self.chance.choice(BREAKS)}:when={self.chance.randrange(1, self.chance.choice([10, 100]))}"
 
@@ -344,6 +349,8 @@ def main():
     print(f"{found['ended']} run on to the end, each file right, {time.monotonic() - start:.0f} seconds")
     if not found["other"]:
         sys.exit("no image is other than the folder as it was, so this shows nothing")
+    if not (found["killed"] and found["failed"]):
+        sys.exit("no run was killed or none was stopped by a call that failed, so this shows too little")
 
 
 if __name__ == "__main__":
