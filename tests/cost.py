@@ -7,7 +7,7 @@
   over 50 epochs, less what opening costs.
 - What opening costs there: a run with nothing new.
 - What an epoch and an opening cost, and how large the state's files are, with 100,000 groups of which 10 change in each epoch, there.
-- 1,000,000 lines of one part in one epoch.
+- 1,000,000 lines of one part in one epoch, whose rows have to be right.
 
 Checkpoints lie in new folders inside FOLDER; without one, where temporary files lie. In a folder of memory (/dev/shm) the disk's
 syncs cost nothing. It is not part of the gate.
@@ -122,6 +122,9 @@ def measure_lines(place):
         work.grow(MANY)
         seconds, used = work.run()
         size = work.logs[0].stat().st_size
+        wanted = "".join(f'{{"id":{n},"w":{n % 23 + 1}}}\n' for n in range(MANY) if n % 23 > 10)
+        if (work.folder / "checkpoint" / "sink" / "0").read_text() != wanted:
+            sys.exit(f"the rows of {MANY} lines are not those that the query asks for")
         print(
             f"{MANY} lines ({size / 1e6:.0f} MB) in one epoch: {seconds:.2f} s, {used.ru_utime + used.ru_stime:.2f} s of processor, "
             f"{seconds / MANY * 1e9:.0f} ns a line, {used.ru_maxrss / 1024:.0f} MB of memory"
