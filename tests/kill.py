@@ -5,7 +5,8 @@
 
 A query with a watermark reads three parts, to which a writer appends while runs of many rounds go over them and between the
 runs. Each run is killed (SIGKILL) after a random time, from the first millisecond on, so that openings are hit too, and the
-next one begins on what is left: one to five killed runs for each checkpoint, then one that is let end by itself.
+next one begins on what is left: one to five killed runs for each checkpoint, then one that is let end by itself. One that has
+ended before its kill is judged as the last one is, and not counted as killed.
 
 - plain: WHERE and SELECT.
 - group: overlapping windows and a key with NULLs, in Append, Update and Complete in turn, over three partitions. Some rows are late,
@@ -307,7 +308,8 @@ def started(folder, job, out, *more):
 
 
 def wait_for_upkeep(folder, chance):
-    """Waits until an epoch is committed behind which a snapshot is due, for a second at most, and then a little: a run of a million rounds that find nothing ends after two."""
+    """Waits until an epoch is committed behind which a snapshot is due, for a second at most, and then a little: a run of a million rounds
+    that find nothing may end after two."""
     commits = folder / "checkpoint" / "commits"
     done = len(list(commits.iterdir())) if commits.exists() else 0
     due = next(filter(model.has_snapshot, itertools.count(done + 10 * chance.randrange(3))))
@@ -318,7 +320,8 @@ def wait_for_upkeep(folder, chance):
 
 
 def killed_run(folder, job, chance, longest):
-    """Runs until a random moment; of a query that keeps state every second run until upkeep is due. What it printed."""
+    """Runs until a random moment; of a query that keeps state every second run until upkeep is due. What it printed, and whether it ended by
+    itself before."""
     with open(folder / "out", "w+") as out:
         run = started(folder, job, out, "--rounds", "1000000")
         if job.query.keeps_state() and chance.random() < 0.5:
@@ -329,8 +332,8 @@ def killed_run(folder, job, chance, longest):
         status = run.wait()
         out.seek(0)
         output = out.read()
-        assert status == -signal.SIGKILL, f"it ended by itself: {output[-200:]}"
-        return output
+        assert status in (-signal.SIGKILL, 0), f"status {status}: {output[-200:]}"
+        return output, status == 0
 
 
 def whole_run(folder, job):
@@ -357,7 +360,9 @@ def trial(folder, job, kills, chance, longest):
     writer.start()
     found = collections.Counter()
     for _ in range(kills):
-        epochs, commits = checkpoint.judge(killed_run(folder, job, chance, longest))
+        output, is_done = killed_run(folder, job, chance, longest)
+        epochs, commits = checkpoint.judge(output, is_done)
+        found["killed"] += not is_done
         found["opened"] += len(epochs.cuts) - commits
         found["upkeep"] += checkpoint.is_in_upkeep(commits)
     found["early"] = len(checkpoint.told)
@@ -421,21 +426,21 @@ def main():
     jobs = jobs_taken(ask.shape)
     for job in jobs:
         job.lines = job.lines * ask.epochs * CAP // LINES
-    killed, found = 0, collections.Counter()
+    runs, found = 0, collections.Counter()
     for number in itertools.count():
-        if killed >= ask.runs:
+        if runs >= ask.runs:
             break
         job = jobs[number % len(jobs)]
-        kills = min(chance.randrange(1, 6), ask.runs - killed)
+        kills = min(chance.randrange(1, 6), ask.runs - runs)
         folder = pathlib.Path(tempfile.mkdtemp(prefix="ssq-kill-"))
         try:
             found += trial(folder, job, kills, chance, ask.seconds)
         except AssertionError as wrong:
             sys.exit(f"checkpoint {number} ({job.name}) of seed {ask.seed}: {wrong}; what is left is in {folder}")
         shutil.rmtree(folder)
-        killed += kills
+        runs += kills
     over = MANY.get(ask.shape, jobs[0].name)
-    print(f"{killed} runs killed over {over}, seed {ask.seed}: {number} checkpoints, {found['early']} epochs told before a kill,")
+    print(f"{found['killed']} of {runs} runs killed over {over}, seed {ask.seed}: {number} checkpoints, {found['early']} epochs told before a kill,")
     print(f"{found['opened']} planned and not committed at a kill, {found['epochs']} epochs in all, each file right")
     if ask.shape in MANY:
         print(f"{found['late']} rows late, {found['equal']} of them at the watermark itself, {found['closing']} epochs without lines,")
@@ -444,6 +449,8 @@ def main():
         print(f"{found['repeats']} rows were repeats")
     if ask.shape == "join":
         print(f"{found['pairs']} pairs, and {found['alone']} rows over without a partner")
+    if not found["killed"]:
+        sys.exit("each run ended by itself before it was killed, so this shows nothing")
 
 
 if __name__ == "__main__":
