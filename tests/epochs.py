@@ -12,6 +12,7 @@ then both stand still (REST seconds of the environment, 0.5).
 It tells the median of the pairs' ratios and their geometric mean, each with where 95 of 100 drawings anew lie, and milliseconds.
 Checkpoints lie in new folders inside FOLDER; without one, where temporary files lie. It is not part of the gate.
 """
+import functools
 import math
 import os
 import pathlib
@@ -30,7 +31,6 @@ SIZES = (10_000, 1_000_000)
 REST = float(os.environ.get("REST", "0.5"))
 PAGE = 4096  # what a log grows by within a page is seen all at once
 TURNS = 400  # of a run, which has a million rounds
-PROGRAMS, FEEDER = "1", 0  # the processors
 
 
 def line(key, value):
@@ -39,12 +39,13 @@ def line(key, value):
 
 
 class Job:
-    """A folder with a state of so many groups, and the program that goes on there."""
+    """A folder with a state of so many groups, and the program that goes on there, on its processor."""
 
-    def __init__(self, place, groups, seed):
+    def __init__(self, place, groups, seed, processor):
         self.folder = pathlib.Path(tempfile.mkdtemp(prefix="ssq-epochs-", dir=place))
         self.checkpoint = self.folder / "checkpoint"
         self.groups, self.random, self.times = groups, random.Random(seed), []
+        self.processor, self.program = processor, None
         (self.folder / "q.sql").write_text(QUERY)
         with open(self.folder / "e.0.jsonl", "w") as log:
             log.writelines(line(key, key) for key in self.random.sample(range(groups), groups))
@@ -54,8 +55,8 @@ class Job:
         self.epoch = 1
 
     def begin(self):
-        words = ["taskset", "-c", PROGRAMS, SSQ, "run", "q.sql", "--rounds", "1000000"]
-        self.program = subprocess.Popen(words, cwd=self.folder, stdout=subprocess.PIPE)
+        words, place = [SSQ, "run", "q.sql", "--rounds", "1000000"], functools.partial(os.sched_setaffinity, 0, {self.processor})
+        self.program = subprocess.Popen(words, cwd=self.folder, stdout=subprocess.PIPE, preexec_fn=place)
         os.set_blocking(self.program.stdout.fileno(), False)
         self.add_lines()
         self.program.send_signal(signal.SIGSTOP)
@@ -83,7 +84,8 @@ class Job:
             sys.exit(f"{words} is told, and not the epoch {self.epoch} with ten lines")
         if is_due:
             while not (self.checkpoint / f"state/0/{self.epoch}.snapshot").exists():
-                pass
+                if self.program.poll() is not None:
+                    sys.exit(f"the program ended with status {self.program.returncode} before the snapshot of epoch {self.epoch} was made")
             time.sleep(0.02)
         self.epoch += 1
         return took, is_due
@@ -107,8 +109,12 @@ def spread(logs, of):
 
 
 def main(place, pairs):
-    os.sched_setaffinity(0, {FEEDER})
-    draws, jobs = random.Random(1), [Job(place, groups, groups) for groups in SIZES]
+    processors = sorted(os.sched_getaffinity(0))
+    if len(processors) < 2:
+        sys.exit("it needs two processors")
+    feeder, programs = processors[:2]
+    os.sched_setaffinity(0, {feeder})
+    draws, jobs = random.Random(1), [Job(place, groups, groups, programs) for groups in SIZES]
     try:
         os.sync()
         counted = 0
@@ -128,7 +134,7 @@ def main(place, pairs):
                 job.end()
     finally:
         for job in jobs:
-            if job.__dict__.get("program"):
+            if job.program:
                 job.end()
             shutil.rmtree(job.folder)
     few, many = (job.times for job in jobs)
