@@ -19,10 +19,11 @@ ended before its kill is judged as the last one is, and not counted as killed.
 After each run the plans are read, to learn the cuts, and nothing else is taken from the program: what each plan, commit, sink
 file and file of the state has to hold, and each line that was printed, is computed from the logs (tests/model.py), and compared
 byte for byte. Plans and commits that were there stay. Each epoch whose line was printed has its commit and its sink file. A run prints
-the lines of the epochs that it commits, in order and from the first one on: a killed one some, one that ends by itself all. Of the state
-each delta is there that the next run needs, and no file that may not be. After the last run each line of the logs is in exactly one epoch,
-no window is left to be closed, and of the state there is exactly what upkeep leaves. Every second kill of a query that keeps state waits
-for a moment at which upkeep is due; it is told how many left a snapshot to be made or a file to be removed.
+the lines of the epochs that it commits, in order and from the first one on: a killed one those of each round behind which it planned
+an epoch, one that ends by itself all. Of the state each delta is there that the next run needs, and no file that may not be. After the
+last run each line of the logs is in exactly one epoch, no window is left to be closed, and of the state there is exactly what upkeep
+leaves. Every second kill of a query that keeps state waits for a moment at which upkeep is due; it is told how many left a snapshot to
+be made or a file to be removed.
 
 It is not part of the gate, since it takes minutes and its timing is the machine's. A killed process loses nothing that the
 system had taken from it, so this shows crashes of the program, and not of the machine. Those are proved over a disk that does what
@@ -298,6 +299,14 @@ class Checkpoint:
         self.told += range(self.commits, self.commits + told)
         self.untold = len(new) - told
 
+    def judge_rounds(self, epochs, planned):
+        """A run behind `planned` plans told each epoch of a round that has ended. That of an epoch has, where it took less of a part than it
+        might, and there is a later one with more of that part."""
+        for e in range(planned, len(epochs.cuts) - 1):
+            parts = zip(epochs.begin(e), epochs.cuts[e], epochs.cuts[-1])
+            is_over = any(end < begin + self.job.cap and end < last for begin, end, last in parts)
+            assert not is_over or e in self.told, f"the round of epoch {e} is over, and it is not told: {epochs.cuts[planned:]}, {self.told[-1:]}"
+
 
 def legible(name, content):
     return content.hex() if name.startswith("state") else content.decode()
@@ -361,7 +370,9 @@ def trial(folder, job, kills, chance, longest):
     found = collections.Counter()
     for _ in range(kills):
         output, is_done = killed_run(folder, job, chance, longest)
+        planned = len(checkpoint.cuts)
         epochs, commits = checkpoint.judge(output, is_done)
+        checkpoint.judge_rounds(epochs, planned)
         found["killed"] += not is_done
         found["opened"] += len(epochs.cuts) - commits
         found["upkeep"] += checkpoint.is_in_upkeep(commits)
