@@ -5,7 +5,8 @@
 
 strace has to be there (for this script alone), and bin/ssq (`make` builds it). The queries are those of tests/kill.py. Runs go over logs that grow.
 Some are broken: killed in front of a sync, or a sync, or a call that writes, renames, removes or makes a file or a folder, fails, for which the run has to
-stop and to say so. The first three always are. The next one begins on names that are not synced; behind some the power is lost, and the next one begins on what may be left.
+stop and to say so. The first three always are. The next one begins on names that are not synced; behind some the
+power is lost, and the next one begins on what may be left.
 
 strace tells each call by which a run makes, writes, renames, removes and syncs files and folders, and these are played on a model of a file system.
 After a power loss a name may be, by itself, what it was when its folder was last synced, or anything that it was since; a new folder is a name in
