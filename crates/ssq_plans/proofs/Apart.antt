@@ -14,7 +14,7 @@ use Rattle.ssq_plans.specs.declared.plan.Plan.{Plan}
 use Rattle.ssq_plans.specs.declared.commit.Commit.{Commit}
 use Rattle.ssq_plans.specs.Records.{lines, time_or_none, parts_line, part_line, seen_line, meta_text, plan_text, commit_text, IsCount, IsMetaRecord, IsPart, IsPlan, IsSeen, IsCommit, AreRecordsApart}
 use Rattle.ssq_plans.proofs.Listing.{IsBehind, line_is_stamp}
-use Rattle.ssq_plans.proofs.Spelled.{part_split, part_is, no_part, seen_split, seen_is, no_seen, commit_split, commit_is, plan_split, plan_is, meta_split, meta_is, no_parts}
+use Rattle.ssq_plans.proofs.Spelled.{part_split, part_is, no_part, seen_split, seen_is, no_seen, commit_split, commit_is, plan_split, plan_is, parts_split, meta_split, meta_is, no_parts}
 use Rattle.ssq_plans.proofs.Times.{with_z, without_z, no_stamp}
 
 -- two texts with fronts of one length
@@ -100,12 +100,9 @@ plans_apart p q of_p of_q e =
     let ends = lists IsPart (λ at part. part_line part) 0 p.ends q.ends (codes "end\n") (codes "end\n") parts_apart no_part no_part of_p.2 of_q.2 (append_cancel_left (codes "\n") _ _ mark.1) in
     plan_is q p.epoch p.watermark p.ends epoch.0 mark.0 ends.0
 
-parts_line_split : (at count : ℕ) (rest : List ℕ) → parts_line at count ++ rest ≡ codes "parts " ++ (decimal at ++ (codes " " ++ (decimal count ++ (codes "\n" ++ rest))))
-parts_line_split at count rest = simp append_assoc
-
 counts_apart : AreLinesApart IsCount parts_line
 counts_apart at m n x y of_m of_n e =
-    let all = append_cancel_left (codes "parts ") _ _ (sym (parts_line_split at m x) ∙ e ∙ parts_line_split at n y) in
+    let all = append_cancel_left (codes "parts ") _ _ (sym (parts_split at m x) ∙ e ∙ parts_split at n y) in
     let count = decimals_apart m n _ _ (omega (arith, of_m)) (omega (arith, of_n)) refl refl (append_cancel_left (codes " ") _ _ (append_cancel_left (decimal at) _ _ all)) in
     (count.0, append_cancel_left (codes "\n") _ _ count.1)
 

@@ -7,24 +7,39 @@ use Rattle.std.specs.Option.{ForSome}
 use Rattle.ssq_time.specs.Time.{IsLineTime, IsStampTime}
 use Rattle.ssq_time.proofs.Signed.{signed_arith}
 use Rattle.ssq_plans.specs.Records.{lines}
+use Rattle.ssq_plans.specs.declared.writer.Writer.{Writer}
+use Rattle.ssq_plans.specs.Written.{Holds, Adds}
 
 -- ---- written one after the other
 
 -- what is written so far, with the lines that are left, is what it was before the next line
-pub lines-next : {X : Type 0} (spelled : ℕ → X → List ℕ) (out : List ℕ) (at : ℕ) (xs : List X) (x : X) → at < length xs → x ≡ get_or xs at x → (out ++ spelled at x) ++ lines spelled (at + 1) (drop (at + 1) xs) ≡ out ++ lines spelled at (drop at xs)
+lines-next : {X : Type 0} (spelled : ℕ → X → List ℕ) (out : List ℕ) (at : ℕ) (xs : List X) (x : X) → at < length xs → x ≡ get_or xs at x → (out ++ spelled at x) ++ lines spelled (at + 1) (drop (at + 1) xs) ≡ out ++ lines spelled at (drop at xs)
 unfolding lines
 lines-next spelled out at xs x h e = rw (add-one, drop-cons xs at x, add-one, ← e) (append_assoc out _ _)
 
 -- behind the last line nothing is left to write
-pub lines-end : {X : Type 0} (spelled : ℕ → X → List ℕ) (out : List ℕ) (at : ℕ) (xs : List X) → length xs ≤ at → out ++ lines spelled at (drop at xs) ≡ out
+lines-end : {X : Type 0} (spelled : ℕ → X → List ℕ) (out : List ℕ) (at : ℕ) (xs : List X) → length xs ≤ at → out ++ lines spelled at (drop at xs) ≡ out
 unfolding lines
 lines-end spelled out at xs h = rw (drop_all at xs h) (append-nil out)
 
--- what is written and what is left stay the whole with one more line
-pub lines-stay : {X : Type 0} (spelled : ℕ → X → List ℕ) (out new whole : List ℕ) (at : ℕ) (xs : List X) (x : X) → new ≡ out ++ spelled at x → at < length xs → x ≡ get_or xs at x → out ++ lines spelled at (drop at xs) ≡ whole → new ++ lines spelled (at + 1) (drop (at + 1) xs) ≡ whole
-lines-stay spelled out new whole at xs x put h e is = ap (λ ts. ts ++ lines spelled (at + 1) (drop (at + 1) xs)) put ∙ lines-next spelled out at xs x h e ∙ is
+-- what a writer holds, with the lines that are left, is the whole
+pub record AreLeft {X : Type 0} (spelled : ℕ → X → List ℕ) (at : ℕ) (xs : List X) (whole : List ℕ) (out : Writer) : Type 0 where
+  pub held : List ℕ
+  pub holds : Holds out held
+  pub bytes : held ++ lines spelled at (drop at xs) ≡ whole
 
-pub ruleset line_steps = (lines-next, lines-end)
+pub left_first : {X : Type 0} (spelled : ℕ → X → List ℕ) (xs : List X) (held : List ℕ) (out : Writer) → Holds out held → AreLeft spelled 0 xs (held ++ lines spelled 0 xs) out
+left_first spelled xs held out is = record { held = held; holds = is; bytes = refl }
+
+pub left_next : {X : Type 0} (spelled : ℕ → X → List ℕ) (at : ℕ) (xs : List X) (whole : List ℕ) (out new : Writer) (x : X) → Adds out (spelled at x) new → at < length xs → x ≡ get_or xs at x → AreLeft spelled at xs whole out → AreLeft spelled (at + 1) xs whole new
+left_next spelled at xs whole out new x put h e left = record {
+  held = left.held ++ spelled at x;
+  holds = put left.held left.holds;
+  bytes = lines-next spelled left.held at xs x h e ∙ left.bytes;
+}
+
+pub left_none : {X : Type 0} (spelled : ℕ → X → List ℕ) (at : ℕ) (xs : List X) (whole : List ℕ) (out : Writer) → length xs ≤ at → AreLeft spelled at xs whole out → Holds out whole
+left_none spelled at xs whole out h left = λ whole_out. left.holds whole_out ∙ sym (lines-end spelled left.held at xs h) ∙ left.bytes
 
 -- the times of lines are printed
 pub line_is_stamp : (time : Option ℤ) → ForSome time IsLineTime → ForSome time IsStampTime

@@ -6,7 +6,8 @@ ghost use Rattle.ssq_plans.specs.Records.{HasLineTime, IsCommit, commit_text};
 use crate::fields::{is_all, short_line_after};
 use crate::lines::{put_lines, take_lines};
 use crate::seen::SeenBy;
-use ssq_field::{Bytes, put_decimal_to};
+use crate::writer::Writer;
+use ssq_field::Bytes;
 use ssq_value::Sequence;
 use std::alloc::{AllocError, Global};
 
@@ -23,13 +24,11 @@ pub fn write_commit(alloc: Global, commit: &Commit) -> Result<Bytes, AllocError>
     requires { All HasLineTime commit.now.seen }
     ensures { IfOk result (λ text. text ≡ commit_text commit.now) }
 {
-    let mut out = Vec::new(alloc);
-    out.extend_from_slice(b"v1\ncommit ")?;
-    put_decimal_to(&mut out, commit.epoch as u64)?;
-    out.extend_from_slice(b"\n")?;
-    put_lines(&mut out, commit.seen.as_slice())?;
-    out.extend_from_slice(b"end\n")?;
-    Ok(Bytes::from_vec(out))
+    let mut out = Writer::new(alloc);
+    out.put_number_line(b"v1\ncommit ", commit.epoch as u64);
+    put_lines(&mut out, commit.seen.as_slice());
+    out.put(b"end\n");
+    out.finish()
 }
 
 /// The commit whose text these bytes are. `None` where they are no commit's.

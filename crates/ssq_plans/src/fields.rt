@@ -1,13 +1,12 @@
 //! What the lines of names and of records are made of.
-ghost use Rattle.std.specs.Prelude.{◌≡◌, ◌≢◌, ◌<◌, ◌^◌, ◌++◌, ℕ, ℤ, List, Option, IfSome, IsNone, IsSomeAnd, IsTrue, MatchOption, OnOk, codes, decimal, length};
+ghost use Rattle.std.specs.Prelude.{◌≡◌, ◌≢◌, ◌<◌, ◌^◌, ◌++◌, ℕ, ℤ, List, Option, IfSome, IsNone, IsSomeAnd, IsTrue, MatchOption, codes, decimal, length};
 ghost use Rattle.std.specs.Option.{ForSome};
 ghost use Rattle.ssq_field.specs.Decimal.{NoDigit};
 ghost use Rattle.ssq_time.specs.Time.{IsStampTime, stamp_text};
 ghost use Rattle.ssq_plans.specs.Records.{time_or_none};
 
 use ssq_field::take_decimal;
-use ssq_time::{put_time, read_stamp};
-use std::alloc::AllocError;
+use ssq_time::read_stamp;
 
 /// What follows these bytes in front.
 pub(crate) fn after<'a>(text: &'a [u8], front: &[u8]) -> Option<&'a [u8]>
@@ -58,6 +57,17 @@ pub(crate) fn short_after<'a>(text: &'a [u8], front: &[u8]) -> Option<(u32, &'a 
     }
 }
 
+/// The number that is the rest of a line behind these bytes in front, and what follows that line.
+pub(crate) fn long_line_after<'a>(text: &'a [u8], front: &[u8]) -> Option<(u64, &'a [u8])>
+    ensures found { IfSome result (λ parts. text.now ≡ front.now ++ (decimal parts.0 ++ (codes "\n" ++ parts.1.now))) }
+    ensures each { (n : ℕ) (rest : List ℕ) → n < 2 ^ 64 → text.now ≡ front.now ++ (decimal n ++ (codes "\n" ++ rest)) →
+        IsSomeAnd result (λ parts. (parts.0 ≡ n) × (parts.1.now ≡ rest)) }
+{
+    let (number, behind) = long_after(text, front)?;
+    let rest = after(behind, b"\n")?;
+    Some((number, rest))
+}
+
 /// The number of 32 bits that is the rest of a line behind these bytes in front, and what follows that line.
 pub(crate) fn short_line_after<'a>(text: &'a [u8], front: &[u8]) -> Option<(u32, &'a [u8])>
     ensures found { IfSome result (λ parts. text.now ≡ front.now ++ (decimal parts.0 ++ (codes "\n" ++ parts.1.now))) }
@@ -75,17 +85,6 @@ pub(crate) fn is_all(text: &[u8], all: &[u8]) -> bool
     ensures each { text.now ≡ all.now → IsTrue result }
 {
     text == all
-}
-
-/// Appends a time, or `none` where there is none.
-pub(crate) fn put_time_or_none(out: &mut Vec<u8>, time: Option<i64>) -> Result<(), AllocError>
-    requires { ForSome time IsStampTime }
-    ensures { OnOk result (out.new.items ≡ out.old.items ++ time_or_none time) }
-{
-    match time {
-        None => out.extend_from_slice(b"none"),
-        Some(time) => put_time(out, time),
-    }
 }
 
 /// How long the text of a time is that stands in front.
@@ -113,7 +112,7 @@ fn stamp_and_rest(text: &[u8]) -> Option<(i64, &[u8])>
 }
 
 /// The time or `none` in front, and what follows it.
-pub(crate) fn time_and_rest(text: &[u8]) -> Option<(Option<i64>, &[u8])>
+fn time_and_rest(text: &[u8]) -> Option<(Option<i64>, &[u8])>
     ensures found { IfSome result (λ parts. text.now ≡ time_or_none parts.0 ++ parts.1.now) }
     ensures in_range { IfSome result (λ parts. ForSome parts.0 IsStampTime) }
     ensures each { (time : Option ℤ) (rest : List ℕ) → ForSome time IsStampTime → text.now ≡ time_or_none time ++ rest →
@@ -126,4 +125,18 @@ pub(crate) fn time_and_rest(text: &[u8]) -> Option<(Option<i64>, &[u8])>
             Some((None, rest))
         }
     }
+}
+
+/// The time or `none` that is the rest of a line behind these bytes in front, and what follows that line.
+pub(crate) fn time_line_after<'a>(text: &'a [u8], front: &[u8]) -> Option<(Option<i64>, &'a [u8])>
+    ensures found { IfSome result (λ parts. text.now ≡ front.now ++ (time_or_none parts.0 ++ (codes "\n" ++ parts.1.now))) }
+    ensures in_range { IfSome result (λ parts. ForSome parts.0 IsStampTime) }
+    ensures each { (time : Option ℤ) (rest : List ℕ) → ForSome time IsStampTime →
+        text.now ≡ front.now ++ (time_or_none time ++ (codes "\n" ++ rest)) →
+        IsSomeAnd result (λ parts. (parts.0 ≡ time) × (parts.1.now ≡ rest)) }
+{
+    let text = after(text, front)?;
+    let (time, text) = time_and_rest(text)?;
+    let text = after(text, b"\n")?;
+    Some((time, text))
 }

@@ -13,6 +13,7 @@ mod seen;
 mod seen_line;
 #[cfg(test)]
 mod tests;
+mod writer;
 
 pub use commit::{Commit, read_commit, write_commit};
 pub use law::{names_are_apart, records_are_apart};

@@ -1,7 +1,9 @@
 //! The lines of a record that stand one for each item of a list.
-ghost use Rattle.std.specs.Prelude.{◌≡◌, ◌≢◌, ◌<◌, ◌++◌, ℕ, List, All, IfOk, IfSome, IsSomeAnd, OnOk, length};
+ghost use Rattle.std.specs.Prelude.{◌≡◌, ◌≢◌, ◌<◌, ◌++◌, ℕ, List, All, IfOk, IfSome, IsSomeAnd, length};
 ghost use Rattle.ssq_plans.specs.Records.{lines};
+ghost use Rattle.ssq_plans.specs.Written.{Adds};
 
+use crate::writer::Writer;
 use ssq_value::Sequence;
 use std::alloc::{AllocError, Global};
 
@@ -19,9 +21,9 @@ pub(crate) trait Line: Drop {
     ghost is_read: { Self → Type 0 };
 
     /// Appends the item's line.
-    fn put(&self, at: u64, out: &mut Vec<u8>) -> Result<(), AllocError>
+    fn put(&self, at: u64, out: &mut Writer)
         requires { is_written self.now }
-        ensures { OnOk result (out.new.items ≡ out.old.items ++ spelled at self.now) };
+        ensures { Adds out.old (spelled at self.now) out.new };
 
     /// The item whose line stands in front, and what follows that line.
     fn take(at: u64, text: &[u8]) -> Option<(Self, &[u8])>
@@ -33,15 +35,13 @@ pub(crate) trait Line: Drop {
 }
 
 /// Appends the lines of all items.
-#[tactic(auto, using(crate::proofs::Listing::line_steps))]
-pub(crate) fn put_lines<L: Line>(out: &mut Vec<u8>, items: &[L]) -> Result<(), AllocError>
+pub(crate) fn put_lines<L: Line>(out: &mut Writer, items: &[L])
     requires { All L.is_written items.now }
-    ensures { OnOk result (out.new.items ≡ out.old.items ++ lines L.spelled 0 items.now) }
+    ensures { Adds out.old (lines L.spelled 0 items.now) out.new }
 {
     for (at, item) in items.iter().enumerate() {
-        item.put(at as u64, out)?;
+        item.put(at as u64, out);
     }
-    Ok(())
 }
 
 /// The items whose lines stand in front, as many as there are, and what follows these lines.

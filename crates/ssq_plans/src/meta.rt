@@ -1,12 +1,13 @@
 //! The record of a checkpoint's job.
-ghost use Rattle.std.specs.Prelude.{◌≡◌, ◌++◌, ◌<◌, ◌≤◌, ◌^◌, List, ℕ, All, IfOk, IfSome, IsSomeAnd, OnOk, Some, codes, decimal, length};
+ghost use Rattle.std.specs.Prelude.{◌≡◌, ◌++◌, ◌<◌, ◌≤◌, ◌^◌, List, ℕ, All, IfOk, IfSome, IsSomeAnd, Some, codes, decimal, length};
 ghost use Rattle.std.specs.Str.{IsUtf8};
 ghost use Rattle.ssq_plans.specs.declared.meta.Meta.{Meta as Record};
 ghost use Rattle.ssq_plans.specs.Records.{Any, IsCount, IsMeta, IsMetaRecord, meta_text, parts_line};
 
-use crate::fields::{after, is_all, long_after, short_line_after, split};
+use crate::fields::{is_all, long_after, long_line_after, short_line_after, split};
 use crate::lines::{Line, put_lines, take_lines};
-use ssq_field::{Bytes, put_decimal_to};
+use crate::writer::Writer;
+use ssq_field::Bytes;
 use ssq_value::{Sequence, Text};
 use std::alloc::{AllocError, Global};
 use std::str;
@@ -30,12 +31,9 @@ impl Line for u32 {
 
     ghost is_read = { IsCount };
 
-    fn put(&self, at: u64, out: &mut Vec<u8>) -> Result<(), AllocError> {
-        out.extend_from_slice(b"parts ")?;
-        put_decimal_to(out, at)?;
-        out.extend_from_slice(b" ")?;
-        put_decimal_to(out, *self as u64)?;
-        out.extend_from_slice(b"\n")
+    fn put(&self, at: u64, out: &mut Writer) {
+        out.put_number(b"parts ", at);
+        out.put_number_line(b" ", *self as u64);
     }
 
     fn take(at: u64, text: &[u8]) -> Option<(u32, &[u8])> {
@@ -54,17 +52,13 @@ pub fn write_meta(alloc: Global, meta: &Meta) -> Result<Bytes, AllocError>
     requires { IsMeta meta.now }
     ensures { IfOk result (λ text. text ≡ meta_text meta.now) }
 {
-    let mut out = Vec::new(alloc);
-    out.extend_from_slice(b"v1\npartitions ")?;
-    put_decimal_to(&mut out, meta.partitions as u64)?;
-    out.extend_from_slice(b"\n")?;
-    put_lines(&mut out, meta.parts.as_slice())?;
-    out.extend_from_slice(b"query ")?;
-    put_decimal_to(&mut out, meta.query.len() as u64)?;
-    out.extend_from_slice(b"\n")?;
-    out.extend_from_slice(meta.query.as_bytes())?;
-    out.extend_from_slice(b"\nend\n")?;
-    Ok(Bytes::from_vec(out))
+    let mut out = Writer::new(alloc);
+    out.put_number_line(b"v1\npartitions ", meta.partitions as u64);
+    put_lines(&mut out, meta.parts.as_slice());
+    out.put_number_line(b"query ", meta.query.len() as u64);
+    out.put(meta.query.as_bytes());
+    out.put(b"\nend\n");
+    out.finish()
 }
 
 /// The number of partitions in front, and what follows its line.
@@ -91,8 +85,7 @@ fn query_in(text: &[u8]) -> Option<&str>
         text.now ≡ codes "query " ++ (decimal (length query) ++ (codes "\n" ++ (query ++ codes "\nend\n"))) →
         IsSomeAnd result (λ found. found.now ≡ query) }
 {
-    let (len, behind) = long_after(text, b"query ")?;
-    let rest = after(behind, b"\n")?;
+    let (len, rest) = long_line_after(text, b"query ")?;
     let (query, end) = split(rest, len as usize)?;
     if is_all(end, b"\nend\n") {
         match str::from_utf8(query) {

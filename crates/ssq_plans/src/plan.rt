@@ -1,16 +1,15 @@
 //! The record of what an epoch is to read.
-ghost use Rattle.std.specs.Prelude.{◌≡◌, ◌++◌, ◌<◌, List, ℕ, IfOk, IfSome, IsSomeAnd, OnOk, Some, None, codes, decimal, length, if◌then◌else◌, ◌==◌, ◌^◌, ℤ, Option};
+ghost use Rattle.std.specs.Prelude.{◌≡◌, ◌++◌, ◌<◌, List, ℕ, IfOk, IfSome, IsSomeAnd, Some, None, codes, decimal, length, if◌then◌else◌, ◌==◌, ◌^◌, ℤ, Option};
 ghost use Rattle.std.specs.Option.{ForSome};
 ghost use Rattle.ssq_time.specs.Time.{IsStampTime};
 ghost use Rattle.ssq_plans.specs.declared.plan.Plan.{Plan as Record};
 ghost use Rattle.ssq_plans.specs.Records.{part_line, plan_text, time_or_none, epoch_after, Any, IsPart, IsPlan};
 
-use crate::fields::{
-    after, is_all, long_after, put_time_or_none, short_after, short_line_after, time_and_rest,
-};
+use crate::fields::{is_all, long_line_after, short_after, short_line_after, time_line_after};
 use crate::lines::{Line, put_lines, take_lines};
 use crate::part::PartEnd;
-use ssq_field::{Bytes, put_decimal_to};
+use crate::writer::Writer;
+use ssq_field::Bytes;
 use ssq_value::Sequence;
 use std::alloc::{AllocError, Global};
 
@@ -32,21 +31,16 @@ impl Line for PartEnd {
 
     ghost is_read = { IsPart };
 
-    fn put(&self, at: u64, out: &mut Vec<u8>) -> Result<(), AllocError> {
-        out.extend_from_slice(b"part ")?;
-        put_decimal_to(out, self.stream as u64)?;
-        out.extend_from_slice(b" ")?;
-        put_decimal_to(out, self.part as u64)?;
-        out.extend_from_slice(b" ")?;
-        put_decimal_to(out, self.end)?;
-        out.extend_from_slice(b"\n")
+    fn put(&self, at: u64, out: &mut Writer) {
+        out.put_number(b"part ", self.stream as u64);
+        out.put_number(b" ", self.part as u64);
+        out.put_number_line(b" ", self.end);
     }
 
     fn take(at: u64, text: &[u8]) -> Option<(PartEnd, &[u8])> {
         let (stream, text) = short_after(text, b"part ")?;
         let (part, text) = short_after(text, b" ")?;
-        let (end, text) = long_after(text, b" ")?;
-        let text = after(text, b"\n")?;
+        let (end, text) = long_line_after(text, b" ")?;
         Some((PartEnd { stream, part, end }, text))
     }
 }
@@ -56,29 +50,12 @@ pub fn write_plan(alloc: Global, plan: &Plan) -> Result<Bytes, AllocError>
     requires { ForSome plan.now.watermark IsStampTime }
     ensures { IfOk result (λ text. text ≡ plan_text plan.now) }
 {
-    let mut out = Vec::new(alloc);
-    out.extend_from_slice(b"v1\nplan ")?;
-    put_decimal_to(&mut out, plan.epoch as u64)?;
-    out.extend_from_slice(b"\nwatermark ")?;
-    put_time_or_none(&mut out, plan.watermark)?;
-    out.extend_from_slice(b"\n")?;
-    put_lines(&mut out, plan.ends.as_slice())?;
-    out.extend_from_slice(b"end\n")?;
-    Ok(Bytes::from_vec(out))
-}
-
-/// The watermark that the line in front tells, and what follows that line.
-fn watermark_and_rest(text: &[u8]) -> Option<(Option<i64>, &[u8])>
-    ensures found { IfSome result (λ parts. text.now ≡ codes "watermark " ++ (time_or_none parts.0 ++ (codes "\n" ++ parts.1.now))) }
-    ensures in_range { IfSome result (λ parts. ForSome parts.0 IsStampTime) }
-    ensures each { (time : Option ℤ) (rest : List ℕ) → ForSome time IsStampTime →
-        text.now ≡ codes "watermark " ++ (time_or_none time ++ (codes "\n" ++ rest)) →
-        IsSomeAnd result (λ parts. (parts.0 ≡ time) × (parts.1.now ≡ rest)) }
-{
-    let text = after(text, b"watermark ")?;
-    let (time, text) = time_and_rest(text)?;
-    let text = after(text, b"\n")?;
-    Some((time, text))
+    let mut out = Writer::new(alloc);
+    out.put_number_line(b"v1\nplan ", plan.epoch as u64);
+    out.put_time_line(b"watermark ", plan.watermark);
+    put_lines(&mut out, plan.ends.as_slice());
+    out.put(b"end\n");
+    out.finish()
 }
 
 /// The plan whose text these bytes are. `None` where they are no plan's.
@@ -91,7 +68,7 @@ pub fn read_plan(alloc: Global, text: &[u8]) -> Result<Option<Plan>, AllocError>
     let Some((epoch, rest)) = short_line_after(text, b"v1\nplan ") else {
         return Ok(None);
     };
-    let Some((watermark, rest)) = watermark_and_rest(rest) else {
+    let Some((watermark, rest)) = time_line_after(rest, b"watermark ") else {
         return Ok(None);
     };
     let (ends, rest) = take_lines(alloc, rest)?;
