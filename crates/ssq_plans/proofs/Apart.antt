@@ -40,11 +40,16 @@ stamps t u x y of_t of_u e =
     (stamp_same t u of_t of_u both.0, both.1)
 
 -- times, or `none`
-times : (t u : Option ℤ) (x y : List ℕ) → ForSome t IsStampTime → ForSome u IsStampTime → time_or_none t ++ x ≡ time_or_none u ++ y → (t ≡ u) × (x ≡ y)
+pub times : (t u : Option ℤ) (x y : List ℕ) → ForSome t IsStampTime → ForSome u IsStampTime → time_or_none t ++ x ≡ time_or_none u ++ y → (t ≡ u) × (x ≡ y)
 times None None x y of_t of_u e = (refl, append_cancel_left (codes "none") x y e)
 times None (Some u) x y of_t of_u e = absurd (no_stamp (stamp_text u) y x u (sym e) (stamp_of-stamp_text u (of_u u refl)))
 times (Some t) None x y of_t of_u e = absurd (no_stamp (stamp_text t) x y t e (stamp_of-stamp_text t (of_t t refl)))
 times (Some t) (Some u) x y of_t of_u e = let both = stamps t u x y (of_t t refl) (of_u u refl) e in (ap Some both.0, both.1)
+
+-- a time or `none` that ends a line is one of the two
+pub no_time : (time : Option ℤ) (text rest : List ℕ) → ForSome time IsStampTime → text ≡ time_or_none time ++ (codes "\n" ++ rest) → ((behind : List ℕ) → text ≢ codes "none\n" ++ behind) → ((t : ℤ) → IsStampTime t → text ≡ stamp_text t ++ (codes "\n" ++ rest) → ⊥) → ⊥
+no_time None text rest fits is none stamp = none rest is
+no_time (Some t) text rest fits is none stamp = stamp t (fits t refl) is
 
 -- ---- lines
 

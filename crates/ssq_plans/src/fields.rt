@@ -1,5 +1,5 @@
 //! What the lines of names and of records are made of.
-ghost use Rattle.std.specs.Prelude.{◌≡◌, ◌≢◌, ◌<◌, ◌^◌, ◌++◌, ℕ, ℤ, List, Option, IfSome, IsNone, IsSomeAnd, IsTrue, MatchOption, codes, decimal, length};
+ghost use Rattle.std.specs.Prelude.{◌≡◌, ◌≢◌, ◌<◌, ◌^◌, ◌++◌, ℕ, ℤ, List, Option, IfSome, IsSomeAnd, IsTrue, MatchOption, codes, decimal, length};
 ghost use Rattle.std.specs.Option.{ForSome};
 ghost use Rattle.ssq_field.specs.Decimal.{NoDigit};
 ghost use Rattle.ssq_time.specs.Time.{IsStampTime, stamp_text};
@@ -104,27 +104,10 @@ fn stamp_and_rest(text: &[u8]) -> Option<(i64, &[u8])>
     ensures in_range { IfSome result (λ parts. IsStampTime parts.0) }
     ensures each { (t : ℤ) (rest : List ℕ) → IsStampTime t → text.now ≡ stamp_text t ++ rest →
         IsSomeAnd result (λ parts. (parts.0 ≡ t) × (parts.1.now ≡ rest)) }
-    ensures no_word { (rest : List ℕ) → text.now ≡ codes "none" ++ rest → IsNone result }
 {
     let (stamp, rest) = split(text, stamp_len(text))?;
     let time = read_stamp(stamp)?;
     Some((time, rest))
-}
-
-/// The time or `none` in front, and what follows it.
-fn time_and_rest(text: &[u8]) -> Option<(Option<i64>, &[u8])>
-    ensures found { IfSome result (λ parts. text.now ≡ time_or_none parts.0 ++ parts.1.now) }
-    ensures in_range { IfSome result (λ parts. ForSome parts.0 IsStampTime) }
-    ensures each { (time : Option ℤ) (rest : List ℕ) → ForSome time IsStampTime → text.now ≡ time_or_none time ++ rest →
-        IsSomeAnd result (λ parts. (parts.0 ≡ time) × (parts.1.now ≡ rest)) }
-{
-    match stamp_and_rest(text) {
-        Some((time, rest)) => Some((Some(time), rest)),
-        None => {
-            let rest = after(text, b"none")?;
-            Some((None, rest))
-        }
-    }
 }
 
 /// The time or `none` that is the rest of a line behind these bytes in front, and what follows that line.
@@ -136,7 +119,10 @@ pub(crate) fn time_line_after<'a>(text: &'a [u8], front: &[u8]) -> Option<(Optio
         IsSomeAnd result (λ parts. (parts.0 ≡ time) × (parts.1.now ≡ rest)) }
 {
     let text = after(text, front)?;
-    let (time, text) = time_and_rest(text)?;
+    if let Some(rest) = after(text, b"none\n") {
+        return Some((None, rest));
+    }
+    let (time, text) = stamp_and_rest(text)?;
     let text = after(text, b"\n")?;
-    Some((time, text))
+    Some((Some(time), text))
 }

@@ -4,7 +4,7 @@ ghost use Rattle.std.specs.Prelude.{◌≡◌, ◌<◌, ◌≤◌, ◌^◌, ◌+
 ghost use Rattle.ssq_outside.specs.declared.name.Name.{Name as NameOf};
 ghost use Rattle.ssq_plans.specs.Names.{text_of, IsInRange};
 
-use crate::fields::short_after;
+use crate::fields::{is_all, short_after};
 use ssq_field::Bytes;
 use ssq_outside::Name;
 use std::alloc::{AllocError, Global};
@@ -48,7 +48,7 @@ pub fn read_name(text: &[u8]) -> Option<Name>
     // So `None` comes only where no name has this text.
     ensures each { (name : NameOf) → IsInRange name → text.now ≡ text_of name → result ≡ Some name }
 {
-    if text == b"metadata".as_slice() {
+    if is_all(text, b"metadata") {
         return Some(Name::Meta);
     }
     if let Some(epoch) = number_after(text, b"offsets/") {
@@ -71,9 +71,9 @@ fn read_state(text: &[u8]) -> Option<Name>
 {
     let (partition, text) = short_after(text, b"state/")?;
     let (version, text) = short_after(text, b"/")?;
-    if text == b".delta".as_slice() {
+    if is_all(text, b".delta") {
         Some(Name::Delta(partition, version))
-    } else if text == b".snapshot".as_slice() {
+    } else if is_all(text, b".snapshot") {
         Some(Name::Snapshot(partition, version))
     } else {
         None

@@ -1,20 +1,18 @@
 -- The text of a file of the state is put together again.
-use Rattle.std.proofs.Common.{◌≡◌, List, ℕ, Some, codes, decimal, get_or, ◌++◌, refl, sym, ap, ◌∙◌, arith}
+use Rattle.std.proofs.Common.{List, ℕ, Some, codes, decimal, get_or, ◌++◌, refl, sym, ap, ◌∙◌, arith}
 use Rattle.std.proofs.lemmas.Bool.{false≢true}
-use Rattle.std.proofs.lemmas.Slice.Eq.{slice_eq-Decides}
-use Rattle.std.proofs.lemmas.Bool.Decides.{Decides-eqb}
 use Rattle.ssq_outside.specs.declared.name.Name.TheVariants.{Delta, Snapshot}
 use Rattle.ssq_plans.proofs.Texts.{state_split, state_text}
 use Rattle.ssq_plans.proofs.names.read_state.Goals as goal
 
-pub returns-then-eq-clause-found : goal.returns-then-eq-clause-found
-returns-then-eq-clause-found c =
-    let ends : c.in_ok-version.text.now ≡ codes ".delta" = (slice_eq-Decides Decides-eqb _ _ _ c.eq.ensures).0 c.if-eq.true ∙ c.as_slice.ensures in
+pub returns-then-is_all-clause-found : goal.returns-then-is_all-clause-found
+returns-then-is_all-clause-found c =
+    let ends = c.is_all.ensures.only c.if-is_all.true in
     state_text c.args.text.now _ _ (codes ".delta") _ _ c.in_ok-partition.ensures.found c.in_ok-version.ensures.found ends
 
-pub returns-then-eq-2-clause-found : goal.returns-then-eq-2-clause-found
-returns-then-eq-2-clause-found c =
-    let ends : c.in_ok-version.text.now ≡ codes ".snapshot" = (slice_eq-Decides Decides-eqb _ _ _ c.eq-else-eq.ensures).0 c.if-eq-2.true ∙ c.as_slice-else-eq.ensures in
+pub returns-then-is_all-2-clause-found : goal.returns-then-is_all-2-clause-found
+returns-then-is_all-2-clause-found c =
+    let ends = c.is_all-else-is_all.ensures.only c.if-is_all-2.true in
     state_text c.args.text.now _ _ (codes ".snapshot") _ _ c.in_ok-partition.ensures.found c.in_ok-version.ensures.found ends
 
 pub returns-in_err-partition-clause-each_delta : goal.returns-in_err-partition-clause-each_delta
@@ -26,25 +24,24 @@ returns-in_err-version-clause-each_delta c p v hp hv is =
     let first = c.in_ok-partition.ensures.each p (codes "/" ++ (decimal v ++ codes ".delta")) hp refl (is ∙ state_split p v (codes ".delta")) in
     absurd (c.in_err-version.ensures.each v (codes ".delta") hv refl first.1)
 
-pub returns-then-eq-clause-each_delta : goal.returns-then-eq-clause-each_delta
-returns-then-eq-clause-each_delta c p v hp hv is =
+pub returns-then-is_all-clause-each_delta : goal.returns-then-is_all-clause-each_delta
+returns-then-is_all-clause-each_delta c p v hp hv is =
     let first = c.in_ok-partition.ensures.each p (codes "/" ++ (decimal v ++ codes ".delta")) hp refl (is ∙ state_split p v (codes ".delta")) in
     let second = c.in_ok-version.ensures.each v (codes ".delta") hv refl first.1 in
     λ i. Some (Delta (first.0 i) (second.0 i))
 
-pub returns-then-eq-2-clause-each_delta : goal.returns-then-eq-2-clause-each_delta
-returns-then-eq-2-clause-each_delta c p v hp hv is =
+pub returns-then-is_all-2-clause-each_delta : goal.returns-then-is_all-2-clause-each_delta
+returns-then-is_all-2-clause-each_delta c p v hp hv is =
     let first = c.in_ok-partition.ensures.each p (codes "/" ++ (decimal v ++ codes ".delta")) hp refl (is ∙ state_split p v (codes ".delta")) in
     let second = c.in_ok-version.ensures.each v (codes ".delta") hv refl first.1 in
-    let ends : c.in_ok-version.text.now ≡ codes ".snapshot" = (slice_eq-Decides Decides-eqb _ _ _ c.eq-else-eq.ensures).0 c.if-eq-2.true ∙ c.as_slice-else-eq.ensures in
+    let ends = c.is_all-else-is_all.ensures.only c.if-is_all-2.true in
     absurd (omega (arith, ap (λ (ts : List ℕ). get_or ts 1 0) (sym second.1 ∙ ends)))
 
-pub returns-else-eq-2-clause-each_delta : goal.returns-else-eq-2-clause-each_delta
-returns-else-eq-2-clause-each_delta c p v hp hv is =
+pub returns-else-is_all-2-clause-each_delta : goal.returns-else-is_all-2-clause-each_delta
+returns-else-is_all-2-clause-each_delta c p v hp hv is =
     let first = c.in_ok-partition.ensures.each p (codes "/" ++ (decimal v ++ codes ".delta")) hp refl (is ∙ state_split p v (codes ".delta")) in
     let second = c.in_ok-version.ensures.each v (codes ".delta") hv refl first.1 in
-    let same = (slice_eq-Decides Decides-eqb _ _ _ c.eq.ensures).1 (second.1 ∙ sym c.as_slice.ensures) in
-    absurd (false≢true (sym c.if-eq.false ∙ same))
+    absurd (false≢true (sym c.if-is_all.false ∙ c.is_all.ensures.each second.1))
 
 pub returns-in_err-partition-clause-each_snapshot : goal.returns-in_err-partition-clause-each_snapshot
 returns-in_err-partition-clause-each_snapshot c p v hp hv is =
@@ -55,22 +52,21 @@ returns-in_err-version-clause-each_snapshot c p v hp hv is =
     let first = c.in_ok-partition.ensures.each p (codes "/" ++ (decimal v ++ codes ".snapshot")) hp refl (is ∙ state_split p v (codes ".snapshot")) in
     absurd (c.in_err-version.ensures.each v (codes ".snapshot") hv refl first.1)
 
-pub returns-then-eq-clause-each_snapshot : goal.returns-then-eq-clause-each_snapshot
-returns-then-eq-clause-each_snapshot c p v hp hv is =
+pub returns-then-is_all-clause-each_snapshot : goal.returns-then-is_all-clause-each_snapshot
+returns-then-is_all-clause-each_snapshot c p v hp hv is =
     let first = c.in_ok-partition.ensures.each p (codes "/" ++ (decimal v ++ codes ".snapshot")) hp refl (is ∙ state_split p v (codes ".snapshot")) in
     let second = c.in_ok-version.ensures.each v (codes ".snapshot") hv refl first.1 in
-    let ends : c.in_ok-version.text.now ≡ codes ".delta" = (slice_eq-Decides Decides-eqb _ _ _ c.eq.ensures).0 c.if-eq.true ∙ c.as_slice.ensures in
+    let ends = c.is_all.ensures.only c.if-is_all.true in
     absurd (omega (arith, ap (λ (ts : List ℕ). get_or ts 1 0) (sym second.1 ∙ ends)))
 
-pub returns-then-eq-2-clause-each_snapshot : goal.returns-then-eq-2-clause-each_snapshot
-returns-then-eq-2-clause-each_snapshot c p v hp hv is =
+pub returns-then-is_all-2-clause-each_snapshot : goal.returns-then-is_all-2-clause-each_snapshot
+returns-then-is_all-2-clause-each_snapshot c p v hp hv is =
     let first = c.in_ok-partition.ensures.each p (codes "/" ++ (decimal v ++ codes ".snapshot")) hp refl (is ∙ state_split p v (codes ".snapshot")) in
     let second = c.in_ok-version.ensures.each v (codes ".snapshot") hv refl first.1 in
     λ i. Some (Snapshot (first.0 i) (second.0 i))
 
-pub returns-else-eq-2-clause-each_snapshot : goal.returns-else-eq-2-clause-each_snapshot
-returns-else-eq-2-clause-each_snapshot c p v hp hv is =
+pub returns-else-is_all-2-clause-each_snapshot : goal.returns-else-is_all-2-clause-each_snapshot
+returns-else-is_all-2-clause-each_snapshot c p v hp hv is =
     let first = c.in_ok-partition.ensures.each p (codes "/" ++ (decimal v ++ codes ".snapshot")) hp refl (is ∙ state_split p v (codes ".snapshot")) in
     let second = c.in_ok-version.ensures.each v (codes ".snapshot") hv refl first.1 in
-    let same = (slice_eq-Decides Decides-eqb _ _ _ c.eq-else-eq.ensures).1 (second.1 ∙ sym c.as_slice-else-eq.ensures) in
-    absurd (false≢true (sym c.if-eq-2.false ∙ same))
+    absurd (false≢true (sym c.if-is_all-2.false ∙ c.is_all-else-is_all.ensures.each second.1))
