@@ -1,12 +1,11 @@
 //! Prints expressions by the least brackets.
 
-ghost use Rattle.std.specs.Prelude.{◌≡◌, OnOk};
-ghost use Rattle.ssq_lex.specs.Printing.{with_word, with_words};
+ghost use Rattle.std.specs.Prelude.{◌≡◌, [], ◌∷◌};
+ghost use Rattle.ssq_lex.specs.Printing.{Adds};
 ghost use Rattle.ssq_ast.specs.Expression as spec;
 
 use crate::expr::{BinaryOp, ColumnRef, Expr, Function, NullTest, UnaryOp};
 use ssq_lex::{Keyword, Printer, Symbol};
-use std::alloc::AllocError;
 
 fn truth_key(value: bool) -> Keyword
     ensures { result ≡ spec.truth_key value }
@@ -100,8 +99,8 @@ fn level(value: &Expr) -> u8
 }
 
 #[tactic(auto, using(crate::proofs::Printed::printing))]
-fn print_unary_op(printer: &mut Printer, op: UnaryOp) -> Result<(), AllocError>
-    ensures { OnOk result (printer.new ≡ with_word printer.old (spec.unary_word op)) }
+fn print_unary_op(printer: &mut Printer, op: UnaryOp)
+    ensures { Adds printer.old (spec.unary_word op ∷ []) printer.new }
 {
     match op {
         UnaryOp::Not => printer.keyword(Keyword::Not),
@@ -110,8 +109,8 @@ fn print_unary_op(printer: &mut Printer, op: UnaryOp) -> Result<(), AllocError>
 }
 
 #[tactic(auto, using(crate::proofs::Printed::printing))]
-fn print_binary_op(printer: &mut Printer, op: BinaryOp) -> Result<(), AllocError>
-    ensures { OnOk result (printer.new ≡ with_word printer.old (spec.binary_word op)) }
+fn print_binary_op(printer: &mut Printer, op: BinaryOp)
+    ensures { Adds printer.old (spec.binary_word op ∷ []) printer.new }
 {
     match op {
         BinaryOp::Or => printer.keyword(Keyword::Or),
@@ -132,88 +131,86 @@ fn print_binary_op(printer: &mut Printer, op: BinaryOp) -> Result<(), AllocError
 }
 
 #[tactic(auto, using(crate::proofs::Printed::printing))]
-fn print_test(printer: &mut Printer, test: NullTest) -> Result<(), AllocError>
-    ensures { OnOk result (printer.new ≡ with_words printer.old (spec.test_words test)) }
+fn print_test(printer: &mut Printer, test: NullTest)
+    ensures { Adds printer.old (spec.test_words test) printer.new }
 {
     match test {
         NullTest::Null => printer.keyword(Keyword::Null),
         NullTest::NotNull => {
-            printer.keyword(Keyword::Not)?;
-            printer.keyword(Keyword::Null)
+            printer.keyword(Keyword::Not);
+            printer.keyword(Keyword::Null);
         }
     }
 }
 
 #[tactic(auto, using(crate::proofs::Printed::printing))]
-pub(crate) fn print_column(printer: &mut Printer, column: &ColumnRef) -> Result<(), AllocError>
-    ensures { OnOk result (printer.new
-        ≡ with_words printer.old (spec.column_words (spec.plain_column column.now))) }
+pub(crate) fn print_column(printer: &mut Printer, column: &ColumnRef)
+    ensures { Adds printer.old (spec.column_words (spec.plain_column column.now)) printer.new }
 {
     if let Some(stream) = &column.stream {
-        printer.name(stream.text.as_str())?;
-        printer.symbol(Symbol::Dot)?;
+        printer.name(stream.text.as_str());
+        printer.symbol(Symbol::Dot);
     }
-    printer.name(column.column.text.as_str())
+    printer.name(column.column.text.as_str());
 }
 
 /// Prints an operand, in brackets where its place asks for an operator that binds more tightly.
 #[cycle(expr)]
 #[tactic(auto, using(crate::proofs::Printed::printing, crate::proofs::Boxes::boxes))]
-fn print_operand(printer: &mut Printer, asked: u8, value: &Expr) -> Result<(), AllocError>
-    ensures { OnOk result (printer.new
-        ≡ with_words printer.old (spec.words (spec.within asked (spec.plain value.now)))) }
+fn print_operand(printer: &mut Printer, asked: u8, value: &Expr)
+    ensures { Adds printer.old (spec.words (spec.within asked (spec.plain value.now))) printer.new }
 {
     if level(value) < asked {
-        printer.symbol(Symbol::LeftParen)?;
-        print_expr(printer, value)?;
-        printer.symbol(Symbol::RightParen)
+        printer.symbol(Symbol::LeftParen);
+        print_expr(printer, value);
+        printer.symbol(Symbol::RightParen);
     } else {
-        print_expr(printer, value)
+        print_expr(printer, value);
     }
 }
 
 #[cycle(expr)]
 #[tactic(auto, using(crate::proofs::Printed::printing, crate::proofs::Boxes::boxes))]
-pub(crate) fn print_expr(printer: &mut Printer, value: &Expr) -> Result<(), AllocError>
-    ensures { OnOk result (printer.new ≡ with_words printer.old (spec.words (spec.plain value.now))) }
+pub(crate) fn print_expr(printer: &mut Printer, value: &Expr)
+    ensures { Adds printer.old (spec.words (spec.plain value.now)) printer.new }
 {
     match value {
         Expr::Number { value, .. } => printer.number(*value),
         Expr::Text { value, .. } => printer.quoted(value.as_str()),
         Expr::Truth { value, .. } => printer.keyword(truth_key(*value)),
         Expr::Timestamp { value, .. } => {
-            printer.keyword(Keyword::Timestamp)?;
-            printer.quoted(value.text.as_str())
+            printer.keyword(Keyword::Timestamp);
+            printer.quoted(value.text.as_str());
         }
         Expr::Interval { value, .. } => {
-            printer.keyword(Keyword::Interval)?;
-            printer.quoted(value.text.as_str())
+            printer.keyword(Keyword::Interval);
+            printer.quoted(value.text.as_str());
         }
         Expr::Column { value } => print_column(printer, value),
         Expr::CountRows { .. } => {
-            printer.keyword(Keyword::Count)?;
-            printer.symbol(Symbol::LeftParen)?;
-            printer.symbol(Symbol::Star)?;
-            printer.symbol(Symbol::RightParen)
+            printer.keyword(Keyword::Count);
+            printer.symbol(Symbol::LeftParen);
+            printer.symbol(Symbol::Star);
+            printer.symbol(Symbol::RightParen);
         }
         Expr::Aggregate {
             function,
             argument,
             ..
         } => {
-            printer.keyword(function_key(*function))?;
-            printer.symbol(Symbol::LeftParen)?;
-            print_expr(printer, argument.get())?;
-            printer.symbol(Symbol::RightParen)
+            printer.keyword(function_key(*function));
+            printer.symbol(Symbol::LeftParen);
+            print_expr(printer, argument.get());
+            printer.symbol(Symbol::RightParen);
         }
         Expr::Unary { op, operand, .. } => {
-            print_unary_op(printer, *op)?;
-            print_operand(printer, unary_level(*op), operand.get())
+            print_unary_op(printer, *op);
+            print_operand(printer, unary_level(*op), operand.get());
         }
         Expr::IsNull { operand, test, .. } => {
-            print_operand(printer, 4, operand.get())?;
-            printer.keyword(Keyword::Is)?;
-            print_test(printer, *test)
+            print_operand(printer, 4, operand.get());
+            printer.keyword(Keyword::Is);
+            print_test(printer, *test);
         }
         Expr::Binary {
             left,
@@ -221,9 +218,9 @@ pub(crate) fn print_expr(printer: &mut Printer, value: &Expr) -> Result<(), Allo
             right,
             ..
         } => {
-            print_operand(printer, left_level(*op), left.get())?;
-            print_binary_op(printer, *op)?;
-            print_operand(printer, right_level(*op), right.get())
+            print_operand(printer, left_level(*op), left.get());
+            print_binary_op(printer, *op);
+            print_operand(printer, right_level(*op), right.get());
         }
         Expr::Between {
             operand,
@@ -231,11 +228,11 @@ pub(crate) fn print_expr(printer: &mut Printer, value: &Expr) -> Result<(), Allo
             high,
             ..
         } => {
-            print_operand(printer, 4, operand.get())?;
-            printer.keyword(Keyword::Between)?;
-            print_operand(printer, 4, low.get())?;
-            printer.keyword(Keyword::And)?;
-            print_operand(printer, 4, high.get())
+            print_operand(printer, 4, operand.get());
+            printer.keyword(Keyword::Between);
+            print_operand(printer, 4, low.get());
+            printer.keyword(Keyword::And);
+            print_operand(printer, 4, high.get());
         }
     }
 }

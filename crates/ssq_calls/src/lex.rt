@@ -104,22 +104,22 @@ fn quotes_and_unquotes(rt: HostRuntime) -> Result<(), Fail> {
 #[test]
 fn prints_words(rt: HostRuntime) -> Result<(), Fail> {
     let mut printer = Printer::new(rt.alloc());
-    printer.keyword(Keyword::Sum)?;
-    printer.symbol(Symbol::LeftParen)?;
-    printer.name("s")?;
-    printer.symbol(Symbol::Dot)?;
-    printer.name("v")?;
-    printer.symbol(Symbol::RightParen)?;
-    printer.symbol(Symbol::Star)?;
-    printer.symbol(Symbol::LeftParen)?;
-    printer.symbol(Symbol::Minus)?;
-    printer.number(5)?;
-    printer.symbol(Symbol::RightParen)?;
-    printer.symbol(Symbol::Comma)?;
-    printer.keyword(Keyword::Interval)?;
-    printer.quoted("it's")?;
-    printer.symbol(Symbol::Semicolon)?;
-    let text = printer.into_string();
+    printer.keyword(Keyword::Sum);
+    printer.symbol(Symbol::LeftParen);
+    printer.name("s");
+    printer.symbol(Symbol::Dot);
+    printer.name("v");
+    printer.symbol(Symbol::RightParen);
+    printer.symbol(Symbol::Star);
+    printer.symbol(Symbol::LeftParen);
+    printer.symbol(Symbol::Minus);
+    printer.number(5);
+    printer.symbol(Symbol::RightParen);
+    printer.symbol(Symbol::Comma);
+    printer.keyword(Keyword::Interval);
+    printer.quoted("it's");
+    printer.symbol(Symbol::Semicolon);
+    let text = printer.into_string()?;
     assert_eq!(rt; text.as_str(), "SUM(s.v) * (- 5), INTERVAL 'it''s';");
     Ok(())
 }

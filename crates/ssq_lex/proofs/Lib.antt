@@ -1,3 +1,4 @@
+pub mod Adding
 pub mod Boundaries
 pub mod Closing
 pub mod Cuts

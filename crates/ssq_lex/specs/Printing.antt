@@ -1,5 +1,5 @@
 -- How words are printed, one after the other.
-use Rattle.std.specs.Prelude.{ℕ, Bool, true, false, ◌||◌, if◌then◌else◌, List, [], ◌∷◌, ◌++◌, fold}
+use Rattle.std.specs.Prelude.{◌≡◌, ℕ, Bool, true, false, ◌||◌, ◌&&◌, if◌then◌else◌, List, [], ◌∷◌, ◌++◌, fold}
 use Rattle.std.specs.Fmt.{signed_decimal}
 use Rattle.ssq_lex.specs.declared.keyword.Keyword.{Keyword}
 use Rattle.ssq_lex.specs.declared.keyword.Keyword.TheVariants.{Window, Count, Sum, Min, Max}
@@ -90,3 +90,26 @@ with_words printed words = fold with_word printed words
 -- the text of these words
 abbrev pub printed : List Lexeme → List ℕ
 printed words = (with_words blank words).text
+
+-- what a printer has printed, and whether memory served for all of it
+pub record Print : Type 0 where
+  pub printed : Printed
+  pub is_whole : Bool
+
+abbrev pub unprinted : Print
+unprinted = record { printed = blank; is_whole = true }
+
+-- where the print is whole, this is what it is
+pub record WholeAs (print : Print) (wanted : Printed) : Type 0 where
+  pub is : print.is_whole ≡ true → print.printed ≡ wanted
+
+-- Words were added: what was printed stands as it stood, and these words behind it.
+abbrev pub Adds : Print → List Lexeme → Print → Type 0
+Adds old words new = (before : Printed) → WholeAs old before → WholeAs new (with_words before words)
+
+-- a word was added, which ends so, and memory served for it or not
+abbrev pub ended : Print → Bool → End → Print
+ended print has_served last = record {
+  printed = record { text = print.printed.text; last = last };
+  is_whole = print.is_whole && has_served;
+}

@@ -1,8 +1,9 @@
 //! Prints words with one space between two of them, but where none stands.
 
-ghost use Rattle.std.specs.Prelude.{◌≡◌, [], ◌∷◌, ◌++◌, OnOk, string_bytes, if◌then◌else◌};
+ghost use Rattle.std.specs.Prelude.{◌≡◌, true, [], ◌∷◌, ◌++◌, IfOk, OnOk, is_ok, string_bytes, if◌then◌else◌};
 ghost use Rattle.ssq_lex.specs.Lexeme.{keyword, name, number, quoted, symbol};
 ghost use Rattle.ssq_lex.specs.Printing as spec;
+ghost use Rattle.ssq_lex.specs.Printing.{Adds};
 ghost use Rattle.ssq_lex.specs.Sayable.{PrintedIsRead, PrintedIsText};
 
 use crate::keyword::Keyword;
@@ -26,20 +27,21 @@ pub enum End {
 /// A text that is printed word by word.
 ///
 /// One space stands between two words, but none behind `(`, none around `.`, none before `)`, `,` and `;`, and none
-/// between WINDOW, COUNT, SUM, MIN or MAX and a `(`.
+/// between WINDOW, COUNT, SUM, MIN or MAX and a `(`. It remembers where memory ran out, and tells it at the end.
 #[derive(Drop)]
 pub struct Printer {
     out: String,
     last: End,
+    is_whole: bool,
 }
 
 impl Model for Printer {
     ghost use Rattle.std.specs.Prelude.{string_bytes};
-    ghost use Rattle.ssq_lex.specs.Printing.{Printed};
+    ghost use Rattle.ssq_lex.specs.Printing.{Print};
 
-    ghost Value = { Printed };
+    ghost Value = { Print };
 
-    ghost view = { λ p. record { text = string_bytes p.out; last = p.last } };
+    ghost view = { λ p. record { printed = record { text = string_bytes p.out; last = p.last }; is_whole = p.is_whole } };
 }
 
 fn is_function(word: Keyword) -> bool
@@ -107,76 +109,97 @@ fn push_lead(out: &mut String, touches: bool) -> Result<(), AllocError>
     Ok(())
 }
 
+/// Adds a text behind its space, where one stands.
+fn push_word(out: &mut String, touches: bool, word: &str) -> Result<(), AllocError>
+    ensures { OnOk result (string_bytes out.new ≡ string_bytes out.old ++ (if touches then [] else 32 ∷ []) ++ word.now) }
+{
+    push_lead(out, touches)?;
+    out.push_str(word)
+}
+
+/// Adds a number behind its space, where one stands.
+fn push_number(out: &mut String, touches: bool, value: i64) -> Result<(), AllocError>
+    ensures { OnOk result (string_bytes out.new
+        ≡ string_bytes out.old ++ (if touches then [] else 32 ∷ []) ++ spec.word_text (number value)) }
+{
+    push_lead(out, touches)?;
+    write!(out, "{value}")?;
+    Ok(())
+}
+
+/// Adds a text between quotes behind its space, where one stands.
+fn push_text(out: &mut String, touches: bool, text: &str) -> Result<(), AllocError>
+    ensures { OnOk result (string_bytes out.new
+        ≡ string_bytes out.old ++ (if touches then [] else 32 ∷ []) ++ spec.word_text (quoted text.now)) }
+{
+    push_lead(out, touches)?;
+    push_quoted(out, text)
+}
+
 impl Printer {
     /// A text with no word yet.
     pub fn new(alloc: Global) -> Printer
-        ensures { result ≡ spec.blank }
+        ensures { result ≡ spec.unprinted }
     {
         Printer {
             out: String::new(alloc),
             last: End::Joined,
+            is_whole: true,
         }
     }
 
-    /// The text of the words that were added.
-    pub fn into_string(self) -> String
-        ensures { string_bytes result ≡ self.text }
+    /// The text of the words that were added, if memory served for them all.
+    pub fn into_string(self) -> Result<String, AllocError>
+        ensures { IfOk result (λ text. (self.is_whole ≡ true) × (string_bytes text ≡ self.printed.text)) }
     {
-        let Printer { out, .. } = self;
-        out
+        let Printer { out, is_whole, .. } = self;
+        if is_whole { Ok(out) } else { Err(AllocError) }
+    }
+
+    /// Notes how the last word ends, and whether memory served for it.
+    fn ended(&mut self, added: Result<(), AllocError>, last: End)
+        ensures { self.new ≡ spec.ended self.old (is_ok added) last }
+    {
+        self.is_whole = self.is_whole && added.is_ok();
+        self.last = last;
     }
 
     /// Adds a keyword, in capitals.
-    #[tactic(auto, unfolding(crate::specs::Printing::with_word))]
-    pub fn keyword(&mut self, word: Keyword) -> Result<(), AllocError>
-        ensures { OnOk result (self.new ≡ spec.with_word self.old (keyword word)) }
+    pub fn keyword(&mut self, word: Keyword)
+        ensures { Adds self.old (keyword word ∷ []) self.new }
     {
-        push_lead(&mut self.out, is_joined(self.last))?;
-        self.out.push_str(word.text())?;
-        self.last = keyword_end(word);
-        Ok(())
+        let added = push_word(&mut self.out, is_joined(self.last), word.text());
+        self.ended(added, keyword_end(word));
     }
 
-    #[tactic(auto, unfolding(crate::specs::Printing::with_word))]
-    pub fn name(&mut self, text: &str) -> Result<(), AllocError>
-        ensures { OnOk result (self.new ≡ spec.with_word self.old (name text.now)) }
+    pub fn name(&mut self, text: &str)
+        ensures { Adds self.old (name text.now ∷ []) self.new }
     {
-        push_lead(&mut self.out, is_joined(self.last))?;
-        self.out.push_str(text)?;
-        self.last = End::Apart;
-        Ok(())
+        let added = push_word(&mut self.out, is_joined(self.last), text);
+        self.ended(added, End::Apart);
     }
 
     /// Adds a number by its value, with no zeros before it.
-    #[tactic(auto, unfolding(crate::specs::Printing::with_word))]
-    pub fn number(&mut self, value: i64) -> Result<(), AllocError>
-        ensures { OnOk result (self.new ≡ spec.with_word self.old (number value)) }
+    pub fn number(&mut self, value: i64)
+        ensures { Adds self.old (number value ∷ []) self.new }
     {
-        push_lead(&mut self.out, is_joined(self.last))?;
-        write!(self.out, "{value}")?;
-        self.last = End::Apart;
-        Ok(())
+        let added = push_number(&mut self.out, is_joined(self.last), value);
+        self.ended(added, End::Apart);
     }
 
     /// Adds a text between quotes, with each quote in it twice.
-    #[tactic(auto, unfolding(crate::specs::Printing::with_word))]
-    pub fn quoted(&mut self, text: &str) -> Result<(), AllocError>
-        ensures { OnOk result (self.new ≡ spec.with_word self.old (quoted text.now)) }
+    pub fn quoted(&mut self, text: &str)
+        ensures { Adds self.old (quoted text.now ∷ []) self.new }
     {
-        push_lead(&mut self.out, is_joined(self.last))?;
-        push_quoted(&mut self.out, text)?;
-        self.last = End::Apart;
-        Ok(())
+        let added = push_text(&mut self.out, is_joined(self.last), text);
+        self.ended(added, End::Apart);
     }
 
-    #[tactic(auto, unfolding(crate::specs::Printing::with_word))]
-    pub fn symbol(&mut self, word: Symbol) -> Result<(), AllocError>
-        ensures { OnOk result (self.new ≡ spec.with_word self.old (symbol word)) }
+    pub fn symbol(&mut self, word: Symbol)
+        ensures { Adds self.old (symbol word ∷ []) self.new }
     {
-        push_lead(&mut self.out, symbol_touches(self.last, word))?;
-        self.out.push_str(word.text())?;
-        self.last = symbol_end(word);
-        Ok(())
+        let added = push_word(&mut self.out, symbol_touches(self.last, word), word.text());
+        self.ended(added, symbol_end(word));
     }
 }
 
