@@ -19,10 +19,10 @@ use Rattle.ssq_check.specs.declared.scope.Within.TheVariants as within
 use Rattle.ssq_check.specs.Fault.{Faults, FirstOf, sooner}
 use Rattle.ssq_check.specs.Broken.{Either, Rule}
 use Rattle.ssq_check.specs.Lists.{Where, Each, Doubled, Past, Beyond, item_first, ItemsFaults}
-use Rattle.ssq_check.specs.Names.{is_there, row_scope, group_keys, with_keys}
+use Rattle.ssq_check.specs.Names.{is_there, row_scope, group_keys, with_keys, scope_of}
 use Rattle.ssq_check.specs.Shown.{item_aggregates, having_aggregates, shown_aggregates, group_place_by, group_place, within_by}
 use Rattle.ssq_check.specs.Clauses.{ConditionFaults, HavingFaults, WatermarkFaults, decl_name, decl_place, StreamFaults, StreamsFaults, JoinedFaults, OnFaults, JoinFaults, ident_name, ident_place, IdentFaults, DeduplicateFaults, GroupItemFaults, group_columns, group_windows, group_first, GroupFaults, OrderFaults}
-use Rattle.ssq_check.specs.Whole.{DistinctFaults, LimitFaults, StatefulFaults, WordFaults, RowFaults, ShownFaults, OwnFaults, QueryFaults}
+use Rattle.ssq_check.specs.Whole.{DistinctFaults, LimitFaults, StatefulFaults, WordFaults, RowFaults, ShownFaults, OwnFaults, SelectFaults, QueryFaults}
 use Rattle.ssq_check.proofs.First.{first_sooner}
 
 pub first_of_two : (P Q : Faults) (a b o : Option BindFault) → o ≡ sooner a b → FirstOf P a → FirstOf Q b → FirstOf (Either P Q) o
@@ -130,14 +130,19 @@ own_first scope query items places ps qs grouped a b o items_is places_is ps_is 
     (subst (λ (v : List ℕ). FirstOf (ShownFaults scope grouped v query.select) a) (qs_is ∙ places_are) ha))
     (subst (λ (v : Option ℕ). FirstOf (WordFaults query.select v) b) grouped_at hb)
 
-abbrev SelectFaults : Scope → Query → Faults
-SelectFaults names query = Either (RowFaults names query.select) (OwnFaults (with_keys names (group_keys names query.select.group)) query)
+pub select_first : (query : Query) (rows all : Scope) (a b o : Option BindFault)
+    → rows ≡ row_scope query → all ≡ with_keys rows (group_keys rows query.select.group) → o ≡ sooner a b
+    → FirstOf (RowFaults rows query.select) a → FirstOf (OwnFaults all query) b
+    → FirstOf (SelectFaults query) o
+select_first query rows all a b o rows_are all_are o_is ha hb =
+    first_of_two (RowFaults (row_scope query) query.select) (OwnFaults (scope_of query) query) a b o o_is
+    (subst (λ (v : Scope). FirstOf (RowFaults v query.select) a) rows_are ha)
+    (subst (λ (v : Scope). FirstOf (OwnFaults v query) b) (all_are ∙ (λ i. with_keys (rows_are i) (group_keys (rows_are i) query.select.group))) hb)
 
-pub query_first : (query : Query) (streams : List Stream) (names : Scope) (a b o : Option BindFault)
-    → streams ≡ query.streams → names ≡ row_scope query → o ≡ sooner a b
-    → FirstOf (StreamsFaults streams) a → FirstOf (Either (RowFaults names query.select) (OwnFaults (with_keys names (group_keys names query.select.group)) query)) b
+pub query_first : (query : Query) (streams : List Stream) (a b o : Option BindFault)
+    → streams ≡ query.streams → o ≡ sooner a b
+    → FirstOf (StreamsFaults streams) a → FirstOf (SelectFaults query) b
     → FirstOf (QueryFaults query) o
-query_first query streams names a b o streams_is names_is o_is ha hb =
-    first_of_two (StreamsFaults query.streams) (SelectFaults (row_scope query) query) a b o o_is
-    (subst (λ (v : List Stream). FirstOf (StreamsFaults v) a) streams_is ha)
-    (subst (λ (v : Scope). FirstOf (SelectFaults v query) b) names_is hb)
+query_first query streams a b o streams_are o_is ha hb =
+    first_of_two (StreamsFaults query.streams) (SelectFaults query) a b o o_is
+    (subst (λ (v : List Stream). FirstOf (StreamsFaults v) a) streams_are ha) hb

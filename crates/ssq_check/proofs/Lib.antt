@@ -1,3 +1,4 @@
+pub mod Declared
 pub mod Ends
 pub mod Erased
 pub mod First

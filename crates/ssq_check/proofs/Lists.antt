@@ -9,8 +9,9 @@ use Rattle.ssq_check.specs.declared.fault.Cause.TheVariants as cause
 use Rattle.ssq_check.specs.declared.fault.BindFault.{BindFault}
 use Rattle.ssq_check.specs.Fault.{Faults, Answers, FirstOf, sooner}
 use Rattle.ssq_check.specs.Broken.{Nothing, Either, Rule}
-use Rattle.ssq_check.specs.Lists.{Each, has_name, with_name, names_from, Doubled, fault_in}
+use Rattle.ssq_check.specs.Lists.{Each, has_name, with_name, names_from, double_at, AreNoted, Doubled, fault_in}
 use Rattle.ssq_check.proofs.First.{none_either, first_left, first_sooner}
+use Rattle.ssq_check.proofs.Nodes.{first_rule, no_rule}
 
 -- the same faults, put otherwise
 pub first_same : (P Q : Faults) (o : Option BindFault) → ((c : Cause) (at : ℕ) → P c at → Q c at) → ((c : Cause) (at : ℕ) → Q c at → P c at) → FirstOf P o → FirstOf Q o
@@ -38,10 +39,9 @@ none_before P o h = first_same (Either Nothing P) P o (λ c at. drop_left c at) 
     drop_left c at (inl never) = absurd never
     drop_left c at (inr p) = p
 
--- what is known of the names of these: the first that one in front of it has, and which there are
-pub record Noted {A : Type 0} (name : A → List ℕ) (place : A → ℕ) (xs : List A) (first : Option BindFault) (seen : List (List ℕ)) : Type 0 where
-  pub double : FirstOf (Doubled name place [] xs) first
-  pub names : seen ≡ names_from name [] xs
+double_first : (at : ℕ) (there : Bool) → FirstOf (Rule cause.DoubleName at (there ≡ true)) (double_at at there)
+double_first at true = first_rule cause.DoubleName at (true ≡ true) refl
+double_first at false = no_rule cause.DoubleName at (false ≡ true) (λ never. absurd (cc))
 
 module _ {A : Type 0} where
   -- one element more, in front of those that are left
@@ -93,21 +93,25 @@ module _ {A : Type 0} where
     names_more seen [] x = refl
     names_more seen (y ∷ ys) x = names_more (with_name seen (name y)) ys x
 
+    pub noted_none : (first : Option BindFault) (seen : List (List ℕ)) → seen ≡ [] → first ≡ None → AreNoted name place [] first seen
+    unfolding Doubled names_from
+    noted_none first seen seen_is first_is =
+        subst (λ (it : Option BindFault × List (List ℕ)). AreNoted name place [] it.0 it.1) (λ i. (sym first_is i, sym seen_is i)) (record { first = λ c at never. never; names = refl })
+
     -- one name more
-    pub noted_more : (xs ys : List A) (x : A) (own_name : List ℕ) (at : ℕ) (first own next : Option BindFault) (seen more : List (List ℕ))
-        → ys ≡ xs ++ x ∷ [] → own_name ≡ name x → at ≡ place x → next ≡ sooner first own → more ≡ with_name seen own_name
-        → Noted name place xs first seen → FirstOf (Rule cause.DoubleName at (has_name own_name seen ≡ true)) own
-        → Noted name place ys next more
-    noted_more xs ys x own_name at first own next seen more ys_is name_is at_is next_is more_is noted one =
+    pub noted_more : (xs ys : List A) (x : A) (own_name : List ℕ) (at : ℕ) (first next : Option BindFault) (seen more : List (List ℕ))
+        → ys ≡ xs ++ x ∷ [] → own_name ≡ name x → at ≡ place x → next ≡ sooner first (double_at at (has_name own_name seen)) → more ≡ with_name seen own_name
+        → AreNoted name place xs first seen → AreNoted name place ys next more
+    noted_more xs ys x own_name at first next seen more ys_is name_is at_is next_is more_is noted =
         let names = names_from name [] xs in
         let Own = Rule cause.DoubleName (place x) (has_name (name x) names ≡ true) in
-        let own_is : FirstOf Own own =
-        subst (λ (it : ℕ × List ℕ × List (List ℕ)). FirstOf (Rule cause.DoubleName it.0 (has_name it.1 it.2 ≡ true)) own) (λ i. (at_is i, name_is i, noted.names i)) one in
+        let own = double_at (place x) (has_name (name x) names) in
+        let next_as : next ≡ sooner first own = next_is ∙ (λ i. sooner first (double_at (at_is i) (has_name (name_is i) (noted.names i)))) in
         record {
-          double =
-              subst (λ (got : List A × Option BindFault). FirstOf (Doubled name place [] got.0) got.1) (λ i. (sym ys_is i, sym next_is i))
+          first =
+              subst (λ (got : List A × Option BindFault). FirstOf (Doubled name place [] got.0) got.1) (λ i. (sym ys_is i, sym next_as i))
               (first_same (Either (Doubled name place [] xs) Own) (Doubled name place [] (xs ++ x ∷ [])) (sooner first own) (doubled_forth [] xs x) (doubled_back [] xs x)
-              (first_sooner (Doubled name place [] xs) Own first own noted.double own_is));
+              (first_sooner (Doubled name place [] xs) Own first own noted.first (double_first (place x) (has_name (name x) names))));
           names = more_is ∙ (λ i. with_name (noted.names i) (name_is i)) ∙ sym (names_more [] xs x) ∙ ap (names_from name []) (sym ys_is);
         }
 
@@ -118,19 +122,6 @@ module _ {A B : Type 0} (f : A → List B) (xs : List A) (x : A) where
 
   pub flat_none : f x ≡ [] → flat_map f (xs ++ x ∷ []) ≡ flat_map f xs
   flat_none is = flat_map-append f xs (x ∷ []) ∙ (λ i. flat_map f xs ++ (is i ++ [])) ∙ append-nil (flat_map f xs)
-
--- a name is new where none has it
-pub double_is : (at : ℕ) (there is_new : Bool) (own : Option BindFault) → is_new ≡ not there → FirstOf (Rule cause.DoubleName at (is_new ≡ false)) own → FirstOf (Rule cause.DoubleName at (there ≡ true)) own
-double_is at there is_new own is h =
-    first_same (Rule cause.DoubleName at (is_new ≡ false)) (Rule cause.DoubleName at (there ≡ true)) own (λ c p r. (r.0, r.1, forth there is r.2)) (λ c p r. (r.0, r.1, back there is r.2)) h
-  where
-    forth : (there : Bool) → is_new ≡ not there → is_new ≡ false → there ≡ true
-    forth true is old = refl
-    forth false is old = absurd (cc)
-
-    back : (there : Bool) → is_new ≡ not there → there ≡ true → is_new ≡ false
-    back true is one = is
-    back false is one = absurd (cc)
 
 pub fault_first : (P : Faults) (v : Option ColType) (r : Result ColType BindFault) → Answers P v r → FirstOf P (fault_in r)
 fault_first P v (Ok k) h = h.1

@@ -30,22 +30,6 @@ module _ (own : Edge) (e : Expr) where
   unfolding edge_column
   edge_binary left_at a a' o at right_at b b' is left right = rw (is, left, right, binary_is left_at a o at right_at b) refl
 
-  pub edge_aggregate : (f : Function) (at : ℕ) (x : Expr) → e ≡ view.Aggregate f at x → edge_column own e ≡ None
-  unfolding edge_column
-  edge_aggregate f at x is = rw (is, aggregate_is f at x) refl
-
-  pub edge_unary : (o : UnaryOp) (at : ℕ) (x : Expr) → e ≡ view.Unary o at x → edge_column own e ≡ None
-  unfolding edge_column
-  edge_unary o at x is = rw (is, unary_is o at x) refl
-
-  pub edge_null : (x : Expr) (at : ℕ) (test : NullTest) → e ≡ view.IsNull x at test → edge_column own e ≡ None
-  unfolding edge_column
-  edge_null x at test is = rw (is, is_null_is x at test) refl
-
-  pub edge_between : (a : Expr) (at : ℕ) (b c : Expr) → e ≡ view.Between a at b c → edge_column own e ≡ None
-  unfolding edge_column
-  edge_between a at b c is = rw (is, between_is a at b c) refl
-
 module _ (scope : Scope) where
   pub walked_both : (walk : Walk) (xs ys : List Conjunct) → walked scope walk (xs ++ ys) ≡ walked scope (walked scope walk xs) ys
   unfolding walked

@@ -132,16 +132,7 @@ if_so false column = None
 unfoldable pub edge_column : Edge → Expr → Option ColumnRef
 edge_column own (expr.Column column) = Some column
 edge_column own (expr.Binary' left_at p (only a) o at right_at q (only b)) = if_so (is_edge own o && is_interval b) (bare_column a)
-edge_column own (expr.Number n at) = None
-edge_column own (expr.Text text at) = None
-edge_column own (expr.Truth truth at) = None
-edge_column own (expr.Timestamp moment at) = None
-edge_column own (expr.Interval span at) = None
-edge_column own (expr.CountRows at) = None
-edge_column own (expr.Aggregate' f at p (only x)) = None
-edge_column own (expr.Unary' o at p (only x)) = None
-edge_column own (expr.IsNull' p (only x) at test) = None
-edge_column own (expr.Between' p (only a) at q (only b) r (only c)) = None
+edge_column own _ = None
 
 -- `l.t` or `l.t - INTERVAL 'a'`
 abbrev pub low_column : Expr → Option ColumnRef

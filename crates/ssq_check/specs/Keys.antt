@@ -1,8 +1,6 @@
--- What rows are grouped by, and how columns among it are found by their places.
-use Rattle.std.specs.Prelude.{◌≡◌, ℕ, Bool, true, false, ◌&&◌, nat_eq, List, Option, position}
+-- What rows are grouped by.
+use Rattle.std.specs.Prelude.{Bool, true, false, ◌&&◌, nat_eq, List}
 use Rattle.std.specs.List.{list_any}
-use Rattle.indexmap.specs.IndexMap.{IndexMap, get}
-use Rattle.ssq_value.specs.declared.column.ColType.{ColType}
 use Rattle.ssq_check.specs.declared.scope.Key.{Key}
 use Rattle.ssq_check.specs.declared.scope.Key.TheVariants as key
 use Rattle.ssq_check.specs.declared.scope.Side.{Side}
@@ -29,14 +27,3 @@ is_key_of spot (key.Column own) = is_same_side own.side spot.side && nat_eq own.
 -- rows are grouped by the column
 abbrev pub is_key : List Key → Spot → Bool
 is_key keys spot = list_any (is_key_of spot) keys
-
--- ---- the keys, with their columns at hand
-
--- the map has for each column of one side the place of the first key that is it
-abbrev pub FindsColumns : {S : Type 0} → Side → List Key → IndexMap ℕ ℕ S → Type 0
-FindsColumns own keys columns = (index : ℕ) (kind : ColType) → get nat_eq columns index ≡ position (is_key_of (record { side = own; index = index; kind = kind })) keys
-
-pub record AreAtHand {S : Type 0} (keys : List Key) (left right : IndexMap ℕ ℕ S) (window : Option ℕ) : Type 0 where
-  pub of_left : FindsColumns side.Left keys left
-  pub of_right : FindsColumns side.Right keys right
-  pub first_window : window ≡ position is_window_key keys

@@ -66,13 +66,15 @@ OwnFaults scope query =
     Either (ShownFaults scope (group_place query) (shown_aggregates query) query.select)
     (WordFaults query.select (group_place query))
 
+-- what is broken behind the declarations
+abbrev pub SelectFaults : Query → Faults
+SelectFaults query = Either (RowFaults (row_scope query) query.select) (OwnFaults (scope_of query) query)
+
 -- The rules that a query breaks. No order of reading is in it: of several faults the one with the least place is
 -- told, and at one place the one whose cause comes first.
 abbrev pub QueryFaults : Query → Faults
 QueryFaults query =
-    Either (StreamsFaults query.streams)
-    (Either (RowFaults (row_scope query) query.select)
-    (OwnFaults (scope_of query) query))
+    Either (StreamsFaults query.streams) (SelectFaults query)
 
 -- the first of the faults, or NoMemory
 abbrev pub IsRefusedBy : Faults → Refusal → Type 0

@@ -1,9 +1,9 @@
 //! The clauses of a query: the first of the rules that each of them breaks.
 
-ghost use Rattle.std.specs.Prelude.{◌≡◌, ◌++◌, ◌*ℤ◌, pos, int_lt, [], IfOk, OnOk};
+ghost use Rattle.std.specs.Prelude.{◌≡◌, ◌++◌, ◌*ℤ◌, pos, int_lt, IfOk, OnOk};
 ghost use Rattle.std.specs.List.{flat_map};
 ghost use Rattle.ssq_check.specs.Fault.{FirstOf};
-ghost use Rattle.ssq_check.specs.Lists.{Each, Where, has_name, names_from, item_name};
+ghost use Rattle.ssq_check.specs.Lists.{Each, Where, has_name};
 ghost use Rattle.ssq_check.specs.Rules.{type_of};
 ghost use Rattle.ssq_check.specs.Clauses as clause;
 ghost use Rattle.ssq_check.specs.Clauses.{ConditionFaults, HavingFaults, JoinedFaults, JoinFaults, IdentFaults, DeduplicateFaults, SizeFaults, WindowFaults, GroupFaults, OrderFaults, group_windows, slide_of};
@@ -14,7 +14,7 @@ use crate::each::{Checked, first_in};
 use crate::expr::check_expr;
 use crate::fault::{BindFault, Cause, fault_in, rule, sooner, unless};
 use crate::joined::{check_on, spot_in};
-use crate::list::{Named, beyond, first_double, first_double_column, note, past_places};
+use crate::list::{Names, beyond, first_double, first_double_column, past_places};
 use crate::scope::{Scope, Source, Spot, Within, bare_spot, is_window_name};
 use indexmap::IndexSet;
 use ssq_ast::{Condition, Deduplicate, Group, GroupBy, Ident, Item, Join, OrderBy, Window};
@@ -299,18 +299,6 @@ pub(crate) fn check_group(
     }
 }
 
-/// The names of outputs.
-#[tactic(auto, unfolding(crate::specs::Lists::names_from))]
-fn output_names(alloc: Global, items: &[Item]) -> Result<IndexSet<Text>, AllocError>
-    ensures { IfOk result (λ names. names.keys ≡ names_from item_name [] items.now) }
-{
-    let mut names: IndexSet<Text> = IndexSet::new(alloc);
-    for item in items {
-        let _is_new = note(alloc, &mut names, item.name())?;
-    }
-    Ok(names)
-}
-
 fn is_output(names: &IndexSet<Text>, name: &Text) -> bool
     ensures { result ≡ has_name name.now names.now.keys }
 {
@@ -340,6 +328,7 @@ pub(crate) fn check_order(
 ) -> Result<Option<BindFault>, AllocError>
     ensures { IfOk result (FirstOf (Each (OrderFaults items.now) orders.now)) }
 {
-    let names = output_names(alloc, items)?;
-    first_in(alloc, &names, orders)
+    let mut names = Names::none(alloc);
+    names.take_all(alloc, items)?;
+    first_in(alloc, &names.seen, orders)
 }

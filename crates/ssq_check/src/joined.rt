@@ -135,16 +135,6 @@ fn is_pair(scope: &Scope, op: BinaryOp, left: &Expr, right: &Expr) -> bool
     is_equal(op) && are_across(column_spot(scope, left), column_spot(scope, right))
 }
 
-fn spot_if(scope: &Scope, is_so: bool, value: &Expr) -> Option<Spot>
-    ensures { result ≡ looked scope.now (on.if_so is_so (bare_column value.now)) }
-{
-    if is_so {
-        column_spot(scope, value)
-    } else {
-        None
-    }
-}
-
 fn is_side(edge: Edge, op: BinaryOp, right: &Expr) -> bool
     ensures { result ≡ (on.is_edge edge op && is_interval right.now) }
 {
@@ -152,31 +142,25 @@ fn is_side(edge: Edge, op: BinaryOp, right: &Expr) -> bool
 }
 
 /// The column of a bound's side.
-#[tactic(auto, unfolding(crate::specs::Joined::edge_column))]
-fn edge_spot(scope: &Scope, edge: Edge, value: &Expr) -> Option<Spot>
-    ensures { result ≡ looked scope.now (on.edge_column edge value.now) }
+#[tactic(auto, using(ssq_ast::proofs::Boxes::boxes), unfolding(crate::specs::Joined::edge_column))]
+fn edge_column(edge: Edge, value: &Expr) -> Option<&ColumnRef>
+    ensures { option_copied result ≡ on.edge_column edge value.now }
 {
     match value {
-        Expr::Column { value } => spot_in(spot_of(scope, value)),
+        Expr::Column { value } => Some(value),
         Expr::Binary {
             left,
             op,
             right,
             ..
         } => {
-            let is_so = is_side(edge, *op, right.get());
-            spot_if(scope, is_so, left.get())
+            if is_side(edge, *op, right.get()) {
+                bare_column(left.get())
+            } else {
+                None
+            }
         }
-        Expr::Number { .. } => None,
-        Expr::Text { .. } => None,
-        Expr::Truth { .. } => None,
-        Expr::Timestamp { .. } => None,
-        Expr::Interval { .. } => None,
-        Expr::CountRows { .. } => None,
-        Expr::Aggregate { .. } => None,
-        Expr::Unary { .. } => None,
-        Expr::IsNull { .. } => None,
-        Expr::Between { .. } => None,
+        _ => None,
     }
 }
 
@@ -228,17 +212,21 @@ fn is_right(side: Side) -> bool
 fn are_bound(scope: &Scope, time: Option<Spot>, low: Option<Spot>, high: Option<Spot>) -> bool
     ensures { result ≡ on.are_bound scope.now time low high }
 {
-    match (time, low, high) {
-        (Some(time), Some(low), Some(high)) => {
-            is_right(time.side)
-                && !is_right(low.side)
-                && !is_right(high.side)
-                && low.index == high.index
-                && is_event(&scope.right, time)
-                && is_event(&scope.left, low)
-        }
-        _ => false,
-    }
+    let Some(time) = time else {
+        return false;
+    };
+    let Some(low) = low else {
+        return false;
+    };
+    let Some(high) = high else {
+        return false;
+    };
+    is_right(time.side)
+        && !is_right(low.side)
+        && !is_right(high.side)
+        && low.index == high.index
+        && is_event(&scope.right, time)
+        && is_event(&scope.left, low)
 }
 
 /// `r.t BETWEEN l.t - INTERVAL 'a' AND l.t + INTERVAL 'b'`
@@ -246,8 +234,8 @@ fn is_bound(scope: &Scope, time: &Expr, low: &Expr, high: &Expr) -> bool
     ensures { result ≡ on.is_bound scope.now time.now low.now high.now }
 {
     let time = column_spot(scope, time);
-    let low = edge_spot(scope, Edge::Low, low);
-    let high = edge_spot(scope, Edge::High, high);
+    let low = looked(scope, edge_column(Edge::Low, low));
+    let high = looked(scope, edge_column(Edge::High, high));
     are_bound(scope, time, low, high)
 }
 

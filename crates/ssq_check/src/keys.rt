@@ -1,69 +1,26 @@
-//! What rows are grouped by, where columns are found by their places.
+//! What rows are grouped by.
 
-ghost use Rattle.std.specs.Prelude.{◌≡◌, List, [], ◌∷◌, ◌++◌, length, position, IfOk, OnOk};
-ghost use Rattle.ssq_check.specs.declared.scope.Key.{Key as spec};
-ghost use Rattle.ssq_check.specs.Keys.{is_window_key, has_window, is_key, is_key_of, FindsColumns};
+ghost use Rattle.std.specs.Prelude.{◌≡◌, [], position};
+ghost use Rattle.ssq_check.specs.Keys.{is_window_key, has_window, is_key, is_key_of};
 
-use crate::scope::{Key, Side, Spot, is_same_side};
-use indexmap::IndexMap;
+use crate::scope::{Key, Spot, is_same_side};
 use ssq_value::Sequence;
-use std::alloc::{AllocError, Global};
+use std::alloc::Global;
 use std::marker::Model;
 
-/// What GROUP BY lists, with its columns at hand. Contracts see the list.
+/// What GROUP BY lists. Contracts see the list.
 #[derive(Drop)]
 pub struct Keys {
     list: Sequence<Key>,
-    /// The places of the first keys that name the columns of FROM's stream, by the columns' indices.
-    left: IndexMap<usize, usize>,
-    /// And of those that name the columns of JOIN's stream.
-    right: IndexMap<usize, usize>,
-    /// The place of the first window.
-    window: Option<usize>,
 }
 
 impl Model for Keys {
     ghost use Rattle.std.specs.Prelude.{List};
     ghost use Rattle.ssq_check.specs.declared.scope.Key.{Key as Listed};
-    ghost use Rattle.ssq_check.specs.Keys.{AreAtHand};
 
     ghost Value = { List Listed };
 
     ghost view = { λ k. k.list };
-
-    ghost invariant = { λ k. AreAtHand k.list k.left k.right k.window };
-}
-
-fn note(
-    columns: &mut IndexMap<usize, usize>,
-    side: Side,
-    key: &Key,
-    at: usize,
-) -> Result<(), AllocError>
-    ensures { (keys : List spec) → length keys ≡ at → FindsColumns side keys columns.old
-        → OnOk result (FindsColumns side (keys ++ key.now ∷ []) columns.new) }
-{
-    match key {
-        Key::Window => Ok(()),
-        Key::Column(spot) => {
-            if is_same_side(spot.side, side) {
-                if columns.get(&spot.index).is_none() {
-                    columns.insert(spot.index, at)?;
-                }
-            }
-            Ok(())
-        }
-    }
-}
-
-fn columns_of(alloc: Global, keys: &[Key], side: Side) -> Result<IndexMap<usize, usize>, AllocError>
-    ensures { IfOk result (λ columns. FindsColumns side keys.now columns) }
-{
-    let mut columns = IndexMap::new(alloc);
-    for (at, key) in keys.iter().enumerate() {
-        note(&mut columns, side, key, at)?;
-    }
-    Ok(columns)
 }
 
 fn is_window_key(key: &Key) -> bool
@@ -75,45 +32,38 @@ fn is_window_key(key: &Key) -> bool
     }
 }
 
-fn first_window(keys: &[Key]) -> Option<usize>
-    ensures { result ≡ position is_window_key keys.now }
+fn is_key_of(spot: Spot, key: &Key) -> bool
+    ensures { result ≡ is_key_of spot key.now }
 {
-    keys.iter().position(|key| is_window_key(key))
+    match key {
+        Key::Window => false,
+        Key::Column(own) => is_same_side(own.side, spot.side) && own.index == spot.index,
+    }
 }
 
 impl Keys {
-    /// Takes the keys over, and notes where each column stands first.
-    pub fn new(alloc: Global, list: Sequence<Key>) -> Result<Keys, AllocError>
-        ensures { IfOk result (λ keys. keys ≡ list) }
+    /// Takes the keys over.
+    pub fn new(list: Sequence<Key>) -> Keys
+        ensures { result ≡ list }
     {
-        let left = columns_of(alloc, list.as_slice(), Side::Left)?;
-        let right = columns_of(alloc, list.as_slice(), Side::Right)?;
-        let window = first_window(list.as_slice());
-        Ok(Keys {
-            list,
-            left,
-            right,
-            window,
-        })
+        Keys { list }
     }
 
     /// No keys.
     pub(crate) fn none(alloc: Global) -> Keys
         ensures { result ≡ [] }
     {
-        Keys {
-            list: Sequence::new(alloc),
-            left: IndexMap::new(alloc),
-            right: IndexMap::new(alloc),
-            window: None,
-        }
+        Keys::new(Sequence::new(alloc))
     }
 
     /// The place of the first window.
     pub fn window(&self) -> Option<usize>
         ensures { result ≡ position is_window_key self.now }
     {
-        self.window
+        self.list
+            .as_slice()
+            .iter()
+            .position(|key| is_window_key(key))
     }
 
     /// Whether a window is among them.
@@ -123,14 +73,14 @@ impl Keys {
         self.window().is_some()
     }
 
-    /// The place of the first key that is this column. It takes one look-up, however many keys there are.
+    /// The place of the first key that is this column.
     pub fn place(&self, spot: Spot) -> Option<usize>
         ensures { result ≡ position (is_key_of spot) self.now }
     {
-        match spot.side {
-            Side::Left => self.left.get(&spot.index).copied(),
-            Side::Right => self.right.get(&spot.index).copied(),
-        }
+        self.list
+            .as_slice()
+            .iter()
+            .position(|key| is_key_of(spot, key))
     }
 
     /// Whether the column is among them.

@@ -29,7 +29,7 @@ pub use fault::{BindFault, Cause, Refusal};
 pub use joined::{bare_column, column_spot, looked, spot_in, spot_of};
 pub use keys::Keys;
 pub use list::item_name;
-pub use names::{column_of, left_stream, right_stream, scope_of};
+pub use names::{column_of, declared_spot, left_stream, list_of, right_stream, scope_of};
 pub use scope::{Key, Scope, Side, Source, Spot, Within, bare_spot, is_window_name};
 pub use shown::{is_group, within};
 pub use whole::{check, small_values, types_stay};

@@ -1,14 +1,13 @@
 //! Lists of a query: names that are given twice, and what stands beyond a limit.
 
-ghost use Rattle.std.specs.Prelude.{◌≡◌, ℕ, true, [], map, not, slice_get, IfOk, OnOk};
+ghost use Rattle.std.specs.Prelude.{◌≡◌, ℕ, None, [], map, not, slice_get, IfOk, OnOk};
 ghost use Rattle.std.specs.List.{flat_map};
-ghost use Rattle.ssq_check.specs.Fault.{FirstOf};
+ghost use Rattle.ssq_check.specs.Fault.{FirstOf, sooner};
 ghost use Rattle.ssq_check.specs.Broken.{Rule};
-ghost use Rattle.ssq_check.specs.declared.fault.Cause.TheVariants as cause;
-ghost use Rattle.ssq_check.specs.Lists.{has_name, with_name, item_name, Where, Doubled, Past, Beyond};
+ghost use Rattle.ssq_check.specs.Lists.{has_name, with_name, item_name, double_at, AreNoted, Where, Doubled, Past, Beyond};
 ghost use Rattle.ssq_check.specs.Clauses.{ident_name, ident_place, group_columns};
 
-use crate::fault::{BindFault, Cause, sooner, unless};
+use crate::fault::{BindFault, Cause, sooner};
 use indexmap::IndexSet;
 use ssq_ast::{ColumnDecl, Group, Ident, Item, Stream};
 use ssq_value::Text;
@@ -177,50 +176,95 @@ impl Placed for Group {
     }
 }
 
-/// Notes a name, and tells whether it is new.
-pub(crate) fn note(alloc: Global, seen: &mut IndexSet<Text>, name: &str) -> Result<bool, AllocError>
-    ensures is_new { IfOk result (λ is_new. is_new ≡ not (has_name name.now seen.old.keys)) }
-    ensures seen { OnOk result (seen.new.keys ≡ with_name seen.old.keys name.now) }
-{
-    let name = Text::from_str(alloc, name)?;
-    let (_, is_new) = seen.insert_full(name)?;
-    Ok(is_new)
+/// The names of a list, each once, and the first that is given for a second time.
+#[derive(Drop)]
+pub struct Names {
+    pub(crate) seen: IndexSet<Text>,
+    pub(crate) double: Option<BindFault>,
 }
 
-/// Notes a name, which is a fault where it is noted already.
-fn doubled(
-    alloc: Global,
-    seen: &mut IndexSet<Text>,
-    name: &str,
-    at: usize,
-) -> Result<Option<BindFault>, AllocError>
-    ensures first { IfOk result (FirstOf
-        (Rule cause.DoubleName at (has_name name.now seen.old.keys ≡ true))) }
-    ensures seen { OnOk result (seen.new.keys ≡ with_name seen.old.keys name.now) }
+/// A name at this place, which is a fault where it was given before.
+fn doubled(at: usize, is_new: bool) -> Option<BindFault>
+    ensures { result ≡ double_at at (not is_new) }
 {
-    let is_new = note(alloc, seen, name)?;
-    Ok(unless(Cause::DoubleName, at, is_new))
+    if is_new {
+        None
+    } else {
+        Some(BindFault {
+            at,
+            cause: Cause::DoubleName,
+        })
+    }
+}
+
+impl Names {
+    /// No names.
+    pub(crate) fn none(alloc: Global) -> Names
+        ensures seen { result.seen.keys ≡ [] }
+        ensures double { result.double ≡ None }
+    {
+        Names {
+            seen: IndexSet::new(alloc),
+            double: None,
+        }
+    }
+
+    /// Takes one name more, which is written at this place.
+    fn take(&mut self, alloc: Global, name: &str, at: usize) -> Result<(), AllocError>
+        ensures seen { OnOk result (self.new.seen.keys ≡ with_name self.old.seen.keys name.now) }
+        ensures double { OnOk result (self.new.double ≡ sooner self.old.double (double_at at (has_name name.now self.old.seen.keys))) }
+    {
+        let name = Text::from_str(alloc, name)?;
+        let (_, is_new) = self.seen.insert_full(name)?;
+        self.double = sooner(self.double, doubled(at, is_new));
+        Ok(())
+    }
+
+    /// Takes the names of a list.
+    pub(crate) fn take_all<N: Named>(
+        &mut self,
+        alloc: Global,
+        items: &[N],
+    ) -> Result<(), AllocError>
+        requires seen { self.old.seen.keys ≡ [] }
+        requires double { self.old.double ≡ None }
+        ensures { OnOk result (AreNoted N.name N.named_at items.now self.new.double self.new.seen.keys) }
+    {
+        for item in items {
+            self.take(alloc, item.name(), item.named_at())?;
+        }
+        Ok(())
+    }
+
+    /// Takes the columns of GROUP BY.
+    fn take_columns(&mut self, alloc: Global, items: &[Group]) -> Result<(), AllocError>
+        requires seen { self.old.seen.keys ≡ [] }
+        requires double { self.old.double ≡ None }
+        ensures { OnOk result (AreNoted ident_name ident_place (flat_map group_columns items.now) self.new.double self.new.seen.keys) }
+    {
+        for item in items {
+            match item {
+                Group::Column(ident) => self.take(alloc, ident.text.as_str(), ident.at)?,
+                Group::Window(_) => {}
+            }
+        }
+        Ok(())
+    }
 }
 
 /// The first of the names that one in front of it has.
-#[tactic(auto, unfolding(crate::specs::Lists::Doubled, crate::specs::Lists::names_from))]
 pub(crate) fn first_double<N: Named>(
     alloc: Global,
     items: &[N],
 ) -> Result<Option<BindFault>, AllocError>
     ensures { IfOk result (FirstOf (Doubled N.name N.named_at [] items.now)) }
 {
-    let mut seen: IndexSet<Text> = IndexSet::new(alloc);
-    let mut first = None;
-    for item in items {
-        let own = doubled(alloc, &mut seen, item.name(), item.named_at())?;
-        first = sooner(first, own);
-    }
-    Ok(first)
+    let mut names = Names::none(alloc);
+    names.take_all(alloc, items)?;
+    Ok(names.double)
 }
 
 /// The first column of GROUP BY that stands there for a second time.
-#[tactic(auto, unfolding(crate::specs::Lists::Doubled, crate::specs::Lists::names_from))]
 pub(crate) fn first_double_column(
     alloc: Global,
     items: &[Group],
@@ -228,18 +272,9 @@ pub(crate) fn first_double_column(
     ensures { IfOk result (FirstOf
         (Doubled ident_name ident_place [] (flat_map group_columns items.now))) }
 {
-    let mut seen: IndexSet<Text> = IndexSet::new(alloc);
-    let mut first = None;
-    for item in items {
-        match item {
-            Group::Column(ident) => {
-                let own = doubled(alloc, &mut seen, ident.text.as_str(), ident.at)?;
-                first = sooner(first, own);
-            }
-            Group::Window(_) => {}
-        }
-    }
-    Ok(first)
+    let mut names = Names::none(alloc);
+    names.take_columns(alloc, items)?;
+    Ok(names.double)
 }
 
 /// A rule that is broken by what stands at a place, where something stands there.

@@ -1,13 +1,16 @@
 //! The streams of a query, and the names that its expressions may use.
 
-ghost use Rattle.std.specs.Prelude.{◌≡◌, ◌++◌, map, IfOk, OnOk};
+ghost use Rattle.std.specs.Prelude.{◌≡◌, [], ◌++◌, map, position, slice_get, IfOk, OnOk};
 ghost use Rattle.std.specs.List.{flat_map};
 ghost use Rattle.std.specs.Option.{option_copied, option_map};
+ghost use Rattle.std.specs.Str.{bytes_eq};
+ghost use Rattle.ssq_check.specs.declared.scope.Side.TheVariants as side;
+ghost use Rattle.ssq_check.specs.Scope.{spot_from, in_columns};
 ghost use Rattle.ssq_check.specs.Names.{column_of, watermark_name, source_of, declared, left_stream, right_stream, row_scope, keys_of, group_keys, with_keys, scope_of};
 
 use crate::columns::Columns;
 use crate::keys::Keys;
-use crate::scope::{Key, Scope, Source, bare_spot};
+use crate::scope::{Key, Scope, Side, Source, Spot, bare_spot};
 use ssq_ast::{ColumnDecl, Group, GroupBy, Query, Stream, Watermark};
 use ssq_value::{Column, Sequence, Text};
 use std::alloc::{AllocError, Global};
@@ -23,7 +26,8 @@ pub fn column_of(decl: &ColumnDecl) -> Result<Column, AllocError>
     })
 }
 
-fn list_of(alloc: Global, decls: &[ColumnDecl]) -> Result<Sequence<Column>, AllocError>
+/// The columns, as they are declared.
+pub fn list_of(alloc: Global, decls: &[ColumnDecl]) -> Result<Sequence<Column>, AllocError>
     ensures { IfOk result (λ columns. columns ≡ map column_of decls.now) }
 {
     let mut columns = Sequence::new(alloc);
@@ -34,11 +38,42 @@ fn list_of(alloc: Global, decls: &[ColumnDecl]) -> Result<Sequence<Column>, Allo
     Ok(columns)
 }
 
-pub(crate) fn columns_of(alloc: Global, decls: &[ColumnDecl]) -> Result<Columns, AllocError>
+fn columns_of(alloc: Global, decls: &[ColumnDecl]) -> Result<Columns, AllocError>
     ensures { IfOk result (λ columns. columns ≡ map column_of decls.now) }
 {
     let list = list_of(alloc, decls)?;
     Columns::new(alloc, list)
+}
+
+fn place_of(decls: &[ColumnDecl], name: &str) -> Option<usize>
+    ensures { result ≡ position (λ decl. bytes_eq decl.name.text name.now) decls.now }
+{
+    decls
+        .iter()
+        .position(|decl| decl.name.text.as_str() == name)
+}
+
+fn spot_at(decls: &[ColumnDecl], at: usize) -> Option<Spot>
+    ensures { result ≡ spot_from side.Left at (option_map column_of (slice_get decls.now at)) }
+{
+    match decls.get(at) {
+        Some(decl) => Some(Spot {
+            side: Side::Left,
+            index: at,
+            kind: decl.kind,
+        }),
+        None => None,
+    }
+}
+
+/// The first of the columns that has this name, as they are declared.
+pub fn declared_spot(decls: &[ColumnDecl], name: &str) -> Option<Spot>
+    ensures { result ≡ in_columns side.Left (map column_of decls.now) name.now }
+{
+    match place_of(decls, name) {
+        Some(at) => spot_at(decls, at),
+        None => None,
+    }
 }
 
 fn watermark_name(watermark: &Option<Watermark>) -> Result<Option<Text>, AllocError>
@@ -53,18 +88,21 @@ fn watermark_name(watermark: &Option<Watermark>) -> Result<Option<Text>, AllocEr
     }
 }
 
-/// What expressions see of a stream.
-fn source_of(alloc: Global, stream: &Stream) -> Result<Source, AllocError>
-    ensures { IfOk result (λ source. source ≡ source_of stream.now) }
+/// What expressions see of a stream, where there is one.
+fn source_of(alloc: Global, stream: Option<&Stream>) -> Result<Option<Source>, AllocError>
+    ensures { IfOk result (λ source. source ≡ option_map source_of (option_copied stream.entry)) }
 {
+    let Some(stream) = stream else {
+        return Ok(None);
+    };
     let name = stream.name.text.clone()?;
     let watermark = watermark_name(&stream.watermark)?;
     let columns = columns_of(alloc, stream.columns.as_slice())?;
-    Ok(Source {
+    Ok(Some(Source {
         name,
         columns,
         watermark,
-    })
+    }))
 }
 
 /// The first stream that is declared under the name.
@@ -96,40 +134,13 @@ pub fn right_stream(query: &Query) -> Option<&Stream>
     }
 }
 
-fn source_if(alloc: Global, stream: Option<&Stream>) -> Result<Option<Source>, AllocError>
-    ensures { IfOk result (λ source. source ≡ option_map source_of (option_copied stream.entry)) }
+/// Puts in the names of a query's rows, those of the streams of FROM and JOIN.
+pub(crate) fn add_rows(alloc: Global, query: &Query, scope: &mut Scope) -> Result<(), AllocError>
+    ensures { scope.old.keys ≡ [] → OnOk result (scope.new ≡ row_scope query.now) }
 {
-    match stream {
-        Some(stream) => Ok(Some(source_of(alloc, stream)?)),
-        None => Ok(None),
-    }
-}
-
-/// The streams of FROM and JOIN, where they are declared.
-fn sources_of(alloc: Global, query: &Query) -> Result<(Option<Source>, Option<Source>), AllocError>
-    ensures left { IfOk result (λ sources. sources.0 ≡ (row_scope query.now).left) }
-    ensures right { IfOk result (λ sources. sources.1 ≡ (row_scope query.now).right) }
-{
-    let left = source_if(alloc, left_stream(query))?;
-    match source_if(alloc, right_stream(query)) {
-        Ok(right) => Ok((left, right)),
-        Err(error) => {
-            drop(left);
-            Err(error)
-        }
-    }
-}
-
-/// The names of a query's rows.
-pub(crate) fn row_scope(alloc: Global, query: &Query) -> Result<Scope, AllocError>
-    ensures { IfOk result (λ scope. scope ≡ row_scope query.now) }
-{
-    let (left, right) = sources_of(alloc, query)?;
-    Ok(Scope {
-        left,
-        right,
-        keys: Keys::none(alloc),
-    })
+    scope.left = source_of(alloc, left_stream(query))?;
+    scope.right = source_of(alloc, right_stream(query))?;
+    Ok(())
 }
 
 fn push_key(scope: &Scope, item: &Group, keys: &mut Sequence<Key>) -> Result<(), AllocError>
@@ -155,47 +166,49 @@ fn keys_in(alloc: Global, scope: &Scope, items: &[Group]) -> Result<Sequence<Key
 }
 
 /// What GROUP BY lists, as far as its names are known.
-fn group_keys(alloc: Global, scope: &Scope, group: &Option<GroupBy>) -> Result<Keys, AllocError>
+fn group_keys(
+    alloc: Global,
+    scope: &Scope,
+    group: &Option<GroupBy>,
+) -> Result<Sequence<Key>, AllocError>
     ensures { IfOk result (λ keys. keys ≡ group_keys scope.now group.now) }
 {
-    let list = match group {
-        Some(by) => keys_in(alloc, scope, by.items.as_slice())?,
-        None => Sequence::new(alloc),
-    };
-    Keys::new(alloc, list)
-}
-
-fn with_keys(names: Scope, keys: Keys) -> Scope
-    ensures { result ≡ with_keys names keys }
-{
-    Scope {
-        left: names.left,
-        right: names.right,
-        keys,
+    match group {
+        Some(by) => keys_in(alloc, scope, by.items.as_slice()),
+        None => Ok(Sequence::new(alloc)),
     }
 }
 
-/// The names of rows, with what GROUP BY lists.
-pub(crate) fn group_scope(
+/// Puts in what GROUP BY lists.
+pub(crate) fn add_keys(
     alloc: Global,
-    names: Scope,
     group: &Option<GroupBy>,
-) -> Result<Scope, AllocError>
-    ensures { IfOk result (λ scope. scope ≡ with_keys names (group_keys names group.now)) }
+    scope: &mut Scope,
+) -> Result<(), AllocError>
+    ensures { OnOk result (scope.new ≡ with_keys scope.old (group_keys scope.old group.now)) }
 {
-    match group_keys(alloc, &names, group) {
-        Ok(keys) => Ok(with_keys(names, keys)),
-        Err(error) => {
-            drop(names);
-            Err(error)
-        }
-    }
+    let keys = group_keys(alloc, scope, group)?;
+    scope.keys = Keys::new(keys);
+    Ok(())
+}
+
+fn add_names(alloc: Global, query: &Query, scope: &mut Scope) -> Result<(), AllocError>
+    ensures { scope.old.keys ≡ [] → OnOk result (scope.new ≡ scope_of query.now) }
+{
+    add_rows(alloc, query, scope)?;
+    add_keys(alloc, &query.select.group, scope)
 }
 
 /// The names that the expressions of a query may use.
 pub fn scope_of(alloc: Global, query: &Query) -> Result<Scope, AllocError>
     ensures { IfOk result (λ scope. scope ≡ scope_of query.now) }
 {
-    let names = row_scope(alloc, query)?;
-    group_scope(alloc, names, &query.select.group)
+    let mut scope = Scope::none(alloc);
+    match add_names(alloc, query, &mut scope) {
+        Ok(()) => Ok(scope),
+        Err(error) => {
+            drop(scope);
+            Err(error)
+        }
+    }
 }

@@ -9,8 +9,8 @@ use crate::clause::is_no_time;
 use crate::each::{Checked, first_in};
 use crate::fault::{BindFault, Cause, rule, sooner, unless};
 use crate::list::{beyond, first_double, past};
-use crate::names::columns_of;
-use crate::scope::{Side, Spot};
+use crate::names::declared_spot;
+use crate::scope::Spot;
 use ssq_ast::{Stream, Watermark};
 use std::alloc::{AllocError, Global};
 
@@ -25,20 +25,16 @@ fn event_fault(spot: Option<Spot>, at: usize) -> Option<BindFault>
     sooner(unknown, untimed)
 }
 
-fn watermark_fault(
-    alloc: Global,
-    stream: &Stream,
-    watermark: &Option<Watermark>,
-) -> Result<Option<BindFault>, AllocError>
-    ensures { IfOk result (FirstOf (Where (WatermarkFaults stream.now) watermark.now)) }
+fn watermark_fault(stream: &Stream, watermark: &Option<Watermark>) -> Option<BindFault>
+    ensures { FirstOf (Where (WatermarkFaults stream.now) watermark.now) result }
 {
     match watermark {
         Some(watermark) => {
-            let columns = columns_of(alloc, stream.columns.as_slice())?;
-            let spot = columns.spot(Side::Left, &watermark.column.text);
-            Ok(event_fault(spot, watermark.column.at))
+            let column = &watermark.column;
+            let spot = declared_spot(stream.columns.as_slice(), column.text.as_str());
+            event_fault(spot, column.at)
         }
-        None => Ok(None),
+        None => None,
     }
 }
 
@@ -47,7 +43,7 @@ fn stream_fault(alloc: Global, stream: &Stream) -> Result<Option<BindFault>, All
 {
     let columns = stream.columns.as_slice();
     let doubled = first_double(alloc, columns)?;
-    let event = watermark_fault(alloc, stream, &stream.watermark)?;
+    let event = watermark_fault(stream, &stream.watermark);
     Ok(sooner(doubled, sooner(beyond(columns), event)))
 }
 

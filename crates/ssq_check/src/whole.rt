@@ -1,14 +1,13 @@
 //! A whole query: the first of the rules that it breaks.
 
-ghost use Rattle.std.specs.Prelude.{◌≡◌, ◌||◌, Option, OnOk, IfOk, IfErr};
+ghost use Rattle.std.specs.Prelude.{◌≡◌, ◌||◌, [], Option, OnOk, IfOk, IfErr};
 ghost use Rattle.ssq_check.specs.Erased.{TypesStay};
 ghost use Rattle.ssq_check.specs.Worked.{AreWorked};
 ghost use Rattle.ssq_check.specs.Fault.{AreNone, FirstOf};
-ghost use Rattle.ssq_check.specs.Broken.{Either};
 ghost use Rattle.ssq_check.specs.Lists.{Where};
-ghost use Rattle.ssq_check.specs.Names.{is_there, group_keys, with_keys};
+ghost use Rattle.ssq_check.specs.Names.{is_there};
 ghost use Rattle.ssq_check.specs.Sound.{IsSound};
-ghost use Rattle.ssq_check.specs.Whole.{LimitFaults, DeduplicatedTwice, GroupedTwice, StatefulFaults, WordFaults, RowFaults, ShownFaults, OwnFaults, QueryFaults, IsRefusedBy};
+ghost use Rattle.ssq_check.specs.Whole.{LimitFaults, DeduplicatedTwice, GroupedTwice, StatefulFaults, WordFaults, RowFaults, ShownFaults, OwnFaults, SelectFaults, QueryFaults, IsRefusedBy};
 
 use crate::clause::{
     check_deduplicate, check_filter, check_group, check_having, check_join, check_order,
@@ -16,7 +15,7 @@ use crate::clause::{
 use crate::fault::{BindFault, Cause, Refusal, rule, sooner, unless};
 use crate::item::check_items;
 use crate::list::{beyond, past_places, standing};
-use crate::names::{group_scope, row_scope};
+use crate::names::{add_keys, add_rows};
 use crate::scope::Scope;
 use crate::shown::{group_place, shown_aggregates, within};
 use crate::stream::check_streams;
@@ -143,43 +142,37 @@ fn check_own(alloc: Global, scope: &Scope, query: &Query) -> Result<Option<BindF
     Ok(sooner(shown, words))
 }
 
-/// The same, from the names of rows.
-fn check_own_of(alloc: Global, names: Scope, query: &Query) -> Result<Option<BindFault>, AllocError>
-    ensures { IfOk result (FirstOf
-        (OwnFaults (with_keys names (group_keys names query.now.select.group)) query.now)) }
+/// The first fault behind the declarations. `names` has none at first, then those of rows, and then those of groups too.
+fn check_select(
+    alloc: Global,
+    query: &Query,
+    names: &mut Scope,
+) -> Result<Option<BindFault>, AllocError>
+    requires { names.old.keys ≡ [] }
+    ensures { IfOk result (FirstOf (SelectFaults query.now)) }
 {
-    let scope = group_scope(alloc, names, &query.select.group)?;
-    let own = check_own(alloc, &scope, query);
-    drop(scope);
-    own
+    add_rows(alloc, query, names)?;
+    let rows = check_rows(alloc, names, &query.select)?;
+    add_keys(alloc, &query.select.group, names)?;
+    let own = check_own(alloc, names, query)?;
+    Ok(sooner(rows, own))
 }
 
-/// The first fault behind the declarations, from the names of rows.
-#[tactic(auto, using(crate::proofs::First::first_sooner))]
-fn check_select(alloc: Global, names: Scope, query: &Query) -> Result<Option<BindFault>, AllocError>
-    ensures { IfOk result (FirstOf (Either (RowFaults names query.now.select)
-        (OwnFaults (with_keys names (group_keys names query.now.select.group)) query.now))) }
+fn check_behind(alloc: Global, query: &Query) -> Result<Option<BindFault>, AllocError>
+    ensures { IfOk result (FirstOf (SelectFaults query.now)) }
 {
-    match check_rows(alloc, &names, &query.select) {
-        Ok(rows) => {
-            let own = check_own_of(alloc, names, query)?;
-            Ok(sooner(rows, own))
-        }
-        Err(error) => {
-            drop(names);
-            Err(error)
-        }
-    }
+    let mut names = Scope::none(alloc);
+    let select = check_select(alloc, query, &mut names);
+    drop(names);
+    select
 }
 
 /// The first fault of a query.
-#[tactic(auto, using(crate::proofs::First::first_sooner))]
 fn check_query(alloc: Global, query: &Query) -> Result<Option<BindFault>, AllocError>
     ensures { IfOk result (FirstOf (QueryFaults query.now)) }
 {
     let streams = check_streams(alloc, query.streams.as_slice())?;
-    let names = row_scope(alloc, query)?;
-    let select = check_select(alloc, names, query)?;
+    let select = check_behind(alloc, query)?;
     Ok(sooner(streams, select))
 }
 

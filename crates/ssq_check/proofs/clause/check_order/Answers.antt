@@ -11,4 +11,4 @@ use Rattle.ssq_check.proofs.clause.check_order.Goals as goal
 pub returns : goal.returns
 returns c =
     subst (λ (is_there : List ℕ → Bool). IfOk c.first_in.result (FirstOf (Each (λ (order : OrderBy). Rule cause.UnknownName order.name.at (is_there order.name.text ≡ false)) c.args.orders.now)))
-    (λ i name. (ap (has_name name) c.in_ok-names.ensures ∙ are_outputs name c.args.items.now) i) c.first_in.ensures
+    (λ i name. (ap (has_name name) c.in_ok-take_all.ensures.names ∙ are_outputs name c.args.items.now) i) c.first_in.ensures

@@ -1,8 +1,0 @@
-use Rattle.std.proofs.Common.{take}
-use Rattle.std.specs.List.{flat_map}
-use Rattle.ssq_check.specs.Clauses.{ident_name, ident_place, group_columns}
-use Rattle.ssq_check.proofs.Lists.{Noted}
-use Rattle.ssq_check.proofs.list.first_double_column.Given as goal
-
-abbrev pub invariant-loop-item : goal.invariant-loop-item
-invariant-loop-item l = Noted ident_name ident_place (flat_map group_columns (take l.item-index l.items)) l.first l.seen.keys
