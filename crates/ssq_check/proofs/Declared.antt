@@ -1,5 +1,5 @@
 -- Columns are found among those that are declared.
-use Rattle.std.proofs.Common.{◌≡◌, ◌∙◌, ap, sym, refl, ℕ, ◌+◌, Bool, not, cond, nat_lt, List, [], ◌∷◌, map, length, position, Option, Some, None}
+use Rattle.std.proofs.Common.{◌≡◌, ◌∙◌, ap, sym, refl, ℕ, ◌+◌, Bool, not, cond, nat_lt, List, [], ◌∷◌, map, position, Option, Some, None}
 use Rattle.std.specs.Prelude.{slice_get}
 use Rattle.std.specs.List.{position_or_len}
 use Rattle.std.specs.Option.{option_map}
@@ -9,7 +9,6 @@ use Rattle.std.proofs.lemmas.Option.{slice_get-map}
 use Rattle.ssq_value.specs.declared.column.Column.{Column}
 use Rattle.ssq_ast.specs.declared.query.ColumnDecl.{ColumnDecl}
 use Rattle.ssq_check.specs.declared.scope.Side.{Side}
-use Rattle.ssq_check.specs.declared.scope.Spot.{Spot}
 use Rattle.ssq_check.specs.Scope.{spot_from, spot_where, in_columns}
 use Rattle.ssq_check.specs.Names.{column_of}
 

@@ -1,5 +1,5 @@
 -- One is there exactly if there is a first.
-use Rattle.std.proofs.Common.{◌≡◌, ℕ, ◌+◌, suc, Bool, true, false, not, ◌||◌, cond, nat_lt, List, [], ◌∷◌, length, position, Option, Some, None, is_some, refl, sym, ◌∙◌, arith, lt-ltb}
+use Rattle.std.proofs.Common.{◌≡◌, ℕ, ◌+◌, suc, Bool, true, false, not, ◌||◌, cond, nat_lt, List, [], ◌∷◌, length, position, Some, None, is_some, refl, sym, ◌∙◌, arith, lt-ltb}
 use Rattle.std.specs.List.{list_any, position_or_len}
 use Rattle.std.proofs.lemmas.Grind.{common_steps}
 use Rattle.std.proofs.lemmas.Bool.Decides.{nat_tests}

@@ -1,6 +1,6 @@
 //! The streams of a query, and the names that its expressions may use.
 
-ghost use Rattle.std.specs.Prelude.{◌≡◌, [], ◌++◌, map, position, slice_get, IfOk, OnOk};
+ghost use Rattle.std.specs.Prelude.{◌≡◌, ◌++◌, map, position, slice_get, IfOk, OnOk};
 ghost use Rattle.std.specs.List.{flat_map};
 ghost use Rattle.std.specs.Option.{option_copied, option_map};
 ghost use Rattle.std.specs.Str.{bytes_eq};
@@ -88,21 +88,18 @@ fn watermark_name(watermark: &Option<Watermark>) -> Result<Option<Text>, AllocEr
     }
 }
 
-/// What expressions see of a stream, where there is one.
-fn source_of(alloc: Global, stream: Option<&Stream>) -> Result<Option<Source>, AllocError>
-    ensures { IfOk result (λ source. source ≡ option_map source_of (option_copied stream.entry)) }
+/// What expressions see of a stream.
+fn source_of(alloc: Global, stream: &Stream) -> Result<Source, AllocError>
+    ensures { IfOk result (λ source. source ≡ source_of stream.now) }
 {
-    let Some(stream) = stream else {
-        return Ok(None);
-    };
     let name = stream.name.text.clone()?;
     let watermark = watermark_name(&stream.watermark)?;
     let columns = columns_of(alloc, stream.columns.as_slice())?;
-    Ok(Some(Source {
+    Ok(Source {
         name,
         columns,
         watermark,
-    }))
+    })
 }
 
 /// The first stream that is declared under the name.
@@ -134,13 +131,39 @@ pub fn right_stream(query: &Query) -> Option<&Stream>
     }
 }
 
-/// Puts in the names of a query's rows, those of the streams of FROM and JOIN.
-pub(crate) fn add_rows(alloc: Global, query: &Query, scope: &mut Scope) -> Result<(), AllocError>
-    ensures { scope.old.keys ≡ [] → OnOk result (scope.new ≡ row_scope query.now) }
+fn source_if(alloc: Global, stream: Option<&Stream>) -> Result<Option<Source>, AllocError>
+    ensures { IfOk result (λ source. source ≡ option_map source_of (option_copied stream.entry)) }
 {
-    scope.left = source_of(alloc, left_stream(query))?;
-    scope.right = source_of(alloc, right_stream(query))?;
-    Ok(())
+    match stream {
+        Some(stream) => Ok(Some(source_of(alloc, stream)?)),
+        None => Ok(None),
+    }
+}
+
+/// The names of a query's rows, from those of the stream of FROM.
+fn with_right(alloc: Global, query: &Query, left: Option<Source>) -> Result<Scope, AllocError>
+    requires { left ≡ (row_scope query.now).left }
+    ensures { IfOk result (λ scope. scope ≡ row_scope query.now) }
+{
+    match source_if(alloc, right_stream(query)) {
+        Ok(right) => Ok(Scope {
+            left,
+            right,
+            keys: Keys::none(alloc),
+        }),
+        Err(error) => {
+            drop(left);
+            Err(error)
+        }
+    }
+}
+
+/// The names of a query's rows.
+pub(crate) fn row_scope(alloc: Global, query: &Query) -> Result<Scope, AllocError>
+    ensures { IfOk result (λ scope. scope ≡ row_scope query.now) }
+{
+    let left = source_if(alloc, left_stream(query))?;
+    with_right(alloc, query, left)
 }
 
 fn push_key(scope: &Scope, item: &Group, keys: &mut Sequence<Key>) -> Result<(), AllocError>
@@ -192,19 +215,12 @@ pub(crate) fn add_keys(
     Ok(())
 }
 
-fn add_names(alloc: Global, query: &Query, scope: &mut Scope) -> Result<(), AllocError>
-    ensures { scope.old.keys ≡ [] → OnOk result (scope.new ≡ scope_of query.now) }
-{
-    add_rows(alloc, query, scope)?;
-    add_keys(alloc, &query.select.group, scope)
-}
-
 /// The names that the expressions of a query may use.
 pub fn scope_of(alloc: Global, query: &Query) -> Result<Scope, AllocError>
     ensures { IfOk result (λ scope. scope ≡ scope_of query.now) }
 {
-    let mut scope = Scope::none(alloc);
-    match add_names(alloc, query, &mut scope) {
+    let mut scope = row_scope(alloc, query)?;
+    match add_keys(alloc, &query.select.group, &mut scope) {
         Ok(()) => Ok(scope),
         Err(error) => {
             drop(scope);

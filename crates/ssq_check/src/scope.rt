@@ -1,6 +1,6 @@
 //! The names that an expression may use.
 
-ghost use Rattle.std.specs.Prelude.{◌≡◌, [], None};
+ghost use Rattle.std.specs.Prelude.{◌≡◌};
 ghost use Rattle.ssq_check.specs.Scope.{is_same_side, is_window_name, is_window_here, in_source, bare_spot, source_named, known, named_spot, grouped, column_kind};
 
 use crate::columns::Columns;
@@ -8,7 +8,6 @@ use crate::fault::{BindFault, Cause};
 use crate::keys::Keys;
 use ssq_ast::{ColumnRef, Ident};
 use ssq_value::{ColType, Text};
-use std::alloc::Global;
 
 /// A stream of FROM or JOIN that is declared.
 #[derive(Drop)]
@@ -51,19 +50,6 @@ pub struct Scope {
     pub right: Option<Source>,
     /// What GROUP BY lists, as far as its names are known.
     pub keys: Keys,
-}
-
-impl Scope {
-    /// No names.
-    pub(crate) fn none(alloc: Global) -> Scope
-        ensures { result ≡ record { left = None; right = None; keys = [] } }
-    {
-        Scope {
-            left: None,
-            right: None,
-            keys: Keys::none(alloc),
-        }
-    }
 }
 
 /// Where an expression stands.

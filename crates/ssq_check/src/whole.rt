@@ -1,11 +1,11 @@
 //! A whole query: the first of the rules that it breaks.
 
-ghost use Rattle.std.specs.Prelude.{◌≡◌, ◌||◌, [], Option, OnOk, IfOk, IfErr};
+ghost use Rattle.std.specs.Prelude.{◌≡◌, ◌||◌, Option, OnOk, IfOk, IfErr};
 ghost use Rattle.ssq_check.specs.Erased.{TypesStay};
 ghost use Rattle.ssq_check.specs.Worked.{AreWorked};
 ghost use Rattle.ssq_check.specs.Fault.{AreNone, FirstOf};
 ghost use Rattle.ssq_check.specs.Lists.{Where};
-ghost use Rattle.ssq_check.specs.Names.{is_there};
+ghost use Rattle.ssq_check.specs.Names.{is_there, row_scope};
 ghost use Rattle.ssq_check.specs.Sound.{IsSound};
 ghost use Rattle.ssq_check.specs.Whole.{LimitFaults, DeduplicatedTwice, GroupedTwice, StatefulFaults, WordFaults, RowFaults, ShownFaults, OwnFaults, SelectFaults, QueryFaults, IsRefusedBy};
 
@@ -15,7 +15,7 @@ use crate::clause::{
 use crate::fault::{BindFault, Cause, Refusal, rule, sooner, unless};
 use crate::item::check_items;
 use crate::list::{beyond, past_places, standing};
-use crate::names::{add_keys, add_rows};
+use crate::names::{add_keys, row_scope};
 use crate::scope::Scope;
 use crate::shown::{group_place, shown_aggregates, within};
 use crate::stream::check_streams;
@@ -142,16 +142,15 @@ fn check_own(alloc: Global, scope: &Scope, query: &Query) -> Result<Option<BindF
     Ok(sooner(shown, words))
 }
 
-/// The first fault behind the declarations. `names` has none at first, then those of rows, and then those of groups too.
+/// The first fault behind the declarations. `names` are those of rows at first, and then those of groups too.
 fn check_select(
     alloc: Global,
     query: &Query,
     names: &mut Scope,
 ) -> Result<Option<BindFault>, AllocError>
-    requires { names.old.keys ≡ [] }
+    requires { names.old ≡ row_scope query.now }
     ensures { IfOk result (FirstOf (SelectFaults query.now)) }
 {
-    add_rows(alloc, query, names)?;
     let rows = check_rows(alloc, names, &query.select)?;
     add_keys(alloc, &query.select.group, names)?;
     let own = check_own(alloc, names, query)?;
@@ -161,7 +160,7 @@ fn check_select(
 fn check_behind(alloc: Global, query: &Query) -> Result<Option<BindFault>, AllocError>
     ensures { IfOk result (FirstOf (SelectFaults query.now)) }
 {
-    let mut names = Scope::none(alloc);
+    let mut names = row_scope(alloc, query)?;
     let select = check_select(alloc, query, &mut names);
     drop(names);
     select
