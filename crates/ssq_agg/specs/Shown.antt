@@ -1,5 +1,6 @@
 -- What is shown of groups, one after the other.
 use Rattle.std.specs.Prelude.{◌≡◌, ◌++◌, Bool, true, false, List, [], ◌∷◌, fold, flat_map, map, filter, not, Option, Some, None, Result, Ok, Err, is_err, is_some}
+use Rattle.ssq_version.specs.State.{State}
 use Rattle.ssq_shape.specs.declared.bound.Bound.{Bound}
 use Rattle.ssq_shape.specs.declared.bound.Grouping.{Grouping}
 use Rattle.ssq_shape.specs.Evaluation.{Overflow}
@@ -8,6 +9,7 @@ use Rattle.ssq_meaning.specs.Group.{group_row, lesser_key}
 use Rattle.ssq_meaning.specs.Meaning.{Values}
 use Rattle.ssq_agg.specs.declared.kept.Group.{Group}
 use Rattle.ssq_step.specs.declared.shown.Shown.{Shown}
+use Rattle.ssq_agg.specs.Holding.{AreRead}
 
 -- the row, if there is one
 abbrev pub row_if : Result (Option Values) Overflow → List Values
@@ -47,6 +49,10 @@ pairs_of groups = map pair_of groups
 -- those whose keys are not among others
 abbrev pub others_of : {X : Type 0} → (Values → Option X) → List Group → List Group
 others_of found groups = filter (λ (group : Group). not (is_some (found group.key))) groups
+
+-- the groups of a state but for those whose keys are among others
+abbrev pub AreOthers : {X : Type 0} → Grouping → State → (Values → Option X) → List Group → Type 0
+AreOthers grouping state found others = (all : List Group) × AreRead grouping state all × (others ≡ others_of found all)
 
 -- what is shown so far, and then these groups, comes to what all of them come to
 pub record Finishes (query : Bound) (grouping : Grouping) (left all : List Pair) (before now : Shown) : Type 0 where

@@ -1,6 +1,6 @@
 //! The step of an epoch.
 
-ghost use Rattle.std.specs.Prelude.{◌≡◌, [], ℤ, List, Option, All, is_some, IfOk, IfErr};
+ghost use Rattle.std.specs.Prelude.{◌≡◌, [], ℤ, List, None, Option, All, is_some, not, IfOk, IfErr, OnOk};
 ghost use Rattle.std.specs.HashMap.{get};
 ghost use Rattle.ssq_value.specs.declared.value.Value.{Value as Cell};
 ghost use Rattle.ssq_shape.specs.declared.bound.Bound.{Bound as Query};
@@ -14,7 +14,7 @@ ghost use Rattle.ssq_agg.specs.Groups.{Held as Own};
 ghost use Rattle.ssq_agg.specs.Holding.{Holds};
 ghost use Rattle.ssq_agg.specs.Indexing.{Indexes};
 ghost use Rattle.ssq_agg.specs.Readable.{AreFit, AreFitGroups};
-ghost use Rattle.ssq_agg.specs.Shown.{others_of};
+ghost use Rattle.ssq_agg.specs.Shown.{AreOthers};
 ghost use Rattle.ssq_agg.specs.Steps.{Given, GivenGroups, IsCause, IsMove, IsStep, IsUngrouped, ShowsDue};
 
 use crate::changed::changed;
@@ -28,7 +28,7 @@ use ssq_meaning::{
 };
 use ssq_shape::{Bound, Grouping, Mode, Shape};
 use ssq_step::{Closing, Key, Shown, StepFault, Stepped};
-use ssq_value::{Row, Value};
+use ssq_value::Row;
 use ssq_version::{Change, StateMap, states_are_kept};
 use std::alloc::{AllocError, Global};
 use std::collections::HashMap;
@@ -60,27 +60,25 @@ fn closed_groups(
     groups_at(alloc, grouping, state, keys.as_slice())
 }
 
-fn is_touched(touched: &HashMap<Key<'_>, Totals>, key: &[Value]) -> bool
-    ensures { result ≡ is_some (get is_same touched.now key.now) }
+/// Whether a group was not touched.
+fn is_other(touched: &HashMap<Key<'_>, Totals>, group: &Group) -> bool
+    ensures { result ≡ not (is_some (get is_same touched.now group.now.key)) }
 {
-    touched.contains_key(&Key::of(key))
+    !touched.contains_key(&Key::of(group.key.as_slice()))
 }
 
-/// Those of the groups that were not touched.
+/// The groups of the state that were not touched.
 fn others(
     alloc: Global,
-    groups: Vec<Group>,
+    grouping: &Grouping,
+    state: &StateMap,
     touched: &HashMap<Key<'_>, Totals>,
 ) -> Result<Vec<Group>, AllocError>
-    ensures { IfOk result (λ others. others.items ≡ others_of (get is_same touched.now) groups.items) }
+    ensures { IfOk result (λ others. AreOthers grouping.now state.now (get is_same touched.now) others.items) }
 {
-    let mut others = Vec::new(alloc);
-    for group in groups {
-        if !is_touched(touched, group.key.as_slice()) {
-            others.push(group)?;
-        }
-    }
-    Ok(others)
+    let mut groups = all_groups(alloc, grouping, state)?;
+    groups.retain(|group| is_other(touched, group));
+    Ok(groups)
 }
 
 /// Shows the groups that are due: in Append those that are closed, in Update those that were touched, in Complete all.
@@ -92,21 +90,24 @@ fn show_due(
     now: Option<i64>,
     touched: &HashMap<Key<'_>, Totals>,
     closed: &[Group],
-) -> Result<Shown, AllocError>
+    shown: &mut Shown,
+) -> Result<(), AllocError>
     requires touched { AreFitGroups touched.now }
     requires closed { AreFit closed.now }
-    ensures due { (own : Own) → Holds grouping.now state.now own → AreClosed own (closing_time bound.now grouping.now) now closed.now →
-        IfOk result (ShowsDue bound.now grouping.now own (closing_time bound.now grouping.now) now (get is_same touched.now)) }
-    ensures printable { IfOk result (λ shown. ArePrintable shown.rows.items) }
+    requires printable { ArePrintable shown.old.rows.items }
+    // Nothing was shown before.
+    ensures due { (own : Own) → shown.old.rows.items ≡ [] → shown.old.fault ≡ None → Holds grouping.now state.now own →
+        AreClosed own (closing_time bound.now grouping.now) now closed.now →
+        OnOk result (ShowsDue bound.now grouping.now own (closing_time bound.now grouping.now) now (get is_same touched.now) shown.new) }
+    ensures printable { OnOk result (ArePrintable shown.new.rows.items) }
 {
     states_are_kept(state);
-    let shown = Shown::nothing(alloc);
     match bound.mode {
         Mode::Append => show_each(alloc, bound, grouping, shown, closed),
         Mode::Update => show_touched(alloc, bound, grouping, shown, touched),
         Mode::Complete => {
-            let shown = show_touched(alloc, bound, grouping, shown, touched)?;
-            let others = others(alloc, all_groups(alloc, grouping, state)?, touched)?;
+            show_touched(alloc, bound, grouping, shown, touched)?;
+            let others = others(alloc, grouping, state, touched)?;
             show_each(alloc, bound, grouping, shown, others.as_slice())
         }
     }
@@ -136,7 +137,8 @@ fn move_groups<'a>(
     groups_are_due_by_what_is_kept();
     let touched = touched(alloc, grouping, state, rows)?;
     let closed = closed_groups(alloc, grouping, state, closing, now)?;
-    let shown = show_due(
+    let mut shown = Shown::nothing(alloc);
+    show_due(
         alloc,
         bound,
         grouping,
@@ -144,6 +146,7 @@ fn move_groups<'a>(
         now,
         &touched,
         closed.as_slice(),
+        &mut shown,
     )?;
     let rows = shown.into_rows()?;
     Ok(Moved {

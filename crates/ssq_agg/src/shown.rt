@@ -1,6 +1,6 @@
 //! What an epoch shows of groups.
 
-ghost use Rattle.std.specs.Prelude.{◌≡◌, [], ◌∷◌, Some, All, IfOk};
+ghost use Rattle.std.specs.Prelude.{◌≡◌, [], ◌∷◌, Some, All, OnOk};
 ghost use Rattle.std.specs.HashMap.{IsUnique, get};
 ghost use Rattle.ssq_meaning.specs.Group.{is_same};
 ghost use Rattle.ssq_step.specs.Shown.{ArePrintable};
@@ -22,19 +22,19 @@ fn show_group(
     alloc: Global,
     bound: &Bound,
     grouping: &Grouping,
-    shown: Shown,
+    shown: &mut Shown,
     key: &[Value],
     totals: &Totals,
-) -> Result<Shown, AllocError>
+) -> Result<(), AllocError>
     requires fit { IsFitGroup key.now totals.now }
-    requires printable { ArePrintable shown.rows.items }
-    ensures shown { IfOk result (λ now. Shows bound.now grouping.now ((key.now, totals.now) ∷ []) shown now) }
-    ensures printable { IfOk result (λ now. ArePrintable now.rows.items) }
+    requires printable { ArePrintable shown.old.rows.items }
+    ensures shown { OnOk result (Shows bound.now grouping.now ((key.now, totals.now) ∷ []) shown.old shown.new) }
+    ensures printable { OnOk result (ArePrintable shown.new.rows.items) }
 {
     match show(alloc, bound, grouping, key, totals.as_slice()) {
-        Ok(Some(row)) => shown.with_row(row),
-        Ok(None) => Ok(shown),
-        Err(EvalFault::Overflow) => shown.with_fault(alloc, key),
+        Ok(Some(row)) => shown.add_row(row),
+        Ok(None) => Ok(()),
+        Err(EvalFault::Overflow) => shown.add_fault(alloc, key),
         Err(EvalFault::NoMemory) => Err(AllocError),
     }
 }
@@ -44,22 +44,21 @@ pub(crate) fn show_touched(
     alloc: Global,
     bound: &Bound,
     grouping: &Grouping,
-    shown: Shown,
+    shown: &mut Shown,
     groups: &HashMap<Key<'_>, Totals>,
-) -> Result<Shown, AllocError>
+) -> Result<(), AllocError>
     requires fit { AreFitGroups groups.now }
-    requires printable { ArePrintable shown.rows.items }
-    ensures shown { IfOk result (λ now. Shows bound.now grouping.now groups.now.entries shown now) }
-    ensures printable { IfOk result (λ now. ArePrintable now.rows.items) }
+    requires printable { ArePrintable shown.old.rows.items }
+    ensures shown { OnOk result (Shows bound.now grouping.now groups.now.entries shown.old shown.new) }
+    ensures printable { OnOk result (ArePrintable shown.new.rows.items) }
     // Each key of a map is there once, and is found in it.
     ensures unique { IsUnique is_same groups.now }
     ensures found { All (λ entry. get is_same groups.now entry.0 ≡ Some entry.1) groups.now.entries }
 {
-    let mut shown = shown;
     for (key, totals) in groups.iter() {
-        shown = show_group(alloc, bound, grouping, shown, key.values(), totals)?;
+        show_group(alloc, bound, grouping, shown, key.values(), totals)?;
     }
-    Ok(shown)
+    Ok(())
 }
 
 /// Shows each of the groups.
@@ -67,17 +66,16 @@ pub(crate) fn show_each(
     alloc: Global,
     bound: &Bound,
     grouping: &Grouping,
-    shown: Shown,
+    shown: &mut Shown,
     groups: &[Group],
-) -> Result<Shown, AllocError>
+) -> Result<(), AllocError>
     requires fit { AreFit groups.now }
-    requires printable { ArePrintable shown.rows.items }
-    ensures shown { IfOk result (λ now. Shows bound.now grouping.now (pairs_of groups.now) shown now) }
-    ensures printable { IfOk result (λ now. ArePrintable now.rows.items) }
+    requires printable { ArePrintable shown.old.rows.items }
+    ensures shown { OnOk result (Shows bound.now grouping.now (pairs_of groups.now) shown.old shown.new) }
+    ensures printable { OnOk result (ArePrintable shown.new.rows.items) }
 {
-    let mut shown = shown;
     for group in groups {
-        shown = show_group(
+        show_group(
             alloc,
             bound,
             grouping,
@@ -86,5 +84,5 @@ pub(crate) fn show_each(
             &group.totals,
         )?;
     }
-    Ok(shown)
+    Ok(())
 }

@@ -62,8 +62,8 @@ fn take_row<'a>(
     if is_kept(state, &key) {
         return Ok(());
     }
-    shown.push(copied_row(alloc, row.values())?)?;
     draft.put(key, Bytes::new(alloc))?;
+    shown.push(copied_row(alloc, row.values())?)?;
     Ok(())
 }
 
@@ -106,9 +106,9 @@ fn step_rows(
 {
     kept_keys_are_found();
     first_rows_are_told_by_what_is_kept();
+    let keys = closing.past(alloc, now)?;
     let mut draft = Draft::new(alloc);
     let rows = first_rows(alloc, state, &mut draft, rows)?;
-    let keys = closing.past(alloc, now)?;
     forget(&mut draft, keys.as_slice())?;
     let change = draft.into_change(alloc)?;
     Ok(Stepped { change, rows })

@@ -1,5 +1,5 @@
 -- Rows that are over without a partner, one after the other.
-use Rattle.std.proofs.Common.{◌≡◌, ◌<◌, ◌≤◌, ◌+◌, ◌-◌, ◌++◌, ℕ, suc, zero, [], ◌∷◌, List, Option, Some, None, Bool, true, false, All, IfOk, Result, refl, ap, sym, ◌∙◌, subst, arith, add-one, filter, length, map, take, get_or}
+use Rattle.std.proofs.Common.{◌≡◌, ◌<◌, ◌≤◌, ◌+◌, ◌-◌, ◌++◌, ℕ, suc, zero, [], ◌∷◌, List, Option, Some, None, Bool, true, false, All, refl, ap, sym, ◌∙◌, subst, arith, add-one, filter, length, map, take, get_or}
 use Rattle.std.specs.Prelude.{◌&&◌, ◌==◌, IsSomeAnd, slice_get, not, if◌then◌else◌, option_copied}
 use Rattle.std.specs.Borrow.{Bor}
 use Rattle.std.specs.Int.{w32, w64, to_be_bytes}
@@ -60,9 +60,9 @@ pub not_shown : (query : Bound) (joining : Joining) (met : FedRow → Bool) (row
     → Tells found (with_alone query joining met row all)
 not_shown query joining met row all found is tells = subst (λ b. Tells found (if b then alone_of query row ∷ all else all)) (sym is) tells
 
-pub if_shown : {E : Type 0} (query : Bound) (joining : Joining) (met : FedRow → Bool) (row : FedRow) (all : List Considered) (result : Result Shown E) → is_shown_alone joining met row ≡ true
-    → IfOk result (λ now. Tells now (alone_of query row ∷ all)) → IfOk result (λ now. Tells now (with_alone query joining met row all))
-if_shown query joining met row all result is tells = subst (λ b. IfOk result (λ now. Tells now (if b then alone_of query row ∷ all else all))) (sym is) tells
+pub if_shown : (query : Bound) (joining : Joining) (met : FedRow → Bool) (row : FedRow) (all : List Considered) (found : Shown) → is_shown_alone joining met row ≡ true → Tells found (alone_of query row ∷ all)
+    → Tells found (with_alone query joining met row all)
+if_shown query joining met row all found is tells = subst (λ b. Tells found (if b then alone_of query row ∷ all else all)) (sym is) tells
 
 pub some_is : {A : Type 0} (x y : A) → Some x ≡ Some y → x ≡ y
 some_is x y same = cc

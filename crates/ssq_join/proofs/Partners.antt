@@ -1,5 +1,5 @@
 -- What is judged of a new row and one of the other side.
-use Rattle.std.proofs.Common.{◌≡◌, ◌++◌, ℕ, [], ◌∷◌, List, Option, Some, None, Bool, true, false, Result, Ok, Err, IfOk, refl, ap, sym, ◌∙◌, subst}
+use Rattle.std.proofs.Common.{◌≡◌, ◌++◌, ℕ, [], ◌∷◌, List, Option, Some, None, Bool, true, false, refl, ap, sym, ◌∙◌, subst}
 use Rattle.std.specs.Prelude.{◌&&◌, ◌||◌, All, IsSomeAnd, not, if◌then◌else◌}
 use Rattle.std.specs.BTreeMap.{is_at}
 use Rattle.std.specs.List.{list_any}
@@ -149,8 +149,3 @@ some_has P o x is has = subst (λ o. IsSomeAnd o P) is has
 pub of_none : {X : Type 0} (P : Option X → Type 0) (o : Option X) → ((x : X) → o ≡ Some x → ⊥) → P o → P None
 of_none P None none has = has
 of_none P (Some x) none has = absurd (none x refl)
-
--- what holds of each thing that holds of what came
-pub each_ok : {A E X : Type 0} (r : Result A E) (Q : X → Type 0) (P : X → A → Type 0) → ((x : X) → Q x → IfOk r (P x)) → IfOk r (λ a. (x : X) → Q x → P x a)
-each_ok (Ok a) Q P all = all
-each_ok (Err e) Q P all = tt

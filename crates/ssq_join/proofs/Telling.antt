@@ -1,5 +1,5 @@
 -- One more candidate.
-use Rattle.std.proofs.Common.{◌≡◌, ◌++◌, [], ◌∷◌, Some, None, List, Result, Ok, Err, IfOk, ap, sym, subst, ◌∙◌}
+use Rattle.std.proofs.Common.{◌≡◌, ◌++◌, [], ◌∷◌, Some, None, List, Result, Ok, Err, OnOk, ap, sym, subst, ◌∙◌}
 use Rattle.std.specs.List.Sorted.{IsPermutation}
 use Rattle.std.proofs.lemmas.List.Sorted.{IsPermutation-cons, IsPermutation-refl, IsPermutation-to_front, IsPermutation-trans}
 use Rattle.ssq_shape.specs.Evaluation.{overflow}
@@ -30,7 +30,7 @@ fault_told found now key rows fault all tells = record {
   fault = fault ∙ ap (λ least. Some (lesser_key key least)) tells.fault;
 }
 
--- two things that hold of what came
-pub both_ok : {A E : Type 0} (r : Result A E) (P Q R : A → Type 0) → ((x : A) → P x → Q x → R x) → IfOk r P → IfOk r Q → IfOk r R
-both_ok (Ok x) P Q R make p q = make x p q
-both_ok (Err e) P Q R make p q = tt
+-- two things that hold where it was done
+pub both_ok : {A E P Q R : Type 0} (r : Result A E) → (P → Q → R) → OnOk r P → OnOk r Q → OnOk r R
+both_ok (Ok x) make p q = make p q
+both_ok (Err e) make p q = tt

@@ -60,11 +60,12 @@ fn move_rows(
     watermark_fits(now);
     kept_rows_are_listed();
     joined_rows_are_told_by_what_is_kept();
-    let taken = take_rows(alloc, bound, joining, state, rows)?;
-    let Taken { found, met, fresh } = taken;
     let over = closing.past(alloc, now)?;
-    let found = take_all_over(alloc, bound, joining, state, over.as_slice(), found)?;
-    let change = changed(alloc, state, fresh, &met, over.as_slice())?;
+    let keys = over.as_slice();
+    let mut taken = take_rows(alloc, bound, joining, state, rows)?;
+    take_all_over(alloc, bound, joining, state, keys, &mut taken.found)?;
+    let Taken { found, met, fresh } = taken;
+    let change = changed(alloc, state, fresh, &met, keys)?;
     Ok(Moved { change, found })
 }
 

@@ -1,6 +1,6 @@
 //! What was considered so far.
 
-ghost use Rattle.std.specs.Prelude.{◌∷◌, List, IfOk};
+ghost use Rattle.std.specs.Prelude.{◌∷◌, List, OnOk};
 ghost use Rattle.ssq_meaning.specs.Join.{Considered as Told};
 ghost use Rattle.ssq_step.specs.Shown.{ArePrintable};
 ghost use Rattle.ssq_join.specs.Judging.{IsPrintable, shown_by};
@@ -12,20 +12,20 @@ use ssq_value::Value;
 use std::alloc::{AllocError, Global};
 
 /// Takes in what was considered for a key.
-pub(crate) fn with_shown(
+pub(crate) fn take_shown(
     alloc: Global,
-    found: Shown,
+    found: &mut Shown,
     key: &[Value],
     shown: ShownRow,
-) -> Result<Shown, AllocError>
+) -> Result<(), AllocError>
     requires one { IsPrintable shown }
-    requires printable { ArePrintable found.rows.items }
-    ensures told { (all : List Told) → Tells found all → IfOk result (λ now. Tells now (record { key = key.now; row = shown_by shown } ∷ all)) }
-    ensures printable { IfOk result (λ now. ArePrintable now.rows.items) }
+    requires printable { ArePrintable found.old.rows.items }
+    ensures told { (all : List Told) → Tells found.old all → OnOk result (Tells found.new (record { key = key.now; row = shown_by shown } ∷ all)) }
+    ensures printable { OnOk result (ArePrintable found.new.rows.items) }
 {
     match shown {
-        ShownRow::Row(row) => found.with_row(row),
-        ShownRow::Nothing => Ok(found),
-        ShownRow::Overflow => found.with_fault(alloc, key),
+        ShownRow::Row(row) => found.add_row(row),
+        ShownRow::Nothing => Ok(()),
+        ShownRow::Overflow => found.add_fault(alloc, key),
     }
 }

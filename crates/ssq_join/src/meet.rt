@@ -10,7 +10,7 @@ ghost use Rattle.ssq_step.specs.Shown.{ArePrintable};
 ghost use Rattle.ssq_join.specs.Meeting.{IsOther, JudgedAs, MeetsFront, are_near, joined, with_candidate};
 ghost use Rattle.ssq_join.specs.Telling.{Meets, Pair, among};
 
-use crate::found::with_shown;
+use crate::found::take_shown;
 use crate::judge::{Judged, judge};
 use crate::near::is_near;
 use ssq_field::Bytes;
@@ -117,31 +117,31 @@ fn meet_row(
     comer: Comer<'_>,
     key: &Bytes,
     value: &Bytes,
-    found: Shown,
+    found: &mut Shown,
     met: &mut BTreeSet<Bytes>,
-) -> Result<Shown, AllocError>
+) -> Result<(), AllocError>
     requires row { IsFitRow comer.row.now }
     requires bytes { comer.bytes.now ≡ row_key comer.row.now }
-    requires printable { ArePrintable found.rows.items }
+    requires printable { ArePrintable found.old.rows.items }
     ensures meets { (other : Fed) (was_met : Bool) (pairs : List Pair) → IsOther bound.now joining.now comer.entry.row.now other was_met key.now value.now →
-        Meets bound.now joining.now pairs found met.old.keys →
-        IfOk result (λ now. Meets bound.now joining.now (with_candidate joining.now comer.entry.row.now other pairs) now met.new.keys) }
-    ensures printable { IfOk result (λ now. ArePrintable now.rows.items) }
+        Meets bound.now joining.now pairs found.old met.old.keys →
+        OnOk result (Meets bound.now joining.now (with_candidate joining.now comer.entry.row.now other pairs) found.new met.new.keys) }
+    ensures printable { OnOk result (ArePrintable found.new.rows.items) }
 {
     let read = read_row(alloc, bound, key, value)?;
     let Some(other) = read else {
-        return Ok(found);
+        return Ok(());
     };
     let judged = judge_pair(alloc, bound, joining, comer.row, other)?;
     let Some(judged) = judged else {
-        return Ok(found);
+        return Ok(());
     };
     let Judged {
         met: is_partner,
         shown,
     } = judged;
-    know(met, is_partner, comer.bytes, key)?;
-    with_shown(alloc, found, comer.row.key(), shown)
+    take_shown(alloc, found, comer.row.key(), shown)?;
+    know(met, is_partner, comer.bytes, key)
 }
 
 /// Takes in the rows among some that are kept that may be partners of a new row: those of the other side with its join key. They stand together
@@ -153,21 +153,20 @@ pub(crate) fn meet(
     comer: Comer<'_>,
     prefix: &Bytes,
     kept: Entries<'_>,
-    found: Shown,
+    found: &mut Shown,
     met: &mut BTreeSet<Bytes>,
-) -> Result<Shown, AllocError>
+) -> Result<(), AllocError>
     requires row { IsFitRow comer.row.now }
     requires bytes { comer.bytes.now ≡ row_key comer.row.now }
-    requires printable { ArePrintable found.rows.items }
-    ensures meets { IfOk result (λ now. MeetsFront bound.now joining.now comer.entry.row.now prefix.now kept.entry found now met.old.keys met.new.keys) }
-    ensures printable { IfOk result (λ now. ArePrintable now.rows.items) }
+    requires printable { ArePrintable found.old.rows.items }
+    ensures meets { OnOk result (MeetsFront bound.now joining.now comer.entry.row.now prefix.now kept.entry found.old found.new met.old.keys met.new.keys) }
+    ensures printable { OnOk result (ArePrintable found.new.rows.items) }
 {
-    let mut found = found;
     for (key, value) in kept {
         if !begins_with(key, prefix) {
             break;
         }
-        found = meet_row(alloc, bound, joining, comer, key, value, found, met)?;
+        meet_row(alloc, bound, joining, comer, key, value, found, met)?;
     }
-    Ok(found)
+    Ok(())
 }

@@ -1,6 +1,6 @@
 //! Rows that are over without a partner.
 
-ghost use Rattle.std.specs.Prelude.{◌≡◌, ◌∷◌, Bool, List, All, Some, false, IfOk, IsSomeAnd};
+ghost use Rattle.std.specs.Prelude.{◌≡◌, ◌∷◌, Bool, List, All, Some, false, IfOk, IsSomeAnd, OnOk};
 ghost use Rattle.ssq_value.specs.Key.{keys_of};
 ghost use Rattle.ssq_shape.specs.declared.bound.Bound.{Bound as Query};
 ghost use Rattle.ssq_meaning.specs.FedRows.{FedRow as Fed};
@@ -15,7 +15,7 @@ ghost use Rattle.ssq_join.specs.Telling.{Tells};
 
 use crate::bytes::PLACE;
 use crate::changed::is_flagged;
-use crate::found::with_shown;
+use crate::found::take_shown;
 use crate::judge::show_row;
 use ssq_field::Bytes;
 use ssq_keys::read_key;
@@ -101,17 +101,17 @@ fn show_alone(
     bound: &Bound,
     own: &[Value],
     row: KeptRow,
-    found: Shown,
-) -> Result<Shown, AllocError>
+    found: &mut Shown,
+) -> Result<(), AllocError>
     requires fit { All IsFit row.values }
-    requires printable { ArePrintable found.rows.items }
-    ensures told { (fed : Fed) (all : List Told) → IsRead fed row → own.now ≡ fed.key → Tells found all →
-        IfOk result (λ now. Tells now (alone_of bound.now fed ∷ all)) }
-    ensures printable { IfOk result (λ now. ArePrintable now.rows.items) }
+    requires printable { ArePrintable found.old.rows.items }
+    ensures told { (fed : Fed) (all : List Told) → IsRead fed row → own.now ≡ fed.key → Tells found.old all →
+        OnOk result (Tells found.new (alone_of bound.now fed ∷ all)) }
+    ensures printable { OnOk result (ArePrintable found.new.rows.items) }
 {
     let values = joined_alone(alloc, bound, row)?;
     let shown = show_row(alloc, bound, values.as_slice())?;
-    with_shown(alloc, found, own, shown)
+    take_shown(alloc, found, own, shown)
 }
 
 /// Takes in a row that met no partner, by what is kept of it.
@@ -121,20 +121,20 @@ fn take_alone(
     joining: &Joining,
     key: &Bytes,
     value: &Bytes,
-    found: Shown,
-) -> Result<Shown, AllocError>
-    requires printable { ArePrintable found.rows.items }
-    ensures told { (row : Fed) (all : List Told) → IsKept bound.now joining.now row → key.now ≡ row_key row → value.now ≡ row_value false row → Tells found all →
-        IfOk result (λ now. Tells now (alone_of bound.now row ∷ all)) }
-    ensures printable { IfOk result (λ now. ArePrintable now.rows.items) }
+    found: &mut Shown,
+) -> Result<(), AllocError>
+    requires printable { ArePrintable found.old.rows.items }
+    ensures told { (row : Fed) (all : List Told) → IsKept bound.now joining.now row → key.now ≡ row_key row → value.now ≡ row_value false row → Tells found.old all →
+        OnOk result (Tells found.new (alone_of bound.now row ∷ all)) }
+    ensures printable { OnOk result (ArePrintable found.new.rows.items) }
 {
-    let read = read_row(alloc, bound, key, value)?;
-    let Some(row) = read else {
-        return Ok(found);
-    };
     let own = join_key(alloc, joining, key)?;
     let Some(own) = own else {
-        return Ok(found);
+        return Ok(());
+    };
+    let read = read_row(alloc, bound, key, value)?;
+    let Some(row) = read else {
+        return Ok(());
     };
     show_alone(alloc, bound, own.as_slice(), row, found)
 }
@@ -146,21 +146,21 @@ fn take_over(
     joining: &Joining,
     state: &StateMap,
     key: &Bytes,
-    found: Shown,
-) -> Result<Shown, AllocError>
-    requires printable { ArePrintable found.rows.items }
-    ensures told { (met : Fed → Bool) (row : Fed) (all : List Told) → IsHeld bound.now joining.now state.now met row → key.now ≡ row_key row → Tells found all →
-        IfOk result (λ now. Tells now (with_alone bound.now joining.now met row all)) }
-    ensures printable { IfOk result (λ now. ArePrintable now.rows.items) }
+    found: &mut Shown,
+) -> Result<(), AllocError>
+    requires printable { ArePrintable found.old.rows.items }
+    ensures told { (met : Fed → Bool) (row : Fed) (all : List Told) → IsHeld bound.now joining.now state.now met row → key.now ≡ row_key row → Tells found.old all →
+        OnOk result (Tells found.new (with_alone bound.now joining.now met row all)) }
+    ensures printable { OnOk result (ArePrintable found.new.rows.items) }
 {
     if !is_of_outer_side(joining.kind, key.as_slice()) {
-        return Ok(found);
+        return Ok(());
     }
     let Some(value) = state.get(key) else {
-        return Ok(found);
+        return Ok(());
     };
     if is_flagged(value) {
-        return Ok(found);
+        return Ok(());
     }
     take_alone(alloc, bound, joining, key, value, found)
 }
@@ -172,16 +172,15 @@ pub(crate) fn take_all_over(
     joining: &Joining,
     state: &StateMap,
     keys: &[&Bytes],
-    found: Shown,
-) -> Result<Shown, AllocError>
-    requires printable { ArePrintable found.rows.items }
-    ensures told { (met : Fed → Bool) (over : List Fed) (all : List Told) → AreOver bound.now joining.now state.now met over (seen keys.now) → Tells found all →
-        IfOk result (TellsAlone bound.now joining.now met over all) }
-    ensures printable { IfOk result (λ now. ArePrintable now.rows.items) }
+    found: &mut Shown,
+) -> Result<(), AllocError>
+    requires printable { ArePrintable found.old.rows.items }
+    ensures told { (met : Fed → Bool) (over : List Fed) (all : List Told) → AreOver bound.now joining.now state.now met over (seen keys.now) → Tells found.old all →
+        OnOk result (TellsAlone bound.now joining.now met over all found.new) }
+    ensures printable { OnOk result (ArePrintable found.new.rows.items) }
 {
-    let mut found = found;
     for key in keys {
-        found = take_over(alloc, bound, joining, state, key, found)?;
+        take_over(alloc, bound, joining, state, key, found)?;
     }
-    Ok(found)
+    Ok(())
 }

@@ -1,6 +1,6 @@
 //! The rows of an epoch, taken in turn.
 
-ghost use Rattle.std.specs.Prelude.{◌≡◌, ◌++◌, ◌∷◌, [], Bool, List, None, All, IfOk};
+ghost use Rattle.std.specs.Prelude.{◌≡◌, ◌++◌, ◌∷◌, [], Bool, List, None, All, IfOk, OnOk};
 ghost use Rattle.ssq_value.specs.Key.{keys_of};
 ghost use Rattle.ssq_meaning.specs.FedRows.{FedRow as Fed};
 ghost use Rattle.ssq_meaning.specs.Fit.{IsFitRow};
@@ -42,35 +42,27 @@ fn take_row(
     state: &StateMap,
     fresh: &BTreeMap<Bytes, Bytes>,
     comer: Comer<'_>,
-    found: Shown,
+    found: &mut Shown,
     met: &mut BTreeSet<Bytes>,
-) -> Result<Shown, AllocError>
+) -> Result<(), AllocError>
     requires row { IsFitRow comer.row.now }
     requires key { comer.key_bytes.now ≡ keys_of comer.row.now.key }
     requires bytes { comer.bytes.now ≡ row_key comer.row.now }
-    requires printable { ArePrintable found.rows.items }
-    ensures meets { IfOk result (λ now. MeetsEarlier bound.now joining.now comer.entry.row.now state.now fresh.now.entries found now met.old.keys met.new.keys) }
-    ensures printable { IfOk result (λ now. ArePrintable now.rows.items) }
+    requires printable { ArePrintable found.old.rows.items }
+    ensures meets { OnOk result (MeetsEarlier bound.now joining.now comer.entry.row.now state.now fresh.now.entries found.old found.new met.old.keys met.new.keys) }
+    ensures printable { OnOk result (ArePrintable found.new.rows.items) }
 {
     keys_are_apart();
     beginnings_stand_together();
     states_are_kept(state);
     if has_null(comer.row.key()) {
-        return Ok(found);
+        return Ok(());
     }
     let prefix = prefix_of(alloc, comer.row.stream() != 0, comer.key_bytes)?;
     let kept = state.iter_from(alloc, &prefix)?;
-    let between = meet(alloc, bound, joining, comer, &prefix, kept, found, met)?;
-    meet(
-        alloc,
-        bound,
-        joining,
-        comer,
-        &prefix,
-        entries_from(fresh, &prefix),
-        between,
-        met,
-    )
+    meet(alloc, bound, joining, comer, &prefix, kept, found, met)?;
+    let between = entries_from(fresh, &prefix);
+    meet(alloc, bound, joining, comer, &prefix, between, found, met)
 }
 
 fn nothing_taken(alloc: Global) -> Taken
@@ -93,31 +85,35 @@ fn take_next(
     joining: &Joining,
     state: &StateMap,
     row: &FedRow,
-    taken: Taken,
-) -> Result<Taken, AllocError>
+    taken: &mut Taken,
+) -> Result<(), AllocError>
     requires row { IsFitRow row.now }
-    requires printable { ArePrintable taken.found.rows.items }
+    requires printable { ArePrintable taken.old.found.rows.items }
     ensures taken { (held rows : List Fed) (was_met : Fed → Bool) → AreKept bound.now joining.now was_met held state.now → IsKept bound.now joining.now row.now →
-        find_row (row_key row.now) rows ≡ None → AreTaken bound.now joining.now held rows taken.found taken.met.keys → AreFresh bound.now joining.now rows taken.fresh.entries →
-        IfOk result (λ now. AreTaken bound.now joining.now held (rows ++ row.now ∷ []) now.found now.met.keys × AreFresh bound.now joining.now (rows ++ row.now ∷ []) now.fresh.entries) }
-    ensures printable { IfOk result (λ now. ArePrintable now.found.rows.items) }
+        find_row (row_key row.now) rows ≡ None → AreTaken bound.now joining.now held rows taken.old.found taken.old.met.keys → AreFresh bound.now joining.now rows taken.old.fresh.entries →
+        OnOk result (AreTaken bound.now joining.now held (rows ++ row.now ∷ []) taken.new.found taken.new.met.keys × AreFresh bound.now joining.now (rows ++ row.now ∷ []) taken.new.fresh.entries) }
+    ensures printable { OnOk result (ArePrintable taken.new.found.rows.items) }
 {
     let key = key_bytes(alloc, row.key())?;
     let bytes = row_key(alloc, row, key.as_slice())?;
-    let value = row_value(alloc, false, row)?;
-    let Taken {
-        found,
-        mut met,
-        mut fresh,
-    } = taken;
     let comer = Comer {
         row,
         key_bytes: key.as_slice(),
         bytes: &bytes,
     };
-    let found = take_row(alloc, bound, joining, state, &fresh, comer, found, &mut met)?;
-    fresh.insert(bytes, value)?;
-    Ok(Taken { found, met, fresh })
+    take_row(
+        alloc,
+        bound,
+        joining,
+        state,
+        &taken.fresh,
+        comer,
+        &mut taken.found,
+        &mut taken.met,
+    )?;
+    let value = row_value(alloc, false, row)?;
+    taken.fresh.insert(bytes, value)?;
+    Ok(())
 }
 
 /// Takes the rows of an epoch in turn, each with the rows before it, those that are kept and those of the epoch.
@@ -135,7 +131,7 @@ pub(crate) fn take_rows(
 {
     let mut taken = nothing_taken(alloc);
     for row in rows {
-        taken = take_next(alloc, bound, joining, state, row, taken)?;
+        take_next(alloc, bound, joining, state, row, &mut taken)?;
     }
     Ok(taken)
 }

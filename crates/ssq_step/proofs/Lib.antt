@@ -1,6 +1,7 @@
 pub mod Stamps
 pub mod Timing
 pub mod RowTimes
+pub mod Indexed
 pub mod Hashed
 pub mod ByBytes
 pub mod Exceeding

@@ -1,6 +1,6 @@
 -- The keys of groups by their times, through a change, and by a watermark.
 use Rattle.std.proofs.Common.{◌≡◌, ◌+◌, ◌++◌, ℕ, ℤ, ◌<ℤ◌, int_le, [], ◌∷◌, Some, None, List, Option, Bool, true, false, refl, ap, sym, subst, ◌∙◌, arith, filter, length}
-use Rattle.std.specs.Prelude.{◌&&◌, ◌||◌, if◌then◌else◌, IfSome, is_some, option_copied, option_map}
+use Rattle.std.specs.Prelude.{◌&&◌, ◌||◌, if◌then◌else◌, is_some, option_copied}
 use Rattle.std.specs.declared.cmp.Ordering.{Ordering}
 use Rattle.std.specs.declared.cmp.Ordering.TheVariants.{Less, Equal, Greater}
 use Rattle.std.specs.Borrow.{Bor}
@@ -14,11 +14,11 @@ use Rattle.std.proofs.lemmas.Int.{ints}
 use Rattle.std.proofs.lemmas.List.{length-append}
 use Rattle.std.proofs.lemmas.List.Elements.{filter-append}
 use Rattle.ssq_value.specs.Key.{keys_of}
-use Rattle.ssq_version.specs.State.{Ascends, Change, IsAfter, State, by_bytes, value_after, value_at}
-use Rattle.ssq_version.proofs.Values.{IsRest, by_case, is_itself, less_rest, none_behind, one_key, others_at, first_at, other_way, whole_rest}
+use Rattle.ssq_version.specs.State.{Ascends, State, by_bytes, value_at}
+use Rattle.ssq_version.proofs.Values.{IsRest, by_case, less_rest, one_key, whole_rest}
 use Rattle.ssq_meaning.specs.Meaning.{Values}
 use Rattle.ssq_meaning.specs.Times.{is_past}
-use Rattle.ssq_step.specs.Indexing.{AreDueKeys, Indexes, IsReadableKey, Timed, Turns, TurnsIf, by_time, has, is_time, stands}
+use Rattle.ssq_step.specs.Indexing.{AreDueKeys, Indexes, Timed, by_time, has, is_time, stands}
 
 -- ---- orders
 
@@ -56,96 +56,10 @@ pub and_true : (a b : Bool) → b ≡ true → (a && b) ≡ a
 and_true true b is = is
 and_true false b is = refl
 
--- ---- a key that is put there, or taken away
+-- ---- a key with its time
 
 abbrev pub with_bytes : List ℕ → ℤ → Timed
 with_bytes bytes t = (t, bytes)
-
-module _ (size : ℕ) (time_of : Values → Option ℤ) (bytes : List ℕ) (is_there : Bool) (before after : List Timed) where
-  -- where the key has a time
-  pub turned : (entry : Timed) → entry.1 ≡ bytes → ((own : Values) → IsReadableKey size own → keys_of own ≡ bytes → Some entry ≡ option_map (with_bytes bytes) (time_of own))
-      → ((q : Timed) → has after q ≡ (if is_at (by_time entry) q then is_there else has before q)) → Turns size time_of bytes is_there before after
-  turned entry same timed updates key readable t =
-      updates (t, keys_of key) ∙ ap (λ b. if b then is_there else has before (t, keys_of key)) (at_time entry (t, keys_of key) ∙ ap (λ b. is_eq (int_cmp entry.0 t) && is_at (by_bytes b) (keys_of key)) same
-      ∙ by_case (is_at (by_bytes bytes) (keys_of key)) here there)
-    where
-      time_is : (o : Option ℤ) → Some entry ≡ option_map (with_bytes bytes) o → o ≡ Some entry.0
-      time_is None is = absurd cc
-      time_is (Some time) is = let one : entry ≡ (time, bytes) = cc in ap (λ (e : Timed). Some e.0) (sym one)
-
-      here : is_at (by_bytes bytes) (keys_of key) ≡ true → (is_eq (int_cmp entry.0 t) && is_at (by_bytes bytes) (keys_of key)) ≡ (is_at (by_bytes bytes) (keys_of key) && is_time t (time_of key))
-      here at =
-          let time = time_is (time_of key) (timed key readable (sym (one_key bytes (keys_of key) at))) in
-          and_true (is_eq (int_cmp entry.0 t)) (is_at (by_bytes bytes) (keys_of key)) at
-          ∙ (λ i. sym at i && is_time t (sym time i))
-
-      there : is_at (by_bytes bytes) (keys_of key) ≡ false → (is_eq (int_cmp entry.0 t) && is_at (by_bytes bytes) (keys_of key)) ≡ (is_at (by_bytes bytes) (keys_of key) && is_time t (time_of key))
-      there apart = and_false (is_eq (int_cmp entry.0 t)) (is_at (by_bytes bytes) (keys_of key)) apart ∙ ap (λ b. b && is_time t (time_of key)) (sym apart)
-
-  -- and where it has none
-  pub untimed : ((own : Values) → IsReadableKey size own → keys_of own ≡ bytes → None ≡ option_map (with_bytes bytes) (time_of own)) → after ≡ before → Turns size time_of bytes is_there before after
-  untimed timed same key readable t =
-      ap (λ l. has l (t, keys_of key)) same
-      ∙ ap (λ b. if b then is_there else has before (t, keys_of key)) (sym (by_case (is_at (by_bytes bytes) (keys_of key))
-      (λ at. and_false (is_at (by_bytes bytes) (keys_of key)) (is_time t (time_of key)) (none (time_of key) (timed key readable (sym (one_key bytes (keys_of key) at)))))
-      (λ apart. ap (λ b. b && is_time t (time_of key)) apart)))
-    where
-      none : (o : Option ℤ) → None ≡ option_map (with_bytes bytes) o → is_time t o ≡ false
-      none None is = refl
-      none (Some time) is = absurd cc
-
--- ---- the index of a state, made by a walk over it
-
--- the keys so far and those that are left are those of the state
-abbrev pub IsIndexTo : ℕ → (Values → Option ℤ) → (all left : State) → List Timed → Type 0
-IsIndexTo size time_of all left entries = (key : Values) → IsReadableKey size key → (t : ℤ) →
-    (has entries (t, keys_of key) || (is_some (value_at left (keys_of key)) && is_time t (time_of key)))
-    ≡ (is_some (value_at all (keys_of key)) && is_time t (time_of key))
-
-pub index_begins : (size : ℕ) (time_of : Values → Option ℤ) (all left : State) (entries : List Timed) → left ≡ all → entries ≡ [] → IsIndexTo size time_of all left entries
-index_begins size time_of all left entries same none key readable t =
-    (λ i. has (none i) (t, keys_of key) || (is_some (value_at (same i) (keys_of key)) && is_time t (time_of key)))
-
-pub index_on : (size : ℕ) (time_of : Values → Option ℤ) (all left rest : State) (bytes value : List ℕ) (before after : List Timed) → left ≡ (bytes, value) ∷ rest → Ascends left → Turns size time_of bytes true before after
-    → IsIndexTo size time_of all left before → IsIndexTo size time_of all rest after
-index_on size time_of all left rest bytes value before after step ascend turns was key readable t =
-    by_case (is_at (by_bytes (keys_of key)) bytes) here there ∙ ap (λ (s : State). has before (t, keys_of key) || (is_some (value_at s (keys_of key)) && is_time t (time_of key))) (sym step) ∙ was key readable t
-  where
-    behind : Ascends ((bytes, value) ∷ rest)
-    behind = subst (Ascends {X = List ℕ}) step ascend
-
-    turn : (b c : Bool) → ((if b then true else c) || false) ≡ (c || (true && b))
-    turn true true = refl
-    turn true false = refl
-    turn false true = refl
-    turn false false = refl
-
-    here : is_at (by_bytes (keys_of key)) bytes ≡ true
-        → (has after (t, keys_of key) || (is_some (value_at rest (keys_of key)) && is_time t (time_of key)))
-        ≡ (has before (t, keys_of key) || (is_some (value_at ((bytes, value) ∷ rest) (keys_of key)) && is_time t (time_of key)))
-    here at =
-        let same = one_key (keys_of key) bytes at in
-        let gone : value_at rest (keys_of key) ≡ None = ap (value_at rest) same ∙ none_behind bytes value rest behind in
-        let mine : is_at (by_bytes bytes) (keys_of key) ≡ true = ap (λ k. is_at (by_bytes k) (keys_of key)) (sym same) ∙ is_itself (keys_of key) in
-        (λ i. (turns key readable t ∙ ap (λ b. if b && is_time t (time_of key) then true else has before (t, keys_of key)) mine) i || (is_some (gone i) && is_time t (time_of key)))
-        ∙ turn (is_time t (time_of key)) (has before (t, keys_of key))
-        ∙ ap (λ o. has before (t, keys_of key) || (is_some o && is_time t (time_of key))) (sym (first_at bytes value rest (keys_of key) at))
-
-    there : is_at (by_bytes (keys_of key)) bytes ≡ false
-        → (has after (t, keys_of key) || (is_some (value_at rest (keys_of key)) && is_time t (time_of key)))
-        ≡ (has before (t, keys_of key) || (is_some (value_at ((bytes, value) ∷ rest) (keys_of key)) && is_time t (time_of key)))
-    there apart =
-        (λ i. (turns key readable t ∙ ap (λ b. if b && is_time t (time_of key) then true else has before (t, keys_of key)) (other_way (keys_of key) bytes apart)) i
-        || (is_some (sym (others_at bytes value rest (keys_of key) apart) i) && is_time t (time_of key)))
-
-pub index_all : (size : ℕ) (time_of : Values → Option ℤ) (all left : State) (entries : List Timed) → left ≡ [] → IsIndexTo size time_of all left entries → Indexes size time_of all entries
-index_all size time_of all left entries none was key readable t =
-    or_false (has entries (t, keys_of key))
-    ∙ ap (λ (s : State). has entries (t, keys_of key) || (is_some (value_at s (keys_of key)) && is_time t (time_of key))) (sym none) ∙ was key readable t
-  where
-    or_false : (b : Bool) → b ≡ (b || false)
-    or_false true = refl
-    or_false false = refl
 
 -- ---- a walk through entries
 
@@ -161,81 +75,6 @@ walk_on all left rest key x step of known = (tt, tt, (less_rest all left rest ke
 abbrev pub on_the_way : Option (Option (List ℕ)) → (old new : Option (List ℕ)) → Option (List ℕ)
 on_the_way None old new = new
 on_the_way (Some said) old new = old
-
-abbrev pub IsFollowed : ℕ → (Values → Option ℤ) → (old new : State) → (left : Change) → List Timed → Type 0
-IsFollowed size time_of old new left entries = (key : Values) → IsReadableKey size key → (t : ℤ) →
-    has entries (t, keys_of key)
-    ≡ (is_some (on_the_way (value_at left (keys_of key)) (value_at old (keys_of key)) (value_at new (keys_of key))) && is_time t (time_of key))
-
-pub follow_begins : (size : ℕ) (time_of : Values → Option ℤ) (old new : State) (change left : Change) (entries : List Timed) → left ≡ change → IsAfter change old new → Indexes size time_of old entries
-    → IsFollowed size time_of old new left entries
-follow_begins size time_of old new change left entries same after was key readable t =
-    was key readable t
-    ∙ ap (λ o. is_some o && is_time t (time_of key)) (by (value_at change (keys_of key)) (after (keys_of key)))
-    ∙ ap (λ (c : Change). is_some (on_the_way (value_at c (keys_of key)) (value_at old (keys_of key)) (value_at new (keys_of key))) && is_time t (time_of key)) (sym same)
-  where
-    by : (o : Option (Option (List ℕ))) → value_at new (keys_of key) ≡ value_after o (value_at old (keys_of key)) → value_at old (keys_of key) ≡ on_the_way o (value_at old (keys_of key)) (value_at new (keys_of key))
-    by None is = sym is
-    by (Some said) is = refl
-
-pub follow_on : (size : ℕ) (time_of : Values → Option ℤ) (old new : State) (change left rest : Change) (bytes : List ℕ) (said : Option (List ℕ)) (before after : List Timed) → left ≡ (bytes, said) ∷ rest → IsRest change left
-    → IsAfter change old new → TurnsIf size time_of bytes (is_some (value_at old bytes)) (is_some said) before after
-    → IsFollowed size time_of old new left before → IsFollowed size time_of old new rest after
-follow_on size time_of old new change left rest bytes said before after step of leads turns was key readable t =
-    by_case (is_at (by_bytes (keys_of key)) bytes) here there
-  where
-    behind : Ascends ((bytes, said) ∷ rest)
-    behind = subst (Ascends {X = Option (List ℕ)}) step of.ascend
-
-    said_is : value_at new bytes ≡ said
-    said_is = leads bytes ∙ ap (λ o. value_after o (value_at old bytes)) (less_rest change left rest bytes said step of).1
-
-    before_is : has before (t, keys_of key) ≡ (is_some (on_the_way (value_at ((bytes, said) ∷ rest) (keys_of key)) (value_at old (keys_of key)) (value_at new (keys_of key))) && is_time t (time_of key))
-    before_is = was key readable t ∙ ap (λ (c : Change). is_some (on_the_way (value_at c (keys_of key)) (value_at old (keys_of key)) (value_at new (keys_of key))) && is_time t (time_of key)) step
-
-    turn_here : (w i : Bool) → is_at (by_bytes bytes) (keys_of key) ≡ true → TurnsIf size time_of bytes w i before after → has before (t, keys_of key) ≡ (w && is_time t (time_of key))
-        → has after (t, keys_of key) ≡ (i && is_time t (time_of key))
-    turn_here true true mine turns had = ap (λ l. has l (t, keys_of key)) turns ∙ had
-    turn_here w false mine turns had =
-        turns key readable t ∙ (λ j. if mine j && is_time t (time_of key) then false else had j) ∙ by w (is_time t (time_of key))
-      where
-        by : (w c : Bool) → (if true && c then false else (w && c)) ≡ (false && c)
-        by w true = refl
-        by true false = refl
-        by false false = refl
-    turn_here false true mine turns had =
-        turns key readable t ∙ (λ j. if mine j && is_time t (time_of key) then true else had j) ∙ by (is_time t (time_of key))
-      where
-        by : (c : Bool) → (if true && c then true else (false && c)) ≡ (true && c)
-        by true = refl
-        by false = refl
-
-    turn_there : (w i : Bool) → is_at (by_bytes bytes) (keys_of key) ≡ false → TurnsIf size time_of bytes w i before after → has after (t, keys_of key) ≡ has before (t, keys_of key)
-    turn_there true true apart turns = ap (λ l. has l (t, keys_of key)) turns
-    turn_there w false apart turns = turns key readable t ∙ ap (λ b. if b && is_time t (time_of key) then false else has before (t, keys_of key)) apart
-    turn_there false true apart turns = turns key readable t ∙ ap (λ b. if b && is_time t (time_of key) then true else has before (t, keys_of key)) apart
-
-    here : is_at (by_bytes (keys_of key)) bytes ≡ true
-        → has after (t, keys_of key) ≡ (is_some (on_the_way (value_at rest (keys_of key)) (value_at old (keys_of key)) (value_at new (keys_of key))) && is_time t (time_of key))
-    here at =
-        let same = one_key (keys_of key) bytes at in
-        let mine : is_at (by_bytes bytes) (keys_of key) ≡ true = ap (λ k. is_at (by_bytes k) (keys_of key)) (sym same) ∙ is_itself (keys_of key) in
-        let had : has before (t, keys_of key) ≡ (is_some (value_at old bytes) && is_time t (time_of key)) =
-        before_is ∙ (λ i. is_some (on_the_way (first_at bytes said rest (keys_of key) at i) (value_at old (same i)) (value_at new (keys_of key))) && is_time t (time_of key)) in
-        turn_here (is_some (value_at old bytes)) (is_some said) mine turns had
-        ∙ ap (λ o. is_some o && is_time t (time_of key)) (sym said_is ∙ ap (value_at new) (sym same))
-        ∙ ap (λ o. is_some (on_the_way o (value_at old (keys_of key)) (value_at new (keys_of key))) && is_time t (time_of key)) (sym (ap (value_at rest) same ∙ none_behind bytes said rest behind))
-
-    there : is_at (by_bytes (keys_of key)) bytes ≡ false
-        → has after (t, keys_of key) ≡ (is_some (on_the_way (value_at rest (keys_of key)) (value_at old (keys_of key)) (value_at new (keys_of key))) && is_time t (time_of key))
-    there apart =
-        turn_there (is_some (value_at old bytes)) (is_some said) (other_way (keys_of key) bytes apart) turns
-        ∙ before_is
-        ∙ ap (λ o. is_some (on_the_way o (value_at old (keys_of key)) (value_at new (keys_of key))) && is_time t (time_of key)) (others_at bytes said rest (keys_of key) apart)
-
-pub follow_all : (size : ℕ) (time_of : Values → Option ℤ) (old new : State) (left : Change) (entries : List Timed) → left ≡ [] → IsFollowed size time_of old new left entries → Indexes size time_of new entries
-follow_all size time_of old new left entries none was key readable t =
-    was key readable t ∙ ap (λ (c : Change). is_some (on_the_way (value_at c (keys_of key)) (value_at old (keys_of key)) (value_at new (keys_of key))) && is_time t (time_of key)) none
 
 -- ---- what a watermark closes
 
@@ -373,13 +212,6 @@ due_are size time_of state now all keys sorted indexes stand key readable =
 pub due_at : (now : Option ℤ) (all : List Timed) (keys : List (List ℕ)) → IsStrictlySortedBy by_time all → ((q : List ℕ) → stands q keys ≡ past_of now q all)
     → (key : List ℕ) (time : Option ℤ) → ((t : ℤ) → has all (t, key) ≡ is_time t time) → stands key keys ≡ (if is_past now time then 1 else 0)
 due_at now all keys sorted stand key time stands_at = stand key ∙ once_past now key time true all sorted stands_at
-
-pub some_key : (bytes : List ℕ) (found : Option Timed) (entry : Timed) → found ≡ Some entry → IfSome found (λ entry. entry.1 ≡ bytes) → entry.1 ≡ bytes
-some_key bytes found entry is has = subst (λ (o : Option Timed). IfSome o (λ entry. entry.1 ≡ bytes)) is has
-
-pub turns_as : (size : ℕ) (time_of : Values → Option ℤ) (bytes : List ℕ) (was is was' is' : Bool) (before after : List Timed) → was ≡ was' → is ≡ is' → TurnsIf size time_of bytes was is before after → TurnsIf size time_of bytes was' is' before after
-turns_as size time_of bytes was is was' is' before after one other turns =
-    subst (λ b. TurnsIf size time_of bytes b is' before after) one (subst (λ b. TurnsIf size time_of bytes was b before after) other turns)
 
 pub copied_some : {A : Type 0} (o : Option (Bor A)) → is_some o ≡ is_some (option_copied o)
 copied_some None = refl

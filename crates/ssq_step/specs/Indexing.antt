@@ -1,5 +1,5 @@
 -- The keys of a state by their times.
-use Rattle.std.specs.Prelude.{◌≡◌, ◌&&◌, ℕ, ℤ, Bool, true, false, if◌then◌else◌, List, All, length, map, filter, Option, is_some}
+use Rattle.std.specs.Prelude.{◌≡◌, ◌&&◌, ℕ, ℤ, if◌then◌else◌, List, All, length, map, filter, Option, Some, None, is_some}
 use Rattle.std.specs.Borrow.{Bor}
 use Rattle.std.specs.BTreeMap.{is_at}
 use Rattle.ssq_value.specs.Key.{keys_of}
@@ -11,7 +11,7 @@ use Rattle.ssq_meaning.specs.Fit.{IsFit}
 use Rattle.ssq_meaning.specs.Keyed.{key_length, key_time}
 use Rattle.ssq_meaning.specs.Meaning.{Values}
 use Rattle.ssq_meaning.specs.Times.{is_past}
-use Rattle.ssq_step.specs.Rows.{IndexesRows}
+use Rattle.ssq_step.specs.Rows.{HasTime, IndexesRows}
 pub use Rattle.ssq_step.specs.Timed.{Timed, by_time, has, is_time}
 
 -- a key of so many values that is read back from its bytes
@@ -34,16 +34,26 @@ IsIndexBy (Join joining) query state entries = IndexesRows query joining state e
 abbrev pub IsIndex : Bound → State → List Timed → Type 0
 IsIndex query state entries = IsIndexBy query.shape query state entries
 
--- the key with these bytes is there or not, as is said, where it has a time, and each other key is there as before
-abbrev pub Turns : ℕ → (Values → Option ℤ) → List ℕ → Bool → (before after : List Timed) → Type 0
-Turns count time bytes is_there before after = (key : Values) → IsReadableKey count key → (t : ℤ) →
-    has after (t, keys_of key) ≡ (if is_at (by_bytes bytes) (keys_of key) && is_time t (time key) then is_there else has before (t, keys_of key))
+-- ---- what is kept, by its times
 
--- the same, where it was there or not as is said: nothing is to be done where it was there and stays
-abbrev pub TurnsIf : ℕ → (Values → Option ℤ) → List ℕ → (was_there is_there : Bool) → (before after : List Timed) → Type 0
-TurnsIf count time bytes true true before after = after ≡ before
-TurnsIf count time bytes false true before after = Turns count time bytes true before after
-TurnsIf count time bytes was_there false before after = Turns count time bytes false before after
+-- the key with these bytes is in the index where it has a time: of a join each, of any other query each that can be read back
+abbrev pub IsKeyBy : Shape → Bound → List ℕ → Type 0
+IsKeyBy Plain query key = (own : Values) × IsReadableKey (key_length query) own × (keys_of own ≡ key)
+IsKeyBy (Group grouping) query key = (own : Values) × IsReadableKey (key_length query) own × (keys_of own ≡ key)
+IsKeyBy (Dedup columns) query key = (own : Values) × IsReadableKey (key_length query) own × (keys_of own ≡ key)
+IsKeyBy (Join joining) query key = Unit {0}
+
+-- the time of what is kept under these bytes: of a join that of the row, of any other query that of the key
+abbrev pub IsTimeBy : (shape : Shape) (query : Bound) (key : List ℕ) → IsKeyBy shape query key → (value : List ℕ) → Option ℤ → Type 0
+IsTimeBy Plain query key is value time = time ≡ key_time query is.0
+IsTimeBy (Group grouping) query key is value time = time ≡ key_time query is.0
+IsTimeBy (Dedup columns) query key is value time = time ≡ key_time query is.0
+IsTimeBy (Join joining) query key is value time = HasTime query joining key value time
+
+-- the same, if anything is kept there
+abbrev pub IsTimeIf : (shape : Shape) (query : Bound) (key : List ℕ) → IsKeyBy shape query key → Option (List ℕ) → Option ℤ → Type 0
+IsTimeIf shape query key is None time = time ≡ None
+IsTimeIf shape query key is (Some value) time = IsTimeBy shape query key is value time
 
 -- ---- the keys that a watermark closes
 

@@ -62,7 +62,7 @@ abbrev pub IndexesRows : Bound → Joining → State → List Timed → Type 0
 IndexesRows query joining state entries =
     (key : List ℕ) → (time : Option ℤ) × HasTimeIf query joining key (value_at state key) time × StandsAt entries key time
 
--- what stands at one key is changed, and at each other key it is as before
-pub record TurnsAt (key : List ℕ) (before after : List Timed) (time : Option ℤ) : Type 0 where
-  pub here : StandsAt after key time
+-- what stands at one key is changed, if it was as is said, and at each other key it is as before
+pub record TurnsAt (key : List ℕ) (was is : Option ℤ) (before after : List Timed) : Type 0 where
+  pub here : StandsAt before key was → StandsAt after key is
   pub others : (other : List ℕ) → is_at (by_bytes key) other ≡ false → (t : ℤ) → has after (t, other) ≡ has before (t, other)

@@ -1,6 +1,6 @@
 //! What an epoch shows.
 
-ghost use Rattle.std.specs.Prelude.{◌≡◌, [], ◌∷◌, ◌++◌, None, Some, IfOk, IfErr};
+ghost use Rattle.std.specs.Prelude.{◌≡◌, [], ◌∷◌, ◌++◌, if◌then◌else◌, None, Some, IfOk, IfErr, OnOk};
 ghost use Rattle.ssq_meaning.specs.Group.{lesser_key};
 ghost use Rattle.ssq_step.specs.Shown.{IsExcess};
 
@@ -31,26 +31,23 @@ impl Shown {
     }
 
     /// This row is shown too.
-    pub fn with_row(self, row: Row) -> Result<Shown, AllocError>
-        ensures rows { IfOk result (λ now. now.rows.items ≡ self.rows.items ++ row ∷ []) }
-        ensures fault { IfOk result (λ now. now.fault ≡ self.fault) }
+    pub fn add_row(&mut self, row: Row) -> Result<(), AllocError>
+        ensures rows { OnOk result (self.new.rows.items ≡ self.old.rows.items ++ row ∷ []) }
+        ensures fault { OnOk result (self.new.fault ≡ self.old.fault) }
     {
-        let Shown { mut rows, fault } = self;
-        rows.push(row)?;
-        Ok(Shown { rows, fault })
+        self.rows.push(row)?;
+        Ok(())
     }
 
     /// This key overflows too.
-    pub fn with_fault(self, alloc: Global, key: &[Value]) -> Result<Shown, AllocError>
-        ensures rows { IfOk result (λ now. now.rows.items ≡ self.rows.items) }
-        ensures fault { IfOk result (λ now. now.fault ≡ Some (lesser_key key.now self.fault)) }
+    pub fn add_fault(&mut self, alloc: Global, key: &[Value]) -> Result<(), AllocError>
+        ensures rows { OnOk result (self.new.rows.items ≡ self.old.rows.items) }
+        ensures fault { OnOk result (self.new.fault ≡ Some (lesser_key key.now self.old.fault)) }
     {
-        let Shown { rows, fault } = self;
-        let least = lesser_key(alloc, key, fault)?;
-        Ok(Shown {
-            rows,
-            fault: Some(least),
-        })
+        if is_least(key, &self.fault) {
+            self.fault = Some(copied_row(alloc, key)?);
+        }
+        Ok(())
     }
 
     /// The rows that are shown, where no key overflows; else the least that does is the fault.
@@ -67,17 +64,12 @@ impl Shown {
     }
 }
 
-fn lesser_key(alloc: Global, key: &[Value], least: Option<Row>) -> Result<Row, AllocError>
-    ensures { IfOk result (λ own. own ≡ lesser_key key.now least) }
+/// Whether a key is the least, beside the least so far.
+fn is_least(key: &[Value], least: &Option<Row>) -> bool
+    ensures { Some (lesser_key key.now least.now) ≡ (if result then Some key.now else least.now) }
 {
     match least {
-        Some(other) => {
-            if order_rows(key, other.as_slice()).is_gt() {
-                Ok(other)
-            } else {
-                copied_row(alloc, key)
-            }
-        }
-        None => copied_row(alloc, key),
+        Some(other) => !order_rows(key, other.as_slice()).is_gt(),
+        None => true,
     }
 }

@@ -65,9 +65,9 @@ pub returns-in_err-rows-clause-cause : goal.returns-in_err-rows-clause-cause
 returns-in_err-rows-clause-cause c = λ old before given.
     let at = (goal.at.returns-in_err-rows-clause-cause c).After-show_due in
     let operator = group c.args.bound.now c.args.grouping.now in
-    let shown = c.in_ok-shown.ensures.due (own at old before given) given.holds (shown_closed at old before given) in
+    let shown = c.in_ok-show_due.ensures.due (own at old before given) c.nothing-shown.ensures.rows c.nothing-shown.ensures.fault given.holds (shown_closed at old before given) in
     let p = err_from_is_err_and c.from_residual-in_err-rows.result c.from_residual-in_err-rows.ensures.1 in
-    rw (p.1, p.2) (excess_is_cause operator old c.args.rows.now before c.args.now c.in_ok-shown.shown.fault c.in_err-rows.field-0.0 (shown.fault ∙ fault_told at old before given shown.pairs shown.are) c.in_err-rows.ensures.cause)
+    rw (p.1, p.2) (excess_is_cause operator old c.args.rows.now before c.args.now c.show_due.new.shown.fault c.in_err-rows.field-0.0 (shown.fault ∙ fault_told at old before given shown.pairs shown.are) c.in_err-rows.ensures.cause)
 
 pub returns-clause-moved : goal.returns-clause-moved
 returns-clause-moved c = λ old before given.
@@ -75,7 +75,7 @@ returns-clause-moved c = λ old before given.
     let query = c.args.bound.now in
     let grouping = c.args.grouping.now in
     let kept = own at old before given in
-    let shown = c.in_ok-shown.ensures.due kept given.holds (shown_closed at old before given) in
+    let shown = c.in_ok-show_due.ensures.due kept c.nothing-shown.ensures.rows c.nothing-shown.ensures.fault given.holds (shown_closed at old before given) in
     let closed = closed_are at old before given in
     record {
       held_after = state_is query grouping old c.args.rows.now before c.args.now (found at old before given) (found_is at old before given) (whole at old before given) (ended at old before given) c.in_ok-closed.closed.items closed;

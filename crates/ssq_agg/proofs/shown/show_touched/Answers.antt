@@ -19,8 +19,8 @@ show_group-requires-clause-fit c = subst (λ key. IsFitGroup key c.in-Some.total
 
 pub loop-key-preserved : goal.loop-key-preserved
 loop-key-preserved c = (
-  finishes_on c.args.bound.now c.args.grouping.now c.loop-key.key-iterator c.next.new.self c.args.groups.now.entries (c.in-Some.key.now, c.in-Some.totals.now) c.args.shown c.loop-key.shown c.in_ok-shown.shown
-      c.in-Some.ensures.steps (subst (λ key. Shows c.args.bound.now c.args.grouping.now ((key, c.in-Some.totals.now) ∷ []) c.loop-key.shown c.in_ok-shown.shown) c.values.ensures c.in_ok-shown.ensures.shown) c.loop-key.invariant.0,
-  c.in_ok-shown.ensures.printable,
+  finishes_on c.args.bound.now c.args.grouping.now c.loop-key.key-iterator c.next.new.self c.args.groups.now.entries (c.in-Some.key.now, c.in-Some.totals.now) c.args.shown.now c.loop-key.shown c.show_group.new.shown
+      c.in-Some.ensures.steps (subst (λ key. Shows c.args.bound.now c.args.grouping.now ((key, c.in-Some.totals.now) ∷ []) c.loop-key.shown c.show_group.new.shown) c.values.ensures c.in_ok-show_group.ensures.shown) c.loop-key.invariant.0,
+  c.in_ok-show_group.ensures.printable,
   All-tail (λ entry. IsFitGroup entry.0 entry.1) (c.in-Some.key.now, c.in-Some.totals.now) c.next.new.self (subst (All (λ entry. IsFitGroup entry.0 entry.1)) c.in-Some.ensures.steps c.loop-key.invariant.2),
 )

@@ -28,12 +28,12 @@ returns-clause-moved c old before given =
     let due = c.in_ok-over.ensures.rows in
     let all_over = over query joining state closing old new before now given listed keys_apart fits keys due in
     let is_over = are_over query joining state closing old new before now given listed keys_apart fits keys due in
-    let told = c.in_ok-found.ensures.told met all_over (map (considered_of query joining) taken.0.0) (subst (λ l. AreOver query joining state met all_over (seen l)) (sym c.as_slice.ensures.value) is_over) taken.0.2.told in
+    let told = c.in_ok-take_all_over.ensures.told met all_over (map (considered_of query joining) taken.0.0) (subst (λ l. AreOver query joining state met all_over (seen l)) (sym c.as_slice-keys.ensures.value) is_over) taken.0.2.told in
     let laws = c.joined_rows_are_told_by_what_is_kept.ensures in
     record {
       leads = leads query joining state closing old new before now given listed keys_apart fits keys due laws.rows laws.met laws.new c.in_ok-taken.taken.met.keys c.in_ok-taken.taken.fresh.entries
           taken.0.0 c.in_ok-taken.taken.found taken.0.1 taken.0.2 taken.1 c.in_ok-change.change
-          (subst (λ l. SaysBytes state c.in_ok-taken.taken.fresh.entries c.in_ok-taken.taken.met.keys (seen l) c.in_ok-change.change) c.as_slice-2.ensures.value c.in_ok-change.ensures);
-      shown = shown query joining state closing old new before now given listed keys_apart fits keys due c.in_ok-found.found taken.0.0 taken.0.1 told laws.shown;
-      fault = fault query joining state closing old new before now given listed keys_apart fits keys due c.in_ok-found.found taken.0.0 taken.0.1 told laws.fault;
+          (subst (λ l. SaysBytes state c.in_ok-taken.taken.fresh.entries c.in_ok-taken.taken.met.keys (seen l) c.in_ok-change.change) c.as_slice-keys.ensures.value c.in_ok-change.ensures);
+      shown = shown query joining state closing old new before now given listed keys_apart fits keys due c.take_all_over.new.found taken.0.0 taken.0.1 told laws.shown;
+      fault = fault query joining state closing old new before now given listed keys_apart fits keys due c.take_all_over.new.found taken.0.0 taken.0.1 told laws.fault;
     }

@@ -8,7 +8,7 @@ use Rattle.ssq_join.proofs.meet.meet.Goals.{in-None, in-Some+then-not-begins_wit
 pub loop-key-init : goal.loop-key-init
 loop-key-init c = (
   (λ now met leads.
-      subst (λ (entries : State). MeetsFront c.args.bound.now c.args.joining.now c.args.comer.row.now c.args.prefix.now entries c.args.found now c.args.met.now.keys met) c.into_iter-key-iterator.ensures.into_iter_gives leads),
+      subst (λ (entries : State). MeetsFront c.args.bound.now c.args.joining.now c.args.comer.row.now c.args.prefix.now entries c.args.found.now now c.args.met.now.keys met) c.into_iter-key-iterator.ensures.into_iter_gives leads),
   c.requires.printable,
 )
 
@@ -16,9 +16,9 @@ pub loop-key-preserved : goal.loop-key-preserved
 loop-key-preserved c = (
   (λ now met leads.
       c.loop-key.invariant.0 now met
-      (fronts_on c.args.bound.now c.args.joining.now c.args.comer.row.now c.args.prefix.now (c.in-Some.key.now, c.in-Some.value.now) c.loop-key.key-iterator c.next.new.self c.loop-key.found c.in_ok-found.found
-      c.loop-key.met.keys c.meet_row.new.met.keys c.in-Some.ensures.steps (sym c.begins_with.ensures ∙ c.if-not-begins_with.false) c.in_ok-found.ensures.meets now met leads)),
-  c.in_ok-found.ensures.printable,
+      (fronts_on c.args.bound.now c.args.joining.now c.args.comer.row.now c.args.prefix.now (c.in-Some.key.now, c.in-Some.value.now) c.loop-key.key-iterator c.next.new.self c.loop-key.found c.meet_row.new.found
+      c.loop-key.met.keys c.meet_row.new.met.keys c.in-Some.ensures.steps (sym c.begins_with.ensures ∙ c.if-not-begins_with.false) c.in_ok-meet_row.ensures.meets now met leads)),
+  c.in_ok-meet_row.ensures.printable,
 )
 
 pub returns-clause-meets : goal.returns-clause-meets

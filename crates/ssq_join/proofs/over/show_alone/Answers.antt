@@ -1,5 +1,5 @@
 use Rattle.std.proofs.Common.{◌≡◌, ◌∷◌, ap, sym, subst, ◌∙◌}
-use Rattle.std.proofs.lemmas.Result.{IfOk-weaker}
+use Rattle.std.proofs.lemmas.Result.{on_ok_weaker}
 use Rattle.std.specs.Prelude.{All}
 use Rattle.ssq_meaning.specs.Fit.{IsFit}
 use Rattle.ssq_meaning.specs.Join.{Considered, alone_of, joined_alone}
@@ -20,4 +20,4 @@ returns-clause-told c fed all read own tells =
     let values = c.as_slice.ensures.value ∙ c.in_ok-values.ensures ∙ (λ i. joined_alone query (read.left i) (read.values i)) in
     let is : record { key = c.args.own.now; row = shown_by c.in_ok-shown.shown } ≡ alone_of query fed =
     (λ i. record { key = own i; row = (c.in_ok-shown.ensures.shown ∙ ap (shown query) values) i }) in
-    IfOk-weaker c.with_shown.result _ _ (λ now told. subst (λ (one : Considered). Tells now (one ∷ all)) is told) (c.with_shown.ensures.told all tells)
+    on_ok_weaker c.take_shown.result (λ told. subst (λ (one : Considered). Tells c.take_shown.new.found (one ∷ all)) is told) (c.take_shown.ensures.told all tells)

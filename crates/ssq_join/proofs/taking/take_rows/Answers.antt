@@ -27,8 +27,8 @@ take_next-requires-clause-row c =
 pub loop-row-preserved : goal.loop-row-preserved
 loop-row-preserved c =
     let inside : c.loop-row.row-index < length c.args.rows.now = omega (arith, c.loop-row-test.true) in (
-      takes_more c.args.bound.now c.args.joining.now c.args.state.now c.args.rows.now c.loop-row.row-index c.row-item.result inside c.row-item.is c.loop-row.taken c.in_ok-taken.taken c.in_ok-taken.ensures.taken c.loop-row.invariant.0,
-      c.in_ok-taken.ensures.printable,
+      takes_more c.args.bound.now c.args.joining.now c.args.state.now c.args.rows.now c.loop-row.row-index c.row-item.result inside c.row-item.is c.loop-row.taken c.take_next.new.taken c.in_ok-take_next.ensures.taken c.loop-row.invariant.0,
+      c.in_ok-take_next.ensures.printable,
     )
 
 pub returns-clause-taken : goal.returns-clause-taken

@@ -5,7 +5,7 @@ use Rattle.ssq_time.specs.Time.{IsStampTime}
 use Rattle.ssq_shape.specs.Evaluation.{cell_at, time_in}
 use Rattle.ssq_meaning.specs.Placed.{time_from}
 use Rattle.ssq_step.proofs.Stamps.{as_number, stamp_at}
-use Rattle.ssq_step.proofs.closing.time_of.Goals as goal
+use Rattle.ssq_step.proofs.index.time_of.Goals as goal
 
 pub time-requires-clause-years : goal.time-requires-clause-years
 time-requires-clause-years c =
