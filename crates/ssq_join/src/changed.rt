@@ -1,6 +1,6 @@
 //! What an epoch changes in the rows that a partition keeps.
 
-ghost use Rattle.std.specs.Prelude.{◌≡◌, IfOk, IfSome, OnOk, option_copied};
+ghost use Rattle.std.specs.Prelude.{◌≡◌, IfOk, OnOk};
 ghost use Rattle.ssq_version.specs.State.{Ascends, IsShort, value_at};
 ghost use Rattle.ssq_step.specs.Indexing.{seen};
 ghost use Rattle.ssq_join.specs.Changing.{SaysBytes, SaysFlags, SaysFresh, SaysIf, flag_of, flagged, flagged_if, is_flagged};
@@ -52,14 +52,6 @@ fn flagged_if(met: bool, value: Bytes) -> Result<Bytes, AllocError>
     short(value)
 }
 
-/// The bytes themselves, where they are short enough to be kept.
-fn kept(bytes: Bytes) -> Result<Bytes, AllocError>
-    ensures bytes { IfOk result (λ kept. kept ≡ bytes) }
-    ensures short { IfOk result IsShort }
-{
-    short(bytes)
-}
-
 /// The law of maps: their keys ascend.
 fn keys_ascend(fresh: &BTreeMap<Bytes, Bytes>)
     ensures { Ascends fresh.now.entries }
@@ -78,36 +70,22 @@ fn put_fresh(
     keys_ascend(&fresh);
     for (key, value) in fresh {
         let value = flagged_if(met.contains(&key), value)?;
-        draft.put(kept(key)?, value)?;
+        draft.put(short(key)?, value)?;
     }
     Ok(())
-}
-
-/// What is kept from now on of a row that met a partner, where it met its first.
-fn flag_of(value: Option<&Bytes>) -> Result<Option<Bytes>, AllocError>
-    ensures bytes { IfOk result (λ flag. flag ≡ flag_of (option_copied value.entry)) }
-    ensures short { IfOk result (λ flag. IfSome flag IsShort) }
-{
-    match value {
-        Some(value) => {
-            if is_flagged(value) {
-                Ok(None)
-            } else {
-                Ok(Some(flagged(value)?))
-            }
-        },
-        None => Ok(None),
-    }
 }
 
 /// Says of a row that met a partner that it did, where it met its first.
 fn put_flag(draft: &mut Draft, state: &StateMap, key: &Bytes) -> Result<(), AllocError>
     ensures { OnOk result (SaysIf key.now (flag_of (value_at state.now key.now)) draft.old draft.new) }
 {
-    if let Some(value) = flag_of(state.get(key))? {
-        draft.put(short(key.clone()?)?, value)?;
+    let Some(value) = state.get(key) else {
+        return Ok(());
+    };
+    if is_flagged(value) {
+        return Ok(());
     }
-    Ok(())
+    draft.put(short(key.clone()?)?, flagged(value)?)
 }
 
 /// Says of the kept rows that met a partner first that they did.

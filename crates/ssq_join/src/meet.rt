@@ -65,8 +65,7 @@ fn joined(alloc: Global, own: &[Value], other: KeptRow) -> Result<Vec<Value>, Al
         values.extend_with_clones(own)?;
         Ok(values)
     } else {
-        let mut row = Vec::new(alloc);
-        row.extend_with_clones(own)?;
+        let mut row = own.to_vec(alloc)?;
         row.append(&mut values)?;
         Ok(row)
     }

@@ -29,11 +29,7 @@ use std::alloc::{AllocError, Global};
 fn nulls(alloc: Global, bound: &Bound, left: bool) -> Result<Vec<Value>, AllocError>
     ensures { IfOk result (λ values. values.items ≡ nulls bound.now (stream_of left)) }
 {
-    let mut values = Vec::new(alloc);
-    for _ in 0..width_of(bound, left) {
-        values.push(Value::Null)?;
-    }
-    Ok(values)
+    Ok(vec![in alloc; Value::Null; width_of(bound, left)]?)
 }
 
 /// A row by itself, with NULLs in place of the other row.

@@ -21,7 +21,7 @@ loop-key-preserved c = (
   ascends_behind c.in-Some.key c.in-Some.value c.next.new.self (subst (λ (entries : State). Ascends entries) c.in-Some.ensures.steps c.loop-key.invariant.2),
   fresh_on c.args.fresh.entries c.args.met.now.keys c.args.draft.now c.loop-key.key-iterator c.next.new.self c.in-Some.key c.in-Some.value c.in_ok-value.value c.loop-key.draft c.put.new.self
       c.in-Some.ensures.steps c.loop-key.invariant.2 (c.in_ok-value.ensures.bytes ∙ ap (λ b. flagged_if b c.in-Some.value) c.contains.ensures)
-      (subst (λ key. IsToldAt key (Some c.in_ok-value.value) c.loop-key.draft c.put.new.self) c.in_ok-kept.ensures.bytes c.in_ok-put.ensures.told) c.loop-key.invariant.3,
+      (subst (λ key. IsToldAt key (Some c.in_ok-value.value) c.loop-key.draft c.put.new.self) c.in_ok-short.ensures.bytes c.in_ok-put.ensures.told) c.loop-key.invariant.3,
 )
 
 pub returns : goal.returns
