@@ -1,4 +1,4 @@
-use Rattle.std.proofs.Common.{◌≡◌, ◌≤◌, List, ◌++◌, ◌∷◌, [], sym, ap, ◌∙◌, refl, subst, inl, inr, le_refl, arith}
+use Rattle.std.proofs.Common.{◌≡◌, ◌≤◌, ◌<◌, List, ◌++◌, ◌∷◌, [], sym, ap, ◌∙◌, refl, subst, inl, inr, le_refl, arith}
 use Rattle.ssq_outside.specs.declared.name.Name.TheVariants as name
 use Rattle.ssq_core.specs.Course.{Cuts}
 use Rattle.ssq_core.specs.Machine.{nothing, publishes}
@@ -9,7 +9,7 @@ use Rattle.ssq_board.specs.declared.front.Entry.TheVariants as entry
 use Rattle.ssq_board.specs.Core.{HasCause, after, cuts_by}
 use Rattle.ssq_board.proofs.Needs.{need_bound}
 use Rattle.ssq_ledger.specs.Shown.{Opening, Shown, cuts_of}
-use Rattle.ssq_ledger.proofs.Ledgers.{held, few_tasks, may_inside, one}
+use Rattle.ssq_ledger.proofs.Ledgers.{held, few_tasks, may_inside, one, stop_room}
 use Rattle.ssq_ledger.proofs.Shelves.{halted_both, made_room, plan_shelved}
 use Rattle.ssq_ledger.proofs.Moves.{right_inside, tried_from, went_from}
 use Rattle.ssq_ledger.proofs.Planning.{planned_sound, seal_may}
@@ -30,6 +30,26 @@ make_plan_room-requires g c =
     let s = c.self.inside in
     let m = may_inside _ _ c.self.view_is entry.Plan (λ f. f.planned) _ refl c.requires.may in
     few_tasks _ _ _ _ _ _ _ _ c.self.invariant.0 _ _ (planned_sound s.scope s.board c.args.next.board s.board.front.planned m (held _ _ _ _ _ _ _ _ c.self.invariant.0) (subst (λ (x : Shown g.row.D.Denot g.row.O.Denot). c.args.next.board ≡ after x.scope x.core (entry.Plan x.core.front.planned)) (sym c.self.view_is) c.requires.board)) c.count.ensures
+
+pub halt-requires : goal.halt-requires
+halt-requires g c =
+    let m = may_inside _ _ c.self.view_is entry.Plan (λ f. f.planned) _ refl c.requires.may in
+    stop_room _ _ _ _ _ _ _ _ c.self.invariant.0 _ _ m.0 c.make_plan_room.ensures.items c.make_plan_room.ensures.kept
+
+pub halt-requires-in-Err : goal.halt-requires-in-Err
+halt-requires-in-Err g c =
+    let m = may_inside _ _ c.self.view_is entry.Plan (λ f. f.planned) _ refl c.requires.may in
+    stop_room _ _ _ _ _ _ _ _ c.self.invariant.0 _ _ m.0 c.make_plan_room.ensures.items c.make_plan_room.ensures.kept
+
+pub halt-requires-in-Err-publish : goal.halt-requires-in-Err-publish
+halt-requires-in-Err-publish g c =
+    let m = may_inside _ _ c.self.view_is entry.Plan (λ f. f.planned) _ refl c.requires.may in
+    stop_room _ _ _ _ _ _ _ _ c.self.invariant.0 _ _ m.0 c.make_plan_room.ensures.items c.make_plan_room.ensures.kept
+
+pub push_reserved-requires : goal.push_reserved-requires
+push_reserved-requires g c =
+    let m = may_inside _ _ c.self.view_is entry.Plan (λ f. f.planned) _ refl c.requires.may in
+    subst (λ n. n < c.make_plan_room.new.entries.cap) (sym c.make_plan_room.new.entries.ok.0) (stop_room _ _ _ _ _ _ _ _ c.self.invariant.0 _ _ m.0 c.make_plan_room.ensures.items c.make_plan_room.ensures.kept)
 
 pub invariant_of-self : goal.invariant_of-self
 invariant_of-self g c =
