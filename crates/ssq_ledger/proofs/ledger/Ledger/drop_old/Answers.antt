@@ -1,12 +1,14 @@
-use Rattle.std.proofs.Common.{◌≤◌, ◌<◌, ◌+◌, ◌++◌, [], ◌∷◌, List, ◌-◌, Some, length, sym, ap, ◌∙◌, refl, subst, inl, le_refl, arith}
+use Rattle.std.proofs.Common.{◌≤◌, ◌<◌, ◌+◌, ◌++◌, [], ◌∷◌, List, ◌-◌, Some, length, sym, ap, ◌∙◌, refl, subst, inl, inr, le_refl, arith}
+use Rattle.ssq_outside.specs.Faults.{Rises}
 use Rattle.ssq_upkeep.specs.Upkeep.{IsLeast}
 use Rattle.ssq_board.specs.declared.front.Cause.TheVariants as cause
 use Rattle.ssq_board.specs.declared.front.Entry.{Entry}
 use Rattle.ssq_board.specs.declared.front.Entry.TheVariants as entry
 use Rattle.ssq_board.specs.Core.{Core, need}
-use Rattle.ssq_board.specs.Shelf.{there_in}
+use Rattle.ssq_board.specs.Shelf.{last_of, there_in}
 use Rattle.ssq_board.proofs.Needs.{need_bound}
 use Rattle.ssq_core.specs.Machine.{nothing}
+use Rattle.ssq_ledger.specs.Shown.{Shown, did, shelf_of}
 use Rattle.ssq_ledger.proofs.Ledgers.{held, few_tasks, runs_inside, stop_room}
 use Rattle.ssq_ledger.proofs.Shelves.{by_shelf, dropped_are, halted_both, same_are, stop_most, stops_need, upkeep_both, without_most}
 use Rattle.ssq_ledger.proofs.ledger.Ledger.drop_old.Goals as goal
@@ -73,3 +75,40 @@ invariant_of-self-in-Err g c =
     upkeep_both _ _ _ _ _ _ _ _ c.self.invariant.0 _ _ c.self.invariant.1 _ _ _ _ _ (entry.Undropped q) running least.goes (λ t. c.remove.ensures.steps t.0) (λ t. tt) c.stop.ensures items
     (subst (λ (x : Core). need x ≤ need s.board) (sym c.stop.ensures) (stops_need s.board (Some cause.DiskFault) (stop_most s.board.front.stop cause.DiskFault)))
     (same_are _ _ _ _ _ c.self.invariant.1) c.self.invariant.1.room (omega (arith, n, few, all, k))
+
+pub returns-in_default-make_drop_room-clause-did : goal.returns-in_default-make_drop_room-clause-did
+returns-in_default-make_drop_room-clause-did g c =
+    let s = c.self.inside in
+    let items = c.halt.ensures.items ∙ ap (λ (l : List Entry). l ++ entry.Stop cause.NoMemory ∷ []) c.make_drop_room.ensures.items in
+    inl (
+      refl,
+      (λ i. record { opening = s.opening.value; opened = s.opened.value; scope = s.scope; disk = s.disk; core = c.halt.ensures.board i; history = items i })
+          ∙ ap (λ (x : Shown g.row.D.Denot g.row.O.Denot). did x x.disk (entry.Stop cause.NoMemory ∷ [])) c.self.view_is,
+    )
+
+pub returns-in-Ok-clause-did : goal.returns-in-Ok-clause-did
+returns-in-Ok-clause-did g c =
+    let s = c.self.inside in
+    let q = c.in-Some.name in
+    let least = by_shelf (λ l x. IsLeast (there_in x) x.settled s.scope.partitions l q) _ _ _ _ s.names s.board c.front.result c.last_of-last.result c.self.invariant.1 c.front.ensures c.last_of-last.ensures c.in-Some.ensures in
+    let items = c.push_reserved.ensures.items ∙ ap (λ (l : List Entry). l ++ entry.Drop q ∷ []) c.make_drop_room.ensures.items in (
+      q,
+      subst (λ (x : Shown g.row.D.Denot g.row.O.Denot). IsLeast (there_in (shelf_of g.O.Opening.opening x)) (shelf_of g.O.Opening.opening x).settled x.scope.partitions (last_of x.core) q) c.self.view_is least,
+      (λ i. record { opening = s.opening.value; opened = s.opened.value; scope = s.scope; disk = c.remove.new.self; core = s.board; history = items i })
+          ∙ ap (λ (x : Shown g.row.D.Denot g.row.O.Denot). did x c.remove.new.self (entry.Drop q ∷ [])) c.self.view_is,
+    )
+
+pub returns-in-Err-clause-did : goal.returns-in-Err-clause-did
+returns-in-Err-clause-did g c =
+    let s = c.self.inside in
+    let q = c.in-Some.name in
+    let least = by_shelf (λ l x. IsLeast (there_in x) x.settled s.scope.partitions l q) _ _ _ _ s.names s.board c.front.result c.last_of-last.result c.self.invariant.1 c.front.ensures c.last_of-last.ensures c.in-Some.ensures in
+    let items = c.push_reserved-in-Err.ensures.items ∙ ap (λ (l : List Entry). l ++ entry.Undropped q ∷ []) c.make_drop_room.ensures.items in
+    inr (
+      q,
+      subst (λ (x : Shown g.row.D.Denot g.row.O.Denot). IsLeast (there_in (shelf_of g.O.Opening.opening x)) (shelf_of g.O.Opening.opening x).settled x.scope.partitions (last_of x.core) q) c.self.view_is least,
+      refl,
+      (λ i. record { opening = s.opening.value; opened = s.opened.value; scope = s.scope; disk = c.remove.new.self; core = c.stop.ensures i; history = items i })
+          ∙ ap (λ (x : Shown g.row.D.Denot g.row.O.Denot). did x c.remove.new.self (entry.Undropped q ∷ [])) c.self.view_is,
+      subst (λ (x : Shown g.row.D.Denot g.row.O.Denot). Rises (g.D.Disk.faults x.disk) (g.D.Disk.faults c.remove.new.self)) c.self.view_is c.in-Err.ensures.cause,
+    )
