@@ -1,4 +1,4 @@
-use Rattle.std.proofs.Common.{◌≤◌, ◌<◌, ◌+◌, ◌++◌, [], ◌∷◌, List, ◌-◌, Some, length, sym, ap, ◌∙◌, refl, subst, inl, inr, le_refl, arith}
+use Rattle.std.proofs.Common.{◌≤◌, ◌<◌, ◌++◌, [], ◌∷◌, List, Some, length, sym, ap, ◌∙◌, refl, subst, inl, inr, le_refl, arith}
 use Rattle.ssq_outside.specs.Faults.{Rises}
 use Rattle.ssq_upkeep.specs.Upkeep.{IsLeast}
 use Rattle.ssq_board.specs.declared.front.Cause.TheVariants as cause
