@@ -24,6 +24,10 @@ module _ {D O : Type 0} (x y : Shown D O) (same : x ≡ y) where
   pub may_inside : (of : ℕ → Entry) (number : Front → ℕ) (e : ℕ) → e ≡ number x.core.front → May y.scope y.core (of (number y.core.front)) → May x.scope x.core (of e)
   may_inside of number e is may = subst (λ n. May x.scope x.core (of n)) (sym is) (subst (λ (s : Shown D O). May s.scope s.core (of (number s.core.front))) (sym same) may)
 
+-- an entry more, where room was made for it before
+pub pushed : (e : Entry) (old made now : List Entry) → now ≡ made ++ e ∷ [] → made ≡ old → now ≡ old ++ e ∷ []
+pushed e old made now is same = is ∙ ap (λ (l : List Entry). l ++ e ∷ []) same
+
 module _ (tells : Type 0) (job : Job) (r : Scope) (next : Cuts → ℕ → Bool) where
   leads_more : (s : State) (es : List Entry) (mid : State) (fs : List Entry) (n : State) → Leads tells job r next s es mid → Leads tells job r next mid fs n → Leads tells job r next s (es ++ fs) n
   leads_more s [] mid fs n l more = subst (λ x. Leads tells job r next x fs n) (sym l) more

@@ -4,14 +4,13 @@ use Rattle.ssq_outside.specs.declared.name.Name.{Name}
 use Rattle.ssq_outside.specs.declared.name.Name.TheVariants as name
 use Rattle.ssq_upkeep.specs.Upkeep.{IsNext}
 use Rattle.ssq_board.specs.declared.front.Cause.TheVariants as cause
-use Rattle.ssq_board.specs.declared.front.Entry.{Entry}
 use Rattle.ssq_board.specs.declared.front.Entry.TheVariants as entry
 use Rattle.ssq_board.specs.Core.{need}
 use Rattle.ssq_board.specs.Shelf.{asked_in}
 use Rattle.ssq_ledger.specs.Shown.{Shown, cuts_of}
 use Rattle.ssq_board.proofs.Needs.{need_bound}
 use Rattle.ssq_core.specs.Machine.{nothing}
-use Rattle.ssq_ledger.proofs.Ledgers.{held, few_tasks, runs_inside, stop_room}
+use Rattle.ssq_ledger.proofs.Ledgers.{held, few_tasks, runs_inside, stop_room, pushed}
 use Rattle.ssq_ledger.proofs.Shelves.{by_shelf, claim_are, halted_both, made_room, upkeep_both}
 use Rattle.ssq_ledger.proofs.ledger.Ledger.claim_upkeep.Goals as goal
 
@@ -42,7 +41,7 @@ invariant_of-self-2 g c =
     let keeping : g.D.Disk.tells × g.O.Opening.tells s.opening.value s.scope (g.D.Disk.history s.opened.value) → _ =
     subst (λ (x : Shown g.row.D.Denot g.row.O.Denot). g.D.Disk.tells × g.O.Opening.tells x.opening x.scope (g.D.Disk.history x.opened) → c.args.keeping ≤ ((g.O.Opening.opening x.opening).job.course (cuts_of g.O.Opening.opening x)).keeping) (sym c.self.view_is) c.requires.keeping in
     let made = c.make_upkeep_room.ensures.names in
-    let items = c.push_reserved-2.ensures.items ∙ ap (λ (l : List Entry). l ++ entry.Upkeep p v ∷ []) c.make_upkeep_room.ensures.items in
+    let items = pushed (entry.Upkeep p v) _ _ _ c.push_reserved-2.ensures.items c.make_upkeep_room.ensures.items in
     let claimed = c.push_reserved.ensures.items ∙ ap (λ (l : List Name). l ++ name.Snapshot p v ∷ []) made.claimed in
     let one = ap length made.news in
     let more = ap length claimed in

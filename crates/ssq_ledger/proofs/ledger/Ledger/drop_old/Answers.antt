@@ -1,15 +1,14 @@
-use Rattle.std.proofs.Common.{◌≤◌, ◌<◌, ◌++◌, [], ◌∷◌, List, Some, length, sym, ap, ◌∙◌, refl, subst, inl, inr, le_refl, arith}
+use Rattle.std.proofs.Common.{◌≤◌, ◌<◌, [], ◌∷◌, Some, length, sym, ap, ◌∙◌, refl, subst, inl, inr, le_refl, arith}
 use Rattle.ssq_outside.specs.Faults.{Rises}
 use Rattle.ssq_upkeep.specs.Upkeep.{IsLeast}
 use Rattle.ssq_board.specs.declared.front.Cause.TheVariants as cause
-use Rattle.ssq_board.specs.declared.front.Entry.{Entry}
 use Rattle.ssq_board.specs.declared.front.Entry.TheVariants as entry
 use Rattle.ssq_board.specs.Core.{Core, need}
 use Rattle.ssq_board.specs.Shelf.{last_of, there_in}
 use Rattle.ssq_board.proofs.Needs.{need_bound}
 use Rattle.ssq_core.specs.Machine.{nothing}
 use Rattle.ssq_ledger.specs.Shown.{Shown, did, shelf_of}
-use Rattle.ssq_ledger.proofs.Ledgers.{held, few_tasks, runs_inside, stop_room}
+use Rattle.ssq_ledger.proofs.Ledgers.{held, few_tasks, runs_inside, stop_room, pushed}
 use Rattle.ssq_ledger.proofs.Shelves.{by_shelf, dropped_are, halted_both, same_are, stop_most, stops_need, upkeep_both, without_most}
 use Rattle.ssq_ledger.proofs.ledger.Ledger.drop_old.Goals as goal
 
@@ -47,7 +46,7 @@ invariant_of-self-in-Ok g c =
     let q = c.in-Some.name in
     let running = runs_inside _ _ c.self.view_is c.requires in
     let least = by_shelf (λ l x. IsLeast (there_in x) x.settled s.scope.partitions l q) _ _ _ _ s.names s.board c.front.result c.last_of-last.result c.self.invariant.1 c.front.ensures c.last_of-last.ensures c.in-Some.ensures in
-    let items = c.push_reserved.ensures.items ∙ ap (λ (l : List Entry). l ++ entry.Drop q ∷ []) c.make_drop_room.ensures.items in
+    let items = pushed (entry.Drop q) _ _ _ c.push_reserved.ensures.items c.make_drop_room.ensures.items in
     let n = c.count.ensures in
     let few = need_bound s.board in
     let fewer = without_most q s.names.news.items in
@@ -67,7 +66,7 @@ invariant_of-self-in-Err g c =
     let q = c.in-Some.name in
     let running = runs_inside _ _ c.self.view_is c.requires in
     let least = by_shelf (λ l x. IsLeast (there_in x) x.settled s.scope.partitions l q) _ _ _ _ s.names s.board c.front.result c.last_of-last.result c.self.invariant.1 c.front.ensures c.last_of-last.ensures c.in-Some.ensures in
-    let items = c.push_reserved-in-Err.ensures.items ∙ ap (λ (l : List Entry). l ++ entry.Undropped q ∷ []) c.make_drop_room.ensures.items in
+    let items = pushed (entry.Undropped q) _ _ _ c.push_reserved-in-Err.ensures.items c.make_drop_room.ensures.items in
     let n = c.count.ensures in
     let few = need_bound s.board in
     let all = c.in-Some-make_drop_room.ensures.room in
@@ -79,7 +78,7 @@ invariant_of-self-in-Err g c =
 pub returns-in_default-make_drop_room-clause-did : goal.returns-in_default-make_drop_room-clause-did
 returns-in_default-make_drop_room-clause-did g c =
     let s = c.self.inside in
-    let items = c.halt.ensures.items ∙ ap (λ (l : List Entry). l ++ entry.Stop cause.NoMemory ∷ []) c.make_drop_room.ensures.items in
+    let items = pushed (entry.Stop cause.NoMemory) _ _ _ c.halt.ensures.items c.make_drop_room.ensures.items in
     inl (
       refl,
       (λ i. record { opening = s.opening.value; opened = s.opened.value; scope = s.scope; disk = s.disk; core = c.halt.ensures.board i; history = items i })
@@ -91,7 +90,7 @@ returns-in-Ok-clause-did g c =
     let s = c.self.inside in
     let q = c.in-Some.name in
     let least = by_shelf (λ l x. IsLeast (there_in x) x.settled s.scope.partitions l q) _ _ _ _ s.names s.board c.front.result c.last_of-last.result c.self.invariant.1 c.front.ensures c.last_of-last.ensures c.in-Some.ensures in
-    let items = c.push_reserved.ensures.items ∙ ap (λ (l : List Entry). l ++ entry.Drop q ∷ []) c.make_drop_room.ensures.items in (
+    let items = pushed (entry.Drop q) _ _ _ c.push_reserved.ensures.items c.make_drop_room.ensures.items in (
       q,
       subst (λ (x : Shown g.row.D.Denot g.row.O.Denot). IsLeast (there_in (shelf_of g.O.Opening.opening x)) (shelf_of g.O.Opening.opening x).settled x.scope.partitions (last_of x.core) q) c.self.view_is least,
       (λ i. record { opening = s.opening.value; opened = s.opened.value; scope = s.scope; disk = c.remove.new.self; core = s.board; history = items i })
@@ -103,7 +102,7 @@ returns-in-Err-clause-did g c =
     let s = c.self.inside in
     let q = c.in-Some.name in
     let least = by_shelf (λ l x. IsLeast (there_in x) x.settled s.scope.partitions l q) _ _ _ _ s.names s.board c.front.result c.last_of-last.result c.self.invariant.1 c.front.ensures c.last_of-last.ensures c.in-Some.ensures in
-    let items = c.push_reserved-in-Err.ensures.items ∙ ap (λ (l : List Entry). l ++ entry.Undropped q ∷ []) c.make_drop_room.ensures.items in
+    let items = pushed (entry.Undropped q) _ _ _ c.push_reserved-in-Err.ensures.items c.make_drop_room.ensures.items in
     inr (
       q,
       subst (λ (x : Shown g.row.D.Denot g.row.O.Denot). IsLeast (there_in (shelf_of g.O.Opening.opening x)) (shelf_of g.O.Opening.opening x).settled x.scope.partitions (last_of x.core) q) c.self.view_is least,

@@ -1,15 +1,14 @@
-use Rattle.std.proofs.Common.{◌≡◌, ◌≤◌, ◌<◌, List, ◌++◌, ◌∷◌, [], sym, ap, ◌∙◌, refl, subst, inl, inr, le_refl, arith}
+use Rattle.std.proofs.Common.{◌≡◌, ◌≤◌, ◌<◌, sym, ap, ◌∙◌, refl, subst, inl, inr, le_refl, arith}
 use Rattle.ssq_outside.specs.declared.name.Name.TheVariants as name
 use Rattle.ssq_core.specs.Course.{Cuts}
 use Rattle.ssq_core.specs.Machine.{nothing, publishes}
 use Rattle.ssq_board.specs.declared.front.Front.{Front}
 use Rattle.ssq_board.specs.declared.front.Cause.TheVariants as cause
-use Rattle.ssq_board.specs.declared.front.Entry.{Entry}
 use Rattle.ssq_board.specs.declared.front.Entry.TheVariants as entry
 use Rattle.ssq_board.specs.Core.{HasCause, after, cuts_by}
 use Rattle.ssq_board.proofs.Needs.{need_bound}
 use Rattle.ssq_ledger.specs.Shown.{Opening, Shown, cuts_of}
-use Rattle.ssq_ledger.proofs.Ledgers.{held, few_tasks, may_inside, one, stop_room}
+use Rattle.ssq_ledger.proofs.Ledgers.{held, few_tasks, may_inside, one, stop_room, pushed}
 use Rattle.ssq_ledger.proofs.Shelves.{halted_both, made_room, plan_shelved}
 use Rattle.ssq_ledger.proofs.Moves.{right_inside, tried_from, went_from}
 use Rattle.ssq_ledger.proofs.Planning.{planned_sound, seal_may}
@@ -74,7 +73,7 @@ invariant_of-self-in-Ok-publish g c =
     let m = may_inside _ _ c.self.view_is entry.Plan (λ f. f.planned) _ epoch c.requires.may in
     let right = right_inside g.D.Disk.tells g.D.Disk.history g.O.Opening.tells g.O.Opening.opening (planned_cuts g.O.Opening.opening) _ _ c.self.view_is name.Plan (λ f. f.planned) _ epoch _ c.requires.right in
     let e = entry.Plan c.front-epoch.result.planned in
-    let items = c.push_reserved.ensures.items ∙ ap (λ (l : List Entry). l ++ e ∷ []) c.make_plan_room.ensures.items in
+    let items = pushed e _ _ _ c.push_reserved.ensures.items c.make_plan_room.ensures.items in
     let q = c.in-Some.ensures.room in
     let n = c.count.ensures in
     let b = need_bound c.args.next.board in (

@@ -1,13 +1,12 @@
-use Rattle.std.proofs.Common.{◌≤◌, ◌<◌, length, List, ◌++◌, ◌∷◌, [], sym, ap, ◌∙◌, refl, subst, inl, inr, le_refl, arith}
+use Rattle.std.proofs.Common.{◌≤◌, ◌<◌, length, sym, ap, ◌∙◌, refl, subst, inl, inr, le_refl, arith}
 use Rattle.std.specs.Global.{Vec}
 use Rattle.ssq_outside.specs.declared.name.Name.{Name}
 use Rattle.ssq_core.specs.Machine.{nothing, syncs}
 use Rattle.ssq_board.specs.declared.front.Cause.TheVariants as cause
-use Rattle.ssq_board.specs.declared.front.Entry.{Entry}
 use Rattle.ssq_board.specs.declared.front.Entry.TheVariants as entry
 use Rattle.ssq_board.specs.Core.{need}
 use Rattle.ssq_board.proofs.Needs.{need_bound, need_sync}
-use Rattle.ssq_ledger.proofs.Ledgers.{held, few_tasks, one, runs_inside, stop_room}
+use Rattle.ssq_ledger.proofs.Ledgers.{held, few_tasks, one, runs_inside, stop_room, pushed}
 use Rattle.ssq_ledger.proofs.Shelves.{halted_both, made_settled, sync_shelved}
 use Rattle.ssq_ledger.proofs.ledger.Ledger.sync.Goals as goal
 
@@ -41,7 +40,7 @@ invariant_of-self-in-Ok g c =
     let s = c.self.inside in
     let running = runs_inside _ _ c.self.view_is c.requires in
     let e = entry.Sync c.clock-clock.result in
-    let items = c.push_reserved.ensures.items ∙ ap (λ (l : List Entry). l ++ e ∷ []) c.make_sync_room.ensures.items in
+    let items = pushed e _ _ _ c.push_reserved.ensures.items c.make_sync_room.ensures.items in
     let q = c.in-Some.ensures.room in
     let n = c.count.ensures in
     let b = need_bound s.board in
