@@ -1,8 +1,10 @@
-use Rattle.std.proofs.Common.{◌≡◌, ◌⊎◌, ◌<◌, ◌||◌, inl, inr, true, false, nat_lt, List, Some, None, sym, ap, ◌∙◌, subst}
-use Rattle.std.specs.Prelude.{◌≢◌, All, MatchOption}
+use Rattle.std.proofs.Common.{◌≡◌, ◌⊎◌, ◌≤◌, ◌<◌, ◌^◌, ◌||◌, ℕ, length, inl, inr, true, false, nat_lt, List, Some, None, sym, ap, ◌∙◌, subst}
+use Rattle.std.specs.Prelude.{◌≢◌, All, MatchOption, vec_capacity}
+use Rattle.std.specs.Global.{Vec}
 use Rattle.std.specs.List.{list_any, AllZip, sum_by}
 use Rattle.ssq_outside.specs.declared.gate.Kind.TheVariants as kind
 use Rattle.ssq_plans.specs.Records.{HasLineTime}
+use Rattle.ssq_shape.specs.declared.bound.Bound.{Bound}
 use Rattle.ssq_feed.specs.Causes.{LogWent}
 use Rattle.ssq_task.specs.Committing.{lines_of}
 use Rattle.ssq_board.specs.declared.front.Cause.{Cause}
@@ -79,3 +81,32 @@ returns-clause-next g c =
     (next_back g.D.Disk.tells g.L.Log.tells g.D.Disk.history g.L.Log.lines g.L.Log.available g.L.Log.answers g.L.Log.faults g.D.Stage.Stage.written g.D.Stage.Stage.sealed s.ledger s.load c.self.invariant c.is_legal.ensures.legal c.is_in_order.ensures c.next_if-next.result.0 c.is_over-is_over.result c.closed-disk.result.2.items c.closed-disk.ensures.names is
     (λ over. (let both = c.is_over-is_over.ensures.over over in (sym c.ready.ensures ∙ both.0, sym c.is_tidy.ensures ∙ both.1)))
     (λ other. elim (c.is_over-is_over.ensures.other other) [ inl not_over ↦ inl (λ over. not_over (c.ready.ensures ∙ over)) | inr untidy ↦ inr (sym c.is_tidy.ensures ∙ untidy) ]))
+
+-- there is room for all that comes back
+pub next_if-next-requires-clause-no_stores : goal.next_if-next-requires-clause-no_stores
+next_if-next-requires-clause-no_stores g c = (c.self.invariant.kept.no_stores, c.self.invariant.kept.no_closings)
+
+pub next_if-next-requires-clause-stores : goal.next_if-next-requires-clause-stores
+next_if-next-requires-clause-stores g c =
+    let own = c.self.invariant in (
+      subst (λ (n : ℕ). n ≤ vec_capacity c.self.inside.load.kept.stores) (sym own.holds.keeping) own.kept.stores_room,
+      subst (λ (n : ℕ). n ≤ vec_capacity c.self.inside.load.kept.closings) (sym own.holds.keeping) own.kept.closings_room,
+    )
+
+pub next_if-next-requires-clause-none : goal.next_if-next-requires-clause-none
+next_if-next-requires-clause-none g c = c.self.invariant.kept.no_lines
+
+pub next_if-next-requires-clause-fits : goal.next_if-next-requires-clause-fits
+next_if-next-requires-clause-fits g c = subst (λ (b : Bound). length b.streams ≤ vec_capacity c.self.inside.load.kept.lines) (sym c.self.invariant.view.bound) c.self.invariant.kept.lines_room
+
+pub next_if-next-requires-clause-few : goal.next_if-next-requires-clause-few
+next_if-next-requires-clause-few g c = subst (λ (b : Bound). length b.streams ≤ 2 ^ 32) (sym c.self.invariant.view.bound) c.self.invariant.round.few_streams
+
+pub logs_of-requires-clause-none : goal.logs_of-requires-clause-none
+logs_of-requires-clause-none g c = ap (λ (v : Vec g.row.L.Denot). v.items) c.next_if-next.ensures.room ∙ c.self.invariant.kept.no_logs
+
+pub logs_of-requires-clause-fits : goal.logs_of-requires-clause-fits
+logs_of-requires-clause-fits g c =
+    let own = c.self.invariant in
+    subst (λ (v : Vec g.row.L.Denot). length c.self.inside.load.part_logs.items ≤ vec_capacity v) (sym c.next_if-next.ensures.room)
+    (subst (λ (n : ℕ). n ≤ vec_capacity c.self.inside.load.kept.logs) (sym own.holds.parts) own.kept.logs_room)

@@ -1,4 +1,4 @@
-use Rattle.std.proofs.Common.{◌&&◌, ◌≡◌, ◌<◌, ◌+◌, ◌^◌, ℕ, map, get_or, false, sym, ap, ◌∙◌, subst, arith}
+use Rattle.std.proofs.Common.{◌&&◌, ◌≡◌, ◌<◌, ◌+◌, ◌^◌, ℕ, length, map, get_or, false, sym, ap, ◌∙◌, subst, arith}
 use Rattle.std.specs.Prelude.{vec_capacity}
 use Rattle.std.proofs.lemmas.Option.{same_Some}
 use Rattle.ssq_plans.specs.declared.plan.Plan.{Plan}
@@ -13,7 +13,8 @@ use Rattle.ssq_desk.specs.declared.desk.PartLog.{PartLog}
 use Rattle.ssq_desk.specs.declared.round.Round.{Round}
 use Rattle.ssq_desk.specs.Closing.{AreTold, IsToldOf, lines_between}
 use Rattle.ssq_meaning.specs.Times.{delays, is_above, watermark_by}
-use Rattle.ssq_water.specs.Water.{seen_at}
+use Rattle.ssq_shape.specs.declared.bound.Bound.{Bound}
+use Rattle.ssq_water.specs.Water.{HasDelays, seen_at}
 use Rattle.ssq_course.specs.Setting.{closes}
 use Rattle.ssq_desk.specs.Round.{setting_of, Owns, is_due}
 use Rattle.ssq_desk.specs.Whole.{opening_in}
@@ -102,3 +103,18 @@ invariant_of-self-2 g c =
     c.is_in_order.ensures.sound.near c.take_pending-pending.ensures.none c.take_pending-pending.ensures.is next (c.is_due-due.result, c.in_ok-commit.ensures.done)
     (subst (λ l. AreTold owned (setting_of g.L.Log.lines s.ledger.opening) (cuts_of (opening_in g.L.Log.lines) s.ledger) s.ledger.opening.opened.committed (s.ledger.core.front.committed + 1) l) (sym c.push_reserved.ensures.items)
     (told_more owned (setting_of g.L.Log.lines s.ledger.opening) (cuts_of (opening_in g.L.Log.lines) s.ledger) s.ledger.opening.opened.committed s.ledger.core.front.committed s.load.told.items told c.self.invariant.told is))
+
+-- the streams and the delays are the query's
+pub is_due-due-requires-clause-streams : goal.is_due-due-requires-clause-streams
+is_due-due-requires-clause-streams g c =
+    let s = c.self.inside in
+    let next = subst (λ (x : Shown g.row.D.Denot (Round g.row.L.Denot)). ready_of x.scope x.core ≡ ready.Commit) (sym c.self.view_is) c.requires in
+    let h = pending_here _ _ _ _ _ _ _ _ _ s.ledger s.load c.self.invariant next in
+    let mine : h.0 ≡ c.take_pending-pending.result = same_Some h.0 c.take_pending-pending.result (sym h.1 ∙ c.take_pending-pending.ensures.is) in
+    ap (λ (p : Pending g.row.D-Stage-Sealed.Denot). length p.seen) (sym mine) ∙ h.2.times.streams ∙ ap (λ (b : Bound). length b.streams) (sym c.self.invariant.view.bound)
+
+pub is_due-due-requires-clause-delays : goal.is_due-due-requires-clause-delays
+is_due-due-requires-clause-delays g c = subst HasDelays (sym c.self.invariant.view.bound) c.self.invariant.round.runs.delays
+
+pub commit-requires-clause-ready : goal.commit-requires-clause-ready
+commit-requires-clause-ready g c = subst (λ (x : Shown g.row.D.Denot (Round g.row.L.Denot)). ready_of x.scope x.core ≡ ready.Commit) (sym c.self.view_is) c.requires

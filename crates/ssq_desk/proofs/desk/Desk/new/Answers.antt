@@ -1,4 +1,4 @@
-use Rattle.std.proofs.Common.{◌≡◌, ◌≤◌, ℕ, List, Option, length, sym, ap, ◌∙◌, subst}
+use Rattle.std.proofs.Common.{◌≡◌, ◌≤◌, ◌<◌, ℕ, List, Option, true, length, refl, sym, ap, ◌∙◌, subst}
 use Rattle.std.specs.Prelude.{vec_capacity}
 use Rattle.std.specs.Global.{Vec}
 use Rattle.std.specs.Vec.{with_items}
@@ -18,7 +18,7 @@ use Rattle.ssq_desk.specs.declared.round.Round.{Round}
 use Rattle.ssq_desk.specs.Round.{OwnsRound, setting_of}
 use Rattle.ssq_desk.specs.First.{part_logs_of, held_of, IsMadeOf, BeginsAs, BeginsWork, first_shown}
 use Rattle.ssq_desk.specs.Whole.{IsWhole, opening_in}
-use Rattle.ssq_desk.proofs.Beginnings.{lines_below, terms, tells_plans}
+use Rattle.ssq_desk.proofs.Beginnings.{few_parts, few_planned, lines_below, terms, tells_plans}
 use Rattle.ssq_desk.proofs.Beginnings.{start_is as begins_well}
 use Rattle.ssq_desk.proofs.Began.{start_is, each_part, each_end, load_of, opens}
 use Rattle.ssq_desk.proofs.desk.Desk.new.Given.{Over}
@@ -106,3 +106,47 @@ returns-clause-made g c =
     let at = goal.at.returns-clause-made g c in
     subst (λ (n : ℕ). BeginsAs n (g.D.Disk.faults c.begin_out-out.new.ledger.disk) (first_shown g.L.Log.lines (round_by g c.args.view c.args.opened c.args.logs) c.args.disk (scope_by c.args.view c.args.available c.args.cap)) c.begin_out-out.new.ledger)
     (ap (λ (x : Shown g.row.D.Denot (Round g.row.L.Denot)). g.D.Disk.faults x.disk) c.in-Ok-new.ensures.made) (begun g at.After-into_vec-3 (made_of g at.In-Ok)).0
+
+pub make_first-requires-clause-few : goal.make_first-requires-clause-few
+make_first-requires-clause-few g c = few_parts _ _ _ c.requires.round
+
+pub make_first-requires-clause-before : goal.make_first-requires-clause-before
+make_first-requires-clause-before g c = c.requires.round.numbers.before
+
+pub make_first-requires-clause-years : goal.make_first-requires-clause-years
+make_first-requires-clause-years g c = c.requires.round.numbers.years
+
+pub make_first-requires-clause-delays : goal.make_first-requires-clause-delays
+make_first-requires-clause-delays g c = c.requires.round.runs.delays
+
+pub new-requires-clause-numbers : goal.new-requires-clause-numbers
+new-requires-clause-numbers g c =
+    subst (λ (x : Start). x.is_planned ≡ true → x.committed < 4294967295) (sym (start_made g (goal.at.new-requires-clause-numbers g c).In-Ok)) (few_planned _ _ _ c.requires.round)
+
+pub new-requires-clause-few : goal.new-requires-clause-few
+new-requires-clause-few g c = c.requires.round.few_tasks
+
+pub with_logs-part_logs-requires-clause-none : goal.with_logs-part_logs-requires-clause-none
+with_logs-part_logs-requires-clause-none g c = c.in-Ok.ensures.rooms.no_part_logs
+
+pub with_logs-part_logs-requires-clause-fits : goal.with_logs-part_logs-requires-clause-fits
+with_logs-part_logs-requires-clause-fits g c = (made_of g (goal.at.with_logs-part_logs-requires-clause-fits g c).In-Ok).rooms.part_logs_room
+
+pub with_closings-held-requires-clause-none : goal.with_closings-held-requires-clause-none
+with_closings-held-requires-clause-none g c = c.in-Ok.ensures.rooms.no_held
+
+pub with_closings-held-requires-clause-each : goal.with_closings-held-requires-clause-each
+with_closings-held-requires-clause-each g c = c.requires.indexes.count ∙ sym (ap length c.into_vec-2.ensures)
+
+pub begin_out-out-requires : goal.begin_out-out-requires
+begin_out-out-requires g c = ap (λ (x : Shown g.row.D.Denot (Round g.row.L.Denot)). x.core.front.stop) c.in-Ok-new.ensures.made
+
+pub returns-clause-same : goal.returns-clause-same
+returns-clause-same g c = λ tells. c.begin_out-out.ensures.same tells ∙ ap (λ (x : Shown g.row.D.Denot (Round g.row.L.Denot)). g.D.Disk.history x.disk) c.in-Ok-new.ensures.made
+
+pub returns-clause-counted : goal.returns-clause-counted
+returns-clause-counted g c =
+    subst (λ (n : ℕ). n ≤ g.D.Disk.faults c.begin_out-out.new.ledger.disk) (ap (λ (x : Shown g.row.D.Denot (Round g.row.L.Denot)). g.D.Disk.faults x.disk) c.in-Ok-new.ensures.made) c.begin_out-out.ensures.counted
+
+pub returns-in-Err-clause-back : goal.returns-in-Err-clause-back
+returns-in-Err-clause-back g c = (c.in-Err.ensures.back, refl)

@@ -1,6 +1,9 @@
 use Rattle.std.proofs.Common.{◌≡◌, ◌≤◌, ◌∷◌, [], ℕ, length, refl, sym, ap, ◌∙◌, subst}
 use Rattle.std.specs.Prelude.{vec_capacity}
 use Rattle.ssq_time.specs.Time.{IsStampTime}
+use Rattle.ssq_shape.specs.declared.bound.Bound.{Bound}
+use Rattle.ssq_meaning.specs.declared.fed_row.View.{View}
+use Rattle.ssq_water.specs.Water.{HasDelays}
 use Rattle.ssq_plans.specs.declared.plan.Plan.{Plan}
 use Rattle.ssq_course.specs.Setting.{watermark_at}
 use Rattle.ssq_board.specs.declared.front.Entry.TheVariants as entry
@@ -98,3 +101,37 @@ invariant_of-self-in-Err-plan g c =
     (ap (λ (l : Load _ _ _). l.view) c.drop_files.ensures.kept) (ap (λ (l : Load _ _ _). l.plans.items) c.drop_files.ensures.kept) (ap (λ (l : Load _ _ _). l.part_logs.items) c.drop_files.ensures.kept) c.drop_files.ensures.count (ap (λ (l : Load _ _ _). l.held) c.drop_files.ensures.kept) (ap (λ (l : Load _ _ _). l.told.items) c.drop_files.ensures.kept) (ap (λ (l : Load _ _ _). l.kept) c.drop_files.ensures.kept) right in
     subst (λ (x : Shown g.row.D.Denot (Round g.row.L.Denot)). IsWhole g.D.Disk.tells g.L.Log.tells g.D.Disk.history g.L.Log.lines g.L.Log.available g.L.Log.answers g.L.Log.faults g.D.Stage.Stage.written g.D.Stage.Stage.sealed x c.drop_files.new.load)
     (sym (c.drop_files.ensures.did ∙ ap (λ (x : Shown g.row.D.Denot (Round g.row.L.Denot)). did x c.drop_files.new.ledger.disk []) stopped ∙ did_then old c.plan.new.self.disk c.drop_files.new.ledger.disk es [])) whole
+
+pub stop-requires-clause-running : goal.stop-requires-clause-running
+stop-requires-clause-running g c =
+    let old = c.self.inside.ledger in
+    let next : ready_of old.scope old.core ≡ ready.Plan = subst (λ (x : Shown g.row.D.Denot (Round g.row.L.Denot)). ready_of x.scope x.core ≡ ready.Plan) (sym c.self.view_is) c.requires in
+    ap (λ (x : Shown g.row.D.Denot (Round g.row.L.Denot)). x.core.front.stop) c.make.ensures.did ∙ (plan_runs old.scope old.core next).0
+
+-- the streams and the delays are the query's
+pub watermark-watermark-requires-clause-streams : goal.watermark-watermark-requires-clause-streams
+watermark-watermark-requires-clause-streams g c =
+    let old = c.self.inside.ledger in
+    let made = c.in-Ok.ensures.made in
+    let next : ready_of old.scope old.core ≡ ready.Plan = subst (λ (x : Shown g.row.D.Denot (Round g.row.L.Denot)). ready_of x.scope x.core ≡ ready.Plan) (sym c.self.view_is) c.requires in
+    ap length made.seen_is ∙ (c.self.invariant.holds.seen_so_far (plan_runs old.scope old.core next).0).streams
+    ∙ ap (λ (b : Bound). length b.streams) (sym (ap (λ (v : View). v.bound.now) made.view_is ∙ c.self.invariant.view.bound))
+
+pub watermark-watermark-requires-clause-delays : goal.watermark-watermark-requires-clause-delays
+watermark-watermark-requires-clause-delays g c = subst HasDelays (sym (ap (λ (v : View). v.bound.now) c.in-Ok.ensures.made.view_is ∙ c.self.invariant.view.bound)) c.self.invariant.round.runs.delays
+
+pub plan-requires-clause-ready : goal.plan-requires-clause-ready
+plan-requires-clause-ready g c =
+    let old = c.self.inside.ledger in
+    let next : ready_of old.scope old.core ≡ ready.Plan = subst (λ (x : Shown g.row.D.Denot (Round g.row.L.Denot)). ready_of x.scope x.core ≡ ready.Plan) (sym c.self.view_is) c.requires in
+    subst (λ (x : Shown g.row.D.Denot (Round g.row.L.Denot)). ready_of x.scope x.core ≡ ready.Plan) (sym c.make.ensures.did) next
+
+pub copied-ends-requires-clause-none : goal.copied-ends-requires-clause-none
+copied-ends-requires-clause-none g c = c.in-Ok.ensures.made.no_ends
+
+pub returns-in-Ok-plan-clause-done : goal.returns-in-Ok-plan-clause-done
+returns-in-Ok-plan-clause-done g c =
+    let old = c.self.inside.ledger in
+    c.in-Ok-plan.ensures.done ∙ ap (λ (x : Shown g.row.D.Denot (Round g.row.L.Denot)). did x c.plan.new.self.disk (entry.Plan x.core.front.planned ∷ [])) c.make.ensures.did
+    ∙ did_then old c.make.new.ledger.disk c.plan.new.self.disk [] (entry.Plan old.core.front.planned ∷ [])
+    ∙ ap (λ (x : Shown g.row.D.Denot (Round g.row.L.Denot)). did x c.plan.new.self.disk (entry.Plan x.core.front.planned ∷ [])) c.self.view_is
