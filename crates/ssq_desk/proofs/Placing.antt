@@ -1,7 +1,7 @@
 -- How the parts get their logs.
-use Rattle.std.proofs.Common.{◌≡◌, ◌≤◌, ◌+◌, ◌++◌, ◌∷◌, [], ℕ, List, length, length-append, map, drop, Option, Some, refl, sym, ap, ◌∙◌, arith}
+use Rattle.std.proofs.Common.{◌≡◌, ◌≤◌, ◌+◌, ◌++◌, ◌∷◌, [], ℕ, List, length, length-append, map, drop, Option, Some, refl, sym, ap, ◌∙◌, subst, arith}
 use Rattle.std.specs.Prelude.{All, IsSome}
-use Rattle.std.proofs.lemmas.List.{append_assoc, map-append}
+use Rattle.std.proofs.lemmas.List.{append-nil, append_assoc, map-append, nil_from_length}
 use Rattle.std.proofs.lemmas.List.Elements.{All-tail}
 use Rattle.std.specs.List.{AllZip}
 use Rattle.ssq_plans.specs.declared.part.PartEnd.{PartEnd}
@@ -21,6 +21,11 @@ pub record IsTaking {L : Type 0} (part_logs rest : List (PartLog L)) (logs : Lis
   pub there : All (λ (x : PartLog L). IsSome x.log) rest
   pub room : length logs + length rest ≤ capacity
 
+-- none is taken yet
+pub none_taken : {L : Type 0} (part_logs rest : List (PartLog L)) (logs : List L) (capacity : ℕ) → logs ≡ [] → rest ≡ part_logs → All (λ (x : PartLog L). IsSome x.log) part_logs → length part_logs ≤ capacity → IsTaking part_logs rest logs capacity
+none_taken {L} part_logs rest logs capacity none same there fits =
+    subst (λ (l : List L). IsTaking part_logs rest l capacity) (sym none) (subst (λ (l : List (PartLog L)). IsTaking part_logs l [] capacity) (sym same) (record { items = refl; there = there; room = omega (arith, fits) }))
+
 -- one log more is taken
 pub one_taken : {L : Type 0} (part_logs : List (PartLog L)) (x : PartLog L) (rest : List (PartLog L)) (logs : List L) (own : L) (capacity more : ℕ) → x.log ≡ Some own → capacity ≡ more → IsTaking part_logs (x ∷ rest) logs capacity
     → IsTaking part_logs rest (logs ++ own ∷ []) more
@@ -31,6 +36,11 @@ one_taken {L} part_logs x rest logs own capacity more log_is same is = record {
   there = All-tail (λ (y : PartLog L). IsSome y.log) x rest is.there;
   room = (let room = is.room in let count = length-append logs (own ∷ []) in omega (arith, room, count, same));
 }
+
+-- all are
+pub all_taken : {L : Type 0} (part_logs rest : List (PartLog L)) (logs : List L) (capacity : ℕ) → length rest ≡ 0 → IsTaking part_logs rest logs capacity → map (λ (log : L). Some log) logs ≡ map (λ (x : PartLog L). x.log) part_logs
+all_taken {L} part_logs rest logs capacity none is =
+    sym (append-nil (map (λ (log : L). Some log) logs)) ∙ ap (λ (l : List (PartLog L)). map (λ (log : L). Some log) logs ++ map (λ (x : PartLog L). x.log) l) (sym (nil_from_length rest none)) ∙ is.items
 
 -- ends that were copied one by one
 pub copied : {A : Type 0} (xs ys : List A) → AllZip (λ x y. y ≡ x) xs ys → ys ≡ xs

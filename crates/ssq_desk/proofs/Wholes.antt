@@ -14,10 +14,10 @@ use Rattle.ssq_board.specs.declared.front.Entry.{Entry}
 use Rattle.ssq_board.specs.declared.front.Entry.TheVariants as entry
 use Rattle.ssq_plans.specs.declared.plan.Plan.{Plan}
 use Rattle.ssq_plans.specs.declared.part.PartEnd.{PartEnd}
-use Rattle.ssq_board.specs.Core.{Scope, Core, May, HasCause, after, after_all, cuts_by, cuts_all, is_open}
+use Rattle.ssq_board.specs.Core.{Scope, Core, May, HasCause, IsFull, after, after_all, cuts_by, cuts_all, is_open}
 use Rattle.ssq_board.specs.Shown.{first}
 use Rattle.ssq_board.specs.Follows.{State, Leads}
-use Rattle.ssq_ledger.specs.Shown.{Shown, Opening, cuts_after, cuts_of, did}
+use Rattle.ssq_ledger.specs.Shown.{Shown, Opening, IsUnplanned, cuts_after, cuts_of, did}
 use Rattle.ssq_desk.specs.declared.desk.Load.{Load}
 use Rattle.ssq_desk.specs.declared.round.Round.{Round}
 use Rattle.ssq_desk.specs.Round.{setting_of, Owns}
@@ -82,6 +82,33 @@ unmade_stops reads owned s cuts e n cause.LogFault is key = absurd is
 unmade_stops reads owned s cuts e n cause.KeyOverflow is key = absurd is
 unmade_stops reads owned s cuts e n (cause.LogShort t p l f) is key = absurd is
 unmade_stops reads owned s cuts e n (cause.Damaged q) is key = absurd is
+
+-- and for each of them the ledger may be stopped, where `Full` comes of so many epochs
+pub unmade_may : (r : Scope) (c : Core) (f : Cause) → (c.front.planned ≡ 4294967295 → IsFull r c) → IsUnmade c.front.planned f → HasCause r c f
+unmade_may r c cause.Full full is = full is
+unmade_may r c cause.DiskFault full is = tt
+unmade_may r c cause.NoMemory full is = tt
+unmade_may r c (cause.BadLine t p o f) full is = absurd is
+unmade_may r c (cause.Overflow t p o) full is = absurd is
+unmade_may r c cause.LogFault full is = absurd is
+unmade_may r c cause.KeyOverflow full is = absurd is
+unmade_may r c (cause.LogShort t p l f) full is = absurd is
+unmade_may r c (cause.Damaged q) full is = absurd is
+
+-- why no epoch was planned, from earlier on and up to later
+pub unplanned_later : (planned early before now late : ℕ) (f : Cause) → early ≤ before → now ≤ late → IsUnplanned planned before now f → IsUnplanned planned early late f
+unplanned_later planned early before now late cause.Full first last is = is
+unplanned_later planned early before now late cause.DiskFault first last is = risen first last is
+  where
+    risen : early ≤ before → now ≤ late → Rises before now → Rises early late
+    risen first last rises = omega (arith, first, last, rises)
+unplanned_later planned early before now late cause.NoMemory first last is = tt
+unplanned_later planned early before now late (cause.BadLine t p o f) first last is = absurd is
+unplanned_later planned early before now late (cause.Overflow t p o) first last is = absurd is
+unplanned_later planned early before now late cause.LogFault first last is = absurd is
+unplanned_later planned early before now late cause.KeyOverflow first last is = absurd is
+unplanned_later planned early before now late (cause.LogShort t p l f) first last is = absurd is
+unplanned_later planned early before now late (cause.Damaged q) first last is = absurd is
 
 -- none of them is a fault of a log
 pub cause_no_log : (r : Scope) (c : Core) (f : Cause) → HasCause r c f → f ≡ cause.LogFault → ⊥

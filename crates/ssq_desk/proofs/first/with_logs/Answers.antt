@@ -1,6 +1,6 @@
 use Rattle.std.proofs.Common.{◌≡◌, ◌≤◌, ◌<◌, ◌+◌, ◌++◌, [], ◌∷◌, ℕ, List, length, length-append, get_or, drop, Some, None, refl, sym, ap, ◌∙◌, subst, arith}
 use Rattle.std.specs.Prelude.{vec_capacity}
-use Rattle.std.proofs.lemmas.List.{append-nil, append_assoc, drop_more}
+use Rattle.std.proofs.lemmas.List.{append-nil, append_assoc, drop_more, nil_from_length}
 use Rattle.ssq_plans.specs.declared.part.PartEnd.{PartEnd}
 use Rattle.ssq_desk.specs.declared.desk.PartLog.{PartLog}
 use Rattle.ssq_desk.specs.First.{part_logs_of}
@@ -41,16 +41,12 @@ module _ {L : Type 0} (parts ends : List PartEnd) (logs : List L) where
   no_log (part ∷ some) [] = refl
   no_log (part ∷ some) (end ∷ others) = refl
 
-  none_left : (rest : List L) → length rest ≡ 0 → rest ≡ []
-  none_left [] none = refl
-  none_left (log ∷ rest) none = absurd (omega (arith, none))
-
   -- all have theirs
   all_placed : (rest : List L) (part_logs : List (PartLog L)) (capacity : ℕ) → length rest ≡ 0 → IsPlacing parts ends logs rest part_logs capacity → part_logs ≡ part_logs_of parts ends logs
   all_placed rest part_logs capacity none is =
       sym (append-nil part_logs)
       ∙ ap (λ (l : List (PartLog L)). part_logs ++ l) (sym (no_log (drop (length part_logs) parts) (drop (length part_logs) ends)))
-      ∙ ap (λ (l : List L). part_logs ++ part_logs_of (drop (length part_logs) parts) (drop (length part_logs) ends) l) (sym (none_left rest none)) ∙ is.items
+      ∙ ap (λ (l : List L). part_logs ++ part_logs_of (drop (length part_logs) parts) (drop (length part_logs) ends) l) (sym (nil_from_length rest none)) ∙ is.items
 
 pub loop-log-init : goal.loop-log-init
 loop-log-init g c = (

@@ -1,4 +1,5 @@
-use Rattle.std.proofs.Common.{◌≡◌, ℕ, ℤ, List, [], ◌∷◌, length, Option, refl, sym, ap, ◌∙◌, subst, arith}
+use Rattle.std.proofs.Common.{ℕ, ℤ, List, length, Option, sym, ap, ◌∙◌, subst, arith}
+use Rattle.std.proofs.lemmas.List.{nil_from_length}
 use Rattle.ssq_meaning.specs.Times.{later}
 use Rattle.ssq_water.specs.Water.{seen_at}
 use Rattle.ssq_task.proofs.Commits.{later_none, later_assoc}
@@ -6,13 +7,9 @@ use Rattle.ssq_desk.specs.declared.desk.PartLog.{PartLog}
 use Rattle.ssq_desk.specs.Handing.{CanRaise, time_of_part_log, time_in_part_logs}
 use Rattle.ssq_desk.proofs.hand.+raise_all.Goals as goal
 
-none_left : {X : Type 0} (xs : List X) → length xs ≡ 0 → xs ≡ []
-none_left [] none = refl
-none_left (x ∷ xs) none = absurd (omega (arith, none))
-
 pub returns-in_default-clause-times : goal.returns-in_default-clause-times
 returns-in_default-clause-times g t c = λ stream. sym (later_none (seen_at c.args.seen.now stream))
-    ∙ ap (λ (l : List (PartLog g.row.L.Denot)). later (seen_at c.args.seen.now stream) (time_in_part_logs stream l)) (sym (none_left c.args.part_logs.now c.in_default.ensures.cases))
+    ∙ ap (λ (l : List (PartLog g.row.L.Denot)). later (seen_at c.args.seen.now stream) (time_in_part_logs stream l)) (sym (nil_from_length c.args.part_logs.now c.in_default.ensures.cases))
 
 pub raise_one-requires-clause-stream : goal.raise_one-requires-clause-stream
 raise_one-requires-clause-stream g t c = (let can = subst (λ (l : List (PartLog g.row.L.Denot)). CanRaise (length c.args.seen.now) l) c.in-Some.ensures.cases.0 c.requires in can.0)

@@ -1,6 +1,6 @@
-use Rattle.std.proofs.Common.{◌≡◌, ◌++◌, [], ◌∷◌, List, length, refl, sym, ap, ◌∙◌, subst, arith}
+use Rattle.std.proofs.Common.{◌++◌, ◌∷◌, List, sym, ap, ◌∙◌, subst, arith}
 use Rattle.std.specs.Prelude.{All}
-use Rattle.std.proofs.lemmas.List.{append-nil, append_assoc}
+use Rattle.std.proofs.lemmas.List.{append-nil, append_assoc, nil_from_length}
 use Rattle.std.proofs.lemmas.List.Elements.{All-head, All-tail}
 use Rattle.ssq_meaning.specs.FedRows.{FedRow}
 use Rattle.ssq_task.specs.Lists.{joined_vecs}
@@ -8,17 +8,13 @@ use Rattle.ssq_desk.specs.declared.desk.PartLog.{PartLog}
 use Rattle.ssq_desk.specs.Handing.{AreTaken, HasBucket, bucket_in_fed, buckets_in}
 use Rattle.ssq_desk.proofs.hand.+take_buckets.Goals as goal
 
-none_left : {X : Type 0} (xs : List X) → length xs ≡ 0 → xs ≡ []
-none_left [] none = refl
-none_left (x ∷ xs) none = absurd (omega (arith, none))
-
 pub returns-in_default-clause-taken : goal.returns-in_default-clause-taken
-returns-in_default-clause-taken g t c = subst (λ (l : List (PartLog g.row.L.Denot)). AreTaken c.args.partition l l) (sym (none_left c.args.part_logs.now c.in_default.ensures.cases)) tt
+returns-in_default-clause-taken g t c = subst (λ (l : List (PartLog g.row.L.Denot)). AreTaken c.args.partition l l) (sym (nil_from_length c.args.part_logs.now c.in_default.ensures.cases)) tt
 
 pub returns-in_default-clause-rows : goal.returns-in_default-clause-rows
 returns-in_default-clause-rows g t c =
     sym (append-nil (joined_vecs c.args.into.now.items))
-    ∙ ap (λ (l : List (PartLog g.row.L.Denot)). joined_vecs c.args.into.now.items ++ buckets_in c.args.partition l) (sym (none_left c.args.part_logs.now c.in_default.ensures.cases))
+    ∙ ap (λ (l : List (PartLog g.row.L.Denot)). joined_vecs c.args.into.now.items ++ buckets_in c.args.partition l) (sym (nil_from_length c.args.part_logs.now c.in_default.ensures.cases))
 
 pub take_bucket-requires-clause-room : goal.take_bucket-requires-clause-room
 take_bucket-requires-clause-room g t c = omega (arith, c.requires.room, c.in-Some.ensures.cases.1)

@@ -1,18 +1,14 @@
-use Rattle.std.proofs.Common.{◌≡◌, ◌++◌, [], ◌∷◌, List, length, length-append, map, suc, refl, sym, ap, ◌∙◌, arith}
+use Rattle.std.proofs.Common.{◌++◌, [], ◌∷◌, List, length, length-append, map, suc, sym, ap, ◌∙◌, arith}
 use Rattle.std.specs.Global.{Vec}
-use Rattle.std.proofs.lemmas.List.{append-nil, append_assoc, map-append}
+use Rattle.std.proofs.lemmas.List.{append-nil, append_assoc, map-append, nil_from_length}
 use Rattle.ssq_value.specs.declared.row.Row.{Row}
 use Rattle.ssq_desk.specs.declared.desk.Share.{Share}
 use Rattle.ssq_desk.proofs.hand.+take_rows.Goals as goal
 
-none_left : {X : Type 0} (xs : List X) → length xs ≡ 0 → xs ≡ []
-none_left [] none = refl
-none_left (x ∷ xs) none = absurd (omega (arith, none))
-
 pub returns-in_default-clause-rows : goal.returns-in_default-clause-rows
 returns-in_default-clause-rows g t c =
     sym (append-nil (map (λ (rows : Vec Row). rows.items) c.args.into.now.items))
-    ∙ ap (λ (l : List (Share g.row.S.Denot)). map (λ (rows : Vec Row). rows.items) c.args.into.now.items ++ map (λ (share : Share g.row.S.Denot). share.rows.items) l) (sym (none_left c.args.shares.now c.in_default.ensures.cases))
+    ∙ ap (λ (l : List (Share g.row.S.Denot)). map (λ (rows : Vec Row). rows.items) c.args.into.now.items ++ map (λ (share : Share g.row.S.Denot). share.rows.items) l) (sym (nil_from_length c.args.shares.now c.in_default.ensures.cases))
 
 pub push_reserved-requires : goal.push_reserved-requires
 push_reserved-requires g t c = omega (arith, c.requires, c.in-Some.ensures.cases.1, c.args.into.now.ok.0)

@@ -1,4 +1,5 @@
-use Rattle.std.proofs.Common.{◌≡◌, true≢false, List, [], ◌∷◌, suc, length, Option, Some, Result, Ok, Err, refl, sym, ap, ◌∙◌, subst, arith}
+use Rattle.std.proofs.Common.{true≢false, List, [], ◌∷◌, suc, length, Option, Some, Result, Ok, Err, refl, sym, ap, ◌∙◌, subst, arith}
+use Rattle.std.proofs.lemmas.List.{nil_from_length}
 use Rattle.std.specs.Prelude.{is_ok}
 use Rattle.std.proofs.lemmas.Result.{err_from_is_err_and}
 use Rattle.ssq_task.specs.declared.partition.Held.{Held}
@@ -7,10 +8,6 @@ use Rattle.ssq_desk.specs.Room.{AreStaged}
 use Rattle.ssq_desk.proofs.Upkeeps.{did_still}
 use Rattle.ssq_desk.proofs.Wholes.{did_nothing}
 use Rattle.ssq_desk.proofs.room.+begin_deltas.Goals as goal
-
-none_left : {X : Type 0} (xs : List X) → length xs ≡ 0 → xs ≡ []
-none_left [] none = refl
-none_left (x ∷ xs) none = absurd (omega (arith, none))
 
 abbrev as_err : {A B E : Type 0} → E → Result A E → Result B E
 as_err why (Ok x) = Err why
@@ -24,7 +21,7 @@ returns-in_default-clause-same g t c = λ tells. refl
 
 pub returns-in_default-clause-staged : goal.returns-in_default-clause-staged
 returns-in_default-clause-staged g t c =
-    subst (λ (held : List (Option Held)). AreStaged g.D.Disk.tells g.D.Stage.Stage.written held c.args.shares.now c.args.shares.now) (sym (none_left c.args.held.now c.in_default.ensures.cases)) refl
+    subst (λ (held : List (Option Held)). AreStaged g.D.Disk.tells g.D.Stage.Stage.written held c.args.shares.now c.args.shares.now) (sym (nil_from_length c.args.held.now c.in_default.ensures.cases)) refl
 
 pub returns-in_default-clause-kept : goal.returns-in_default-clause-kept
 returns-in_default-clause-kept g t c = tt
@@ -46,7 +43,7 @@ returns-in_default-split_first_mut-clause-same g t c = λ tells. refl
 
 pub returns-in_default-split_first_mut-clause-staged : goal.returns-in_default-split_first_mut-clause-staged
 returns-in_default-split_first_mut-clause-staged g t c =
-    subst (λ (shares : List (Share g.row.D-Stage.Denot)). AreStaged g.D.Disk.tells g.D.Stage.Stage.written c.args.held.now shares shares) (sym (none_left c.args.shares.now c.in_default-split_first_mut.ensures.cases))
+    subst (λ (shares : List (Share g.row.D-Stage.Denot)). AreStaged g.D.Disk.tells g.D.Stage.Stage.written c.args.held.now shares shares) (sym (nil_from_length c.args.shares.now c.in_default-split_first_mut.ensures.cases))
     (subst (λ (held : List (Option Held)). AreStaged {S = g.row.D-Stage.Denot} g.D.Disk.tells g.D.Stage.Stage.written held [] []) (sym c.in-Some.ensures.cases.0) refl)
 
 pub returns-in_default-split_first_mut-clause-kept : goal.returns-in_default-split_first_mut-clause-kept

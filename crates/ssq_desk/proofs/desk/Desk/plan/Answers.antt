@@ -9,16 +9,17 @@ use Rattle.ssq_course.specs.Setting.{watermark_at}
 use Rattle.ssq_board.specs.declared.front.Entry.TheVariants as entry
 use Rattle.ssq_board.specs.declared.front.Ready.TheVariants as ready
 use Rattle.ssq_board.specs.declared.front.Front.{Front}
-use Rattle.ssq_board.specs.Core.{ready_of, next_ends}
+use Rattle.ssq_board.specs.Core.{HasCause, ready_of, next_ends}
 use Rattle.ssq_board.proofs.Lists.{next_length}
-use Rattle.ssq_ledger.specs.Shown.{Shown, IsLegal, first_state, state, cuts_of, shelf_of, did}
+use Rattle.ssq_board.proofs.Readies.{full_is}
+use Rattle.ssq_ledger.specs.Shown.{Shown, IsLegal, IsUnplanned, first_state, state, cuts_of, shelf_of, did}
 use Rattle.ssq_desk.specs.declared.desk.Load.{Load}
 use Rattle.ssq_desk.specs.declared.round.Round.{Round}
 use Rattle.ssq_desk.specs.Round.{setting_of, Owns}
 use Rattle.ssq_desk.specs.Whole.{IsWhole, opening_in}
 use Rattle.ssq_desk.proofs.Makings.{made_by}
 use Rattle.ssq_desk.proofs.Betweens.{each_end, between, marked, plan_runs}
-use Rattle.ssq_desk.proofs.Wholes.{did_then, last_may, cause_stops, cause_no_log, unmade_stops, unmade_no_log, same_load, still_whole, stopped_whole, unplanned_whole}
+use Rattle.ssq_desk.proofs.Wholes.{did_then, last_may, cause_stops, cause_no_log, unmade_stops, unmade_no_log, same_load, still_whole, stopped_whole, unmade_may, unplanned_later, unplanned_whole}
 use Rattle.ssq_desk.proofs.Plans.{for_some, planned_whole}
 use Rattle.ssq_desk.proofs.desk.Desk.plan.Goals as goal
 
@@ -135,3 +136,38 @@ returns-in-Ok-plan-clause-done g c =
     c.in-Ok-plan.ensures.done ∙ ap (λ (x : Shown g.row.D.Denot (Round g.row.L.Denot)). did x c.plan.new.self.disk (entry.Plan x.core.front.planned ∷ [])) c.make.ensures.did
     ∙ did_then old c.make.new.ledger.disk c.plan.new.self.disk [] (entry.Plan old.core.front.planned ∷ [])
     ∙ ap (λ (x : Shown g.row.D.Denot (Round g.row.L.Denot)). did x c.plan.new.self.disk (entry.Plan x.core.front.planned ∷ [])) c.self.view_is
+
+pub stop-requires-clause-cause : goal.stop-requires-clause-cause
+stop-requires-clause-cause g c =
+    let old = c.self.inside.ledger in
+    let next : ready_of old.scope old.core ≡ ready.Plan = subst (λ (x : Shown g.row.D.Denot (Round g.row.L.Denot)). ready_of x.scope x.core ≡ ready.Plan) (sym c.self.view_is) c.requires in
+    subst (λ (x : Shown g.row.D.Denot (Round g.row.L.Denot)). HasCause x.scope x.core c.in-Err.cause) (sym c.make.ensures.did) (unmade_may old.scope old.core c.in-Err.cause (full_is old.scope old.core next) c.in-Err.ensures.unmade.0)
+
+pub returns-in-Err-clause-stopped : goal.returns-in-Err-clause-stopped
+returns-in-Err-clause-stopped g c =
+    let old = c.self.inside.ledger in
+    let mid = c.make.new.ledger in
+    let es = entry.Stop c.in-Err.cause ∷ [] in
+    let disk = ap (λ (x : Shown g.row.D.Denot (Round g.row.L.Denot)). x.disk) c.stop.ensures in (
+      c.stop.ensures ∙ ap (λ (x : Shown g.row.D.Denot (Round g.row.L.Denot)). did x mid.disk es) c.make.ensures.did ∙ did_then old mid.disk mid.disk [] es
+          ∙ (λ i. did (c.self.view_is i) (sym disk i) es),
+      subst (λ (x : Shown g.row.D.Denot (Round g.row.L.Denot)). IsUnplanned x.core.front.planned (g.D.Disk.faults x.disk) (g.D.Disk.faults c.stop.new.self.disk) c.in-Err.cause) c.self.view_is
+          (subst (λ (n : ℕ). IsUnplanned old.core.front.planned (g.D.Disk.faults old.disk) n c.in-Err.cause) (sym (ap g.D.Disk.faults disk)) c.in-Err.ensures.unmade.1),
+    )
+
+pub returns-in-Err-plan-clause-stopped : goal.returns-in-Err-plan-clause-stopped
+returns-in-Err-plan-clause-stopped g c =
+    let old = c.self.inside.ledger in
+    let mid = c.make.new.ledger in
+    let tried = c.plan.new.self in
+    let now = c.drop_files.new.ledger in
+    let f = c.in-Err-plan.cause in
+    let es = entry.Stop f ∷ [] in
+    let stopped = c.in-Err-plan.ensures.stopped.0 ∙ ap (λ (x : Shown g.row.D.Denot (Round g.row.L.Denot)). did x tried.disk es) c.make.ensures.did ∙ did_then old mid.disk tried.disk [] es in
+    let before = ap (λ (x : Shown g.row.D.Denot (Round g.row.L.Denot)). x.core.front.planned) c.make.ensures.did in
+    let why = subst (λ (n : ℕ). IsUnplanned n (g.D.Disk.faults mid.disk) (g.D.Disk.faults tried.disk) f) before c.in-Err-plan.ensures.stopped.1 in (
+      c.drop_files.ensures.did ∙ ap (λ (x : Shown g.row.D.Denot (Round g.row.L.Denot)). did x now.disk []) stopped ∙ did_then old tried.disk now.disk es []
+          ∙ ap (λ (x : Shown g.row.D.Denot (Round g.row.L.Denot)). did x now.disk es) c.self.view_is,
+      subst (λ (x : Shown g.row.D.Denot (Round g.row.L.Denot)). IsUnplanned x.core.front.planned (g.D.Disk.faults x.disk) (g.D.Disk.faults now.disk) f) c.self.view_is
+          (unplanned_later old.core.front.planned (g.D.Disk.faults old.disk) (g.D.Disk.faults mid.disk) (g.D.Disk.faults tried.disk) (g.D.Disk.faults now.disk) f c.make.ensures.counted c.drop_files.ensures.counted why),
+    )

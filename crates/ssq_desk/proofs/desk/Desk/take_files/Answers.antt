@@ -1,13 +1,15 @@
-use Rattle.std.proofs.Common.{◌≡◌, ◌∙◌, [], ◌∷◌, Bool, true, false, true≢false, Option, Some, None, refl, sym, ap, subst}
+use Rattle.std.proofs.Common.{◌≡◌, ◌∙◌, [], ◌∷◌, Bool, true, false, true≢false, Option, Some, None, Result, Ok, Err, OnOk, IfErr, if◌then◌else◌, refl, sym, ap, subst}
 use Rattle.ssq_outside.specs.Faults.{Rises}
 use Rattle.ssq_board.specs.declared.front.Cause.{Cause}
+use Rattle.ssq_board.specs.declared.front.Cause.TheVariants as cause
 use Rattle.ssq_board.specs.declared.front.Entry.TheVariants as entry
 use Rattle.ssq_board.specs.Core.{May, is_stopped}
-use Rattle.ssq_ledger.specs.Shown.{Shown, IsInOrder, did}
+use Rattle.ssq_ledger.specs.Shown.{Shown, HasRisen, IsInOrder, answer, did}
 use Rattle.ssq_desk.specs.declared.round.Round.{Round}
 use Rattle.ssq_desk.specs.Published.{IsOut, brings}
 use Rattle.ssq_desk.specs.Tasks.{out_id}
 use Rattle.ssq_desk.proofs.Publishing.{rows_kept, commit_kept}
+use Rattle.ssq_desk.proofs.Wholes.{did_then}
 use Rattle.ssq_desk.proofs.desk.Desk.take_files.Goals as goal
 
 pub publish_rows-requires-clause-rows : goal.publish_rows-requires-clause-rows
@@ -25,6 +27,18 @@ runs (Some f) is = absurd (true≢false is)
 brings_none : (stop : Option Cause) → is_stopped stop ≡ true → brings stop None ≡ false
 brings_none None is = absurd (true≢false (sym is))
 brings_none (Some f) is = refl
+
+not_due : (stop more : Option Cause) → is_stopped stop ≡ true → (if is_stopped stop then None else more) ≡ None
+not_due None more is = absurd (true≢false (sym is))
+not_due (Some f) more is = refl
+
+on_ok : {A B : Type 0} (result : Result (Unit {0}) Cause) → (A → B) → OnOk result A → OnOk result B
+on_ok (Ok x) so is = so is
+on_ok (Err f) so is = tt
+
+if_err : {P Q : Cause → Type 0} (result : Result (Unit {0}) Cause) → ((f : Cause) → P f → Q f) → IfErr result P → IfErr result Q
+if_err (Ok x) so is = tt
+if_err (Err f) so is = so f is
 
 pub report_out-requires-clause-may : goal.report_out-requires-clause-may
 report_out-requires-clause-may g c = c.requires.may
@@ -47,3 +61,37 @@ returns-then-is_stopped-clause-out g c =
     let here = c.report_out.ensures.did ∙ ap (λ d. did x d es) (sym (ap (λ (s : Shown g.row.D.Denot (Round g.row.L.Denot)). s.disk) c.report_out.ensures.did)) in
     subst (λ (b : Bool). IsOut b x now (out_id c.args.epoch) None c.report_out.result (Rises (g.D.Disk.faults x.disk) (g.D.Disk.faults now.disk))) (sym (brings_none x.core.front.stop (sym c.is_stopped.ensures ∙ c.if-is_stopped.true)))
     (here, c.report_out.ensures.answer)
+
+pub returns-then-is_stopped-clause-cause : goal.returns-then-is_stopped-clause-cause
+returns-then-is_stopped-clause-cause g c =
+    let x = c.args.self.now in
+    subst (λ (r : Result (Unit {0}) Cause). IfErr r (λ f. HasRisen f (g.D.Disk.faults x.disk) (g.D.Disk.faults c.report_out.new.self.disk)))
+    (sym (c.report_out.ensures.answer ∙ ap answer (not_due x.core.front.stop _ (sym c.is_stopped.ensures ∙ c.if-is_stopped.true)))) tt
+
+pub returns-clause-out : goal.returns-clause-out
+returns-clause-out g c =
+    let x = c.args.self.now in
+    let now = c.publish_rows.new.self in
+    let result = c.publish_rows.result in
+    let told = entry.Report (out_id c.args.epoch) None ∷ [] in
+    let back = c.report_out-2.ensures.did in
+    subst (λ (stop : Option Cause). IsOut (brings stop None) x now (out_id c.args.epoch) None result (Rises (g.D.Disk.faults x.disk) (g.D.Disk.faults now.disk))) (sym (runs x.core.front.stop (sym c.is_stopped.ensures ∙ c.if-is_stopped.false)))
+    (
+      on_ok result (λ done. done ∙ ap (λ (s : Shown g.row.D.Denot (Round g.row.L.Denot)). did s now.disk (entry.OutFile s.core.front.committed ∷ [])) back ∙ did_then x x.disk now.disk told (entry.OutFile x.core.front.committed ∷ [])) c.publish_rows.ensures.done,
+      if_err result
+          (λ f stopped. (
+            stopped.0,
+            stopped.1 ∙ ap (λ (s : Shown g.row.D.Denot (Round g.row.L.Denot)). did s now.disk (entry.Stop f ∷ [])) back ∙ did_then x x.disk now.disk told (entry.Stop f ∷ []),
+            subst (λ (s : Shown g.row.D.Denot (Round g.row.L.Denot)). Rises (g.D.Disk.faults s.disk) (g.D.Disk.faults now.disk)) back stopped.2,
+          ))
+          c.publish_rows.ensures.stopped,
+    )
+
+pub returns-clause-cause : goal.returns-clause-cause
+returns-clause-cause g c =
+    let x = c.args.self.now in
+    let now = c.publish_rows.new.self in
+    if_err c.publish_rows.result
+    (λ f stopped. subst (λ (h : Cause). HasRisen h (g.D.Disk.faults x.disk) (g.D.Disk.faults now.disk)) (sym stopped.0)
+    (subst (λ (s : Shown g.row.D.Denot (Round g.row.L.Denot)). Rises (g.D.Disk.faults s.disk) (g.D.Disk.faults now.disk)) c.report_out-2.ensures.did stopped.2))
+    c.publish_rows.ensures.stopped
