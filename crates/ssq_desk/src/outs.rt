@@ -4,7 +4,7 @@ ghost use Rattle.std.specs.Prelude.{◌≡◌, ◌≤◌, [], ◌∷◌, Some, N
 ghost use Rattle.ssq_outside.specs.Faults.{Rises};
 ghost use Rattle.ssq_board.specs.declared.front.Entry.TheVariants as entry;
 ghost use Rattle.ssq_board.specs.declared.front.Cause.TheVariants as cause;
-ghost use Rattle.ssq_board.specs.Core.{May, HasCause, due, is_stopped};
+ghost use Rattle.ssq_board.specs.Core.{May, HasCause, due};
 ghost use Rattle.ssq_ledger.specs.Shown.{HasRisen, did, answer};
 ghost use Rattle.ssq_task.specs.declared.out.GatherFault.TheVariants as gather;
 ghost use Rattle.ssq_task.specs.Gathering.{IsGathered, SealCause};
@@ -130,18 +130,12 @@ impl<'a, D: Disk, L: Log> Desk<'a, D, L> {
         ensures cause { IfErr result (λ f. HasRisen f (D.faults self.old.disk) (D.faults self.new.disk)) }
         ensures counted { D.faults self.old.disk ≤ D.faults self.new.disk }
     {
-        if self.is_stopped() {
+        if self.ledger.front().stop.is_some() {
             return self.report_out(epoch, None);
         }
         self.ledger.is_in_order();
         let _ = self.report_out(epoch, None);
         self.publish_rows(rows, pending)
-    }
-
-    fn is_stopped(&self) -> bool
-        ensures { result ≡ is_stopped self.now.core.front.stop }
-    {
-        self.ledger.front().stop.is_some()
     }
 
     /// Takes the out task back.

@@ -1,15 +1,21 @@
-use Rattle.std.proofs.Common.{◌≡◌, ◌∙◌, List, Err, length, refl, rules, sym, ap, subst, arith}
+use Rattle.std.proofs.Common.{◌≡◌, ◌∙◌, ℕ, true, not, true≢false, List, Option, is_some, Err, length, refl, sym, ap, subst, arith}
 use Rattle.std.proofs.lemmas.Result.{err_from_is_err_and}
 use Rattle.std.specs.Global.{Vec}
 use Rattle.std.specs.Vec.{with_items}
 use Rattle.std.proofs.lemmas.List.{with_items_is}
 use Rattle.ssq_plans.specs.declared.part.PartEnd.{PartEnd}
+use Rattle.ssq_plans.specs.Records.{epoch_after}
+use Rattle.ssq_board.specs.declared.front.Front.{Front}
 use Rattle.ssq_ledger.specs.Shown.{Shown}
 use Rattle.ssq_desk.specs.declared.desk.Share.{Share}
 use Rattle.ssq_desk.specs.Room.{AreBegun, AreStaged}
 use Rattle.ssq_desk.proofs.Makings.{made_over, put_made, room_over, unmade_by}
 use Rattle.ssq_desk.proofs.Wholes.{did_nothing}
 use Rattle.ssq_desk.proofs.make.make.Goals as goal
+
+-- one epoch more may be planned
+few_by : (planned : ℕ) (next : Option ℕ) → next ≡ epoch_after planned → is_some next ≡ true → planned ≡ 4294967295 → ⊥
+few_by planned next is there full = true≢false (sym there ∙ ap is_some (is ∙ ap epoch_after full))
 
 pub returns-clause-made : goal.returns-clause-made
 returns-clause-made g c =
@@ -32,7 +38,7 @@ returns-clause-made g c =
 pub returns-in_err-stages-clause-unmade : goal.returns-in_err-stages-clause-unmade
 returns-in_err-stages-clause-unmade g c =
     let planned = c.args.ledger.now.core.front.planned in
-    let few : planned ≡ 4294967295 → ⊥ = search rules in
+    let few = few_by c.args.ledger.now.core.front.planned c.next_epoch.result (c.next_epoch.ensures ∙ ap (λ (f : Front). epoch_after f.planned) c.front.ensures) (c.is_none.ensures ∙ ap not c.if-is_none.false) in
     let p = err_from_is_err_and c.from_residual-in_err-stages.result c.from_residual-in_err-stages.ensures.1 in
     rw (p.1, p.2) (unmade_by planned (g.D.Disk.faults c.args.ledger.now.disk) (g.D.Disk.faults c.begin_files.new.ledger.disk) c.in_err-stages.field-0.0 few (λ e. c.in_err-stages.ensures.cause (ap Err e)))
 
@@ -101,3 +107,17 @@ returns-clause-unmade g c = tt
 
 pub returns-clause-kept : goal.returns-clause-kept
 returns-clause-kept g c = tt
+
+pub returns-clause-fits : goal.returns-clause-fits
+returns-clause-fits g c = few_by c.args.ledger.now.core.front.planned c.next_epoch.result (c.next_epoch.ensures ∙ ap (λ (f : Front). epoch_after f.planned) c.front.ensures) (c.is_none.ensures ∙ ap not c.if-is_none.false)
+
+pub returns-in_err-room-clause-unmade : goal.returns-in_err-room-clause-unmade
+returns-in_err-room-clause-unmade g c =
+    let few = few_by c.args.ledger.now.core.front.planned c.next_epoch.result (c.next_epoch.ensures ∙ ap (λ (f : Front). epoch_after f.planned) c.front.ensures) (c.is_none.ensures ∙ ap not c.if-is_none.false) in
+    let p = err_from_is_err_and c.from_residual.result c.from_residual.ensures.1 in
+    rw (p.1, p.2) (few, tt)
+
+pub put-requires : goal.put-requires
+put-requires g c =
+    let ends : c.ends.result.now ≡ c.args.ledger.now.core.ends = c.ends.ensures ∙ ap (λ (s : Shown _ _). s.core.ends) c.begin_files.ensures.did in
+    record { each = ap (λ v. length v.items) c.in_ok-room.ensures.same.part_logs_are ∙ c.requires.each ∙ sym (ap length ends) }

@@ -1,4 +1,4 @@
-use Rattle.std.proofs.Common.{List, ◌≡◌, ◌++◌, ℕ, map, length, refl, sym, ap, ◌∙◌, subst}
+use Rattle.std.proofs.Common.{List, ◌≡◌, ◌++◌, ℕ, true≢false, is_some, map, length, refl, sym, ap, ◌∙◌, subst, arith}
 use Rattle.std.specs.Prelude.{All}
 use Rattle.std.specs.Vec.{with_items}
 use Rattle.std.proofs.lemmas.List.{with_items_is}
@@ -83,3 +83,23 @@ returns-clause-back g c fault =
     let s = c.self.inside in
     let m = subst (λ (x : Shown g.row.D.Denot (Round g.row.L.Denot)). May x.scope x.core (entry.Claim c.args.id)) (sym c.self.view_is) c.requires.may in
     subst (λ (x : Shown g.row.D.Denot (Round g.row.L.Denot)). May x.scope x.core (entry.Report (out_id c.args.id.epoch) fault)) (sym c.claim.ensures) (subst (λ (n : ℕ). May s.ledger.scope (after s.ledger.scope s.ledger.core (entry.Claim c.args.id)) (entry.Report (record { epoch = c.args.id.epoch; kind = kind.Out; number = n }) fault)) c.requires.out.1 (may_report s.ledger.scope s.ledger.core c.args.id kind.Out fault c.requires.out.0 m))
+
+-- its work is there
+pub unreachable-requires : goal.unreachable-requires
+unreachable-requires g c =
+    let m = subst (λ (x : Shown g.row.D.Denot (Round g.row.L.Denot)). May x.scope x.core (entry.Claim c.args.id)) (sym c.self.view_is) c.requires.may in
+    let h = out_here _ _ _ _ _ _ _ _ _ _ _ c.self.invariant c.is_legal.ensures.legal c.is_in_order.ensures c.args.id c.requires.out.0 c.requires.out.1 m in
+    true≢false (ap is_some (sym h.here ∙ sym c.replace.ensures.value ∙ c.in_default.is))
+
+pub take_rows-requires : goal.take_rows-requires
+take_rows-requires g c =
+    let s = c.self.inside in
+    let m = subst (λ (x : Shown g.row.D.Denot (Round g.row.L.Denot)). May x.scope x.core (entry.Claim c.args.id)) (sym c.self.view_is) c.requires.may in
+    let h = out_here _ _ _ _ _ _ _ _ _ _ _ c.self.invariant c.is_legal.ensures.legal c.is_in_order.ensures c.args.id c.requires.out.0 c.requires.out.1 m in
+    let same = same_Some h.work c.in-Some.work (sym h.here ∙ sym c.replace.ensures.value ∙ c.in-Some.is) in
+    let is = subst (λ (w : OutWork g.row.D-Stage.Denot g.row.D-Stage-Sealed.Denot). IsOutWork (Owns g.D.Disk.tells g.L.Log.tells g.D.Disk.history g.L.Log.lines s.ledger) g.D.Stage.Stage.written (setting_of g.L.Log.lines s.ledger.opening) (cuts_of (opening_in g.L.Log.lines) s.ledger) s.ledger.core.front.committed w) same h.is in
+    let none = ap length is.none in
+    let count = ap length c.deref_mut.ensures.value in
+    let all = c.self.invariant.holds.partitions in
+    let room = is.room in
+    omega (arith, none, count, all, room)
