@@ -1,13 +1,16 @@
-use Rattle.std.proofs.Common.{◌&&◌, ◌≡◌, ◌<◌, ◌+◌, ◌^◌, ℕ, length, map, get_or, false, sym, ap, ◌∙◌, subst, arith}
+use Rattle.std.proofs.Common.{◌&&◌, ◌≡◌, ◌<◌, ◌+◌, ◌^◌, [], ◌∷◌, ℕ, Bool, length, map, get_or, true, false, true≢false, Result, Ok, Err, OnErr, refl, sym, ap, ◌∙◌, subst, arith}
 use Rattle.std.specs.Prelude.{vec_capacity}
 use Rattle.std.proofs.lemmas.Option.{same_Some}
 use Rattle.ssq_plans.specs.declared.plan.Plan.{Plan}
 use Rattle.ssq_plans.specs.declared.part.PartEnd.{PartEnd}
+use Rattle.ssq_outside.specs.Faults.{Rises}
+use Rattle.ssq_board.specs.declared.front.Cause.TheVariants as cause
+use Rattle.ssq_board.specs.declared.front.Entry.TheVariants as entry
 use Rattle.ssq_board.specs.declared.front.Front.{Front}
 use Rattle.ssq_board.specs.declared.front.Ready.TheVariants as ready
 use Rattle.ssq_board.specs.Core.{ready_of}
 use Rattle.ssq_board.proofs.Readies.{commit_may}
-use Rattle.ssq_ledger.specs.Shown.{Shown, cuts_of}
+use Rattle.ssq_ledger.specs.Shown.{Shown, cuts_of, did}
 use Rattle.ssq_desk.specs.declared.desk.Pending.{Pending}
 use Rattle.ssq_desk.specs.declared.desk.PartLog.{PartLog}
 use Rattle.ssq_desk.specs.declared.round.Round.{Round}
@@ -118,3 +121,29 @@ is_due-due-requires-clause-delays g c = subst HasDelays (sym c.self.invariant.vi
 
 pub commit-requires-clause-ready : goal.commit-requires-clause-ready
 commit-requires-clause-ready g c = subst (λ (x : Shown g.row.D.Denot (Round g.row.L.Denot)). ready_of x.scope x.core ≡ ready.Commit) (sym c.self.view_is) c.requires
+
+first_of : (a b : Bool) → (a && b) ≡ true → a ≡ true
+first_of true b is = refl
+first_of false b is = absurd (true≢false (sym is))
+
+on_err : {A E : Type 0} {P : Type 0} (result : Result A E) → P → OnErr result P
+on_err (Ok x) is = tt
+on_err (Err e) is = is
+
+pub returns-clause-done : goal.returns-clause-done
+returns-clause-done g c =
+    let own = c.self.invariant.view.bound in
+    let bound = c.self.inside.load.view.bound.now in
+    let due = c.is_due-due.result in (
+      due,
+      c.in_ok-commit.ensures.done ∙ ap (λ (x : Shown g.row.D.Denot (Round g.row.L.Denot)). did x c.commit.new.self.disk (entry.Commit x.core.front.committed due ∷ [])) c.self.view_is,
+      λ is. ap (λ (x : Shown g.row.D.Denot (Round g.row.L.Denot)). closes x.opening.view.bound.now) (sym c.self.view_is) ∙ ap closes (sym own)
+          ∙ first_of (closes bound) (is_above (watermark_by (delays bound) (seen_at c.take_pending-pending.result.seen)) c.tell-told.result.watermark) (sym c.is_due-due.ensures ∙ is),
+    )
+
+pub returns-in_err-commit-clause-stopped : goal.returns-in_err-commit-clause-stopped
+returns-in_err-commit-clause-stopped g c =
+    on_err c.from_residual.result (
+      c.in_err-commit.ensures.stopped.0 ∙ ap (λ (x : Shown g.row.D.Denot (Round g.row.L.Denot)). did x c.commit.new.self.disk (entry.Stop cause.DiskFault ∷ [])) c.self.view_is,
+      subst (λ (x : Shown g.row.D.Denot (Round g.row.L.Denot)). Rises (g.D.Disk.faults x.disk) (g.D.Disk.faults c.commit.new.self.disk)) c.self.view_is c.in_err-commit.ensures.stopped.1,
+    )

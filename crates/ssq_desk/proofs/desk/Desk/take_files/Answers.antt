@@ -2,7 +2,6 @@ use Rattle.std.proofs.Common.{◌≡◌, ◌∙◌, [], ◌∷◌, Bool, true, f
 use Rattle.ssq_outside.specs.Faults.{Rises}
 use Rattle.ssq_board.specs.declared.front.Cause.{Cause}
 use Rattle.ssq_board.specs.declared.front.Front.{Front}
-use Rattle.ssq_board.specs.declared.front.Cause.TheVariants as cause
 use Rattle.ssq_board.specs.declared.front.Entry.TheVariants as entry
 use Rattle.ssq_board.specs.Core.{May, is_stopped}
 use Rattle.ssq_ledger.specs.Shown.{Shown, HasRisen, IsInOrder, answer, did}
@@ -80,8 +79,7 @@ returns-clause-out g c =
     let result = c.publish_rows.result in
     let told = entry.Report (out_id c.args.epoch) None ∷ [] in
     let back = c.report_out-2.ensures.did in
-    subst (λ (stop : Option Cause). IsOut (brings stop None) x now (out_id c.args.epoch) None result (Rises (g.D.Disk.faults x.disk) (g.D.Disk.faults now.disk))) (sym (runs x.core.front.stop (stop_by _ _ _ _ c.self.view_is c.front.ensures c.is_some.ensures ∙ c.if-is_some.false)))
-    (
+    subst (λ (stop : Option Cause). IsOut (brings stop None) x now (out_id c.args.epoch) None result (Rises (g.D.Disk.faults x.disk) (g.D.Disk.faults now.disk))) (sym (runs x.core.front.stop (stop_by _ _ _ _ c.self.view_is c.front.ensures c.is_some.ensures ∙ c.if-is_some.false))) (
       on_ok result (λ done. done ∙ ap (λ (s : Shown g.row.D.Denot (Round g.row.L.Denot)). did s now.disk (entry.OutFile s.core.front.committed ∷ [])) back ∙ did_then x x.disk now.disk told (entry.OutFile x.core.front.committed ∷ [])) c.publish_rows.ensures.done,
       if_err result
           (λ f stopped. (
