@@ -234,3 +234,20 @@ pub is_short_at : (entries : List Entry) (n : ℕ) (d : Entry) → IsChange (sho
 is_short_at [] n d kept within = absurd (omega (arith, within))
 is_short_at (entry ∷ entries) zero d kept within = let behind = behind_kept (said entry) (shown entries) kept in (behind.0, behind.1)
 is_short_at (entry ∷ entries) (suc n) d kept within = is_short_at entries n d (behind_kept (said entry) (shown entries) kept).2 (omega (arith, within))
+
+-- ---- copies of entries
+
+-- what is left begins with the entry at its place
+pub left_step : (entries : List Entry) (n : ℕ) (d : Entry) → n < length entries → shown (drop n entries) ≡ said (slice_index_or entries n d) ∷ shown (drop (n + 1) entries)
+left_step entries n d within =
+    subst (λ (m : ℕ). shown (drop n entries) ≡ said (slice_index_or entries n d) ∷ shown (drop m entries)) {x = suc n} (omega arith) (ap (λ (es : List Entry). shown es) (drop-cons entries n d within))
+
+pub left_none : (entries : List Entry) (n : ℕ) → length entries ≤ n → shown (drop n entries) ≡ []
+left_none entries n past = ap (λ (es : List Entry). shown es) (drop_all n entries past)
+
+pub copied_more : (made more all left rest : Change) (copy entry : List ℕ × Option (List ℕ)) → more ≡ made ++ copy ∷ [] → copy ≡ entry → left ≡ entry ∷ rest → made ++ left ≡ all → more ++ rest ≡ all
+copied_more made more all left rest copy entry push same step is =
+    ap (λ (es : Change). es ++ rest) push ∙ append_assoc made (copy ∷ []) rest ∙ ap (λ (e : List ℕ × Option (List ℕ)). made ++ e ∷ rest) same ∙ sym (ap (λ (es : Change). made ++ es) step) ∙ is
+
+pub copied_ends : (made all left : Change) → left ≡ [] → made ++ left ≡ all → made ≡ all
+copied_ends made all left none is = sym (append-nil made) ∙ sym (ap (λ (es : Change). made ++ es) none) ∙ is

@@ -140,10 +140,6 @@ left_ends form says entries made rest none is = go is.left is.whole is.bytes is.
     go [] whole bytes spelled = sym (append-nil (map says made)) ∙ whole
     go (e ∷ left) whole bytes spelled = absurd (none e.0 e.1 (entries_text form left) spelled.0 bytes)
 
-pub each_same : (made : Change) → map (λ e. e) made ≡ made
-each_same [] = refl
-each_same (e ∷ made) = ap (λ (es : Change). e ∷ es) (each_same made)
-
 pub said_once : (made state : State) → said_of made ≡ said_of state → made ≡ state
 said_once [] [] is = refl
 said_once [] (e ∷ state) is = cc

@@ -1,6 +1,5 @@
 -- The bytes of the files of the state. All numbers have the highest byte first.
-use Rattle.std.specs.Prelude.{◌≡◌, ℕ, ◌<◌, ◌^◌, List, [], ◌∷◌, ◌++◌, length, map, flat_map, Option, Some, None, option_copied, codes, Result, Ok}
-use Rattle.std.specs.declared.alloc.AllocError.{AllocError}
+use Rattle.std.specs.Prelude.{◌≡◌, ℕ, ◌<◌, ◌^◌, List, [], ◌∷◌, ◌++◌, length, map, flat_map, Option, Some, None, option_copied, codes}
 use Rattle.std.specs.Int.{w32, w64, to_be_bytes}
 use Rattle.std.specs.List.{AllByRecursion}
 use Rattle.ssq_version.specs.declared.entry.Entry.{Entry}
@@ -107,8 +106,3 @@ pub record AreFilesApart : Type 0 where
 -- entries where they lie in a file's bytes, as a change
 abbrev pub shown : List Entry → Change
 shown entries = map (λ entry. (entry.key.now, option_copied entry.value)) entries
-
--- what is made of an entry that has a spelling says the same
-abbrev pub MakesSame : {T : Type 0} → Form → (T → List ℕ × Option (List ℕ)) → (Entry → Result T AllocError → Type 0) → Type 0
-MakesSame {T} form says makes =
-    (entry : Entry) (made : T) → IsSpelled form (entry.key.now, option_copied entry.value) → makes entry (Ok made) → says made ≡ (entry.key.now, option_copied entry.value)

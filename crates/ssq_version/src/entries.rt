@@ -1,9 +1,9 @@
 //! The entries of a file of the state, as they stand in its bytes.
 
-ghost use Rattle.std.specs.Prelude.{◌≡◌, ◌<◌, ◌++◌, ◌^◌, ℕ, List, Option, Some, None, ◌∷◌, length, map, IsTrue, IfOk, IfSome, IsSomeAnd, OnOk, option_copied};
+ghost use Rattle.std.specs.Prelude.{◌≡◌, ◌<◌, ◌++◌, ◌^◌, ℕ, List, Option, Some, None, [], ◌∷◌, length, IsTrue, IfOk, IfSome, IsSomeAnd, OnOk, option_copied};
 ghost use Rattle.std.specs.List.{AllByRecursion};
-ghost use Rattle.ssq_version.specs.State.{Ascends, State as Kept, Change as Told};
-ghost use Rattle.ssq_version.specs.Text.{entry_text, entries_text, IsSpelled, IsAbove, IsListing, MakesSame, said_of};
+ghost use Rattle.ssq_version.specs.State.{Ascends, State as Kept, Change as Told, given_by, given_first};
+ghost use Rattle.ssq_version.specs.Text.{entry_text, entries_text, IsSpelled, IsAbove, IsListing, said_of, shown};
 ghost use Rattle.ssq_version.specs.declared.form.Form.TheVariants.{Delta, Snapshot};
 
 use crate::entry::{Entry, entry_and_rest};
@@ -71,45 +71,71 @@ fn copied(alloc: Global, bytes: Option<&[u8]>) -> Result<Option<Bytes>, AllocErr
     }
 }
 
-/// What is made of each entry in the bytes.
-pub(crate) fn each_entry<'a, T: Drop, F: Fn(Entry<'a>) -> Result<T, AllocError>>(
+/// The entries in the bytes, where they lie.
+pub(crate) fn entries_in<'a>(
     alloc: Global,
     form: Form,
     text: &'a [u8],
-    make: F,
-) -> Result<Vec<T>, AllocError>
-    requires { F.IsAlwaysCallable make }
-    ensures { (says : T → List ℕ × Option (List ℕ)) → MakesSame form says (F.post make) →
-        (entries : Told) → AllByRecursion (IsSpelled form) entries → text.now ≡ entries_text form entries →
-        IfOk result (λ made. map says made.items ≡ entries) }
+) -> Result<Vec<Entry<'a>>, AllocError>
+    ensures { (entries : Told) → AllByRecursion (IsSpelled form) entries → text.now ≡ entries_text form entries → IfOk result (λ made. shown made.items ≡ entries) }
 {
     let mut made = Vec::new(alloc);
     let mut rest = text;
     while let Some((entry, behind)) = entry_and_rest(form, rest) {
-        let one = make(entry)?;
-        made.push(one)?;
+        made.push(entry)?;
         rest = behind;
     }
     Ok(made)
 }
 
 /// A copy of an entry.
-fn changed_copy(alloc: Global, entry: Entry<'_>) -> Result<(Bytes, Option<Bytes>), AllocError>
-    ensures { IfOk result (λ made. made ≡ (entry.entry.key.now, option_copied entry.entry.value)) }
+fn changed_copy(alloc: Global, entry: &Entry<'_>) -> Result<(Bytes, Option<Bytes>), AllocError>
+    ensures { IfOk result (λ made. made ≡ (entry.now.key.now, option_copied entry.now.value)) }
 {
     let key = Bytes::from_slice(alloc, entry.key)?;
     let value = copied(alloc, entry.value)?;
     Ok((key, value))
 }
 
-/// A copy of an entry that gives a value.
-fn kept_copy(alloc: Global, entry: Entry<'_>) -> Result<(Bytes, Bytes), AllocError>
-    ensures { IsSpelled Snapshot (entry.entry.key.now, option_copied entry.entry.value) →
-        IfOk result (λ made. (made.0 ≡ entry.entry.key.now) × (Some made.1 ≡ option_copied entry.entry.value)) }
+/// Copies of the entries.
+fn changed_copies(
+    alloc: Global,
+    entries: &[Entry<'_>],
+) -> Result<Vec<(Bytes, Option<Bytes>)>, AllocError>
+    ensures { IfOk result (λ made. made.items ≡ shown entries.now) }
 {
+    let mut made = Vec::new(alloc);
+    for entry in entries {
+        made.push(changed_copy(alloc, entry)?)?;
+    }
+    Ok(made)
+}
+
+/// Puts a copy of an entry behind those that are there, where it gives a value.
+fn push_given(
+    alloc: Global,
+    given: &mut Vec<(Bytes, Bytes)>,
+    entry: &Entry<'_>,
+) -> Result<(), AllocError>
+    ensures { OnOk result (given.new.items ≡ given.old.items ++ given_first entry.now.key.now (option_copied entry.now.value) []) }
+{
+    let Some(value) = entry.value else {
+        return Ok(());
+    };
     let key = Bytes::from_slice(alloc, entry.key)?;
-    let value = Bytes::from_slice(alloc, entry.value.unwrap_or(&[]))?;
-    Ok((key, value))
+    let value = Bytes::from_slice(alloc, value)?;
+    Ok(given.push((key, value))?)
+}
+
+/// Copies of the entries that give a value.
+fn given_copies(alloc: Global, entries: &[Entry<'_>]) -> Result<Vec<(Bytes, Bytes)>, AllocError>
+    ensures { IfOk result (λ made. made.items ≡ given_by (shown entries.now)) }
+{
+    let mut given = Vec::new(alloc);
+    for entry in entries {
+        push_given(alloc, &mut given, entry)?;
+    }
+    Ok(given)
 }
 
 /// A copy of the entries of a delta.
@@ -120,7 +146,8 @@ pub(crate) fn changed_entries(
     ensures { (change : Told) → AllByRecursion (IsSpelled Delta) change → text.now ≡ entries_text Delta change →
         IfOk result (λ made. made.items ≡ change) }
 {
-    each_entry(alloc, Form::Delta, text, |entry| changed_copy(alloc, entry))
+    let entries = entries_in(alloc, Form::Delta, text)?;
+    changed_copies(alloc, entries.as_slice())
 }
 
 /// A copy of the entries of a snapshot.
@@ -128,7 +155,8 @@ pub(crate) fn kept_entries(alloc: Global, text: &[u8]) -> Result<Vec<(Bytes, Byt
     ensures { (state : Kept) → AllByRecursion (IsSpelled Snapshot) (said_of state) → text.now ≡ entries_text Snapshot (said_of state) →
         IfOk result (λ made. made.items ≡ state) }
 {
-    each_entry(alloc, Form::Snapshot, text, |entry| kept_copy(alloc, entry))
+    let entries = entries_in(alloc, Form::Snapshot, text)?;
+    given_copies(alloc, entries.as_slice())
 }
 
 /// The map of these entries, whose keys ascend.

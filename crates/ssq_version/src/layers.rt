@@ -7,7 +7,7 @@ ghost use Rattle.ssq_version.specs.State.{AreNews, Ascends, Change as Told, IsCh
 ghost use Rattle.ssq_version.specs.declared.form.Form.TheVariants.{Snapshot};
 ghost use Rattle.ssq_version.specs.Text.{AreEntries, IsSpelled, entries_text, file_text, kept_text, said_of, shown, snapshot_text};
 
-use crate::entries::each_entry;
+use crate::entries::entries_in;
 use crate::entry::{Entry, put_slice};
 use crate::file::{begin, read_file};
 use crate::form::Form;
@@ -15,13 +15,6 @@ use crate::news::are_same;
 use ssq_field::Bytes;
 use std::alloc::{AllocError, Global};
 use std::cmp::Ordering;
-
-/// The entries in the bytes.
-fn entries_in<'a>(alloc: Global, form: Form, text: &'a [u8]) -> Result<Vec<Entry<'a>>, AllocError>
-    ensures { (entries : Told) → AllByRecursion (IsSpelled form) entries → text.now ≡ entries_text form entries → IfOk result (λ made. shown made.items ≡ entries) }
-{
-    each_entry(alloc, form, text, |entry| Ok(entry))
-}
 
 /// The partition, the version and the entries of the file of this form whose bytes these are. `None` where they are no such file's.
 pub fn read_entries<'a>(

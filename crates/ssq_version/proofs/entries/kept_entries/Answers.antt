@@ -1,10 +1,12 @@
-use Rattle.std.proofs.Common.{◌≡◌, Some, option_copied, rules}
+use Rattle.std.proofs.Common.{◌≡◌, List, ap, ◌∙◌}
 use Rattle.std.proofs.lemmas.Result.{IfOk-weaker}
-use Rattle.ssq_version.specs.State.{said_of}
-use Rattle.ssq_version.proofs.Listing.{said_once}
+use Rattle.ssq_version.specs.declared.entry.Entry.{Entry}
+use Rattle.ssq_version.specs.State.{Change, given_by, said_of}
+use Rattle.ssq_version.specs.Text.{shown}
+use Rattle.ssq_version.proofs.Laid.{layered_said}
 use Rattle.ssq_version.proofs.entries.kept_entries.Goals as goal
 
 pub returns : goal.returns
 returns c state spelled is =
-    IfOk-weaker c.each_entry.result (λ made. said_of made.items ≡ said_of state) _ (λ made same. said_once made.items state same)
-    (c.each_entry.ensures (λ e. (e.0, Some e.1)) (λ entry made one ok. let both : (made.0 ≡ entry.key.now) × (Some made.1 ≡ option_copied entry.value) = search rules in λ i. (both.0 i, both.1 i)) (said_of state) spelled is)
+    let same : shown c.as_slice.result.now ≡ said_of state = ap (λ (entries : List Entry). shown entries) c.as_slice.ensures.value ∙ c.in_ok-entries.ensures (said_of state) spelled is in
+    IfOk-weaker c.given_copies.result (λ made. made.items ≡ given_by (shown c.as_slice.result.now)) _ (λ made given. given ∙ ap (λ (said : Change). given_by said) same ∙ layered_said state) c.given_copies.ensures
