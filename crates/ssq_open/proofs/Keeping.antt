@@ -11,7 +11,7 @@ use Rattle.ssq_plans.specs.declared.seen.SeenBy.{SeenBy}
 use Rattle.ssq_open.specs.declared.streams.Watermarked.{Watermarked}
 use Rattle.ssq_open.specs.declared.fault.OpenFault.{OpenFault}
 use Rattle.ssq_open.specs.declared.fault.OpenFault.TheVariants.{OtherQuery, OtherPartitions, OtherParts, LogShort, Damaged, DiskFault, NoMemory}
-use Rattle.ssq_open.specs.Epochs.{IsThere, IsGoodPlan, IsGoodCommit, IsSinkRight, ArePlans, ArePlansOf, AreCommits, IsMarked, IsSeenAt, IsProgress}
+use Rattle.ssq_open.specs.Epochs.{IsThere, IsGoodPlan, IsGoodCommit, IsSinkRight, ArePlans, ArePlansOf, AreCommits, IsMarked, IsSeenAt, IsProgress, HasNoCommitFrom}
 use Rattle.ssq_open.specs.Refused.{PlansRefuse, CommitsRefuse, CommitsPassed, MarkRefuses, SinksRefuse, StrayRefuses, in_plans, in_commits, in_watermarks, ProgressRefuses, of_progress, in_sinks, in_state, EpochsRefuse}
 
 -- what the names say of how many epochs are planned, and how many of these are committed
@@ -154,3 +154,15 @@ progress_found streams files first n plans k seen count are spelled commits mark
     let P : ℕ → Type 0 = ArePlans files first in
     let C : ℕ → Type 0 = λ m. AreCommits streams files m k in
     record { are_plans = subst P (sym count) are; spelled = spelled; commits = subst C (sym count) commits; marked = marked; last = last }
+
+-- why the plans and commits are refused that were read
+pub read_refused : (streams : List Watermarked) (files : Files) (first : List PartEnd) (names : List Name) (n k : ℕ) (at : Name) → AreNames files names → AreCounted names n k → ArePlans files first n
+    → ((e : ℕ) → e < k → IsGoodCommit streams files e) → CommitsPassed files n (Damaged at) ⊎ (HasNoCommitFrom files n × MarkRefuses streams files n (Damaged at)) → ProgressRefuses streams files first (Damaged at)
+read_refused streams files first names n k at are counted plans good (inl passed) = commits_passed streams files first names n k (Damaged at) are counted plans good passed
+read_refused streams files first names n k at are counted plans good (inr marks) = mark_refused streams files first n k (Damaged at) plans (commits_all streams files names n k are counted good marks.0) marks.1
+
+-- and why the files are that were not
+pub unread_refused : (keeping : ℕ) (streams : List Watermarked) (files : Files) (first : List PartEnd) (plans : List Plan) (k : ℕ) (seen : List SeenBy) (at : Name) → IsProgress streams files first plans k seen
+    → SinksRefuse files (length plans) k (Damaged at) ⊎ (((e : ℕ) → IsSinkRight files (length plans) k e) × StrayRefuses files keeping (length plans) (Damaged at)) → EpochsRefuse keeping streams files first (Damaged at)
+unread_refused keeping streams files first plans k seen at progress (inl sinks) = sinks_refused keeping streams files first plans k seen (Damaged at) progress sinks
+unread_refused keeping streams files first plans k seen at progress (inr stray) = state_refused keeping streams files first plans k seen (Damaged at) progress stray.0 stray.1

@@ -36,6 +36,25 @@ job_refuses s files (LogShort stream part logged found) why = why
 job_refuses s files DiskFault why = tt
 job_refuses s files NoMemory why = tt
 
+-- a record that is of another query, and one that is of another job
+pub query_refused : (asked : List ℕ) (streams : ℕ) (files : Files) (m : Meta) (fault : OpenFault) → IsTheMeta files m → QueryDiffers asked streams m fault → MetaRefuses asked streams files fault
+query_refused asked streams files m (OtherQuery kept) is differs = record { meta = m; is = is; differs = differs }
+query_refused asked streams files m (Damaged at) is differs = inr (record { meta = m; is = is; differs = differs })
+query_refused asked streams files m (OtherPartitions kept partitions) is differs = differs
+query_refused asked streams files m (OtherParts stream kept found) is differs = differs
+query_refused asked streams files m (LogShort stream part logged found) is differs = differs
+query_refused asked streams files m DiskFault is differs = absurd differs
+query_refused asked streams files m NoMemory is differs = absurd differs
+
+pub job_refused : (s : Sought) (files : Files) (m : Meta) (fault : OpenFault) → IsTheMeta files m → JobDiffers s m fault → JobRefuses s files fault
+job_refused s files m (OtherQuery kept) is differs = record { meta = m; is = is; differs = differs }
+job_refused s files m (Damaged at) is differs = inr (record { meta = m; is = is; differs = differs })
+job_refused s files m (OtherPartitions kept asked) is differs = record { meta = m; is = is; differs = differs }
+job_refused s files m (OtherParts stream kept found) is differs = record { meta = m; is = is; differs = differs }
+job_refused s files m (LogShort stream part logged found) is differs = differs
+job_refused s files m DiskFault is differs = absurd differs
+job_refused s files m NoMemory is differs = absurd differs
+
 -- the record is denied
 pub meta_denied : (query : Query) (files : Files) (fault : OpenFault) → MetaRefuses query.text query.streams files fault → Denies query files fault
 meta_denied query files (OtherQuery kept) why = why

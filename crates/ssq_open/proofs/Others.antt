@@ -1,6 +1,6 @@
 -- What the listing says of the files that are not read.
-use Rattle.std.proofs.Common.{◌≡◌, ◌⊎◌, ◌<◌, ◌≤◌, ◌+◌, ℕ, true, List, Some, None, refl, inl, inr, arith}
-use Rattle.std.specs.Prelude.{Contains, IsTrue, nat_le}
+use Rattle.std.proofs.Common.{◌≡◌, ◌⊎◌, ◌<◌, ◌≤◌, ◌+◌, ℕ, true, List, Option, Some, None, refl, sym, inl, inr, arith}
+use Rattle.std.specs.Prelude.{Contains, IsTrue, IfNone, IfSome, nat_le}
 use Rattle.std.specs.List.{find}
 use Rattle.std.proofs.lemmas.Bool.{cases_lt}
 use Rattle.std.proofs.lemmas.Bool.Decides.{nat_tests}
@@ -8,8 +8,9 @@ use Rattle.ssq_outside.specs.declared.name.Name.{Name}
 use Rattle.ssq_outside.specs.declared.name.Name.TheVariants as name
 use Rattle.ssq_outside.specs.Files.{Files, AreNames, name_before}
 use Rattle.ssq_open.specs.Listing.{is_commit_from, is_out_from}
-use Rattle.ssq_open.specs.Epochs.{IsThere, IsSinkRight, IsFirstBad, is_stray, HasNoStray}
-use Rattle.ssq_open.specs.Refused.{IsFirstStray}
+use Rattle.ssq_open.specs.Epochs.{IsThere, IsSinkRight, IsFirstBad, is_stray, HasNoCommitFrom, HasNoStray}
+use Rattle.ssq_open.specs.Refused.{CommitsPassed, IsFirstStray, SinksRefuse, StrayRefuses}
+use Rattle.ssq_open.specs.declared.fault.OpenFault.TheVariants.{Damaged}
 use Rattle.ssq_open.proofs.Finding.{none_passes, found_contained, found_before}
 
 from_to : (n e : ℕ) → n ≤ e → nat_le n e ≡ true
@@ -129,3 +130,23 @@ first_stray files names keeping n at are found =
       there = are.there at has.0;
       first = λ other stray there. found_before (is_stray keeping n) names at other are.in_order found (are.all other there) stray;
     }
+
+-- the files of the state, where the sink files are as they have to be
+pub unread_none : (files : Files) (names : List Name) (keeping n k : ℕ) (found : Option Name) → AreNames files names → ((e : ℕ) → IsSinkRight files n k e) → found ≡ find (is_stray keeping n) names
+    → IfNone found (((e : ℕ) → IsSinkRight files n k e) × HasNoStray files keeping n)
+unread_none files names keeping n k None are sinks found = (sinks, no_stray files names keeping n are (sym found))
+unread_none files names keeping n k (Some at) are sinks found = tt
+
+pub unread_some : (files : Files) (names : List Name) (keeping n k : ℕ) (found : Option Name) → AreNames files names → ((e : ℕ) → IsSinkRight files n k e) → found ≡ find (is_stray keeping n) names
+    → IfSome found (λ at. SinksRefuse files n k (Damaged at) ⊎ (((e : ℕ) → IsSinkRight files n k e) × StrayRefuses files keeping n (Damaged at)))
+unread_some files names keeping n k None are sinks found = tt
+unread_some files names keeping n k (Some at) are sinks found = inr (sinks, first_stray files names keeping n at are (sym found))
+
+-- the watermarks, where no commit is of an epoch that is not planned
+pub damaged_none : (files : Files) (n : ℕ) (found : Option Name) (P : Type 0) → HasNoCommitFrom files n → IfNone found P → IfNone found (HasNoCommitFrom files n × P)
+damaged_none files n None P none is = (none, is)
+damaged_none files n (Some at) P none is = tt
+
+pub damaged_some : (files : Files) (n : ℕ) (found : Option Name) (P : Name → Type 0) → HasNoCommitFrom files n → IfSome found P → IfSome found (λ at. CommitsPassed files n (Damaged at) ⊎ (HasNoCommitFrom files n × P at))
+damaged_some files n None P none is = tt
+damaged_some files n (Some at) P none is = inr (none, is)

@@ -1,17 +1,19 @@
 //! The commits of a checkpoint, in order, and the watermarks that they give.
 
-ghost use Rattle.std.specs.Prelude.{◌≡◌, ◌<◌, ◌≤◌, ◌+◌, ℕ, List, length, OnOk, IfOk, IfErr, IsTrue};
-ghost use Rattle.ssq_outside.specs.Files.{Files};
+ghost use Rattle.std.specs.Prelude.{◌≡◌, ◌<◌, ◌≤◌, ◌+◌, ◌⊎◌, ℕ, List, length, OnOk, IfOk, IfErr, IfNone, IfSome, IsTrue};
+ghost use Rattle.ssq_outside.specs.Files.{Files, AreNames};
 ghost use Rattle.ssq_outside.specs.History.{files_now};
-ghost use Rattle.ssq_open.specs.Epochs.{is_own, IsMarked, ArePlansOf, AreMarks, AreCommitted};
+ghost use Rattle.ssq_open.specs.Epochs.{is_own, IsMarked, ArePlansOf, AreMarks, AreCommitted, HasNoCommitFrom};
 ghost use Rattle.ssq_open.specs.Spelled.{IsTheCommit};
 ghost use Rattle.ssq_open.specs.Fault.{DiskRises};
-ghost use Rattle.ssq_open.specs.Refused.{CommitRefuses, CommitsRefuse, MarkRefuses};
+ghost use Rattle.ssq_open.specs.Refused.{CommitRefuses, CommitsRefuse, CommitsPassed, MarkRefuses};
 ghost use Rattle.ssq_open.specs.Numbers.{AreTimesInOrder};
 ghost use Rattle.ssq_plans.specs.Records.{IsCommit};
+ghost use Rattle.ssq_open.specs.declared.fault.OpenFault.TheVariants.{Damaged};
 ghost use Rattle.ssq_open.specs.declared.streams.Watermarked.{Watermarked as WatermarkedOf};
 
 use crate::fault::OpenFault;
+use crate::listing::commit_from;
 use crate::read::commit_of;
 use crate::streams::{Watermarked, has_lines, is_mark, mark_by};
 use ssq_outside::{Disk, Name};
@@ -71,24 +73,22 @@ fn advance<D: Disk>(
     alloc: Global,
     disk: &mut D,
     streams: &[Watermarked],
-    committed: Committed,
+    found: &mut Committed,
     epoch: u32,
-) -> Result<Committed, OpenFault>
-    ensures committed { D.tells → AreCommitted streams.now (files_now (D.history disk.old)) epoch committed.marks committed.seen →
-        IfOk result (λ next. AreCommitted streams.now (files_now (D.history disk.old)) (epoch + 1) next.marks next.seen) }
-    ensures count { IfOk result (λ next. length next.marks ≡ length committed.marks + 1) }
-    ensures in_order { IfOk result (λ next. AreTimesInOrder streams.now next.seen) }
+) -> Result<(), OpenFault>
+    ensures committed { D.tells → AreCommitted streams.now (files_now (D.history disk.old)) epoch found.old.marks found.old.seen →
+        OnOk result (AreCommitted streams.now (files_now (D.history disk.old)) (epoch + 1) found.new.marks found.new.seen) }
+    ensures count { OnOk result (length found.new.marks ≡ length found.old.marks + 1) }
+    ensures in_order { OnOk result (AreTimesInOrder streams.now found.new.seen) }
     ensures refused { D.tells → IfErr result (CommitRefuses streams.now (files_now (D.history disk.old)) epoch) }
     ensures same { D.tells → D.history disk.new ≡ D.history disk.old }
     ensures counted { D.faults disk.old ≤ D.faults disk.new }
     ensures cause { IfErr result (λ fault. DiskRises fault (D.faults disk.old) (D.faults disk.new)) }
 {
-    let Committed { marks, .. } = committed;
-    let mut marks = marks;
     let commit = own_commit(alloc, disk, streams, epoch)?;
-    marks.push(mark_by(streams, commit.seen.as_slice()))?;
-    let Commit { seen, .. } = commit;
-    Ok(Committed { marks, seen })
+    found.marks.push(mark_by(streams, commit.seen.as_slice()))?;
+    found.seen = commit.seen;
+    Ok(())
 }
 
 /// What the commits of the first epochs say.
@@ -113,27 +113,40 @@ pub(crate) fn commits_to<D: Disk>(
         seen: Sequence::new(alloc),
     };
     for epoch in 0..count {
-        found = advance(alloc, disk, streams, found, epoch)?;
+        advance(alloc, disk, streams, &mut found, epoch)?;
     }
     Ok(found)
 }
 
-/// Checks that each plan has the watermark that is its epoch's.
-pub(crate) fn check_marks(plans: &[Plan], marks: &[Option<i128>]) -> Result<(), OpenFault>
+/// The first plan that has not the watermark that is its epoch's.
+fn first_mismarked(plans: &[Plan], marks: &[Option<i128>]) -> Option<Name>
     requires few { length plans.now ≤ 4294967295 }
     requires each { length plans.now ≤ length marks.now }
-    ensures ok { (streams : List WatermarkedOf) (files : Files) → ArePlansOf files plans.now → AreMarks streams files marks.now →
-        OnOk result ((e : ℕ) → e < length plans.now → IsMarked streams files e) }
-    ensures err { (streams : List WatermarkedOf) (files : Files) → ArePlansOf files plans.now → AreMarks streams files marks.now →
-        IfErr result (MarkRefuses streams files (length plans.now)) }
-    ensures not_the_disk { (before now : ℕ) → IfErr result (λ fault. DiskRises fault before now) }
+    ensures none { (streams : List WatermarkedOf) (files : Files) → ArePlansOf files plans.now → AreMarks streams files marks.now →
+        IfNone result ((e : ℕ) → e < length plans.now → IsMarked streams files e) }
+    ensures some { (streams : List WatermarkedOf) (files : Files) → ArePlansOf files plans.now → AreMarks streams files marks.now →
+        IfSome result (λ at. MarkRefuses streams files (length plans.now) (Damaged at)) }
 {
     for (epoch, plan) in plans.iter().enumerate() {
         if !is_mark(plan.watermark, marks[epoch]) {
-            return Err(OpenFault::Damaged {
-                name: Name::Plan(epoch as u32),
-            });
+            return Some(Name::Plan(epoch as u32));
         }
     }
-    Ok(())
+    None
+}
+
+/// The first commit of an epoch that is not planned, or, where there is none, the first plan that has not the watermark that is its epoch's.
+pub(crate) fn first_damaged(names: &[Name], plans: &[Plan], marks: &[Option<i128>]) -> Option<Name>
+    requires few { length plans.now ≤ 4294967295 }
+    requires each { length plans.now ≤ length marks.now }
+    ensures none { (streams : List WatermarkedOf) (files : Files) → AreNames files names.now → ArePlansOf files plans.now → AreMarks streams files marks.now →
+        IfNone result (HasNoCommitFrom files (length plans.now) × ((e : ℕ) → e < length plans.now → IsMarked streams files e)) }
+    ensures some { (streams : List WatermarkedOf) (files : Files) → AreNames files names.now → ArePlansOf files plans.now → AreMarks streams files marks.now →
+        IfSome result (λ at. CommitsPassed files (length plans.now) (Damaged at)
+        ⊎ (HasNoCommitFrom files (length plans.now) × MarkRefuses streams files (length plans.now) (Damaged at))) }
+{
+    match commit_from(names, plans.len() as u64) {
+        Some(name) => Some(name),
+        None => first_mismarked(plans, marks),
+    }
 }

@@ -1,6 +1,6 @@
 //! The job that a checkpoint is of.
 
-ghost use Rattle.std.specs.Prelude.{◌≡◌, ◌≢◌, ◌↔◌, ◌<◌, ◌≤◌, ℕ, length, slice_index, IfOk, IfErr, IfSome, IfNone, IsTrue};
+ghost use Rattle.std.specs.Prelude.{◌≡◌, ◌≢◌, ◌↔◌, ◌<◌, ◌≤◌, ℕ, length, slice_index, IfOk, IfErr, IfSome, IfNone, IsTrue, OnOk};
 ghost use Rattle.ssq_outside.specs.History.{files_now};
 ghost use Rattle.ssq_plans.specs.Records.{IsMetaRecord};
 ghost use Rattle.ssq_open.specs.Fault.{DiskRises};
@@ -76,12 +76,12 @@ pub(crate) fn kept_query<D: Disk>(
     }
 }
 
-/// The record of the job, which is of the query that is wanted, where it is of the job that is wanted.
-fn same_job(meta: Meta, wanted: &Wanted<'_>) -> Result<Meta, OpenFault>
-    requires { IsOf wanted.now.query.now (length wanted.now.parts.now) meta }
-    ensures same { IfOk result (λ kept. kept ≡ meta) }
-    ensures job { IfOk result (IsJob (sought wanted.now)) }
-    ensures differs { IfErr result (JobDiffers (sought wanted.now) meta) }
+/// Checks that the record of the job, which is of the query that is wanted, is of the job that is wanted.
+fn check_job(meta: &Meta, wanted: &Wanted<'_>) -> Result<(), OpenFault>
+    requires { IsOf wanted.now.query.now (length wanted.now.parts.now) meta.now }
+    ensures ok { OnOk result (IsJob (sought wanted.now) meta.now) }
+    ensures err { IfErr result (JobDiffers (sought wanted.now) meta.now) }
+    ensures not_the_disk { (before now : ℕ) → IfErr result (λ fault. DiskRises fault before now) }
 {
     if let Some(asked) = wanted.partitions {
         if asked != meta.partitions {
@@ -97,7 +97,7 @@ fn same_job(meta: Meta, wanted: &Wanted<'_>) -> Result<Meta, OpenFault>
             kept: meta.parts.as_slice()[stream],
             found: wanted.parts[stream],
         }),
-        None => Ok(meta),
+        None => Ok(()),
     }
 }
 
@@ -116,5 +116,6 @@ pub(crate) fn kept_job<D: Disk>(
     ensures cause { IfErr result (λ fault. DiskRises fault (D.faults disk.old) (D.faults disk.new)) }
 {
     let meta = kept_query(alloc, disk, wanted.query, wanted.parts.len())?;
-    same_job(meta, wanted)
+    check_job(&meta, wanted)?;
+    Ok(meta)
 }

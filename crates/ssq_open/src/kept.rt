@@ -8,12 +8,12 @@ ghost use Rattle.ssq_open.specs.Numbers.{AreEpochsInOrder};
 ghost use Rattle.ssq_open.specs.Fault.{DiskRises};
 ghost use Rattle.ssq_open.specs.Refused.{ProgressRefuses, EpochsRefuse};
 
-use crate::commits::{Committed, check_marks, commits_to};
+use crate::commits::{commits_to, first_damaged};
 use crate::fault::OpenFault;
 use crate::listing::{committed, planned};
 use crate::plans::plans_to;
 use crate::streams::Watermarked;
-use crate::unread::{check_last_commit, check_sinks, check_state};
+use crate::unread::first_unexpected;
 use ssq_outside::{Disk, Name};
 use ssq_plans::{PartEnd, Plan, SeenBy};
 use ssq_value::Sequence;
@@ -53,14 +53,14 @@ pub(crate) fn kept_progress<D: Disk>(
     let plans = plans_to(alloc, disk, first, planned)?;
     let committed = committed as u32;
     let commits = commits_to(alloc, disk, streams, committed)?;
-    check_last_commit(names, planned)?;
-    let Committed { marks, seen } = commits;
-    check_marks(plans.as_slice(), marks.as_slice())?;
-    Ok(Epochs {
-        plans,
-        committed,
-        seen,
-    })
+    match first_damaged(names, plans.as_slice(), commits.marks.as_slice()) {
+        Some(name) => Err(OpenFault::Damaged { name }),
+        None => Ok(Epochs {
+            plans,
+            committed,
+            seen: commits.seen,
+        }),
+    }
 }
 
 /// The epochs of a checkpoint whose files have these names, of parts that begin there, where so many partitions keep state.
@@ -82,7 +82,8 @@ pub(crate) fn kept_epochs<D: Disk>(
 {
     let epochs = kept_progress(alloc, disk, names, streams, first)?;
     let planned = epochs.plans.len() as u64;
-    check_sinks(names, planned, epochs.committed)?;
-    check_state(names, keeping, planned)?;
-    Ok(epochs)
+    match first_unexpected(names, keeping, planned, epochs.committed) {
+        Some(name) => Err(OpenFault::Damaged { name }),
+        None => Ok(epochs),
+    }
 }

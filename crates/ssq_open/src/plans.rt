@@ -67,25 +67,23 @@ fn advance<D: Disk>(
     alloc: Global,
     disk: &mut D,
     first: &[PartEnd],
-    plans: Sequence<Plan>,
+    plans: &mut Sequence<Plan>,
     epoch: u32,
-) -> Result<Sequence<Plan>, OpenFault>
-    requires { length plans ≡ epoch }
-    ensures planned { D.tells → ArePlanned (files_now (D.history disk.old)) first.now plans →
-        IfOk result (ArePlanned (files_now (D.history disk.old)) first.now) }
-    ensures count { IfOk result (λ next. length next ≡ epoch + 1) }
+) -> Result<(), OpenFault>
+    requires { length plans.old ≡ epoch }
+    ensures planned { D.tells → ArePlanned (files_now (D.history disk.old)) first.now plans.old →
+        OnOk result (ArePlanned (files_now (D.history disk.old)) first.now plans.new) }
+    ensures count { OnOk result (length plans.new ≡ epoch + 1) }
     ensures few { OnOk result (epoch < 4294967295) }
-    ensures in_order { ArePlansInOrder first.now plans → IfOk result (ArePlansInOrder first.now) }
-    ensures refused { D.tells → ArePlanned (files_now (D.history disk.old)) first.now plans →
+    ensures in_order { ArePlansInOrder first.now plans.old → OnOk result (ArePlansInOrder first.now plans.new) }
+    ensures refused { D.tells → ArePlanned (files_now (D.history disk.old)) first.now plans.old →
         IfErr result (PlansRefuse (files_now (D.history disk.old)) first.now (epoch + 1)) }
     ensures same { D.tells → D.history disk.new ≡ D.history disk.old }
     ensures counted { D.faults disk.old ≤ D.faults disk.new }
     ensures cause { IfErr result (λ fault. DiskRises fault (D.faults disk.old) (D.faults disk.new)) }
 {
-    let mut plans = plans;
     let plan = next_plan(alloc, disk, last_ends(first, plans.as_slice()), epoch)?;
-    plans.push(plan)?;
-    Ok(plans)
+    Ok(plans.push(plan)?)
 }
 
 /// The plans of the first epochs, of parts that begin there.
@@ -107,7 +105,7 @@ pub(crate) fn plans_to<D: Disk>(
 {
     let mut plans = Sequence::new(alloc);
     for epoch in 0..count {
-        plans = advance(alloc, disk, first, plans, epoch as u32)?;
+        advance(alloc, disk, first, &mut plans, epoch as u32)?;
     }
     Ok(plans)
 }

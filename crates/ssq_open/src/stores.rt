@@ -1,6 +1,6 @@
 //! The stores of the partitions that keep state.
 
-ghost use Rattle.std.specs.Prelude.{◌≡◌, ◌≤◌, ◌+◌, IfOk, IfErr};
+ghost use Rattle.std.specs.Prelude.{◌≡◌, ◌≤◌, ◌+◌, IfOk, IfErr, OnOk};
 ghost use Rattle.ssq_outside.specs.History.{files_now};
 ghost use Rattle.ssq_store.specs.Fault.{DiskRises as StoreRises};
 ghost use Rattle.ssq_store.specs.Loaded.{Makes, Refuses, count_to};
@@ -72,24 +72,22 @@ fn last_version(epochs: u32) -> Option<u32>
 fn load_next<D: Disk>(
     alloc: Global,
     disk: &mut D,
-    stores: Sequence<Store>,
+    stores: &mut Sequence<Store>,
     partition: u32,
     committed: u32,
     finding: Finding,
-) -> Result<Sequence<Store>, OpenFault>
-    ensures numbers { AreStores partition committed stores → IfOk result (AreStores (partition + 1) committed) }
-    ensures loaded { D.tells → AreLoaded (files_now (D.history disk.old)) partition committed stores →
-        IfOk result (AreLoaded (files_now (D.history disk.old)) (partition + 1) committed) }
-    ensures refused { D.tells → AreLoaded (files_now (D.history disk.old)) partition committed stores →
+) -> Result<(), OpenFault>
+    ensures numbers { AreStores partition committed stores.old → OnOk result (AreStores (partition + 1) committed stores.new) }
+    ensures loaded { D.tells → AreLoaded (files_now (D.history disk.old)) partition committed stores.old →
+        OnOk result (AreLoaded (files_now (D.history disk.old)) (partition + 1) committed stores.new) }
+    ensures refused { D.tells → AreLoaded (files_now (D.history disk.old)) partition committed stores.old →
         IfErr result (StoresRefuse (files_now (D.history disk.old)) (partition + 1) committed) }
     ensures same { D.tells → D.history disk.new ≡ D.history disk.old }
     ensures counted { D.faults disk.old ≤ D.faults disk.new }
     ensures cause { IfErr result (λ fault. DiskRises fault (D.faults disk.old) (D.faults disk.new)) }
 {
-    let mut stores = stores;
     let store = load(alloc, disk, partition, last_version(committed), finding)?;
-    stores.push(store)?;
-    Ok(stores)
+    Ok(stores.push(store)?)
 }
 
 /// The stores of the first so many partitions, in order, each with the state that the files make of it after so many epochs.
@@ -109,7 +107,7 @@ pub(crate) fn load_stores<D: Disk>(
 {
     let mut stores = Sequence::new(alloc);
     for partition in 0..keeping {
-        stores = load_next(alloc, disk, stores, partition, committed, finding)?;
+        load_next(alloc, disk, &mut stores, partition, committed, finding)?;
     }
     Ok(stores)
 }

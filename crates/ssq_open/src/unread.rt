@@ -1,55 +1,34 @@
 //! The files of a checkpoint that are not read: by their names alone.
 
-ghost use Rattle.std.specs.Prelude.{◌≤◌, ◌+◌, ℕ, OnOk, IfErr};
+ghost use Rattle.std.specs.Prelude.{◌≤◌, ◌+◌, ◌⊎◌, ℕ, IfNone, IfSome};
 ghost use Rattle.ssq_outside.specs.Files.{Files, AreNames};
-ghost use Rattle.ssq_open.specs.Epochs.{IsThere, IsSinkRight, HasNoStray};
-ghost use Rattle.ssq_open.specs.Fault.{DiskRises};
-ghost use Rattle.ssq_open.specs.Refused.{CommitsPassed, SinksRefuse, StrayRefuses};
+ghost use Rattle.ssq_open.specs.Epochs.{IsSinkRight, HasNoStray};
+ghost use Rattle.ssq_open.specs.Refused.{SinksRefuse, StrayRefuses};
+ghost use Rattle.ssq_open.specs.declared.fault.OpenFault.TheVariants.{Damaged};
 
-use crate::fault::OpenFault;
-use crate::listing::{commit_from, out_from, stray_file, written};
+use crate::listing::{out_from, stray_file, written};
 use ssq_outside::Name;
 
-/// Checks that no epoch is committed that is not planned.
-pub(crate) fn check_last_commit(names: &[Name], planned: u64) -> Result<(), OpenFault>
-    ensures ok { (files : Files) → AreNames files names.now → OnOk result ((e : ℕ) → planned ≤ e → IsThere files (Name.Commit e) → ⊥) }
-    ensures err { (files : Files) → AreNames files names.now → IfErr result (CommitsPassed files planned) }
-    ensures not_the_disk { (before now : ℕ) → IfErr result (λ fault. DiskRises fault before now) }
-{
-    match commit_from(names, planned) {
-        Some(name) => Err(OpenFault::Damaged { name }),
-        None => Ok(()),
-    }
-}
-
-/// Checks which sink files are there.
-pub(crate) fn check_sinks(names: &[Name], planned: u64, committed: u32) -> Result<(), OpenFault>
+/// The first of these files that is missing or unexpected: of the sink files, and where these are as they have to be, of the files of the state, which
+/// are of the partitions that keep state, the first so many, and of planned epochs.
+pub(crate) fn first_unexpected(
+    names: &[Name],
+    keeping: u32,
+    planned: u64,
+    committed: u32,
+) -> Option<Name>
     requires below { committed ≤ planned }
     requires ahead { planned ≤ committed + 1 }
-    ensures ok { (files : Files) → AreNames files names.now → OnOk result ((e : ℕ) → IsSinkRight files planned committed e) }
-    ensures err { (files : Files) → AreNames files names.now → IfErr result (SinksRefuse files planned committed) }
-    ensures not_the_disk { (before now : ℕ) → IfErr result (λ fault. DiskRises fault before now) }
+    ensures none { (files : Files) → AreNames files names.now → IfNone result (((e : ℕ) → IsSinkRight files planned committed e) × HasNoStray files keeping planned) }
+    ensures some { (files : Files) → AreNames files names.now → IfSome result (λ at. SinksRefuse files planned committed (Damaged at)
+        ⊎ (((e : ℕ) → IsSinkRight files planned committed e) × StrayRefuses files keeping planned (Damaged at))) }
 {
     let written = written(names);
     if written < committed as u64 {
-        return Err(OpenFault::Damaged {
-            name: Name::Out(written as u32),
-        });
+        return Some(Name::Out(written as u32));
     }
     match out_from(names, planned) {
-        Some(name) => Err(OpenFault::Damaged { name }),
-        None => Ok(()),
-    }
-}
-
-/// Checks that there is no file of the state but of the partitions that keep state, which are the first so many, and of planned epochs.
-pub(crate) fn check_state(names: &[Name], keeping: u32, planned: u64) -> Result<(), OpenFault>
-    ensures ok { (files : Files) → AreNames files names.now → OnOk result (HasNoStray files keeping planned) }
-    ensures err { (files : Files) → AreNames files names.now → IfErr result (StrayRefuses files keeping planned) }
-    ensures not_the_disk { (before now : ℕ) → IfErr result (λ fault. DiskRises fault before now) }
-{
-    match stray_file(names, keeping, planned) {
-        Some(name) => Err(OpenFault::Damaged { name }),
-        None => Ok(()),
+        Some(name) => Some(name),
+        None => stray_file(names, keeping, planned),
     }
 }

@@ -6,22 +6,22 @@ use Rattle.ssq_open.specs.Refused.{CommitRefuses}
 use Rattle.ssq_open.proofs.Planning.{commit_refused}
 use Rattle.ssq_open.proofs.commits.commits_to.Goals as goal
 
-pub returns-in_err-found-clause-refused : goal.returns-in_err-found-clause-refused
-returns-in_err-found-clause-refused g c = λ tells.
-    let p = err_from_is_err_and c.from_residual-in_err-found.result c.from_residual-in_err-found.ensures.1 in
+pub returns-in_err-advance-clause-refused : goal.returns-in_err-advance-clause-refused
+returns-in_err-advance-clause-refused g c = λ tells.
+    let p = err_from_is_err_and c.from_residual-in_err-advance.result c.from_residual-in_err-advance.ensures.1 in
     let less : c.loop-epoch.epoch < c.args.count = omega arith in
-    let R : History → Type 0 = λ h. CommitRefuses c.args.streams.now (files_now h) c.loop-epoch.epoch c.in_err-found.field-0.0 in
-    rw (p.1, p.2) (commit_refused _ _ _ _ c.in_err-found.field-0.0 less (c.loop-epoch.invariant.committed tells).good (subst R (c.loop-epoch.invariant.same tells) (c.in_err-found.ensures.refused tells)))
+    let R : History → Type 0 = λ h. CommitRefuses c.args.streams.now (files_now h) c.loop-epoch.epoch c.in_err-advance.field-0.0 in
+    rw (p.1, p.2) (commit_refused _ _ _ _ c.in_err-advance.field-0.0 less (c.loop-epoch.invariant.committed tells).good (subst R (c.loop-epoch.invariant.same tells) (c.in_err-advance.ensures.refused tells)))
 
 pub loop-epoch-preserved : goal.loop-epoch-preserved
 loop-epoch-preserved g c = record {
   committed = λ tells.
       let M : History → Type 0 = λ h. AreCommitted c.args.streams.now (files_now h) c.loop-epoch.epoch c.loop-epoch.found.marks c.loop-epoch.found.seen in
-      let N : History → Type 0 = λ h. AreCommitted c.args.streams.now (files_now h) (c.loop-epoch.epoch + 1) c.in_ok-found.found.marks c.in_ok-found.found.seen in
+      let N : History → Type 0 = λ h. AreCommitted c.args.streams.now (files_now h) (c.loop-epoch.epoch + 1) c.advance.new.found.marks c.advance.new.found.seen in
       let same = c.loop-epoch.invariant.same tells in
-      subst N same (c.in_ok-found.ensures.committed tells (subst M (sym same) (c.loop-epoch.invariant.committed tells)));
-  in_order = c.in_ok-found.ensures.in_order;
-  count = c.in_ok-found.ensures.count ∙ ap (λ n. n + 1) c.loop-epoch.invariant.count;
+      subst N same (c.in_ok-advance.ensures.committed tells (subst M (sym same) (c.loop-epoch.invariant.committed tells)));
+  in_order = c.in_ok-advance.ensures.in_order;
+  count = c.in_ok-advance.ensures.count ∙ ap (λ n. n + 1) c.loop-epoch.invariant.count;
   same = λ tells. c.advance.ensures.same tells ∙ c.loop-epoch.invariant.same tells;
   counted = omega (arith, c.loop-epoch.invariant.counted, c.advance.ensures.counted);
 }

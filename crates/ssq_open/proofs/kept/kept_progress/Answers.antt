@@ -1,13 +1,14 @@
-use Rattle.std.proofs.Common.{◌<◌, ℕ, refl, subst}
+use Rattle.std.proofs.Common.{◌<◌, ◌⊎◌, ℕ, refl, subst}
 use Rattle.std.proofs.lemmas.Result.{err_from_is_err_and}
 use Rattle.ssq_outside.specs.History.{History, files_now}
-use Rattle.ssq_outside.specs.Files.{AreNames}
-use Rattle.ssq_open.specs.Epochs.{AreCommits, AreCommitted, ArePlans, IsGoodPlan}
-use Rattle.ssq_open.specs.Refused.{CommitsRefuse, MarkRefuses}
-use Rattle.ssq_open.proofs.Keeping.{AreCounted, counted_as, plans_all, plans_refused, commits_refused, commits_passed, commits_all, mark_refused, progress_found}
+use Rattle.ssq_outside.specs.Files.{AreNames, Files}
+use Rattle.ssq_open.specs.Epochs.{AreCommitted, ArePlans, HasNoCommitFrom, IsGoodPlan}
+use Rattle.ssq_open.specs.Refused.{CommitsPassed, CommitsRefuse, MarkRefuses}
+use Rattle.ssq_open.specs.declared.fault.OpenFault.TheVariants.{Damaged}
+use Rattle.ssq_open.proofs.Keeping.{AreCounted, counted_as, plans_all, plans_refused, commits_refused, commits_all, read_refused, progress_found}
 use Rattle.ssq_open.proofs.kept.kept_progress.Given.{Over}
 use Rattle.ssq_open.proofs.kept.kept_progress.Goals as goal
-use Rattle.ssq_open.proofs.kept.kept_progress.Goals.{After-committed-committed, After-commits_to, After-check_last_commit, After-check_marks}
+use Rattle.ssq_open.proofs.kept.kept_progress.Goals.{After-committed-committed, After-commits_to, After-first_damaged}
 
 -- the counts are those of the names
 counted : (g : Over) → (c : After-committed-committed g) → AreCounted c.args.names.now c.planned-planned.result c.committed-committed.result
@@ -23,17 +24,11 @@ plans g c tells are counts =
     plans_all _ c.args.first.now _ _ _ are counts (subst P c.in_ok-plans.ensures.count (c.in_ok-plans.ensures.planned tells).good)
 
 -- each commit that there has to be is good
-committed : (g : Over) → (c : After-check_last_commit g) → g.D.Disk.tells
+committed : (g : Over) → (c : After-first_damaged g) → g.D.Disk.tells
     → AreCommitted c.args.streams.now (files_now (g.D.Disk.history c.args.disk.now)) c.committed-committed.result c.in_ok-commits.commits.marks c.in_ok-commits.commits.seen
 committed g c tells =
     let G : History → Type 0 = λ h. AreCommitted c.args.streams.now (files_now h) c.committed-committed.result c.in_ok-commits.commits.marks c.in_ok-commits.commits.seen in
     subst G (c.plans_to.ensures.same tells) (c.in_ok-commits.ensures.committed tells)
-
--- and no other commit is there
-commits : (g : Over) → (c : After-check_marks g) → AreNames (files_now (g.D.Disk.history c.args.disk.now)) c.args.names.now → AreCounted c.args.names.now c.planned-planned.result c.committed-committed.result
-    → AreCommitted c.args.streams.now (files_now (g.D.Disk.history c.args.disk.now)) c.committed-committed.result c.in_ok-commits.commits.marks c.in_ok-commits.commits.seen
-    → AreCommits c.args.streams.now (files_now (g.D.Disk.history c.args.disk.now)) c.planned-planned.result c.committed-committed.result
-commits g c are counts good = commits_all c.args.streams.now _ _ _ _ are counts good.good (c.in_ok-check_last_commit.ensures.ok _ are)
 
 pub returns-in_err-plans-clause-refused : goal.returns-in_err-plans-clause-refused
 returns-in_err-plans-clause-refused g c = λ tells are.
@@ -48,28 +43,24 @@ returns-in_err-commits-clause-refused g c = λ tells are.
     let R : History → Type 0 = λ h. CommitsRefuse c.args.streams.now (files_now h) c.committed-committed.result c.in_err-commits.field-0.0 in
     rw (p.1, p.2) (commits_refused c.args.streams.now _ c.args.first.now _ _ _ c.in_err-commits.field-0.0 are counts (plans g at.After-commits_to tells are counts) (subst R (c.plans_to.ensures.same tells) (c.in_err-commits.ensures.refused tells)))
 
-pub returns-in_err-check_last_commit-clause-refused : goal.returns-in_err-check_last_commit-clause-refused
-returns-in_err-check_last_commit-clause-refused g c = λ tells are.
-    let p = err_from_is_err_and c.from_residual-in_err-check_last_commit.result c.from_residual-in_err-check_last_commit.ensures.1 in
-    let at = goal.at.returns-in_err-check_last_commit-clause-refused g c in
+pub returns-in-Some-clause-refused : goal.returns-in-Some-clause-refused
+returns-in-Some-clause-refused g c = λ tells are.
+    let at = goal.at.returns-in-Some-clause-refused g c in
     let counts = counted g at.After-committed-committed in
-    rw (p.1, p.2) (commits_passed c.args.streams.now _ c.args.first.now _ _ _ c.in_err-check_last_commit.field-0.0 are counts (plans g at.After-commits_to tells are counts) (committed g at.After-check_last_commit tells).good (c.in_err-check_last_commit.ensures.err _ are))
+    let files : Files = files_now (g.D.Disk.history c.args.disk.now) in
+    let good = committed g at.After-first_damaged tells in
+    let W : ℕ → Type 0 = λ n. CommitsPassed files n (Damaged c.in-Some.name) ⊎ (HasNoCommitFrom files n × MarkRefuses c.args.streams.now files n (Damaged c.in-Some.name)) in
+    let why = c.in-Some.ensures.some c.args.streams.now files are (rw c.as_slice.ensures (c.in_ok-plans.ensures.planned tells).spelled) (rw c.as_slice-2.ensures good.each) in
+    read_refused c.args.streams.now files c.args.first.now _ _ _ c.in-Some.name are counts (plans g at.After-commits_to tells are counts) good.good (subst W (rw c.as_slice.ensures c.in_ok-plans.ensures.count) why)
 
-pub returns-in_err-check_marks-clause-refused : goal.returns-in_err-check_marks-clause-refused
-returns-in_err-check_marks-clause-refused g c = λ tells are.
-    let p = err_from_is_err_and c.from_residual-in_err-check_marks.result c.from_residual-in_err-check_marks.ensures.1 in
-    let at = goal.at.returns-in_err-check_marks-clause-refused g c in
+pub returns-in-None-clause-progress : goal.returns-in-None-clause-progress
+returns-in-None-clause-progress g c = λ tells are.
+    let at = goal.at.returns-in-None-clause-progress g c in
     let counts = counted g at.After-committed-committed in
-    let good = committed g at.After-check_last_commit tells in
-    let M : ℕ → Type 0 = λ m. MarkRefuses c.args.streams.now (files_now (g.D.Disk.history c.args.disk.now)) m c.in_err-check_marks.field-0.0 in
-    let why = c.in_err-check_marks.ensures.err c.args.streams.now _ (rw c.as_slice.ensures (c.in_ok-plans.ensures.planned tells).spelled) (rw c.as_slice-2.ensures good.each) in
-    rw (p.1, p.2) (mark_refused c.args.streams.now _ c.args.first.now _ _ c.in_err-check_marks.field-0.0 (plans g at.After-commits_to tells are counts) (commits g at.After-check_marks are counts good) (subst M (rw c.as_slice.ensures c.in_ok-plans.ensures.count) why))
-
-pub returns-clause-progress : goal.returns-clause-progress
-returns-clause-progress g c = λ tells are.
-    let at = goal.at.returns-clause-progress g c in
-    let counts = counted g at.After-committed-committed in
-    let good = committed g at.After-check_last_commit tells in
+    let files : Files = files_now (g.D.Disk.history c.args.disk.now) in
+    let good = committed g at.After-first_damaged tells in
+    let N : ℕ → Type 0 = HasNoCommitFrom files in
     let spelled = (c.in_ok-plans.ensures.planned tells).spelled in
-    let marked = c.in_ok-check_marks.ensures.ok c.args.streams.now (files_now (g.D.Disk.history c.args.disk.now)) (rw c.as_slice.ensures spelled) (rw c.as_slice-2.ensures good.each) in
-    progress_found c.args.streams.now _ c.args.first.now _ c.in_ok-plans.plans _ c.in_ok-commits.commits.seen c.in_ok-plans.ensures.count (plans g at.After-commits_to tells are counts) spelled (commits g at.After-check_marks are counts good) (rw c.as_slice.ensures at marked) good.last
+    let right = c.in-None.ensures.none c.args.streams.now files are (rw c.as_slice.ensures spelled) (rw c.as_slice-2.ensures good.each) in
+    let commits = commits_all c.args.streams.now files _ _ _ are counts good.good (subst N (rw c.as_slice.ensures c.in_ok-plans.ensures.count) right.0) in
+    progress_found c.args.streams.now _ c.args.first.now _ c.in_ok-plans.plans _ c.in_ok-commits.commits.seen c.in_ok-plans.ensures.count (plans g at.After-commits_to tells are counts) spelled commits (rw c.as_slice.ensures at right.1) good.last

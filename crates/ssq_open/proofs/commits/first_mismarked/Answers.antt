@@ -2,7 +2,7 @@ use Rattle.std.proofs.Common.{◌≡◌, ◌<◌, ◌∙◌, Bool, true, false, 
 use Rattle.std.specs.Prelude.{IsTrue}
 use Rattle.ssq_plans.specs.declared.plan.Plan.{Plan}
 use Rattle.ssq_open.proofs.Planning.{same_next, marked_below, marked_badly, none_same}
-use Rattle.ssq_open.proofs.commits.check_marks.Goals as goal
+use Rattle.ssq_open.proofs.commits.first_mismarked.Goals as goal
 
 not_told : (told : Bool) → IsTrue told → told ≡ false → ⊥
 not_told told is not_so = cc
@@ -10,13 +10,13 @@ not_told told is not_so = cc
 pub loop-epoch-init : goal.loop-epoch-init
 loop-epoch-init c = none_same c.args.plans.now c.args.marks.now
 
-pub returns-clause-ok : goal.returns-clause-ok
-returns-clause-ok c = λ streams files spelled each e less.
+pub returns-clause-none : goal.returns-clause-none
+returns-clause-none c = λ streams files spelled each e less.
     let all : c.loop-epoch.epoch ≡ length c.args.plans.now = omega arith in
     marked_below streams files c.args.plans.now c.args.marks.now (length c.args.plans.now) spelled each (omega arith) c.requires.each (rw all at c.loop-epoch.invariant) e less
 
-pub returns-then-not-is_mark-clause-err : goal.returns-then-not-is_mark-clause-err
-returns-then-not-is_mark-clause-err c = λ streams files spelled each.
+pub returns-then-not-is_mark-clause-some : goal.returns-then-not-is_mark-clause-some
+returns-then-not-is_mark-clause-some c = λ streams files spelled each.
     let less : c.loop-epoch.epoch < length c.args.plans.now = omega arith in
     (c.loop-epoch.epoch, refl, less, marked_badly streams files c.args.plans.now c.args.marks.now c.loop-epoch.epoch c.index-plans-epoch.result None spelled each less c.requires.each c.loop-epoch.invariant (λ is. not_told _ (c.is_mark.ensures.1 (ap (λ (q : Plan). q.watermark) c.index-plans-epoch.is ∙ is)) c.if-not-is_mark.true))
 
