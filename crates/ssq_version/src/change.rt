@@ -1,8 +1,7 @@
 //! What a version changes.
 
-ghost use Rattle.std.specs.Prelude.{◌≡◌, ◌<◌, ◌^◌, ℕ, List, All, [], length, None, IfOk, OnOk, OnErr};
-ghost use Rattle.std.specs.BTreeMap.{insert_entry};
-ghost use Rattle.ssq_version.specs.State.{by_bytes, last_at, value_at, IsToldAt, IsChange, IsShort, IsShortEntry};
+ghost use Rattle.std.specs.Prelude.{◌≡◌, ◌<◌, ◌^◌, ℕ, List, All, [], length, IfOk};
+ghost use Rattle.ssq_version.specs.State.{last_at, value_at, IsChange, IsShortEntry};
 
 use ssq_field::Bytes;
 use std::alloc::{AllocError, Global};
@@ -54,17 +53,6 @@ impl Change {
         ensures { IfOk result (λ change. (key : List ℕ) → value_at change key ≡ last_at entries.items key) }
     {
         Ok(Change(made_of(alloc, entries)?))
-    }
-
-    /// Says that the key goes, in place of what was said of it. After an `Err` the change is as before.
-    pub fn remove(&mut self, key: Bytes) -> Result<(), AllocError>
-        requires { IsShort key }
-        ensures ok { OnOk result (self.new ≡ insert_entry by_bytes self.old key None) }
-        ensures told { OnOk result (IsToldAt key None self.old self.new) }
-        ensures err { OnErr result (self.new ≡ self.old) }
-    {
-        self.0.insert(key, None)?;
-        Ok(())
     }
 
     /// The keys with what it says of them, in order.
