@@ -2,6 +2,7 @@ pub mod Names
 pub mod Walks
 pub mod Marks
 pub mod Finding
+mod Reading
 pub mod Planning
 pub mod Others
 pub mod Keeping

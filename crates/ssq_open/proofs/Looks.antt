@@ -8,6 +8,7 @@ use Rattle.ssq_open.specs.declared.fault.OpenFault.{OpenFault}
 use Rattle.ssq_open.specs.declared.fault.OpenFault.TheVariants.{OtherQuery, OtherPartitions, OtherParts, LogShort, Damaged, DiskFault, NoMemory}
 use Rattle.ssq_plans.specs.declared.plan.Plan.{Plan}
 use Rattle.ssq_plans.specs.declared.seen.SeenBy.{SeenBy}
+use Rattle.ssq_open.specs.Fault.{DiskRises}
 use Rattle.ssq_open.specs.Sought.{Sought}
 use Rattle.ssq_open.specs.Spelled.{IsTheMeta}
 use Rattle.ssq_open.specs.Epochs.{IsProgress}
@@ -54,6 +55,15 @@ job_refused s files m (OtherParts stream kept found) is differs = record { meta 
 job_refused s files m (LogShort stream part logged found) is differs = differs
 job_refused s files m DiskFault is differs = absurd differs
 job_refused s files m NoMemory is differs = absurd differs
+
+pub difference_rises : (asked : List ℕ) (streams : ℕ) (m : Meta) (before now : ℕ) (fault : OpenFault) → QueryDiffers asked streams m fault → DiskRises fault before now
+difference_rises asked streams m before now (OtherQuery kept) differs = tt
+difference_rises asked streams m before now (Damaged at) differs = tt
+difference_rises asked streams m before now (OtherPartitions kept partitions) differs = tt
+difference_rises asked streams m before now (OtherParts stream kept found) differs = tt
+difference_rises asked streams m before now (LogShort stream part logged found) differs = tt
+difference_rises asked streams m before now DiskFault differs = absurd differs
+difference_rises asked streams m before now NoMemory differs = tt
 
 -- the record is denied
 pub meta_denied : (query : Query) (files : Files) (fault : OpenFault) → MetaRefuses query.text query.streams files fault → Denies query files fault

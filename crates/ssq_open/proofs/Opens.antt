@@ -16,11 +16,12 @@ use Rattle.ssq_open.specs.declared.fault.OpenFault.TheVariants.{OtherQuery, Othe
 use Rattle.ssq_open.specs.declared.wanted.Opened.{Opened}
 use Rattle.ssq_open.specs.Sought.{Sought, IsJob}
 use Rattle.ssq_open.specs.Spelled.{IsTheMeta}
-use Rattle.ssq_open.specs.Epochs.{starts}
-use Rattle.ssq_open.specs.Refused.{EpochsRefuse}
+use Rattle.ssq_open.specs.Epochs.{AreEpochs, last_ends, starts}
+use Rattle.ssq_open.specs.Lengths.{ShortRefuses}
+use Rattle.ssq_open.specs.Refused.{EpochsRefuse, JobRefuses}
 use Rattle.ssq_open.specs.Stateful.{keeping_in}
 use Rattle.ssq_open.specs.Stores.{StoresRefuse}
-use Rattle.ssq_open.specs.Opening.{Finds, Passes, Refuses, IsOutside, IsFirst, IsOpen, kept, begun, IsRefused, unchanged, unfinished, IsImageOpening, only_meta, first_meta, in_epochs, in_states, SyncedSince, IsBegun, IsOpening, unsynced}
+use Rattle.ssq_open.specs.Opening.{Finds, Passes, Refuses, IsOutside, IsFirst, IsOpen, kept, begun, IsRefused, unchanged, unfinished, IsImageOpening, only_meta, first_meta, no_record, other_streams, in_epochs, in_states, SyncedSince, IsBegun, IsOpening, unsynced}
 
 -- where no name is listed there is no file
 pub none_listed : (files : Files) (names : List Name) → AreNames files names → names ≡ [] → IsEmpty files
@@ -112,6 +113,29 @@ refused_kept s files here now (Ok opened) same is some refused = tt
 refused_kept s files here now (Err fault) same is some refused =
     let P : Files → Type 0 = λ f. Refuses s f fault in
     unchanged is (subst P same refused) (λ empty. absurd (some empty))
+
+-- the job is refused
+pub job_denied : (s : Sought) (files : Files) (fault : OpenFault) → JobRefuses s files fault → Refuses s files fault
+job_denied s files (OtherQuery query) refused = refused
+job_denied s files (OtherPartitions partitions asked) refused = refused
+job_denied s files (OtherParts stream parts found) refused = refused
+job_denied s files (LogShort stream part logged found) refused = absurd refused
+job_denied s files (Damaged at) (inl none) = no_record none.0 none.1
+job_denied s files (Damaged at) (inr differs) = other_streams differs
+job_denied s files DiskFault refused = tt
+job_denied s files NoMemory refused = tt
+
+-- a part is short, of a job that is wanted and whose epochs are as they have to be
+pub short_refused : (s : Sought) (files : Files) (m : Meta) (plans : List Plan) (k : ℕ) (seen : List SeenBy) (fault : OpenFault) → IsTheMeta files m → IsJob s m
+    → AreEpochs (keeping_in s.keeps m.partitions) s.streams files (starts s.found) plans k seen → ShortRefuses (last_ends (starts s.found) plans) s.found fault → Refuses s files fault
+short_refused s files m plans k seen (LogShort stream part logged found) is job epochs short =
+    record { meta = m; is = is; job = job; plans = plans; committed = k; seen = seen; epochs = epochs; at = short.at; short = short.short; has = short.has }
+short_refused s files m plans k seen (OtherQuery query) is job epochs short = absurd short
+short_refused s files m plans k seen (OtherPartitions partitions asked) is job epochs short = absurd short
+short_refused s files m plans k seen (OtherParts stream parts found) is job epochs short = absurd short
+short_refused s files m plans k seen (Damaged at) is job epochs short = absurd short
+short_refused s files m plans k seen DiskFault is job epochs short = tt
+short_refused s files m plans k seen NoMemory is job epochs short = tt
 
 -- the epochs are refused, of a job that is wanted
 pub epochs_refused : (s : Sought) (files : Files) (m : Meta) (fault : OpenFault) → IsTheMeta files m → IsJob s m → EpochsRefuse (keeping_in s.keeps m.partitions) s.streams files (starts s.found) fault → Refuses s files fault

@@ -1,10 +1,11 @@
 -- One epoch more, in a walk over plans and commits.
-use Rattle.std.proofs.Common.{◌≡◌, ◌<◌, ◌≤◌, ◌+◌, ◌∙◌, ◌++◌, [], ◌∷◌, zero, suc, ℕ, ℤ, List, Option, None, length, get_or, refl, sym, ap, subst, inl, inr, arith}
+use Rattle.std.proofs.Common.{◌≡◌, ◌<◌, ◌≤◌, ◌+◌, ◌∙◌, ◌++◌, [], ◌∷◌, zero, suc, ℕ, ℤ, Bool, false, List, Option, None, length, get_or, refl, sym, ap, subst, inl, inr, arith}
 use Rattle.std.specs.Prelude.{IsTrue}
 use Rattle.std.proofs.lemmas.Bool.{cases_lt}
 use Rattle.std.proofs.Math.ListN.{get_or-append}
 use Rattle.std.proofs.Math.Seq.{get_or-append_seam}
 use Rattle.std.proofs.lemmas.List.{length-append, get_or_default}
+use Rattle.ssq_outside.specs.declared.name.Name.TheVariants as name
 use Rattle.ssq_outside.specs.Files.{Files}
 use Rattle.ssq_plans.specs.declared.plan.Plan.{Plan}
 use Rattle.ssq_plans.specs.declared.commit.Commit.{Commit}
@@ -13,7 +14,7 @@ use Rattle.ssq_plans.specs.declared.seen.SeenBy.{SeenBy}
 use Rattle.ssq_open.specs.declared.streams.Watermarked.{Watermarked}
 use Rattle.ssq_open.specs.declared.fault.OpenFault.{OpenFault}
 use Rattle.ssq_open.specs.declared.fault.OpenFault.TheVariants.{OtherQuery, OtherPartitions, OtherParts, LogShort, Damaged, DiskFault, NoMemory}
-use Rattle.ssq_open.specs.Spelled.{IsThePlan, IsTheCommit}
+use Rattle.ssq_open.specs.Spelled.{SpellsPlan, SpellsCommit, IsThePlan, IsTheCommit}
 use Rattle.ssq_open.specs.Watermarks.{mark_by}
 use Rattle.ssq_open.specs.Epochs.{at_start, at_plan, is_next, is_own, AreEndsAt, IsGoodPlan, ArePlannedTo, ArePlanned, ArePlansOf, no_plan, cut_of, last_ends, IsGoodCommit, none_yet, by_commit, IsMarkAt, unmarked, marked_by, AreMarks, AreCommitted, IsMarked, IsFirstBad}
 use Rattle.ssq_open.specs.Refused.{PlansRefuse, CommitRefuses, CommitsRefuse}
@@ -148,3 +149,38 @@ marked_badly streams files plans marks n p m spelled each within enough same oth
 
 pub none_same : (plans : List Plan) (marks : List (Option ℤ)) → AreSame plans marks 0
 none_same plans marks e p m less = absurd (omega (arith, less))
+
+-- ---- a plan or a commit that is not as it has to be
+
+not_both : (told : Bool) → IsTrue told → told ≡ false → ⊥
+not_both told is not = cc
+
+-- the epochs before one end in one place
+one_end : (files : Files) (first : List PartEnd) (e : ℕ) (a b : List PartEnd) → AreEndsAt files first e a → AreEndsAt files first e b → a ≡ b
+one_end files first e a b (at_start zero_is is) (at_start zero_is' is') = is ∙ sym is'
+one_end files first e a b (at_start zero_is is) (at_plan last p same the is') = absurd (omega (arith, zero_is, same))
+one_end files first e a b (at_plan last p same the is) (at_start zero_is is') = absurd (omega (arith, zero_is, same))
+one_end files first e a b (at_plan last p same the is) (at_plan last' p' same' the' is') =
+    let one : last' ≡ last = suc_same last' last (sym same' ∙ same) in
+    let P : ℕ → Type 0 = λ n. IsThePlan files n p' in
+    is ∙ ap (λ (q : Plan). q.ends) ((subst P one the').only p the.spells) ∙ sym is'
+
+pub plan_not_next : (files : Files) (first before : List PartEnd) (e : ℕ) (p : Plan) (told : Bool) → ArePlannedTo files first e before → IsThePlan files e p → told ≡ is_next before e p → told ≡ false → PlansRefuse files first (e + 1) (Damaged (name.Plan e))
+plan_not_next files first before e p told planned is next not_so = (e, refl, omega arith, record { before = planned.good; bad = bad })
+  where
+    bad : IsGoodPlan files first e → ⊥
+    bad good =
+        let B : List PartEnd → Type 0 = λ ends. IsTrue (is_next ends e p) in
+        let N : Plan → Type 0 = λ q. IsTrue (is_next good.before e q) in
+        not_both (is_next before e p) (subst B (one_end files first e good.before before good.after planned.end) (subst N (is.only good.plan good.is.spells) good.next)) (sym next ∙ not_so)
+
+pub plan_missing : (files : Files) (first before : List PartEnd) (e : ℕ) → ArePlannedTo files first e before → ((p : Plan) → SpellsPlan files e p → ⊥) → PlansRefuse files first (e + 1) (Damaged (name.Plan e))
+plan_missing files first before e planned none = (e, refl, omega arith, record { before = planned.good; bad = λ good. none good.plan good.is.spells })
+
+pub commit_not_own : (streams : List Watermarked) (files : Files) (e : ℕ) (c : Commit) (told : Bool) → IsTheCommit files e c → told ≡ is_own streams e c → told ≡ false → IsGoodCommit streams files e → ⊥
+commit_not_own streams files e c told is own not_so good =
+    let O : Commit → Type 0 = λ d. IsTrue (is_own streams e d) in
+    not_both (is_own streams e c) (subst O (is.only good.commit good.is.spells) good.own) (sym own ∙ not_so)
+
+pub commit_missing : (streams : List Watermarked) (files : Files) (e : ℕ) → ((c : Commit) → SpellsCommit files e c → ⊥) → IsGoodCommit streams files e → ⊥
+commit_missing streams files e none good = none good.commit good.is.spells

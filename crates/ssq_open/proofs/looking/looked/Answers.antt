@@ -3,8 +3,8 @@ use Rattle.std.proofs.lemmas.Result.{err_from_is_err_and}
 use Rattle.ssq_outside.specs.declared.name.Name.{Name}
 use Rattle.ssq_outside.specs.Files.{Files, IsEmpty, AreNames}
 use Rattle.ssq_outside.specs.History.{History, files_now}
-use Rattle.ssq_open.specs.Looking.{query_of, Denies}
-use Rattle.ssq_open.proofs.Opens.{empty_listed, some_item}
+use Rattle.ssq_open.specs.Looking.{query_of, Denies, Holds}
+use Rattle.ssq_open.proofs.Opens.{empty_listed, no_items, none_listed, some_item}
 use Rattle.ssq_open.proofs.looking.looked.Goals as goal
 
 pub returns-in_err-held-clause-denied : goal.returns-in_err-held-clause-denied
@@ -19,3 +19,18 @@ returns-in_err-held-clause-denied g c = λ tells.
     let are = subst A (sym same) listed in
     let some : IsEmpty files → ⊥ = λ empty. some_item c.from_vec-names.result (sym c.is_empty.ensures ∙ c.if-is_empty.false) (empty_listed _ _ listed empty) in
     rw (p.1, p.2) (record { why = subst R same (c.in_err-held.ensures.denied tells are); outside = λ empty. absurd (some empty) })
+
+pub returns-then-is_empty-clause-none : goal.returns-then-is_empty-clause-none
+returns-then-is_empty-clause-none g c = λ tells.
+    let files : Files = files_now (g.D.Disk.history c.args.disk.now) in
+    let N : List Name → Type 0 = λ names. AreNames files names in
+    none_listed files c.from_vec-names.result (subst N (sym c.from_vec-names.ensures) (c.in_ok-names.ensures.found tells)) (no_items c.from_vec-names.result (sym c.is_empty.ensures ∙ c.if-is_empty.true))
+
+pub returns-clause-found : goal.returns-clause-found
+returns-clause-found g c = λ tells.
+    let files : Files = files_now (g.D.Disk.history c.args.disk.now) in
+    let N : List Name → Type 0 = λ names. AreNames files names in
+    let A : History → Type 0 = λ h. AreNames (files_now h) c.from_vec-names.result in
+    let H : History → Type 0 = λ h. Holds (query_of c.args.bound.now) (files_now h) c.in_ok-held.field-0 in
+    let same = c.names.ensures.same tells in
+    subst H same (c.in_ok-held.ensures.holds tells (subst A (sym same) (subst N (sym c.from_vec-names.ensures) (c.in_ok-names.ensures.found tells))))
