@@ -1,5 +1,5 @@
 -- Entries one after the other: checked, and what is made of them.
-use Rattle.std.proofs.Common.{◌≡◌, ℕ, suc, ◌^◌, ◌<◌, arith, Option, Some, None, List, [], ◌∷◌, ◌++◌, length, map, refl, sym, ap, subst, ap₂, ◌∙◌, append-nil}
+use Rattle.std.proofs.Common.{◌≡◌, ℕ, suc, ◌^◌, ◌<◌, arith, Option, Some, None, List, [], ◌∷◌, ◌++◌, ◌-◌, length, length-drop, drop, take, take_all, map, refl, sym, ap, subst, ap₂, ◌∙◌, append-nil}
 use Rattle.std.specs.Int.{w32, w64, to_be_bytes}
 use Rattle.std.specs.List.{AllByRecursion}
 use Rattle.std.specs.List.Sorted.{IsStrictlySortedBy}
@@ -153,6 +153,25 @@ said_once (e ∷ made) (f ∷ state) is =
     let rest : said_of made ≡ said_of state = cc in
     let first : e ≡ f = λ i. (key i, value i) in
     ap₂ (λ (x : List ℕ × List ℕ) (es : State). x ∷ es) first (said_once made state rest)
+
+-- ---- a number in front
+
+-- what stands behind so many bytes, as it is lent
+lent_behind : (taken : ℕ) (text : List ℕ) → take (length text - taken) (drop taken text) ≡ drop taken text
+lent_behind taken text = take_all (length text - taken) (drop taken text) (omega (arith, length-drop taken text))
+
+behind_all : (spelled rest : List ℕ) → drop (length spelled) (spelled ++ rest) ≡ rest
+behind_all [] rest = refl
+behind_all (x ∷ spelled) rest = behind_all spelled rest
+
+pub number_found : (spelled text : List ℕ) (taken : ℕ) → text ≡ spelled ++ drop taken text → text ≡ spelled ++ take (length text - taken) (drop taken text)
+number_found spelled text taken is = is ∙ ap (λ (rest : List ℕ). spelled ++ rest) (sym (lent_behind taken text))
+
+pub number_each : (spelled text rest : List ℕ) (found taken number : ℕ) → ◌≡◌ {A = Option (ℕ × ℕ)} (Some (found, taken)) (Some (number, length spelled)) → text ≡ spelled ++ rest → (found ≡ number) × (take (length text - taken) (drop taken text) ≡ rest)
+number_each spelled text rest found taken number same is =
+    let both : ◌≡◌ {A = ℕ × ℕ} (found, taken) (number, length spelled) = cc in
+    let many : taken ≡ length spelled = ap (λ (p : ℕ × ℕ). p.1) both in
+    (ap (λ (p : ℕ × ℕ). p.0) both, lent_behind taken text ∙ ap (λ (n : ℕ). drop n text) many ∙ ap (λ (bytes : List ℕ). drop (length spelled) bytes) is ∙ behind_all spelled rest)
 
 -- ---- a file
 
