@@ -20,8 +20,9 @@ use std::alloc::{AllocError, Global};
 fn entries_of(alloc: Global, map: &StateMap) -> Result<Vec<Entry<'_>>, AllocError>
     ensures { IfOk result (λ entries. shown entries.items ≡ said_of map.now) }
 {
+    let kept = map.iter(alloc)?;
     let mut entries = Vec::new(alloc);
-    for (key, value) in map.iter(alloc)? {
+    for (key, value) in kept {
         entries.push(Entry {
             key: key.as_slice(),
             value: Some(value.as_slice()),

@@ -4,7 +4,7 @@ use Rattle.ssq_version.proofs.Laid.{listed_all, listed_more}
 use Rattle.ssq_version.proofs.snapshot.entries_of.Goals as goal
 
 pub loop-key-init : goal.loop-key-init
-loop-key-init c = (tt, tt, ap₂ (λ entries state. shown entries ++ said_of state) c.new-entries.ensures.items (c.into_iter-key-iterator.ensures.into_iter_gives ∙ c.in_ok-items.ensures))
+loop-key-init c = (tt, tt, ap₂ (λ entries state. shown entries ++ said_of state) c.new-entries.ensures.items (c.into_iter-key-iterator.ensures.into_iter_gives ∙ c.in_ok-kept.ensures))
 
 pub loop-key-preserved : goal.loop-key-preserved
 loop-key-preserved c = (
