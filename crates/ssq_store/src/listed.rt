@@ -1,6 +1,6 @@
 //! The state that files in a list make, by what lies in their bytes.
 
-ghost use Rattle.std.specs.Prelude.{◌≡◌, ◌≤◌, ◌^◌, [], ℕ, suc, None, Some, IfOk, IfErr, IfSome, IfNone, option_copied};
+ghost use Rattle.std.specs.Prelude.{◌≡◌, ◌≤◌, ◌^◌, [], ℕ, suc, None, Some, IfOk, IfErr, IfSome, IfNone, OnOk, option_copied};
 ghost use Rattle.ssq_outside.specs.declared.name.Name.TheVariants as name;
 ghost use Rattle.ssq_version.specs.State.{State as Kept, IsChange, given_by, layered};
 ghost use Rattle.ssq_version.specs.Text.{AreEntries, file_text, said_of, shown};
@@ -139,7 +139,7 @@ fn newest_in<'a>(
     Ok((0, Vec::new(alloc)))
 }
 
-/// What is said over the snapshot's entries after a version, where these and the newer ones are of the state before it. Where there is no
+/// Lays the change of a version over what is said over the snapshot's entries, where both are of the state before it. Where there is no
 /// snapshot of the version.
 fn follow_in<'a>(
     alloc: Global,
@@ -147,20 +147,21 @@ fn follow_in<'a>(
     partition: u32,
     version: u32,
     older: &[Entry<'a>],
-    newer: &[Entry<'a>],
-) -> Result<Vec<Entry<'a>>, StoreFault>
+    newer: &mut Vec<Entry<'a>>,
+) -> Result<(), StoreFault>
     requires older { IsChange (shown older.now) }
-    requires newer { IsChange (shown newer.now) }
+    requires newer { IsChange (shown newer.old.items) }
     ensures made { files_in files.now (name.Snapshot partition version) ≡ None →
-        Makes (files_in files.now) partition version (layered (shown older.now) (shown newer.now)) →
-        IfOk result (λ entries. Makes (files_in files.now) partition (suc version) (layered (shown older.now) (shown entries.items))) }
-    ensures kept { IfOk result (λ entries. IsChange (shown entries.items)) }
+        Makes (files_in files.now) partition version (layered (shown older.now) (shown newer.old.items)) →
+        OnOk result (Makes (files_in files.now) partition (suc version) (layered (shown older.now) (shown newer.new.items))) }
+    ensures kept { OnOk result (IsChange (shown newer.new.items)) }
     ensures damaged { files_in files.now (name.Snapshot partition version) ≡ None →
-        Makes (files_in files.now) partition version (layered (shown older.now) (shown newer.now)) → IfErr result (Refuses (files_in files.now) partition (suc version)) }
+        Makes (files_in files.now) partition version (layered (shown older.now) (shown newer.old.items)) → IfErr result (Refuses (files_in files.now) partition (suc version)) }
     ensures cause { (before now : ℕ) → IfErr result (λ fault. DiskRises fault before now) }
 {
-    let change = delta_in(alloc, files, partition, version, older, newer)?;
-    Ok(merge(alloc, newer, change.as_slice())?)
+    let change = delta_in(alloc, files, partition, version, older, newer.as_slice())?;
+    *newer = merge(alloc, newer.as_slice(), change.as_slice())?;
+    Ok(())
 }
 
 /// What the files make after so many versions, as entries: what these give.
@@ -179,13 +180,13 @@ pub(crate) fn made_by<'a>(
     let (from, older) = newest_in(alloc, files, partition, versions)?;
     let mut newer = Vec::new(alloc);
     for version in from..versions {
-        newer = follow_in(
+        follow_in(
             alloc,
             files,
             partition,
             version as u32,
             older.as_slice(),
-            newer.as_slice(),
+            &mut newer,
         )?;
     }
     Ok(merge(alloc, older.as_slice(), newer.as_slice())?)

@@ -11,6 +11,9 @@ returns-in_err-entries-clause-cause g c =
     let p = err_from_is_err_and c.from_residual.result c.from_residual.ensures.1 in
     rw (p.1, p.2) (rises_apart c.in_err-entries.field-0.0 _ _ c.in_err-entries.ensures.cause)
 
+pub returns-clause-made : goal.returns-clause-made
+returns-clause-made g c = (given_by (shown c.in_ok-entries.entries.items), c.in_ok-entries.ensures.made)
+
 pub returns-clause-written : goal.returns-clause-written
 returns-clause-written g c tells =
     let text : c.in_ok-text.text ≡ snapshot_text c.args.partition c.args.version (given_by (shown c.in_ok-entries.entries.items)) =
