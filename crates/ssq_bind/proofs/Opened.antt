@@ -5,6 +5,7 @@ use Rattle.std.proofs.lemmas.List.{length-append}
 use Rattle.ssq_shape.specs.declared.bound.Aggregate.{Aggregate}
 use Rattle.ssq_shape.specs.declared.bound.Function.{Function as Called}
 use Rattle.ssq_shape.specs.declared.typed.Typed.{Typed}
+use Rattle.ssq_shape.specs.declared.typed.Typed.TheVariants as typed
 use Rattle.ssq_ast.specs.declared.expr.BinaryOp.{BinaryOp}
 use Rattle.ssq_ast.specs.declared.expr.Expr.{Expr}
 use Rattle.ssq_ast.specs.declared.expr.Expr.TheVariants as expr
@@ -18,7 +19,7 @@ use Rattle.ssq_check.specs.declared.scope.Within.{Within}
 use Rattle.ssq_check.specs.declared.scope.Within.TheVariants as within
 use Rattle.ssq_check.proofs.Places.{found_both}
 use Rattle.ssq_bind.specs.declared.context.Context.{Context}
-use Rattle.ssq_bind.specs.Value.{unary_value, null_value, binary_value, between_value, shift_of, shifted_or, function_of, numbered, given, count, value_of, aggregates_of, row_value}
+use Rattle.ssq_bind.specs.Value.{unary_value, null_value, binary_value, between_value, shift_of, shifted_or, function_of, numbered, given, count, literal, value_of, aggregates_of, row_value}
 
 length_both : {A : Type 0} (xs ys : List A) → length (xs ++ ys) ≡ length xs + length ys
 length_both xs ys = length-append xs ys
@@ -39,11 +40,10 @@ pub one_value : {E : Type 0} (r : Result Typed E) (f : Typed → Typed) (own x x
 one_value (Ok t) f own x x' opened p is = is ∙ (ap f p ∙ sym opened)
 one_value (Err e) f own x x' opened p is = tt
 
--- what a call made of two operands, or of the left one and a shift
-pub two_values : {E : Type 0} (r : Result Typed E) (o : BinaryOp) (own : Typed) (s s' : Option ℤ) (x x' y y' : Typed) → own ≡ shifted_or s' x' (binary_value o x' y') → s ≡ s' → x ≡ x' → y ≡ y' →
-    IfOk r (λ t. t ≡ shifted_or s x (binary_value o x y)) → IfOk r (λ t. t ≡ own)
-two_values (Ok t) o own s s' x x' y y' opened by p q is = is ∙ ((λ i. shifted_or (by i) (p i) (binary_value o (p i) (q i))) ∙ sym opened)
-two_values (Err e) o own s s' x x' y y' opened by p q is = tt
+-- what is made of two operands, or of the left one and a shift
+pub two_values : (t : Typed) (o : BinaryOp) (own : Typed) (s s' : Option ℤ) (x x' y y' : Typed) → own ≡ shifted_or s' x' (binary_value o x' y') → s ≡ s' → x ≡ x' → y ≡ y' →
+    t ≡ shifted_or s x (binary_value o x y) → t ≡ own
+two_values t o own s s' x x' y y' opened by p q is = is ∙ ((λ i. shifted_or (by i) (p i) (binary_value o (p i) (q i))) ∙ sym opened)
 
 -- an aggregate of an argument on rows
 pub found_given : {E : Type 0} (r : Result Typed E) (context : Context) (w : Within) (new old own : List Aggregate) (f : Function) (called : Called) (t : Typed) (x : Expr) →
@@ -82,6 +82,11 @@ module _ (context : Context) where
   grown w old mid n x x' few same is = ap length is ∙ (length_both old (aggregates_of context w x') ∙ (λ j. few j + (counted w x' ∙ ap (count w) same) j))
 
   module _ (w : Within) (n : ℕ) (own : Expr) where
+    -- what is written out
+    pub value_literal : {E : Type 0} (r : Result Typed E) (e : Expr) → own ≡ e → value_of context w n e ≡ typed.Constant (literal e) → IfOk r (λ t. t ≡ typed.Constant (literal own)) → IfOk r (λ t. t ≡ value_of context w n own)
+    value_literal (Ok t) e is same made = made ∙ (ap (λ (x : Expr). typed.Constant (literal x)) is ∙ (sym same ∙ ap (value_of context w n) (sym is)))
+    value_literal (Err error) e is same made = tt
+
     pub value_aggregate : (f : Function) (at : ℕ) (x : Expr) → own ≡ view.Aggregate f at x → value_of context w n own ≡ numbered w n
     unfolding value_of
     value_aggregate f at x is = rw (is, aggregate_is f at x) refl

@@ -3,6 +3,7 @@
 use Rattle.std.specs.Prelude.{ℕ, ◌+◌, ℤ, Bool, true, false, ◌&&◌, nat_lt, if◌then◌else◌, List, [], ◌∷◌, ◌++◌, length, position, Option, Some, None}
 use Rattle.std.specs.Int.{w64, int_wrapping_neg}
 use Rattle.std.specs.Str.{bytes_eq}
+use Rattle.ssq_value.specs.declared.value.Value.{Value}
 use Rattle.ssq_value.specs.declared.value.Value.TheVariants as value
 use Rattle.ssq_shape.specs.Boxes as box
 use Rattle.ssq_shape.specs.declared.bound.Aggregate.{Aggregate}
@@ -189,6 +190,14 @@ count w (expr.Between' p (only a) at q (only b) r (only c)) = count w a + (count
 count w e = 0
 
 -- ---- the whole
+
+-- the value that an expression writes out, NULL where it writes out none
+unfoldable pub literal : Expr → Value
+literal (expr.Number n at) = value.Int n
+literal (expr.Text text at) = value.Text text
+literal (expr.Truth truth at) = value.Truth truth
+literal (expr.Timestamp moment at) = value.Time moment.micros
+literal _ = value.Null
 
 -- The expression whose names are bound, with so many aggregates in front of it.
 unfoldable pub value_of : Context → Within → ℕ → Expr → Typed

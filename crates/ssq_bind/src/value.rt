@@ -1,7 +1,9 @@
 //! The typed expression that an expression is, and the aggregates in it.
 
-ghost use Rattle.std.specs.Prelude.{◌≡◌, ◌++◌, length, IfOk, OnOk};
-ghost use Rattle.ssq_bind.specs.Value.{or_zero, window_value, column_value, unary_value, null_value, compared_value, arithmetic_value, shifted_value, binary_value, between_value, shift_by, shift_of, shifted_or, function_of, numbered, given, value_of, aggregates_of, row_value};
+ghost use Rattle.std.specs.Prelude.{◌≡◌, ◌++◌, length, Some, None, IfOk, OnOk};
+ghost use Rattle.ssq_shape.specs.declared.bound.Function.TheVariants as function;
+ghost use Rattle.ssq_shape.specs.declared.typed.Typed.TheVariants as constant;
+ghost use Rattle.ssq_bind.specs.Value.{or_zero, window_value, column_value, unary_value, null_value, compared_value, arithmetic_value, shifted_value, binary_value, between_value, shift_by, shift_of, shifted_or, function_of, numbered, given, literal, value_of, aggregates_of, row_value};
 
 use crate::context::{Context, is_window_column, key_index, row_index, spot_of};
 use sqlite_items::Boxed;
@@ -121,33 +123,13 @@ fn operated(op: BinaryOp, a: Boxed<Typed>, b: Boxed<Typed>) -> Typed
     }
 }
 
-fn operator(
-    alloc: Global,
-    op: BinaryOp,
-    left: Boxed<Typed>,
-    right: Typed,
-) -> Result<Typed, AllocError>
-    ensures { IfOk result (λ typed. typed ≡ binary_value op left right) }
-{
-    let right = Boxed::new(alloc, right)?;
-    Ok(operated(op, left, right))
-}
-
-fn shifted_or(
-    alloc: Global,
-    shift: Option<i64>,
-    op: BinaryOp,
-    left: Boxed<Typed>,
-    right: Typed,
-) -> Result<Typed, AllocError>
-    ensures { IfOk result (λ typed. typed ≡ shifted_or shift left (binary_value op left right)) }
+/// An operator, or the shift that it is.
+fn shifted_or(shift: Option<i64>, op: BinaryOp, left: Boxed<Typed>, right: Boxed<Typed>) -> Typed
+    ensures { result ≡ shifted_or shift left (binary_value op left right) }
 {
     match shift {
-        Some(by) => {
-            drop(right);
-            Ok(shifted(left, by))
-        }
-        None => operator(alloc, op, left, right),
+        Some(by) => shifted(left, by),
+        None => operated(op, left, right),
     }
 }
 
@@ -212,6 +194,39 @@ fn numbered(
     }
 }
 
+/// The number of `COUNT(*)`.
+fn rows_counted(within: Within, found: &mut Sequence<Aggregate>) -> Result<Typed, AllocError>
+    ensures value { IfOk result (λ typed. typed ≡ numbered within (length found.old)) }
+    ensures found { OnOk result (found.new ≡ found.old ++ given within (record { function = function.Count; argument = None })) }
+{
+    let rows = Aggregate {
+        function: Function::Count,
+        argument: None,
+    };
+    numbered(within, found, rows)
+}
+
+#[tactic(auto, using(ssq_ast::proofs::Boxes::boxes), unfolding(crate::specs::Value::literal))]
+fn literal_of(value: &Expr) -> Result<Value, AllocError>
+    ensures { IfOk result (λ found. found ≡ literal value.now) }
+{
+    match value {
+        Expr::Number { value, .. } => Ok(Value::Int(*value)),
+        Expr::Text { value, .. } => Ok(Value::Text(value.clone()?)),
+        Expr::Truth { value, .. } => Ok(Value::Truth(*value)),
+        Expr::Timestamp { value, .. } => Ok(Value::Time(value.micros)),
+        _ => Ok(Value::Null),
+    }
+}
+
+/// The value that an expression writes out, NULL where it writes out none.
+fn literal(value: &Expr) -> Result<Typed, AllocError>
+    ensures { IfOk result (λ typed. typed ≡ constant.Constant (literal value.now)) }
+{
+    let literal = literal_of(value)?;
+    Ok(Typed::Constant(literal))
+}
+
 /// The expression whose names are bound. Its aggregates go behind those that were found in front of it.
 #[cycle(bound)]
 #[tactic(auto, using(ssq_ast::proofs::Boxes::boxes), unfolding(crate::specs::Value::value_of, crate::specs::Value::aggregates_of))]
@@ -226,35 +241,18 @@ pub(crate) fn value_of(
     ensures found { OnOk result (found.new ≡ found.old ++ aggregates_of context.now within value.now) }
 {
     match value {
-        Expr::Number { value, .. } => Ok(Typed::Constant(Value::Int(*value))),
-        Expr::Text { value, .. } => Ok(Typed::Constant(Value::Text(value.clone()?))),
-        Expr::Truth { value, .. } => Ok(Typed::Constant(Value::Truth(*value))),
-        Expr::Timestamp { value, .. } => Ok(Typed::Constant(Value::Time(value.micros))),
-        Expr::Interval { .. } => Ok(Typed::Constant(Value::Null)),
+        Expr::Number { .. } => literal(value),
+        Expr::Text { .. } => literal(value),
+        Expr::Truth { .. } => literal(value),
+        Expr::Timestamp { .. } => literal(value),
+        Expr::Interval { .. } => literal(value),
         Expr::Column { value } => column_value(alloc, context, within, value),
-        Expr::CountRows { .. } => numbered(
-            within,
-            found,
-            Aggregate {
-                function: Function::Count,
-                argument: None,
-            },
-        ),
+        Expr::CountRows { .. } => rows_counted(within, found),
         Expr::Aggregate {
             function,
             argument,
             ..
-        } => {
-            let argument = row_value(alloc, context, argument.get())?;
-            numbered(
-                within,
-                found,
-                Aggregate {
-                    function: function_of(*function),
-                    argument: Some(argument),
-                },
-            )
-        }
+        } => aggregate_of(alloc, context, within, found, *function, argument.get()),
         Expr::Unary { op, operand, .. } => {
             let operand = operand_of(alloc, context, within, found, operand.get())?;
             Ok(unary_value(*op, operand))
@@ -270,8 +268,8 @@ pub(crate) fn value_of(
             ..
         } => {
             let a = operand_of(alloc, context, within, found, left.get())?;
-            let b = value_of(alloc, context, within, found, right.get())?;
-            shifted_or(alloc, shift_of(*op, right.get()), *op, a, b)
+            let b = operand_of(alloc, context, within, found, right.get())?;
+            Ok(shifted_or(shift_of(*op, right.get()), *op, a, b))
         }
         Expr::Between {
             operand,
@@ -285,6 +283,27 @@ pub(crate) fn value_of(
             Ok(between_value(tested, least, most))
         }
     }
+}
+
+/// The number of an aggregate of an argument on rows.
+#[cycle(bound)]
+fn aggregate_of(
+    alloc: Global,
+    context: &Context,
+    within: Within,
+    found: &mut Sequence<Aggregate>,
+    function: ssq_ast::Function,
+    value: &Expr,
+) -> Result<Typed, AllocError>
+    ensures value { IfOk result (λ typed. typed ≡ numbered within (length found.old)) }
+    ensures found { OnOk result (found.new ≡ found.old ++ given within (record { function = function_of function; argument = Some (row_value context.now value.now) })) }
+{
+    let argument = row_value(alloc, context, value)?;
+    let aggregate = Aggregate {
+        function: function_of(function),
+        argument: Some(argument),
+    };
+    numbered(within, found, aggregate)
 }
 
 /// As [`value_of`], in a box.

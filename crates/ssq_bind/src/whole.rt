@@ -1,13 +1,15 @@
 //! The whole query, once it is bound.
 
-ghost use Rattle.std.specs.Prelude.{◌≡◌, ◌++◌, length, IfOk, IfErr, OnOk};
+ghost use Rattle.std.specs.Prelude.{◌≡◌, ◌++◌, length, map, IfOk, IfErr, OnOk};
 ghost use Rattle.std.specs.Option.{option_map};
+ghost use Rattle.ssq_ast.specs.Canonical.{canonical};
 ghost use Rattle.ssq_check.specs.Fault.{AreNone};
 ghost use Rattle.ssq_check.specs.Shown.{is_group};
 ghost use Rattle.ssq_check.specs.Whole.{QueryFaults, IsRefusedBy};
 ghost use Rattle.ssq_bind.specs.Bound.{context_of, shown_of, grouping_of, kept_by, shape_of, mode_of, filter_value, bound_of};
 ghost use Rattle.ssq_bind.specs.Limits.{HasLimits};
 ghost use Rattle.ssq_bind.specs.Places.{IsOfEach};
+ghost use Rattle.ssq_bind.specs.Shapes.{sort_key};
 ghost use Rattle.ssq_bind.specs.Sound.{IsSoundBound};
 ghost use Rattle.ssq_bind.specs.Streams.{streams_of};
 ghost use Rattle.ssq_bind.specs.Typed.{IsTyped};
@@ -19,10 +21,10 @@ use crate::join::joining_of;
 use crate::output::{having_of, outputs_of};
 use crate::stream::list;
 use crate::value::row_value;
-use ssq_ast::{Condition, Deduplicate, Join, Query, text};
+use ssq_ast::{Condition, Deduplicate, Join, Query, Select, text};
 use ssq_check::{Refusal, check, is_group, left_stream, right_stream, scope_of, within};
-use ssq_shape::{Aggregate, Bound, Grouping, Mode, Output, Shape, Stream, Typed};
-use ssq_value::{Sequence, texts_are_utf8};
+use ssq_shape::{Aggregate, Bound, Grouping, Mode, Output, Shape, SortKey, Stream, Typed};
+use ssq_value::{Sequence, Text, texts_are_utf8};
 use std::alloc::{AllocError, Global};
 
 fn streams_of(alloc: Global, query: &Query) -> Result<Sequence<Stream>, AllocError>
@@ -188,22 +190,29 @@ fn kept_of(
     Ok((outputs, shape))
 }
 
-/// The bound query, once its names are known.
+/// The bound query of what is read, its order and its filter.
 #[tactic(auto, unfolding(crate::specs::Bound::bound_of))]
-fn bound_in(alloc: Global, query: &Query, context: &Context) -> Result<Bound, AllocError>
+fn with_kept(
+    alloc: Global,
+    query: &Query,
+    context: &Context,
+    text: Text,
+    streams: Sequence<Stream>,
+    order: Sequence<SortKey>,
+    filter: Option<Typed>,
+) -> Result<Bound, AllocError>
     requires context { context.now ≡ context_of query.now }
+    requires text { text ≡ canonical query.now }
+    requires streams { streams ≡ streams_of query.now }
+    requires order { order ≡ map (sort_key query.now.select.items) query.now.select.order }
+    requires filter { filter ≡ option_map (filter_value context.now) query.now.select.filter }
     ensures { IfOk result (λ bound. bound ≡ bound_of query.now) }
 {
-    let select = &query.select;
-    let text = text(alloc, query)?;
-    let streams = streams_of(alloc, query)?;
-    let order = order_by(alloc, select.items.as_slice(), select.order.as_slice())?;
-    let filter = filter_of(alloc, context, &select.filter)?;
     match kept_of(alloc, query, context) {
         Ok((outputs, shape)) => Ok(Bound {
             text,
             streams,
-            mode: mode_of(select.mode),
+            mode: mode_of(query.select.mode),
             shape,
             filter,
             outputs,
@@ -214,6 +223,42 @@ fn bound_in(alloc: Global, query: &Query, context: &Context) -> Result<Bound, Al
             Err(error)
         }
     }
+}
+
+/// The bound query of what is read and its order.
+fn with_filter(
+    alloc: Global,
+    query: &Query,
+    context: &Context,
+    text: Text,
+    streams: Sequence<Stream>,
+    order: Sequence<SortKey>,
+) -> Result<Bound, AllocError>
+    requires context { context.now ≡ context_of query.now }
+    requires text { text ≡ canonical query.now }
+    requires streams { streams ≡ streams_of query.now }
+    requires order { order ≡ map (sort_key query.now.select.items) query.now.select.order }
+    ensures { IfOk result (λ bound. bound ≡ bound_of query.now) }
+{
+    let filter = filter_of(alloc, context, &query.select.filter)?;
+    with_kept(alloc, query, context, text, streams, order, filter)
+}
+
+fn order_of(alloc: Global, select: &Select) -> Result<Sequence<SortKey>, AllocError>
+    ensures { IfOk result (λ order. order ≡ map (sort_key select.now.items) select.now.order) }
+{
+    order_by(alloc, select.items.as_slice(), select.order.as_slice())
+}
+
+/// The bound query, once its names are known.
+fn bound_in(alloc: Global, query: &Query, context: &Context) -> Result<Bound, AllocError>
+    requires context { context.now ≡ context_of query.now }
+    ensures { IfOk result (λ bound. bound ≡ bound_of query.now) }
+{
+    let text = text(alloc, query)?;
+    let streams = streams_of(alloc, query)?;
+    let order = order_of(alloc, &query.select)?;
+    with_filter(alloc, query, context, text, streams, order)
 }
 
 /// The bound query that a query is: a function of the query, also of one that breaks a rule.
