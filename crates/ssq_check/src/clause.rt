@@ -1,6 +1,6 @@
 //! The clauses of a query: the first of the rules that each of them breaks.
 
-ghost use Rattle.std.specs.Prelude.{◌≡◌, ◌++◌, ◌*ℤ◌, pos, int_lt, IfOk, OnOk};
+ghost use Rattle.std.specs.Prelude.{◌≡◌, ◌++◌, ◌*ℤ◌, pos, int_lt, [], None, IfOk, OnOk};
 ghost use Rattle.std.specs.List.{flat_map};
 ghost use Rattle.ssq_check.specs.Fault.{FirstOf};
 ghost use Rattle.ssq_check.specs.Lists.{Each, Where, has_name};
@@ -320,6 +320,20 @@ impl Checked<IndexSet<Text>> for OrderBy {
     }
 }
 
+fn order_fault(
+    alloc: Global,
+    items: &[Item],
+    orders: &[OrderBy],
+    names: &mut Names,
+) -> Result<Option<BindFault>, AllocError>
+    requires seen { names.old.seen.keys ≡ [] }
+    requires double { names.old.double ≡ None }
+    ensures { IfOk result (FirstOf (Each (OrderFaults items.now) orders.now)) }
+{
+    names.take_all(alloc, items)?;
+    first_in(alloc, &names.seen, orders)
+}
+
 /// ORDER BY.
 pub(crate) fn check_order(
     alloc: Global,
@@ -329,6 +343,7 @@ pub(crate) fn check_order(
     ensures { IfOk result (FirstOf (Each (OrderFaults items.now) orders.now)) }
 {
     let mut names = Names::none(alloc);
-    names.take_all(alloc, items)?;
-    first_in(alloc, &names.seen, orders)
+    let order = order_fault(alloc, items, orders, &mut names);
+    drop(names);
+    order
 }

@@ -4,7 +4,7 @@ ghost use Rattle.std.specs.Prelude.{◌≡◌, ℕ, None, [], map, not, slice_ge
 ghost use Rattle.std.specs.List.{flat_map};
 ghost use Rattle.ssq_check.specs.Fault.{FirstOf, sooner};
 ghost use Rattle.ssq_check.specs.Broken.{Rule};
-ghost use Rattle.ssq_check.specs.Lists.{has_name, with_name, item_name, double_at, AreNoted, Where, Doubled, Past, Beyond};
+ghost use Rattle.ssq_check.specs.Lists.{has_name, with_name, item_name, names_from, double_at, Where, Doubled, Past, Beyond};
 ghost use Rattle.ssq_check.specs.Clauses.{ident_name, ident_place, group_columns};
 
 use crate::fault::{BindFault, Cause, sooner};
@@ -220,27 +220,33 @@ impl Names {
         Ok(())
     }
 
-    /// Takes the names of a list.
+    /// Takes the names of a list, and tells the first that one in front of it has.
     pub(crate) fn take_all<N: Named>(
         &mut self,
         alloc: Global,
         items: &[N],
-    ) -> Result<(), AllocError>
+    ) -> Result<Option<BindFault>, AllocError>
         requires seen { self.old.seen.keys ≡ [] }
         requires double { self.old.double ≡ None }
-        ensures { OnOk result (AreNoted N.name N.named_at items.now self.new.double self.new.seen.keys) }
+        ensures first { IfOk result (FirstOf (Doubled N.name N.named_at [] items.now)) }
+        ensures names { OnOk result (self.new.seen.keys ≡ names_from N.name [] items.now) }
     {
         for item in items {
             self.take(alloc, item.name(), item.named_at())?;
         }
-        Ok(())
+        Ok(self.double)
     }
 
-    /// Takes the columns of GROUP BY.
-    fn take_columns(&mut self, alloc: Global, items: &[Group]) -> Result<(), AllocError>
+    /// Takes the columns of GROUP BY, and tells the first that stands there for a second time.
+    fn take_columns(
+        &mut self,
+        alloc: Global,
+        items: &[Group],
+    ) -> Result<Option<BindFault>, AllocError>
         requires seen { self.old.seen.keys ≡ [] }
         requires double { self.old.double ≡ None }
-        ensures { OnOk result (AreNoted ident_name ident_place (flat_map group_columns items.now) self.new.double self.new.seen.keys) }
+        ensures { IfOk result (FirstOf
+            (Doubled ident_name ident_place [] (flat_map group_columns items.now))) }
     {
         for item in items {
             match item {
@@ -248,7 +254,7 @@ impl Names {
                 Group::Window(_) => {}
             }
         }
-        Ok(())
+        Ok(self.double)
     }
 }
 
@@ -260,8 +266,9 @@ pub(crate) fn first_double<N: Named>(
     ensures { IfOk result (FirstOf (Doubled N.name N.named_at [] items.now)) }
 {
     let mut names = Names::none(alloc);
-    names.take_all(alloc, items)?;
-    Ok(names.double)
+    let double = names.take_all(alloc, items);
+    drop(names);
+    double
 }
 
 /// The first column of GROUP BY that stands there for a second time.
@@ -273,8 +280,9 @@ pub(crate) fn first_double_column(
         (Doubled ident_name ident_place [] (flat_map group_columns items.now))) }
 {
     let mut names = Names::none(alloc);
-    names.take_columns(alloc, items)?;
-    Ok(names.double)
+    let double = names.take_columns(alloc, items);
+    drop(names);
+    double
 }
 
 /// A rule that is broken by what stands at a place, where something stands there.

@@ -1,8 +1,9 @@
-use Rattle.std.proofs.Common.{◌∙◌, arith, ap, subst, sym, refl, take, List}
+use Rattle.std.proofs.Common.{◌∙◌, arith, ap, subst, sym, refl, take, [], List}
 use Rattle.std.specs.List.{flat_map}
 use Rattle.std.proofs.lemmas.List.{take_all as take_whole}
 use Rattle.ssq_ast.specs.declared.expr.Ident.{Ident}
-use Rattle.ssq_check.specs.Lists.{AreNoted}
+use Rattle.ssq_check.specs.Fault.{FirstOf}
+use Rattle.ssq_check.specs.Lists.{AreNoted, Doubled}
 use Rattle.ssq_check.specs.Clauses.{ident_name, ident_place, group_columns}
 use Rattle.ssq_check.proofs.Lists.{take_one, flat_one, flat_none, noted_none, noted_more}
 use Rattle.ssq_check.proofs.list.Names.take_columns.Goals as goal
@@ -29,4 +30,4 @@ loop-item-preserved c =
 
 pub returns : goal.returns
 returns c =
-    subst (λ xs. AreNoted ident_name ident_place (flat_map group_columns xs) c.loop-item.self.double c.loop-item.self.seen.keys) (take_whole c.loop-item.item-index c.args.items.now (omega (arith, c.loop-item-test.false))) c.loop-item.invariant
+    subst (λ xs. FirstOf (Doubled ident_name ident_place [] (flat_map group_columns xs)) c.loop-item.self.double) (take_whole c.loop-item.item-index c.args.items.now (omega (arith, c.loop-item-test.false))) c.loop-item.invariant.first

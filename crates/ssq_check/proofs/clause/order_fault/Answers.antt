@@ -6,7 +6,7 @@ use Rattle.ssq_check.specs.Fault.{FirstOf}
 use Rattle.ssq_check.specs.Broken.{Rule}
 use Rattle.ssq_check.specs.Lists.{Each, has_name}
 use Rattle.ssq_check.proofs.Outputs.{are_outputs}
-use Rattle.ssq_check.proofs.clause.check_order.Goals as goal
+use Rattle.ssq_check.proofs.clause.order_fault.Goals as goal
 
 pub returns : goal.returns
 returns c =
