@@ -9,7 +9,7 @@ use Rattle.ssq_check.specs.declared.fault.Cause.TheVariants as cause
 use Rattle.ssq_check.specs.declared.fault.BindFault.{BindFault}
 use Rattle.ssq_check.specs.Fault.{Faults, Answers, FirstOf, sooner}
 use Rattle.ssq_check.specs.Broken.{Nothing, Either, Rule}
-use Rattle.ssq_check.specs.Lists.{Each, has_name, with_name, names_from, double_at, AreNoted, Doubled, fault_in}
+use Rattle.ssq_check.specs.Lists.{Each, has_name, with_name, names_from, double_at, Doubled, fault_in}
 use Rattle.ssq_check.proofs.First.{none_either, first_left, first_sooner}
 use Rattle.ssq_check.proofs.Nodes.{first_rule, no_rule}
 
@@ -38,6 +38,11 @@ none_before P o h = first_same (Either Nothing P) P o (λ c at. drop_left c at) 
     drop_left : (c : Cause) (at : ℕ) → Either Nothing P c at → P c at
     drop_left c at (inl never) = absurd never
     drop_left c at (inr p) = p
+
+-- what is known of the names of these: the first that one in front of it has, and which there are
+pub record AreNoted {A : Type 0} (name : A → List ℕ) (place : A → ℕ) (xs : List A) (double : Option BindFault) (seen : List (List ℕ)) : Type 0 where
+  pub first : FirstOf (Doubled name place [] xs) double
+  pub names : seen ≡ names_from name [] xs
 
 double_first : (at : ℕ) (there : Bool) → FirstOf (Rule cause.DoubleName at (there ≡ true)) (double_at at there)
 double_first at true = first_rule cause.DoubleName at (true ≡ true) refl

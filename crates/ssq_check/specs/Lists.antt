@@ -9,7 +9,7 @@ use Rattle.ssq_check.specs.declared.fault.Cause.TheVariants as cause
 use Rattle.ssq_check.specs.declared.fault.BindFault.{BindFault}
 use Rattle.ssq_check.specs.declared.scope.Scope.{Scope}
 use Rattle.ssq_check.specs.declared.scope.Within.{Within}
-use Rattle.ssq_check.specs.Fault.{Faults, FirstOf}
+use Rattle.ssq_check.specs.Fault.{Faults}
 use Rattle.ssq_check.specs.Scope.{column_kind}
 use Rattle.ssq_check.specs.Broken.{Nothing, Either, Rule, Told, FaultsIn}
 
@@ -44,11 +44,6 @@ module _ {A : Type 0} (name : A → List ℕ) (place : A → ℕ) where
 abbrev pub double_at : ℕ → Bool → Option BindFault
 double_at at false = None
 double_at at true = Some (record { at = at; cause = cause.DoubleName })
-
--- what is known of the names of these: the first that one in front of it has, and which there are
-pub record AreNoted {A : Type 0} (name : A → List ℕ) (place : A → ℕ) (xs : List A) (double : Option BindFault) (seen : List (List ℕ)) : Type 0 where
-  pub first : FirstOf (Doubled name place [] xs) double
-  pub names : seen ≡ names_from name [] xs
 
 -- something stands behind the first so many: a rule that is broken by it, where it stands
 abbrev pub Past : Cause → ℕ → List ℕ → Faults

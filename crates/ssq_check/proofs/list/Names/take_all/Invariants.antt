@@ -1,5 +1,5 @@
 use Rattle.std.proofs.Common.{take}
-use Rattle.ssq_check.specs.Lists.{AreNoted}
+use Rattle.ssq_check.proofs.Lists.{AreNoted}
 use Rattle.ssq_check.proofs.list.Names.take_all.Given as goal
 
 abbrev pub invariant-loop-item : goal.invariant-loop-item

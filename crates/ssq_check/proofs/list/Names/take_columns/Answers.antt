@@ -3,9 +3,9 @@ use Rattle.std.specs.List.{flat_map}
 use Rattle.std.proofs.lemmas.List.{take_all as take_whole}
 use Rattle.ssq_ast.specs.declared.expr.Ident.{Ident}
 use Rattle.ssq_check.specs.Fault.{FirstOf}
-use Rattle.ssq_check.specs.Lists.{AreNoted, Doubled}
+use Rattle.ssq_check.specs.Lists.{Doubled}
 use Rattle.ssq_check.specs.Clauses.{ident_name, ident_place, group_columns}
-use Rattle.ssq_check.proofs.Lists.{take_one, flat_one, flat_none, noted_none, noted_more}
+use Rattle.ssq_check.proofs.Lists.{AreNoted, take_one, flat_one, flat_none, noted_none, noted_more}
 use Rattle.ssq_check.proofs.list.Names.take_columns.Goals as goal
 use Rattle.ssq_check.proofs.list.Names.take_columns.Goals.{in-Column+in_ok-take-in-Column, in-Window}
 

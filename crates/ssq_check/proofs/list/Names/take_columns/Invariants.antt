@@ -1,6 +1,6 @@
 use Rattle.std.proofs.Common.{take}
 use Rattle.std.specs.List.{flat_map}
-use Rattle.ssq_check.specs.Lists.{AreNoted}
+use Rattle.ssq_check.proofs.Lists.{AreNoted}
 use Rattle.ssq_check.specs.Clauses.{ident_name, ident_place, group_columns}
 use Rattle.ssq_check.proofs.list.Names.take_columns.Given as goal
 
