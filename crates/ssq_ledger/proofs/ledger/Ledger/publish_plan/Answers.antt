@@ -1,4 +1,5 @@
-use Rattle.std.proofs.Common.{◌≡◌, ◌≤◌, ◌<◌, sym, ap, ◌∙◌, refl, subst, inl, inr, le_refl, arith}
+use Rattle.std.proofs.Common.{◌≡◌, ◌≤◌, ◌<◌, sym, ap, ◌∙◌, refl, subst, inl, inr, le_refl, arith, [], ◌∷◌}
+use Rattle.ssq_outside.specs.Faults.{Rises}
 use Rattle.ssq_outside.specs.declared.name.Name.TheVariants as name
 use Rattle.ssq_core.specs.Course.{Cuts}
 use Rattle.ssq_core.specs.Machine.{nothing, publishes}
@@ -7,7 +8,7 @@ use Rattle.ssq_board.specs.declared.front.Cause.TheVariants as cause
 use Rattle.ssq_board.specs.declared.front.Entry.TheVariants as entry
 use Rattle.ssq_board.specs.Core.{HasCause, after, cuts_by}
 use Rattle.ssq_board.proofs.Needs.{need_bound}
-use Rattle.ssq_ledger.specs.Shown.{Opening, Shown, cuts_of}
+use Rattle.ssq_ledger.specs.Shown.{Opening, Shown, cuts_of, did}
 use Rattle.ssq_ledger.proofs.Ledgers.{held, few_tasks, may_inside, one, stop_room, pushed}
 use Rattle.ssq_ledger.proofs.Shelves.{halted_both, made_room, plan_shelved}
 use Rattle.ssq_ledger.proofs.Moves.{right_inside, tried_from, went_from}
@@ -94,3 +95,24 @@ invariant_of-self-in-Err-publish g c =
     halted_both _ _ _ _ _ _ _ _ c.self.invariant.0 _ _ (made_room _ _ _ _ _ _ _ _ _ c.self.invariant.1 c.make_plan_room.ensures.names (le_refl s.entries.cap)) _ _ _ _ _ _ cause.DiskFault m.0 tt
     (λ t. (publishes (name.Plan c.front-epoch.result.planned) _, inr (entry.Plan c.front-epoch.result.planned, m, refl, refl), tried_from (name.Plan c.front-epoch.result.planned) _ _ _ _ _ (c.seal.ensures.same t.0) (c.in-Ok.ensures.sealed t.0 ∙ c.as_slice.ensures ∙ right t) (c.publish.ensures.steps t.0)))
     c.halt-in-Err-publish.ensures.board c.make_plan_room.ensures.items c.halt-in-Err-publish.ensures.items kept kept c.halt-in-Err-publish.ensures.capacity
+
+pub returns-in_default-clause-stopped : goal.returns-in_default-clause-stopped
+returns-in_default-clause-stopped g c =
+    let s = c.self.inside in
+    let items = pushed (entry.Stop cause.NoMemory) _ _ _ c.halt.ensures.items c.make_plan_room.ensures.items in (
+      (λ i. record { opening = s.opening.value; opened = s.opened.value; scope = s.scope; disk = s.disk; core = c.halt.ensures.board i; history = items i })
+          ∙ ap (λ (x : Shown g.row.D.Denot g.row.O.Denot). did x s.disk (entry.Stop cause.NoMemory ∷ [])) c.self.view_is,
+      tt,
+    )
+
+pub returns-in-Err-publish-clause-stopped : goal.returns-in-Err-publish-clause-stopped
+returns-in-Err-publish-clause-stopped g c =
+    let s = c.self.inside in
+    let items = pushed (entry.Stop cause.DiskFault) _ _ _ c.halt-in-Err-publish.ensures.items c.make_plan_room.ensures.items in (
+      (λ i. record { opening = s.opening.value; opened = s.opened.value; scope = s.scope; disk = c.publish.new.self; core = c.halt-in-Err-publish.ensures.board i; history = items i })
+          ∙ ap (λ (x : Shown g.row.D.Denot g.row.O.Denot). did x c.publish.new.self (entry.Stop cause.DiskFault ∷ [])) c.self.view_is,
+      subst (λ (x : Shown g.row.D.Denot g.row.O.Denot). Rises (g.D.Disk.faults x.disk) (g.D.Disk.faults c.publish.new.self)) c.self.view_is
+          (let first : g.D.Disk.faults s.disk ≤ g.D.Disk.faults c.seal.new.disk = c.seal.ensures.counted in
+          let rises : Rises (g.D.Disk.faults c.seal.new.disk) (g.D.Disk.faults c.publish.new.self) = c.in-Err-publish.ensures.cause in
+          omega (arith, first, rises)),
+    )
