@@ -2,7 +2,7 @@ use Rattle.std.proofs.Common.{◌<◌, ap, length, arith, refl}
 use Rattle.std.proofs.lemmas.List.{get_or_default}
 use Rattle.ssq_plans.specs.declared.part.PartEnd.{PartEnd}
 use Rattle.ssq_desk.specs.Room.{BeginsAt}
-use Rattle.ssq_desk.proofs.Loops.{one_more, all_done}
+use Rattle.ssq_desk.proofs.Loops.{none_done, one_more, all_done}
 use Rattle.ssq_desk.proofs.room.begin_at.Goals as goal
 
 pub loop-at-preserved : goal.loop-at-preserved
@@ -20,3 +20,6 @@ loop-at-preserved g c =
 pub returns : goal.returns
 returns g c =
     (c.loop-at.auto.part_logs, all_done (BeginsAt c.args.ends.now) c.args.part_logs.now c.loop-at.part_logs c.loop-at.at c.loop-at.invariant (omega (arith, c.loop-at-test.false, c.loop-at.auto.part_logs)))
+
+pub loop-at-init : goal.loop-at-init
+loop-at-init g c = none_done (BeginsAt c.args.ends.now) c.args.part_logs.now
