@@ -1,5 +1,6 @@
 -- The next plan, and why there is none.
 use Rattle.std.proofs.Common.{◌≡◌, ◌≤◌, ◌+◌, ℕ, ℤ, false, true≢false, Option, Some, None, if◌then◌else◌, refl, sym, ap, ◌∙◌, subst, arith}
+use Rattle.ssq_outside.specs.Faults.{Rises}
 use Rattle.ssq_outside.specs.declared.disk.DiskError.{DiskError}
 use Rattle.ssq_outside.specs.declared.disk.DiskError.TheVariants as disk
 use Rattle.ssq_outside.specs.declared.name.Name.TheVariants as name
@@ -15,7 +16,7 @@ use Rattle.ssq_board.specs.Shown.{IsSound}
 use Rattle.ssq_board.proofs.Lists.{nat_lt-is, nat_lt-not}
 use Rattle.ssq_board.proofs.Readies.{full_is, past}
 use Rattle.ssq_board.proofs.Sounds.{step_sound}
-use Rattle.ssq_ledger.specs.Shown.{IsNoPlan, IsUnplanned, TellsPlans}
+use Rattle.ssq_ledger.specs.Shown.{HasRisen, IsNoPlan, IsUnplanned, TellsPlans}
 
 -- the next cut changes none before it
 before_next : (cuts : Cuts) (n : ℕ) (ends : Ends) (e : ℕ) → e ≤ n → cuts e ≡ extended cuts n ends e
@@ -37,6 +38,11 @@ plan_true job r c cuts w tells is =
 pub seal_may : (r : Scope) (c : Core) (e : DiskError) → HasCause r c (cause_of_disk e)
 seal_may r c disk.Fault = tt
 seal_may r c disk.NoMemory = tt
+
+-- and where the disk failed at it, the disk counted that
+pub seal_risen : (e : DiskError) (before now : ℕ) → (e ≡ disk.Fault → Rises before now) → HasRisen (cause_of_disk e) before now
+seal_risen disk.Fault before now rises = rises refl
+seal_risen disk.NoMemory before now rises = tt
 
 pub planned_sound : (r : Scope) (c n : Core) (e : ℕ) → May r c (entry.Plan e) → IsSound r c → n ≡ after r c (entry.Plan e) → IsSound r n
 planned_sound r c n e may d is = subst (IsSound r) (sym is) (step_sound r c (entry.Plan e) may d)

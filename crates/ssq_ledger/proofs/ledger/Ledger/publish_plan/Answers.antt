@@ -1,18 +1,19 @@
-use Rattle.std.proofs.Common.{◌≡◌, ◌≤◌, ◌<◌, sym, ap, ◌∙◌, refl, subst, inl, inr, le_refl, arith, [], ◌∷◌}
+use Rattle.std.proofs.Common.{◌≡◌, ◌≤◌, ◌<◌, sym, ap, ◌∙◌, refl, subst, inl, inr, le_refl, arith, [], ◌∷◌, Err, ◌++◌, ℕ}
 use Rattle.ssq_outside.specs.Faults.{Rises}
 use Rattle.ssq_outside.specs.declared.name.Name.TheVariants as name
 use Rattle.ssq_core.specs.Course.{Cuts}
 use Rattle.ssq_core.specs.Machine.{nothing, publishes}
 use Rattle.ssq_board.specs.declared.front.Front.{Front}
+use Rattle.ssq_board.specs.declared.front.Cause.{Cause}
 use Rattle.ssq_board.specs.declared.front.Cause.TheVariants as cause
 use Rattle.ssq_board.specs.declared.front.Entry.TheVariants as entry
 use Rattle.ssq_board.specs.Core.{HasCause, after, cuts_by}
 use Rattle.ssq_board.proofs.Needs.{need_bound}
-use Rattle.ssq_ledger.specs.Shown.{Opening, Shown, cuts_of, did}
+use Rattle.ssq_ledger.specs.Shown.{Opening, Shown, HasRisen, cuts_of, did}
 use Rattle.ssq_ledger.proofs.Ledgers.{held, few_tasks, may_inside, one, stop_room, pushed}
 use Rattle.ssq_ledger.proofs.Shelves.{halted_both, made_room, plan_shelved}
 use Rattle.ssq_ledger.proofs.Moves.{right_inside, tried_from, went_from}
-use Rattle.ssq_ledger.proofs.Planning.{planned_sound, seal_may}
+use Rattle.ssq_ledger.proofs.Planning.{planned_sound, seal_may, seal_risen}
 use Rattle.ssq_ledger.proofs.ledger.Ledger.publish_plan.Goals as goal
 
 -- the cuts with those of the next epoch
@@ -116,3 +117,25 @@ returns-in-Err-publish-clause-stopped g c =
           let rises : Rises (g.D.Disk.faults c.seal.new.disk) (g.D.Disk.faults c.publish.new.self) = c.in-Err-publish.ensures.cause in
           omega (arith, first, rises)),
     )
+
+pub returns-in-Err-clause-stopped : goal.returns-in-Err-clause-stopped
+returns-in-Err-clause-stopped g c =
+    let s = c.self.inside in
+    let f = c.from-cause.result in
+    let now = c.seal.new.disk in
+    let items = pushed (entry.Stop f) _ _ _ c.halt-in-Err.ensures.items c.make_plan_room.ensures.items in (
+      (λ i. record { opening = s.opening.value; opened = s.opened.value; scope = s.scope; disk = now; core = c.halt-in-Err.ensures.board i; history = items i })
+          ∙ ap (λ (x : Shown g.row.D.Denot g.row.O.Denot). did x now (entry.Stop f ∷ [])) c.self.view_is,
+      subst (λ (x : Shown g.row.D.Denot g.row.O.Denot). HasRisen f (g.D.Disk.faults x.disk) (g.D.Disk.faults now)) c.self.view_is
+          (subst (λ (h : Cause). HasRisen h (g.D.Disk.faults s.disk) (g.D.Disk.faults now)) (sym c.from-cause.ensures)
+          (seal_risen c.in-Err.error (g.D.Disk.faults s.disk) (g.D.Disk.faults now) (λ e. c.in-Err.ensures.cause (ap Err e)))),
+    )
+
+pub returns-in-Ok-publish-clause-done : goal.returns-in-Ok-publish-clause-done
+returns-in-Ok-publish-clause-done g c =
+    let s = c.self.inside in
+    let epoch = ap (λ (f : Front). f.planned) c.front-epoch.ensures in
+    let board = subst (λ (x : Shown g.row.D.Denot g.row.O.Denot). c.args.next.board ≡ after x.scope x.core (entry.Plan x.core.front.planned)) (sym c.self.view_is) c.requires.board in
+    let items = pushed (entry.Plan c.front-epoch.result.planned) _ _ _ c.push_reserved.ensures.items c.make_plan_room.ensures.items ∙ ap (λ (n : ℕ). s.entries.items ++ entry.Plan n ∷ []) epoch in
+    (λ i. record { opening = s.opening.value; opened = s.opened.value; scope = s.scope; disk = c.publish.new.self; core = board i; history = items i })
+    ∙ ap (λ (x : Shown g.row.D.Denot g.row.O.Denot). did x c.publish.new.self (entry.Plan x.core.front.planned ∷ [])) c.self.view_is
