@@ -5,4 +5,3 @@ pub mod Meeting
 pub mod Changing
 pub mod Turning
 pub mod Overs
-pub mod Moves

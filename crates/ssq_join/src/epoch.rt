@@ -8,7 +8,6 @@ ghost use Rattle.ssq_meaning.specs.Operator.{join};
 ghost use Rattle.ssq_shape.specs.declared.bound.Joining.{Joining as Joins};
 ghost use Rattle.ssq_step.specs.Shown.{ArePrintable};
 ghost use Rattle.ssq_step.specs.Steps.{IsCause, IsStep};
-ghost use Rattle.ssq_join.specs.Moves.{IsMove};
 ghost use Rattle.ssq_join.specs.Steps.{Given, KeepsStreams};
 
 use crate::changed::changed;
@@ -16,17 +15,10 @@ use crate::over::take_all_over;
 use crate::taking::{Taken, take_rows};
 use ssq_meaning::{FedRow, joined_rows_are_told_by_what_is_kept, kept_rows_are_listed};
 use ssq_shape::{Bound, Joining, Shape};
-use ssq_step::{Closing, Shown, StepFault, Stepped};
+use ssq_step::{Closing, StepFault, Stepped};
 use ssq_value::keys_are_apart;
 use ssq_version::{Change, StateMap};
 use std::alloc::{AllocError, Global};
-
-/// What an epoch comes to.
-#[derive(Drop)]
-struct Moved {
-    change: Change,
-    found: Shown,
-}
 
 fn time_fits(time: i64)
     ensures { FitsSigned w64 time }
@@ -39,34 +31,6 @@ fn watermark_fits(now: Option<i64>)
     if let Some(now) = now {
         time_fits(now);
     }
-}
-
-/// What an epoch changes, what it shows, and on which key it overflows.
-fn move_rows(
-    alloc: Global,
-    bound: &Bound,
-    joining: &Joining,
-    state: &StateMap,
-    closing: &Closing,
-    rows: &[FedRow],
-    now: Option<i64>,
-) -> Result<Moved, AllocError>
-    requires { All IsFitRow rows.now }
-    ensures moved { (old : List Fed) (before : Option ℤ) → Given bound.now joining.now state.now closing.now old rows.now before now →
-        IfOk result (IsMove bound.now joining.now state.now old rows.now before now) }
-    ensures printable { IfOk result (λ moved. ArePrintable moved.found.rows.items) }
-{
-    keys_are_apart();
-    watermark_fits(now);
-    kept_rows_are_listed();
-    joined_rows_are_told_by_what_is_kept();
-    let over = closing.past(alloc, now)?;
-    let keys = over.as_slice();
-    let mut taken = take_rows(alloc, bound, joining, state, rows)?;
-    take_all_over(alloc, bound, joining, state, keys, &mut taken.found)?;
-    let Taken { found, met, fresh } = taken;
-    let change = changed(alloc, state, fresh, &met, keys)?;
-    Ok(Moved { change, found })
 }
 
 /// The step of a join.
@@ -86,9 +50,17 @@ fn step_rows(
         IfErr result (IsCause (join bound.now joining.now) old rows.now before now) }
     ensures printable { IfOk result (λ stepped. ArePrintable stepped.rows.items) }
 {
-    let moved = move_rows(alloc, bound, joining, state, closing, rows, now)?;
-    let Moved { change, found } = moved;
+    keys_are_apart();
+    watermark_fits(now);
+    kept_rows_are_listed();
+    joined_rows_are_told_by_what_is_kept();
+    let over = closing.past(alloc, now)?;
+    let keys = over.as_slice();
+    let mut taken = take_rows(alloc, bound, joining, state, rows)?;
+    take_all_over(alloc, bound, joining, state, keys, &mut taken.found)?;
+    let Taken { found, met, fresh } = taken;
     let rows = found.into_rows()?;
+    let change = changed(alloc, state, fresh, &met, keys)?;
     Ok(Stepped { change, rows })
 }
 
