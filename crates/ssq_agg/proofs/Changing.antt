@@ -1,7 +1,6 @@
 -- The change of a step leads to the state over its rows too.
 use Rattle.std.proofs.Common.{◌≡◌, ◌++◌, ℕ, ℤ, Some, None, List, Option, Bool, true, false, refl, ap, sym, ◌∙◌, length}
 use Rattle.std.specs.Prelude.{option_map}
-use Rattle.std.specs.HashMap.{get}
 use Rattle.std.specs.List.{AllByRecursion}
 use Rattle.std.proofs.lemmas.List.Elements.{recursion_from_All}
 use Rattle.ssq_value.specs.Key.{keys_of}
@@ -10,14 +9,15 @@ use Rattle.ssq_shape.specs.declared.bound.Bound.{Bound}
 use Rattle.ssq_shape.specs.declared.bound.Grouping.{Grouping}
 use Rattle.ssq_meaning.specs.FedRows.{FedRow}
 use Rattle.ssq_meaning.specs.declared.total.Total.{Total}
-use Rattle.ssq_meaning.specs.Group.{is_same, kept}
+use Rattle.ssq_meaning.specs.Group.{kept}
 use Rattle.ssq_meaning.specs.GroupLaws.{held}
 use Rattle.ssq_meaning.specs.Meaning.{Values}
 use Rattle.ssq_meaning.specs.Totals.{totals_bytes}
-use Rattle.ssq_agg.specs.declared.epoch.Moved.{Moved}
 use Rattle.ssq_step.specs.Indexing.{Timed}
+use Rattle.ssq_agg.specs.declared.kept.Group.{Group}
+use Rattle.ssq_agg.specs.Groups.{Held}
 use Rattle.ssq_agg.specs.Readable.{IsKey}
-use Rattle.ssq_agg.specs.Steps.{Given, IsKept, IsMove, Says, after_if, is_among, said_if}
+use Rattle.ssq_agg.specs.Steps.{Given, IsKept, Says, after_if, is_among, said_if}
 use Rattle.ssq_agg.proofs.Given.{AreFound, kept_at, kept_key, old_rows, spelled_rows}
 
 after_is : (o : Option (List Total)) (b : Bool) (own : Option (List Total)) → option_map totals_bytes (after_if o b own) ≡ value_after (said_if o b) (option_map totals_bytes own)
@@ -25,8 +25,9 @@ after_is (Some totals) b own = refl
 after_is None true own = refl
 after_is None false own = refl
 
-module _ (query : Bound) (grouping : Grouping) (state : State) (closing : List Timed) (old new : List FedRow) (before now : Option ℤ) (moved : Moved) (change : Change)
-    (found : AreFound) (given : Given query grouping state closing old new before now) (is : IsMove query grouping old new before now moved) (says : Says (length grouping.keys) (get is_same moved.touched) moved.closed.items change) where
+module _ (query : Bound) (grouping : Grouping) (state : State) (closing : List Timed) (old new : List FedRow) (before now : Option ℤ) (touched : Held) (closed : List Group) (change : Change)
+    (found : AreFound) (given : Given query grouping state closing old new before now)
+    (held_after : (key : Values) → after_if (touched key) (is_among closed key) (held query grouping old before key) ≡ held query grouping (old ++ new) now key) (says : Says (length grouping.keys) touched closed change) where
   all_rows : AllByRecursion (IsKept grouping) (old ++ new)
   all_rows = recursion_from_All (IsKept grouping) (old ++ new) given.rows
 
@@ -34,8 +35,8 @@ module _ (query : Bound) (grouping : Grouping) (state : State) (closing : List T
   at_key : (key : Values) → IsKey grouping key → value_at (kept query grouping (old ++ new) now) (keys_of key) ≡ value_after (value_at change (keys_of key)) (value_at state (keys_of key))
   at_key key is_key =
       kept_at found query grouping (old ++ new) now (spelled_rows grouping (old ++ new) all_rows) key is_key
-      ∙ ap (option_map totals_bytes) (sym (is.held_after key))
-      ∙ after_is (get is_same moved.touched key) (is_among moved.closed.items key) (held query grouping old before key)
+      ∙ ap (option_map totals_bytes) (sym (held_after key))
+      ∙ after_is (touched key) (is_among closed key) (held query grouping old before key)
       ∙ (λ i. value_after (sym (says.told key is_key) i) (sym (kept_at found query grouping old before (spelled_rows grouping old (old_rows grouping old new all_rows)) key is_key) i))
       ∙ ap (λ (s : State). value_after (value_at change (keys_of key)) (value_at s (keys_of key))) (sym given.kept)
 

@@ -2,7 +2,6 @@
 use Rattle.std.specs.Prelude.{◌≡◌, ◌++◌, ℕ, ℤ, Bool, true, false, if◌then◌else◌, List, All, length, map, Option, Some, None, is_some}
 use Rattle.std.specs.HashMap.{HashMap, get}
 use Rattle.std.specs.List.{AllByRecursion, list_any}
-use Rattle.std.specs.List.Sorted.{IsPermutation}
 use Rattle.ssq_value.specs.Key.{keys_of}
 use Rattle.ssq_version.specs.State.{State, Change, value_at}
 use Rattle.ssq_shape.specs.declared.bound.Bound.{Bound}
@@ -25,7 +24,6 @@ use Rattle.ssq_step.specs.declared.stepped.Stepped.{Stepped}
 use Rattle.ssq_step.specs.Steps as step
 use Rattle.ssq_agg.specs.declared.kept.Group.{Group}
 use Rattle.ssq_step.specs.declared.shown.Shown.{Shown}
-use Rattle.ssq_agg.specs.declared.epoch.Moved.{Moved}
 use Rattle.ssq_agg.specs.Groups.{AreSteady, Held}
 use Rattle.ssq_agg.specs.Holding.{Holds}
 use Rattle.ssq_step.specs.Indexing.{IsIndex, Timed}
@@ -76,23 +74,12 @@ keys_of_groups groups = map (λ (group : Group). group.key) groups
 abbrev pub is_among : List Group → Values → Bool
 is_among groups key = list_any (is_same key) (keys_of_groups groups)
 
-abbrev pub after : Moved → Held → Held
-after moved own key = after_if (get is_same moved.touched key) (is_among moved.closed.items key) (own key)
-
 -- keys of so many values, each of which has a spelling
 abbrev pub AreKeys : ℕ → List Values → Type 0
 AreKeys many keys = AllByRecursion (IsKeySpelled many) keys
 
 abbrev pub AreTouchedKeys : {S : Type 0} → ℕ → HashMap Values (List Total) S → Type 0
 AreTouchedKeys many groups = (key : Values) (totals : List Total) → get is_same groups key ≡ Some totals → IsKeySpelled many key
-
--- A step leaves of groups what all accepted rows leave at the new watermark, it shows the epoch's rows, as a bag, and no key overflows.
-pub record IsMove (query : Bound) (grouping : Grouping) (old new : List FedRow) (before now : Option ℤ) (moved : Moved) : Type 0 where
-  pub held_after : (key : Values) → after moved (held query grouping old before) key ≡ held query grouping (old ++ new) now key
-  pub touched_keys : AreTouchedKeys (length grouping.keys) moved.touched
-  pub closed_keys : AreKeys (length grouping.keys) (keys_of_groups moved.closed.items)
-  pub shown : IsPermutation moved.rows.items ((group query grouping).added old new before now)
-  pub faultless : (group query grouping).fault old new before now ≡ None
 
 -- Its change leads from the state over the rows before to the state over these rows too, at the new watermark; it shows the epoch's rows, as
 -- a bag; and no key overflows.

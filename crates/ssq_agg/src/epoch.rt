@@ -15,7 +15,7 @@ ghost use Rattle.ssq_agg.specs.Holding.{Holds};
 ghost use Rattle.ssq_agg.specs.Indexing.{Indexes};
 ghost use Rattle.ssq_agg.specs.Readable.{AreFit, AreFitGroups};
 ghost use Rattle.ssq_agg.specs.Shown.{AreOthers};
-ghost use Rattle.ssq_agg.specs.Steps.{Given, GivenGroups, IsCause, IsMove, IsStep, IsUngrouped, ShowsDue};
+ghost use Rattle.ssq_agg.specs.Steps.{Given, IsCause, IsStep, IsUngrouped, ShowsDue};
 
 use crate::changed::changed;
 use crate::groups::touched;
@@ -28,21 +28,9 @@ use ssq_meaning::{
 };
 use ssq_shape::{Bound, Grouping, Mode, Shape};
 use ssq_step::{Closing, Key, Shown, StepFault, Stepped};
-use ssq_value::Row;
 use ssq_version::{Change, StateMap, states_are_kept};
 use std::alloc::{AllocError, Global};
 use std::collections::HashMap;
-
-/// What becomes of groups in an epoch.
-#[derive(Drop)]
-pub(crate) struct Moved<'a> {
-    /// The groups that have new rows, each with its totals after them.
-    pub touched: HashMap<Key<'a>, Totals>,
-    /// The groups that were kept and are closed, and so are kept no more.
-    pub closed: Vec<Group>,
-    /// The rows that the epoch shows, in no order.
-    pub rows: Vec<Row>,
-}
 
 /// The groups that are closed at the watermark.
 fn closed_groups(
@@ -113,49 +101,6 @@ fn show_due(
     }
 }
 
-/// What becomes of groups in an epoch, and what it shows.
-fn move_groups<'a>(
-    alloc: Global,
-    bound: &Bound,
-    grouping: &Grouping,
-    state: &StateMap,
-    closing: &Closing,
-    rows: &'a [FedRow],
-    now: Option<i64>,
-) -> Result<Moved<'a>, StepFault>
-    requires { All IsFitRow rows.now }
-    ensures moved { (old : List Fed) (before : Option ℤ) → GivenGroups bound.now grouping.now state.now closing.now old rows.now before now →
-        IfOk result (IsMove bound.now grouping.now old rows.now before now) }
-    ensures cause { (old : List Fed) (before : Option ℤ) → GivenGroups bound.now grouping.now state.now closing.now old rows.now before now →
-        IfErr result (IsCause bound.now grouping.now old rows.now before now) }
-    ensures touched { IfOk result (λ moved. AreFitGroups moved.touched) }
-    ensures closed { IfOk result (λ moved. AreFit moved.closed.items) }
-    ensures printable { IfOk result (λ moved. ArePrintable moved.rows.items) }
-{
-    groups_are_kept_whole();
-    groups_come_in_any_order();
-    groups_are_due_by_what_is_kept();
-    let touched = touched(alloc, grouping, state, rows)?;
-    let closed = closed_groups(alloc, grouping, state, closing, now)?;
-    let mut shown = Shown::nothing(alloc);
-    show_due(
-        alloc,
-        bound,
-        grouping,
-        state,
-        now,
-        &touched,
-        closed.as_slice(),
-        &mut shown,
-    )?;
-    let rows = shown.into_rows()?;
-    Ok(Moved {
-        touched,
-        closed,
-        rows,
-    })
-}
-
 /// The step of a query that groups.
 fn step_groups(
     alloc: Global,
@@ -174,9 +119,18 @@ fn step_groups(
     ensures printable { IfOk result (λ stepped. ArePrintable stepped.rows.items) }
 {
     kept_groups_are_found();
-    let moved = move_groups(alloc, bound, grouping, state, closing, rows, now)?;
-    let change = changed(alloc, &moved.touched, moved.closed.as_slice())?;
-    let Moved { rows, .. } = moved;
+    groups_are_kept_whole();
+    groups_come_in_any_order();
+    groups_are_due_by_what_is_kept();
+    let touched = touched(alloc, grouping, state, rows)?;
+    let closed = closed_groups(alloc, grouping, state, closing, now)?;
+    let gone = closed.as_slice();
+    let mut shown = Shown::nothing(alloc);
+    show_due(
+        alloc, bound, grouping, state, now, &touched, gone, &mut shown,
+    )?;
+    let rows = shown.into_rows()?;
+    let change = changed(alloc, &touched, gone)?;
     Ok(Stepped { change, rows })
 }
 
