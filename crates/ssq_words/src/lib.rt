@@ -64,7 +64,6 @@ pub enum Command<'a> {
 /// after `=`, numbers may have a `+` and leading zeros, and after `--` a word that begins with `-` is a query too.
 ///
 /// `Usage` comes exactly where clap takes the words for none of these, unless memory runs out, which is `NoMemory`.
-#[tactic(auto, using(crate::proofs::TakenLemmas::free_asks))]
 pub fn ask<'a>(alloc: Global, words: &'a [String]) -> Result<Command<'a>, AskError>
     ensures taken { IfOk result (λ command. asked (map string_bytes words.entry.now) ≡ Some (asked_of command)) }
     ensures in_range { IfOk result IsInRange }

@@ -1,8 +1,7 @@
 //! The one command of the command line, built as `specs/Program.antt` has it.
-ghost use Rattle.std.specs.Prelude.{◌≡◌, IfOk, codes, false};
-ghost use Rattle.clap.specs.Words.{app_of, new_app, rule_of, with_rule, with_subcommand};
-ghost use Rattle.clap.specs.declared.builder.command.Command.TheViews.{out-Command};
-ghost use Rattle.ssq_words.specs.Program.{count_rule, gen_app, max_lines_rule, number_rule, partitions_rule, program, query_rule, rounds_rule, run_app, tables_app, top_app};
+ghost use Rattle.std.specs.Prelude.{◌≡◌, IfOk, Ok};
+ghost use Rattle.clap.specs.Words.{App, Rule, app_of, new_app, with_rule, with_subcommand};
+ghost use Rattle.ssq_words.specs.Program.{IsRule, Makes, gen_app, needed_rule, option_rule, program, query_rule, run_app, top_app};
 
 use clap::builder::ValueParser;
 use clap::{Arg, Command};
@@ -24,136 +23,133 @@ const MOST_NUMBER: u64 = 65_536;
 const MOST_GENERATED: u64 = 10_000_000;
 
 fn query<'a>(alloc: Global) -> Arg<'a>
-    ensures rule { rule_of result ≡ query_rule }
-    ensures local { result.global ≡ false }
+    ensures { IsRule query_rule result }
 {
     Arg::new(alloc, "query").required(true)
 }
 
-fn partitions<'a>(alloc: Global) -> Arg<'a>
-    ensures rule { rule_of result ≡ partitions_rule }
-    ensures local { result.global ≡ false }
+/// An option with a number from 1 on.
+fn option<'a>(alloc: Global, name: &'a str, most: u64) -> Arg<'a>
+    ensures { IsRule (option_rule name.now most) result }
 {
-    Arg::new(alloc, "partitions")
-        .long("partitions")
-        .value_parser(ValueParser::unsigned(1, MOST_PARTITIONS))
+    Arg::new(alloc, name)
+        .long(name)
+        .value_parser(ValueParser::unsigned(1, most))
 }
 
-fn max_lines<'a>(alloc: Global) -> Arg<'a>
-    ensures rule { rule_of result ≡ max_lines_rule }
-    ensures local { result.global ≡ false }
+/// A number that has to stand there.
+fn number<'a>(alloc: Global, name: &'a str, least: u64, most: u64) -> Arg<'a>
+    ensures { IsRule (needed_rule name.now least most) result }
 {
-    Arg::new(alloc, "max-lines")
-        .long("max-lines")
-        .value_parser(ValueParser::unsigned(1, MOST_LINES))
-}
-
-fn rounds<'a>(alloc: Global) -> Arg<'a>
-    ensures rule { rule_of result ≡ rounds_rule }
-    ensures local { result.global ≡ false }
-{
-    Arg::new(alloc, "rounds")
-        .long("rounds")
-        .value_parser(ValueParser::unsigned(1, MOST_ROUNDS))
-}
-
-fn number<'a>(alloc: Global) -> Arg<'a>
-    ensures rule { rule_of result ≡ number_rule }
-    ensures local { result.global ≡ false }
-{
-    Arg::new(alloc, "number")
+    Arg::new(alloc, name)
         .required(true)
-        .value_parser(ValueParser::unsigned(0, MOST_NUMBER))
+        .value_parser(ValueParser::unsigned(least, most))
 }
 
-fn lines<'a>(alloc: Global) -> Arg<'a>
-    ensures rule { rule_of result ≡ count_rule }
-    ensures local { result.global ≡ false }
+/// Two values, if there are both. Which of them has to be dropped is one step of the proof for any type, and many for a command.
+fn both<T: Drop>(
+    first: Result<T, AllocError>,
+    second: Result<T, AllocError>,
+) -> Result<(T, T), AllocError>
+    ensures { IfOk result (λ both. (first ≡ Ok both.0) × (second ≡ Ok both.1)) }
 {
-    Arg::new(alloc, "lines")
-        .required(true)
-        .value_parser(ValueParser::unsigned(1, MOST_GENERATED))
+    Ok((first?, second?))
 }
 
-/// A command of this name that takes a query's file.
-fn over_query<'a>(alloc: Global, name: &'a str) -> Result<Command<'a>, AllocError>
-    ensures app { IfOk result (λ c. app_of c ≡ with_rule (new_app name.now) query_rule) }
-    ensures local { IfOk result (λ c. (out-Command c).has_globals ≡ false) }
+/// A command in the making, unless memory ran out.
+struct Draft<'a> {
+    made: Result<Command<'a>, AllocError>,
+}
+
+impl<'a> Draft<'a> {
+    /// A command of this name that takes nothing.
+    fn new(alloc: Global, name: &'a str) -> Draft<'a>
+        ensures { Makes (new_app name.now) result }
+    {
+        Draft {
+            made: Ok(Command::new(alloc, name)),
+        }
+    }
+
+    /// The command with one more argument.
+    fn arg(self, arg: Arg<'a>) -> Draft<'a>
+        ensures { (app : App) (rule : Rule) → Makes app self.entry → IsRule rule arg.entry → Makes (with_rule app rule) result }
+    {
+        match self {
+            Draft { made: Ok(command) } => Draft {
+                made: command.arg(arg),
+            },
+            Draft { made: Err(error) } => {
+                drop(arg);
+                Draft { made: Err(error) }
+            }
+        }
+    }
+
+    /// The command with one more subcommand.
+    fn subcommand(self, subcommand: Draft<'a>) -> Draft<'a>
+        ensures { (app below : App) → Makes app self.entry → Makes below subcommand.entry → Makes (with_subcommand app below.top) result }
+    {
+        let Draft { made: command } = self;
+        let Draft { made: subcommand } = subcommand;
+        match both(command, subcommand) {
+            Ok((command, subcommand)) => Draft {
+                made: command.subcommand(subcommand),
+            },
+            Err(error) => Draft { made: Err(error) },
+        }
+    }
+}
+
+fn run<'a>(alloc: Global) -> Draft<'a>
+    ensures { Makes run_app result }
 {
-    Command::new(alloc, name).arg(query(alloc))
+    Draft::new(alloc, "run")
+        .arg(query(alloc))
+        .arg(option(alloc, "partitions", MOST_PARTITIONS))
+        .arg(option(alloc, "max-lines", MOST_LINES))
+        .arg(option(alloc, "rounds", MOST_ROUNDS))
 }
 
-/// What a run takes of these: its query and its partitions.
-fn split_run<'a>(alloc: Global) -> Result<Command<'a>, AllocError>
-    ensures app { IfOk result (λ c. app_of c ≡ with_rule (with_rule (new_app (codes "run")) query_rule) partitions_rule) }
-    ensures local { IfOk result (λ c. (out-Command c).has_globals ≡ false) }
+/// A command of this name that takes a query's file and nothing else.
+fn about_query<'a>(alloc: Global, name: &'a str) -> Draft<'a>
+    ensures { Makes (with_rule (new_app name.now) query_rule) result }
 {
-    over_query(alloc, "run")?.arg(partitions(alloc))
+    Draft::new(alloc, name).arg(query(alloc))
 }
 
-/// What a run takes but its rounds.
-fn cut_run<'a>(alloc: Global) -> Result<Command<'a>, AllocError>
-    ensures app { IfOk result (λ c. app_of c ≡ with_rule (with_rule (with_rule (new_app (codes "run")) query_rule) partitions_rule) max_lines_rule) }
-    ensures local { IfOk result (λ c. (out-Command c).has_globals ≡ false) }
+fn generate<'a>(alloc: Global) -> Draft<'a>
+    ensures { Makes gen_app result }
 {
-    split_run(alloc)?.arg(max_lines(alloc))
+    Draft::new(alloc, "gen")
+        .arg(number(alloc, "number", 0, MOST_NUMBER))
+        .arg(number(alloc, "lines", 1, MOST_GENERATED))
 }
 
-#[tactic(auto, unfolding(crate::specs::Program::run_app))]
-fn run<'a>(alloc: Global) -> Result<Command<'a>, AllocError>
-    ensures app { IfOk result (λ c. app_of c ≡ run_app) }
-    ensures local { IfOk result (λ c. (out-Command c).has_globals ≡ false) }
-{
-    cut_run(alloc)?.arg(rounds(alloc))
-}
-
-/// The command with a subcommand of this name, which takes a query's file and nothing else.
-fn about_query<'a>(
-    alloc: Global,
-    command: Command<'a>,
-    name: &'a str,
-) -> Result<Command<'a>, AllocError>
-    ensures { IfOk result (λ c. app_of c ≡ with_subcommand (app_of command.entry) (with_rule (new_app name.now) query_rule).top) }
-{
-    command.subcommand(over_query(alloc, name)?)
-}
-
-#[tactic(auto, unfolding(crate::specs::Program::gen_app))]
-fn generate<'a>(alloc: Global) -> Result<Command<'a>, AllocError>
-    ensures app { IfOk result (λ c. app_of c ≡ gen_app) }
-    ensures local { IfOk result (λ c. (out-Command c).has_globals ≡ false) }
-{
-    Command::new(alloc, "gen")
-        .arg(number(alloc))?
-        .arg(lines(alloc))
-}
-
+/// The command without its subcommands.
 #[tactic(auto, unfolding(crate::specs::Program::top_app))]
-fn top<'a>(alloc: Global) -> Command<'a>
-    ensures { app_of result ≡ top_app }
+fn top<'a>(alloc: Global) -> Draft<'a>
+    ensures { Makes top_app result }
 {
-    Command::new(alloc, "ssq")
-        .disable_help_flag(true)
-        .disable_help_subcommand(true)
-        .subcommand_required(true)
-}
-
-/// The command with those that make a table and show it.
-#[tactic(auto, unfolding(crate::specs::Program::tables_app, crate::specs::Program::show_app))]
-fn tables<'a>(alloc: Global) -> Result<Command<'a>, AllocError>
-    ensures { IfOk result (λ c. app_of c ≡ tables_app) }
-{
-    let run = run(alloc)?;
-    about_query(alloc, top(alloc).subcommand(run)?, "show")
+    Draft {
+        made: Ok(
+            Command::new(alloc, "ssq")
+                .disable_help_flag(true)
+                .disable_help_subcommand(true)
+                .subcommand_required(true),
+        ),
+    }
 }
 
 /// The command with all its subcommands.
-#[tactic(auto, unfolding(crate::specs::Program::program, crate::specs::Program::explain_app, crate::specs::Program::status_app))]
 pub(crate) fn program<'a>(alloc: Global) -> Result<Command<'a>, AllocError>
     ensures { IfOk result (λ c. app_of c ≡ program) }
 {
-    let tables = tables(alloc)?;
-    let explaining = about_query(alloc, tables, "explain")?;
-    let telling = about_query(alloc, explaining, "status")?;
-    telling.subcommand(generate(alloc)?)
+    let Draft { made } = top(alloc)
+        .subcommand(run(alloc))
+        .subcommand(about_query(alloc, "show"))
+        .subcommand(about_query(alloc, "explain"))
+        .subcommand(about_query(alloc, "status"))
+        .subcommand(generate(alloc));
+    made
 }

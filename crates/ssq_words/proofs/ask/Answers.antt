@@ -4,7 +4,7 @@ use Rattle.clap.specs.Words.{App, IsAmong, kind_of, app_of, fault_of, is_simple,
 use Rattle.ssq_words.specs.Program.{program}
 use Rattle.ssq_words.specs.Asking.{subcommand_asked}
 use Rattle.ssq_words.specs.Reading.{IsWhole}
-use Rattle.ssq_words.proofs.TakenLemmas.{asked_faulty, asked_free, cause, program_is_free, program_is_simple, taken_whole}
+use Rattle.ssq_words.proofs.TakenLemmas.{asked_faulty, asked_free, cause, free_asks, program_is_free, program_is_simple, taken_whole}
 use Rattle.ssq_words.proofs.ask.Goals as goal
 
 pub command_of-requires : goal.command_of-requires
@@ -35,3 +35,15 @@ returns-in-Err-clause-refused c =
       | inl memory ↦ absurd (c.of.ensures usage memory)
       | inr among ↦ asked_faulty words _ (subst (λ (a : App). IsAmong (kind_of c.in-Err.error) (fault_of a words)) is among)
     ])
+
+pub returns-in-Ok-clause-in_range : goal.returns-in-Ok-clause-in_range
+returns-in-Ok-clause-in_range c = c.command_of.ensures.in_range
+
+pub returns-in_err-program-clause-whole : goal.returns-in_err-program-clause-whole
+returns-in_err-program-clause-whole c = free_asks (map string_bytes c.args.words.now)
+
+pub returns-in-Ok-clause-whole : goal.returns-in-Ok-clause-whole
+returns-in-Ok-clause-whole c = free_asks (map string_bytes c.args.words.now)
+
+pub returns-in-Err-clause-whole : goal.returns-in-Err-clause-whole
+returns-in-Err-clause-whole c = free_asks (map string_bytes c.args.words.now)
