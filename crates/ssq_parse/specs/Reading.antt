@@ -55,11 +55,6 @@ Reads read (Ok x) rest = read ≡ Ok (x, rest)
 Reads read (Err (Refused at cause)) rest = read ≡ Err (record { at = at; cause = cause })
 Reads read (Err NoMemory) rest = Unit {0}
 
--- what was read is kept beside what comes behind it, unless that is a stop
-abbrev pub Keeps : {A B : Type 0} → A → Result B Stop → Result (A × B) Stop → Type 0
-Keeps kept next (Ok both) = (both.0 ≡ kept) × (next ≡ Ok both.1)
-Keeps kept next (Err stop) = next ≡ Err stop
-
 abbrev pub stop_at : Option ℕ → ParseCause → Stop
 stop_at at cause = Refused at cause
 

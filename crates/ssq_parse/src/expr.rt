@@ -8,11 +8,10 @@ ghost use Rattle.ssq_parse.specs.Reading.{Reads, Makes};
 ghost use Rattle.ssq_parse.specs.Trees.{wrapped};
 ghost use Rattle.ssq_parse.specs.Written.{EachIsWritten};
 
-use crate::fault::{ParseCause, Stop, kept};
+use crate::fault::{ParseCause, Stop};
 use crate::operators::Level;
 use crate::reader::Reader;
 use crate::tree::{MOST_HEIGHT, Tree, between, binary, leaf, null_test, unary};
-use sqlite_items::Boxed;
 use ssq_ast::{ColumnRef, Expr, Function, Ident, NullTest, UnaryOp};
 use ssq_lex::{Keyword, Kind, Symbol, Token, unquoted};
 use ssq_value::Text;
@@ -23,7 +22,7 @@ const MOST_OPEN: usize = 64;
 
 /// The rules of expressions. They take the reader of what stands in brackets as a parameter, so that each is proved by
 /// itself.
-#[derive(Clone, Copy)]
+#[derive(Drop)]
 struct Grammar<F> {
     alloc: Global,
     /// How many brackets more may stand open.
@@ -78,8 +77,8 @@ fn chain<F: Fn(&mut Reader<'_>) -> Result<Tree, Stop>>(
         let Some((op, at)) = reader.eat_operator(level) else {
             return Ok(left);
         };
-        let (first, right) = kept(left, operand(reader))?;
-        left = binary(alloc, op, at, first, right)?;
+        let right = operand(reader)?;
+        left = binary(alloc, op, at, left, right)?;
     }
     Ok(left)
 }
@@ -94,12 +93,8 @@ fn column(alloc: Global, reader: &mut Reader<'_>, name: Ident) -> Result<Tree, S
         None => (None, name),
         Some(_dot) => (Some(name), reader.name(alloc)?),
     };
-    Ok(leaf(
-        at,
-        Expr::Column {
-            value: ColumnRef { stream, column },
-        },
-    ))
+    let value = ColumnRef { stream, column };
+    leaf(alloc, at, Expr::Column { value })
 }
 
 #[tactic(auto, unfolding(crate::specs::Expressions::timestamp_at))]
@@ -107,7 +102,7 @@ fn timestamp(alloc: Global, reader: &mut Reader<'_>, at: usize) -> Result<Tree, 
     ensures { Reads (spec.timestamp_at at reader.old) result reader.new }
 {
     let value = reader.moment(alloc)?;
-    Ok(leaf(at, Expr::Timestamp { value, at }))
+    leaf(alloc, at, Expr::Timestamp { value, at })
 }
 
 #[tactic(auto, unfolding(crate::specs::Expressions::interval_at))]
@@ -115,7 +110,7 @@ fn interval(alloc: Global, reader: &mut Reader<'_>, at: usize) -> Result<Tree, S
     ensures { Reads (spec.interval_at at reader.old) result reader.new }
 {
     let value = reader.span(alloc)?;
-    Ok(leaf(at, Expr::Interval { value, at }))
+    leaf(alloc, at, Expr::Interval { value, at })
 }
 
 impl<F: Fn(Global, &mut Reader<'_>, usize) -> Result<Tree, Stop>> Grammar<F> {
@@ -137,7 +132,7 @@ impl<F: Fn(Global, &mut Reader<'_>, usize) -> Result<Tree, Stop>> Grammar<F> {
         ensures { Reads (spec.bracketed_at self.now.depth (spec.expr_at self.now.depth) bracket reader.old) result reader.new }
     {
         let inside = self.inside(reader, bracket)?;
-        let (inside, _close) = kept(inside, reader.symbol(Symbol::RightParen))?;
+        reader.symbol(Symbol::RightParen)?;
         Ok(Tree {
             value: inside.value,
             at: bracket,
@@ -157,16 +152,13 @@ impl<F: Fn(Global, &mut Reader<'_>, usize) -> Result<Tree, Stop>> Grammar<F> {
         ensures { Reads (spec.argument_at self.now.depth (spec.expr_at self.now.depth) function at bracket reader.old) result reader.new }
     {
         let inside = self.inside(reader, bracket)?;
-        let (inside, _close) = kept(inside, reader.symbol(Symbol::RightParen))?;
-        let argument = Boxed::new(self.alloc, inside.value)?;
-        Ok(leaf(
+        reader.symbol(Symbol::RightParen)?;
+        let value = Expr::Aggregate {
+            function,
             at,
-            Expr::Aggregate {
-                function,
-                at,
-                argument,
-            },
-        ))
+            argument: inside.value,
+        };
+        leaf(self.alloc, at, value)
     }
 
     #[tactic(auto, unfolding(crate::specs::Expressions::aggregate_at))]
@@ -197,7 +189,7 @@ impl<F: Fn(Global, &mut Reader<'_>, usize) -> Result<Tree, Stop>> Grammar<F> {
             return Err(too_deep(bracket));
         }
         reader.symbol(Symbol::RightParen)?;
-        Ok(leaf(at, Expr::CountRows { at }))
+        leaf(self.alloc, at, Expr::CountRows { at })
     }
 
     /// An operand that begins with a keyword.
@@ -207,8 +199,8 @@ impl<F: Fn(Global, &mut Reader<'_>, usize) -> Result<Tree, Stop>> Grammar<F> {
         ensures { Reads (spec.worded_at self.now.depth (spec.expr_at self.now.depth) keyword at reader.old) result reader.new }
     {
         match keyword {
-            Keyword::True => Ok(leaf(at, Expr::Truth { value: true, at })),
-            Keyword::False => Ok(leaf(at, Expr::Truth { value: false, at })),
+            Keyword::True => leaf(self.alloc, at, Expr::Truth { value: true, at }),
+            Keyword::False => leaf(self.alloc, at, Expr::Truth { value: false, at }),
             Keyword::Timestamp => timestamp(self.alloc, reader, at),
             Keyword::Interval => interval(self.alloc, reader, at),
             Keyword::Count => self.count(reader, at),
@@ -236,10 +228,10 @@ impl<F: Fn(Global, &mut Reader<'_>, usize) -> Result<Tree, Stop>> Grammar<F> {
             return Err(expected);
         };
         match kind {
-            Kind::Number(value) => Ok(leaf(at, Expr::Number { value, at })),
+            Kind::Number(value) => leaf(self.alloc, at, Expr::Number { value, at }),
             Kind::Text(content) => {
                 let value = Text::from_string(unquoted(self.alloc, content)?);
-                Ok(leaf(at, Expr::Text { value, at }))
+                leaf(self.alloc, at, Expr::Text { value, at })
             }
             Kind::Name(name) => {
                 let text = Text::from_str(self.alloc, name)?;
@@ -293,7 +285,7 @@ impl<F: Fn(Global, &mut Reader<'_>, usize) -> Result<Tree, Stop>> Grammar<F> {
             Some(_) => NullTest::NotNull,
         };
         let tested = null_test(self.alloc, test, at, left)?;
-        let (tested, _null) = kept(tested, reader.keyword(Keyword::Null))?;
+        reader.keyword(Keyword::Null)?;
         Ok(tested)
     }
 
@@ -302,9 +294,9 @@ impl<F: Fn(Global, &mut Reader<'_>, usize) -> Result<Tree, Stop>> Grammar<F> {
         requires { Nests self.now.depth (F.pre self.now.inner) (F.post self.now.inner) }
         ensures { Reads (spec.between_at self.now.depth (spec.expr_at self.now.depth) at left reader.old) result reader.new }
     {
-        let (left, low) = kept(left, self.sum(reader))?;
-        let (operands, _and) = kept((left, low), reader.keyword(Keyword::And))?;
-        let ((left, low), high) = kept(operands, self.sum(reader))?;
+        let low = self.sum(reader)?;
+        reader.keyword(Keyword::And)?;
+        let high = self.sum(reader)?;
         between(self.alloc, at, left, low, high)
     }
 
@@ -315,7 +307,7 @@ impl<F: Fn(Global, &mut Reader<'_>, usize) -> Result<Tree, Stop>> Grammar<F> {
     {
         let left = self.sum(reader)?;
         if let Some((op, at)) = reader.eat_operator(Level::Comparison) {
-            let (left, right) = kept(left, self.sum(reader))?;
+            let right = self.sum(reader)?;
             return binary(self.alloc, op, at, left, right);
         }
         if let Some(at) = reader.eat_keyword(Keyword::Is) {

@@ -3,7 +3,6 @@
 ghost use Rattle.std.specs.Prelude.{◌≡◌};
 ghost use Rattle.ssq_parse.specs.declared.fault.ParseFault.TheVariants as fault;
 ghost use Rattle.ssq_parse.specs.declared.fault.Stop.TheVariants as stop;
-ghost use Rattle.ssq_parse.specs.Reading.{Keeps};
 
 use std::alloc::AllocError;
 use thiserror::Error;
@@ -63,16 +62,5 @@ impl From<AllocError> for Stop {
 
     fn from(_error: AllocError) -> Stop {
         Stop::NoMemory
-    }
-}
-
-/// What was read, beside what comes behind it, unless that is a stop. `kept(first, next)?` drops the first in one step of the
-/// proof, where `next?` would drop it variant by variant; [`drop`] in front of a stop does the same.
-pub(crate) fn kept<T: Drop, U: Drop>(first: T, next: Result<U, Stop>) -> Result<(T, U), Stop>
-    ensures { Keeps first next result }
-{
-    match next {
-        Ok(next) => Ok((first, next)),
-        Err(stop) => Err(stop),
     }
 }

@@ -5,8 +5,9 @@ ghost use Rattle.ssq_parse.specs.Queries as spec;
 ghost use Rattle.ssq_parse.specs.Reading.{Reads, Makes};
 
 use crate::expr::expr;
-use crate::fault::{Stop, kept};
+use crate::fault::Stop;
 use crate::reader::Reader;
+use crate::tree::Tree;
 use ssq_ast::{
     ColumnDecl, ColumnRef, Condition, Deduplicate, Direction, Expr, Group, GroupBy, Ident, Item,
     Join, JoinKind, Limit, Mode, OrderBy, Query, Select, Span, Stream, Watermark, Window,
@@ -149,24 +150,26 @@ fn named_column(column: ColumnRef, at: usize, name: Ident) -> Item
     }
 }
 
-fn named(value: Expr, at: usize, name: Ident) -> Item
-    ensures { result ≡ spec.item_of value at name }
+/// An expression under a name.
+fn named(tree: Tree, name: Ident) -> Item
+    ensures { result ≡ spec.item_of tree.value tree.at name }
 {
-    match value {
+    let at = tree.at;
+    match tree.value.into_inner() {
         Expr::Column { value: column } => named_column(column, at, name),
         value => Item::Named { value, at, name },
     }
 }
 
 /// An item without a name of its own.
-fn bare(value: Expr, at: usize, is_name: bool, expected: Stop) -> Result<Item, Stop>
-    ensures { result ≡ spec.bare_by is_name value at expected }
+fn bare(tree: Tree, is_name: bool, expected: Stop) -> Result<Item, Stop>
+    ensures { result ≡ spec.bare_by is_name tree.value tree.at expected }
 {
     if !is_name {
-        drop(value);
         return Err(expected);
     }
-    match value {
+    let at = tree.at;
+    match tree.value.into_inner() {
         Expr::Column { value: column } => {
             let named_at = column.column.at;
             Ok(Item::Column {
@@ -192,10 +195,10 @@ impl Part for Item {
         let begins_with_name = reader.sees_name();
         let tree = expr(alloc, reader)?;
         if reader.eat_keyword(Keyword::As).is_some() {
-            let (tree, name) = kept(tree, reader.name(alloc))?;
-            return Ok(named(tree.value, tree.at, name));
+            let name = reader.name(alloc)?;
+            return Ok(named(tree, name));
         }
-        bare(tree.value, tree.at, begins_with_name, reader.expected())
+        bare(tree, begins_with_name, reader.expected())
     }
 }
 
@@ -211,7 +214,7 @@ fn condition(
     let Some(at) = reader.eat_keyword(keyword) else {
         return Ok(None);
     };
-    let value = expr(alloc, reader)?.value;
+    let value = expr(alloc, reader)?.value.into_inner();
     Ok(Some(Condition { at, value }))
 }
 
@@ -223,7 +226,7 @@ fn joined(alloc: Global, reader: &mut Reader<'_>, kind: JoinKind) -> Result<Opti
     let at = reader.keyword(Keyword::Join)?;
     let stream = reader.name(alloc)?;
     let on_at = reader.keyword(Keyword::On)?;
-    let value = expr(alloc, reader)?.value;
+    let value = expr(alloc, reader)?.value.into_inner();
     Ok(Some(Join {
         kind,
         at,

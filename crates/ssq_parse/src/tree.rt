@@ -1,34 +1,39 @@
 //! Trees of expressions, and how high they are.
 
-ghost use Rattle.std.specs.Prelude.{◌≡◌, max, IfOk};
+ghost use Rattle.std.specs.Prelude.{max, Ok};
 ghost use Rattle.ssq_parse.specs.Reading.{Makes};
 ghost use Rattle.ssq_parse.specs.Trees as spec;
 
-use crate::fault::{ParseCause, Stop, kept};
+use crate::fault::{ParseCause, Stop};
 use sqlite_items::Boxed;
 use ssq_ast::{BinaryOp, Expr, NullTest, UnaryOp};
-use std::alloc::{AllocError, Global};
+use std::alloc::Global;
 
 /// No tree is higher.
 pub(crate) const MOST_HEIGHT: usize = 64;
 
-/// An expression as it was read, the place of its first token, brackets included, and its height.
+/// An expression as it was read, the place of its first token, brackets included, and its height. It is in a box, since one
+/// that is not is dropped variant by variant wherever reading stops.
 #[derive(Drop)]
 pub(crate) struct Tree {
-    pub value: Expr,
+    pub value: Boxed<Expr>,
     pub at: usize,
     pub height: usize,
 }
 
-/// An operand that is no operator.
-pub(crate) fn leaf(at: usize, value: Expr) -> Tree
-    ensures { result ≡ spec.leaf at value }
+/// An expression that is so high, in its box.
+fn grown(alloc: Global, value: Expr, at: usize, height: usize) -> Result<Tree, Stop>
+    ensures { Makes (Ok (spec.tree_of value at height)) result }
 {
-    Tree {
-        value,
-        at,
-        height: 1,
-    }
+    let value = Boxed::new(alloc, value)?;
+    Ok(Tree { value, at, height })
+}
+
+/// An operand that is no operator.
+pub(crate) fn leaf(alloc: Global, at: usize, value: Expr) -> Result<Tree, Stop>
+    ensures { Makes (Ok (spec.leaf at value)) result }
+{
+    grown(alloc, value, at, 1)
 }
 
 /// The height of an operator over an operand so high.
@@ -45,30 +50,13 @@ fn risen(at: usize, height: usize) -> Result<usize, Stop>
     }
 }
 
-/// Two operands in boxes.
-fn boxed(alloc: Global, left: Expr, right: Expr) -> Result<(Boxed<Expr>, Boxed<Expr>), AllocError>
-    ensures { IfOk result (λ both. (both.0 ≡ left) × (both.1 ≡ right)) }
-{
-    let left = Boxed::new(alloc, left);
-    let right = Boxed::new(alloc, right);
-    Ok((left?, right?))
-}
-
 #[tactic(auto, unfolding(crate::specs::Trees::unary))]
 pub(crate) fn unary(alloc: Global, op: UnaryOp, at: usize, operand: Tree) -> Result<Tree, Stop>
     ensures { Makes (spec.unary op at operand) result }
 {
-    let height = risen(at, operand.height);
-    let (operand, height) = kept(operand, height)?;
-    Ok(Tree {
-        value: Expr::Unary {
-            op,
-            at,
-            operand: Boxed::new(alloc, operand.value)?,
-        },
-        at,
-        height,
-    })
+    let height = risen(at, operand.height)?;
+    let operand = operand.value;
+    grown(alloc, Expr::Unary { op, at, operand }, at, height)
 }
 
 #[tactic(auto, unfolding(crate::specs::Trees::binary))]
@@ -81,22 +69,16 @@ pub(crate) fn binary(
 ) -> Result<Tree, Stop>
     ensures { Makes (spec.binary op at left right) result }
 {
-    let height = risen(at, left.height.max(right.height));
-    let ((left, right), height) = kept((left, right), height)?;
-    let (left_at, right_at) = (left.at, right.at);
-    let (left, right) = boxed(alloc, left.value, right.value)?;
-    Ok(Tree {
-        value: Expr::Binary {
-            left_at,
-            left,
-            op,
-            at,
-            right_at,
-            right,
-        },
-        at: left_at,
-        height,
-    })
+    let height = risen(at, left.height.max(right.height))?;
+    let value = Expr::Binary {
+        left_at: left.at,
+        left: left.value,
+        op,
+        at,
+        right_at: right.at,
+        right: right.value,
+    };
+    grown(alloc, value, left.at, height)
 }
 
 #[tactic(auto, unfolding(crate::specs::Trees::null_test))]
@@ -108,17 +90,13 @@ pub(crate) fn null_test(
 ) -> Result<Tree, Stop>
     ensures { Makes (spec.null_test test at operand) result }
 {
-    let height = risen(at, operand.height);
-    let (operand, height) = kept(operand, height)?;
-    Ok(Tree {
-        value: Expr::IsNull {
-            operand: Boxed::new(alloc, operand.value)?,
-            at,
-            test,
-        },
-        at: operand.at,
-        height,
-    })
+    let height = risen(at, operand.height)?;
+    let value = Expr::IsNull {
+        operand: operand.value,
+        at,
+        test,
+    };
+    grown(alloc, value, operand.at, height)
 }
 
 #[tactic(auto, unfolding(crate::specs::Trees::between))]
@@ -131,19 +109,12 @@ pub(crate) fn between(
 ) -> Result<Tree, Stop>
     ensures { Makes (spec.between at operand low high) result }
 {
-    let height = risen(at, operand.height.max(low.height).max(high.height));
-    let ((operand, low, high), height) = kept((operand, low, high), height)?;
-    let operand_at = operand.at;
-    let operand = Boxed::new(alloc, operand.value);
-    let (low, high) = boxed(alloc, low.value, high.value)?;
-    Ok(Tree {
-        value: Expr::Between {
-            operand: operand?,
-            at,
-            low,
-            high,
-        },
-        at: operand_at,
-        height,
-    })
+    let height = risen(at, operand.height.max(low.height).max(high.height))?;
+    let value = Expr::Between {
+        operand: operand.value,
+        at,
+        low: low.value,
+        high: high.value,
+    };
+    grown(alloc, value, operand.at, height)
 }

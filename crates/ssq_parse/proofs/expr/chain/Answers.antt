@@ -28,11 +28,11 @@ goes_on : (g : Over) → (c : After-operand-in-loop-turn g) → (own : Reader) �
     → chain c.args.level own c.args.reader.now ≡ further c.args.level own (suc (64 - (c.loop-turn._turn + 1))) c.loop-turn.left c.loop-turn.reader
 goes_on g c own is = one_more (λ n. further c.args.level own n c.loop-turn.left c.loop-turn.reader) 64 c.loop-turn._turn c.loop-turn-test.true (c.loop-turn.invariant own is)
 
-pub returns-in_err-first : goal.returns-in_err-first
+pub returns-in_err-right : goal.returns-in_err-right
 unfolding further
-returns-in_err-first g c = λ own is.
+returns-in_err-right g c = λ own is.
     let right = is.reads _ _ _ c.operand-in-loop-turn.ensures in
-    let e = goes_on g (goal.at.returns-in_err-first g c).After-operand-in-loop-turn own is in
+    let e = goes_on g (goal.at.returns-in_err-right g c).After-operand-in-loop-turn own is in
     first_of (search rules, grind (arith, common_steps))
 
 pub returns-in_err-left-2 : goal.returns-in_err-left-2
