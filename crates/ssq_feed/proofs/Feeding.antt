@@ -1,6 +1,6 @@
 -- The lines of a range, one after the other.
 use Rattle.std.proofs.Common.{◌≡◌, ◌<◌, ◌≤◌, ◌+◌, ◌-◌, ◌++◌, [], ◌∷◌, ℕ, zero, suc, ℤ, List, Option, Some, None, Ok, Err, refl, ap, sym, ◌∙◌, subst, inl, inr, arith, take, drop, map, length, append_assoc}
-use Rattle.std.specs.Prelude.{All, IfSome, nat_lt, true, slice_get, option_and_then}
+use Rattle.std.specs.Prelude.{All, IfSome, IsOkAnd, Result, nat_lt, true, slice_get, option_and_then}
 use Rattle.std.specs.List.{flat_map, enumerate_from}
 use Rattle.std.specs.Int.{int_max}
 use Rattle.std.proofs.lemmas.Int.{ints}
@@ -19,7 +19,7 @@ use Rattle.ssq_json.specs.Line.{row_of, longest}
 use Rattle.ssq_json.specs.Fits.{FitsSchema}
 use Rattle.ssq_json.specs.declared.bad_row.BadRow.TheVariants.{TooLong}
 use Rattle.ssq_shape.specs.declared.bound.Bound.{Bound}
-use Rattle.ssq_shape.specs.Evaluation.{time_in as time_of_value}
+use Rattle.ssq_shape.specs.Evaluation.{Overflow as Excess, time_in as time_of_value}
 use Rattle.ssq_meaning.specs.FedRows.{FedRow}
 use Rattle.ssq_meaning.specs.declared.line.LineFault.{LineFault}
 use Rattle.ssq_meaning.specs.declared.line.LineFault.TheVariants as line
@@ -30,9 +30,11 @@ use Rattle.ssq_meaning.specs.Times.{later, greatest}
 use Rattle.ssq_meaning.specs.Feeding.{Handed, layout_at, read_at, handed, line_evaluated, line_read, line_handed, placed, fed_if, fed_at, time_of_row, time_if, time_at, fault_if, fault_at, first_of_all, or_else, fed_in, time_in, fault_in}
 use Rattle.ssq_feed.specs.declared.fault.FeedFault.{FeedFault}
 use Rattle.ssq_feed.specs.declared.fault.FeedFault.TheVariants.{BadLine, Overflow, LogFault, LogShort, NoMemory}
-use Rattle.ssq_feed.specs.Dealing.{Deals}
+use Rattle.ssq_feed.specs.declared.dealer.Origin.{Origin}
+use Rattle.ssq_feed.specs.Dealing.{Deals, HasDealt, from_origin}
 use Rattle.ssq_feed.specs.Rows.{dealt, IsFedFrom, IsRead, GivesOf, LineCause, IsFirst}
 use Rattle.ssq_feed.specs.Causes.{LogWent, FeedCause, ReadCause}
+use Rattle.ssq_feed.proofs.Members.{deals_none}
 
 -- ---- one line
 
@@ -63,6 +65,27 @@ gives query stream bytes schema row time rows layout read is timed fits =
       handed = ap (line_read query stream) read_is ∙ ap line_evaluated is;
       timed = ap (time_if (layout_at query stream)) read_is ∙ ap (λ (l : Layout). time_of_row l row) (sym layout) ∙ sym timed;
       years = subst (λ (t : Option ℤ). IfSome t IsLineTime) (sym timed) (row_time_years schema row fits.years);
+    }
+
+-- a line is dealt where what its row hands on is
+pub line_dealt : (query : Bound) (origin : Origin) (bytes : Line) (schema : Layout) (row : Values) (time : Option ℤ) (old new : List (List FedRow))
+    → schema ≡ layout_at query origin.stream → row_of schema bytes ≡ Ok (Some row) → time ≡ time_of_row schema row → FitsSchema schema row
+    → IsOkAnd (handed query origin.stream row) (λ rows. Deals old new (map (from_origin origin) rows)) → HasDealt query origin bytes old new time
+line_dealt query origin bytes schema row time old new layout read timed fits deals = by_rows (handed query origin.stream row) refl deals where
+  by_rows : (meant : Result (List Handed) Excess) → handed query origin.stream row ≡ meant → IsOkAnd meant (λ rows. Deals old new (map (from_origin origin) rows))
+      → HasDealt query origin bytes old new time
+  by_rows (Ok rows) is deals = record { rows = rows; gives = gives query origin.stream bytes schema row time rows layout read is timed fits; deals = deals }
+  by_rows (Err excess) is deals = absurd deals
+
+-- a blank line gives nothing
+pub blank_dealt : (query : Bound) (origin : Origin) (bytes : Line) (schema : Layout) (buckets : List (List FedRow)) → schema ≡ layout_at query origin.stream
+    → row_of schema bytes ≡ Ok None → HasDealt query origin bytes buckets buckets None
+blank_dealt query origin bytes schema buckets layout read =
+    let read_is : read_at query origin.stream bytes ≡ Ok None = ap (λ (l : Layout). row_of l bytes) (sym layout) ∙ read in
+    record {
+      rows = [];
+      gives = record { handed = ap (line_read query origin.stream) read_is; timed = ap (time_if (layout_at query origin.stream)) read_is; years = tt };
+      deals = deals_none buckets;
     }
 
 too_long : (query : Bound) (stream : ℕ) (line : Line) → nat_lt longest (length line) ≡ true → read_at query stream line ≡ Err TooLong

@@ -1,8 +1,8 @@
 -- Rows that are dealt, one behind the other, and those that go to the groups of a row.
-use Rattle.std.proofs.Common.{◌≡◌, ◌+◌, ◌-◌, ◌≤◌, ◌++◌, ℕ, List, [], ◌∷◌, Some, Result, Ok, Err, arith, refl, ap, sym, ◌∙◌, subst, map, length, take, drop, append_assoc, length-append}
-use Rattle.std.specs.Prelude.{All, OnOk, slice_get}
+use Rattle.std.proofs.Common.{◌≡◌, ◌+◌, ◌-◌, ◌≤◌, ◌++◌, ℕ, List, [], ◌∷◌, Option, Some, None, Result, Ok, Err, arith, refl, ap, ap₂, sym, ◌∙◌, subst, map, length, take, drop, append_assoc, length-append}
+use Rattle.std.specs.Prelude.{All, IsOkAnd, IsSomeAnd, OnOk, slice_get, true}
 use Rattle.std.specs.List.{flat_map}
-use Rattle.std.proofs.lemmas.List.{append-nil, map-append, take_all, take_more, take-append-le, drop-append-le}
+use Rattle.std.proofs.lemmas.List.{append-nil, drop_all, map-append, map-id, take_all, take_more, take-append-le, drop-append-le}
 use Rattle.std.proofs.lemmas.List.Concat.{flat_map-append}
 use Rattle.std.proofs.lemmas.List.Elements.{All-nil, All-append, All-push}
 use Rattle.std.proofs.lemmas.Option.{slice_get_within, get_or_from_slice_get}
@@ -10,14 +10,15 @@ use Rattle.ssq_value.specs.declared.value.Value.{Value}
 use Rattle.ssq_shape.specs.declared.bound.Bound.{Bound}
 use Rattle.ssq_shape.specs.declared.bound.GroupKey.{GroupKey}
 use Rattle.ssq_shape.specs.declared.bound.Grouping.{Grouping}
+use Rattle.ssq_shape.specs.Plain.{passes}
 use Rattle.ssq_meaning.specs.FedRows.{FedRow}
 use Rattle.ssq_meaning.specs.Fit.{IsFit, IsFitRow}
-use Rattle.ssq_meaning.specs.Group.{key_values, row_keys, member}
+use Rattle.ssq_meaning.specs.Group.{arguments_of, handed_to_groups, key_values, row_keys, member}
 use Rattle.ssq_meaning.specs.Meaning.{Values}
 use Rattle.ssq_feed.specs.declared.dealer.Origin.{Origin}
 use Rattle.ssq_feed.specs.Keys.{begun_with}
 use Rattle.ssq_feed.specs.Rows.{dealt}
-use Rattle.ssq_feed.specs.Dealing.{Deals, from_origin, member_row, member_rows}
+use Rattle.ssq_feed.specs.Dealing.{Deals, IsLonger, from_origin, member_row, member_rows}
 
 pub deals_none : (buckets : List (List FedRow)) → Deals buckets buckets []
 deals_none buckets = record {
@@ -114,28 +115,46 @@ unfolding row_keys
 rows_of_key origin query grouping arguments key row [] is = ap (λ k. member_row origin query grouping arguments k ∷ []) (append-nil key)
 rows_of_key origin query grouping arguments key row (part ∷ parts) is = absurd (omega (arith, is))
 
-pub value_fits : (values : List Value) (nth : ℕ) (value : Value) → All IsFit values → slice_get values nth ≡ Some value → IsFit value
-value_fits values nth value all there =
-    subst IsFit (get_or_from_slice_get values nth value value there) (all nth value (slice_get_within values nth value there))
-
--- Cells, the arguments with a key behind them, that go on with one more value: the key does, and the arguments stay.
-pub record GoesOn (arguments : ℕ) (cells longer : Values) (value : Value) : Type 0 where
+-- Cells, the arguments with a key behind them, that go on with the nth of some values: the key does, and the arguments stay.
+pub record GoesOn (arguments : ℕ) (values : List Value) (nth : ℕ) (cells longer : Values) : Type 0 where
+  pub value : Value
+  pub there : slice_get values nth ≡ Some value
   pub same : take arguments longer ≡ take arguments cells
   pub key : drop arguments longer ≡ drop arguments cells ++ value ∷ []
   pub within : arguments ≤ length longer
   pub fit : All IsFit longer
 
-pub goes_on : (arguments : ℕ) (cells longer : Values) (value : Value) → arguments ≤ length cells → All IsFit cells → IsFit value → longer ≡ cells ++ value ∷ []
-    → GoesOn arguments cells longer value
-goes_on arguments cells longer value within all fits is =
-    let Q : Values → Type 0 = All IsFit in
-    record {
-      same = ap (take arguments) is ∙ take-append-le arguments cells (value ∷ []) within;
-      key = ap (drop arguments) is ∙ drop-append-le arguments cells (value ∷ []) within;
-      within = omega (arith, within, ap (λ (l : Values). length l) is, length-append cells (value ∷ []));
-      fit = subst Q (sym is) (All-push IsFit cells value all fits);
-    }
+pub goes_on : (arguments : ℕ) (values : List Value) (nth : ℕ) (cells longer : Values) → arguments ≤ length cells → All IsFit cells → All IsFit values → IsLonger values nth cells longer
+    → GoesOn arguments values nth cells longer
+goes_on arguments values nth cells longer within all fits is = by_value (slice_get values nth) refl is where
+  by_value : (o : Option Value) → slice_get values nth ≡ o → IsSomeAnd o (λ value. longer ≡ cells ++ value ∷ []) → GoesOn arguments values nth cells longer
+  by_value None there is = absurd is
+  by_value (Some value) there is =
+      let Q : Values → Type 0 = All IsFit in
+      let fit : IsFit value = subst IsFit (get_or_from_slice_get values nth value value there) (fits nth value (slice_get_within values nth value there)) in
+      record {
+        value = value;
+        there = there;
+        same = ap (take arguments) is ∙ take-append-le arguments cells (value ∷ []) within;
+        key = ap (drop arguments) is ∙ drop-append-le arguments cells (value ∷ []) within;
+        within = omega (arith, within, ap (λ (l : Values). length l) is, length-append cells (value ∷ []));
+        fit = subst Q (sym is) (All-push IsFit cells value all fit);
+      }
 
 pub on_ok : {T E A B : Type 0} (r : Result T E) → OnOk r A → (A → B) → OnOk r B
 on_ok (Ok x) a f = f a
 on_ok (Err e) a f = a
+
+-- the arguments of a row are dealt to each of its groups
+pub groups_dealt : (origin : Origin) (query : Bound) (grouping : Grouping) (row arguments : Values) (count : ℕ) (parts : List GroupKey) (old new : List (List FedRow))
+    → passes query.filter row ≡ Ok true → arguments_of grouping.aggregates row ≡ Ok arguments → count ≡ length arguments → parts ≡ grouping.keys
+    → Deals old new (member_rows origin query grouping (take count arguments) (begun_with (drop count arguments) (row_keys parts row)))
+    → IsOkAnd (handed_to_groups query grouping row) (λ rows. Deals old new (map (from_origin origin) rows))
+unfolding handed_to_groups
+groups_dealt origin query grouping row arguments count parts old new passing are count_is parts_is deals =
+    let P : List FedRow → Type 0 = Deals old new in
+    let all : take count arguments ≡ arguments = take_all count arguments (omega (arith, count_is)) in
+    let none : drop count arguments ≡ [] = drop_all count arguments (omega (arith, count_is)) in
+    let keys : begun_with (drop count arguments) (row_keys parts row) ≡ row_keys grouping.keys row =
+    ap (λ (front : Values). begun_with front (row_keys parts row)) none ∙ map-id (row_keys parts row) ∙ ap (λ (own : List GroupKey). row_keys own row) parts_is in
+    rw (passing, are) (subst P (ap₂ (member_rows origin query grouping) all keys) deals)

@@ -1,14 +1,15 @@
 -- What dealing rows does to the buckets.
-use Rattle.std.specs.Prelude.{◌≡◌, List, ◌++◌, map, length, All}
+use Rattle.std.specs.Prelude.{◌≡◌, ℕ, ℤ, List, ◌++◌, map, length, All, Option, IsSomeAnd, slice_get, ◌∷◌, []}
+use Rattle.ssq_value.specs.declared.value.Value.{Value}
 use Rattle.ssq_shape.specs.declared.bound.Bound.{Bound}
 use Rattle.ssq_shape.specs.declared.bound.Grouping.{Grouping}
 use Rattle.ssq_meaning.specs.FedRows.{FedRow}
 use Rattle.ssq_meaning.specs.Feeding.{Handed}
 use Rattle.ssq_meaning.specs.Fit.{IsFitRow}
 use Rattle.ssq_meaning.specs.Group.{member}
-use Rattle.ssq_meaning.specs.Meaning.{Values}
+use Rattle.ssq_meaning.specs.Meaning.{Line, Values}
 use Rattle.ssq_feed.specs.declared.dealer.Origin.{Origin}
-use Rattle.ssq_feed.specs.Rows.{dealt}
+use Rattle.ssq_feed.specs.Rows.{GivesOf, dealt}
 
 -- a row that is handed on, with the line that it is from
 abbrev pub from_origin : Origin → Handed → FedRow
@@ -27,3 +28,13 @@ pub record Deals (old new : List (List FedRow)) (rows : List FedRow) : Type 0 wh
   pub len : length new ≡ length old
   pub behind : (before : List FedRow) → old ≡ dealt (length old) before → new ≡ dealt (length old) (before ++ rows)
   pub fit : All IsFitRow rows
+
+-- What a line gives is dealt behind what was dealt before; its row has this event time.
+pub record HasDealt (query : Bound) (origin : Origin) (bytes : Line) (old new : List (List FedRow)) (time : Option ℤ) : Type 0 where
+  pub rows : List Handed
+  pub gives : GivesOf query origin.stream bytes time rows
+  pub deals : Deals old new (map (from_origin origin) rows)
+
+-- cells that go on with the nth of these values behind their front
+abbrev pub IsLonger : List Value → ℕ → (front longer : Values) → Type 0
+IsLonger values nth front longer = IsSomeAnd (slice_get values nth) (λ value. longer ≡ front ++ value ∷ [])

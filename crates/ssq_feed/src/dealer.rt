@@ -1,20 +1,16 @@
 //! Rows on their way to their partitions.
 
-ghost use Rattle.std.specs.Prelude.{◌≡◌, ◌≤◌, ◌∷◌, ◌++◌, [], length, take, drop, map, All, IfOk, OnOk, Some};
+ghost use Rattle.std.specs.Prelude.{◌≡◌, ◌<◌, ◌≤◌, ◌∷◌, ◌++◌, [], length, take, drop, All, IfOk, OnOk};
 ghost use Rattle.std.specs.List.{AllByRecursion};
-ghost use Rattle.ssq_meaning.specs.Dedup.{distinguished};
-ghost use Rattle.ssq_meaning.specs.Feeding.{shown_once};
 ghost use Rattle.ssq_meaning.specs.Fit.{IsFit, IsFitRow};
 ghost use Rattle.ssq_meaning.specs.Group.{row_keys};
 ghost use Rattle.ssq_meaning.specs.Windows.{HasGroupWindows, HasWindow};
 ghost use Rattle.ssq_feed.specs.Rows.{dealt};
-ghost use Rattle.ssq_feed.specs.Keys.{IsReadRow, begun_with};
-ghost use Rattle.ssq_feed.specs.Handing.{IsFitHanded, handed_rows};
-ghost use Rattle.ssq_feed.specs.Dealing.{Deals, from_origin, member_row, member_rows};
+ghost use Rattle.ssq_feed.specs.Keys.{IsReadRow, all_of, begun_with};
+ghost use Rattle.ssq_feed.specs.Dealing.{Deals, IsLonger, from_origin, member_row, member_rows};
 
-use crate::handed::HandedOn;
 use crate::key_values::KeyValues;
-use ssq_meaning::{FedRow, closing_time, fit_values_are_spelled, repeat_time};
+use ssq_meaning::{FedRow, closing_time, fit_values_are_spelled};
 use ssq_route::Buckets;
 use ssq_shape::{Bound, GroupKey, Grouping};
 use ssq_value::{Row, Value, put_key};
@@ -29,49 +25,15 @@ pub(crate) struct Origin {
     pub(crate) offset: u64,
 }
 
-impl Origin {
-    /// The row that is fed from this line with a key, the time when it is past, and values.
-    fn row(self, key: Row, time: Option<i64>, values: Row) -> Result<FedRow, AllocError>
-        ensures { IfOk result (λ row. row ≡ from_origin self (record { key = key; time = time; values = values })) }
-    {
-        let Origin {
-            epoch,
-            stream,
-            part,
-            offset,
-        } = self;
-        FedRow::new(epoch, stream, part, offset, key, time, values)
-    }
-
-    /// The row that is fed from this line with so many values, a key behind them, and the time when it is past.
-    fn member(
-        self,
-        values: usize,
-        time: Option<i64>,
-        cells: Vec<Value>,
-    ) -> Result<FedRow, AllocError>
-        requires { values ≤ length cells.items }
-        ensures { IfOk result (λ row. row ≡ from_origin self (record { key = drop values cells.items; time = time; values = take values cells.items })) }
-    {
-        let Origin {
-            epoch,
-            stream,
-            part,
-            offset,
-        } = self;
-        FedRow::of_cells(epoch, stream, part, offset, values, time, cells)
-    }
-}
-
 /// A row that goes to its groups.
 #[derive(Clone, Copy)]
-struct Source<'a> {
-    origin: Origin,
-    bound: &'a Bound,
-    grouping: &'a Grouping,
-    row: &'a [Value],
+pub(crate) struct Source<'a> {
+    pub(crate) origin: Origin,
+    pub(crate) bound: &'a Bound,
+    pub(crate) grouping: &'a Grouping,
+    pub(crate) row: &'a [Value],
     /// How many arguments the aggregates have.
-    arguments: usize,
+    pub(crate) arguments: usize,
 }
 
 /// Deals rows to the buckets of their partitions.
@@ -82,26 +44,29 @@ pub(crate) struct Dealer {
     key: Vec<u8>,
 }
 
-/// Cells that go on with one more value than their front, with room for so many values.
+/// Cells that go on with one of these values behind their front, with room for so many values.
 fn longer(
     alloc: Global,
     room: usize,
     front: &[Value],
-    value: Value,
+    values: &KeyValues<'_>,
+    nth: u32,
 ) -> Result<Vec<Value>, AllocError>
-    ensures { IfOk result (λ cells. cells.items ≡ front.now ++ value ∷ []) }
+    requires { nth < length (all_of values.now) }
+    ensures { IfOk result (λ cells. IsLonger (all_of values.now) nth front.now cells.items) }
 {
     let mut cells = Vec::with_capacity(alloc, room)?;
     cells.extend_with_clones(front)?;
-    cells.push(value)?;
+    cells.push(values.value(nth)?)?;
     Ok(cells)
 }
 
-/// The same cells with one more value.
-fn pushed(mut cells: Vec<Value>, value: Value) -> Result<Vec<Value>, AllocError>
-    ensures { IfOk result (λ longer. longer.items ≡ cells.items ++ value ∷ []) }
+/// The same cells with one of these values behind them.
+fn pushed(mut cells: Vec<Value>, values: &KeyValues<'_>, nth: u32) -> Result<Vec<Value>, AllocError>
+    requires { nth < length (all_of values.now) }
+    ensures { IfOk result (λ longer. IsLonger (all_of values.now) nth cells.items longer.items) }
 {
-    cells.push(value)?;
+    cells.push(values.value(nth)?)?;
     Ok(cells)
 }
 
@@ -139,9 +104,51 @@ impl Dealer {
         self.buckets.add(self.key.as_slice(), row)
     }
 
+    /// Deals the row that is fed from a line with a key, the time when it is past, and values.
+    pub(crate) fn deal_values(
+        &mut self,
+        origin: Origin,
+        key: Row,
+        time: Option<i64>,
+        values: Row,
+    ) -> Result<(), AllocError>
+        requires key { All IsFit key }
+        requires values { All IsFit values }
+        ensures { OnOk result (Deals self.old.buckets self.new.buckets (from_origin origin (record { key = key; time = time; values = values }) ∷ [])) }
+    {
+        let Origin {
+            epoch,
+            stream,
+            part,
+            offset,
+        } = origin;
+        let row = FedRow::new(epoch, stream, part, offset, key, time, values)?;
+        self.deal(row)
+    }
+
+    /// Deals a row to the group of a key. The cells are the arguments and, behind them, the key.
+    fn deal_member(&mut self, from: &Source<'_>, cells: Vec<Value>) -> Result<(), AllocError>
+        requires windows { HasGroupWindows from.now.grouping.now }
+        requires arguments { from.now.arguments ≤ length cells.items }
+        requires cells { All IsFit cells.items }
+        ensures { OnOk result (Deals self.old.buckets self.new.buckets
+            (member_row from.now.origin from.now.bound.now from.now.grouping.now (take from.now.arguments cells.items) (drop from.now.arguments cells.items) ∷ [])) }
+    {
+        let Origin {
+            epoch,
+            stream,
+            part,
+            offset,
+        } = from.origin;
+        let count = from.arguments;
+        let time = closing_time(from.bound, from.grouping, &cells[count..]);
+        let row = FedRow::of_cells(epoch, stream, part, offset, count, time, cells)?;
+        self.deal(row)
+    }
+
     /// Deals a row to each of its groups whose keys begin like this, by the parts of a key that are left. The cells are the arguments and, behind
     /// them, the key so far; they are cloned for each group but the last.
-    fn deal_groups(
+    pub(crate) fn deal_groups(
         &mut self,
         alloc: Global,
         from: &Source<'_>,
@@ -158,9 +165,7 @@ impl Dealer {
             (begun_with (drop from.now.arguments cells.items) (row_keys parts.now from.now.row.now)))) }
     {
         let Some((part, parts)) = parts.split_first() else {
-            let time = closing_time(from.bound, from.grouping, &cells[from.arguments..]);
-            let row = from.origin.member(from.arguments, time, cells)?;
-            return self.deal(row);
+            return self.deal_member(from, cells);
         };
         let values = KeyValues::of(part, from.row);
         let Some(last) = values.count().checked_sub(1) else {
@@ -168,59 +173,10 @@ impl Dealer {
         };
         let room = from.grouping.keys.len().saturating_add(from.arguments);
         for nth in 0..last {
-            let begun = longer(alloc, room, cells.as_slice(), values.value(nth)?)?;
+            let begun = longer(alloc, room, cells.as_slice(), &values, nth)?;
             self.deal_groups(alloc, from, parts, begun)?;
         }
-        let cells = pushed(cells, values.value(last)?)?;
+        let cells = pushed(cells, &values, last)?;
         self.deal_groups(alloc, from, parts, cells)
-    }
-
-    /// Deals what a row hands on. A row as SELECT shows it has a key without values.
-    #[tactic(auto, unfolding(ssq_value::specs::Key::keys_of))]
-    pub(crate) fn hand_on(
-        &mut self,
-        alloc: Global,
-        bound: &Bound,
-        origin: Origin,
-        handed: HandedOn<'_>,
-    ) -> Result<(), AllocError>
-        requires { IsFitHanded handed }
-        ensures { OnOk result (Deals self.old.buckets self.new.buckets (map (from_origin origin) (handed_rows bound.now handed.entry))) }
-    {
-        match handed {
-            HandedOn::Nothing => Ok(()),
-            HandedOn::Shown(values) => {
-                let row = origin.row(Row::new(alloc), None, values)?;
-                self.deal(row)
-            },
-            HandedOn::Distinguished {
-                columns,
-                key,
-                values,
-            } => {
-                let time = repeat_time(bound, columns, key.as_slice());
-                let row = origin.row(key, time, values)?;
-                self.deal(row)
-            },
-            HandedOn::Paired { key, time, row } => {
-                let row = origin.row(key, time, row)?;
-                self.deal(row)
-            },
-            HandedOn::Grouped {
-                grouping,
-                row,
-                arguments,
-            } => {
-                let from = Source {
-                    origin,
-                    bound,
-                    grouping,
-                    row: row.as_slice(),
-                    arguments: arguments.len(),
-                };
-                let parts = grouping.keys.as_slice();
-                self.deal_groups(alloc, &from, parts, arguments.into_vec())
-            }
-        }
     }
 }

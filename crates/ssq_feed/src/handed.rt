@@ -1,7 +1,6 @@
 //! What a row hands on, by the shape of the query.
 
-ghost use Rattle.std.specs.Prelude.{◌≡◌, ◌∷◌, [], All, IfOk};
-ghost use Rattle.ssq_shape.specs.declared.bound.Bound.{Bound as Query};
+ghost use Rattle.std.specs.Prelude.{◌≡◌, ◌∷◌, [], All, IfOk, Ok};
 ghost use Rattle.ssq_shape.specs.Evaluation.{cell_at};
 ghost use Rattle.ssq_expr.specs.Answers.{Answers, itself};
 ghost use Rattle.ssq_meaning.specs.Dedup.{handed_to_dedup, key_in};
@@ -11,42 +10,14 @@ ghost use Rattle.ssq_meaning.specs.Group.{argument_of, arguments_of, handed_to_g
 ghost use Rattle.ssq_meaning.specs.Join.{handed_to_join, join_key, key_column};
 ghost use Rattle.ssq_meaning.specs.Windows.{HasGroupWindows, HasWindows};
 ghost use Rattle.ssq_feed.specs.Keys.{IsReadRow};
-ghost use Rattle.ssq_feed.specs.Handing.{IsFitHanded, handed_rows, handed_shown};
+ghost use Rattle.ssq_feed.specs.Handing.{HandsOn, handed_shown};
 
+use crate::dealer::{Dealer, Origin, Source};
 use ssq_expr::{EvalFault, eval, passes, show};
-use ssq_meaning::join_time;
+use ssq_meaning::{join_time, repeat_time};
 use ssq_shape::{Aggregate, Bound, Grouping, Joining, KeyPair, Shape, Typed};
 use ssq_value::{Row, Value};
 use std::alloc::{AllocError, Global};
-
-/// What a row hands on.
-#[derive(Drop)]
-pub(crate) enum HandedOn<'a> {
-    /// Nothing: there is no row, or WHERE is not TRUE on it.
-    Nothing,
-    /// The row as SELECT shows it.
-    Shown(Row),
-    /// The row as SELECT shows it, by its values in the columns of DEDUPLICATE.
-    Distinguished {
-        columns: &'a [usize],
-        key: Row,
-        values: Row,
-    },
-    /// The row of a join as it was read, by its join key, with its event time where the join has a bound.
-    Paired {
-        key: Row,
-        time: Option<i64>,
-        row: Row,
-    },
-    /// The arguments of the aggregates, to each group of the row.
-    Grouped {
-        grouping: &'a Grouping,
-        /// The row as it was read, of which the groups' keys are made.
-        row: Row,
-        /// They have room for the values of a group's key.
-        arguments: Row,
-    },
-}
 
 fn argument_of(alloc: Global, argument: &Option<Typed>, row: &[Value]) -> Result<Value, EvalFault>
     requires fit { All IsFit row.now }
@@ -79,15 +50,21 @@ fn arguments_of(
     Ok(values)
 }
 
-fn shown<'a>(alloc: Global, bound: &Bound, row: &[Value]) -> Result<HandedOn<'a>, EvalFault>
-    requires read { IsReadRow row.now }
-    ensures handed { Answers (handed_rows bound.now) result (handed_shown bound.now row.now) }
-    ensures fit { IfOk result IsFitHanded }
+/// Deals a row as SELECT shows it, where WHERE is TRUE on it. It has a key without values.
+fn deal_shown(
+    alloc: Global,
+    bound: &Bound,
+    origin: Origin,
+    row: &[Value],
+    dealer: &mut Dealer,
+) -> Result<(), EvalFault>
+    requires { IsReadRow row.now }
+    ensures { HandsOn origin dealer.old.buckets dealer.new.buckets result (handed_shown bound.now row.now) }
 {
-    match show(alloc, bound, row)? {
-        Some(values) => Ok(HandedOn::Shown(values)),
-        None => Ok(HandedOn::Nothing),
+    if let Some(values) = show(alloc, bound, row)? {
+        dealer.deal_values(origin, Row::new(alloc), None, values)?;
     }
+    Ok(())
 }
 
 /// The value of a column: NULL, where the row does not have it.
@@ -115,56 +92,55 @@ fn key_in(alloc: Global, columns: &[usize], room: usize, row: &[Value]) -> Resul
     Ok(Row::from_vec(key))
 }
 
+/// Deals a row as SELECT shows it, where WHERE is TRUE on it, by its values in the columns of DEDUPLICATE.
 #[tactic(auto, unfolding(ssq_meaning::specs::Dedup::handed_to_dedup))]
-fn distinguished<'a>(
+fn deal_distinguished(
     alloc: Global,
     bound: &Bound,
-    columns: &'a [usize],
+    columns: &[usize],
+    origin: Origin,
     row: &[Value],
-) -> Result<HandedOn<'a>, EvalFault>
-    requires read { IsReadRow row.now }
-    ensures handed { Answers (handed_rows bound.now) result (handed_to_dedup bound.now columns.now row.now) }
-    ensures fit { IfOk result IsFitHanded }
+    dealer: &mut Dealer,
+) -> Result<(), EvalFault>
+    requires { IsReadRow row.now }
+    ensures { HandsOn origin dealer.old.buckets dealer.new.buckets result (handed_to_dedup bound.now columns.now row.now) }
 {
-    match show(alloc, bound, row)? {
-        Some(values) => {
-            let key = key_in(alloc, columns, values.len(), row)?;
-            Ok(HandedOn::Distinguished {
-                columns,
-                key,
-                values,
-            })
-        },
-        None => Ok(HandedOn::Nothing),
+    if let Some(values) = show(alloc, bound, row)? {
+        let key = key_in(alloc, columns, values.len(), row)?;
+        let time = repeat_time(bound, columns, key.as_slice());
+        dealer.deal_values(origin, key, time, values)?;
     }
+    Ok(())
 }
 
+/// Deals the arguments of the aggregates to each group of a row on which WHERE is TRUE. They have room for the values of a group's key.
 #[tactic(auto, unfolding(ssq_meaning::specs::Group::handed_to_groups))]
-fn grouped<'a>(
+fn deal_grouped(
     alloc: Global,
     bound: &Bound,
-    grouping: &'a Grouping,
-    row: Row,
-) -> Result<HandedOn<'a>, EvalFault>
+    grouping: &Grouping,
+    origin: Origin,
+    row: &[Value],
+    dealer: &mut Dealer,
+) -> Result<(), EvalFault>
     requires windows { HasGroupWindows grouping.now }
-    requires read { IsReadRow row }
-    ensures handed { Answers (handed_rows bound.now) result (handed_to_groups bound.now grouping.now row) }
-    ensures fit { IfOk result IsFitHanded }
+    requires read { IsReadRow row.now }
+    ensures { HandsOn origin dealer.old.buckets dealer.new.buckets result (handed_to_groups bound.now grouping.now row.now) }
 {
-    if !passes(alloc, &bound.filter, row.as_slice())? {
-        return Ok(HandedOn::Nothing);
+    if !passes(alloc, &bound.filter, row)? {
+        return Ok(());
     }
-    let arguments = arguments_of(
-        alloc,
-        grouping.aggregates.as_slice(),
-        grouping.keys.len(),
-        row.as_slice(),
-    )?;
-    Ok(HandedOn::Grouped {
+    let parts = grouping.keys.as_slice();
+    let arguments = arguments_of(alloc, grouping.aggregates.as_slice(), parts.len(), row)?;
+    let from = Source {
+        origin,
+        bound,
         grouping,
         row,
-        arguments: Row::from_vec(arguments),
-    })
+        arguments: arguments.len(),
+    };
+    dealer.deal_groups(alloc, &from, parts, arguments)?;
+    Ok(())
 }
 
 fn key_column(left: bool, pair: &KeyPair) -> usize
@@ -186,47 +162,51 @@ fn join_key(alloc: Global, pairs: &[KeyPair], stream: u32, row: &[Value]) -> Res
     Ok(Row::from_vec(key))
 }
 
-fn paired<'a>(
+/// Deals the row of a join as it was read, by its join key, with its event time where the join has a bound.
+fn deal_paired(
     alloc: Global,
     joining: &Joining,
-    stream: u32,
+    origin: Origin,
     row: Row,
-) -> Result<HandedOn<'a>, AllocError>
-    requires read { IsReadRow row }
-    ensures handed { (query : Query) → IfOk result (λ handed. handed_rows query handed ≡ handed_to_join joining.now stream row ∷ []) }
-    ensures fit { IfOk result IsFitHanded }
+    dealer: &mut Dealer,
+) -> Result<(), EvalFault>
+    requires { IsReadRow row }
+    ensures { HandsOn origin dealer.old.buckets dealer.new.buckets result (Ok (handed_to_join joining.now origin.stream row ∷ [])) }
 {
-    let key = join_key(alloc, joining.keys.as_slice(), stream, row.as_slice())?;
-    let time = join_time(joining.bound, stream, row.as_slice());
-    Ok(HandedOn::Paired { key, time, row })
+    let key = join_key(
+        alloc,
+        joining.keys.as_slice(),
+        origin.stream,
+        row.as_slice(),
+    )?;
+    let time = join_time(joining.bound, origin.stream, row.as_slice());
+    dealer.deal_values(origin, key, time, row)?;
+    Ok(())
 }
 
-/// What a row of a stream hands on. WHERE is evaluated first, and where it is TRUE the items of SELECT or the arguments of the aggregates, from
+/// Deals what a row of a stream hands on. WHERE is evaluated first, and where it is TRUE the items of SELECT or the arguments of the aggregates, from
 /// the left; for a join nothing is. The room of a row that is not handed on itself is given back.
-pub(crate) fn handed_on<'a>(
+pub(crate) fn hand_on(
     alloc: Global,
-    bound: &'a Bound,
-    stream: u32,
+    bound: &Bound,
+    origin: Origin,
     row: Row,
     room: &mut Vec<Value>,
-) -> Result<HandedOn<'a>, EvalFault>
+    dealer: &mut Dealer,
+) -> Result<(), EvalFault>
     requires windows { HasWindows bound.now }
     requires read { IsReadRow row }
-    ensures handed { Answers (handed_rows bound.now) result (handed bound.now stream row) }
-    ensures fit { IfOk result IsFitHanded }
+    ensures { HandsOn origin dealer.old.buckets dealer.new.buckets result (handed bound.now origin.stream row) }
 {
-    match &bound.shape {
-        Shape::Group(grouping) => grouped(alloc, bound, grouping, row),
+    let values = row.as_slice();
+    let done = match &bound.shape {
+        Shape::Join(joining) => return deal_paired(alloc, joining, origin, row, dealer),
+        Shape::Group(grouping) => deal_grouped(alloc, bound, grouping, origin, values, dealer),
         Shape::Dedup(columns) => {
-            let handed = distinguished(alloc, bound, columns.as_slice(), row.as_slice())?;
-            *room = row.into_vec();
-            Ok(handed)
+            deal_distinguished(alloc, bound, columns.as_slice(), origin, values, dealer)
         },
-        Shape::Join(joining) => Ok(paired(alloc, joining, stream, row)?),
-        Shape::Plain => {
-            let handed = shown(alloc, bound, row.as_slice())?;
-            *room = row.into_vec();
-            Ok(handed)
-        },
-    }
+        Shape::Plain => deal_shown(alloc, bound, origin, values, dealer),
+    };
+    *room = row.into_vec();
+    done
 }

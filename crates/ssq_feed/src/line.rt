@@ -3,12 +3,13 @@
 ghost use Rattle.std.specs.Prelude.{◌≡◌, OnOk, IfOk, IfErr};
 ghost use Rattle.ssq_meaning.specs.Feeding.{layout_at, time_of_row};
 ghost use Rattle.ssq_meaning.specs.Windows.{HasWindows};
-ghost use Rattle.ssq_feed.specs.Handing.{IsFitHanded, handed_rows};
-ghost use Rattle.ssq_feed.specs.Rows.{IsRead, GivesOf, LineCause};
+ghost use Rattle.ssq_feed.specs.Dealing.{HasDealt};
+ghost use Rattle.ssq_feed.specs.Rows.{IsRead, LineCause};
 ghost use Rattle.ssq_feed.specs.Causes.{LogWent, ReadCause};
 
+use crate::dealer::{Dealer, Origin};
 use crate::fault::FeedFault;
-use crate::handed::{HandedOn, handed_on};
+use crate::handed::hand_on;
 use crate::times::time_at;
 use ssq_expr::EvalFault;
 use ssq_json::{BadRow, read_row_in};
@@ -17,15 +18,6 @@ use ssq_shape::Bound;
 use ssq_value::{Schema, Value};
 use std::alloc::Global;
 use std::mem;
-
-/// What a line gives; a blank one gives nothing.
-#[derive(Drop)]
-pub(crate) struct LineGift<'a> {
-    /// The event time of its row.
-    pub(crate) time: Option<i64>,
-    /// What its row hands on.
-    pub(crate) handed: HandedOn<'a>,
-}
 
 /// Reads the line at an offset of a range that ends at `to`, into the buffer.
 pub(crate) fn read_line<L: Log>(
@@ -53,37 +45,33 @@ fn event_time(schema: &Schema, row: &[Value]) -> Option<i64>
     time_at(row, schema.event()?)
 }
 
-/// What the bytes of the line at an offset give. The row is read in the room of one before, and leaves that room to the next where the row itself is not handed on.
-pub(crate) fn take_line<'a>(
+/// Deals what the bytes of a line give, and tells the event time of its row; a blank one gives nothing. The row is read in the room of one before, and
+/// leaves that room to the next where the row itself is not handed on.
+pub(crate) fn deal_line(
     alloc: Global,
-    bound: &'a Bound,
-    stream: u32,
+    bound: &Bound,
     schema: &Schema,
-    at: u64,
+    origin: Origin,
     line: &[u8],
     room: &mut Vec<Value>,
-) -> Result<LineGift<'a>, FeedFault>
-    requires schema { schema.now ≡ layout_at bound.now stream }
+    dealer: &mut Dealer,
+) -> Result<Option<i64>, FeedFault>
+    requires schema { schema.now ≡ layout_at bound.now origin.stream }
     requires windows { HasWindows bound.now }
-    ensures gives { IfOk result (λ gift. GivesOf bound.now stream line.now gift.time (handed_rows bound.now gift.handed)) }
-    ensures fit { IfOk result (λ gift. IsFitHanded gift.handed) }
-    ensures fault { IfErr result (LineCause bound.now stream line.now at) }
+    ensures dealt { IfOk result (HasDealt bound.now origin line.now dealer.old.buckets dealer.new.buckets) }
+    ensures fault { IfErr result (LineCause bound.now origin.stream line.now origin.offset) }
 {
-    let row = read_row_in(alloc, line, schema, mem::replace(room, Vec::new(alloc)));
-    match row {
-        Ok(None) => Ok(LineGift {
-            time: None,
-            handed: HandedOn::Nothing,
-        }),
-        Ok(Some(row)) => {
-            let time = event_time(schema, row.as_slice());
-            match handed_on(alloc, bound, stream, row, room) {
-                Ok(handed) => Ok(LineGift { time, handed }),
-                Err(EvalFault::Overflow) => Err(FeedFault::Overflow { offset: at }),
-                Err(EvalFault::NoMemory) => Err(FeedFault::NoMemory),
-            }
-        },
-        Err(BadRow::NoMemory) => Err(FeedFault::NoMemory),
-        Err(cause) => Err(FeedFault::BadLine { offset: at, cause }),
+    let at = origin.offset;
+    let row = match read_row_in(alloc, line, schema, mem::replace(room, Vec::new(alloc))) {
+        Ok(Some(row)) => row,
+        Ok(None) => return Ok(None),
+        Err(BadRow::NoMemory) => return Err(FeedFault::NoMemory),
+        Err(cause) => return Err(FeedFault::BadLine { offset: at, cause }),
+    };
+    let time = event_time(schema, row.as_slice());
+    match hand_on(alloc, bound, origin, row, room, dealer) {
+        Ok(()) => Ok(time),
+        Err(EvalFault::Overflow) => Err(FeedFault::Overflow { offset: at }),
+        Err(EvalFault::NoMemory) => Err(FeedFault::NoMemory),
     }
 }

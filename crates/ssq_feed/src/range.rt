@@ -10,7 +10,7 @@ ghost use Rattle.ssq_feed.specs.Causes.{LogWent, FeedCause};
 
 use crate::dealer::{Dealer, Origin};
 use crate::fault::FeedFault;
-use crate::line::{read_line, take_line};
+use crate::line::{deal_line, read_line};
 use crate::task::FedRows;
 use ssq_meaning::View;
 use ssq_outside::Log;
@@ -55,23 +55,22 @@ pub(crate) fn feed_lines<L: Log>(
     let mut dealer = Dealer::new(alloc, view.partitions)?;
     for at in from..to {
         read_line(log, at, to, &mut line)?;
-        let gift = take_line(
-            alloc,
-            view.bound,
-            stream,
-            schema,
-            at,
-            line.as_slice(),
-            &mut room,
-        )?;
-        time = later(time, gift.time);
         let origin = Origin {
             epoch,
             stream,
             part,
             offset: at,
         };
-        dealer.hand_on(alloc, view.bound, origin, gift.handed)?;
+        let own = deal_line(
+            alloc,
+            view.bound,
+            schema,
+            origin,
+            line.as_slice(),
+            &mut room,
+            &mut dealer,
+        )?;
+        time = later(time, own);
     }
     Ok(FedRows {
         time,

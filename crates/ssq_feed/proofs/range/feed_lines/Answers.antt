@@ -2,7 +2,6 @@ use Rattle.std.proofs.Common.{◌∙◌, ℕ, List, sym, subst, refl, arith}
 use Rattle.std.proofs.lemmas.Result.{err_from_is_err_and}
 use Rattle.ssq_meaning.specs.Meaning.{Line}
 use Rattle.ssq_meaning.specs.Parts.{Part}
-use Rattle.ssq_feed.specs.Handing.{handed_rows}
 use Rattle.ssq_feed.specs.Rows.{IsRead}
 use Rattle.ssq_feed.proofs.Feeding.{begun, goes_on, went_on, read_stops, line_stops}
 use Rattle.ssq_feed.proofs.range.feed_lines.Goals as goal
@@ -20,15 +19,15 @@ returns-in_err-read_line-clause-fault g c =
     rw (p.1, p.2) (read_stops g.L.Log.tells g.L.Log.lines g.L.Log.available g.L.Log.answers g.L.Log.faults c.args.view.bound.now c.args.stream c.args.part c.args.from c.loop-at.at c.args.to
     c.args.log.now c.loop-at.log c.read_line.new.log _ c.loop-at.invariant.log c.loop-at-test.true c.in_err-read_line.ensures.fault)
 
-pub returns-in_err-gift-clause-fault : goal.returns-in_err-gift-clause-fault
-returns-in_err-gift-clause-fault g c =
+pub returns-in_err-own-clause-fault : goal.returns-in_err-own-clause-fault
+returns-in_err-own-clause-fault g c =
     let P : List ℕ → Type 0 = IsRead (g.L.Log.lines c.read_line.new.log) c.loop-at.at in
     let Q : List Line → Type 0 = λ ls. IsRead ls c.loop-at.at c.as_slice.result.now in
     let read : g.L.Log.tells → IsRead (g.L.Log.lines c.args.log.now) c.loop-at.at c.as_slice.result.now = λ tells.
     subst Q (c.read_line.ensures.log.same tells ∙ c.loop-at.invariant.log.same tells) (subst P (sym c.as_slice.ensures.value) (c.in_ok-read_line.ensures.read tells)) in
-    let p = err_from_is_err_and c.from_residual-in_err-gift.result c.from_residual-in_err-gift.ensures.1 in
+    let p = err_from_is_err_and c.from_residual-in_err-own.result c.from_residual-in_err-own.ensures.1 in
     rw (p.1, p.2) (line_stops g.L.Log.tells g.L.Log.lines g.L.Log.available g.L.Log.answers g.L.Log.faults c.args.view.bound.now c.args.epoch c.args.stream c.args.part c.args.from c.loop-at.at c.args.to c.args.view.partitions
-    c.loop-at.time c.loop-at.dealer.buckets c.as_slice.result.now c.args.log.now c.read_line.new.log _ c.loop-at.invariant.so_far c.loop-at-test.true read c.in_err-gift.ensures.fault)
+    c.loop-at.time c.loop-at.dealer.buckets c.as_slice.result.now c.args.log.now c.read_line.new.log _ c.loop-at.invariant.so_far c.loop-at-test.true read c.in_err-own.ensures.fault)
 
 pub loop-at-preserved : goal.loop-at-preserved
 loop-at-preserved g c =
@@ -36,14 +35,14 @@ loop-at-preserved g c =
     let Q : List Line → Type 0 = λ ls. IsRead ls c.loop-at.at c.as_slice.result.now in
     let read : g.L.Log.tells → IsRead (g.L.Log.lines c.args.log.now) c.loop-at.at c.as_slice.result.now = λ tells.
     subst Q (c.read_line.ensures.log.same tells ∙ c.loop-at.invariant.log.same tells) (subst P (sym c.as_slice.ensures.value) (c.in_ok-read_line.ensures.read tells)) in
-    let given = c.in_ok-gift.ensures.gives in
+    let dealt = c.in_ok-own.ensures.dealt in
     let of : Part = record { stream = c.args.stream; part = c.args.part; lines = g.L.Log.lines c.args.log.now } in
     record {
-      so_far = goes_on g.L.Log.tells c.args.view.bound.now c.args.epoch of c.args.from c.loop-at.at c.args.to c.args.view.partitions c.loop-at.time c.in_ok-gift.gift.time c.later-time.result
-          (handed_rows c.args.view.bound.now c.in_ok-gift.gift.handed) c.as_slice.result.now c.loop-at.dealer.buckets c.hand_on.new.self.buckets
-          c.loop-at.invariant.so_far c.loop-at-test.true read given c.later-time.ensures.later (c.later-time.ensures.years c.loop-at.invariant.so_far.years given.years)
-          c.loop-at.invariant.len c.in_ok-hand_on.ensures;
-      len = c.in_ok-hand_on.ensures.len ∙ c.loop-at.invariant.len;
+      so_far = goes_on g.L.Log.tells c.args.view.bound.now c.args.epoch of c.args.from c.loop-at.at c.args.to c.args.view.partitions c.loop-at.time c.in_ok-own.own c.later-time.result
+          dealt.rows c.as_slice.result.now c.loop-at.dealer.buckets c.deal_line.new.dealer.buckets
+          c.loop-at.invariant.so_far c.loop-at-test.true read dealt.gives c.later-time.ensures.later (c.later-time.ensures.years c.loop-at.invariant.so_far.years dealt.gives.years)
+          c.loop-at.invariant.len dealt.deals;
+      len = dealt.deals.len ∙ c.loop-at.invariant.len;
       log = went_on g.L.Log.tells g.L.Log.lines g.L.Log.available g.L.Log.answers g.L.Log.faults c.args.log.now c.loop-at.log c.read_line.new.log c.loop-at.invariant.log c.read_line.ensures.log;
     }
 
@@ -62,26 +61,19 @@ pub returns-in_err-read_line-clause-log : goal.returns-in_err-read_line-clause-l
 returns-in_err-read_line-clause-log g c =
     went_on g.L.Log.tells g.L.Log.lines g.L.Log.available g.L.Log.answers g.L.Log.faults c.args.log.now c.loop-at.log c.read_line.new.log c.loop-at.invariant.log c.read_line.ensures.log
 
-pub take_line-requires-clause-schema : goal.take_line-requires-clause-schema
-take_line-requires-clause-schema g c = c.requires.schema
+pub deal_line-requires-clause-schema : goal.deal_line-requires-clause-schema
+deal_line-requires-clause-schema g c = c.requires.schema
 
-pub take_line-requires-clause-windows : goal.take_line-requires-clause-windows
-take_line-requires-clause-windows g c = c.requires.windows
+pub deal_line-requires-clause-windows : goal.deal_line-requires-clause-windows
+deal_line-requires-clause-windows g c = c.requires.windows
 
-pub returns-in_err-gift-clause-rows : goal.returns-in_err-gift-clause-rows
-returns-in_err-gift-clause-rows g c =
-    let p = err_from_is_err_and c.from_residual-in_err-gift.result c.from_residual-in_err-gift.ensures.1 in
+pub returns-in_err-own-clause-rows : goal.returns-in_err-own-clause-rows
+returns-in_err-own-clause-rows g c =
+    let p = err_from_is_err_and c.from_residual-in_err-own.result c.from_residual-in_err-own.ensures.1 in
     rw (p.1) tt
 
-pub returns-in_err-gift-clause-log : goal.returns-in_err-gift-clause-log
-returns-in_err-gift-clause-log g c =
-    went_on g.L.Log.tells g.L.Log.lines g.L.Log.available g.L.Log.answers g.L.Log.faults c.args.log.now c.loop-at.log c.read_line.new.log c.loop-at.invariant.log c.read_line.ensures.log
-
-pub hand_on-requires : goal.hand_on-requires
-hand_on-requires g c = c.in_ok-gift.ensures.fit
-
-pub returns-in_err-hand_on-clause-log : goal.returns-in_err-hand_on-clause-log
-returns-in_err-hand_on-clause-log g c =
+pub returns-in_err-own-clause-log : goal.returns-in_err-own-clause-log
+returns-in_err-own-clause-log g c =
     went_on g.L.Log.tells g.L.Log.lines g.L.Log.available g.L.Log.answers g.L.Log.faults c.args.log.now c.loop-at.log c.read_line.new.log c.loop-at.invariant.log c.read_line.ensures.log
 
 pub loop-at-smaller : goal.loop-at-smaller
