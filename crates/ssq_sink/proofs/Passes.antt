@@ -1,5 +1,5 @@
 -- The sink files are gone through, one after the other.
-use Rattle.std.proofs.Common.{◌≡◌, ℕ, zero, suc, ◌+◌, ◌<◌, ◌≤◌, max, ◌^◌, List, [], ◌∷◌, ◌++◌, length, take, get_or, Some, None, is_some, true≢false, refl, sym, ap, ◌∙◌, subst, append_assoc, append-nil, arith, inl, inr, ◌⊎◌, IsUtf8}
+use Rattle.std.proofs.Common.{◌≡◌, ℕ, zero, suc, ◌+◌, ◌<◌, ◌≤◌, max, ◌^◌, List, [], ◌∷◌, ◌++◌, length, take, get_or, Some, None, is_some, true≢false, refl, sym, ap, ◌∙◌, subst, append_assoc, append-nil, arith, inl, inr, ◌⊎◌, IsUtf8, Result, Ok, Err, OnOk}
 use Rattle.std.specs.Prelude.{slice_get, Contains, unwrap_or}
 use Rattle.std.proofs.lemmas.List.Elements.{Contains-append_left, Contains-push, Contains-push_cases}
 use Rattle.std.proofs.lemmas.Bool.{cases_lt}
@@ -26,6 +26,11 @@ pub risen : (fault : SinkFault) (a b c : ℕ) → a ≤ b → HasRisen fault b c
 risen (Damaged at) a b c low has = tt
 risen DiskFault a b c low has = omega (arith, low, has)
 risen NoMemory a b c low has = tt
+
+-- two things that hold of one call
+pub on_ok_both : {T E P Q R : Type 0} (r : Result T E) → (P → Q → R) → OnOk r P → OnOk r Q → OnOk r R
+on_ok_both (Ok x) f p q = f p q
+on_ok_both (Err e) f p q = tt
 
 -- ---- the files that were gone through
 

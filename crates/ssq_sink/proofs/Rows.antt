@@ -6,7 +6,7 @@ use Rattle.std.specs.Cmp.{IsStrictWeakOrder, IsTotalOrder, back_total, on_total,
 use Rattle.std.specs.Cmp.Lexicographic.{options_total}
 use Rattle.std.specs.FinMap.{IsAntisymmetric}
 use Rattle.std.specs.List.{flat_map}
-use Rattle.std.specs.List.Sorted.{IsPermutation, IsSorted, IsSortedBy}
+use Rattle.std.specs.List.Sorted.{IsPermutation, IsSortedBy}
 use Rattle.std.specs.Option.{option_cmp}
 use Rattle.std.specs.Ordering.{is_lt, is_ne, ordering_reverse, ordering_then}
 use Rattle.std.proofs.Math.ListN.{drop_of_length-le}
@@ -101,12 +101,6 @@ module _ (order : List SortKey) where
   -- what a sort of rows gives
   pub rows_sorted : (rows sort : List (List Value)) → IsPermutation rows sort → IsSortedBy (is_row_below order) sort → sort ≡ sorted (is_row_below order) rows
   rows_sorted rows sort moved up = sorted_only rows_order rows_ties rows sort moved up
-
--- without keys the values tell
-pub plainly_sorted : (order : List SortKey) (rows sort : List (List Value)) → length order ≡ 0 → IsPermutation rows sort → IsSorted values_cmp sort → sort ≡ sorted (is_row_below order) rows
-unfolding row_cmp
-plainly_sorted [] rows sort none moved up = rows_sorted [] rows sort moved up
-plainly_sorted (key ∷ order) rows sort none moved up = absurd (omega (arith, none))
 
 pub sink_text-SameBag : (query : Bound) (left right : List (List Value)) → ((test : List Value → Bool) → count_by test left ≡ count_by test right) → sink_text query left ≡ sink_text query right
 unfolding sink_text ordered_text

@@ -67,11 +67,10 @@ impl Kept {
         ensures { (epochs : List (List Values)) (rows : List Values) → IsKept bound.now (epochs ++ rows ∷ []) self.old → OnOk result (IsKept bound.now (epochs ++ (rows ++ row ∷ []) ∷ []) self.new) }
     {
         match self {
-            Kept::Each(text) => put_line(text, &columns.heads, &row)?,
-            Kept::Latest(latest) => latest.put(alloc, bound.outputs.as_slice(), row)?,
-            Kept::Last(text) => put_line(text, &columns.heads, &row)?,
+            Kept::Each(text) => put_line(text, &columns.heads, &row),
+            Kept::Latest(latest) => latest.put(alloc, bound.outputs.as_slice(), row),
+            Kept::Last(text) => put_line(text, &columns.heads, &row),
         }
-        Ok(())
     }
 
     /// Takes the rows of one file more. They need not be sorted. `false` where the bytes are no canonical rows of these columns.

@@ -74,10 +74,7 @@ impl Latest {
         requires { (rows : List Values) × IsLatest bound.now.outputs rows self.rows.entries }
         ensures { (rows : List Values) → IsLatest bound.now.outputs rows self.rows.entries → IfOk result (λ text. text ≡ sink_text bound.now (last_rows bound.now.outputs rows)) }
     {
-        let mut rows = Vec::with_capacity(alloc, self.rows.len())?;
-        for row in self.rows.into_values() {
-            rows.push(row)?;
-        }
+        let rows = self.rows.into_values().collect(alloc)?;
         epoch_text(alloc, bound, rows)
     }
 }

@@ -2,9 +2,8 @@
 
 ghost use Rattle.std.specs.Prelude.{◌≡◌, List};
 ghost use Rattle.std.specs.Cmp.{IsTotalOrder};
-ghost use Rattle.std.specs.List.Sorted.{IsPermutation, IsSorted};
+ghost use Rattle.std.specs.List.Sorted.{IsPermutation};
 ghost use Rattle.ssq_value.specs.declared.value.Value.{Value as Cell};
-ghost use Rattle.ssq_value.specs.Order.{values_cmp};
 ghost use Rattle.ssq_shape.specs.declared.bound.SortKey.{SortKey as Key};
 ghost use Rattle.ssq_sink.specs.Sink.{is_row_below, key_cmp, row_cmp};
 ghost use Rattle.ssq_sink.specs.Sorted.{sorted};
@@ -37,23 +36,9 @@ fn order_by(order: &[SortKey], left: &[Value], right: &[Value]) -> Ordering
     order_rows(left, right)
 }
 
-/// The rows in the order of their values. Those of a partition mostly ascend already: the sort that finds what ascends and merges it
+/// The rows in the order of `order_by`. Those of a partition mostly ascend already: the sort that finds what ascends and merges it
 /// takes room for the rows once more, and without it they are sorted where they stand.
-fn sort_by_values(mut rows: Vec<Row>) -> Vec<Row>
-    ensures permutation { IsPermutation rows.items result.items }
-    ensures sorted { IsSorted values_cmp result.items }
-{
-    match rows.sort() {
-        Ok(()) => rows,
-        Err(_) => {
-            rows.sort_unstable();
-            rows
-        }
-    }
-}
-
-/// The rows in the order of `order_by`, sorted in the same way.
-fn sort_by_keys(order: &[SortKey], mut rows: Vec<Row>) -> Vec<Row>
+pub(crate) fn sort(order: &[SortKey], mut rows: Vec<Row>) -> Vec<Row>
     ensures sorted { result.items ≡ sorted (is_row_below order.now) rows.items }
     ensures permutation { IsPermutation rows.items result.items }
 {
@@ -63,18 +48,6 @@ fn sort_by_keys(order: &[SortKey], mut rows: Vec<Row>) -> Vec<Row>
             rows.sort_unstable_by(|left, right| order_by(order, left.as_slice(), right.as_slice()));
             rows
         }
-    }
-}
-
-/// The rows in the order of `order_by`.
-pub(crate) fn sort(order: &[SortKey], rows: Vec<Row>) -> Vec<Row>
-    ensures sorted { result.items ≡ sorted (is_row_below order.now) rows.items }
-    ensures permutation { IsPermutation rows.items result.items }
-{
-    if order.is_empty() {
-        sort_by_values(rows)
-    } else {
-        sort_by_keys(order, rows)
     }
 }
 
