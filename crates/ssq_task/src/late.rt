@@ -1,10 +1,11 @@
 //! Rows that are late.
 
-ghost use Rattle.std.specs.Prelude.{◌≡◌, ◌++◌, IfOk, OnOk};
+ghost use Rattle.std.specs.Prelude.{◌≡◌, IfOk};
 ghost use Rattle.ssq_meaning.specs.Times.{is_past};
 ghost use Rattle.ssq_task.specs.Reducing.{not_past};
 ghost use Rattle.ssq_task.specs.Lists.{joined_vecs};
 
+use crate::lists::joined;
 use ssq_meaning::FedRow;
 use std::alloc::{AllocError, Global};
 
@@ -32,24 +33,7 @@ fn leave_late(watermark: Option<i64>, rows: &mut Vec<FedRow>)
     rows.retain(|row| !is_late(watermark, row));
 }
 
-/// Puts the rows of a part that are not late behind those that are there.
-fn push_timely(
-    timely: &mut Vec<FedRow>,
-    watermark: Option<i64>,
-    rows: Vec<FedRow>,
-) -> Result<(), AllocError>
-    ensures { OnOk result (timely.new.items ≡ timely.old.items ++ not_past watermark rows.items) }
-{
-    timely.reserve(rows.len())?;
-    for row in rows {
-        if !is_late(watermark, &row) {
-            timely.push(row)?;
-        }
-    }
-    Ok(())
-}
-
-/// The rows of all parts that are not late at the watermark. The first part's room takes those of the others.
+/// The rows of all parts that are not late at the watermark.
 pub(crate) fn timely_rows(
     alloc: Global,
     watermark: Option<i64>,
@@ -57,13 +41,7 @@ pub(crate) fn timely_rows(
 ) -> Result<Vec<FedRow>, AllocError>
     ensures { IfOk result (λ timely. timely.items ≡ not_past watermark (joined_vecs parts.items)) }
 {
-    let mut parts = parts.into_iter();
-    let Some(mut timely) = parts.next() else {
-        return Ok(Vec::new(alloc));
-    };
-    leave_late(watermark, &mut timely);
-    for rows in parts {
-        push_timely(&mut timely, watermark, rows)?;
-    }
-    Ok(timely)
+    let mut rows = joined(alloc, parts)?;
+    leave_late(watermark, &mut rows);
+    Ok(rows)
 }

@@ -8,6 +8,7 @@
 
 mod commit;
 mod late;
+mod lists;
 mod out;
 mod partition;
 mod stages;

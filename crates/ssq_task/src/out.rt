@@ -1,6 +1,6 @@
 //! The out task: the rows of all partitions as the text of the epoch's sink file, and the epoch's commit.
 
-ghost use Rattle.std.specs.Prelude.{◌≡◌, ◌≤◌, ◌^◌, ◌++◌, length, OnOk, IfOk, IfErr, All};
+ghost use Rattle.std.specs.Prelude.{◌≡◌, ◌≤◌, ◌^◌, length, OnOk, IfOk, IfErr, All};
 ghost use Rattle.ssq_time.specs.Time.{IsStampTime};
 ghost use Rattle.ssq_value.specs.Kind.{IfTime};
 ghost use Rattle.ssq_plans.specs.Records.{commit_text};
@@ -12,12 +12,13 @@ ghost use Rattle.ssq_task.specs.Committing.{commit_at};
 ghost use Rattle.ssq_task.specs.Gathering.{HasWritten, WriteCause, IsSealed, SealCause, IsGathered};
 
 use crate::commit::commit_record;
+use crate::lists::joined;
 use crate::stages::{Aside, Remnant, SealedEpoch, Stages};
 use ssq_meaning::View;
 use ssq_outside::{Stage, StageError};
 use ssq_shape::Bound;
 use ssq_sink::epoch_text;
-use ssq_value::{Row, Text};
+use ssq_value::Row;
 use ssq_water::Seen;
 use std::alloc::{AllocError, Global};
 use thiserror::Error;
@@ -80,47 +81,6 @@ pub struct Gathered<'a, S: Stage> {
     pub outcome: Result<SealedEpoch<S::Sealed>, (GatherFault, Remnant<S, S::Sealed>)>,
 }
 
-/// Puts the rows of a partition behind those that are there.
-fn push_rows(all: &mut Vec<Row>, rows: Vec<Row>) -> Result<(), AllocError>
-    ensures { OnOk result (all.new.items ≡ all.old.items ++ rows.items) }
-{
-    all.reserve(rows.len())?;
-    for row in rows {
-        all.push(row)?;
-    }
-    Ok(())
-}
-
-/// The rows of all partitions, one partition after the other. Those of the first stay where they are.
-fn all_rows(alloc: Global, partitions: Vec<Vec<Row>>) -> Result<Vec<Row>, AllocError>
-    ensures { IfOk result (λ all. all.items ≡ joined_vecs partitions.items) }
-{
-    let mut partitions = partitions.into_iter();
-    let Some(mut all) = partitions.next() else {
-        return Ok(Vec::new(alloc));
-    };
-    for rows in partitions {
-        push_rows(&mut all, rows)?;
-    }
-    Ok(all)
-}
-
-/// The text of the rows of all partitions, and how many there are.
-fn rows_record(
-    alloc: Global,
-    bound: &Bound,
-    partitions: Vec<Vec<Row>>,
-) -> Result<(Text, u64), AllocError>
-    requires { All (All (IfTime IsStampTime)) (joined_vecs partitions.items) }
-    ensures text { IfOk result (λ told. told.0 ≡ sink_text bound.now (joined_vecs partitions.items)) }
-    ensures count { IfOk result (λ told. told.1 ≡ length (joined_vecs partitions.items)) }
-{
-    let rows = all_rows(alloc, partitions)?;
-    let count = rows.len() as u64;
-    let text = epoch_text(alloc, bound, rows)?;
-    Ok((text, count))
-}
-
 /// Writes the text of the rows and that of the commit, each to its file, and tells how many rows there are.
 fn write_both<S: Stage>(
     alloc: Global,
@@ -139,30 +99,33 @@ fn write_both<S: Stage>(
     ensures counted { (S.faults stages.old.rows ≤ S.faults stages.new.rows) × (S.faults stages.old.commit ≤ S.faults stages.new.commit) }
     ensures cause { IfErr result (λ fault. WriteCause S.faults fault stages.old stages.new) }
 {
-    let (text, count) = rows_record(alloc, bound, rows)?;
+    let rows = joined(alloc, rows)?;
+    let count = rows.len() as u64;
+    let text = epoch_text(alloc, bound, rows)?;
     stages.rows.write(text.as_bytes())?;
     let record = commit_record(alloc, bound, epoch, seen)?;
     stages.commit.write(record.as_slice())?;
     Ok(count)
 }
 
-/// Seals both files.
+/// Seals both files, or tells that one failed.
 fn seal_both<S: Stage>(
     stages: Stages<S>,
     count: u64,
-) -> Result<SealedEpoch<S::Sealed>, Remnant<S, S::Sealed>>
+) -> Result<SealedEpoch<S::Sealed>, (GatherFault, Remnant<S, S::Sealed>)>
     ensures sealed { S.tells → IfOk result (IsSealed S.written S.sealed stages) }
     ensures count { IfOk result (λ files. files.count ≡ count) }
-    ensures cause { IfErr result (SealCause S.faults stages) }
+    ensures cause { IfErr result (λ failed. (failed.0 ≡ DiskFault) × SealCause S.faults stages failed.1) }
 {
     let Stages { rows, commit } = stages;
     let rows = match rows.sync() {
         Ok(file) => file,
         Err(rows) => {
-            return Err(Remnant {
+            let left = Remnant {
                 rows: Aside::Open(rows),
                 commit,
-            });
+            };
+            return Err((GatherFault::DiskFault, left));
         }
     };
     match commit.sync() {
@@ -171,10 +134,13 @@ fn seal_both<S: Stage>(
             commit,
             count,
         }),
-        Err(commit) => Err(Remnant {
-            rows: Aside::Sealed(rows),
-            commit,
-        }),
+        Err(commit) => {
+            let left = Remnant {
+                rows: Aside::Sealed(rows),
+                commit,
+            };
+            Err((GatherFault::DiskFault, left))
+        }
     }
 }
 
@@ -186,21 +152,6 @@ fn remnant<S: Stage>(stages: Stages<S>) -> Remnant<S, S::Sealed>
     Remnant {
         rows: Aside::Open(rows),
         commit,
-    }
-}
-
-/// Seals both files, or tells that one failed.
-fn seal_epoch<S: Stage>(
-    stages: Stages<S>,
-    count: u64,
-) -> Result<SealedEpoch<S::Sealed>, (GatherFault, Remnant<S, S::Sealed>)>
-    ensures sealed { S.tells → IfOk result (IsSealed S.written S.sealed stages) }
-    ensures count { IfOk result (λ files. files.count ≡ count) }
-    ensures cause { IfErr result (λ failed. (failed.0 ≡ DiskFault) × SealCause S.faults stages failed.1) }
-{
-    match seal_both(stages, count) {
-        Ok(files) => Ok(files),
-        Err(left) => Err((GatherFault::DiskFault, left)),
     }
 }
 
@@ -222,7 +173,7 @@ pub fn gather<'a, S: Stage>(alloc: Global, task: OutTask<'a, S>) -> Gathered<'a,
         mut stages,
     } = task;
     let outcome = match write_both(alloc, view.bound, epoch, &seen, rows, &mut stages) {
-        Ok(count) => seal_epoch(stages, count),
+        Ok(count) => seal_both(stages, count),
         Err(fault) => Err((fault, remnant(stages))),
     };
     Gathered {
