@@ -3,7 +3,7 @@
 use thiserror::Error;
 
 /// A rule of modes that a query breaks. Of several the one that stands first here is told.
-#[derive(Clone, Copy, Debug, PartialEq, Eq, Error)]
+#[derive(Clone, Copy, Debug, Error)]
 pub enum ModeFault {
     /// Groups in Append that have no time key: none would ever be closed.
     #[error("groups in APPEND need a time key of a watermarked stream")]
