@@ -2,12 +2,9 @@
 
 ghost use Rattle.std.specs.Prelude.{◌≡◌, [], ◌∷◌, IfOk, OnOk};
 ghost use Rattle.std.specs.Option.{option_copied};
-ghost use Rattle.ssq_bind.specs.Joins.{parts_of, pair_on, pair_by, pair_of, key_pair, spot_index, shifted_column, or_none, span_of, bound_by, time_bound, rest_by, parts_with, kind_of, joining_of};
-ghost use Rattle.ssq_bind.specs.Lists.{listed};
-ghost use Rattle.ssq_bind.specs.Value.{row_value};
+ghost use Rattle.ssq_bind.specs.Joins.{parts_of, pair_on, pair_by, pair_of, key_pair, spot_index, shifted_column, or_none, span_of, bound_by, time_bound, parts_with, kind_of, joining_of};
 
 use crate::context::Context;
-use crate::list::push_some;
 use crate::value::{row_value, shift_of};
 use ssq_ast::{BinaryOp, ColumnRef, Expr, Join};
 use ssq_check::{Scope, Side, Spot, bare_column, column_spot, looked};
@@ -136,32 +133,20 @@ fn time_bound(scope: &Scope, value: &Expr) -> Option<TimeBound>
     }
 }
 
-/// What is neither a key equality nor the bound.
-fn rest_of(
-    alloc: Global,
-    context: &Context,
-    pair: Option<KeyPair>,
-    bound: Option<TimeBound>,
-    value: &Expr,
-) -> Result<Option<Typed>, AllocError>
-    ensures { IfOk result (λ rest. listed rest ≡ rest_by pair bound (row_value context.now value.now)) }
-{
-    match (pair, bound) {
-        (None, None) => Ok(Some(row_value(alloc, context, value)?)),
-        _ => Ok(None),
-    }
-}
-
 /// Puts what ON joins by AND behind what stands in front of it.
 fn put(alloc: Global, context: &Context, parts: &mut Parts, value: &Expr) -> Result<(), AllocError>
     ensures { OnOk result (parts.new ≡ parts_with context.now parts.old (value.now ∷ [])) }
 {
     let pair = key_pair(&context.scope, value);
     let bound = time_bound(&context.scope, value);
-    let rest = rest_of(alloc, context, pair, bound, value)?;
-    push_some(&mut parts.rest, rest)?;
-    push_some(&mut parts.keys, pair)?;
-    push_some(&mut parts.bounds, bound)
+    match (pair, bound) {
+        (Some(pair), _) => parts.keys.push(pair),
+        (None, Some(bound)) => parts.bounds.push(bound),
+        (None, None) => {
+            let typed = row_value(alloc, context, value)?;
+            parts.rest.push(typed)
+        }
+    }
 }
 
 /// Takes ON apart where it joins by AND.
@@ -202,18 +187,6 @@ fn kind_of(kind: ssq_ast::JoinKind) -> JoinKind
     }
 }
 
-fn apart(alloc: Global, context: &Context, value: &Expr) -> Result<Parts, AllocError>
-    ensures { IfOk result (λ parts. parts ≡ parts_with context.now (record { keys = []; bounds = []; rest = [] }) (parts_of value.now)) }
-{
-    let mut parts = Parts {
-        keys: Sequence::new(alloc),
-        bounds: Sequence::new(alloc),
-        rest: Sequence::new(alloc),
-    };
-    take_apart(alloc, context, &mut parts, value)?;
-    Ok(parts)
-}
-
 /// The bound join.
 pub(crate) fn joining_of(
     alloc: Global,
@@ -222,7 +195,12 @@ pub(crate) fn joining_of(
 ) -> Result<Joining, AllocError>
     ensures { IfOk result (λ joining. joining ≡ joining_of context.now join.now) }
 {
-    let parts = apart(alloc, context, &join.on.value)?;
+    let mut parts = Parts {
+        keys: Sequence::new(alloc),
+        bounds: Sequence::new(alloc),
+        rest: Sequence::new(alloc),
+    };
+    take_apart(alloc, context, &mut parts, &join.on.value)?;
     let bound = parts.bounds.as_slice().first().copied();
     Ok(Joining {
         kind: kind_of(join.kind),

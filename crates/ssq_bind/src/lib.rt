@@ -12,7 +12,6 @@ mod context;
 mod group;
 mod join;
 mod laws;
-mod list;
 mod output;
 mod stream;
 mod told;

@@ -1,6 +1,6 @@
 //! What SELECT shows, and HAVING.
 
-ghost use Rattle.std.specs.Prelude.{◌≡◌, ◌++◌, length, IfOk, OnOk};
+ghost use Rattle.std.specs.Prelude.{◌≡◌, [], ◌∷◌, ◌++◌, length, IfOk, OnOk};
 ghost use Rattle.std.specs.List.{flat_map};
 ghost use Rattle.std.specs.Option.{option_copied, option_map};
 ghost use Rattle.ssq_bind.specs.Shapes.{item_value, item_aggregates, kind_or_bigint, spot_kind, column_type, item_kind, item_column, shown_key, output_of, outputs_of, having_value, having_aggregates};
@@ -95,19 +95,21 @@ fn item_value(
     }
 }
 
-fn output_of(
+/// Puts an item's column of the result behind those that stand in front of it.
+fn put_output(
     alloc: Global,
     context: &Context,
     within: Within,
     found: &mut Sequence<Aggregate>,
+    outputs: &mut Sequence<Output>,
     item: &Item,
-) -> Result<Output, AllocError>
-    ensures output { IfOk result (λ output. output ≡ output_of context.now within (length found.old) item.now) }
+) -> Result<(), AllocError>
+    ensures outputs { OnOk result (outputs.new ≡ outputs.old ++ output_of context.now within (length found.old) item.now ∷ []) }
     ensures found { OnOk result (found.new ≡ found.old ++ item_aggregates context.now within item.now) }
 {
     let name = item_name(item).clone()?;
     let value = item_value(alloc, context, within, found, item)?;
-    Ok(Output {
+    outputs.push(Output {
         name,
         kind: kind_or_bigint(item_kind(&context.scope, within, item)),
         value,
@@ -129,7 +131,7 @@ pub(crate) fn outputs_of(
 {
     let mut outputs = Sequence::new(alloc);
     for item in items {
-        outputs.push(output_of(alloc, context, within, found, item)?)?;
+        put_output(alloc, context, within, found, &mut outputs, item)?;
     }
     Ok(outputs)
 }

@@ -9,7 +9,7 @@ ghost use Rattle.ssq_bind.specs.Streams.{timed, event_in, delay_of, stream_of, l
 use ssq_ast::{ColumnDecl, Watermark};
 use ssq_check::{Spot, declared_spot, list_of};
 use ssq_shape::Stream;
-use ssq_value::{ColType, Column, Schema, Sequence};
+use ssq_value::{ColType, Schema, Sequence};
 use std::alloc::{AllocError, Global};
 
 fn first(decls: &[ColumnDecl], most: usize) -> &[ColumnDecl]
@@ -21,13 +21,6 @@ fn first(decls: &[ColumnDecl], most: usize) -> &[ColumnDecl]
     } else {
         &decls[..most]
     }
-}
-
-fn columns_of(alloc: Global, decls: &[ColumnDecl]) -> Result<Vec<Column>, AllocError>
-    ensures { IfOk result (λ columns. columns.items ≡ map column_of decls.now) }
-{
-    let columns = list_of(alloc, decls)?;
-    Ok(columns.into_vec())
 }
 
 fn timed(spot: Option<Spot>) -> Option<usize>
@@ -69,9 +62,9 @@ fn schema_of(alloc: Global, stream: &ssq_ast::Stream) -> Result<Schema, AllocErr
     ensures { IfOk result (λ schema. schema ≡ (stream_of stream.now).schema) }
 {
     let decls = first(stream.columns.as_slice(), Schema::MAX_COLUMNS);
-    let columns = columns_of(alloc, decls)?;
+    let columns = list_of(alloc, decls)?;
     let event = event_in(decls, &stream.watermark);
-    Ok(Schema::new(columns, event))
+    Ok(Schema::new(columns.into_vec(), event))
 }
 
 /// Puts a stream behind those that are read already, where it is declared.

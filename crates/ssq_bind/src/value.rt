@@ -206,24 +206,18 @@ fn rows_counted(within: Within, found: &mut Sequence<Aggregate>) -> Result<Typed
     numbered(within, found, rows)
 }
 
-#[tactic(auto, using(ssq_ast::proofs::Boxes::boxes), unfolding(crate::specs::Value::literal))]
-fn literal_of(value: &Expr) -> Result<Value, AllocError>
-    ensures { IfOk result (λ found. found ≡ literal value.now) }
-{
-    match value {
-        Expr::Number { value, .. } => Ok(Value::Int(*value)),
-        Expr::Text { value, .. } => Ok(Value::Text(value.clone()?)),
-        Expr::Truth { value, .. } => Ok(Value::Truth(*value)),
-        Expr::Timestamp { value, .. } => Ok(Value::Time(value.micros)),
-        _ => Ok(Value::Null),
-    }
-}
-
 /// The value that an expression writes out, NULL where it writes out none.
+#[tactic(auto, using(ssq_ast::proofs::Boxes::boxes), unfolding(crate::specs::Value::literal))]
 fn literal(value: &Expr) -> Result<Typed, AllocError>
     ensures { IfOk result (λ typed. typed ≡ constant.Constant (literal value.now)) }
 {
-    let literal = literal_of(value)?;
+    let literal = match value {
+        Expr::Number { value, .. } => Value::Int(*value),
+        Expr::Text { value, .. } => Value::Text(value.clone()?),
+        Expr::Truth { value, .. } => Value::Truth(*value),
+        Expr::Timestamp { value, .. } => Value::Time(value.micros),
+        _ => Value::Null,
+    };
     Ok(Typed::Constant(literal))
 }
 

@@ -1,15 +1,13 @@
 //! The whole query, once it is bound.
 
-ghost use Rattle.std.specs.Prelude.{◌≡◌, ◌++◌, length, map, IfOk, IfErr, OnOk};
+ghost use Rattle.std.specs.Prelude.{◌≡◌, true, false, IfOk, IfErr, OnOk};
 ghost use Rattle.std.specs.Option.{option_map};
-ghost use Rattle.ssq_ast.specs.Canonical.{canonical};
 ghost use Rattle.ssq_check.specs.Fault.{AreNone};
 ghost use Rattle.ssq_check.specs.Shown.{is_group};
 ghost use Rattle.ssq_check.specs.Whole.{QueryFaults, IsRefusedBy};
-ghost use Rattle.ssq_bind.specs.Bound.{context_of, shown_of, grouping_of, kept_by, shape_of, mode_of, filter_value, bound_of};
+ghost use Rattle.ssq_bind.specs.Bound.{context_of, kept_by, kept_of, with_kept, mode_of, filter_value, bound_of};
 ghost use Rattle.ssq_bind.specs.Limits.{HasLimits};
 ghost use Rattle.ssq_bind.specs.Places.{IsOfEach};
-ghost use Rattle.ssq_bind.specs.Shapes.{sort_key};
 ghost use Rattle.ssq_bind.specs.Sound.{IsSoundBound};
 ghost use Rattle.ssq_bind.specs.Streams.{streams_of};
 ghost use Rattle.ssq_bind.specs.Typed.{IsTyped};
@@ -21,9 +19,9 @@ use crate::join::joining_of;
 use crate::output::{having_of, outputs_of};
 use crate::stream::list;
 use crate::value::row_value;
-use ssq_ast::{Condition, Deduplicate, Join, Query, Select, text};
-use ssq_check::{Refusal, check, is_group, left_stream, right_stream, scope_of, within};
-use ssq_shape::{Aggregate, Bound, Grouping, Mode, Output, Shape, SortKey, Stream, Typed};
+use ssq_ast::{Condition, Deduplicate, Join, Query, text};
+use ssq_check::{Refusal, Within, check, is_group, left_stream, right_stream, scope_of};
+use ssq_shape::{Bound, Grouping, Mode, Output, Shape, SortKey, Stream, Typed};
 use ssq_value::{Sequence, Text, texts_are_utf8};
 use std::alloc::{AllocError, Global};
 
@@ -65,88 +63,6 @@ fn kept_by(
     }
 }
 
-/// What is shown, and what groups must meet.
-#[derive(Drop)]
-pub struct Shown {
-    pub outputs: Sequence<Output>,
-    /// Those of SELECT, then those of HAVING.
-    pub aggregates: Sequence<Aggregate>,
-    pub having: Option<Typed>,
-}
-
-fn shown_of(
-    alloc: Global,
-    query: &Query,
-    context: &Context,
-    is_grouped: bool,
-) -> Result<Shown, AllocError>
-    requires context { context.now ≡ context_of query.now }
-    requires is_grouped { is_grouped ≡ is_group query.now }
-    ensures { IfOk result (λ shown. shown ≡ shown_of query.now) }
-{
-    let within = within(is_grouped);
-    let mut aggregates = Sequence::new(alloc);
-    let items = query.select.items.as_slice();
-    let outputs = outputs_of(alloc, context, within, &mut aggregates, items)?;
-    let having = &query.select.having;
-    let having = having_of(alloc, context, within, &mut aggregates, having)?;
-    Ok(Shown {
-        outputs,
-        aggregates,
-        having,
-    })
-}
-
-fn grouping_of(
-    alloc: Global,
-    query: &Query,
-    context: &Context,
-    aggregates: Sequence<Aggregate>,
-    having: Option<Typed>,
-) -> Result<Grouping, AllocError>
-    requires context { context.now ≡ context_of query.now }
-    requires aggregates { aggregates ≡ (shown_of query.now).aggregates }
-    requires having { having ≡ (shown_of query.now).having }
-    ensures { IfOk result (λ grouping. grouping ≡ grouping_of query.now) }
-{
-    match keys_by(alloc, &context.scope, &query.select.group) {
-        Ok(keys) => Ok(Grouping {
-            keys,
-            aggregates,
-            having,
-        }),
-        Err(error) => {
-            drop(having);
-            Err(error)
-        }
-    }
-}
-
-/// What the query keeps. `aggregates` are those of SELECT and HAVING.
-#[tactic(auto, unfolding(crate::specs::Bound::shape_of))]
-fn shape_of(
-    alloc: Global,
-    query: &Query,
-    context: &Context,
-    is_grouped: bool,
-    aggregates: Sequence<Aggregate>,
-    having: Option<Typed>,
-) -> Result<Shape, AllocError>
-    requires context { context.now ≡ context_of query.now }
-    requires is_grouped { is_grouped ≡ is_group query.now }
-    requires aggregates { aggregates ≡ (shown_of query.now).aggregates }
-    requires having { having ≡ (shown_of query.now).having }
-    ensures { IfOk result (λ shape. shape ≡ shape_of query.now) }
-{
-    if is_grouped {
-        Ok(Shape::Group(grouping_of(alloc, query, context, aggregates, having)?))
-    } else {
-        drop(having);
-        let select = &query.select;
-        kept_by(alloc, context, &select.join, &select.deduplicate)
-    }
-}
-
 fn mode_of(mode: ssq_ast::Mode) -> Mode
     ensures { result ≡ mode_of mode }
 {
@@ -171,83 +87,85 @@ fn filter_of(
 }
 
 /// What the query shows and what it keeps.
-fn kept_of(
-    alloc: Global,
-    query: &Query,
-    context: &Context,
-) -> Result<(Sequence<Output>, Shape), AllocError>
-    requires context { context.now ≡ context_of query.now }
-    ensures outputs { IfOk result (λ kept. kept.0 ≡ (shown_of query.now).outputs) }
-    ensures shape { IfOk result (λ kept. kept.1 ≡ shape_of query.now) }
-{
-    let is_grouped = is_group(alloc, query)?;
-    let Shown {
-        outputs,
-        aggregates,
-        having,
-    } = shown_of(alloc, query, context, is_grouped)?;
-    let shape = shape_of(alloc, query, context, is_grouped, aggregates, having)?;
-    Ok((outputs, shape))
+#[derive(Drop)]
+pub struct Kept {
+    pub outputs: Sequence<Output>,
+    pub shape: Shape,
 }
 
-/// The bound query of what is read, its order and its filter.
-#[tactic(auto, unfolding(crate::specs::Bound::bound_of))]
-fn with_kept(
-    alloc: Global,
-    query: &Query,
-    context: &Context,
-    text: Text,
-    streams: Sequence<Stream>,
-    order: Sequence<SortKey>,
-    filter: Option<Typed>,
-) -> Result<Bound, AllocError>
+/// What a query of groups shows and keeps. The aggregates are those of SELECT, then those of HAVING.
+fn grouped(alloc: Global, query: &Query, context: &Context) -> Result<Kept, AllocError>
     requires context { context.now ≡ context_of query.now }
-    requires text { text ≡ canonical query.now }
-    requires streams { streams ≡ streams_of query.now }
-    requires order { order ≡ map (sort_key query.now.select.items) query.now.select.order }
-    requires filter { filter ≡ option_map (filter_value context.now) query.now.select.filter }
-    ensures { IfOk result (λ bound. bound ≡ bound_of query.now) }
+    requires is_grouped { is_group query.now ≡ true }
+    ensures { IfOk result (λ kept. kept ≡ kept_of query.now) }
 {
-    match kept_of(alloc, query, context) {
-        Ok((outputs, shape)) => Ok(Bound {
-            text,
-            streams,
-            mode: mode_of(query.select.mode),
-            shape,
-            filter,
-            outputs,
-            order,
+    let keys = keys_by(alloc, &context.scope, &query.select.group)?;
+    let mut aggregates = Sequence::new(alloc);
+    let items = query.select.items.as_slice();
+    let outputs = outputs_of(alloc, context, Within::Group, &mut aggregates, items)?;
+    let having = &query.select.having;
+    let having = having_of(alloc, context, Within::Group, &mut aggregates, having)?;
+    Ok(Kept {
+        outputs,
+        shape: Shape::Group(Grouping {
+            keys,
+            aggregates,
+            having,
         }),
-        Err(error) => {
-            drop(filter);
-            Err(error)
-        }
+    })
+}
+
+/// What a query of rows shows and keeps. It has no aggregates.
+fn ungrouped(alloc: Global, query: &Query, context: &Context) -> Result<Kept, AllocError>
+    requires context { context.now ≡ context_of query.now }
+    requires is_ungrouped { is_group query.now ≡ false }
+    ensures { IfOk result (λ kept. kept ≡ kept_of query.now) }
+{
+    let mut none = Sequence::new(alloc);
+    let items = query.select.items.as_slice();
+    let outputs = outputs_of(alloc, context, Within::Row, &mut none, items)?;
+    let shape = kept_by(
+        alloc,
+        context,
+        &query.select.join,
+        &query.select.deduplicate,
+    )?;
+    Ok(Kept { outputs, shape })
+}
+
+/// What a query shows and keeps.
+fn kept_of(alloc: Global, query: &Query, context: &Context) -> Result<Kept, AllocError>
+    requires context { context.now ≡ context_of query.now }
+    ensures { IfOk result (λ kept. kept ≡ kept_of query.now) }
+{
+    if is_group(alloc, query)? {
+        grouped(alloc, query, context)
+    } else {
+        ungrouped(alloc, query, context)
     }
 }
 
-/// The bound query of what is read and its order.
-fn with_filter(
-    alloc: Global,
-    query: &Query,
-    context: &Context,
+/// The bound query of these parts.
+fn with_kept(
+    mode: ssq_ast::Mode,
     text: Text,
     streams: Sequence<Stream>,
+    kept: Kept,
+    filter: Option<Typed>,
     order: Sequence<SortKey>,
-) -> Result<Bound, AllocError>
-    requires context { context.now ≡ context_of query.now }
-    requires text { text ≡ canonical query.now }
-    requires streams { streams ≡ streams_of query.now }
-    requires order { order ≡ map (sort_key query.now.select.items) query.now.select.order }
-    ensures { IfOk result (λ bound. bound ≡ bound_of query.now) }
+) -> Bound
+    ensures { result ≡ with_kept mode text streams kept filter order }
 {
-    let filter = filter_of(alloc, context, &query.select.filter)?;
-    with_kept(alloc, query, context, text, streams, order, filter)
-}
-
-fn order_of(alloc: Global, select: &Select) -> Result<Sequence<SortKey>, AllocError>
-    ensures { IfOk result (λ order. order ≡ map (sort_key select.now.items) select.now.order) }
-{
-    order_by(alloc, select.items.as_slice(), select.order.as_slice())
+    let Kept { outputs, shape } = kept;
+    Bound {
+        text,
+        streams,
+        mode: mode_of(mode),
+        shape,
+        filter,
+        outputs,
+        order,
+    }
 }
 
 /// The bound query, once its names are known.
@@ -255,10 +173,18 @@ fn bound_in(alloc: Global, query: &Query, context: &Context) -> Result<Bound, Al
     requires context { context.now ≡ context_of query.now }
     ensures { IfOk result (λ bound. bound ≡ bound_of query.now) }
 {
+    let select = &query.select;
     let text = text(alloc, query)?;
     let streams = streams_of(alloc, query)?;
-    let order = order_of(alloc, &query.select)?;
-    with_filter(alloc, query, context, text, streams, order)
+    let order = order_by(alloc, select.items.as_slice(), select.order.as_slice())?;
+    let filter = filter_of(alloc, context, &select.filter)?;
+    match kept_of(alloc, query, context) {
+        Ok(kept) => Ok(with_kept(select.mode, text, streams, kept, filter, order)),
+        Err(error) => {
+            drop(filter);
+            Err(error)
+        }
+    }
 }
 
 /// The bound query that a query is: a function of the query, also of one that breaks a rule.
