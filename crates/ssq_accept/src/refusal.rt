@@ -9,7 +9,7 @@ use ssq_parse::ParseCause;
 use std::fmt;
 
 /// Why a query file is not run: the first of the steps that refuses it. Shown as what is told of it.
-#[derive(Clone, Copy, Debug, PartialEq, Eq)]
+#[derive(Clone, Copy, Debug)]
 pub enum Refusal {
     /// The file is no query: the first place, in bytes, at which it is none, and what is wrong there.
     Parse { at: usize, cause: ParseCause },
