@@ -1,6 +1,6 @@
 -- Crashes by numbers: what is picked is an image, and each image is picked.
 use Rattle.std.proofs.Common.{◌≡◌, ◌++◌, ◌∷◌, [], ◌<◌, ◌≤◌, ◌+◌, ◌∙◌, ℕ, List, Bool, true, false, zero, suc, None, Some, length, take, drop, get_or, refl, ap, sym, subst, inl, inr, arith}
-use Rattle.std.specs.Prelude.{if◌then◌else◌, slice_index, min, map, filter, Contains}
+use Rattle.std.specs.Prelude.{if◌then◌else◌, slice_index, min, map, Contains}
 use Rattle.std.proofs.lemmas.List.{take_all, take-append-drop}
 use Rattle.std.proofs.lemmas.List.Elements.{Contains-append_left}
 use Rattle.std.proofs.Common.{length-append}
@@ -14,11 +14,11 @@ use Rattle.ssq_outside.proofs.Names.{same_name-true}
 use Rattle.ssq_outside.proofs.Steps.{last_or-push, files_are_image}
 use Rattle.ssq_fakes.specs.declared.record.Event.{Event}
 use Rattle.ssq_fakes.specs.declared.record.Event.TheVariants.{Put, Gone, Synced}
-use Rattle.ssq_fakes.specs.Records.{is_about, is_sync, content_of, content_in, had_after, is_changed_in}
-use Rattle.ssq_fakes.specs.Names.{names_from}
+use Rattle.ssq_fakes.specs.Records.{is_about, is_sync, content_of, content_in, had_after, is_mentioned, is_changed_in}
+use Rattle.ssq_fakes.specs.Names.{Lists}
 use Rattle.ssq_fakes.specs.Disks.{has_name, history_of}
 use Rattle.ssq_fakes.specs.Crashes.{content_at, index_of, picked, has_changed, filled, AreChanged, IsCrashed, EachImageIsPicked}
-use Rattle.ssq_fakes.proofs.NameLists.{has_name-Contains, chosen_changed, is_mentioned, mentioned}
+use Rattle.ssq_fakes.proofs.NameLists.{has_name-Contains}
 use Rattle.ssq_fakes.proofs.Unique.{changed_once}
 use Rattle.ssq_fakes.proofs.Histories.{newest-had_after, had_now-is}
 
@@ -178,33 +178,32 @@ has_changed-is (Put name bytes ∷ older) q = changes_by (same_name q name) (had
 has_changed-is (Gone name ∷ older) q = changes_by (same_name q name) (had_after older q) None (is_changed_in older q) (has_changed-is older q)
 has_changed-is (Synced ∷ older) q = refl
 
-are_changed : (events : List Event) → AreChanged (had_after events) (filter (λ q. is_changed_in events q) (names_from [] events))
-are_changed events =
-    let found = chosen_changed events in
-    record {
-      there = λ q among. has_changed-is events q ∙ found.there q among;
-      all = λ q change. found.all q (sym (has_changed-is events q) ∙ change);
-      in_order = found.in_order;
-    }
+are_changed : (events : List Event) (changed : List Name) → Lists (is_changed_in events) changed → AreChanged (had_after events) changed
+are_changed events changed found = record {
+  there = λ q among. has_changed-is events q ∙ found.there q among;
+  all = λ q change. found.all q (sym (has_changed-is events q) ∙ change);
+  in_order = found.in_order;
+}
 
-unnamed : (events : List Event) (changed : List Name) (numbers : List ℕ) (q : Name) (b m : Bool) → has_name (names_from [] events) q ≡ b → is_mentioned events q ≡ m
+unnamed : (events : List Event) (changed names : List Name) (numbers : List ℕ) (q : Name) (b m : Bool) → Lists (is_mentioned events) names → has_name names q ≡ b → is_mentioned events q ≡ m
     → (if b then picked (had_after events) changed numbers q else None) ≡ picked (had_after events) changed numbers q
-unnamed events changed numbers q true m has mention = refl
-unnamed events changed numbers q false true has mention = let named : has_name (names_from [] events) q ≡ true = mentioned events q [] mention in cc
-unnamed events changed numbers q false false has mention = rw (nothing_yet events q mention, take-nil) refl
+unnamed events changed names numbers q true m found has mention = refl
+unnamed events changed names numbers q false true found has mention =
+    let among = found.all q mention in
+    let named : has_name names q ≡ true = has_name-Contains names q among.0 among.1 among.2 in
+    cc
+unnamed events changed names numbers q false false found has mention = rw (nothing_yet events q mention, take-nil) refl
 
-crashed_after : (events now new : List Event) (numbers : List ℕ) (clock : ℕ)
-    → Holds now (names_from [] events) (picked (had_after events) (filter (λ q. is_changed_in events q) (names_from [] events)) numbers) → new ≡ Synced ∷ now → clock ≡ 0
-    → IsCrashed (had_after events) numbers (history_of new clock)
-crashed_after events now new numbers clock holds is start =
-    let changed = filter (λ q. is_changed_in events q) (names_from [] events) in
+crashed_after : (events now new : List Event) (changed names : List Name) (numbers : List ℕ) (clock : ℕ) → Lists (is_changed_in events) changed → Lists (is_mentioned events) names
+    → Holds now names (picked (had_after events) changed numbers) → new ≡ Synced ∷ now → clock ≡ 0 → IsCrashed (had_after events) numbers (history_of new clock)
+crashed_after events now new changed names numbers clock are_these found holds is start =
     let files = picked (had_after events) changed numbers in
     let each : (q : Name) → newest (had_after now q) ≡ files q = λ q.
-    newest-had_after now q ∙ holds q ∙ unnamed events changed numbers q (has_name (names_from [] events) q) (is_mentioned events q) refl refl in
+    newest-had_after now q ∙ holds q ∙ unnamed events changed names numbers q (has_name names q) (is_mentioned events q) found refl refl in
     let settled : had_now (history_of new clock) ≡ settled_at files = had_now-is new clock ∙ ap had_after is ∙ ap settled_at (λ i q. each q i) in
     record {
       names = changed;
-      changed = are_changed events;
+      changed = are_changed events changed are_these;
       moment = start;
       settled = settled;
       image = λ q.
@@ -215,10 +214,8 @@ crashed_after events now new numbers clock holds is start =
 
 -- A disk that holds what was picked, settled at moment 0, is the disk after that crash.
 pub crashed : (events now new : List Event) (had : Had) (changed names : List Name) (numbers : List ℕ) (clock : ℕ)
-    → had ≡ had_after events → changed ≡ filter (λ q. is_changed_in events q) (names_from [] events) → names ≡ names_from [] events
+    → had ≡ had_after events → Lists (is_changed_in events) changed → Lists (is_mentioned events) names
     → Holds now names (picked (had_after events) changed numbers) → new ≡ Synced ∷ now → clock ≡ 0 → IsCrashed had numbers (history_of new clock)
-crashed events now new had changed names numbers clock is_had is_changed is_names holds is start =
+crashed events now new had changed names numbers clock is_had are_these found holds is start =
     let M : Had → Type 0 = λ had. IsCrashed had numbers (history_of new clock) in
-    let N : List Name → Type 0 = λ changed. Holds now names (picked (had_after events) changed numbers) in
-    let O : List Name → Type 0 = λ names. Holds now names (picked (had_after events) (filter (λ q. is_changed_in events q) (names_from [] events)) numbers) in
-    subst M (sym is_had) (crashed_after events now new numbers clock (subst O is_names (subst N is_changed holds)) is start)
+    subst M (sym is_had) (crashed_after events now new changed names numbers clock are_these found holds is start)

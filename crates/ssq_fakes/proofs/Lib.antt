@@ -5,4 +5,5 @@ pub mod NameSets
 pub mod Parts
 pub mod Rooms
 pub mod Unique
+pub mod Walks
 pub mod WholeLines

@@ -7,7 +7,17 @@ use Rattle.ssq_outside.proofs.NameOrder.{name_before-trans, name_before-itself}
 use Rattle.ssq_outside.proofs.Names.{same_name-true, same_name-same}
 use Rattle.ssq_fakes.specs.Disks.{has_name}
 use Rattle.ssq_fakes.specs.Crashes.{has_changed, AreChanged}
-use Rattle.ssq_fakes.proofs.NameLists.{Follow, Ascend, Contains-has_name, has_name-Contains}
+use Rattle.ssq_fakes.proofs.NameLists.{Contains-has_name, has_name-Contains}
+
+-- each of them comes after this one
+abbrev Follow : Name → List Name → Type 0
+Follow m [] = Unit {0}
+Follow m (n ∷ ns) = (name_before m n ≡ true) × Follow m ns
+
+-- each comes after those before it
+abbrev Ascend : List Name → Type 0
+Ascend [] = Unit {0}
+Ascend (m ∷ ms) = Follow m ms × Ascend ms
 
 all_to_follow : (m : Name) (ms : List Name) → All (λ n. IsTrue (name_before m n)) ms → Follow m ms
 all_to_follow m [] all = tt

@@ -45,6 +45,11 @@ abbrev pub content_in : List Event → Name → Content
 content_in [] q = None
 content_in (event ∷ older) q = if is_about event q then content_of event else content_in older q
 
+-- some event changes what stands at the name
+abbrev pub is_mentioned : List Event → Name → Bool
+is_mentioned [] q = false
+is_mentioned (event ∷ older) q = if is_about event q then true else is_mentioned older q
+
 -- the event is a sync of names
 abbrev pub is_sync : Event → Bool
 is_sync (Put name bytes) = false

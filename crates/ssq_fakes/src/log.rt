@@ -1,7 +1,8 @@
 //! A log in memory.
 
-ghost use Rattle.std.specs.Prelude.{◌≡◌, ◌≤◌, [], ⊤, length, map, replicate, take, IfNone, IfOk, OnOk, OnErr, Err, slice_get, option_map};
+ghost use Rattle.std.specs.Prelude.{◌≡◌, ◌≤◌, ◌++◌, ◌∷◌, ℕ, List, [], ⊤, length, map, replicate, take, IfNone, IfOk, OnOk, OnErr, Err, slice_get, option_map};
 ghost use Rattle.ssq_outside.specs.Faults.{StaysSure};
+ghost use Rattle.ssq_fakes.specs.Logs.{lines_after};
 
 use crate::faults::Faults;
 use crate::returned::{Answers, Returned};
@@ -97,11 +98,7 @@ impl MemLog {
         let mut lines = Vec::new(alloc);
         let mut line = Vec::new(alloc);
         for byte in bytes {
-            if *byte == b'\n' {
-                lines.push(mem::replace(&mut line, Vec::new(alloc)))?;
-            } else {
-                line.push(*byte)?;
-            }
+            take_byte(alloc, &mut lines, &mut line, *byte)?;
         }
         MemLog::of(alloc, lines)
     }
@@ -223,6 +220,23 @@ impl Log for MemLog {
             }),
         }
     }
+}
+
+/// Adds a byte to the line that was begun, or ends that line.
+fn take_byte(
+    alloc: Global,
+    lines: &mut Vec<Vec<u8>>,
+    line: &mut Vec<u8>,
+    byte: u8,
+) -> Result<(), AllocError>
+    ensures { OnOk result ((rest : List ℕ) → map (λ line. line.items) lines.new.items ++ lines_after line.new.items rest ≡ map (λ line. line.items) lines.old.items ++ lines_after line.old.items (byte ∷ rest)) }
+{
+    if byte == b'\n' {
+        lines.push(mem::replace(line, Vec::new(alloc)))?;
+    } else {
+        line.push(byte)?;
+    }
+    Ok(())
 }
 
 /// At most so many of these bytes, from the front.

@@ -1,8 +1,8 @@
 //! The record of a disk in memory.
 
-ghost use Rattle.std.specs.Prelude.{◌≡◌, ◌+◌, [], ◌∷◌, length, drop, filter, min, option_map, is_some, IfOk, MatchOption};
+ghost use Rattle.std.specs.Prelude.{◌≡◌, ◌+◌, [], ◌∷◌, length, drop, min, option_map, is_some, IfOk, MatchOption};
 
-use crate::names::{add, insert_some, listed};
+use crate::names::{add, listed};
 use ssq_outside::Name;
 use std::alloc::{AllocError, Global};
 use std::collections::BTreeSet;
@@ -65,7 +65,7 @@ impl Event {
     }
 }
 
-/// What events that are met from the newest say of which names have a file.
+/// The names that events change which are met from the newest.
 #[derive(Drop)]
 struct Found {
     /// The names that were met.
@@ -128,9 +128,11 @@ impl Drop for Record {
 }
 
 impl Record {
-    ghost use Rattle.ssq_fakes.specs.Records.{events_of, had_after, content_in, is_unsettled, is_changed_in};
+    ghost use Rattle.ssq_outside.specs.declared.name.Name.{Name};
+    ghost use Rattle.ssq_fakes.specs.Records.{events_of, had_after, content_in, is_unsettled, is_mentioned, is_changed_in};
     ghost use Rattle.ssq_fakes.specs.Crashes.{content_at};
-    ghost use Rattle.ssq_fakes.specs.Names.{names_from, Lists};
+    ghost use Rattle.ssq_fakes.specs.Disks.{has_name};
+    ghost use Rattle.ssq_fakes.specs.Names.{Lists};
 
     /// Adds an event in this room.
     pub fn push(&mut self, event: Event, mut room: Box<Record>)
@@ -206,39 +208,10 @@ impl Record {
         }
     }
 
-    /// Whether the name changed since the last sync.
-    pub fn is_changed(&self, name: Name) -> bool
-        ensures { result ≡ is_changed_in (events_of self.now) name }
-    {
-        let mut at = self;
-        while let Record::Then(event, older) = at {
-            if event.is_sync() {
-                return false;
-            }
-            if event.is_about(name) {
-                return true;
-            }
-            at = older;
-        }
-        false
-    }
-
-    /// The names that ever changed, each once, in their order.
-    pub fn names(&self, alloc: Global) -> Result<Vec<Name>, AllocError>
-        ensures { IfOk result (λ names. names.items ≡ names_from [] (events_of self.now)) }
-    {
-        let mut names = Vec::new(alloc);
-        let mut at = self;
-        while let Record::Then(event, older) = at {
-            insert_some(&mut names, event.name())?;
-            at = older;
-        }
-        Ok(names)
-    }
-
-    /// The names that have a file, each once, in their order. Each event is met once, the newest first.
-    pub fn present(&self, alloc: Global) -> Result<Vec<Name>, AllocError>
-        ensures { IfOk result (λ names. Lists (λ q. is_some (content_in (events_of self.now) q)) names.items) }
+    /// The names that its events change. Each event is met once, the newest first.
+    fn found(&self, alloc: Global) -> Result<Found, AllocError>
+        ensures met { IfOk result (λ found. (q : Name) → has_name found.met.keys q ≡ is_mentioned (events_of self.now) q) }
+        ensures present { IfOk result (λ found. (q : Name) → has_name found.present.keys q ≡ is_some (content_in (events_of self.now) q)) }
     {
         let mut found = Found::nothing(alloc);
         let mut at = self;
@@ -246,16 +219,39 @@ impl Record {
             found.take(event)?;
             at = older;
         }
+        Ok(found)
+    }
+
+    /// The names that ever changed, each once, in their order.
+    pub fn names(&self, alloc: Global) -> Result<Vec<Name>, AllocError>
+        ensures { IfOk result (λ names. Lists (is_mentioned (events_of self.now)) names.items) }
+    {
+        let found = self.found(alloc)?;
+        listed(alloc, found.met)
+    }
+
+    /// The names that have a file, each once, in their order.
+    pub fn present(&self, alloc: Global) -> Result<Vec<Name>, AllocError>
+        ensures { IfOk result (λ names. Lists (λ q. is_some (content_in (events_of self.now) q)) names.items) }
+    {
+        let found = self.found(alloc)?;
         listed(alloc, found.present)
     }
 
     /// The names that changed since the last sync, each once, in their order.
     pub fn changed(&self, alloc: Global) -> Result<Vec<Name>, AllocError>
-        ensures { IfOk result (λ names. names.items ≡ filter (λ q. is_changed_in (events_of self.now) q) (names_from [] (events_of self.now))) }
+        ensures { IfOk result (λ names. Lists (is_changed_in (events_of self.now)) names.items) }
     {
-        let mut names = self.names(alloc)?;
-        names.retain(|name| self.is_changed(*name));
-        Ok(names)
+        let mut changed = BTreeSet::new(alloc);
+        let mut at = self;
+        while let Record::Then(event, older) = at {
+            match event.name() {
+                Some(name) => add(&mut changed, name)?,
+                None => break,
+            };
+            at = older;
+        }
+        listed(alloc, changed)
     }
 
     /// What stands at the name after only so many of its changes since the last sync, the oldest first, and how many

@@ -5,7 +5,8 @@ use Rattle.ssq_outside.specs.declared.name.Name.{Name}
 use Rattle.ssq_outside.specs.declared.name.Name.TheVariants.{Meta}
 use Rattle.ssq_outside.specs.Files.{Content, Files}
 use Rattle.ssq_outside.specs.History.{History, files_now}
-use Rattle.ssq_fakes.specs.Records.{events_of, had_after, content_in}
+use Rattle.ssq_fakes.specs.Records.{events_of, had_after, content_in, is_mentioned}
+use Rattle.ssq_fakes.specs.Names.{Lists}
 use Rattle.ssq_fakes.specs.Crashes.{picked, content_at, index_of, filled}
 use Rattle.ssq_fakes.proofs.Histories.{files_now-is}
 use Rattle.ssq_fakes.proofs.Crashes.{Holds, holds_more, crashed}
@@ -56,7 +57,7 @@ returns-clause-crashed c =
     crashed past (events_of disk.record) (events_of c.settle.new.self.record) _ c.in_ok-changed.changed.items names c.args.image.now c.settle.new.self.clock
     (rw (moment, c.before-past.ensures, c.saturating_sub.ensures) refl)
     c.in_ok-changed.ensures
-    (c.deref-name-items.ensures.value ∙ c.in_ok-names.ensures)
+    (subst (Lists (is_mentioned past)) (sym c.deref-name-items.ensures.value) c.in_ok-names.ensures)
     holds
     c.in_ok-settle.ensures.record
     (c.in_ok-settle.ensures.clock ∙ c.loop-name.invariant.clock)
