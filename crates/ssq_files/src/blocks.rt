@@ -3,7 +3,7 @@
 ghost use Rattle.std.specs.Prelude.{◌≤◌, vec_len};
 ghost use Rattle.std.specs.Io.{ReadsAtMost};
 
-use std::alloc::Global;
+use std::alloc::{AllocError, Global};
 use std::io;
 use std::io::{ErrorKind, Read, Seek, SeekFrom};
 
@@ -23,8 +23,8 @@ pub(crate) struct Blocks<F> {
 }
 
 impl<F: Read + Seek + Drop> Blocks<F> {
-    /// Nothing is read yet. An error means that memory ran out.
-    pub(crate) fn new(alloc: Global, file: F) -> io::Result<Blocks<F>> {
+    /// Nothing is read yet.
+    pub(crate) fn new(alloc: Global, file: F) -> Result<Blocks<F>, AllocError> {
         Ok(Blocks {
             file,
             start: 0,

@@ -12,7 +12,7 @@ use std::fmt::{Display, Write};
 use std::fs::OpenFile;
 use std::io::{ErrorKind, Read};
 use std::rt::Files;
-use std::{fs, io, str};
+use std::{fs, io};
 
 /// The longest path of a checkpoint's folder, in bytes.
 pub(crate) const ROOT_CAP: usize = 192;
@@ -258,28 +258,21 @@ fn if_there<T>(got: io::Result<T>) -> io::Result<Option<T>> {
 }
 
 /// The name whose file an entry of a folder is.
-fn name_in(folder: Folder, entry: &[u8]) -> Option<Name> {
-    let entry = str::from_utf8(entry).ok()?;
+fn name_in(folder: Folder, entry: &str) -> Option<Name> {
     let mut text = PathText::new();
     write!(text, "{folder}{entry}").ok()?;
     read_name(text.as_bytes())
 }
 
 /// The partition whose folder an entry of `state` is.
-fn partition_of(entry: &[u8]) -> Option<u32> {
-    let entry = str::from_utf8(entry).ok()?;
-    let mut text = PathText::new();
-    write!(text, "{}{entry}/0.delta", Folder::State).ok()?;
-    match read_name(text.as_bytes())? {
-        Name::Delta(partition, _) => Some(partition),
-        _ => None,
-    }
+fn partition_of(entry: &str) -> Option<u32> {
+    u32::try_from(number_of(entry)?).ok()
 }
 
-/// The number of a file aside. Only the spelling in which it is written is one: `007` and `+5` are other files.
-fn number_of(entry: &[u8]) -> Option<u64> {
-    let number = str::from_utf8(entry).ok()?.parse::<u64>().ok()?;
-    let mut text = PathText::new();
-    write!(text, "{number}").ok()?;
-    (text.as_bytes() == entry).then_some(number)
+/// The number that an entry is named by. Only the spelling in which it is written is one: `007` and `+5` are other files.
+fn number_of(entry: &str) -> Option<u64> {
+    if entry != "0" && (entry.starts_with('0') || entry.starts_with('+')) {
+        return None;
+    }
+    entry.parse().ok()
 }

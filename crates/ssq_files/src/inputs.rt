@@ -6,7 +6,7 @@ ghost use Rattle.ssq_outside.specs.Faults.{Rises};
 use crate::faults::raise;
 use crate::log::FileLog;
 use ssq_outside::{InputError, Inputs};
-use std::alloc::Global;
+use std::alloc::{AllocError, Global};
 use std::io::{ErrorKind, Read};
 use std::rt::Files;
 use std::{fs, io};
@@ -148,8 +148,8 @@ impl<R: Files + Drop> InputFiles<R> {
 }
 
 /// The file of a part.
-fn part_path(alloc: Global, stream: &str, part: u32) -> io::Result<String> {
-    Ok(format!(in alloc; "{stream}.{part}.jsonl")?)
+fn part_path(alloc: Global, stream: &str, part: u32) -> Result<String, AllocError> {
+    format!(in alloc; "{stream}.{part}.jsonl")
 }
 
 /// Whether an error says that no file has that path, or that none can.

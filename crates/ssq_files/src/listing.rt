@@ -4,8 +4,8 @@ ghost use Rattle.std.specs.Prelude.{◌≤◌};
 
 use crate::blocks::read_some;
 use memchr::memchr;
-use std::io;
 use std::io::Read;
+use std::{io, str};
 
 /// The room for names that are read at once, which any one has room in.
 const ROOM: usize = 4096;
@@ -68,8 +68,8 @@ impl<D: Read + Drop> Listing<D> {
         Ok(())
     }
 
-    /// The name that was come to last.
-    pub(crate) fn name(&self) -> &[u8] {
-        &self.buffer[self.start..self.end]
+    /// The name that was come to last. One that is no text is shown as an empty one, which no file has.
+    pub(crate) fn name(&self) -> &str {
+        str::from_utf8(&self.buffer[self.start..self.end]).unwrap_or("")
     }
 }

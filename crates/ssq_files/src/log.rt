@@ -7,7 +7,7 @@ use crate::faults::raise;
 use crate::marks::{Mark, Marks};
 use memchr::{memchr, memchr_iter, memrchr};
 use ssq_outside::{LineError, Log, LogFault};
-use std::alloc::Global;
+use std::alloc::{AllocError, Global};
 use std::io;
 use std::io::{ErrorKind, Read, Seek};
 
@@ -29,8 +29,18 @@ impl<F: Read + Seek + Drop> FileLog<F> {
     pub(crate) fn new(alloc: Global, file: F) -> io::Result<FileLog<F>>
         ensures { IfOk result (λ log. log.faults ≡ 0) }
     {
-        let lines = Lines::new(alloc, file)?;
-        Ok(FileLog { lines, faults: 0 })
+        let marks = Marks::new(alloc)?;
+        let blocks = Blocks::new(alloc, file)?;
+        Ok(FileLog {
+            lines: Lines {
+                blocks,
+                counted: Mark::START,
+                scanned: 0,
+                marks,
+                next: Mark::START,
+            },
+            faults: 0,
+        })
     }
 
     /// How often it has failed.
@@ -96,16 +106,6 @@ struct Lines<F> {
 }
 
 impl<F: Read + Seek + Drop> Lines<F> {
-    fn new(alloc: Global, file: F) -> io::Result<Lines<F>> {
-        Ok(Lines {
-            blocks: Blocks::new(alloc, file)?,
-            counted: Mark::START,
-            scanned: 0,
-            marks: Marks::new(alloc)?,
-            next: Mark::START,
-        })
-    }
-
     /// Counts the lines whose ends came since the last count.
     fn count(&mut self) -> io::Result<()> {
         for _ in 0..u64::MAX {
@@ -164,16 +164,17 @@ impl<F: Read + Seek + Drop> Lines<F> {
         let mut byte = self.next.byte;
         'parts: for _ in 0..u64::MAX {
             let bytes = self.blocks.rest(byte);
-            if let Some(end) = memchr(b'\n', bytes) {
-                keep(into, &bytes[..end])?;
+            let end = memchr(b'\n', bytes);
+            let part = &bytes[..end.unwrap_or(bytes.len())];
+            keep(into, part)?;
+            byte = later(byte, part.len());
+            if end.is_some() {
                 self.next = Mark {
                     line: self.next.line.saturating_add(1),
-                    byte: later(byte, end).saturating_add(1),
+                    byte: byte.saturating_add(1),
                 };
                 return Ok(());
             }
-            keep(into, bytes)?;
-            byte = later(byte, bytes.len());
             if !self.blocks.refill(byte)? {
                 break;
             }
@@ -193,12 +194,11 @@ fn later(from: u64, by: usize) -> u64 {
 }
 
 /// Adds bytes of a line to the buffer, as far as they are kept.
-fn keep(into: &mut Vec<u8>, bytes: &[u8]) -> io::Result<()>
+fn keep(into: &mut Vec<u8>, bytes: &[u8]) -> Result<(), AllocError>
     requires { vec_len into.old ≤ LINE_CAP }
     ensures { vec_len into.new ≤ LINE_CAP }
 {
     let room = LINE_CAP - into.len();
     let kept = bytes.get(..room).unwrap_or(bytes);
-    into.extend_from_slice(kept)?;
-    Ok(())
+    into.extend_from_slice(kept)
 }

@@ -1,7 +1,6 @@
 //! Where lines of a file begin, to go back to.
 
-use std::alloc::Global;
-use std::io;
+use std::alloc::{AllocError, Global};
 
 /// Where a line begins in a file.
 #[derive(Clone, Copy)]
@@ -31,8 +30,8 @@ pub(crate) struct Marks {
 }
 
 impl Marks {
-    /// No marks. An error means that memory ran out.
-    pub(crate) fn new(alloc: Global) -> io::Result<Marks> {
+    /// No marks.
+    pub(crate) fn new(alloc: Global) -> Result<Marks, AllocError> {
         Ok(Marks {
             marks: Vec::with_capacity(alloc, MARKS)?,
             gap: 262_144,
