@@ -1,3 +1,4 @@
+pub mod Derived
 pub mod NameOrder
 pub mod Names
 pub mod Steps

@@ -22,49 +22,19 @@ pub enum Name {
 
 impl Name {
     ghost use Rattle.std.specs.Prelude.{◌≡◌};
-    ghost use Rattle.ssq_outside.specs.Files.{same_name, kind_of, first_of, second_of, name_before};
+    ghost use Rattle.ssq_outside.specs.Files.{same_name, name_before};
 
     /// Whether this is that name.
     pub fn is(self, other: Name) -> bool
         ensures { result ≡ same_name self other }
     {
-        match (self, other) {
-            (Name::Meta, Name::Meta) => true,
-            (Name::Plan(epoch), Name::Plan(of)) => epoch == of,
-            (Name::Commit(epoch), Name::Commit(of)) => epoch == of,
-            (Name::Out(epoch), Name::Out(of)) => epoch == of,
-            (Name::Delta(partition, version), Name::Delta(of, at)) => partition == of
-                && version == at,
-            (Name::Snapshot(partition, version), Name::Snapshot(of, at)) => {
-                partition == of && version == at
-            }
-            _ => false,
-        }
+        self == other
     }
 
     /// Whether this comes before that name, in the order of names.
     pub fn comes_before(self, other: Name) -> bool
         ensures { result ≡ name_before self other }
     {
-        let (kind, first, second) = self.key();
-        let (of_kind, of_first, of_second) = other.key();
-        kind < of_kind
-            || kind == of_kind && (first < of_first || first == of_first && second < of_second)
-    }
-
-    /// Where the name's kind stands in the order of names, and its numbers.
-    fn key(self) -> (u8, u32, u32)
-        ensures kind { result.0 ≡ kind_of self }
-        ensures first { result.1 ≡ first_of self }
-        ensures second { result.2 ≡ second_of self }
-    {
-        match self {
-            Name::Meta => (0, 0, 0),
-            Name::Plan(epoch) => (1, epoch, 0),
-            Name::Commit(epoch) => (2, epoch, 0),
-            Name::Out(epoch) => (3, epoch, 0),
-            Name::Delta(partition, version) => (4, partition, version),
-            Name::Snapshot(partition, version) => (5, partition, version),
-        }
+        self < other
     }
 }
