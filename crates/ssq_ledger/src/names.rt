@@ -6,7 +6,7 @@ ghost use Rattle.ssq_board.specs.Shelf.{without};
 ghost use Rattle.ssq_ledger.specs.Names.{MakesRoom, MakesSettled, IsNewestBelow, newer};
 
 use ssq_outside::Name;
-use ssq_upkeep::newest_to;
+use ssq_upkeep::{is_among, newest_to};
 
 /// The names of the state's files.
 #[derive(Drop)]
@@ -19,12 +19,6 @@ pub(crate) struct Names {
     pub(crate) claimed: Vec<Name>,
     /// Since the last sync no snapshot was published, and no file removed.
     pub(crate) tidy: bool,
-}
-
-fn is_among(names: &[Name], name: Name) -> bool
-    ensures { result ≡ is_among names.now name }
-{
-    names.iter().any(|other| other.is(name))
 }
 
 fn is_there(settled: &[Name], news: &[Name], name: Name) -> bool

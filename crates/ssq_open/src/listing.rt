@@ -32,7 +32,7 @@ pub(crate) fn planned(names: &[Name]) -> u64
 pub(crate) fn has(names: &[Name], name: Name) -> bool
     ensures { IsTrue result ↔ Contains names.now name }
 {
-    names.iter().any(|n| n.is(name))
+    names.contains(&name)
 }
 
 fn is_commit_from(name: Name, from: u64) -> bool

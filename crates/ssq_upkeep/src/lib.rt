@@ -9,5 +9,5 @@ mod newest;
 mod snapshots;
 
 pub use files::may_go;
-pub use newest::newest_to;
+pub use newest::{is_among, newest_to};
 pub use snapshots::due;

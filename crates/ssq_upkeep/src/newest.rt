@@ -13,10 +13,10 @@ const KEPT: u32 = 20;
 const MANY: usize = 64;
 
 /// Whether the name is in the list.
-pub(crate) fn is_among(names: &[Name], name: Name) -> bool
+pub fn is_among(names: &[Name], name: Name) -> bool
     ensures { result ≡ is_among names.now name }
 {
-    names.iter().any(|other| other.is(name))
+    names.contains(&name)
 }
 
 /// The newest of a partition's snapshots up to a version, of those in a list.
