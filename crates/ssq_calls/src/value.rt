@@ -120,8 +120,8 @@ fn parts_are_given_back(rt: HostRuntime) -> Result<(), Fail> {
         kind: ColType::Timestamp,
     };
     assert_eq!(rt; name.into_string().as_str(), "at");
-    let columns = Sequence::from_vec(vec![in alloc; at]?).clone()?.into_vec();
-    let schema = Schema::new(columns, Some(0)).clone()?;
+    let columns = Sequence::from_vec(vec![in alloc; at]?).into_vec();
+    let schema = Schema::new(columns, Some(0));
     assert_eq!(rt; schema.event(), Some(0));
     assert_eq!(rt; schema.columns().len(), 1);
     let row = Row::from_vec(vec![in alloc;

@@ -1,7 +1,6 @@
 //! Columns of streams and of results.
 
 use crate::text::Text;
-use std::alloc::AllocError;
 
 /// The types of columns. Each of them holds NULL too.
 #[derive(Clone, Copy, Debug, PartialEq, Eq)]
@@ -21,18 +20,4 @@ pub enum ColType {
 pub struct Column {
     pub name: Text,
     pub kind: ColType,
-}
-
-/// A copy in memory of its own.
-impl Clone for Column {
-    ghost use Rattle.std.specs.Prelude.{◌≡◌};
-
-    ghost is_clone = { λ old new. new ≡ old };
-
-    fn clone(&self) -> Result<Column, AllocError> {
-        Ok(Column {
-            name: self.name.clone()?,
-            kind: self.kind,
-        })
-    }
 }

@@ -47,7 +47,7 @@ fn put_value(out: &mut Vec<u8>, value: &Value) -> Result<(), AllocError>
     ensures { Grows out.old.items out.new.items result (key_of value.now) }
 {
     match value {
-        Value::Null => Ok(out.push(NULL)?),
+        Value::Null => out.extend_from_slice(&[NULL]),
         Value::Truth(truth) => out.extend_from_slice(&[TRUTH, u8::from(*truth)]),
         Value::Int(number) => put_number(out, NUMBER, *number),
         Value::Time(time) => put_number(out, TIME, *time),

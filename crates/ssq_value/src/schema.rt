@@ -5,7 +5,6 @@ ghost use Rattle.std.specs.Option.{ForSome};
 ghost use Rattle.ssq_value.specs.Layout.{IsEvent};
 
 use crate::column::Column;
-use std::alloc::AllocError;
 use std::marker::Model;
 
 /// The columns of a stream in declared order, at most 64. Contracts see `columns` and `event`.
@@ -55,17 +54,5 @@ impl Schema {
         ensures in_range { IfSome result (λ at. at < length self.now.columns) }
     {
         self.event
-    }
-}
-
-/// A copy in memory of its own.
-impl Clone for Schema {
-    ghost is_clone = { λ old new. new ≡ old };
-
-    fn clone(&self) -> Result<Schema, AllocError> {
-        Ok(Schema {
-            columns: self.columns.clone()?,
-            event: self.event,
-        })
     }
 }
