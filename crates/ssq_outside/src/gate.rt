@@ -12,7 +12,7 @@ pub struct TaskId {
 }
 
 /// What a task does.
-#[derive(Clone, Copy, Debug)]
+#[derive(Clone, Copy)]
 pub enum Kind {
     /// Reads the new lines of a part.
     Map,
