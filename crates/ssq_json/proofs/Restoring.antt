@@ -20,6 +20,7 @@ use Rattle.ssq_value.specs.declared.column.ColType.{ColType}
 use Rattle.ssq_value.specs.declared.column.ColType.TheVariants.{Bigint, Str, Timestamp, Bool as Boolean}
 use Rattle.ssq_value.specs.declared.value.Value.{Value}
 use Rattle.ssq_value.specs.declared.value.Value.TheVariants.{Null, Int, Text, Time, Truth}
+use Rattle.ssq_json.proofs.Lexing.{escape-plain}
 use Rattle.ssq_json.specs.Flat.{ArePlain}
 use Rattle.ssq_json.specs.RowText.{heads_from, heads_of, members_text, row_text, value_text}
 use Rattle.ssq_json.specs.Stored.{AreStoredIn, IsStoredIn, line_of}
@@ -149,14 +150,9 @@ quoted_apart x r y s e =
     let same : x ≡ y = some_is (sym (content-escape x r) ∙ ap (content plain) inside ∙ content-escape y s) in
     (same, tail_is (append_cancel_left (escape y) (34 ∷ r) (34 ∷ s) (ap (λ l. escape l ++ 34 ∷ r) (sym same) ∙ inside)))
 
--- plain bytes stand for themselves
-pub escape-plain : (xs : List ℕ) → ArePlain xs → escape xs ≡ xs
-escape-plain [] are = refl
-escape-plain (x ∷ xs) are = ap₂ (λ a b. a ++ b) (escape_byte_plain x are.0.quote are.0.backslash are.0.control) (escape-plain xs are.1)
-
-pub quoted-plain : (text body inside tail rest : List ℕ) → text ≡ 34 ∷ body → body ≡ inside ++ tail → tail ≡ 34 ∷ rest → ArePlain inside → text ≡ quoted inside ++ rest
-quoted-plain text body inside tail rest one two three are =
-    one ∙ ap (λ l. 34 ∷ l) (two ∙ ap (λ l. inside ++ l) three ∙ ap (λ l. l ++ 34 ∷ rest) (sym (escape-plain inside are))) ∙ sym (quoted-inside inside rest)
+-- a text without escapes between quotes is its quoted form
+pub quoted-plain : (text inside rest : List ℕ) → text ≡ 34 ∷ (inside ++ 34 ∷ rest) → ArePlain inside → text ≡ quoted inside ++ rest
+quoted-plain text inside rest is each = is ∙ ap (λ l. 34 ∷ (l ++ 34 ∷ rest)) (sym (escape-plain inside each)) ∙ sym (quoted-inside inside rest)
 
 -- ---- times
 

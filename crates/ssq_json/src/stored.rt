@@ -14,7 +14,7 @@ ghost use Rattle.ssq_json.specs.RowText.{heads_of, members_text, value_text};
 ghost use Rattle.ssq_json.specs.Stored.{AreStoredIn, IsStoredIn, line_of};
 ghost use Rattle.ssq_json.specs.Unescaped.{byte_at, control, control_at, escaped_at, short_for};
 
-use crate::flat::plain_len;
+use crate::flat::take_quoted;
 use crate::heads::{Head, Heads};
 use crate::written::put_text;
 use ssq_field::take_decimal;
@@ -72,11 +72,10 @@ fn take_control(text: &[u8]) -> Option<(u8, &[u8])>
     ensures byte { option_map (λ r. (r.0, r.1.now)) result ≡ control_at text.now }
     ensures shorter { IfSome result (λ r. length r.1.now < length text.now) }
 {
-    let (_, text) = text.split_first()?;
-    let (_, text) = text.split_first()?;
-    let (high, text) = text.split_first()?;
-    let (low, rest) = text.split_first()?;
-    Some((control(*high, *low), rest))
+    match text {
+        [_, _, high, low, rest @ ..] => Some((control(*high, *low), rest)),
+        _ => None,
+    }
 }
 
 /// The byte behind a backslash, and what follows.
@@ -86,11 +85,10 @@ fn take_escaped_byte(text: &[u8]) -> Option<(u8, &[u8])>
     ensures byte { option_map (λ r. (r.0, r.1.now)) result ≡ escaped_at text.now }
     ensures shorter { IfSome result (λ r. length r.1.now < length text.now) }
 {
-    let (letter, rest) = text.split_first()?;
-    if *letter == b'u' {
-        take_control(rest)
-    } else {
-        Some((short_for(*letter), rest))
+    match text.split_first() {
+        Some((b'u', digits)) => take_control(digits),
+        Some((letter, rest)) => Some((short_for(*letter), rest)),
+        None => None,
     }
 }
 
@@ -101,13 +99,11 @@ fn take_byte(text: &[u8]) -> Option<(u8, &[u8])>
     ensures byte { option_map (λ r. (r.0, r.1.now)) result ≡ byte_at text.now }
     ensures shorter { IfSome result (λ r. length r.1.now < length text.now) }
 {
-    let (first, rest) = text.split_first()?;
-    if *first == b'"' {
-        None
-    } else if *first == b'\\' {
-        take_escaped_byte(rest)
-    } else {
-        Some((*first, rest))
+    match text.split_first() {
+        Some((b'"', _)) => None,
+        Some((b'\\', rest)) => take_escaped_byte(rest),
+        Some((first, rest)) => Some((*first, rest)),
+        None => None,
     }
 }
 
@@ -146,24 +142,13 @@ fn take_escaped(alloc: Global, text: &[u8]) -> Result<Option<(Text, &[u8])>, All
     }
 }
 
-/// A quoted text without escapes, and what follows it.
-#[inline(always)]
-fn take_plain(text: &[u8]) -> Option<(&[u8], &[u8])>
-    ensures { IfSome result (λ r. text.now ≡ quoted r.0.now ++ r.1.now) }
-{
-    let body = behind(text, b"\"")?;
-    let (inside, tail) = body.split_at(plain_len(body));
-    let rest = behind(tail, b"\"")?;
-    Some((inside, rest))
-}
-
 /// The text whose quoted form stands in front, and what follows.
 fn take_text(alloc: Global, text: &[u8]) -> Result<Option<(Text, &[u8])>, AllocError>
     ensures found { IfOk result (λ read. IfSome read (λ r. (text.now ≡ quoted r.0 ++ r.1.now) × IsUtf8 r.0)) }
     ensures each { (read rest : List ℕ) → IsUtf8 read → text.now ≡ quoted read ++ rest →
         IfOk result (λ found. IsSomeAnd found (λ r. (r.0 ≡ read) × (r.1.now ≡ rest))) }
 {
-    let Some((inside, rest)) = take_plain(text) else {
+    let Some((inside, rest)) = take_quoted(text) else {
         return take_escaped(alloc, text);
     };
     match str::from_utf8(inside) {
