@@ -1,3 +1,4 @@
 pub mod Opened
+pub mod Projecting
 pub mod Years
 pub mod Texts

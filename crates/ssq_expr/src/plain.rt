@@ -29,7 +29,6 @@ pub fn passes(alloc: Global, filter: &Option<Typed>, row: &[Value]) -> Result<bo
     Ok(truth == Some(true))
 }
 
-#[tactic(auto, unfolding(ssq_shape::specs::Plain::projected))]
 fn values_of(alloc: Global, outputs: &[Output], row: &[Value]) -> Result<Vec<Value>, EvalFault>
     ensures { Answers (λ values. values.items) result (projected outputs.now row.now) }
 {
