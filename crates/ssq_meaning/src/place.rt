@@ -1,10 +1,9 @@
 //! Where the time of keys stands in them.
 
 ghost use Rattle.std.specs.Prelude.{◌≡◌, List, IfSome};
-ghost use Rattle.std.specs.List.{AllByRecursion, position};
+ghost use Rattle.std.specs.List.{AllByRecursion};
 ghost use Rattle.ssq_time.specs.Time.{IsStampTime};
 ghost use Rattle.ssq_value.specs.declared.value.Value.{Value as Cell};
-ghost use Rattle.ssq_shape.specs.Late.{is_column_of, is_event, is_window_of};
 ghost use Rattle.ssq_meaning.specs.Dedup as repeats;
 ghost use Rattle.ssq_meaning.specs.Group.{event_time, time_by, unless_complete, window_end};
 ghost use Rattle.ssq_meaning.specs.Keyed.{key_time};
@@ -13,7 +12,7 @@ ghost use Rattle.ssq_meaning.specs.Windows.{HasWindow, HasWindows};
 
 use crate::closing::sum_of;
 use ssq_shape::{
-    Bound, GroupKey, Mode, Shape, TimeKey, event_of, is_column_of, is_event, is_window_of, time_key,
+    Bound, GroupKey, Mode, Shape, TimeKey, event_column, event_of, event_part, time_key, window_part,
 };
 
 /// Where the time of keys stands in them.
@@ -47,27 +46,6 @@ impl KeyPlace {
             KeyPlace::Window { size, .. } => sum_of(own, size),
         }
     }
-}
-
-/// Which part of GROUP BY is a window over the event column.
-fn window_part(event: Option<usize>, keys: &[GroupKey]) -> Option<usize>
-    ensures { result ≡ position (is_window_of event) keys.now }
-{
-    keys.iter().position(|key| is_window_of(event, key))
-}
-
-/// Which part of GROUP BY is the event column.
-fn event_part(event: Option<usize>, keys: &[GroupKey]) -> Option<usize>
-    ensures { result ≡ position (is_column_of event) keys.now }
-{
-    keys.iter().position(|key| is_column_of(event, key))
-}
-
-/// Which of the columns is the event column.
-fn event_column(event: Option<usize>, columns: &[usize]) -> Option<usize>
-    ensures { result ≡ position (is_event event) columns.now }
-{
-    columns.iter().position(|column| is_event(event, *column))
 }
 
 fn window_at(keys: &[GroupKey], at: usize) -> Option<KeyPlace>

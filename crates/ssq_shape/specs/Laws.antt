@@ -1,6 +1,6 @@
 -- The value of an expression has the expression's type, and its times are of the years 0001 to 9999.
 use Rattle.std.proofs.Common.{◌≡◌, ℕ, zero, suc, ℤ, pos, neg_ℤ, ◌+ℤ◌, ◌-ℤ◌, ◌*ℤ◌, Bool, true, false, List, [], ◌∷◌, ◌++◌, Option, Some, None, Result, Ok, Err, refl, subst, ap, ◌∙◌}
-use Rattle.std.specs.Prelude.{All, IfOk, IfSome, if◌then◌else◌, slice_get, int_div, int_rem, nat_le, length, map, ◌&&◌}
+use Rattle.std.specs.Prelude.{All, IfOk, IfSome, if◌then◌else◌, slice_get, int_div, int_rem, nat_le, length, ◌&&◌}
 use Rattle.std.specs.List.{AllByRecursion}
 use Rattle.std.specs.Ordering.{int_eq}
 use Rattle.std.proofs.lemmas.List.Elements.{recursion_from_All}

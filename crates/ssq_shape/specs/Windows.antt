@@ -1,5 +1,5 @@
 -- Windows that a query can have.
-use Rattle.std.specs.Prelude.{◌≤ℤ◌, ◌*ℤ◌, ◌≤◌, ℤ, ℕ, pos, Bool, true, false, length, filter}
+use Rattle.std.specs.Prelude.{◌≤ℤ◌, ◌*ℤ◌, ◌≤◌, ℤ, pos, Bool, true, false, length, filter}
 use Rattle.std.specs.List.{AllByRecursion}
 use Rattle.ssq_time.specs.Time.{IsSpan}
 use Rattle.ssq_shape.specs.declared.bound.Bound.{Bound}

@@ -1,7 +1,7 @@
 //! By what time a row is late, and which queries show more once the watermark rises.
 
 ghost use Rattle.std.specs.Prelude.{◌≡◌};
-ghost use Rattle.std.specs.List.{list_any};
+ghost use Rattle.std.specs.List.{position};
 ghost use Rattle.ssq_shape.specs.Late.{event_of, is_event, is_window_of, is_column_of, time_key_of, grouped_by, repeated_by, time_key, closes};
 
 use crate::bound::{Bound, GroupKey, JoinKind, Mode, Shape, Stream};
@@ -57,42 +57,45 @@ pub fn is_column_of(event: Option<usize>, key: &GroupKey) -> bool
     }
 }
 
-fn has_window_of(event: Option<usize>, keys: &[GroupKey]) -> bool
-    ensures { result ≡ list_any (is_window_of event) keys.now }
+/// Which part of GROUP BY is a window over the event column, counted from 0.
+pub fn window_part(event: Option<usize>, keys: &[GroupKey]) -> Option<usize>
+    ensures { result ≡ position (is_window_of event) keys.now }
 {
-    keys.iter().any(|key| is_window_of(event, key))
+    keys.iter().position(|key| is_window_of(event, key))
 }
 
-fn has_column_of(event: Option<usize>, keys: &[GroupKey]) -> bool
-    ensures { result ≡ list_any (is_column_of event) keys.now }
+/// Which part of GROUP BY is the event column, counted from 0.
+pub fn event_part(event: Option<usize>, keys: &[GroupKey]) -> Option<usize>
+    ensures { result ≡ position (is_column_of event) keys.now }
 {
-    keys.iter().any(|key| is_column_of(event, key))
+    keys.iter().position(|key| is_column_of(event, key))
 }
 
-#[tactic(auto, unfolding(crate::specs::Late::grouped_by))]
+/// Which of the columns is the event column, counted from 0.
+pub fn event_column(event: Option<usize>, columns: &[usize]) -> Option<usize>
+    ensures { result ≡ position (is_event event) columns.now }
+{
+    columns.iter().position(|column| is_event(event, *column))
+}
+
+#[tactic(auto, unfolding(crate::specs::Late::grouped_by), using(crate::proofs::Places::some_place))]
 fn grouped_by(event: Option<usize>, keys: &[GroupKey]) -> Option<TimeKey>
     ensures { result ≡ grouped_by event keys.now }
 {
-    if has_window_of(event, keys) {
+    if window_part(event, keys).is_some() {
         Some(TimeKey::WindowEnd)
-    } else if has_column_of(event, keys) {
+    } else if event_part(event, keys).is_some() {
         Some(TimeKey::EventTime)
     } else {
         None
     }
 }
 
-fn has_event(event: Option<usize>, columns: &[usize]) -> bool
-    ensures { result ≡ list_any (is_event event) columns.now }
-{
-    columns.iter().any(|column| is_event(event, *column))
-}
-
-#[tactic(auto, unfolding(crate::specs::Late::repeated_by))]
+#[tactic(auto, unfolding(crate::specs::Late::repeated_by), using(crate::proofs::Places::some_place))]
 fn repeated_by(event: Option<usize>, columns: &[usize]) -> Option<TimeKey>
     ensures { result ≡ repeated_by event columns.now }
 {
-    if has_event(event, columns) {
+    if event_column(event, columns).is_some() {
         Some(TimeKey::EventTime)
     } else {
         None

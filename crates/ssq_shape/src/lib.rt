@@ -15,7 +15,10 @@ pub use bound::{
     Aggregate, Bound, Direction, Function, GroupKey, Grouping, Job, JoinKind, Joining, KeyPair,
     Mode, Output, Shape, SortKey, Stream, TimeBound,
 };
-pub use late::{TimeKey, closes, event_of, is_column_of, is_event, is_window_of, time_key};
+pub use late::{
+    TimeKey, closes, event_column, event_of, event_part, is_column_of, is_event, is_window_of,
+    time_key, window_part,
+};
 pub use laws::{
     groups_have_their_kind, groups_stay_printable, times_stay_printable, values_have_their_kind,
     values_stay_fit,

@@ -1,4 +1,4 @@
-use Rattle.std.proofs.Common.{◌≡◌, ◌≤ℤ◌, ℤ, pos, negsuc, ◌^◌, ◌-◌, ℕ, List, [], true, int_le, arith}
+use Rattle.std.proofs.Common.{◌≡◌, ◌≤ℤ◌, ℤ, pos, negsuc, ◌^◌, ◌-◌, ℕ, [], true, int_le, arith}
 use Rattle.std.specs.Prelude.{FitsSigned, length, nat_le, ◌≤◌}
 use Rattle.std.specs.Int.{w64}
 use Rattle.std.proofs.lemmas.Int.{ints}
