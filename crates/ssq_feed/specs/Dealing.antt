@@ -2,12 +2,12 @@
 use Rattle.std.specs.Prelude.{◌≡◌, ℕ, ℤ, List, ◌++◌, map, length, All, Option, IsSomeAnd, slice_get, ◌∷◌, []}
 use Rattle.ssq_value.specs.declared.value.Value.{Value}
 use Rattle.ssq_shape.specs.declared.bound.Bound.{Bound}
-use Rattle.ssq_shape.specs.declared.bound.Grouping.{Grouping}
 use Rattle.ssq_meaning.specs.FedRows.{FedRow}
 use Rattle.ssq_meaning.specs.Feeding.{Handed}
 use Rattle.ssq_meaning.specs.Fit.{IsFitRow}
-use Rattle.ssq_meaning.specs.Group.{member}
 use Rattle.ssq_meaning.specs.Meaning.{Line, Values}
+use Rattle.ssq_meaning.specs.Placed.{placed_time}
+use Rattle.ssq_meaning.specs.declared.place.KeyPlace.{KeyPlace}
 use Rattle.ssq_feed.specs.declared.dealer.Origin.{Origin}
 use Rattle.ssq_feed.specs.Rows.{GivesOf, dealt}
 
@@ -16,12 +16,16 @@ abbrev pub from_origin : Origin → Handed → FedRow
 from_origin origin row =
     record { epoch = origin.epoch; stream = origin.stream; part = origin.part; offset = origin.offset; key = row.key; time = row.time; values = row.values }
 
--- the row that goes to the group of a key, and those that go to the groups of these keys
-abbrev pub member_row : Origin → Bound → Grouping → Values → Values → FedRow
-member_row origin query grouping arguments key = from_origin origin (member query grouping arguments key)
+-- what is handed on to the group of a key, whose time stands at the place
+abbrev pub placed_member : Option KeyPlace → Values → Values → Handed
+placed_member place arguments key = record { key = key; time = placed_time place key; values = arguments }
 
-abbrev pub member_rows : Origin → Bound → Grouping → Values → List Values → List FedRow
-member_rows origin query grouping arguments keys = map (from_origin origin) (map (member query grouping arguments) keys)
+-- the row that goes to the group of a key, and those that go to the groups of these keys
+abbrev pub member_row : Origin → Option KeyPlace → Values → Values → FedRow
+member_row origin place arguments key = from_origin origin (placed_member place arguments key)
+
+abbrev pub member_rows : Origin → Option KeyPlace → Values → List Values → List FedRow
+member_rows origin place arguments keys = map (from_origin origin) (map (placed_member place arguments) keys)
 
 -- Behind what was dealt before, these rows are dealt; a state can hold each of them.
 pub record Deals (old new : List (List FedRow)) (rows : List FedRow) : Type 0 where

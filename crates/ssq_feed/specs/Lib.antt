@@ -1,5 +1,6 @@
 pub mod Rows
 pub mod Keys
+pub mod Finding
 pub mod Handing
 pub mod Dealing
 pub mod Causes

@@ -1,18 +1,19 @@
 //! Rows on their way to their partitions.
 
-ghost use Rattle.std.specs.Prelude.{◌≡◌, ◌<◌, ◌≤◌, ◌∷◌, ◌++◌, [], length, take, drop, All, IfOk, OnOk};
+ghost use Rattle.std.specs.Prelude.{◌≡◌, ◌<◌, ◌≤◌, ◌∷◌, ◌++◌, [], length, take, drop, All, IfOk, IfSome, OnOk};
 ghost use Rattle.std.specs.List.{AllByRecursion};
 ghost use Rattle.ssq_meaning.specs.Fit.{IsFit, IsFitRow};
 ghost use Rattle.ssq_meaning.specs.Group.{row_keys};
-ghost use Rattle.ssq_meaning.specs.Windows.{HasGroupWindows, HasWindow};
+ghost use Rattle.ssq_meaning.specs.Placed.{HasSpan};
+ghost use Rattle.ssq_meaning.specs.Windows.{HasWindow};
 ghost use Rattle.ssq_feed.specs.Rows.{dealt};
 ghost use Rattle.ssq_feed.specs.Keys.{IsReadRow, all_of, begun_with};
 ghost use Rattle.ssq_feed.specs.Dealing.{Deals, IsLonger, from_origin, member_row, member_rows};
 
 use crate::key_values::KeyValues;
-use ssq_meaning::{FedRow, closing_time, fit_values_are_spelled};
+use ssq_meaning::{FedRow, KeyPlace, fit_values_are_spelled, placed_time};
 use ssq_route::Buckets;
-use ssq_shape::{Bound, GroupKey, Grouping};
+use ssq_shape::GroupKey;
 use ssq_value::{Row, Value, put_key};
 use std::alloc::{AllocError, Global};
 
@@ -29,11 +30,13 @@ pub(crate) struct Origin {
 #[derive(Clone, Copy)]
 pub(crate) struct Source<'a> {
     pub(crate) origin: Origin,
-    pub(crate) bound: &'a Bound,
-    pub(crate) grouping: &'a Grouping,
+    /// Where the time of the groups' keys stands in them.
+    pub(crate) place: Option<KeyPlace>,
     pub(crate) row: &'a [Value],
     /// How many arguments the aggregates have.
     pub(crate) arguments: usize,
+    /// How many values they are with those of a key.
+    pub(crate) cells: usize,
 }
 
 /// Deals rows to the buckets of their partitions.
@@ -128,11 +131,11 @@ impl Dealer {
 
     /// Deals a row to the group of a key. The cells are the arguments and, behind them, the key.
     fn deal_member(&mut self, from: &Source<'_>, cells: Vec<Value>) -> Result<(), AllocError>
-        requires windows { HasGroupWindows from.now.grouping.now }
+        requires span { IfSome from.now.place HasSpan }
         requires arguments { from.now.arguments ≤ length cells.items }
         requires cells { All IsFit cells.items }
         ensures { OnOk result (Deals self.old.buckets self.new.buckets
-            (member_row from.now.origin from.now.bound.now from.now.grouping.now (take from.now.arguments cells.items) (drop from.now.arguments cells.items) ∷ [])) }
+            (member_row from.now.origin from.now.place (take from.now.arguments cells.items) (drop from.now.arguments cells.items) ∷ [])) }
     {
         let Origin {
             epoch,
@@ -141,7 +144,7 @@ impl Dealer {
             offset,
         } = from.origin;
         let count = from.arguments;
-        let time = closing_time(from.bound, from.grouping, &cells[count..]);
+        let time = placed_time(from.place, &cells[count..]);
         let row = FedRow::of_cells(epoch, stream, part, offset, count, time, cells)?;
         self.deal(row)
     }
@@ -155,13 +158,13 @@ impl Dealer {
         parts: &[GroupKey],
         cells: Vec<Value>,
     ) -> Result<(), AllocError>
-        requires windows { HasGroupWindows from.now.grouping.now }
+        requires span { IfSome from.now.place HasSpan }
         requires left { AllByRecursion HasWindow parts.now }
         requires read { IsReadRow from.now.row.now }
         requires arguments { from.now.arguments ≤ length cells.items }
         requires cells { All IsFit cells.items }
         ensures { OnOk result (Deals self.old.buckets self.new.buckets
-            (member_rows from.now.origin from.now.bound.now from.now.grouping.now (take from.now.arguments cells.items)
+            (member_rows from.now.origin from.now.place (take from.now.arguments cells.items)
             (begun_with (drop from.now.arguments cells.items) (row_keys parts.now from.now.row.now)))) }
     {
         let Some((part, parts)) = parts.split_first() else {
@@ -171,9 +174,8 @@ impl Dealer {
         let Some(last) = values.count().checked_sub(1) else {
             return Ok(());
         };
-        let room = from.grouping.keys.len().saturating_add(from.arguments);
         for nth in 0..last {
-            let begun = longer(alloc, room, cells.as_slice(), &values, nth)?;
+            let begun = longer(alloc, from.cells, cells.as_slice(), &values, nth)?;
             self.deal_groups(alloc, from, parts, begun)?;
         }
         let cells = pushed(cells, &values, last)?;

@@ -1,6 +1,7 @@
 //! What a row hands on, by the shape of the query.
 
 ghost use Rattle.std.specs.Prelude.{◌≡◌, ◌∷◌, [], All, IfOk, Ok};
+ghost use Rattle.ssq_shape.specs.declared.bound.Shape.TheVariants.{Dedup, Group};
 ghost use Rattle.ssq_shape.specs.Evaluation.{cell_at};
 ghost use Rattle.ssq_expr.specs.Answers.{Answers, itself};
 ghost use Rattle.ssq_meaning.specs.Dedup.{handed_to_dedup, key_in};
@@ -8,13 +9,14 @@ ghost use Rattle.ssq_meaning.specs.Feeding.{handed};
 ghost use Rattle.ssq_meaning.specs.Fit.{IsFit};
 ghost use Rattle.ssq_meaning.specs.Group.{argument_of, arguments_of, handed_to_groups};
 ghost use Rattle.ssq_meaning.specs.Join.{handed_to_join, join_key, key_column};
-ghost use Rattle.ssq_meaning.specs.Windows.{HasGroupWindows, HasWindows};
+ghost use Rattle.ssq_feed.specs.Finding.{IsFoundFor};
 ghost use Rattle.ssq_feed.specs.Keys.{IsReadRow};
 ghost use Rattle.ssq_feed.specs.Handing.{HandsOn, handed_shown};
 
 use crate::dealer::{Dealer, Origin, Source};
+use crate::query::Query;
 use ssq_expr::{EvalFault, eval, passes, show};
-use ssq_meaning::{join_time, repeat_time};
+use ssq_meaning::{join_time, placed_time};
 use ssq_shape::{Aggregate, Bound, Grouping, Joining, KeyPair, Shape, Typed};
 use ssq_value::{Row, Value};
 use std::alloc::{AllocError, Global};
@@ -96,18 +98,20 @@ fn key_in(alloc: Global, columns: &[usize], room: usize, row: &[Value]) -> Resul
 #[tactic(auto, unfolding(ssq_meaning::specs::Dedup::handed_to_dedup))]
 fn deal_distinguished(
     alloc: Global,
-    bound: &Bound,
+    query: &Query<'_>,
     columns: &[usize],
     origin: Origin,
     row: &[Value],
     dealer: &mut Dealer,
 ) -> Result<(), EvalFault>
-    requires { IsReadRow row.now }
-    ensures { HandsOn origin dealer.old.buckets dealer.new.buckets result (handed_to_dedup bound.now columns.now row.now) }
+    requires found { IsFoundFor origin.stream query.now }
+    requires shape { query.now.bound.now.shape ≡ Dedup columns.now }
+    requires read { IsReadRow row.now }
+    ensures { HandsOn origin dealer.old.buckets dealer.new.buckets result (handed_to_dedup query.now.bound.now columns.now row.now) }
 {
-    if let Some(values) = show(alloc, bound, row)? {
+    if let Some(values) = show(alloc, query.bound, row)? {
         let key = key_in(alloc, columns, values.len(), row)?;
-        let time = repeat_time(bound, columns, key.as_slice());
+        let time = placed_time(query.place, key.as_slice());
         dealer.deal_values(origin, key, time, values)?;
     }
     Ok(())
@@ -117,27 +121,29 @@ fn deal_distinguished(
 #[tactic(auto, unfolding(ssq_meaning::specs::Group::handed_to_groups))]
 fn deal_grouped(
     alloc: Global,
-    bound: &Bound,
+    query: &Query<'_>,
     grouping: &Grouping,
     origin: Origin,
     row: &[Value],
     dealer: &mut Dealer,
 ) -> Result<(), EvalFault>
-    requires windows { HasGroupWindows grouping.now }
+    requires found { IsFoundFor origin.stream query.now }
+    requires shape { query.now.bound.now.shape ≡ Group grouping.now }
     requires read { IsReadRow row.now }
-    ensures { HandsOn origin dealer.old.buckets dealer.new.buckets result (handed_to_groups bound.now grouping.now row.now) }
+    ensures { HandsOn origin dealer.old.buckets dealer.new.buckets result (handed_to_groups query.now.bound.now grouping.now row.now) }
 {
-    if !passes(alloc, &bound.filter, row)? {
+    if !passes(alloc, &query.bound.filter, row)? {
         return Ok(());
     }
     let parts = grouping.keys.as_slice();
     let arguments = arguments_of(alloc, grouping.aggregates.as_slice(), parts.len(), row)?;
+    let count = arguments.len();
     let from = Source {
         origin,
-        bound,
-        grouping,
+        place: query.place,
         row,
-        arguments: arguments.len(),
+        arguments: count,
+        cells: count.saturating_add(parts.len()),
     };
     dealer.deal_groups(alloc, &from, parts, arguments)?;
     Ok(())
@@ -188,24 +194,24 @@ fn deal_paired(
 /// the left; for a join nothing is. The room of a row that is not handed on itself is given back.
 pub(crate) fn hand_on(
     alloc: Global,
-    bound: &Bound,
+    query: &Query<'_>,
     origin: Origin,
     row: Row,
     room: &mut Vec<Value>,
     dealer: &mut Dealer,
 ) -> Result<(), EvalFault>
-    requires windows { HasWindows bound.now }
+    requires found { IsFoundFor origin.stream query.now }
     requires read { IsReadRow row }
-    ensures { HandsOn origin dealer.old.buckets dealer.new.buckets result (handed bound.now origin.stream row) }
+    ensures { HandsOn origin dealer.old.buckets dealer.new.buckets result (handed query.now.bound.now origin.stream row) }
 {
     let values = row.as_slice();
-    let done = match &bound.shape {
+    let done = match &query.bound.shape {
         Shape::Join(joining) => return deal_paired(alloc, joining, origin, row, dealer),
-        Shape::Group(grouping) => deal_grouped(alloc, bound, grouping, origin, values, dealer),
+        Shape::Group(grouping) => deal_grouped(alloc, query, grouping, origin, values, dealer),
         Shape::Dedup(columns) => {
-            deal_distinguished(alloc, bound, columns.as_slice(), origin, values, dealer)
+            deal_distinguished(alloc, query, columns.as_slice(), origin, values, dealer)
         },
-        Shape::Plain => deal_shown(alloc, bound, origin, values, dealer),
+        Shape::Plain => deal_shown(alloc, query.bound, origin, values, dealer),
     };
     *room = row.into_vec();
     done

@@ -7,6 +7,7 @@ mod handed;
 mod key_values;
 mod law;
 mod line;
+mod query;
 mod range;
 mod starts;
 mod task;

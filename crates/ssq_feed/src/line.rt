@@ -1,20 +1,20 @@
 //! One line of a part: read from its log, and what it gives.
 
 ghost use Rattle.std.specs.Prelude.{◌≡◌, OnOk, IfOk, IfErr};
-ghost use Rattle.ssq_meaning.specs.Feeding.{layout_at, time_of_row};
-ghost use Rattle.ssq_meaning.specs.Windows.{HasWindows};
+ghost use Rattle.ssq_meaning.specs.Feeding.{time_of_row};
 ghost use Rattle.ssq_feed.specs.Dealing.{HasDealt};
+ghost use Rattle.ssq_feed.specs.Finding.{IsFoundFor};
 ghost use Rattle.ssq_feed.specs.Rows.{IsRead, LineCause};
 ghost use Rattle.ssq_feed.specs.Causes.{LogWent, ReadCause};
 
 use crate::dealer::{Dealer, Origin};
 use crate::fault::FeedFault;
 use crate::handed::hand_on;
+use crate::query::Query;
 use crate::times::time_at;
 use ssq_expr::EvalFault;
 use ssq_json::{BadRow, read_row_in};
 use ssq_outside::{LineError, Log};
-use ssq_shape::Bound;
 use ssq_value::{Schema, Value};
 use std::alloc::Global;
 use std::mem;
@@ -49,19 +49,18 @@ fn event_time(schema: &Schema, row: &[Value]) -> Option<i64>
 /// leaves that room to the next where the row itself is not handed on.
 pub(crate) fn deal_line(
     alloc: Global,
-    bound: &Bound,
-    schema: &Schema,
+    query: &Query<'_>,
     origin: Origin,
     line: &[u8],
     room: &mut Vec<Value>,
     dealer: &mut Dealer,
 ) -> Result<Option<i64>, FeedFault>
-    requires schema { schema.now ≡ layout_at bound.now origin.stream }
-    requires windows { HasWindows bound.now }
-    ensures dealt { IfOk result (HasDealt bound.now origin line.now dealer.old.buckets dealer.new.buckets) }
-    ensures fault { IfErr result (LineCause bound.now origin.stream line.now origin.offset) }
+    requires { IsFoundFor origin.stream query.now }
+    ensures dealt { IfOk result (HasDealt query.now.bound.now origin line.now dealer.old.buckets dealer.new.buckets) }
+    ensures fault { IfErr result (LineCause query.now.bound.now origin.stream line.now origin.offset) }
 {
     let at = origin.offset;
+    let schema = query.schema;
     let row = match read_row_in(alloc, line, schema, mem::replace(room, Vec::new(alloc))) {
         Ok(Some(row)) => row,
         Ok(None) => return Ok(None),
@@ -69,7 +68,7 @@ pub(crate) fn deal_line(
         Err(cause) => return Err(FeedFault::BadLine { offset: at, cause }),
     };
     let time = event_time(schema, row.as_slice());
-    match hand_on(alloc, bound, origin, row, room, dealer) {
+    match hand_on(alloc, query, origin, row, room, dealer) {
         Ok(()) => Ok(time),
         Err(EvalFault::Overflow) => Err(FeedFault::Overflow { offset: at }),
         Err(EvalFault::NoMemory) => Err(FeedFault::NoMemory),

@@ -3,18 +3,16 @@
 ghost use Rattle.std.specs.Prelude.{◌≡◌, ◌≤◌, IfOk, IfErr, IfSome};
 ghost use Rattle.ssq_time.specs.Time.{IsLineTime};
 ghost use Rattle.ssq_meaning.specs.Times.{later};
-ghost use Rattle.ssq_meaning.specs.Feeding.{layout_at};
-ghost use Rattle.ssq_meaning.specs.Windows.{HasWindows};
+ghost use Rattle.ssq_feed.specs.Finding.{IsFoundFor};
 ghost use Rattle.ssq_feed.specs.Rows.{IsFedFrom};
 ghost use Rattle.ssq_feed.specs.Causes.{LogWent, FeedCause};
 
 use crate::dealer::{Dealer, Origin};
 use crate::fault::FeedFault;
 use crate::line::{deal_line, read_line};
+use crate::query::Query;
 use crate::task::FedRows;
-use ssq_meaning::View;
 use ssq_outside::Log;
-use ssq_value::Schema;
 use std::alloc::Global;
 
 /// The later of two times.
@@ -33,26 +31,25 @@ fn later(greatest: Option<i64>, time: Option<i64>) -> Option<i64>
 pub(crate) fn feed_lines<L: Log>(
     alloc: Global,
     log: &mut L,
-    view: View<'_>,
-    schema: &Schema,
+    query: &Query<'_>,
+    partitions: u32,
     epoch: u32,
     stream: u32,
     part: u32,
     from: u64,
     to: u64,
 ) -> Result<FedRows, FeedFault>
-    requires partitions { 1 ≤ view.partitions }
-    requires windows { HasWindows view.bound.now }
-    requires schema { schema.now ≡ layout_at view.bound.now stream }
-    ensures rows { IfOk result (λ fed. IsFedFrom L.tells view.entry.bound.now epoch (record { stream = stream; part = part; lines = L.lines log.old }) from to
-        view.entry.partitions fed.time fed.buckets) }
-    ensures fault { IfErr result (FeedCause L.tells L.lines L.available L.answers L.faults view.entry.bound.now stream part from to log.old log.new) }
+    requires partitions { 1 ≤ partitions }
+    requires found { IsFoundFor stream query.now }
+    ensures rows { IfOk result (λ fed. IsFedFrom L.tells query.now.bound.now epoch (record { stream = stream; part = part; lines = L.lines log.old }) from to
+        partitions fed.time fed.buckets) }
+    ensures fault { IfErr result (FeedCause L.tells L.lines L.available L.answers L.faults query.now.bound.now stream part from to log.old log.new) }
     ensures log { LogWent L.tells L.lines L.available L.answers L.faults log.old log.new }
 {
     let mut line = Vec::new(alloc);
     let mut room = Vec::new(alloc);
     let mut time = None;
-    let mut dealer = Dealer::new(alloc, view.partitions)?;
+    let mut dealer = Dealer::new(alloc, partitions)?;
     for at in from..to {
         read_line(log, at, to, &mut line)?;
         let origin = Origin {
@@ -63,8 +60,7 @@ pub(crate) fn feed_lines<L: Log>(
         };
         let own = deal_line(
             alloc,
-            view.bound,
-            schema,
+            query,
             origin,
             line.as_slice(),
             &mut room,

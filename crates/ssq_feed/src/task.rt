@@ -5,8 +5,9 @@ ghost use Rattle.ssq_meaning.specs.Windows.{HasWindows};
 ghost use Rattle.ssq_feed.specs.Outcome.{IsFed};
 
 use crate::fault::FeedFault;
+use crate::query::Query;
 use crate::range::feed_lines;
-use ssq_meaning::{FedRow, View};
+use ssq_meaning::{FedRow, View, key_place};
 use ssq_outside::Log;
 use ssq_route::Buckets;
 use ssq_value::Schema;
@@ -79,7 +80,22 @@ pub fn feed<'a, L: Log>(alloc: Global, task: MapTask<'a, L>) -> Fed<'a, L>
         Some(stream) => &stream.schema,
         None => &none,
     };
-    let outcome = feed_lines(alloc, &mut log, view, schema, epoch, stream, part, from, to);
+    let query = Query {
+        bound: view.bound,
+        schema,
+        place: key_place(view.bound),
+    };
+    let outcome = feed_lines(
+        alloc,
+        &mut log,
+        &query,
+        view.partitions,
+        epoch,
+        stream,
+        part,
+        from,
+        to,
+    );
     Fed {
         view,
         epoch,

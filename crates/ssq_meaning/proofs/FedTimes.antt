@@ -1,6 +1,6 @@
 -- The time of a fed row is that of its key, its key has a value for each part, a time where that is a window, and it has a value for each
 -- aggregate.
-use Rattle.std.proofs.Common.{◌≡◌, [], ◌∷◌, ℕ, suc, ℤ, List, Option, Some, None, Ok, Err, Bool, true, false, refl, ap, sym, subst, map, filter, length}
+use Rattle.std.proofs.Common.{◌≡◌, [], ◌∷◌, ℕ, suc, ℤ, List, Option, Some, None, Ok, Err, false, refl, ap, sym, subst, map, filter, length}
 use Rattle.std.specs.Prelude.{All, IfOk, IfSome, not}
 use Rattle.std.specs.List.{AllByRecursion, flat_map}
 use Rattle.std.proofs.lemmas.List.Elements.{All-from_recursion}

@@ -1,16 +1,20 @@
 -- The time of a key is told by one of its values.
-use Rattle.std.proofs.Common.{◌≡◌, [], ◌∷◌, ◌+◌, ℕ, suc, ℤ, List, Option, Some, None, Bool, true, false, cond, length, arith, refl, ap, sym, ◌∙◌}
-use Rattle.std.specs.Prelude.{not, if◌then◌else◌, nat_lt, option_map, slice_get}
-use Rattle.std.specs.List.{position, position_or_len}
+use Rattle.std.proofs.Common.{◌≡◌, [], ◌∷◌, ◌+◌, ℕ, zero, suc, ℤ, List, Option, Some, None, Bool, true, false, cond, length, arith, refl, ap, sym, subst, ◌∙◌, w64, to_z, of_z}
+use Rattle.std.specs.Prelude.{All, IfSome, not, if◌then◌else◌, nat_lt, option_map, slice_get}
+use Rattle.std.specs.List.{AllByRecursion, position, position_or_len}
 use Rattle.std.proofs.lemmas.Bool.{le-ltb, lt-ltb, ltb-false, ltb-true}
+use Rattle.std.proofs.lemmas.Int.{ints, to_z-of_z}
+use Rattle.std.proofs.lemmas.List.Elements.{recursion_from_All}
+use Rattle.ssq_time.specs.Time.{IsStampTime}
 use Rattle.ssq_value.specs.declared.value.Value.{Value}
-use Rattle.ssq_value.specs.declared.value.Value.TheVariants.{Null}
+use Rattle.ssq_value.specs.declared.value.Value.TheVariants.{Null, Int, Text, Time, Truth}
 use Rattle.ssq_shape.specs.declared.bound.GroupKey.{GroupKey}
 use Rattle.ssq_shape.specs.declared.bound.GroupKey.TheVariants as key
-use Rattle.ssq_shape.specs.Evaluation.{time_in}
+use Rattle.ssq_shape.specs.Evaluation.{cell_at, time_in}
 use Rattle.ssq_shape.specs.Late.{is_column_of, is_event, is_window_of}
 use Rattle.ssq_meaning.specs.declared.place.KeyPlace.TheVariants.{Event}
 use Rattle.ssq_meaning.specs.Dedup as dedup
+use Rattle.ssq_meaning.specs.Fit.{IsFit}
 use Rattle.ssq_meaning.specs.Group.{end_of, event_time, window_end}
 use Rattle.ssq_meaning.specs.Meaning.{Values}
 use Rattle.ssq_meaning.specs.Placed.{end_at, end_if, placed_time}
@@ -110,3 +114,25 @@ event_placed event parts values = event_first event parts values ∙ time_is (is
 
 pub column_placed : (event : Option ℕ) (columns : List ℕ) (values : Values) → dedup.event_time event columns values ≡ at_place time_at columns values (position (is_event event) columns)
 column_placed event columns values = column_first event columns values ∙ time_is (is_event event) columns values
+
+-- ---- the years of a key's times
+
+stamped : (value : Value) → IsFit value → IfSome (time_in value) IsStampTime
+stamped Null fit = tt
+stamped (Int number) fit = tt
+stamped (Text text) fit = tt
+stamped (Time time) fit = fit
+stamped (Truth truth) fit = tt
+
+stamped_in : (key : Values) → AllByRecursion IsFit key → (at : ℕ) → IfSome (time_in (cell_at key at)) IsStampTime
+stamped_in [] fit at = tt
+stamped_in (value ∷ values) fit zero = stamped value fit.0
+stamped_in (value ∷ values) fit (suc at) = stamped_in values fit.1 at
+
+-- the time at a place of a key that a state can hold
+pub stamp_at : (key : Values) → All IsFit key → (at : ℕ) (time : ℤ) → time_in (cell_at key at) ≡ Some time → IsStampTime time
+stamp_at key fit at time is = subst (λ found. IfSome found IsStampTime) is (stamped_in key (recursion_from_All IsFit key fit) at)
+
+-- a time of these years as a number of 64 bits
+pub as_number : (time : ℤ) → IsStampTime time → to_z w64 (of_z w64 time) ≡ time
+as_number time years = to_z-of_z w64 time (record { sfits = grind (arith, ints, years.0, years.1) })

@@ -15,9 +15,7 @@ mod line;
 mod place;
 mod total;
 
-pub use closing::{
-    closing_time, event_column, join_time, key_length, keys_have_times, repeat_time,
-};
+pub use closing::{event_column, join_time, key_length, keys_have_times};
 pub use dedup::{
     epochs_without_repeats_follow, first_rows_add_up, first_rows_are_told_by_what_is_kept,
     first_rows_fall_into_partitions, forgotten_keys_lose_no_row, kept_keys_are_found,
@@ -44,5 +42,5 @@ pub use laws::{
     partitions_show_all_rows, rows_add_up, watermarks_never_fall,
 };
 pub use line::LineFault;
-pub use place::{KeyPlace, key_place};
+pub use place::{KeyPlace, key_place, placed_time};
 pub use total::Total;

@@ -1,19 +1,22 @@
 //! Where the time of keys stands in them.
 
-ghost use Rattle.std.specs.Prelude.{◌≡◌, List, IfSome};
+ghost use Rattle.std.specs.Prelude.{◌≡◌, All, List, IfSome};
 ghost use Rattle.std.specs.List.{AllByRecursion};
 ghost use Rattle.ssq_time.specs.Time.{IsStampTime};
 ghost use Rattle.ssq_value.specs.declared.value.Value.{Value as Cell};
 ghost use Rattle.ssq_meaning.specs.Dedup as repeats;
+ghost use Rattle.ssq_meaning.specs.Fit.{IsFit};
 ghost use Rattle.ssq_meaning.specs.Group.{event_time, time_by, unless_complete, window_end};
 ghost use Rattle.ssq_meaning.specs.Keyed.{key_time};
 ghost use Rattle.ssq_meaning.specs.Placed.{HasSpan, end_at, place_at, placed_time, time_from};
 ghost use Rattle.ssq_meaning.specs.Windows.{HasWindow, HasWindows};
 
-use crate::closing::sum_of;
+use crate::closing::time_at;
 use ssq_shape::{
-    Bound, GroupKey, Mode, Shape, TimeKey, event_column, event_of, event_part, time_key, window_part,
+    Bound, GroupKey, Mode, Shape, TimeKey, event_column, event_of, event_part, time_key,
+    window_part,
 };
+use ssq_value::Value;
 
 /// Where the time of keys stands in them.
 #[derive(Clone, Copy)]
@@ -43,9 +46,20 @@ impl KeyPlace {
     {
         match self {
             KeyPlace::Event { .. } => own,
-            KeyPlace::Window { size, .. } => sum_of(own, size),
+            KeyPlace::Window { size, .. } => own + size,
         }
     }
+}
+
+/// The time of a key, by the place where the times of keys stand, in microseconds since 1970. There is none of a key that stays open.
+pub fn placed_time(place: Option<KeyPlace>, key: &[Value]) -> Option<i64>
+    requires span { IfSome place HasSpan }
+    requires fit { All IsFit key.now }
+    ensures { result ≡ placed_time place key.now }
+{
+    let place = place?;
+    let own = time_at(key, place.at())?;
+    Some(place.time(own))
 }
 
 fn window_at(keys: &[GroupKey], at: usize) -> Option<KeyPlace>

@@ -5,7 +5,7 @@ use Rattle.ssq_feed.proofs.range.feed_lines.Given as goal
 
 abbrev pub invariant-loop-at : goal.invariant-loop-at
 invariant-loop-at g l = record {
-  so_far : SoFar g.L.Log.tells l.view.bound.now l.epoch (record { stream = l.stream; part = l.part; lines = g.L.Log.lines l.initial.log }) l.from l.at l.to l.view.partitions l.time l.dealer.buckets;
-  len : length l.dealer.buckets ≡ l.view.partitions;
+  so_far : SoFar g.L.Log.tells l.query.bound.now l.epoch (record { stream = l.stream; part = l.part; lines = g.L.Log.lines l.initial.log }) l.from l.at l.to l.partitions l.time l.dealer.buckets;
+  len : length l.dealer.buckets ≡ l.partitions;
   log : LogWent g.L.Log.tells g.L.Log.lines g.L.Log.available g.L.Log.answers g.L.Log.faults l.initial.log l.log;
 }

@@ -15,13 +15,13 @@ pub returns-in_default : goal.returns-in_default
 returns-in_default t c =
     let from = c.args.from.now in
     let P : List FedRow → Type 0 = λ rows. OnOk c.deal_member.result (Deals c.args.self.now.buckets c.deal_member.new.self.buckets rows) in
-    subst P (sym (rows_of_key from.origin from.bound.now from.grouping.now (take from.arguments c.args.cells.items) (drop from.arguments c.args.cells.items) from.row.now c.args.parts.now c.in_default.ensures.cases))
+    subst P (sym (rows_of_key from.origin from.place (take from.arguments c.args.cells.items) (drop from.arguments c.args.cells.items) from.row.now c.args.parts.now c.in_default.ensures.cases))
     c.deal_member.ensures
 
 pub returns-in_default-checked_sub : goal.returns-in_default-checked_sub
 returns-in_default-checked_sub t c =
     let from = c.args.from.now in
-    deals_nothing from.origin from.bound.now from.grouping.now (take from.arguments c.args.cells.items) c.in-Some.parts.now (drop from.arguments c.args.cells.items)
+    deals_nothing from.origin from.place (take from.arguments c.args.cells.items) c.in-Some.parts.now (drop from.arguments c.args.cells.items)
     from.row.now c.args.self.now.buckets c.in-Some.part.now
     c.args.parts.now (all_of c.of-values.result) c.count.result c.in-Some.ensures.cases.0 c.of-values.ensures.all c.count.ensures c.in_default-checked_sub.ensures
 
@@ -33,7 +33,7 @@ deal_groups-requires t c =
     let on = goes_on c.args.from.now.arguments all c.loop-nth.nth c.args.cells.items c.in_ok-begun.begun.items c.requires.arguments c.requires.cells c.of-values.ensures.fit longer in (
       omega (arith, c.decreases, c.in-Some.ensures.cases.1),
       (
-        c.requires.windows,
+        c.requires.span,
         (
           (subst P c.in-Some.ensures.cases.0 c.requires.left).1,
           (c.requires.read, (on.within, on.fit)),
@@ -48,10 +48,10 @@ loop-nth-preserved t c =
     let begun = c.in_ok-begun.begun.items in
     let all = all_of c.of-values.result in
     let P : Values → Values → Type 0 = λ arguments key. Deals c.loop-nth.self.buckets c.deal_groups.new.self.buckets
-    (member_rows from.origin from.bound.now from.grouping.now arguments (begun_with key (row_keys c.in-Some.parts.now from.row.now))) in
+    (member_rows from.origin from.place arguments (begun_with key (row_keys c.in-Some.parts.now from.row.now))) in
     let longer = subst (λ (front : Values). IsLonger all c.loop-nth.nth front begun) c.as_slice.ensures.value c.in_ok-begun.ensures in
     let on = goes_on from.arguments all c.loop-nth.nth cells begun c.requires.arguments c.requires.cells c.of-values.ensures.fit longer in
-    deals_value from.origin from.bound.now from.grouping.now (take from.arguments cells) c.in-Some.parts.now (drop from.arguments cells) from.row.now
+    deals_value from.origin from.place (take from.arguments cells) c.in-Some.parts.now (drop from.arguments cells) from.row.now
     c.args.self.now.buckets c.loop-nth.self.buckets c.deal_groups.new.self.buckets all c.loop-nth.nth on.value
     c.loop-nth.invariant on.there
     (subst (P (take from.arguments cells)) on.key (subst (λ (arguments : Values). P arguments (drop from.arguments begun)) on.same c.in_ok-deal_groups.ensures))
@@ -62,7 +62,7 @@ deal_groups-requires-2 t c =
     let on = goes_on c.args.from.now.arguments (all_of c.of-values.result) c.in-Some-checked_sub.last c.args.cells.items c.in_ok-cells.cells.items c.requires.arguments c.requires.cells c.of-values.ensures.fit c.in_ok-cells.ensures in (
       omega (arith, c.decreases, c.in-Some.ensures.cases.1),
       (
-        c.requires.windows,
+        c.requires.span,
         (
           (subst P c.in-Some.ensures.cases.0 c.requires.left).1,
           (c.requires.read, (on.within, on.fit)),
@@ -76,22 +76,22 @@ returns t c =
     let cells = c.args.cells.items in
     let longer = c.in_ok-cells.cells.items in
     let P : Values → Values → Type 0 = λ arguments key. Deals c.loop-nth.self.buckets c.deal_groups-2.new.self.buckets
-    (member_rows from.origin from.bound.now from.grouping.now arguments (begun_with key (row_keys c.in-Some.parts.now from.row.now))) in
+    (member_rows from.origin from.place arguments (begun_with key (row_keys c.in-Some.parts.now from.row.now))) in
     let all = all_of c.of-values.result in
     let last = c.in-Some-checked_sub.last in
     let at_last : c.loop-nth.nth ≡ last = omega (arith, c.loop-nth-test.false, c.loop-nth.auto.nth-end) in
     let on = goes_on from.arguments all last cells longer c.requires.arguments c.requires.cells c.of-values.ensures.fit c.in_ok-cells.ensures in
     on_ok c.deal_groups-2.result c.deal_groups-2.ensures (λ deals.
-    deals_part from.origin from.bound.now from.grouping.now (take from.arguments cells) c.in-Some.parts.now (drop from.arguments cells) from.row.now
+    deals_part from.origin from.place (take from.arguments cells) c.in-Some.parts.now (drop from.arguments cells) from.row.now
     c.args.self.now.buckets c.deal_groups-2.new.self.buckets c.in-Some.part.now c.args.parts.now all last c.count.result c.in-Some.ensures.cases.0 c.of-values.ensures.all
     c.count.ensures c.in-Some-checked_sub.ensures.0 c.in-Some-checked_sub.ensures.1
-    (deals_value from.origin from.bound.now from.grouping.now (take from.arguments cells) c.in-Some.parts.now (drop from.arguments cells) from.row.now
+    (deals_value from.origin from.place (take from.arguments cells) c.in-Some.parts.now (drop from.arguments cells) from.row.now
     c.args.self.now.buckets c.loop-nth.self.buckets c.deal_groups-2.new.self.buckets all last on.value
     (rw (sym at_last) c.loop-nth.invariant) on.there
     (subst (P (take from.arguments cells)) on.key (subst (λ (arguments : Values). P arguments (drop from.arguments longer)) on.same deals))))
 
-pub deal_member-requires-clause-windows : goal.deal_member-requires-clause-windows
-deal_member-requires-clause-windows t c = c.requires.windows
+pub deal_member-requires-clause-span : goal.deal_member-requires-clause-span
+deal_member-requires-clause-span t c = c.requires.span
 
 pub deal_member-requires-clause-arguments : goal.deal_member-requires-clause-arguments
 deal_member-requires-clause-arguments t c = c.requires.arguments

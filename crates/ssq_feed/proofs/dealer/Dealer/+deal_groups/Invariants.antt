@@ -10,4 +10,4 @@ decreases-deal_groups l = length l.parts.now
 
 abbrev pub invariant-loop-nth : goal.invariant-loop-nth
 invariant-loop-nth l = Deals l.initial.self.buckets l.self.buckets
-    (flat_map (rows_with l.from.origin l.from.bound.now l.from.grouping.now (take l.from.arguments l.cells.items) l.parts (drop l.from.arguments l.cells.items) l.from.row.now) (take l.nth (all_of l.values)))
+    (flat_map (rows_with l.from.origin l.from.place (take l.from.arguments l.cells.items) l.parts (drop l.from.arguments l.cells.items) l.from.row.now) (take l.nth (all_of l.values)))

@@ -3,16 +3,13 @@ use Rattle.std.specs.Prelude.{OnOk}
 use Rattle.std.proofs.lemmas.List.Elements.{All-take, All-drop}
 use Rattle.ssq_meaning.specs.Fit.{IsFit, IsFitRow}
 use Rattle.ssq_meaning.specs.FedRows.{FedRow}
-use Rattle.ssq_meaning.specs.Group.{closing_time}
 use Rattle.ssq_meaning.specs.Meaning.{Values}
+use Rattle.ssq_meaning.specs.Placed.{placed_time}
 use Rattle.ssq_feed.specs.Dealing.{Deals, from_origin}
 use Rattle.ssq_feed.proofs.dealer.Dealer.deal_member.Goals as goal
 
-pub closing_time-time-requires-clause-sizes : goal.closing_time-time-requires-clause-sizes
-closing_time-time-requires-clause-sizes c = c.requires.windows.each
-
-pub slice_bounds-closing_time-count : goal.slice_bounds-closing_time-count
-slice_bounds-closing_time-count c = omega (arith, c.requires.arguments, ap (λ (cells : Values). length cells) c.deref.ensures.value)
+pub slice_bounds-placed_time-count : goal.slice_bounds-placed_time-count
+slice_bounds-placed_time-count c = omega (arith, c.requires.arguments, ap (λ (cells : Values). length cells) c.deref.ensures.value)
 
 pub deal-requires : goal.deal-requires
 deal-requires c =
@@ -32,5 +29,5 @@ returns c =
     let cells = c.deref.result.now in
     let behind : take (length cells - from.arguments) (drop from.arguments cells) ≡ key =
     take_all (length cells - from.arguments) (drop from.arguments cells) (omega (arith, length-drop from.arguments cells)) ∙ ap (drop from.arguments) c.deref.ensures.value in
-    subst P (ap (λ (row : FedRow). row ∷ []) c.in_ok-row.ensures ∙ ap fed (c.closing_time-time.ensures ∙ ap (closing_time from.bound.now from.grouping.now) behind))
+    subst P (ap (λ (row : FedRow). row ∷ []) c.in_ok-row.ensures ∙ ap fed (c.placed_time-time.ensures ∙ ap (placed_time from.place) behind))
     c.deal.ensures
