@@ -98,8 +98,7 @@ impl Dealer {
         ensures { OnOk result (Deals self.old.buckets self.new.buckets (row ∷ [])) }
     {
         if self.buckets.partitions() == 1 {
-            self.buckets.add(&[], row)?;
-            return Ok(());
+            return self.buckets.add(&[], row);
         }
         fit_values_are_spelled();
         self.key.clear();
