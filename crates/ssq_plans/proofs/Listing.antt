@@ -7,8 +7,7 @@ use Rattle.std.specs.Option.{ForSome}
 use Rattle.ssq_time.specs.Time.{IsLineTime, IsStampTime}
 use Rattle.ssq_time.proofs.Signed.{signed_arith}
 use Rattle.ssq_plans.specs.Records.{lines}
-use Rattle.ssq_plans.specs.declared.writer.Writer.{Writer}
-use Rattle.ssq_plans.specs.Written.{Holds, Adds}
+use Rattle.ssq_plans.specs.Written.{Written, Holds, Adds}
 
 -- ---- written one after the other
 
@@ -23,22 +22,22 @@ unfolding lines
 lines-end spelled out at xs h = rw (drop_all at xs h) (append-nil out)
 
 -- what a writer holds, with the lines that are left, is the whole
-pub record AreLeft {X : Type 0} (spelled : ℕ → X → List ℕ) (at : ℕ) (xs : List X) (whole : List ℕ) (out : Writer) : Type 0 where
+pub record AreLeft {X : Type 0} (spelled : ℕ → X → List ℕ) (at : ℕ) (xs : List X) (whole : List ℕ) (out : Written) : Type 0 where
   pub held : List ℕ
   pub holds : Holds out held
   pub bytes : held ++ lines spelled at (drop at xs) ≡ whole
 
-pub left_first : {X : Type 0} (spelled : ℕ → X → List ℕ) (xs : List X) (held : List ℕ) (out : Writer) → Holds out held → AreLeft spelled 0 xs (held ++ lines spelled 0 xs) out
+pub left_first : {X : Type 0} (spelled : ℕ → X → List ℕ) (xs : List X) (held : List ℕ) (out : Written) → Holds out held → AreLeft spelled 0 xs (held ++ lines spelled 0 xs) out
 left_first spelled xs held out is = record { held = held; holds = is; bytes = refl }
 
-pub left_next : {X : Type 0} (spelled : ℕ → X → List ℕ) (at : ℕ) (xs : List X) (whole : List ℕ) (out new : Writer) (x : X) → Adds out (spelled at x) new → at < length xs → x ≡ get_or xs at x → AreLeft spelled at xs whole out → AreLeft spelled (at + 1) xs whole new
+pub left_next : {X : Type 0} (spelled : ℕ → X → List ℕ) (at : ℕ) (xs : List X) (whole : List ℕ) (out new : Written) (x : X) → Adds out (spelled at x) new → at < length xs → x ≡ get_or xs at x → AreLeft spelled at xs whole out → AreLeft spelled (at + 1) xs whole new
 left_next spelled at xs whole out new x put h e left = record {
   held = left.held ++ spelled at x;
   holds = put left.held left.holds;
   bytes = lines-next spelled left.held at xs x h e ∙ left.bytes;
 }
 
-pub left_none : {X : Type 0} (spelled : ℕ → X → List ℕ) (at : ℕ) (xs : List X) (whole : List ℕ) (out : Writer) → length xs ≤ at → AreLeft spelled at xs whole out → Holds out whole
+pub left_none : {X : Type 0} (spelled : ℕ → X → List ℕ) (at : ℕ) (xs : List X) (whole : List ℕ) (out : Written) → length xs ≤ at → AreLeft spelled at xs whole out → Holds out whole
 left_none spelled at xs whole out h left = λ whole_out. left.holds whole_out ∙ sym (lines-end spelled left.held at xs h) ∙ left.bytes
 
 -- the times of lines are printed

@@ -20,5 +20,6 @@ pub use law::{names_are_apart, records_are_apart};
 pub use meta::{Meta, read_meta, write_meta};
 pub use names::{NameText, name_text, read_name};
 pub use part::PartEnd;
-pub use plan::{Plan, next_epoch, read_plan, write_plan};
+pub use plan::{Plan, next_epoch, put_ends, read_plan, write_plan};
 pub use seen::SeenBy;
+pub use writer::Writer;

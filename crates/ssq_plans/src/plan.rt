@@ -3,7 +3,8 @@ ghost use Rattle.std.specs.Prelude.{◌≡◌, ◌++◌, ◌<◌, List, ℕ, IfO
 ghost use Rattle.std.specs.Option.{ForSome};
 ghost use Rattle.ssq_time.specs.Time.{IsStampTime};
 ghost use Rattle.ssq_plans.specs.declared.plan.Plan.{Plan as Record};
-ghost use Rattle.ssq_plans.specs.Records.{part_line, plan_text, time_or_none, epoch_after, Any, IsPart, IsPlan};
+ghost use Rattle.ssq_plans.specs.Records.{lines, part_line, plan_text, time_or_none, epoch_after, Any, IsPart, IsPlan};
+ghost use Rattle.ssq_plans.specs.Written.{Adds};
 
 use crate::fields::{is_all, long_line_after, short_after, short_line_after, time_line_after};
 use crate::lines::{Line, put_lines, take_lines};
@@ -45,6 +46,13 @@ impl Line for PartEnd {
     }
 }
 
+/// Appends the line of each part's end.
+pub fn put_ends(out: &mut Writer, ends: &[PartEnd])
+    ensures { Adds out.old (lines (λ at part. part_line part) 0 ends.now) out.new }
+{
+    put_lines(out, ends);
+}
+
 /// The text of a plan, whose watermark is none or of the years 0001 to 9999.
 pub fn write_plan(alloc: Global, plan: &Plan) -> Result<Bytes, AllocError>
     requires { ForSome plan.now.watermark IsStampTime }
@@ -53,7 +61,7 @@ pub fn write_plan(alloc: Global, plan: &Plan) -> Result<Bytes, AllocError>
     let mut out = Writer::new(alloc);
     out.put_number_line(b"v1\nplan ", plan.epoch as u64);
     out.put_time_line(b"watermark ", plan.watermark);
-    put_lines(&mut out, plan.ends.as_slice());
+    put_ends(&mut out, plan.ends.as_slice());
     out.put(b"end\n");
     out.finish()
 }

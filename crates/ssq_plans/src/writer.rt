@@ -8,17 +8,27 @@ ghost use Rattle.ssq_plans.specs.Written.{Holds, Adds};
 use ssq_field::{Bytes, put_decimal_to};
 use ssq_time::put_time;
 use std::alloc::{AllocError, Global};
+use std::marker::Model;
 
-/// Bytes that grow, and whether memory sufficed for each piece of them: only `finish` tells of a piece that is missing.
+/// Bytes that are written piece by piece: of a record, of what a checkpoint has, of what is told of an epoch. Where memory runs out it
+/// remembers that, and `into_vec` tells it.
 #[derive(Drop)]
-pub(crate) struct Writer {
+pub struct Writer {
     out: Vec<u8>,
     is_whole: bool,
 }
 
+impl Model for Writer {
+    ghost use Rattle.ssq_plans.specs.Written.{Written};
+
+    ghost Value = { Written };
+
+    ghost view = { λ writer. record { bytes = writer.out.items; is_whole = writer.is_whole } };
+}
+
 impl Writer {
     /// No bytes.
-    pub(crate) fn new(alloc: Global) -> Writer
+    pub fn new(alloc: Global) -> Writer
         ensures { Holds result [] }
     {
         Writer {
@@ -28,14 +38,14 @@ impl Writer {
     }
 
     /// Appends the bytes.
-    pub(crate) fn put(&mut self, bytes: &[u8])
+    pub fn put(&mut self, bytes: &[u8])
         ensures { Adds self.old bytes.now self.new }
     {
         self.is_whole = self.is_whole && self.out.extend_from_slice(bytes).is_ok();
     }
 
     /// Appends these bytes, and the number behind them.
-    pub(crate) fn put_number(&mut self, front: &[u8], number: u64)
+    pub fn put_number(&mut self, front: &[u8], number: u64)
         ensures { Adds self.old (front.now ++ decimal number) self.new }
     {
         self.put(front);
@@ -43,20 +53,10 @@ impl Writer {
     }
 
     /// Appends these bytes, and the number behind them that is the rest of their line.
-    pub(crate) fn put_number_line(&mut self, front: &[u8], number: u64)
+    pub fn put_number_line(&mut self, front: &[u8], number: u64)
         ensures { Adds self.old (front.now ++ decimal number ++ codes "\n") self.new }
     {
         self.put_number(front, number);
-        self.put(b"\n");
-    }
-
-    /// Appends these bytes, and behind them, as the rest of their line, a time of the years 0001 to 9999 or `none`.
-    pub(crate) fn put_time_line(&mut self, front: &[u8], time: Option<i64>)
-        requires { ForSome time IsStampTime }
-        ensures { Adds self.old (front.now ++ time_or_none time ++ codes "\n") self.new }
-    {
-        self.put(front);
-        self.put_time_or_none(time);
         self.put(b"\n");
     }
 
@@ -73,15 +73,36 @@ impl Writer {
         }
     }
 
-    /// The bytes, where none is missing.
+    /// Appends these bytes, and behind them a time of the years 0001 to 9999, in microseconds since 1970-01-01T00:00:00Z, or `none`.
+    pub fn put_time(&mut self, front: &[u8], time: Option<i64>)
+        requires { ForSome time IsStampTime }
+        ensures { Adds self.old (front.now ++ time_or_none time) self.new }
+    {
+        self.put(front);
+        self.put_time_or_none(time);
+    }
+
+    /// The same, as the rest of a line.
+    pub fn put_time_line(&mut self, front: &[u8], time: Option<i64>)
+        requires { ForSome time IsStampTime }
+        ensures { Adds self.old (front.now ++ time_or_none time ++ codes "\n") self.new }
+    {
+        self.put_time(front, time);
+        self.put(b"\n");
+    }
+
+    /// The bytes, where none is missing. Room for them was all that was lacking otherwise.
+    pub fn into_vec(self) -> Result<Vec<u8>, AllocError>
+        ensures { (held : List ℕ) → Holds self held → IfOk result (λ bytes. bytes.items ≡ held) }
+    {
+        let Writer { out, is_whole } = self;
+        if is_whole { Ok(out) } else { Err(AllocError) }
+    }
+
+    /// The same, as a record keeps them.
     pub(crate) fn finish(self) -> Result<Bytes, AllocError>
         ensures { (held : List ℕ) → Holds self held → IfOk result (λ bytes. bytes ≡ held) }
     {
-        let Writer { out, is_whole } = self;
-        if is_whole {
-            Ok(Bytes::from_vec(out))
-        } else {
-            Err(AllocError)
-        }
+        Ok(Bytes::from_vec(self.into_vec()?))
     }
 }

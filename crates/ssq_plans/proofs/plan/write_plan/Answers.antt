@@ -4,11 +4,8 @@ use Rattle.ssq_plans.specs.Records.{plan_text}
 use Rattle.ssq_plans.proofs.Spelled.{plan_written}
 use Rattle.ssq_plans.proofs.plan.write_plan.Goals as goal
 
-pub put_lines-requires : goal.put_lines-requires
-put_lines-requires c = λ k d h. tt
-
 pub returns : goal.returns
 returns c =
     let plan = c.args.plan.now in
-    let lines = c.put_lines.ensures _ (c.put_time_line.ensures _ (c.put_number_line.ensures _ c.new-out.ensures)) in
+    let lines = c.put_ends.ensures _ (c.put_time_line.ensures _ (c.put_number_line.ensures _ c.new-out.ensures)) in
     c.finish.ensures (plan_text plan) (λ whole. c.put.ensures _ lines whole ∙ plan_written plan _ c.as_slice.ensures)
