@@ -7,7 +7,7 @@ use std::alloc::{AllocError, Global};
 use std::marker::Model;
 
 /// The values of a row, one for each column, from the left.
-#[derive(Drop)]
+#[derive(Debug, Drop)]
 pub struct Row(Vec<Value>);
 
 impl Model for Row {
