@@ -8,11 +8,11 @@ use Rattle.ssq_value.specs.Key.{keys_of}
 use Rattle.ssq_shape.specs.declared.bound.Bound.{Bound}
 use Rattle.ssq_shape.specs.declared.bound.Joining.{Joining}
 use Rattle.ssq_shape.specs.declared.bound.Shape.{Shape}
-use Rattle.ssq_shape.specs.declared.bound.Shape.TheVariants.{Plain, Group, Dedup, Join}
+use Rattle.ssq_shape.specs.declared.bound.Shape.TheVariants.{Join}
 use Rattle.ssq_meaning.specs.Keyed.{key_length, key_time}
 use Rattle.ssq_meaning.specs.Meaning.{Values}
-use Rattle.ssq_step.specs.Indexing.{Indexes, IsIndexBy, IsKeyBy, IsReadableKey, IsTimeBy, IsTimeIf}
-use Rattle.ssq_step.specs.Rows.{HasTimeIf, StandsAt, TurnsAt}
+use Rattle.ssq_step.specs.Indexing.{Indexes, IsIndexBy, IsKeyBy, IsReadableKey, IsTimeIf, kept_time}
+use Rattle.ssq_step.specs.Rows.{StandsAt, TurnsAt}
 use Rattle.ssq_step.specs.Timed.{Timed, has, is_time}
 use Rattle.ssq_step.proofs.RowTimes.{one_time}
 use Rattle.ssq_step.proofs.Timing.{on_the_way}
@@ -23,96 +23,53 @@ use Rattle.ssq_step.proofs.Timing.{on_the_way}
 abbrev pub AreTimed : Shape → Bound → State → List Timed → Type 0
 AreTimed shape query state entries = (key : List ℕ) (is : IsKeyBy shape query key) → (time : Option ℤ) × IsTimeIf shape query key is (value_at state key) time × StandsAt entries key time
 
--- the time of a key that is kept
-abbrev pub kept_time : Option (List ℕ) → Option ℤ → Option ℤ
-kept_time None time = None
-kept_time (Some value) time = time
+-- where a key stands under its time
+stands_by : (t : ℤ) (value : Option (List ℕ)) (time : Option ℤ) → (is_some value && is_time t time) ≡ is_time t (kept_time value time)
+stands_by t None time = refl
+stands_by t (Some value) time = refl
 
 module _ (query : Bound) (state : State) (entries : List Timed) where
   by_key : Indexes (key_length query) (key_time query) state entries → (key : List ℕ) (own : Values) → IsReadableKey (key_length query) own → keys_of own ≡ key
       → StandsAt entries key (kept_time (value_at state key) (key_time query own))
   by_key was key own readable same t =
-      subst (λ k. has entries (t, k) ≡ (is_some (value_at state k) && is_time t (key_time query own))) same (was own readable t) ∙ by (value_at state key)
-    where
-      by : (o : Option (List ℕ)) → (is_some o && is_time t (key_time query own)) ≡ is_time t (kept_time o (key_time query own))
-      by None = refl
-      by (Some value) = refl
+      subst (λ k. has entries (t, k) ≡ (is_some (value_at state k) && is_time t (key_time query own))) same (was own readable t) ∙ stands_by t (value_at state key) (key_time query own)
 
   pub as_timed : (shape : Shape) → IsIndexBy shape query state entries → AreTimed shape query state entries
-  as_timed Plain was key is = (kept_time (value_at state key) (key_time query is.0), by (value_at state key), by_key was key is.0 is.1 is.2)
-    where
-      by : (o : Option (List ℕ)) → IsTimeIf Plain query key is o (kept_time o (key_time query is.0))
-      by None = refl
-      by (Some value) = refl
-  as_timed (Group grouping) was key is = (kept_time (value_at state key) (key_time query is.0), by (value_at state key), by_key was key is.0 is.1 is.2)
-    where
-      by : (o : Option (List ℕ)) → IsTimeIf (Group grouping) query key is o (kept_time o (key_time query is.0))
-      by None = refl
-      by (Some value) = refl
-  as_timed (Dedup columns) was key is = (kept_time (value_at state key) (key_time query is.0), by (value_at state key), by_key was key is.0 is.1 is.2)
-    where
-      by : (o : Option (List ℕ)) → IsTimeIf (Dedup columns) query key is o (kept_time o (key_time query is.0))
-      by None = refl
-      by (Some value) = refl
-  as_timed (Join joining) was key is = let found = was key in (found.0, by (value_at state key) found.0 found.1, found.2)
-    where
-      by : (o : Option (List ℕ)) (time : Option ℤ) → HasTimeIf query joining key o time → IsTimeIf (Join joining) query key is o time
-      by None time has_time = has_time
-      by (Some value) time has_time = has_time
+  as_timed (Join joining) was key is = was key
+  as_timed _ was key is = (kept_time (value_at state key) (key_time query is.0), refl, by_key was key is.0 is.1 is.2)
 
   -- and back
   pub as_index : (shape : Shape) → AreTimed shape query state entries → IsIndexBy shape query state entries
-  as_index Plain are = λ own readable t. let found = are (keys_of own) (own, readable, refl) in found.2 t ∙ by own readable t (value_at state (keys_of own)) found.0 found.1
-    where
-      by : (own : Values) (readable : IsReadableKey (key_length query) own) (t : ℤ) (o : Option (List ℕ)) (time : Option ℤ) → IsTimeIf Plain query (keys_of own) (own, readable, refl) o time
-          → is_time t time ≡ (is_some o && is_time t (key_time query own))
-      by own readable t None time is = ap (is_time t) is
-      by own readable t (Some value) time is = ap (is_time t) is
-  as_index (Group grouping) are = λ own readable t. let found = are (keys_of own) (own, readable, refl) in found.2 t ∙ by own readable t (value_at state (keys_of own)) found.0 found.1
-    where
-      by : (own : Values) (readable : IsReadableKey (key_length query) own) (t : ℤ) (o : Option (List ℕ)) (time : Option ℤ) → IsTimeIf (Group grouping) query (keys_of own) (own, readable, refl) o time
-          → is_time t time ≡ (is_some o && is_time t (key_time query own))
-      by own readable t None time is = ap (is_time t) is
-      by own readable t (Some value) time is = ap (is_time t) is
-  as_index (Dedup columns) are = λ own readable t. let found = are (keys_of own) (own, readable, refl) in found.2 t ∙ by own readable t (value_at state (keys_of own)) found.0 found.1
-    where
-      by : (own : Values) (readable : IsReadableKey (key_length query) own) (t : ℤ) (o : Option (List ℕ)) (time : Option ℤ) → IsTimeIf (Dedup columns) query (keys_of own) (own, readable, refl) o time
-          → is_time t time ≡ (is_some o && is_time t (key_time query own))
-      by own readable t None time is = ap (is_time t) is
-      by own readable t (Some value) time is = ap (is_time t) is
-  as_index (Join joining) are = λ key. let found = are key tt in (found.0, by key (value_at state key) found.0 found.1, found.2)
-    where
-      by : (key : List ℕ) (o : Option (List ℕ)) (time : Option ℤ) → IsTimeIf (Join joining) query key tt o time → HasTimeIf query joining key o time
-      by key None time is = is
-      by key (Some value) time is = is
+  as_index (Join joining) are = λ key. are key tt
+  as_index _ are = λ own readable t.
+      let found = are (keys_of own) (own, readable, refl) in
+      found.2 t ∙ ap (is_time t) found.1 ∙ sym (stands_by t (value_at state (keys_of own)) (key_time query own))
 
 -- the time of what is no row of a join
 pub key_timed : (shape : Shape) (query : Bound) (key value : List ℕ) (time : Option ℤ) → ((joining : Joining) → shape ≡ Join joining → ⊥) → ((own : Values) → IsReadableKey (key_length query) own → keys_of own ≡ key → time ≡ key_time query own)
-    → (is : IsKeyBy shape query key) → IsTimeBy shape query key is value time
-key_timed Plain query key value time other timed is = timed is.0 is.1 is.2
-key_timed (Group grouping) query key value time other timed is = timed is.0 is.1 is.2
-key_timed (Dedup columns) query key value time other timed is = timed is.0 is.1 is.2
+    → (is : IsKeyBy shape query key) → IsTimeIf shape query key is (Some value) time
 key_timed (Join joining) query key value time other timed is = absurd (other joining refl)
+key_timed _ query key value time other timed is = timed is.0 is.1 is.2
+
+-- where nothing is kept, there is no time
+pub none_kept : (shape : Shape) (query : Bound) (key : List ℕ) (is : IsKeyBy shape query key) → IsTimeIf shape query key is None None
+none_kept (Join joining) query key is = refl
+none_kept _ query key is = refl
+
+-- a key has one time at most
+once : (shape : Shape) (query : Bound) (key : List ℕ) (is : IsKeyBy shape query key) (value : Option (List ℕ)) (one other : Option ℤ) → IsTimeIf shape query key is value one → IsTimeIf shape query key is value other → one ≡ other
+once (Join joining) query key is None one other a b = a ∙ sym b
+once (Join joining) query key is (Some value) one other a b = one_time query joining key value one other a b
+once _ query key is value one other a b = a ∙ sym b
 
 module _ (shape : Shape) (query : Bound) where
-  -- a key has one time at most
-  once : (key : List ℕ) (is : IsKeyBy shape query key) (value : Option (List ℕ)) (one other : Option ℤ) → IsTimeIf shape query key is value one → IsTimeIf shape query key is value other → one ≡ other
-  once key is None one other a b = a ∙ sym b
-  once key is (Some value) one other a b = by shape is a b
-    where
-      by : (of : Shape) (is : IsKeyBy of query key) → IsTimeBy of query key is value one → IsTimeBy of query key is value other → one ≡ other
-      by Plain is a b = a ∙ sym b
-      by (Group grouping) is a b = a ∙ sym b
-      by (Dedup columns) is a b = a ∙ sym b
-      by (Join joining) is a b = one_time query joining key value one other a b
-
   -- ---- where nothing has a time
 
   abbrev pub HaveNone : Type 0
-  HaveNone = (key : List ℕ) (is : IsKeyBy shape query key) (value : List ℕ) → IsTimeBy shape query key is value None
+  HaveNone = (key : List ℕ) (is : IsKeyBy shape query key) (value : List ℕ) → IsTimeIf shape query key is (Some value) None
 
   none_if : HaveNone → (key : List ℕ) (is : IsKeyBy shape query key) (o : Option (List ℕ)) → IsTimeIf shape query key is o None
-  none_if none key is None = refl
+  none_if none key is None = none_kept shape query key is
   none_if none key is (Some value) = none key is value
 
   pub none_timed : HaveNone → (state : State) (entries : List Timed) → entries ≡ [] → AreTimed shape query state entries
@@ -121,7 +78,7 @@ module _ (shape : Shape) (query : Bound) where
   pub none_followed : HaveNone → (old new : State) (entries : List Timed) → AreTimed shape query old entries → AreTimed shape query new entries
   none_followed none old new entries was key is =
       let found = was key is in
-      let no : found.0 ≡ None = once key is (value_at old key) found.0 None found.1 (none_if none key is (value_at old key)) in
+      let no : found.0 ≡ None = once shape query key is (value_at old key) found.0 None found.1 (none_if none key is (value_at old key)) in
       (None, none_if none key is (value_at new key), subst (StandsAt entries key) no found.2)
 
   -- ---- the index of a state, made by a walk over it
@@ -140,12 +97,12 @@ module _ (shape : Shape) (query : Bound) where
       (None, by (value_at left key) (value_at all key) (ap (λ (s : State). value_at s key) same), λ t. ap (λ es. has es (t, key)) none)
     where
       by : (l a : Option (List ℕ)) → l ≡ a → IsTimeIf shape query key is (so_far l a) None
-      by (Some l) a same = refl
-      by None None same = refl
+      by (Some l) a same = none_kept shape query key is
+      by None None same = none_kept shape query key is
       by None (Some a) same = absurd cc
 
   pub timed_on : (all left rest : State) (bytes value : List ℕ) (before after : List Timed) (time : Option ℤ) → left ≡ (bytes, value) ∷ rest → IsRest all left
-      → ((is : IsKeyBy shape query bytes) → IsTimeBy shape query bytes is value time) → TurnsAt bytes None time before after → AreTimedTo all left before → AreTimedTo all rest after
+      → ((is : IsKeyBy shape query bytes) → IsTimeIf shape query bytes is (Some value) time) → TurnsAt bytes None time before after → AreTimedTo all left before → AreTimedTo all rest after
   timed_on all left rest bytes value before after time step of has_time turns was key is =
       by_case (is_at (by_bytes key) bytes)
       (λ at. subst (λ k. (is : IsKeyBy shape query k) → (time : Option ℤ) × IsTimeIf shape query k is (so_far (value_at rest k) (value_at all k)) time × StandsAt after k time) (sym (one_key key bytes at)) own is)
@@ -166,7 +123,7 @@ module _ (shape : Shape) (query : Bound) where
             time,
             subst (λ o. IsTimeIf shape query bytes is (so_far (value_at rest bytes) o) time) (sym value_is)
                 (subst (λ o. IsTimeIf shape query bytes is (so_far o (Some value)) time) (sym (none_behind bytes value rest behind)) (has_time is)),
-            turns.here (subst (StandsAt before bytes) (subst (λ o. IsTimeIf shape query bytes is (so_far o (value_at all bytes)) found.0) left_is found.1) found.2),
+            turns.here (subst (StandsAt before bytes) (once shape query bytes is None found.0 None (subst (λ o. IsTimeIf shape query bytes is (so_far o (value_at all bytes)) found.0) left_is found.1) (none_kept shape query bytes is)) found.2),
           )
 
       there : is_at (by_bytes key) bytes ≡ false → (time : Option ℤ) × IsTimeIf shape query key is (so_far (value_at rest key) (value_at all key)) time × StandsAt after key time
@@ -221,7 +178,7 @@ module _ (shape : Shape) (query : Bound) where
       own is =
           let found = was bytes is in
           let stood : IsTimeIf shape query bytes is (value_at old bytes) found.0 = subst (λ o. IsTimeIf shape query bytes is (on_the_way o (value_at old bytes) (value_at new bytes)) found.0) left_is found.1 in
-          let same : found.0 ≡ time = once bytes is (value_at old bytes) found.0 time stood (subst (λ v. IsTimeIf shape query bytes is v time) was_is (has_time is)) in (
+          let same : found.0 ≡ time = once shape query bytes is (value_at old bytes) found.0 time stood (subst (λ v. IsTimeIf shape query bytes is v time) was_is (has_time is)) in (
             next,
             subst (λ o. IsTimeIf shape query bytes is (on_the_way o (value_at old bytes) (value_at new bytes)) next) (sym (none_behind bytes said rest behind))
                 (subst (λ v. IsTimeIf shape query bytes is v next) (is_is ∙ sym said_is) (has_next is)),

@@ -1,4 +1,4 @@
-pub mod Stamps
+pub mod Lists
 pub mod Timing
 pub mod RowTimes
 pub mod Indexed

@@ -1,9 +1,10 @@
 -- Keys that are put under a time, and the times of the rows of a join.
 use Rattle.std.proofs.Common.{◌≡◌, ℕ, ℤ, Some, None, List, Option, All, Bool, true, false, length, refl, ap, sym, subst, ◌∙◌}
-use Rattle.std.specs.Prelude.{◌&&◌, if◌then◌else◌, FitsSigned, IfSome, is_some, option_map}
+use Rattle.std.specs.Prelude.{◌&&◌, if◌then◌else◌, FitsSigned, IfSome, is_some}
 use Rattle.std.specs.BTreeMap.{is_at}
 use Rattle.std.specs.Ordering.{int_cmp, is_eq}
 use Rattle.std.specs.Int.{w64}
+use Rattle.std.proofs.lemmas.Bool.{and_right}
 use Rattle.std.proofs.lemmas.Option.{IfSome_then}
 use Rattle.ssq_version.specs.State.{by_bytes}
 use Rattle.ssq_version.proofs.Values.{is_itself}
@@ -17,7 +18,7 @@ use Rattle.ssq_meaning.specs.Join.{event_column, join_time, last_time}
 use Rattle.ssq_meaning.specs.Meaning.{Values}
 use Rattle.ssq_step.specs.Rows.{HasParts, HasTime, IsTimed, TurnsAt, end_of, stream_of, width_of}
 use Rattle.ssq_step.specs.Timed.{Timed, by_time, has}
-use Rattle.ssq_step.proofs.Timing.{and_false, and_true, at_time, with_bytes}
+use Rattle.ssq_step.proofs.Timing.{and_true, at_time}
 
 -- ---- a key that is put under a time, or taken from it
 
@@ -27,7 +28,7 @@ module _ (key : List ℕ) (before after : List Timed) where
   others_left entry is_there same updates other apart t =
       updates (t, other)
       ∙ ap (λ b. if b then is_there else has before (t, other))
-      (at_time entry (t, other) ∙ ap (λ k. is_eq (int_cmp entry.0 t) && is_at (by_bytes k) other) same ∙ and_false (is_eq (int_cmp entry.0 t)) (is_at (by_bytes key) other) apart)
+      (at_time entry (t, other) ∙ ap (λ k. is_eq (int_cmp entry.0 t) && is_at (by_bytes k) other) same ∙ and_right (is_eq (int_cmp entry.0 t)) (is_at (by_bytes key) other) apart)
 
   here_is : (entry : Timed) (is_there : Bool) → entry.1 ≡ key → ((q : Timed) → has after q ≡ (if is_at (by_time entry) q then is_there else has before q))
       → (t : ℤ) → has after (t, key) ≡ (if is_eq (int_cmp entry.0 t) then is_there else has before (t, key))
@@ -63,24 +64,20 @@ module _ (key : List ℕ) (before after : List Timed) where
 pub untouched : (key : List ℕ) (entries : List Timed) (time : Option ℤ) → TurnsAt key time time entries entries
 untouched key entries time = record { here = λ stands. stands; others = λ other apart t. refl }
 
-module _ (key : List ℕ) (before after : List Timed) where
-  pub put_if : (entry : Timed) (time : Option ℤ) → Some entry ≡ option_map (with_bytes key) time → ((q : Timed) → has after q ≡ (if is_at (by_time entry) q then true else has before q))
-      → TurnsAt key None time before after
-  put_if entry None is updates = absurd cc
-  put_if entry (Some t) is updates = let one : entry ≡ (t, key) = cc in put key before after entry t one updates
+module _ (key : List ℕ) (before after : List Timed) (entry : Timed) (time : Option ℤ) (t : ℤ) (there : time ≡ Some t) (is : entry ≡ (t, key)) where
+  pub put_if : ((q : Timed) → has after q ≡ (if is_at (by_time entry) q then true else has before q)) → TurnsAt key None time before after
+  put_if updates = subst (λ (time : Option ℤ). TurnsAt key None time before after) (sym there) (put key before after entry t is updates)
 
-  pub taken_if : (entry : Timed) (time : Option ℤ) → Some entry ≡ option_map (with_bytes key) time → ((q : Timed) → has after q ≡ (if is_at (by_time entry) q then false else has before q))
-      → TurnsAt key time None before after
-  taken_if entry None is updates = absurd cc
-  taken_if entry (Some t) is updates = let one : entry ≡ (t, key) = cc in taken key before after entry t one updates
+  pub taken_if : ((q : Timed) → has after q ≡ (if is_at (by_time entry) q then false else has before q)) → TurnsAt key time None before after
+  taken_if updates = subst (λ (time : Option ℤ). TurnsAt key time None before after) (sym there) (taken key before after entry t is updates)
 
-pub put_none : (key : List ℕ) (entries : List Timed) (time : Option ℤ) → None ≡ option_map (with_bytes key) time → TurnsAt key None time entries entries
-put_none key entries None is = untouched key entries None
-put_none key entries (Some t) is = absurd cc
+-- where there is no time, nothing is put, and nothing is taken
+module _ (key : List ℕ) (entries : List Timed) (time : Option ℤ) (none : time ≡ None) where
+  pub put_none : TurnsAt key None time entries entries
+  put_none = subst (λ (time : Option ℤ). TurnsAt key None time entries entries) (sym none) (untouched key entries None)
 
-pub taken_none : (key : List ℕ) (entries : List Timed) (time : Option ℤ) → None ≡ option_map (with_bytes key) time → TurnsAt key time None entries entries
-taken_none key entries None is = untouched key entries None
-taken_none key entries (Some t) is = absurd cc
+  pub taken_none : TurnsAt key time None entries entries
+  taken_none = subst (λ (time : Option ℤ). TurnsAt key time None entries entries) (sym none) (untouched key entries None)
 
 -- ---- one time at most
 

@@ -9,6 +9,7 @@ use Rattle.std.specs.Cmp.{int_ranks}
 use Rattle.std.specs.List.{AllByRecursion}
 use Rattle.std.specs.List.Sorted.{IsStrictlySortedBy}
 use Rattle.std.specs.Ordering.{MatchOrdering, int_cmp, is_eq, ordering_then}
+use Rattle.std.proofs.lemmas.Bool.{and_right}
 use Rattle.std.proofs.lemmas.Cmp.{int_cmp_total, tied_itself}
 use Rattle.std.proofs.lemmas.Int.{ints}
 use Rattle.std.proofs.lemmas.List.{length-append}
@@ -48,18 +49,9 @@ other_time a b other = by (is_eq (int_cmp b a)) refl
     by false is = is
     by true is = let no : true ≡ false = sym (time_itself a) ∙ ap (λ t. is_eq (int_cmp a t)) (sym (same_time b a is)) ∙ other in absurd cc
 
-pub and_false : (a b : Bool) → b ≡ false → (a && b) ≡ false
-and_false true b is = is
-and_false false b is = refl
-
 pub and_true : (a b : Bool) → b ≡ true → (a && b) ≡ a
 and_true true b is = is
 and_true false b is = refl
-
--- ---- a key with its time
-
-abbrev pub with_bytes : List ℕ → ℤ → Timed
-with_bytes bytes t = (t, bytes)
 
 -- ---- a walk through entries
 
@@ -117,11 +109,11 @@ none_past None entry rest all is q = by rest
   where
     by : (some : List Timed) → past_of None q some ≡ 0
     by [] = refl
-    by (e ∷ some) = ap (λ b. length (if b then e ∷ filter (λ (e : Timed). is_at (by_bytes q) e.1 && is_past None (Some e.0)) some else filter (λ (e : Timed). is_at (by_bytes q) e.1 && is_past None (Some e.0)) some)) (and_false (is_at (by_bytes q) e.1) false refl) ∙ by some
+    by (e ∷ some) = ap (λ b. length (if b then e ∷ filter (λ (e : Timed). is_at (by_bytes q) e.1 && is_past None (Some e.0)) some else filter (λ (e : Timed). is_at (by_bytes q) e.1 && is_past None (Some e.0)) some)) (and_right (is_at (by_bytes q) e.1) false refl) ∙ by some
 none_past (Some w) entry [] all is q = refl
 none_past (Some w) entry (e ∷ rest) all is q =
     ap (λ b. length (if b then e ∷ filter (λ (e : Timed). is_at (by_bytes q) e.1 && is_past (Some w) (Some e.0)) rest else filter (λ (e : Timed). is_at (by_bytes q) e.1 && is_past (Some w) (Some e.0)) rest))
-    (and_false (is_at (by_bytes q) e.1) (int_le e.0 w) (open_still w entry.0 e.0 (int_cmp entry.0 e.0) (by_bytes entry.1 e.1) (int_ranks entry.0 e.0) all.0 is))
+    (and_right (is_at (by_bytes q) e.1) (int_le e.0 w) (open_still w entry.0 e.0 (int_cmp entry.0 e.0) (by_bytes entry.1 e.1) (int_ranks entry.0 e.0) all.0 is))
     ∙ none_past (Some w) entry rest all.1 is q
 
 pub past_ends : (now : Option ℤ) (all left rest : List Timed) (entry : Timed) (keys : List (List ℕ)) → left ≡ entry ∷ rest → IsStrictlySortedBy by_time left → is_past now (Some entry.0) ≡ false → ArePastTo now all left keys
@@ -130,7 +122,7 @@ unfolding IsStrictlySortedBy
 past_ends now all left rest entry keys step sorted is was q =
     let none : past_of now q left ≡ 0 =
     ap (past_of now q) step
-    ∙ ap (λ b. length (if b then entry ∷ filter (λ (e : Timed). is_at (by_bytes q) e.1 && is_past now (Some e.0)) rest else filter (λ (e : Timed). is_at (by_bytes q) e.1 && is_past now (Some e.0)) rest)) (and_false (is_at (by_bytes q) entry.1) (is_past now (Some entry.0)) is)
+    ∙ ap (λ b. length (if b then entry ∷ filter (λ (e : Timed). is_at (by_bytes q) e.1 && is_past now (Some e.0)) rest else filter (λ (e : Timed). is_at (by_bytes q) e.1 && is_past now (Some e.0)) rest)) (and_right (is_at (by_bytes q) entry.1) (is_past now (Some entry.0)) is)
     ∙ none_past now entry rest (subst (λ (l : List Timed). IsStrictlySortedBy by_time l) step sorted).0 is q in
     let all_of = was q in
     omega (arith, none, all_of)
@@ -181,7 +173,7 @@ once_past now q time alive (entry ∷ rest) sorted is = by_case (is_at (by_bytes
             ap (λ b. b || has rest (t, q)) (sym (at_time (t, q) entry ∙ ap (λ b. b && is_at (by_bytes q) entry.1) other))
             ∙ is t
             ∙ ap (λ o. alive && is_time t o) (time_is ∙ ap (λ z. Some z) same)
-            ∙ and_false alive (is_eq (int_cmp entry.0 t)) (other_time t entry.0 other))
+            ∙ and_right alive (is_eq (int_cmp entry.0 t)) (other_time t entry.0 other))
 
         by : (b : Bool) (o : Option ℤ) → alive ≡ b → time ≡ o → true ≡ (b && is_time entry.0 o) → past_of now q (entry ∷ rest) ≡ (if alive && is_past now time then 1 else 0)
         by false o alive_is time_is holds = absurd cc
@@ -201,7 +193,7 @@ once_past now q time alive (entry ∷ rest) sorted is = by_case (is_at (by_bytes
         → is_at (by_bytes q) entry.1 ≡ false → past_of now q (entry ∷ rest) ≡ (if alive && is_past now time then 1 else 0)
     there next apart =
         ap (λ b. length (if b && is_past now (Some entry.0) then entry ∷ filter (λ (e : Timed). is_at (by_bytes q) e.1 && is_past now (Some e.0)) rest else filter (λ (e : Timed). is_at (by_bytes q) e.1 && is_past now (Some e.0)) rest)) apart
-        ∙ next alive (λ t. ap (λ b. b || has rest (t, q)) (sym (at_time (t, q) entry ∙ and_false (is_eq (int_cmp t entry.0)) (is_at (by_bytes q) entry.1) apart)) ∙ is t)
+        ∙ next alive (λ t. ap (λ b. b || has rest (t, q)) (sym (at_time (t, q) entry ∙ and_right (is_eq (int_cmp t entry.0)) (is_at (by_bytes q) entry.1) apart)) ∙ is t)
 
 pub due_are : (size : ℕ) (time_of : Values → Option ℤ) (state : State) (now : Option ℤ) (all : List Timed) (keys : List (List ℕ)) → IsStrictlySortedBy by_time all → Indexes size time_of state all
     → ((q : List ℕ) → stands q keys ≡ past_of now q all) → AreDueKeys size time_of state now keys

@@ -6,12 +6,12 @@ use Rattle.ssq_value.specs.Key.{keys_of}
 use Rattle.ssq_version.specs.State.{State, by_bytes, value_at}
 use Rattle.ssq_shape.specs.declared.bound.Bound.{Bound}
 use Rattle.ssq_shape.specs.declared.bound.Shape.{Shape}
-use Rattle.ssq_shape.specs.declared.bound.Shape.TheVariants.{Plain, Group, Dedup, Join}
+use Rattle.ssq_shape.specs.declared.bound.Shape.TheVariants.{Join}
 use Rattle.ssq_meaning.specs.Fit.{IsFit}
 use Rattle.ssq_meaning.specs.Keyed.{key_length, key_time}
 use Rattle.ssq_meaning.specs.Meaning.{Values}
 use Rattle.ssq_meaning.specs.Times.{is_past}
-use Rattle.ssq_step.specs.Rows.{HasTime, IndexesRows}
+use Rattle.ssq_step.specs.Rows.{HasTimeIf, IndexesRows}
 pub use Rattle.ssq_step.specs.Timed.{Timed, by_time, has, is_time}
 
 -- a key of so many values that is read back from its bytes
@@ -26,10 +26,8 @@ Indexes count time state entries = (key : Values) → IsReadableKey count key �
 
 -- the index of the state of a query: of a join by the times of its rows, of any other by those of its keys
 abbrev pub IsIndexBy : Shape → Bound → State → List Timed → Type 0
-IsIndexBy Plain query state entries = Indexes (key_length query) (key_time query) state entries
-IsIndexBy (Group grouping) query state entries = Indexes (key_length query) (key_time query) state entries
-IsIndexBy (Dedup columns) query state entries = Indexes (key_length query) (key_time query) state entries
 IsIndexBy (Join joining) query state entries = IndexesRows query joining state entries
+IsIndexBy _ query state entries = Indexes (key_length query) (key_time query) state entries
 
 abbrev pub IsIndex : Bound → State → List Timed → Type 0
 IsIndex query state entries = IsIndexBy query.shape query state entries
@@ -38,22 +36,18 @@ IsIndex query state entries = IsIndexBy query.shape query state entries
 
 -- the key with these bytes is in the index where it has a time: of a join each, of any other query each that can be read back
 abbrev pub IsKeyBy : Shape → Bound → List ℕ → Type 0
-IsKeyBy Plain query key = (own : Values) × IsReadableKey (key_length query) own × (keys_of own ≡ key)
-IsKeyBy (Group grouping) query key = (own : Values) × IsReadableKey (key_length query) own × (keys_of own ≡ key)
-IsKeyBy (Dedup columns) query key = (own : Values) × IsReadableKey (key_length query) own × (keys_of own ≡ key)
 IsKeyBy (Join joining) query key = Unit {0}
+IsKeyBy _ query key = (own : Values) × IsReadableKey (key_length query) own × (keys_of own ≡ key)
 
--- the time of what is kept under these bytes: of a join that of the row, of any other query that of the key
-abbrev pub IsTimeBy : (shape : Shape) (query : Bound) (key : List ℕ) → IsKeyBy shape query key → (value : List ℕ) → Option ℤ → Type 0
-IsTimeBy Plain query key is value time = time ≡ key_time query is.0
-IsTimeBy (Group grouping) query key is value time = time ≡ key_time query is.0
-IsTimeBy (Dedup columns) query key is value time = time ≡ key_time query is.0
-IsTimeBy (Join joining) query key is value time = HasTime query joining key value time
+-- the time of a key of which anything is kept
+abbrev pub kept_time : Option (List ℕ) → Option ℤ → Option ℤ
+kept_time None time = None
+kept_time (Some value) time = time
 
--- the same, if anything is kept there
+-- the time of what is kept under these bytes, if anything is: of a join that of the row, of any other query that of the key
 abbrev pub IsTimeIf : (shape : Shape) (query : Bound) (key : List ℕ) → IsKeyBy shape query key → Option (List ℕ) → Option ℤ → Type 0
-IsTimeIf shape query key is None time = time ≡ None
-IsTimeIf shape query key is (Some value) time = IsTimeBy shape query key is value time
+IsTimeIf (Join joining) query key is value time = HasTimeIf query joining key value time
+IsTimeIf _ query key is value time = time ≡ kept_time value (key_time query is.0)
 
 -- ---- the keys that a watermark closes
 

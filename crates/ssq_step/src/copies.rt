@@ -9,7 +9,5 @@ use std::alloc::{AllocError, Global};
 pub fn copied_row(alloc: Global, values: &[Value]) -> Result<Row, AllocError>
     ensures { IfOk result (λ row. row ≡ values.now) }
 {
-    let mut copies = Vec::with_capacity(alloc, values.len())?;
-    copies.extend_with_clones(values)?;
-    Ok(Row::from_vec(copies))
+    Ok(Row::from_vec(values.to_vec(alloc)?))
 }

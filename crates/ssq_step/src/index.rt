@@ -1,12 +1,12 @@
 //! What a state keeps, by its times.
 
-ghost use Rattle.std.specs.Prelude.{◌≡◌, None, false, List, ℕ, IfOk, OnOk, option_copied, option_map};
+ghost use Rattle.std.specs.Prelude.{◌≡◌, None, Some, false, List, ℕ, IfOk, OnOk, option_copied};
 ghost use Rattle.ssq_value.specs.declared.value.Value.{Value as Cell};
 ghost use Rattle.ssq_value.specs.Key.{keys_of};
 ghost use Rattle.ssq_version.specs.State.{IsAfter, State as Kept};
 ghost use Rattle.ssq_meaning.specs.Keyed.{key_length, key_time};
 ghost use Rattle.ssq_meaning.specs.Windows.{HasWindows};
-ghost use Rattle.ssq_step.specs.Indexing.{IsIndex, IsKeyBy, IsReadableKey, IsTimeBy, IsTimeIf};
+ghost use Rattle.ssq_step.specs.Indexing.{IsIndex, IsKeyBy, IsReadableKey, IsTimeIf};
 ghost use Rattle.ssq_step.specs.Rows.{TurnsAt};
 
 use crate::rows::row_time;
@@ -31,7 +31,7 @@ fn time_of(bound: &Bound, key: &[u8]) -> Option<i64>
 /// The time of what is kept under these bytes: of a row of a join that at which it is over, of anything else that of its key.
 fn entry_time(bound: &Bound, key: &Bytes, value: &Bytes) -> Option<i64>
     requires { HasWindows bound.now }
-    ensures { (is : IsKeyBy bound.now.shape bound.now key.now) → IsTimeBy bound.now.shape bound.now key.now is value.now result }
+    ensures { (is : IsKeyBy bound.now.shape bound.now key.now) → IsTimeIf bound.now.shape bound.now key.now is (Some value.now) result }
 {
     match &bound.shape {
         Shape::Join(joining) => row_time(bound, joining, key, value),
@@ -49,21 +49,11 @@ fn time_if(bound: &Bound, key: &Bytes, value: Option<&Bytes>) -> Option<i64>
 
 /// Whether anything that is kept may have a time. Else it is kept for good.
 fn have_times(bound: &Bound) -> bool
-    ensures { result ≡ false → (key : List ℕ) (is : IsKeyBy bound.now.shape bound.now key) (value : List ℕ) → IsTimeBy bound.now.shape bound.now key is value None }
+    ensures { result ≡ false → (key : List ℕ) (is : IsKeyBy bound.now.shape bound.now key) (value : List ℕ) → IsTimeIf bound.now.shape bound.now key is (Some value) None }
 {
     match &bound.shape {
         Shape::Join(joining) => joining.bound.is_some(),
         _ => keys_have_times(bound),
-    }
-}
-
-/// A time with the bytes of a key, where there is a time.
-fn entry_at(key: &Bytes, time: Option<i64>) -> Result<Option<(i64, Bytes)>, AllocError>
-    ensures { IfOk result (λ entry. entry ≡ option_map (λ t. (t, key.now)) time) }
-{
-    match time {
-        Some(time) => Ok(Some((time, key.clone()?))),
-        None => Ok(None),
     }
 }
 
@@ -75,8 +65,8 @@ fn put_under(
 ) -> Result<(), AllocError>
     ensures { OnOk result (TurnsAt key.now None time entries.old.keys entries.new.keys) }
 {
-    if let Some(entry) = entry_at(key, time)? {
-        entries.insert(entry)?;
+    if let Some(time) = time {
+        entries.insert((time, key.clone()?))?;
     }
     Ok(())
 }
@@ -89,8 +79,8 @@ fn take_from(
 ) -> Result<(), AllocError>
     ensures { OnOk result (TurnsAt key.now time None entries.old.keys entries.new.keys) }
 {
-    if let Some(entry) = entry_at(key, time)? {
-        entries.remove(&entry);
+    if let Some(time) = time {
+        entries.remove(&(time, key.clone()?));
     }
     Ok(())
 }

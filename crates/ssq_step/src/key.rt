@@ -1,11 +1,10 @@
-//! The key of rows, as a map or a set that hashes or sorts has it.
+//! The key of rows, as a map or a set that hashes has it.
 
 ghost use Rattle.std.specs.Prelude.{◌≡◌};
 ghost use Rattle.std.specs.List.{fold};
 ghost use Rattle.ssq_step.specs.Hashing.{key_writes, value_writes};
 
 use ssq_value::{Value, order_rows};
-use std::cmp::Ordering;
 use std::hash::{Hash, Hasher};
 use std::marker::Model;
 
@@ -57,42 +56,6 @@ impl<'a> Eq for Key<'a> {
     ghost use Rattle.ssq_value.specs.OrderLaws.{values_cmp_total};
 
     ghost laws = { eq_by_cmp_equiv values_cmp_total };
-}
-
-/// By the values one after the other, as `order_rows` has it.
-impl<'a> PartialOrd for Key<'a> {
-    ghost use Rattle.std.proofs.Common.{refl};
-    ghost use Rattle.std.specs.Ordering.{as_partial_cmp};
-    ghost use Rattle.std.specs.Cmp.{po};
-    ghost use Rattle.ssq_value.specs.Order.{values_cmp};
-    ghost use Rattle.ssq_value.specs.OrderLaws.{values_cmp_total};
-
-    ghost partial_cmp = { as_partial_cmp values_cmp };
-
-    ghost laws = { po values_cmp_total (λ left right. refl) };
-
-    fn partial_cmp(&self, other: &Key<'a>) -> Option<Ordering> {
-        Some(self.cmp(other))
-    }
-}
-
-/// By the values one after the other, as `order_rows` has it.
-impl<'a> Ord for Key<'a> {
-    ghost use Rattle.std.proofs.Common.{refl};
-    ghost use Rattle.ssq_value.specs.Order.{values_cmp};
-    ghost use Rattle.ssq_value.specs.OrderLaws.{values_cmp_total};
-
-    ghost cmp = { values_cmp };
-
-    ghost total = { values_cmp_total };
-
-    ghost matches_partial_cmp = { λ left right. refl };
-
-    ghost matches_eq = { λ left right. refl };
-
-    fn cmp(&self, other: &Key<'a>) -> Ordering {
-        order_rows(self.0, other.0)
-    }
 }
 
 fn feed<H: Hasher>(value: &Value, state: &mut H)

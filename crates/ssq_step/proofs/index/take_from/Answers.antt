@@ -1,10 +1,13 @@
-use Rattle.std.proofs.Common.{sym, ◌∙◌}
+use Rattle.std.proofs.Common.{SFits, of_z, rules, to_z, w64}
+use Rattle.std.proofs.lemmas.Int.{to_z-of_z}
 use Rattle.ssq_step.proofs.RowTimes.{taken_if, taken_none}
 use Rattle.ssq_step.proofs.index.take_from.Goals as goal
 
-pub returns-in-Some : goal.returns-in-Some
-returns-in-Some c =
-    taken_if c.args.key.now c.args.entries.now.keys c.remove.new.self.keys c.in-Some.entry c.args.time (sym c.in-Some.is ∙ c.in_ok-entry.ensures) c.remove.ensures.updates.0
+pub returns-in_ok-clone : goal.returns-in_ok-clone
+returns-in_ok-clone c =
+    let time = c.in-Some.time in
+    let fits : SFits w64 time = search rules in
+    taken_if c.args.key.now c.args.entries.now.keys c.remove.new.self.keys (to_z w64 (of_z w64 time), c.in_ok-clone.field-0) c.args.time time c.in-Some.is (λ i. (to_z-of_z w64 time fits i, c.in_ok-clone.ensures.cases i)) c.remove.ensures.updates.0
 
 pub returns-in_default : goal.returns-in_default
-returns-in_default c = taken_none c.args.key.now c.args.entries.now.keys c.args.time (sym c.in_default.is ∙ c.in_ok-entry.ensures)
+returns-in_default c = taken_none c.args.key.now c.args.entries.now.keys c.args.time c.in_default.is

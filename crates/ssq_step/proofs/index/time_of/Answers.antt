@@ -4,7 +4,7 @@ use Rattle.std.proofs.lemmas.Int.{to_z-of_z}
 use Rattle.ssq_time.specs.Time.{IsStampTime}
 use Rattle.ssq_shape.specs.Evaluation.{cell_at, time_in}
 use Rattle.ssq_meaning.specs.Placed.{time_from}
-use Rattle.ssq_step.proofs.Stamps.{as_number, stamp_at}
+use Rattle.ssq_meaning.proofs.KeyPlaces.{as_number, stamp_at}
 use Rattle.ssq_step.proofs.index.time_of.Goals as goal
 
 pub time-requires-clause-years : goal.time-requires-clause-years
