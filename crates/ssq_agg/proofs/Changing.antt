@@ -14,11 +14,12 @@ use Rattle.ssq_meaning.specs.GroupLaws.{held}
 use Rattle.ssq_meaning.specs.Meaning.{Values}
 use Rattle.ssq_meaning.specs.Totals.{totals_bytes}
 use Rattle.ssq_step.specs.Indexing.{Timed}
+use Rattle.ssq_step.proofs.Lists.{front_all}
 use Rattle.ssq_agg.specs.declared.kept.Group.{Group}
 use Rattle.ssq_agg.specs.Groups.{Held}
 use Rattle.ssq_agg.specs.Readable.{IsKey}
 use Rattle.ssq_agg.specs.Steps.{Given, IsKept, Says, after_if, is_among, said_if}
-use Rattle.ssq_agg.proofs.Given.{AreFound, kept_at, kept_key, old_rows, spelled_rows}
+use Rattle.ssq_agg.proofs.Given.{AreFound, kept_at, kept_key, spelled_rows}
 
 after_is : (o : Option (List Total)) (b : Bool) (own : Option (List Total)) → option_map totals_bytes (after_if o b own) ≡ value_after (said_if o b) (option_map totals_bytes own)
 after_is (Some totals) b own = refl
@@ -37,7 +38,7 @@ module _ (query : Bound) (grouping : Grouping) (state : State) (closing : List T
       kept_at found query grouping (old ++ new) now (spelled_rows grouping (old ++ new) all_rows) key is_key
       ∙ ap (option_map totals_bytes) (sym (held_after key))
       ∙ after_is (touched key) (is_among closed key) (held query grouping old before key)
-      ∙ (λ i. value_after (sym (says.told key is_key) i) (sym (kept_at found query grouping old before (spelled_rows grouping old (old_rows grouping old new all_rows)) key is_key) i))
+      ∙ (λ i. value_after (sym (says.told key is_key) i) (sym (kept_at found query grouping old before (spelled_rows grouping old (front_all (IsKept grouping) old new all_rows)) key is_key) i))
       ∙ ap (λ (s : State). value_after (value_at change (keys_of key)) (value_at s (keys_of key))) (sym given.kept)
 
   at_bytes : (q : List ℕ) (key : Values) → q ≡ keys_of key → IsKey grouping key → value_at (kept query grouping (old ++ new) now) q ≡ value_after (value_at change q) (value_at state q)
@@ -51,6 +52,6 @@ module _ (query : Bound) (grouping : Grouping) (state : State) (closing : List T
           → value_at (kept query grouping (old ++ new) now) q ≡ value_after (value_at change q) (value_at state q)
       by (Some said) c s state_is n new_is = let key = says.only q said c in at_bytes q key.0 key.1 key.2
       by None c (Some v) s n new_is =
-          let key = kept_key query grouping old before (spelled_rows grouping old (old_rows grouping old new all_rows)) q v (ap (λ (s : State). value_at s q) (sym given.kept) ∙ s) in at_bytes q key.0 key.1 key.2
+          let key = kept_key query grouping old before (spelled_rows grouping old (front_all (IsKept grouping) old new all_rows)) q v (ap (λ (s : State). value_at s q) (sym given.kept) ∙ s) in at_bytes q key.0 key.1 key.2
       by None c None s (Some v) n = let key = kept_key query grouping (old ++ new) now (spelled_rows grouping (old ++ new) all_rows) q v n in at_bytes q key.0 key.1 key.2
       by None c None s None n = n ∙ (λ i. value_after (sym c i) (sym s i))

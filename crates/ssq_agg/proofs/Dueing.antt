@@ -1,10 +1,10 @@
 -- The groups that are shown are those that are due.
-use Rattle.std.proofs.Common.{◌≡◌, ◌+◌, ◌++◌, ℕ, suc, ℤ, [], ◌∷◌, Some, None, List, Option, Result, Ok, Err, Bool, true, false, refl, ap, sym, ◌∙◌, subst, arith, map, filter, length}
-use Rattle.std.specs.Prelude.{◌&&◌, ◌||◌, not, IfOk, All, if◌then◌else◌, is_some, is_err}
+use Rattle.std.proofs.Common.{◌≡◌, ◌+◌, ◌++◌, ℕ, ℤ, [], ◌∷◌, Some, None, List, Option, Bool, true, false, refl, ap, sym, ◌∙◌, subst, arith, map, filter, length}
+use Rattle.std.specs.Prelude.{◌&&◌, ◌||◌, not, All, if◌then◌else◌, is_some, is_err}
 use Rattle.std.specs.List.{AllByRecursion, IsDistinct}
 use Rattle.std.specs.Map.{lookup}
-use Rattle.std.proofs.lemmas.List.{append_assoc, length-append, map-append}
-use Rattle.std.proofs.lemmas.List.Elements.{filter-append, recursion_from_All}
+use Rattle.std.proofs.lemmas.List.{append_assoc, map-append}
+use Rattle.std.proofs.lemmas.List.Elements.{recursion_from_All}
 use Rattle.std.proofs.lemmas.List.Sums.{fold-append}
 use Rattle.ssq_shape.specs.declared.bound.Bound.{Bound}
 use Rattle.ssq_shape.specs.declared.bound.Grouping.{Grouping}
@@ -15,17 +15,15 @@ use Rattle.ssq_meaning.specs.Group.{is_same}
 use Rattle.ssq_meaning.specs.GroupLaws.{times}
 use Rattle.ssq_meaning.specs.Meaning.{Values}
 use Rattle.ssq_meaning.specs.Times.{is_past}
+use Rattle.ssq_meaning.proofs.Bags.{times-append}
+use Rattle.ssq_meaning.proofs.Handing.{all_append}
+use Rattle.ssq_meaning.proofs.Keys.{same_is, times_passing}
 use Rattle.ssq_agg.specs.declared.kept.Group.{Group}
 use Rattle.ssq_step.specs.declared.shown.Shown.{Shown}
 use Rattle.ssq_agg.specs.Closed.{is_ended, AreClosed, AreAll}
 use Rattle.ssq_agg.specs.Groups.{Held}
 use Rattle.ssq_agg.specs.Shown.{Pair, Shows, shown_rows, least_fault, row_if, shown_of, fault_if, pairs_of, others_of}
 use Rattle.ssq_agg.specs.Steps.{AreDue, ShowsDue, keys_of_groups, or_kept}
-use Rattle.ssq_agg.proofs.Taking.{same_is}
-
-pub if_ok : {T E : Type 0} {P Q : T → Type 0} (r : Result T E) → IfOk r P → ((x : T) → P x → Q x) → IfOk r Q
-if_ok (Ok x) holds give = give x holds
-if_ok (Err e) holds give = tt
 
 abbrev pub keys_of_pairs : List Pair → List Values
 keys_of_pairs pairs = map (λ (pair : Pair). pair.0) pairs
@@ -33,13 +31,6 @@ keys_of_pairs pairs = map (λ (pair : Pair). pair.0) pairs
 pairs_keys : (groups : List Group) → keys_of_pairs (pairs_of groups) ≡ keys_of_groups groups
 pairs_keys [] = refl
 pairs_keys (group ∷ groups) = ap (λ l. group.key ∷ l) (pairs_keys groups)
-
-pub times-append : (key : Values) (xs ys : List Values) → times key (xs ++ ys) ≡ times key xs + times key ys
-times-append key xs ys = ap (λ l. length l) (filter-append (is_same key) xs ys) ∙ length-append (filter (is_same key) xs) (filter (is_same key) ys)
-
-all_append : {A : Type 0} (P : A → Type 0) (xs ys : List A) → AllByRecursion P xs → AllByRecursion P ys → AllByRecursion P (xs ++ ys)
-all_append P [] ys a b = b
-all_append P (x ∷ xs) ys a b = (a.0, all_append P xs ys a.1 b)
 
 -- ---- the entries of a map
 
@@ -73,29 +64,6 @@ others_keys found (group ∷ groups) = by (not (is_some (found group.key))) (oth
         ≡ (if b then group.key ∷ filter (λ key. not (is_some (found key))) (keys_of_groups groups) else filter (λ key. not (is_some (found key))) (keys_of_groups groups))
     by true rest = ap (λ l. group.key ∷ l) rest
     by false rest = rest
-
--- a test decides how often a key is left
-pub times_left : (key : Values) (p : Values → Bool) (keys : List Values) → times key (filter p keys) ≡ (if p key then times key keys else 0)
-times_left key p [] = by (p key)
-  where
-    by : (b : Bool) → ◌≡◌ {A = ℕ} 0 (if b then 0 else 0)
-    by true = refl
-    by false = refl
-times_left key p (other ∷ keys) = by (p other) (is_same key other) refl refl (times_left key p keys)
-  where
-    by : (b s : Bool) → p other ≡ b → is_same key other ≡ s → times key (filter p keys) ≡ (if p key then times key keys else 0)
-        → times key (if b then other ∷ filter p keys else filter p keys) ≡ (if p key then length (if s then other ∷ filter (is_same key) keys else filter (is_same key) keys) else 0)
-    by true true is same rest =
-        let passes : p key ≡ true = ap p (same_is key other same) ∙ is in
-        ap (λ s. length (if s then other ∷ filter (is_same key) (filter p keys) else filter (is_same key) (filter p keys))) same
-        ∙ ap (λ n. suc n) (rest ∙ ap (λ b. if b then times key keys else 0) passes)
-        ∙ ap (λ b. if b then length (other ∷ filter (is_same key) keys) else 0) (sym passes)
-    by true false is same rest =
-        ap (λ s. length (if s then other ∷ filter (is_same key) (filter p keys) else filter (is_same key) (filter p keys))) same ∙ rest
-    by false true is same rest =
-        let fails : p key ≡ false = ap p (same_is key other same) ∙ is in
-        rest ∙ ap (λ b. if b then times key keys else 0) fails ∙ ap (λ b. if b then length (other ∷ filter (is_same key) keys) else 0) (sym fails)
-    by false false is same rest = rest
 
 module _ (query : Bound) (grouping : Grouping) (own : Held) (time : Values → Option ℤ) (now : Option ℤ) (found : Held) where
   made : (m : Mode) → query.mode ≡ m → (pairs : List Pair) → AreDue own time now found m pairs → (nothing shown : Shown) → nothing.rows.items ≡ [] → nothing.fault ≡ None
@@ -199,7 +167,7 @@ module _ (query : Bound) (grouping : Grouping) (own : Held) (time : Values → O
             ap (times key) (map-append (λ (pair : Pair). pair.0) entries (pairs_of (others_of found all)))
             ∙ times-append key (keys_of_pairs entries) (keys_of_pairs (pairs_of (others_of found all)))
             ∙ (λ i. (entries_once key entries distinct ∙ ap (λ o. if is_some o then 1 else 0) (sym (finds key))) i
-            + (ap (times key) (pairs_keys (others_of found all) ∙ others_keys found all) ∙ times_left key (λ key. not (is_some (found key))) (keys_of_groups all)
+            + (ap (times key) (pairs_keys (others_of found all) ∙ others_keys found all) ∙ times_passing key (λ key. not (is_some (found key))) (keys_of_groups all)
             ∙ ap (λ n. if not (is_some (found key)) then n else 0) (are.once key)) i)
             ∙ either_once (own key) (found key);
         each = all_append (λ (pair : Pair). or_kept (found pair.0) (own pair.0) ≡ Some pair.1) entries (pairs_of (others_of found all))

@@ -16,11 +16,11 @@ use Rattle.ssq_meaning.specs.Fit.{IsFit}
 use Rattle.ssq_meaning.specs.Group.{is_same}
 use Rattle.ssq_meaning.specs.Meaning.{Values}
 use Rattle.ssq_meaning.specs.Totals.{totals_bytes}
+use Rattle.ssq_meaning.proofs.Keys.{same_is}
 use Rattle.ssq_agg.specs.declared.kept.Group.{Group}
 use Rattle.ssq_agg.specs.Groups.{Held}
 use Rattle.ssq_agg.specs.Holding.{Entry, AreRead, Holds, IsGroupOf, IsReadAt}
 use Rattle.ssq_agg.specs.Readable.{AreFit, AreFitAt, AreFitGroups, AreTotalsOf, IsFitGroup, IsFitTotal, IsKey, IsReadableGroup, IsTotalOf}
-use Rattle.ssq_agg.proofs.Taking.{same_is}
 
 -- ---- what can be read back fits
 

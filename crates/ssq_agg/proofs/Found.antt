@@ -5,30 +5,27 @@ use Rattle.std.specs.BTreeMap.{is_at}
 use Rattle.std.specs.List.{AllByRecursion, cons_option}
 use Rattle.std.specs.List.Sorted.{IsStrictlySortedBy}
 use Rattle.std.proofs.lemmas.List.{map-append}
-use Rattle.std.proofs.lemmas.List.Elements.{All-weaker}
-use Rattle.ssq_value.specs.Key.{IsSpelled, keys_of}
+use Rattle.ssq_value.specs.Key.{keys_of}
 use Rattle.ssq_version.specs.State.{State, Ascends, by_bytes, value_at}
 use Rattle.ssq_version.proofs.Values.{by_case, one_key, first_at, others_at, is_itself, none_behind}
 use Rattle.ssq_shape.specs.declared.bound.Bound.{Bound}
 use Rattle.ssq_shape.specs.declared.bound.Grouping.{Grouping}
 use Rattle.ssq_meaning.specs.FedRows.{FedRow}
 use Rattle.ssq_meaning.specs.declared.total.Total.{Total}
-use Rattle.ssq_meaning.specs.Fit.{IsFit}
 use Rattle.ssq_meaning.specs.Group.{closing_time, is_same, members}
 use Rattle.ssq_meaning.specs.GroupLaws.{times}
 use Rattle.ssq_meaning.specs.Meaning.{Values}
 use Rattle.ssq_meaning.specs.Times.{is_past}
 use Rattle.ssq_meaning.specs.Totals.{totals_bytes}
-use Rattle.ssq_meaning.proofs.FitRows.{spelled}
+use Rattle.ssq_meaning.proofs.Bags.{times-append}
+use Rattle.ssq_meaning.proofs.Keys.{same_is, same_itself}
+use Rattle.ssq_step.proofs.ByBytes.{spelled_key}
 use Rattle.ssq_agg.specs.declared.kept.Group.{Group}
 use Rattle.ssq_agg.specs.Closed.{AreAll, AreClosed, is_ended}
 use Rattle.ssq_agg.specs.Groups.{Held, touched}
 use Rattle.ssq_agg.specs.Holding.{AreDueKeys, AreRead, Entry, Holds, IsGroupOf, IsRead, entries_at, entry_at, stands}
-use Rattle.ssq_agg.specs.Readable.{IsKey, IsReadableKey}
+use Rattle.ssq_agg.specs.Readable.{IsKey}
 use Rattle.ssq_agg.specs.Steps.{AreKeys, keys_of_groups}
-use Rattle.ssq_agg.proofs.Dueing.{times-append}
-use Rattle.ssq_agg.proofs.Saying.{same_itself}
-use Rattle.ssq_agg.proofs.Taking.{same_is}
 
 -- the keys of entries
 abbrev pub heads : List Entry → List (List ℕ)
@@ -37,9 +34,6 @@ heads entries = map (λ (entry : Entry). entry.0) entries
 -- the state has each of the entries
 abbrev pub AreIn : State → List Entry → Type 0
 AreIn state entries = AllByRecursion (λ (entry : Entry). value_at state entry.0 ≡ Some entry.1) entries
-
-pub key_of_readable : (grouping : Grouping) (key : Values) → IsReadableKey grouping key → IsKey grouping key
-key_of_readable grouping key is = (All-weaker IsFit IsSpelled spelled key is.values, is.many)
 
 abbrev as_group : Values → List Total → Group
 as_group key totals = record { key = key; totals = totals }
@@ -52,7 +46,7 @@ module _ (grouping : Grouping) (state : State) (own : Held) (holds : Holds group
   stands_in entry key totals there held same =
       let readable = holds.readable key totals held in
       let bytes : Some (totals_bytes totals) ≡ Some entry.1 =
-      ap (option_map totals_bytes) (sym held) ∙ sym (holds.found key (key_of_readable grouping key readable.key_is)) ∙ ap (value_at state) same ∙ there in
+      ap (option_map totals_bytes) (sym held) ∙ sym (holds.found key (spelled_key (length grouping.keys) key readable.key_is)) ∙ ap (value_at state) same ∙ there in
       record { readable = readable; key_is = same; totals_are = cc }
 
   -- and the group that is read from an entry is held
@@ -61,7 +55,7 @@ module _ (grouping : Grouping) (state : State) (own : Held) (holds : Holds group
     where
       bytes : option_map totals_bytes (own group.key) ≡ Some (totals_bytes group.totals)
       bytes =
-          sym (holds.found group.key (key_of_readable grouping group.key is.some.readable.key_is))
+          sym (holds.found group.key (spelled_key (length grouping.keys) group.key is.some.readable.key_is))
           ∙ ap (value_at state) is.some.key_is ∙ there ∙ ap (λ v. Some v) (sym is.some.totals_are)
 
       by : (o : Option (List Total)) → own group.key ≡ o → own group.key ≡ Some group.totals
@@ -157,7 +151,7 @@ stands_once (entry ∷ state) ascend q = by (is_at (by_bytes q) entry.0) refl (s
 
 held_there : (grouping : Grouping) (state : State) (own : Held) (holds : Holds grouping state own) (key : Values) (totals : List Total) → own key ≡ Some totals → value_at state (keys_of key) ≡ Some (totals_bytes totals)
 held_there grouping state own holds key totals held =
-    holds.found key (key_of_readable grouping key (holds.readable key totals held).key_is) ∙ ap (option_map totals_bytes) held
+    holds.found key (spelled_key (length grouping.keys) key (holds.readable key totals held).key_is) ∙ ap (option_map totals_bytes) held
 
 each_there : (own : Held) (groups : List Group) → AllByRecursion (λ (group : Group). own group.key ≡ Some group.totals) groups
     → AllByRecursion (λ (group : Group). (own group.key ≡ Some group.totals) × (is_some (own group.key) ≡ true)) groups
@@ -264,7 +258,7 @@ pub held_keys : (grouping : Grouping) (state : State) (own : Held) (is_one : Val
     → AllByRecursion (λ (group : Group). (own group.key ≡ Some group.totals) × (is_one group.key ≡ true)) groups → AreKeys (length grouping.keys) (keys_of_groups groups)
 held_keys grouping state own is_one [] holds each = tt
 held_keys grouping state own is_one (group ∷ groups) holds each =
-    (key_of_readable grouping group.key (holds.readable group.key group.totals each.0.0).key_is, held_keys grouping state own is_one groups holds each.1)
+    (spelled_key (length grouping.keys) group.key (holds.readable group.key group.totals each.0.0).key_is, held_keys grouping state own is_one groups holds each.1)
 
 has_row : (grouping : Grouping) (key : Values) (rows : List FedRow) (first : Values) (rest : List Values) → AllByRecursion (λ (row : FedRow). IsKey grouping row.key) rows → members rows key ≡ first ∷ rest → IsKey grouping key
 has_row grouping key [] first rest all is = absurd cc

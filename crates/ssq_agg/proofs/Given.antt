@@ -1,5 +1,5 @@
 -- What the state of a query holds.
-use Rattle.std.proofs.Common.{◌≡◌, ◌+◌, ◌++◌, ℕ, zero, suc, ℤ, [], ◌∷◌, Some, List, Option, Bool, true, false, All, refl, ap, sym, subst, ◌∙◌, filter, map, length}
+use Rattle.std.proofs.Common.{◌≡◌, ◌+◌, ◌++◌, ℕ, ℤ, [], ◌∷◌, Some, List, Option, Bool, true, false, All, refl, ap, sym, subst, ◌∙◌, filter, map, length}
 use Rattle.std.specs.Prelude.{◌&&◌, ◌||◌, not, if◌then◌else◌, fold, option_map}
 use Rattle.std.specs.BTreeMap.{is_at}
 use Rattle.std.specs.Cmp.Lexicographic.{nat_list_cmp_total, slice_cmp}
@@ -20,7 +20,7 @@ use Rattle.ssq_shape.specs.declared.bound.Function.{Function}
 use Rattle.ssq_shape.specs.declared.bound.Function.TheVariants as function
 use Rattle.ssq_shape.specs.declared.bound.Grouping.{Grouping}
 use Rattle.ssq_shape.specs.declared.bound.Shape.{Shape}
-use Rattle.ssq_shape.specs.Evaluation.{cell_at, is_null}
+use Rattle.ssq_shape.specs.Evaluation.{is_null}
 use Rattle.ssq_meaning.specs.FedRows.{FedRow}
 use Rattle.ssq_meaning.specs.declared.total.Total.{Total}
 use Rattle.ssq_meaning.specs.Fit.{IsFit}
@@ -29,15 +29,15 @@ use Rattle.ssq_meaning.specs.GroupLaws.{IsKeySpelled, held, held_if}
 use Rattle.ssq_meaning.specs.Keyed.{key_length_by, key_time_by}
 use Rattle.ssq_meaning.specs.Meaning.{Values}
 use Rattle.ssq_meaning.specs.Totals.{column_of, greater, lesser, total_of, totals_bytes, totals_from}
-use Rattle.ssq_meaning.proofs.Keys.{All-by, All-distinct}
+use Rattle.ssq_meaning.proofs.Keys.{All-by, All-distinct, same_is}
 use Rattle.ssq_agg.specs.Fits.{AllFit, Fits}
 use Rattle.ssq_agg.specs.Groups.{AreSteady, started}
 use Rattle.ssq_step.specs.Indexing.{Indexes, IsIndexBy, Timed}
+use Rattle.ssq_step.proofs.ByBytes.{spelled_key}
+use Rattle.ssq_step.proofs.Lists.{back_all, cell_has, front_all}
 use Rattle.ssq_agg.specs.Readable.{AreTotalsOf, IsKey, IsReadableGroup, IsReadableKey, IsTotalOf}
 use Rattle.ssq_agg.specs.Steps.{Given, GivenGroups, IsKept}
-use Rattle.ssq_agg.proofs.Found.{key_of_readable}
 use Rattle.ssq_agg.proofs.Stepping.{held_is}
-use Rattle.ssq_agg.proofs.Taking.{same_is}
 
 -- ---- totals that can be read back
 
@@ -67,14 +67,9 @@ total_reads_back function.Sum values all fits = fits
 total_reads_back function.Min values all fits = folded_fits lesser lesser_fits value.Null values tt all
 total_reads_back function.Max values all fits = folded_fits greater greater_fits value.Null values tt all
 
-cell_fits : (row : List Value) (at : ℕ) → AllByRecursion IsFit row → IsFit (cell_at row at)
-cell_fits [] at all = tt
-cell_fits (v ∷ row) zero all = all.0
-cell_fits (v ∷ row) (suc at) all = cell_fits row at all.1
-
 column_fits : (at : ℕ) (rows : List Values) → AllByRecursion (AllByRecursion IsFit) rows → AllByRecursion IsFit (column_of at rows)
 column_fits at [] all = tt
-column_fits at (row ∷ rows) all = (cell_fits row at all.0, column_fits at rows all.1)
+column_fits at (row ∷ rows) all = (cell_has IsFit tt row at all.0, column_fits at rows all.1)
 
 totals_read_back : (at : ℕ) (aggregates : List Aggregate) (rows : List Values) → AllByRecursion (AllByRecursion IsFit) rows → AllFit (totals_from at aggregates rows) → AreTotalsOf aggregates (totals_from at aggregates rows)
 unfolding totals_from
@@ -88,17 +83,9 @@ module _ (grouping : Grouping) where
   key_is : (row : FedRow) → IsKept grouping row → IsReadableKey grouping row.key
   key_is row is = record { values = is.fit.key; many = is.many }
 
-  pub old_rows : (old new : List FedRow) → AllByRecursion (IsKept grouping) (old ++ new) → AllByRecursion (IsKept grouping) old
-  old_rows [] new all = tt
-  old_rows (row ∷ old) new all = (all.0, old_rows old new all.1)
-
-  pub new_rows : (old new : List FedRow) → AllByRecursion (IsKept grouping) (old ++ new) → AllByRecursion (IsKept grouping) new
-  new_rows [] new all = all
-  new_rows (row ∷ old) new all = new_rows old new all.1
-
   pub spelled_rows : (rows : List FedRow) → AllByRecursion (IsKept grouping) rows → AllByRecursion (λ (row : FedRow). IsKey grouping row.key) rows
   spelled_rows [] all = tt
-  spelled_rows (row ∷ rows) all = (key_of_readable grouping row.key (key_is row all.0), spelled_rows rows all.1)
+  spelled_rows (row ∷ rows) all = (spelled_key (length grouping.keys) row.key (key_is row all.0), spelled_rows rows all.1)
 
   member_values : (rows : List FedRow) (key : Values) → AllByRecursion (IsKept grouping) rows → AllByRecursion (AllByRecursion IsFit) (members rows key)
   member_values [] key all = tt
@@ -151,14 +138,14 @@ pub given_groups : AreFound → (query : Bound) (grouping : Grouping) (state : S
     → GivenGroups query grouping state closing old new before now
 given_groups found query grouping state closing old new before now given =
     let all = recursion_from_All (IsKept grouping) (old ++ new) given.rows in
-    let olds = old_rows grouping old new all in
+    let olds = front_all (IsKept grouping) old new all in
     record {
       holds = record {
         found = λ key is. ap (λ (s : State). value_at s (keys_of key)) given.kept ∙ kept_at found query grouping old before (spelled_rows grouping old olds) key is;
         readable = group_readable query grouping old new before olds given.steady;
       };
       indexes = subst (λ (shape : Shape). Indexes (key_length_by shape) (key_time_by shape query) state closing) given.groups (subst (λ (shape : Shape). IsIndexBy shape query state closing) given.groups given.indexed);
-      keys = spelled_rows grouping new (new_rows grouping old new all);
+      keys = spelled_rows grouping new (back_all (IsKept grouping) old new all);
       follows = given.follows;
       steady = given.steady;
     }

@@ -1,52 +1,29 @@
 -- What a change says of groups.
 use Rattle.std.proofs.Common.{◌≡◌, ◌<◌, ◌+◌, ◌++◌, ℕ, [], ◌∷◌, Some, None, List, Option, Bool, true, false, All, refl, ap, sym, subst, ◌∙◌, append_assoc, append-nil, take, length, get_or, map}
 use Rattle.std.specs.Prelude.{◌||◌, if◌then◌else◌}
-use Rattle.std.specs.BTreeMap.{is_at}
-use Rattle.std.specs.Cmp.Lexicographic.{nat_list_cmp_total}
 use Rattle.std.specs.HashMap.{HashMap, get}
 use Rattle.std.specs.List.{AllByRecursion, IsDistinct}
 use Rattle.std.specs.Map.{lookup}
 use Rattle.std.specs.Option.{option_or}
-use Rattle.std.specs.Ordering.{is_eq}
-use Rattle.std.proofs.lemmas.Cmp.{tied_itself}
-use Rattle.std.proofs.lemmas.List.{map-append, take_more}
+use Rattle.std.proofs.lemmas.List.{map-append}
 use Rattle.std.proofs.lemmas.List.Elements.{All-push, All-tail, All-weaker, recursion_from_All}
-use Rattle.ssq_value.specs.Key.{IsSpelled, keys_of}
-use Rattle.ssq_value.specs.OrderLaws.{values_cmp_total}
-use Rattle.ssq_version.specs.State.{Change, IsShortEntry, by_bytes, last_at, value_at}
+use Rattle.ssq_value.specs.Key.{keys_of}
+use Rattle.ssq_version.specs.State.{Change, IsShortEntry, last_at, value_at}
 use Rattle.ssq_version.proofs.LastSaid.{last_has, or_none}
-use Rattle.ssq_version.proofs.Values.{one_key}
 use Rattle.ssq_meaning.specs.declared.total.Total.{Total}
 use Rattle.ssq_meaning.specs.Group.{is_same}
 use Rattle.ssq_meaning.specs.GroupLaws.{IsKeySpelled}
 use Rattle.ssq_meaning.specs.Meaning.{Values}
 use Rattle.ssq_meaning.specs.Totals.{totals_bytes}
+use Rattle.ssq_meaning.proofs.Coding.{AreApart}
+use Rattle.ssq_meaning.proofs.Keys.{same_is}
+use Rattle.ssq_step.proofs.ByBytes.{same_bytes}
+use Rattle.ssq_step.proofs.Lists.{one_more}
 use Rattle.ssq_agg.specs.declared.kept.Group.{Group}
 use Rattle.ssq_agg.specs.Readable.{IsFitGroup}
 use Rattle.ssq_agg.specs.Shown.{Pair}
 use Rattle.ssq_agg.specs.Steps.{AreKeys, AreTouchedKeys, Says, gone_entry, is_among, keys_of_groups, put_entry, said_if}
 use Rattle.ssq_agg.proofs.Dueing.{keys_of_pairs}
-use Rattle.ssq_agg.proofs.Taking.{same_is}
-
--- the law of keys
-abbrev pub AreApart : Type 0
-AreApart = (left right : Values) (x y : List ℕ) → length left ≡ length right → All IsSpelled left → All IsSpelled right → keys_of left ++ x ≡ keys_of right ++ y → (left ≡ right) × (x ≡ y)
-
-pub same_itself : (key : Values) → is_same key key ≡ true
-same_itself key = ap is_eq (tied_itself values_cmp_total key)
-
--- keys of so many values have the same bytes exactly where they are the same
-pub same_bytes : AreApart → (many : ℕ) (key other : Values) → IsKeySpelled many key → IsKeySpelled many other → is_at (by_bytes (keys_of key)) (keys_of other) ≡ is_same key other
-same_bytes apart many key other is are = by (is_at (by_bytes (keys_of key)) (keys_of other)) (is_same key other) refl refl
-  where
-    by : (a b : Bool) → is_at (by_bytes (keys_of key)) (keys_of other) ≡ a → is_same key other ≡ b → is_at (by_bytes (keys_of key)) (keys_of other) ≡ is_same key other
-    by true true at same = at ∙ sym same
-    by false false at same = at ∙ sym same
-    by true false at same =
-        let one : key ≡ other = (apart key other [] [] (is.1 ∙ sym are.1) is.0 are.0 (ap (λ b. b ++ []) (one_key (keys_of key) (keys_of other) at))).0 in
-        let no : true ≡ false = sym (same_itself key) ∙ ap (is_same key) one ∙ same in absurd cc
-    by false true at same =
-        let no : true ≡ false = ap is_eq (sym (tied_itself nat_list_cmp_total (keys_of key))) ∙ ap (λ k. is_at (by_bytes (keys_of key)) (keys_of k)) (same_is key other same) ∙ at in absurd cc
 
 -- ---- what the entries say
 
@@ -141,7 +118,7 @@ gone_more closed at group inside is before after pushed was =
     pushed
     ∙ ap (λ l. l ++ gone_entry group ∷ []) was
     ∙ sym (map-append gone_entry (take at closed) (group ∷ []))
-    ∙ ap (map gone_entry) (sym (take_more closed at group inside ∙ ap (λ g. take at closed ++ g ∷ []) (sym is)))
+    ∙ ap (map gone_entry) (sym (one_more closed at group inside is))
 
 -- The entries so far, with those of the touched groups that are left, are those of the closed groups and behind them of all that were touched.
 pub record AreEntries (closed : List Group) (touched left : List Pair) (entries : Change) : Type 0 where

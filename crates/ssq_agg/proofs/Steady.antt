@@ -19,6 +19,8 @@ use Rattle.ssq_meaning.specs.Group.{is_same, has_key, members, totals_in, is_clo
 use Rattle.ssq_meaning.specs.GroupLaws.{held}
 use Rattle.ssq_meaning.specs.Meaning.{Values}
 use Rattle.ssq_meaning.specs.Totals.{summand, sum_of, total_of, column_of, totals_from, with_row}
+use Rattle.ssq_meaning.proofs.Handing.{all_append}
+use Rattle.ssq_step.proofs.Lists.{cell_has}
 use Rattle.ssq_agg.specs.Fits.{Fits, AllFit}
 use Rattle.ssq_agg.specs.Groups.{AreSteady, HasBigints, Held, IsBigint, started}
 use Rattle.ssq_agg.proofs.Stepping.{held_is}
@@ -58,14 +60,9 @@ total_fits function.Sum values few all =
 total_fits function.Min values few all = tt
 total_fits function.Max values few all = tt
 
-cell_is : (row : List Value) (at : ℕ) → AllByRecursion IsBigint row → IsBigint (cell_at row at)
-cell_is [] at all = tt
-cell_is (v ∷ row) zero all = all.0
-cell_is (v ∷ row) (suc at) all = cell_is row at all.1
-
 column_is : (at : ℕ) (rows : List (List Value)) → AllByRecursion (λ row. AllByRecursion IsBigint row) rows → AllByRecursion IsBigint (column_of at rows)
 column_is at [] all = tt
-column_is at (row ∷ rows) all = (cell_is row at all.0, column_is at rows all.1)
+column_is at (row ∷ rows) all = (cell_has IsBigint tt row at all.0, column_is at rows all.1)
 
 totals_fit : (at : ℕ) (aggregates : List Aggregate) (rows : List (List Value)) → length rows < 2 ^ 64 → AllByRecursion (λ row. AllByRecursion IsBigint row) rows → AllFit (totals_from at aggregates rows)
 unfolding totals_from
@@ -99,10 +96,6 @@ some_first zero rows all = tt
 some_first (suc n) [] all = tt
 some_first (suc n) (row ∷ rows) all = (all.0, some_first n rows all.1)
 
-both_have : (one other : List FedRow) → AllByRecursion HasBigints one → AllByRecursion HasBigints other → AllByRecursion HasBigints (one ++ other)
-both_have [] other a b = b
-both_have (row ∷ one) other a b = (a.0, both_have one other a.1 b)
-
 pub steady_rows : ((grouping : Grouping) (old new : List FedRow) (key : Values) → totals_in grouping (old ++ new) key ≡ fold with_row (totals_in grouping old key) (members new key))
     → (query : Bound) (grouping : Grouping) (own : Held) (old new : List FedRow) (before : Option ℤ) → ((key : Values) → own key ≡ held query grouping old before key)
     → length old + length new < 2 ^ 64 → AllByRecursion HasBigints old → AllByRecursion HasBigints new → AreSteady grouping.aggregates own new
@@ -119,4 +112,4 @@ steady_rows totals query grouping own old new before kept few olds news n key = 
     by (Some t) is =
         let start : totals_in grouping old key ≡ t = held_is (has_key old key && not (is_closed query grouping before key)) (totals_in grouping old key) t (sym is) in
         subst AllFit (totals grouping old (take n new) key ∙ ap (λ t. fold with_row t (members (take n new) key)) start)
-        (rows_fit grouping (old ++ take n new) key (let less = fewer in let both = length-append old (take n new) in omega (arith, less, both, few)) (both_have old (take n new) olds (some_first n new news)))
+        (rows_fit grouping (old ++ take n new) key (let less = fewer in let both = length-append old (take n new) in omega (arith, less, both, few)) (all_append HasBigints old (take n new) olds (some_first n new news)))

@@ -18,13 +18,15 @@ use Rattle.ssq_meaning.specs.Meaning.{Values}
 use Rattle.ssq_meaning.specs.Operator.{group}
 use Rattle.ssq_meaning.specs.Times.{is_past}
 use Rattle.ssq_meaning.specs.Totals.{with_row}
+use Rattle.ssq_meaning.proofs.Bags.{times-append}
 use Rattle.ssq_meaning.proofs.Coding.{any_by}
+use Rattle.ssq_meaning.proofs.Keys.{times_passing}
 use Rattle.ssq_agg.specs.declared.kept.Group.{Group}
 use Rattle.ssq_agg.specs.Closed.{is_ended, AreClosed}
 use Rattle.ssq_agg.specs.Groups.{Held, touched}
 use Rattle.ssq_agg.specs.Shown.{Pair, row_if, fault_if, shown_of, shown_rows, least_fault}
 use Rattle.ssq_agg.specs.Steps.{after_if, keys_of_groups, is_among, or_kept, IsShownOf, AreDue}
-use Rattle.ssq_agg.proofs.Dueing.{keys_of_pairs, times-append, times_left}
+use Rattle.ssq_agg.proofs.Dueing.{keys_of_pairs}
 
 -- ---- what members say
 
@@ -201,9 +203,9 @@ module _ (query : Bound) (grouping : Grouping) (old new : List FedRow) (before n
           ∙ least (onto query grouping [] pairs) (filter overflows (due_keys query grouping old new before now)) (λ key.
           onto_times key [] pairs are.each
           ∙ zero_add (times key (filter overflows (keys_of_pairs pairs)))
-          ∙ times_left key overflows (keys_of_pairs pairs)
+          ∙ times_passing key overflows (keys_of_pairs pairs)
           ∙ ap (λ n. if overflows key then n else 0) (same_times key)
-          ∙ sym (times_left key overflows (due_keys query grouping old new before now)))
+          ∙ sym (times_passing key overflows (due_keys query grouping old new before now)))
         where
           zero_add : (n : ℕ) → 0 + n ≡ n
           zero_add n = omega arith

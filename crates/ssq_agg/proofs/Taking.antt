@@ -1,27 +1,19 @@
 -- One row more in its group.
-use Rattle.std.proofs.Common.{◌≡◌, ◌<◌, ◌+◌, ◌++◌, ℕ, [], ◌∷◌, Some, None, List, Option, Result, Ok, Err, Bool, true, false, refl, ap, sym, ◌∙◌, subst, take, length, map, filter, get_or}
-use Rattle.std.specs.Prelude.{OnOk, if◌then◌else◌, IsSome, fold}
-use Rattle.std.specs.declared.cmp.Ordering.{Ordering}
-use Rattle.std.specs.declared.cmp.Ordering.TheVariants.{Less, Equal, Greater}
-use Rattle.std.specs.Cmp.{eq_by_cmp_equiv}
-use Rattle.std.specs.Ordering.{is_eq}
-use Rattle.std.proofs.lemmas.List.{append-nil, map-append, take_more}
+use Rattle.std.proofs.Common.{◌≡◌, ◌<◌, ◌+◌, ◌++◌, ℕ, [], ◌∷◌, Some, None, List, Option, Bool, true, false, refl, ap, sym, ◌∙◌, subst, take, length, map, filter, get_or}
+use Rattle.std.specs.Prelude.{if◌then◌else◌, IsSome, fold}
+use Rattle.std.proofs.lemmas.List.{append-nil, map-append}
 use Rattle.std.proofs.lemmas.List.Elements.{filter-append}
 use Rattle.std.proofs.lemmas.List.Sums.{fold-append}
-use Rattle.ssq_value.specs.Order.{values_cmp}
-use Rattle.ssq_value.specs.OrderLaws.{values_cmp_total, values_cmp_exact}
 use Rattle.ssq_value.specs.declared.value.Value.{Value}
 use Rattle.ssq_shape.specs.declared.bound.Aggregate.{Aggregate}
 use Rattle.ssq_meaning.specs.FedRows.{FedRow}
 use Rattle.ssq_meaning.specs.declared.total.Total.{Total}
 use Rattle.ssq_meaning.specs.Group.{is_same, members}
 use Rattle.ssq_meaning.specs.Totals.{with_row}
+use Rattle.ssq_meaning.proofs.Keys.{same_back, same_is, same_itself}
+use Rattle.ssq_step.proofs.Lists.{one_more}
 use Rattle.ssq_agg.specs.Fits.{AllFit}
 use Rattle.ssq_agg.specs.Groups.{AreSteady, Held, goes_on, started, touched}
-
-pub on_ok : {T E : Type 0} {P Q : Type 0} (r : Result T E) → OnOk r P → (P → Q) → OnOk r Q
-on_ok (Ok x) holds give = give holds
-on_ok (Err e) holds give = tt
 
 -- a key that no row touched before
 pub fresh : (aggregates : List Aggregate) (own at : Option (List Total)) (totals more : List Total) (row : List Value) → None ≡ at → totals ≡ started aggregates own
@@ -68,21 +60,10 @@ members_more rows row key =
     by true = refl
     by false = refl
 
-pub same_back : (a b : List Value) → is_same a b ≡ is_same b a
-same_back a b = (eq_by_cmp_equiv values_cmp_total).symm a b
-
-pub same_is : (a b : List Value) → is_same a b ≡ true → a ≡ b
-same_is a b same = values_cmp_exact a b (by (values_cmp a b) same)
-  where
-    by : (r : Ordering) → is_eq r ≡ true → r ≡ Equal
-    by Less is = absurd cc
-    by Equal is = refl
-    by Greater is = absurd cc
-
 module _ (aggregates : List Aggregate) (held : Held) (rows : List FedRow) (at : ℕ) (row : FedRow) (inside : at < length rows) (is : row ≡ get_or rows at row)
     (before after : List Value → Option (List Total)) where
   took : take (at + 1) rows ≡ take at rows ++ row ∷ []
-  took = take_more rows at row inside ∙ ap (λ r. take at rows ++ r ∷ []) (sym is)
+  took = one_more rows at row inside is
 
   -- the row's types hold it
   pub steady : AreSteady aggregates held rows → ((key : List Value) → before key ≡ touched aggregates (held key) (members (take at rows) key))
@@ -96,12 +77,12 @@ module _ (aggregates : List Aggregate) (held : Held) (rows : List FedRow) (at : 
       subst AllFit (sym one) (are (at + 1) row.key)
     where
       here : (some : List FedRow) → members (some ++ row ∷ []) row.key ≡ members some row.key ++ row.values ∷ []
-      here some = members_more some row row.key ∙ ap (λ b. members some row.key ++ (if b then row.values ∷ [] else [])) ((eq_by_cmp_equiv values_cmp_total).refl row.key)
+      here some = members_more some row row.key ∙ ap (λ b. members some row.key ++ (if b then row.values ∷ [] else [])) (same_itself row.key)
 
-  pub one_more : ((key : List Value) → before key ≡ touched aggregates (held key) (members (take at rows) key))
+  pub touched_on : ((key : List Value) → before key ≡ touched aggregates (held key) (members (take at rows) key))
       → ((key : List Value) → after key ≡ (if is_same row.key key then Some (with_row (goes_on aggregates (held row.key) (before row.key)) row.values) else before key))
       → (key : List Value) → after key ≡ touched aggregates (held key) (members (take (at + 1) rows) key)
-  one_more was now key = now key ∙ by (is_same row.key key) refl ∙ ap (λ l. touched aggregates (held key) l) (sym (members_more (take at rows) row key) ∙ ap (λ l. members l key) (sym took))
+  touched_on was now key = now key ∙ by (is_same row.key key) refl ∙ ap (λ l. touched aggregates (held key) l) (sym (members_more (take at rows) row key) ∙ ap (λ l. members l key) (sym took))
     where
       by : (b : Bool) → is_same row.key key ≡ b → (if b then Some (with_row (goes_on aggregates (held row.key) (before row.key)) row.values) else before key)
           ≡ touched aggregates (held key) (members (take at rows) key ++ (if is_same key row.key then row.values ∷ [] else []))

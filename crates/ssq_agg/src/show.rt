@@ -1,6 +1,6 @@
 //! What a group shows.
 
-ghost use Rattle.std.specs.Prelude.{◌≡◌, pos, All, IfOk, IfSome};
+ghost use Rattle.std.specs.Prelude.{◌≡◌, All, IfOk, IfSome};
 ghost use Rattle.ssq_time.specs.Time.{IsStampTime};
 ghost use Rattle.ssq_value.specs.Kind.{IfTime};
 ghost use Rattle.ssq_expr.specs.Answers.{Answers, itself};
@@ -15,19 +15,11 @@ use ssq_shape::{Bound, Grouping, Output, Typed};
 use ssq_value::{Row, Value};
 use std::alloc::{AllocError, Global};
 
-fn fitting_count(count: u64) -> Option<Value>
-    ensures { result ≡ fitting (pos count) }
+/// A number as a value, where it has 64 bits.
+fn fitting(number: i128) -> Option<Value>
+    ensures { result ≡ fitting number }
 {
-    match i64::try_from(count) {
-        Ok(number) => Some(Value::Int(number)),
-        Err(_) => None,
-    }
-}
-
-fn fitting_sum(sum: i128) -> Option<Value>
-    ensures { result ≡ fitting sum }
-{
-    match i64::try_from(sum) {
+    match i64::try_from(number) {
         Ok(number) => Some(Value::Int(number)),
         Err(_) => None,
     }
@@ -40,9 +32,9 @@ fn value_of(total: &Total) -> Result<Option<Value>, AllocError>
     ensures years { IfOk result (λ value. IfSome value (IfTime IsStampTime)) }
 {
     match total {
-        Total::Count(count) => Ok(fitting_count(*count)),
+        Total::Count(count) => Ok(fitting(i128::from(*count))),
         Total::Sum { count: 0, .. } => Ok(Some(Value::Null)),
-        Total::Sum { sum, .. } => Ok(fitting_sum(*sum)),
+        Total::Sum { sum, .. } => Ok(fitting(*sum)),
         Total::Least(value) | Total::Greatest(value) => Ok(Some(value.clone()?)),
     }
 }

@@ -8,7 +8,7 @@ use Rattle.std.specs.List.Sorted.{IsPermutation}
 use Rattle.std.specs.Map.{lookup}
 use Rattle.std.specs.Ordering.{nat_cmp}
 use Rattle.std.proofs.lemmas.List.{append-nil}
-use Rattle.std.proofs.lemmas.List.Elements.{All-from_recursion, All-weaker, recursion_from_All}
+use Rattle.std.proofs.lemmas.List.Elements.{All-from_recursion, recursion_from_All}
 use Rattle.std.proofs.lemmas.List.Sorted.{IsPermutation-refl}
 use Rattle.ssq_value.specs.Key.{IsSpelled, keys_of}
 use Rattle.ssq_version.specs.State.{Change, IsAfter, State, by_bytes, value_after, value_at}
@@ -17,19 +17,18 @@ use Rattle.ssq_shape.specs.declared.bound.Shape.{Shape}
 use Rattle.ssq_meaning.specs.FedRows.{FedRow}
 use Rattle.ssq_meaning.specs.Dedup.{closing_time, firsts, is_closed, kept, values_in}
 use Rattle.ssq_meaning.specs.DedupLaws.{Follows, entry_if, is_held, is_held_next}
-use Rattle.ssq_meaning.specs.Fit.{IsFit}
 use Rattle.ssq_meaning.specs.Group.{has_key, is_same}
 use Rattle.ssq_meaning.specs.GroupLaws.{IsKeySpelled}
 use Rattle.ssq_meaning.specs.Keyed.{key_length_by, key_time_by}
 use Rattle.ssq_meaning.specs.Meaning.{Values}
 use Rattle.ssq_meaning.specs.Operator.{dedup}
-use Rattle.ssq_meaning.proofs.FitRows.{spelled}
 use Rattle.ssq_meaning.proofs.Keys.{same_is}
 use Rattle.ssq_step.specs.declared.stepped.Stepped.{Stepped}
 use Rattle.ssq_step.specs.Forgetting.{IsGone}
 use Rattle.ssq_step.specs.Indexing.{AreDueKeys, Indexes, IsIndexBy, IsReadableKey, Timed}
 use Rattle.ssq_step.specs.Steps.{IsStep}
-use Rattle.ssq_step.proofs.ByBytes.{any_by}
+use Rattle.ssq_step.proofs.ByBytes.{any_by, spelled_key}
+use Rattle.ssq_step.proofs.Lists.{back_all, front_all}
 use Rattle.ssq_dedup.specs.Firsts.{HoldsKeys, IsKeyed, SaysFirsts, first_among, said_if}
 use Rattle.ssq_dedup.specs.Steps.{Given, IsKept}
 use Rattle.ssq_dedup.proofs.Taking.{among_are}
@@ -59,14 +58,6 @@ AreEnded = (query : Bound) (columns : List ℕ) (old new : List FedRow) (before 
 -- ---- rows that can be kept
 
 module _ (columns : List ℕ) where
-  pub old_rows : (old new : List FedRow) → AllByRecursion (IsKept columns) (old ++ new) → AllByRecursion (IsKept columns) old
-  old_rows [] new all = tt
-  old_rows (row ∷ old) new all = (all.0, old_rows old new all.1)
-
-  pub new_rows : (old new : List FedRow) → AllByRecursion (IsKept columns) (old ++ new) → AllByRecursion (IsKept columns) new
-  new_rows [] new all = all
-  new_rows (row ∷ old) new all = new_rows old new all.1
-
   readable : (row : FedRow) → IsKept columns row → IsKeyed (length columns) row
   readable row is = record { values = is.fit.key; many = is.many }
 
@@ -76,7 +67,7 @@ module _ (columns : List ℕ) where
 
   spelled_rows : (rows : List FedRow) → AllByRecursion (IsKept columns) rows → AllByRecursion (λ (row : FedRow). IsKeySpelled (length columns) row.key) rows
   spelled_rows [] all = tt
-  spelled_rows (row ∷ rows) all = ((All-weaker IsFit IsSpelled spelled row.key all.0.fit.key, all.0.many), spelled_rows rows all.1)
+  spelled_rows (row ∷ rows) all = (spelled_key (length columns) row.key (readable row all.0), spelled_rows rows all.1)
 
   key_readable : (rows : List FedRow) (key : Values) → AllByRecursion (IsKept columns) rows → has_key rows key ≡ true → IsReadableKey (length columns) key
   key_readable [] key all has = absurd cc
@@ -89,7 +80,7 @@ module _ (columns : List ℕ) where
   kept_at : AreFound → (query : Bound) (rows : List FedRow) (now : Option ℤ) → AllByRecursion (IsKept columns) rows → (key : Values) → IsReadableKey (length columns) key
       → value_at (kept query columns rows now) (keys_of key) ≡ entry_if (is_held query columns rows now key)
   kept_at found query rows now all key is =
-      found query columns rows now key (All-weaker IsFit IsSpelled spelled key is.values)
+      found query columns rows now key (spelled_key (length columns) key is).0
       (subst (λ n. AllByRecursion (λ (row : FedRow). IsKeySpelled n row.key) rows) (sym is.many) (spelled_rows rows all))
 
 -- ---- keys that are due
@@ -116,10 +107,10 @@ module _ (query : Bound) (columns : List ℕ) (state : State) (closing : List Ti
   all_rows = recursion_from_All (IsKept columns) (old ++ new) given.rows
 
   olds : AllByRecursion (IsKept columns) old
-  olds = old_rows columns old new all_rows
+  olds = front_all (IsKept columns) old new all_rows
 
   pub keyed : All (IsKeyed (length columns)) new
-  keyed = All-from_recursion (IsKeyed (length columns)) new (keyed_rows columns new (new_rows columns old new all_rows))
+  keyed = All-from_recursion (IsKeyed (length columns)) new (keyed_rows columns new (back_all (IsKept columns) old new all_rows))
 
   pub holds : HoldsKeys (length columns) state (is_held query columns old before)
   holds key is = ap (λ (s : State). value_at s (keys_of key)) given.kept ∙ kept_at columns found query old before olds key is

@@ -3,15 +3,15 @@ use Rattle.std.proofs.Common.{◌≡◌, ◌⊎◌, ◌<◌, ◌+◌, ◌++◌, 
 use Rattle.std.specs.Prelude.{◌&&◌, ◌||◌, not, if◌then◌else◌, is_some}
 use Rattle.std.specs.BTreeMap.{is_at}
 use Rattle.std.specs.List.{AllByRecursion}
-use Rattle.std.proofs.lemmas.List.{append_assoc, append-nil, map-append, take_more}
+use Rattle.std.proofs.lemmas.List.{append_assoc, append-nil, map-append}
 use Rattle.std.proofs.lemmas.List.Elements.{All-get_or, All-push, All-weaker}
 use Rattle.ssq_time.specs.Time.{IsStampTime}
 use Rattle.ssq_value.specs.declared.value.Value.{Value}
 use Rattle.ssq_value.specs.declared.value.Value.TheVariants as value
 use Rattle.ssq_value.specs.Kind.{IfTime}
-use Rattle.ssq_value.specs.Key.{IsSpelled, keys_of}
+use Rattle.ssq_value.specs.Key.{keys_of}
 use Rattle.ssq_version.specs.State.{Change, State, by_bytes, value_at}
-use Rattle.ssq_version.proofs.Values.{by_case, is_itself, one_key}
+use Rattle.ssq_version.proofs.Values.{by_case, one_key}
 use Rattle.ssq_meaning.specs.FedRows.{FedRow}
 use Rattle.ssq_meaning.specs.Dedup.{firsts, values_in}
 use Rattle.ssq_meaning.specs.DedupLaws.{entry_if}
@@ -20,23 +20,18 @@ use Rattle.ssq_meaning.specs.Group.{has_key, is_same}
 use Rattle.ssq_meaning.specs.Meaning.{Values}
 use Rattle.ssq_meaning.proofs.Coding.{AreApart}
 use Rattle.ssq_meaning.proofs.Counted.{has_key-append}
-use Rattle.ssq_meaning.proofs.FitRows.{spelled}
-use Rattle.ssq_meaning.proofs.Keys.{same_back, same_is, same_itself}
+use Rattle.ssq_meaning.proofs.Keys.{same_back, same_is}
+use Rattle.ssq_meaning.proofs.Pairing.{or_false}
 use Rattle.ssq_step.specs.Indexing.{IsReadableKey}
+use Rattle.ssq_step.proofs.ByBytes.{same_bytes, spelled_key}
+use Rattle.ssq_step.proofs.Lists.{one_more}
 use Rattle.ssq_dedup.specs.Firsts.{HoldsKeys, IsKeyed, SaysFirsts, Takes, TakesIf, first_among, said_if}
-
-or_false : (b : Bool) → (b || false) ≡ b
-or_false true = refl
-or_false false = refl
 
 or_back : (a b : Bool) → (a || b) ≡ (b || a)
 or_back true true = refl
 or_back true false = refl
 or_back false true = refl
 or_back false false = refl
-
-one_more : {A : Type 0} (xs : List A) (at : ℕ) (x : A) → at < length xs → x ≡ get_or xs at x → take (at + 1) xs ≡ take at xs ++ x ∷ []
-one_more xs at x inside is = take_more xs at x inside ∙ ap (λ y. take at xs ++ y ∷ []) (sym is)
 
 -- ---- the rows that are no repeats
 
@@ -63,21 +58,6 @@ among_are is_held old earlier (row ∷ rows) known =
     let rest : first_among is_held (earlier ++ row ∷ []) rows ≡ firsts ((old ++ earlier) ++ row ∷ []) rows =
     among_are is_held old (earlier ++ row ∷ []) rows known.1 ∙ ap (λ e. firsts e rows) (sym (append_assoc old earlier (row ∷ []))) in
     λ i. if test i then rest i else row ∷ rest i
-
--- ---- keys by their bytes
-
-pub same_bytes : AreApart → (count : ℕ) (key other : Values) → IsReadableKey count key → IsReadableKey count other → is_at (by_bytes (keys_of key)) (keys_of other) ≡ is_same key other
-same_bytes apart count key other is are = by (is_at (by_bytes (keys_of key)) (keys_of other)) (is_same key other) refl refl
-  where
-    by : (a b : Bool) → is_at (by_bytes (keys_of key)) (keys_of other) ≡ a → is_same key other ≡ b → is_at (by_bytes (keys_of key)) (keys_of other) ≡ is_same key other
-    by true true at same = at ∙ sym same
-    by false false at same = at ∙ sym same
-    by true false at same =
-        let one : key ≡ other = (apart key other [] [] (is.many ∙ sym are.many) (All-weaker IsFit IsSpelled spelled key is.values) (All-weaker IsFit IsSpelled spelled other are.values)
-        (ap (λ b. b ++ []) (one_key (keys_of key) (keys_of other) at))).0 in
-        let no : true ≡ false = sym (same_itself key) ∙ ap (is_same key) one ∙ same in absurd cc
-    by false true at same =
-        let no : true ≡ false = sym (is_itself (keys_of key)) ∙ ap (λ k. is_at (by_bytes (keys_of key)) (keys_of k)) (same_is key other same) ∙ at in absurd cc
 
 -- ---- a row more
 
@@ -178,7 +158,7 @@ module _ (apart : AreApart) (count : ℕ) (is_held : Values → Bool) (done : Li
       → value_at after (keys_of key) ≡ (if known then value_at now (keys_of key) else (if is_same key row.key then Some (Some []) else value_at now (keys_of key)))
   told_by true takes key readable = ap (λ (c : Change). value_at c (keys_of key)) takes.0
   told_by false takes key readable =
-      takes.0 (keys_of key) ∙ ap (λ b. if b then Some (Some []) else value_at now (keys_of key)) (same_bytes apart count row.key key keyed readable ∙ same_back row.key key)
+      takes.0 (keys_of key) ∙ ap (λ b. if b then Some (Some []) else value_at now (keys_of key)) (same_bytes apart count row.key key (spelled_key count row.key keyed) (spelled_key count key readable) ∙ same_back row.key key)
 
   only_by : (known : Bool) → TakesIf known row now after shown more → (bytes : List ℕ) → ((key : Values) × (bytes ≡ keys_of key) × IsReadableKey count key) ⊎ (value_at now bytes ≡ value_at before bytes)
       → ((key : Values) × (bytes ≡ keys_of key) × IsReadableKey count key) ⊎ (value_at after bytes ≡ value_at before bytes)

@@ -1,7 +1,7 @@
 use Rattle.std.proofs.Common.{All, subst, ◌∙◌}
 use Rattle.std.proofs.lemmas.List.Elements.{All-head}
+use Rattle.std.proofs.lemmas.Result.{IfOk-weaker}
 use Rattle.ssq_agg.specs.Readable.{IsFitGroup}
-use Rattle.ssq_agg.proofs.Dueing.{if_ok}
 use Rattle.ssq_agg.proofs.Fitting.{entries_fit}
 use Rattle.ssq_agg.proofs.Saying.{entries_keys, put_all, put_begins, put_more, says_all}
 use Rattle.ssq_agg.proofs.changed.changed.Goals as goal
@@ -25,6 +25,7 @@ of_entries-requires c = c.loop-key.invariant.short
 pub returns : goal.returns
 returns c = λ many closed touched.
     let all = put_all c.args.closed.now c.args.touched.now.entries c.loop-key.key-iterator c.loop-key.entries.items c.in-None.ensures.steps.0 c.loop-key.invariant in
-    if_ok c.of_entries.result c.of_entries.ensures (λ change said.
+    IfOk-weaker c.of_entries.result _ _ (λ change said.
     says_all many c.keys_are_apart.ensures.whatever_follows c.args.touched.now c.args.closed.now closed
     (record { keys = entries_keys many c.args.touched.now touched c.iter-key-items.ensures.found; distinct = c.iter-key-items.ensures.unique }) c.loop-key.entries.items change said all)
+    c.of_entries.ensures

@@ -6,7 +6,7 @@ use Rattle.ssq_meaning.specs.Fit.{IsFitRow}
 use Rattle.ssq_meaning.specs.Group.{is_same, members}
 use Rattle.ssq_agg.specs.Groups.{touched}
 use Rattle.ssq_agg.specs.Readable.{IsKey}
-use Rattle.ssq_agg.proofs.Taking.{steady, one_more}
+use Rattle.ssq_agg.proofs.Taking.{steady, touched_on}
 use Rattle.ssq_agg.proofs.groups.touched.Goals as goal
 
 pub loop-row-preserved : goal.loop-row-preserved
@@ -20,7 +20,7 @@ loop-row-preserved c = (
       let is_key = subst (λ row. IsKey c.args.grouping.now row.key) (sym c.row-item.is)
       (All-get_or (λ row. IsKey c.args.grouping.now row.key) rows at row inside (All-from_recursion (λ row. IsKey c.args.grouping.now row.key) rows keys)) in
       let was = c.loop-row.invariant.0 own holds keys are in
-      one_more aggregates own rows at row inside c.row-item.is (λ key. found is_same c.loop-row.groups key) (λ key. found is_same c.take_row.new.groups key) was
+      touched_on aggregates own rows at row inside c.row-item.is (λ key. found is_same c.loop-row.groups key) (λ key. found is_same c.take_row.new.groups key) was
       (c.in_ok-take_row.ensures.taken own holds is_key (steady aggregates own rows at row inside c.row-item.is (λ key. found is_same c.loop-row.groups key) (λ key. found is_same c.take_row.new.groups key) are was))),
   c.in_ok-take_row.ensures.fit c.loop-row.invariant.1,
 )
