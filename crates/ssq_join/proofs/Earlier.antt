@@ -3,9 +3,13 @@ use Rattle.std.proofs.Common.{◌≡◌, ◌++◌, ℕ, [], ◌∷◌, List, Boo
 use Rattle.std.specs.Prelude.{◌&&◌, ◌||◌, if◌then◌else◌, not}
 use Rattle.std.specs.List.{list_any}
 use Rattle.std.specs.List.Sorted.{IsPermutation}
+use Rattle.std.specs.Ordering.{eq_by_cmp}
 use Rattle.std.proofs.lemmas.List.{append_assoc, map-append}
 use Rattle.std.proofs.lemmas.List.Elements.{filter-append}
 use Rattle.std.proofs.lemmas.List.Sorted.{IsPermutation-append_comm, IsPermutation-append_left, IsPermutation-append_right, IsPermutation-refl, IsPermutation-trans}
+use Rattle.ssq_value.specs.declared.value.Value.{Value}
+use Rattle.ssq_value.specs.declared.value.Value.TheVariants as cell
+use Rattle.ssq_value.specs.Order.{value_cmp}
 use Rattle.ssq_version.specs.State.{Ascends, State, all_with, from_key, front_with}
 use Rattle.ssq_shape.specs.declared.bound.Bound.{Bound}
 use Rattle.ssq_shape.specs.declared.bound.Joining.{Joining}
@@ -24,6 +28,15 @@ use Rattle.ssq_join.specs.Turning.{MeetsEarlier, unmet}
 use Rattle.ssq_join.proofs.Across.{all_begin, are_others, begins, prefix, same_candidates}
 
 -- ---- a key with NULL
+
+-- a value is NULL where the order of values does not tell it from NULL
+pub null_by_order : (value : Value) → eq_by_cmp value_cmp value cell.Null ≡ is_null value
+unfolding value_cmp
+null_by_order cell.Null = refl
+null_by_order (cell.Int number) = refl
+null_by_order (cell.Text text) = refl
+null_by_order (cell.Time time) = refl
+null_by_order (cell.Truth truth) = refl
 
 null_meets : (joining : Joining) (row other : FedRow) → list_any is_null row.key ≡ true → are_candidates joining row other ≡ false
 null_meets joining row other has = by (is_left row.stream) (is_left other.stream) (is_same row.key other.key) (is_same other.key row.key) (list_any is_null row.key) (list_any is_null other.key) has theirs

@@ -1,13 +1,10 @@
 -- A row that is kept is over where its time in the index is past.
-use Rattle.std.proofs.Common.{◌≡◌, ℕ, ℤ, suc, zero, ◌+ℤ◌, ◌-ℤ◌, int_le, [], ◌∷◌, List, Option, Some, None, Bool, true, false, refl, ap, sym, ◌∙◌, subst, arith, length}
-use Rattle.std.specs.Prelude.{FitsSigned, IfSome, option_map}
+use Rattle.std.proofs.Common.{◌≡◌, ℕ, ℤ, ◌+ℤ◌, ◌-ℤ◌, int_le, [], ◌∷◌, List, Option, Some, None, Bool, true, false, refl, ap, sym, ◌∙◌, subst, arith, length}
+use Rattle.std.specs.Prelude.{All, FitsSigned, IfSome, option_map}
 use Rattle.std.specs.Int.{w64}
-use Rattle.std.specs.List.{AllByRecursion}
 use Rattle.std.proofs.lemmas.Int.{ints}
-use Rattle.std.proofs.lemmas.List.Elements.{All-weaker, recursion_from_All}
+use Rattle.std.proofs.lemmas.List.Elements.{All-weaker}
 use Rattle.ssq_time.specs.Time.{IsStampTime}
-use Rattle.ssq_value.specs.declared.value.Value.{Value}
-use Rattle.ssq_value.specs.declared.value.Value.TheVariants as value
 use Rattle.ssq_value.specs.Key.{IsSpelled}
 use Rattle.ssq_shape.specs.declared.bound.Bound.{Bound}
 use Rattle.ssq_shape.specs.declared.bound.Joining.{Joining}
@@ -21,6 +18,7 @@ use Rattle.ssq_meaning.specs.Meaning.{Values}
 use Rattle.ssq_meaning.specs.Times.{is_past}
 use Rattle.ssq_meaning.proofs.Coding.{AreApart as KeysAreApart}
 use Rattle.ssq_meaning.proofs.FitRows.{spelled}
+use Rattle.ssq_meaning.proofs.KeyPlaces.{stamp_at}
 use Rattle.ssq_step.specs.Rows.{HasTime, HasTimeIf, IsKeptRow, IsTimed, end_of, width_of}
 use Rattle.ssq_join.specs.Steps.{IsKept}
 use Rattle.ssq_join.proofs.Alone.{kept_row}
@@ -28,21 +26,13 @@ use Rattle.ssq_join.proofs.Saying.{over_at}
 
 -- ---- a row's own time
 
-cell_fits : (row : Values) (at : ℕ) → AllByRecursion IsFit row → IsFit (cell_at row at)
-cell_fits [] at all = tt
-cell_fits (cell ∷ row) zero all = all.0
-cell_fits (cell ∷ row) (suc at) all = cell_fits row at all.1
-
-time_fits : (cell : Value) → IsFit cell → IfSome (time_in cell) IsStampTime
-time_fits value.Null fit = tt
-time_fits (value.Int n) fit = tt
-time_fits (value.Text t) fit = tt
-time_fits (value.Time t) fit = fit
-time_fits (value.Truth b) fit = tt
-
-own_fits : (bound : Option TimeBound) (stream : ℕ) (row : Values) → AllByRecursion IsFit row → IfSome (join_time bound stream row) IsStampTime
-own_fits None stream row all = tt
-own_fits (Some bound) stream row all = time_fits (cell_at row (event_column (is_left stream) bound)) (cell_fits row (event_column (is_left stream) bound) all)
+own_fits : (bound : Option TimeBound) (stream : ℕ) (row : Values) → All IsFit row → IfSome (join_time bound stream row) IsStampTime
+own_fits None stream row fit = tt
+own_fits (Some bound) stream row fit = by (time_in (cell_at row (event_column (is_left stream) bound))) (stamp_at row fit (event_column (is_left stream) bound))
+  where
+    by : (time : Option ℤ) → ((t : ℤ) → time ≡ Some t → IsStampTime t) → IfSome time IsStampTime
+    by None stamps = tt
+    by (Some t) stamps = stamps t refl
 
 -- a row that is over has an end of 64 bits: it is not below the row's own time, nor above the watermark
 past_fits : (bound : Option TimeBound) → IfSome bound IsAround → (left : Bool) (time : Option ℤ) → IfSome time IsStampTime → (w t : ℤ) → FitsSigned w64 w → last_time bound left time ≡ Some t → int_le t w ≡ true
@@ -73,7 +63,7 @@ module _ (apart : KeysAreApart) (query : Bound) (joining : Joining) (bounded : I
   end_is = ap (last_time joining.bound side) (ap (λ s. join_time joining.bound s row.values) (sym is.stream) ∙ sym is.own.time)
 
   own_stamp : IfSome row.time IsStampTime
-  own_stamp = subst (λ (t : Option ℤ). IfSome t IsStampTime) (sym is.own.time) (own_fits joining.bound row.stream row.values (recursion_from_All IsFit row.values is.fit.values))
+  own_stamp = subst (λ (t : Option ℤ). IfSome t IsStampTime) (sym is.own.time) (own_fits joining.bound row.stream row.values is.fit.values)
 
   -- no other row is kept so
   same_end : (met : Bool) (left : Bool) (values : Values) (flag : Bool) → IsKeptRow query left values flag (row_key row) (row_value met row) → end_of joining left values ≡ end_of joining side row.values

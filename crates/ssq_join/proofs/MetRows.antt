@@ -3,6 +3,7 @@ use Rattle.std.proofs.Common.{◌≡◌, ◌++◌, ℕ, [], ◌∷◌, List, Opt
 use Rattle.std.specs.Prelude.{◌&&◌, ◌||◌, not, if◌then◌else◌}
 use Rattle.std.specs.BTreeMap.{is_at}
 use Rattle.std.specs.List.{AllByRecursion, list_any}
+use Rattle.std.proofs.lemmas.Bool.{and_right}
 use Rattle.std.proofs.lemmas.List.{append_assoc, append-nil}
 use Rattle.std.proofs.lemmas.List.Folds.{list_any-append}
 use Rattle.ssq_version.specs.State.{by_bytes}
@@ -13,10 +14,11 @@ use Rattle.ssq_meaning.specs.Join.{has_partner, have_equal_keys, is_candidate, i
 use Rattle.ssq_meaning.specs.JoinLaws.{AreApart, are_candidates}
 use Rattle.ssq_meaning.specs.Meaning.{is_true_answer}
 use Rattle.ssq_meaning.proofs.Handing.{all_append}
+use Rattle.ssq_step.proofs.Lists.{back_all}
 use Rattle.ssq_join.specs.Changing.{find_row}
 use Rattle.ssq_join.specs.Telling.{candidates_of, touches}
 use Rattle.ssq_join.specs.Turning.{turns}
-use Rattle.ssq_join.proofs.Placed.{back_all, front_all}
+use Rattle.ssq_join.proofs.Placed.{back_apart, front_apart}
 
 -- ---- partners
 
@@ -81,15 +83,11 @@ touched_own joining key row at (other ∷ others) =
     and_true true = refl
     and_true false = refl
 
-and_false : (b : Bool) → (b && false) ≡ false
-and_false true = refl
-and_false false = refl
-
 -- of another one
 touched_none : (joining : Joining) (key : List ℕ) (row : FedRow) → is_at (by_bytes key) (row_key row) ≡ false → (others : List FedRow) → AreElsewhere key others → touched_by joining key row others ≡ false
 touched_none joining key row not_at [] all = refl
 touched_none joining key row not_at (other ∷ others) all =
-    (λ i. (is_partner joining row other && (not_at i || all.0 i)) || touched_none joining key row not_at others all.1 i) ∙ ap (λ b. b || false) (and_false (is_partner joining row other))
+    (λ i. (is_partner joining row other && (not_at i || all.0 i)) || touched_none joining key row not_at others all.1 i) ∙ ap (λ b. b || false) (and_right (is_partner joining row other) false refl)
 
 touched_one : (joining : Joining) (key : List ℕ) (row own : FedRow) → is_at (by_bytes key) (row_key row) ≡ false → is_at (by_bytes key) (row_key own) ≡ true → (front back : List FedRow) → AreElsewhere key front → AreElsewhere key back
     → touched_by joining key row (front ++ own ∷ back) ≡ is_partner joining row own
@@ -162,15 +160,6 @@ placed key (one ∷ rows) row apart is = by (is_at (by_bytes key) (row_key one))
     by false not_at is rest =
         let found = rest is in
         record { front = one ∷ found.front; back = found.back; is = ap (λ l. one ∷ l) found.is; at = found.at; before = (not_at, found.before); behind = found.behind }
-
--- rows of two lists that are apart
-pub front_apart : (xs ys : List FedRow) → AreApart (xs ++ ys) → AreApart xs
-front_apart [] ys apart = tt
-front_apart (x ∷ xs) ys apart = (front_all (λ (own : FedRow). is_at (by_bytes (row_key x)) (row_key own) ≡ false) xs ys apart.0, front_apart xs ys apart.1)
-
-pub back_apart : (xs ys : List FedRow) → AreApart (xs ++ ys) → AreApart ys
-back_apart [] ys apart = apart
-back_apart (x ∷ xs) ys apart = back_apart xs ys apart.1
 
 -- the bytes of one of the first are none of the others'
 pub others_elsewhere : (key : List ℕ) (xs ys : List FedRow) (row : FedRow) → AreApart (xs ++ ys) → find_row key xs ≡ Some row → AreElsewhere key ys

@@ -1,6 +1,6 @@
 -- What is judged of a new row and one of the other side.
-use Rattle.std.proofs.Common.{◌≡◌, ◌++◌, ℕ, [], ◌∷◌, List, Option, Some, None, Bool, true, false, refl, ap, sym, ◌∙◌, subst}
-use Rattle.std.specs.Prelude.{◌&&◌, ◌||◌, All, IsSomeAnd, not, if◌then◌else◌}
+use Rattle.std.proofs.Common.{◌≡◌, ◌++◌, ℕ, [], ◌∷◌, List, Bool, true, false, refl, ap, sym, ◌∙◌, subst}
+use Rattle.std.specs.Prelude.{◌&&◌, ◌||◌, All, not, if◌then◌else◌}
 use Rattle.std.specs.BTreeMap.{is_at}
 use Rattle.std.specs.List.{list_any}
 use Rattle.std.proofs.lemmas.List.Elements.{All-append}
@@ -17,9 +17,9 @@ use Rattle.ssq_meaning.specs.Group.{is_same}
 use Rattle.ssq_meaning.specs.Join.{Considered, is_candidate, is_left, is_near, is_partner, join_time, row_key}
 use Rattle.ssq_meaning.specs.JoinLaws.{are_candidates, pair_by}
 use Rattle.ssq_meaning.proofs.Keys.{same_itself}
-use Rattle.ssq_join.specs.declared.judge.Judged.{Judged}
-use Rattle.ssq_join.specs.Judging.{is_met, judged_row, shown_by}
-use Rattle.ssq_join.specs.Meeting.{IsOther, JudgedAs, joined, with_candidate}
+use Rattle.ssq_meaning.proofs.Pairing.{or_false}
+use Rattle.ssq_join.specs.Judging.{is_met, judged_row}
+use Rattle.ssq_join.specs.Meeting.{IsOther, are_near, joined, with_candidate}
 use Rattle.ssq_join.specs.Telling.{Meets, Pair, Tells, among, considered_of}
 use Rattle.ssq_join.proofs.Meeting.{meets_more}
 
@@ -27,10 +27,6 @@ use Rattle.ssq_join.proofs.Meeting.{meets_more}
 pub joined_fit : (left : Bool) (own other : List Value) → All IsFit own → All IsFit other → All IsFit (joined left own other)
 joined_fit true own other is others = All-append IsFit other own others is
 joined_fit false own other is others = All-append IsFit own other is others
-
-or_false : (b : Bool) → (b || false) ≡ b
-or_false true = refl
-or_false false = refl
 
 -- a left row and a right one with the same key, which has no NULL
 record Faces (joining : Joining) (left right : FedRow) : Type 0 where
@@ -46,28 +42,27 @@ other_way : (joining : Joining) (left right : FedRow) → Faces joining left rig
 other_way joining left right faces = λ i. (faces.is_right_row i && not (faces.is_left_row i)) && ((is_same right.key left.key && not (list_any is_null right.key)) && is_near joining.bound right.time left.time)
 
 -- what is judged of them is what they are
-from_left : (query : Bound) (joining : Joining) (left right : FedRow) → Faces joining left right → (judged : Judged) → is_near joining.bound left.time right.time ≡ true
-    → judged.met ≡ is_met joining (left.values ++ right.values) → shown_by judged.shown ≡ judged_row query joining (left.values ++ right.values)
-    → (are_candidates joining left right ≡ true) × (record { key = left.key; row = shown_by judged.shown } ≡ considered_of query joining (left, right)) × (is_partner joining left right ≡ judged.met)
-from_left query joining left right faces judged near met shown =
+from_left : (query : Bound) (joining : Joining) (left right : FedRow) → Faces joining left right → (met : Bool) → is_near joining.bound left.time right.time ≡ true → met ≡ is_met joining (left.values ++ right.values)
+    → (are_candidates joining left right ≡ true) × (record { key = left.key; row = judged_row query joining (left.values ++ right.values) } ≡ considered_of query joining (left, right)) × (is_partner joining left right ≡ met)
+from_left query joining left right faces met near is =
     let here : is_candidate joining left right ≡ true = one_way joining left right faces ∙ near in
-    let not_there : is_candidate joining right left ≡ false = other_way joining left right faces in
-    let own : record { key = left.key; row = shown_by judged.shown } ≡ pair_by query joining true left right = λ i. record { key = left.key; row = shown i } in (
+    let not_there : is_candidate joining right left ≡ false = other_way joining left right faces in (
       (λ i. here i || not_there i),
-      own ∙ ap (λ b. pair_by query joining b left right) (sym faces.is_left_row),
-      (λ i. (here i && is_met joining (left.values ++ right.values)) || (not_there i && is_met joining (right.values ++ left.values))) ∙ or_false (is_met joining (left.values ++ right.values)) ∙ sym met,
+      ap (λ b. pair_by query joining b left right) (sym faces.is_left_row),
+      (λ i. (here i && is_met joining (left.values ++ right.values)) || (not_there i && is_met joining (right.values ++ left.values))) ∙ or_false (is_met joining (left.values ++ right.values)) ∙ sym is,
     )
 
-from_right : (query : Bound) (joining : Joining) (left right : FedRow) → Faces joining left right → right.key ≡ left.key → (judged : Judged) → is_near joining.bound left.time right.time ≡ true
-    → judged.met ≡ is_met joining (left.values ++ right.values) → shown_by judged.shown ≡ judged_row query joining (left.values ++ right.values)
-    → (are_candidates joining right left ≡ true) × (record { key = right.key; row = shown_by judged.shown } ≡ considered_of query joining (right, left)) × (is_partner joining right left ≡ judged.met)
-from_right query joining left right faces equal judged near met shown =
+from_right : (query : Bound) (joining : Joining) (left right : FedRow) → Faces joining left right → right.key ≡ left.key → (met : Bool) → is_near joining.bound left.time right.time ≡ true
+    → met ≡ is_met joining (left.values ++ right.values)
+    → (are_candidates joining right left ≡ true) × (record { key = right.key; row = judged_row query joining (left.values ++ right.values) } ≡ considered_of query joining (right, left)) × (is_partner joining right left ≡ met)
+from_right query joining left right faces equal met near is =
     let there : is_candidate joining left right ≡ true = one_way joining left right faces ∙ near in
     let not_here : is_candidate joining right left ≡ false = other_way joining left right faces in
-    let own : record { key = right.key; row = shown_by judged.shown } ≡ pair_by query joining false right left = λ i. record { key = equal i; row = shown i } in (
+    let own : record { key = right.key; row = judged_row query joining (left.values ++ right.values) } ≡ pair_by query joining false right left =
+    λ i. record { key = equal i; row = judged_row query joining (left.values ++ right.values) } in (
       (λ i. not_here i || there i),
       own ∙ ap (λ b. pair_by query joining b right left) (sym faces.is_right_row),
-      (λ i. (not_here i && is_met joining (right.values ++ left.values)) || (there i && is_met joining (left.values ++ right.values))) ∙ sym met,
+      (λ i. (not_here i && is_met joining (right.values ++ left.values)) || (there i && is_met joining (left.values ++ right.values))) ∙ sym is,
     )
 
 -- ---- a new row, and one of the other side that is kept
@@ -112,7 +107,7 @@ module _ (query : Bound) (joining : Joining) (row other : FedRow) (was : Bool) (
     rest_of (x ∷ xs) = xs
 
   -- it is no candidate where the two do not meet the bound
-  pub none_judged : (left : Bool) → left ≡ is_left other.stream → JudgedAs query joining row left other.values None → are_candidates joining row other ≡ false
+  pub none_judged : (left : Bool) → left ≡ is_left other.stream → are_near joining row left other.values ≡ false → are_candidates joining row other ≡ false
   none_judged true left far =
       let faces = faces_from_right (sym left) in
       λ i. other_way joining other row faces i || (one_way joining other row faces ∙ ap (λ t. is_near joining.bound t row.time) (time_on_left (sym left)) ∙ far) i
@@ -120,32 +115,22 @@ module _ (query : Bound) (joining : Joining) (row other : FedRow) (was : Bool) (
       let faces = faces_from_left (sym right) in
       λ i. (one_way joining row other faces ∙ ap (is_near joining.bound row.time) (time_on_right (sym right)) ∙ far) i || other_way joining row other faces i
 
-  judged_pair : (left : Bool) → left ≡ is_left other.stream → (judged : Judged) → JudgedAs query joining row left other.values (Some judged)
-      → (are_candidates joining row other ≡ true) × (record { key = row.key; row = shown_by judged.shown } ≡ considered_of query joining (row, other)) × (is_partner joining row other ≡ judged.met)
-  judged_pair true left judged is_so =
-      from_right query joining other row (faces_from_right (sym left)) is.same judged (ap (λ t. is_near joining.bound t row.time) (time_on_left (sym left)) ∙ is_so.0) is_so.1.0 is_so.1.1
-  judged_pair false right judged is_so =
-      from_left query joining row other (faces_from_left (sym right)) judged (ap (is_near joining.bound row.time) (time_on_right (sym right)) ∙ is_so.0) is_so.1.0 is_so.1.1
+  judged_pair : (left : Bool) → left ≡ is_left other.stream → are_near joining row left other.values ≡ true → (met : Bool) → met ≡ is_met joining (joined left row.values other.values)
+      → (are_candidates joining row other ≡ true) × (record { key = row.key; row = judged_row query joining (joined left row.values other.values) } ≡ considered_of query joining (row, other)) × (is_partner joining row other ≡ met)
+  judged_pair true left near met is_so = from_right query joining other row (faces_from_right (sym left)) is.same met (ap (λ t. is_near joining.bound t row.time) (time_on_left (sym left)) ∙ near) is_so
+  judged_pair false right near met is_so = from_left query joining row other (faces_from_left (sym right)) met (ap (is_near joining.bound row.time) (time_on_right (sym right)) ∙ near) is_so
 
   pub none_met : (pairs : List Pair) (found : Shown) (met : List (List ℕ)) → are_candidates joining row other ≡ false → Meets query joining pairs found met → Meets query joining (with_candidate joining row other pairs) found met
   none_met pairs found met far meets = subst (λ b. Meets query joining (if b then (row, other) ∷ pairs else pairs) found met) (sym far) meets
 
-  pub one_met : (left : Bool) → left ≡ is_left other.stream → (judged : Judged) → JudgedAs query joining row left other.values (Some judged) → (pairs : List Pair) (found now : Shown) (before after : List (List ℕ))
-      → ((all : List Considered) → Tells found all → Tells now (record { key = row.key; row = shown_by judged.shown } ∷ all))
-      → ((bytes : List ℕ) → among after bytes ≡ (if judged.met then (is_at (by_bytes bytes) (row_key row) || (is_at (by_bytes bytes) key || among before bytes)) else among before bytes))
+  pub one_met : (left : Bool) → left ≡ is_left other.stream → are_near joining row left other.values ≡ true → (met : Bool) → met ≡ is_met joining (joined left row.values other.values)
+      → (pairs : List Pair) (found now : Shown) (before after : List (List ℕ))
+      → ((all : List Considered) → Tells found all → Tells now (record { key = row.key; row = judged_row query joining (joined left row.values other.values) } ∷ all))
+      → ((bytes : List ℕ) → among after bytes ≡ (if met then (is_at (by_bytes bytes) (row_key row) || (is_at (by_bytes bytes) key || among before bytes)) else among before bytes))
       → Meets query joining pairs found before → Meets query joining (with_candidate joining row other pairs) now after
-  one_met left on judged is_so pairs found now before after told knows meets =
-      let all = judged_pair left on judged is_so in
+  one_met left on near met is_so pairs found now before after told knows meets =
+      let all = judged_pair left on near met is_so in
       subst (λ b. Meets query joining (if b then (row, other) ∷ pairs else pairs) now after) (sym all.0)
-      (meets_more query joining row other pairs found now before after (shown_by judged.shown) judged.met told all.1 all.2
-      (subst (λ (k : List ℕ). (bytes : List ℕ) → among after bytes ≡ (if judged.met then (is_at (by_bytes bytes) (row_key row) || (is_at (by_bytes bytes) k || among before bytes)) else among before bytes)) is.at knows)
+      (meets_more query joining row other pairs found now before after (judged_row query joining (joined left row.values other.values)) met told all.1 all.2
+      (subst (λ (k : List ℕ). (bytes : List ℕ) → among after bytes ≡ (if met then (is_at (by_bytes bytes) (row_key row) || (is_at (by_bytes bytes) k || among before bytes)) else among before bytes)) is.at knows)
       meets)
-
--- ---- what came
-
-pub some_has : {X : Type 0} (P : X → Type 0) (o : Option X) (x : X) → o ≡ Some x → IsSomeAnd o P → P x
-some_has P o x is has = subst (λ o. IsSomeAnd o P) is has
-
-pub of_none : {X : Type 0} (P : Option X → Type 0) (o : Option X) → ((x : X) → o ≡ Some x → ⊥) → P o → P None
-of_none P None none has = has
-of_none P (Some x) none has = absurd (none x refl)

@@ -13,6 +13,7 @@ use Rattle.ssq_meaning.specs.FedRows.{FedRow}
 use Rattle.ssq_meaning.specs.Join.{row_key, row_value}
 use Rattle.ssq_meaning.specs.JoinLaws.{AreApart, IsReordered}
 use Rattle.ssq_meaning.proofs.Reordered.{permutes}
+use Rattle.ssq_step.proofs.Lists.{front_all}
 use Rattle.ssq_join.specs.Changing.{find_row}
 use Rattle.ssq_join.specs.Meeting.{AreKept}
 use Rattle.ssq_join.specs.Overs.{IsHeld}
@@ -21,13 +22,13 @@ use Rattle.ssq_join.proofs.Finding.{value_found}
 
 -- ---- parts of a list
 
-pub front_all : {X : Type 0} (P : X → Type 0) (xs ys : List X) → AllByRecursion P (xs ++ ys) → AllByRecursion P xs
-front_all P [] ys all = tt
-front_all P (x ∷ xs) ys all = (all.0, front_all P xs ys all.1)
+pub front_apart : (xs ys : List FedRow) → AreApart (xs ++ ys) → AreApart xs
+front_apart [] ys apart = tt
+front_apart (x ∷ xs) ys apart = (front_all (λ (own : FedRow). is_at (by_bytes (row_key x)) (row_key own) ≡ false) xs ys apart.0, front_apart xs ys apart.1)
 
-pub back_all : {X : Type 0} (P : X → Type 0) (xs ys : List X) → AllByRecursion P (xs ++ ys) → AllByRecursion P ys
-back_all P [] ys all = all
-back_all P (x ∷ xs) ys all = back_all P xs ys all.1
+pub back_apart : (xs ys : List FedRow) → AreApart (xs ++ ys) → AreApart ys
+back_apart [] ys apart = apart
+back_apart (x ∷ xs) ys apart = back_apart xs ys apart.1
 
 -- some of the first rows go
 filtered_all : (P : FedRow → Type 0) (p : FedRow → Bool) (xs ys : List FedRow) → AllByRecursion P (xs ++ ys) → AllByRecursion P (filter p xs ++ ys)
@@ -51,7 +52,7 @@ filtered_apart p (x ∷ xs) ys apart = by (p x) (filtered_apart p xs ys apart.1)
 pub reordered_all : {X : Type 0} (P : X → Type 0) (xs ys : List X) → IsReordered xs ys → AllByRecursion P xs → AllByRecursion P ys
 reordered_all P xs ys same all = recursion_from_All P ys (All-permutation P xs ys (permutes xs ys same) (All-from_recursion P xs all))
 
-all_between : {X : Type 0} (P : X → Type 0) (front back : List X) (x : X) → P x → AllByRecursion P (front ++ back) → AllByRecursion P (front ++ x ∷ back)
+pub all_between : {X : Type 0} (P : X → Type 0) (front back : List X) (x : X) → P x → AllByRecursion P (front ++ back) → AllByRecursion P (front ++ x ∷ back)
 all_between P [] back x own all = (own, all)
 all_between P (y ∷ front) back x own all = (all.0, all_between P front back x own all.1)
 

@@ -15,7 +15,8 @@ use Rattle.ssq_meaning.specs.Join.{is_left, is_near, row_key, side_byte}
 use Rattle.ssq_meaning.specs.JoinLaws.{are_candidates}
 use Rattle.ssq_meaning.specs.Meaning.{Values}
 use Rattle.ssq_meaning.proofs.Coding.{AreApart as KeysAreApart}
-use Rattle.ssq_meaning.proofs.Keys.{same_is, same_itself}
+use Rattle.ssq_meaning.proofs.Keys.{same_back, same_is, same_itself}
+use Rattle.ssq_meaning.proofs.Pairing.{or_false}
 
 -- ---- beginnings
 
@@ -63,19 +64,10 @@ module _ (apart : KeysAreApart) (count : ℕ) where
       → are_candidates joining row other
       ≡ (begins_with (side_byte (not (is_left row.stream)) ∷ keys_of row.key) (row_key other) && near_by joining (is_left row.stream) row other)
   candidates_begin joining row other one two none =
-      by (is_left row.stream) (is_left other.stream) (is_same row.key other.key) (is_same other.key row.key) (list_any is_null other.key) same_flipped null_flipped
+      by (is_left row.stream) (is_left other.stream) (is_same row.key other.key) (is_same other.key row.key) (list_any is_null other.key) (same_back other.key row.key) null_flipped
       ∙ ap (λ b. ((side_byte (not (is_left row.stream)) == side_byte (is_left other.stream)) && b) && near_by joining (is_left row.stream) row other)
       (sym (key_begins row.key other.key (to_be_bytes w32 other.epoch ++ (to_be_bytes w32 other.part ++ to_be_bytes w64 other.offset)) one two))
     where
-      same_flipped : is_same other.key row.key ≡ is_same row.key other.key
-      same_flipped = both (is_same other.key row.key) (is_same row.key other.key) refl refl
-        where
-          both : (a b : Bool) → is_same other.key row.key ≡ a → is_same row.key other.key ≡ b → is_same other.key row.key ≡ is_same row.key other.key
-          both true true x y = x ∙ sym y
-          both false false x y = x ∙ sym y
-          both true false x y = let no : true ≡ false = sym (same_itself row.key) ∙ ap (is_same row.key) (sym (same_is other.key row.key x)) ∙ y in absurd cc
-          both false true x y = let no : true ≡ false = sym (same_itself other.key) ∙ ap (is_same other.key) (sym (same_is row.key other.key y)) ∙ x in absurd cc
-
       null_flipped : is_same row.key other.key ≡ true → list_any is_null other.key ≡ false
       null_flipped same = ap (list_any is_null) (sym (same_is row.key other.key same)) ∙ none
 
@@ -85,10 +77,6 @@ module _ (apart : KeysAreApart) (count : ℕ) where
       by true true s t n flipped nulls = refl
       by false false s t n flipped nulls = refl
       by true false true t n flipped nulls = ap (λ b. (not b && is_near joining.bound row.time other.time) || false) none ∙ or_false (is_near joining.bound row.time other.time)
-        where
-          or_false : (b : Bool) → (b || false) ≡ b
-          or_false true = refl
-          or_false false = refl
       by true false false t n flipped nulls = refl
       by false true true t n flipped nulls = (λ i. (flipped i && not (nulls refl i)) && is_near joining.bound other.time row.time)
       by false true false t n flipped nulls = ap (λ b. (b && not n) && is_near joining.bound other.time row.time) flipped

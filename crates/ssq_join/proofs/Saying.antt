@@ -125,7 +125,7 @@ module _ (old : State) (met : List (List ℕ)) (before : Change) where
 
 -- ---- all of it
 
-or_none : {A : Type 0} (o : Option A) → or_else o None ≡ o
+pub or_none : {A : Type 0} (o : Option A) → or_else o None ≡ o
 or_none None = refl
 or_none (Some x) = refl
 

@@ -3,7 +3,7 @@ use Rattle.std.proofs.Common.{◌≡◌, ◌<◌, ◌+◌, ◌++◌, ℕ, [], �
 use Rattle.std.specs.Prelude.{cond, if◌then◌else◌, option_map}
 use Rattle.std.specs.BTreeMap.{insert_entry, is_at}
 use Rattle.std.specs.List.{AllByRecursion}
-use Rattle.std.proofs.lemmas.List.{take-append-drop, take_more}
+use Rattle.std.proofs.lemmas.List.{take-append-drop}
 use Rattle.std.proofs.lemmas.List.Elements.{All-get_or}
 use Rattle.std.proofs.lemmas.List.Sorted.{IsPermutation-refl}
 use Rattle.ssq_version.specs.State.{State, by_bytes, value_at}
@@ -15,6 +15,7 @@ use Rattle.ssq_meaning.specs.Feeding.{or_else}
 use Rattle.ssq_meaning.specs.Join.{row_key, row_value}
 use Rattle.ssq_meaning.specs.JoinLaws.{AreApart}
 use Rattle.ssq_step.specs.declared.shown.Shown.{Shown}
+use Rattle.ssq_step.proofs.Lists.{one_more}
 use Rattle.ssq_join.specs.declared.taking.Taken.{Taken}
 use Rattle.ssq_join.specs.Changing.{find_row}
 use Rattle.ssq_join.specs.Meeting.{AreKept, entry_with}
@@ -22,6 +23,8 @@ use Rattle.ssq_join.specs.Steps.{IsKept}
 use Rattle.ssq_join.specs.Telling.{among}
 use Rattle.ssq_join.specs.Turning.{AreFresh, AreSameRows, AreTaken, MeetsEarlier, unmet}
 use Rattle.ssq_join.proofs.Finding.{found_append, value_found}
+use Rattle.ssq_join.proofs.Placed.{all_between, back_apart, front_apart}
+use Rattle.ssq_join.proofs.Saying.{or_none}
 use Rattle.ssq_join.proofs.Telling.{none_told}
 use Rattle.ssq_join.proofs.Turning.{put_row, same_more, turns_more}
 
@@ -38,19 +41,6 @@ none_fresh query joining fresh is = record {
 
 -- ---- its bytes are new
 
-pub apart_behind : (xs ys : List FedRow) → AreApart (xs ++ ys) → AreApart ys
-apart_behind [] ys apart = apart
-apart_behind (x ∷ xs) ys apart = apart_behind xs ys apart.1
-
-pub apart_in_front : (xs ys : List FedRow) → AreApart (xs ++ ys) → AreApart xs
-apart_in_front [] ys apart = tt
-apart_in_front (x ∷ xs) ys apart = (each_in_front xs ys apart.0, apart_in_front xs ys apart.1)
-  where
-    each_in_front : (xs ys : List FedRow) → AllByRecursion (λ (other : FedRow). is_at (by_bytes (row_key x)) (row_key other) ≡ false) (xs ++ ys)
-        → AllByRecursion (λ (other : FedRow). is_at (by_bytes (row_key x)) (row_key other) ≡ false) xs
-    each_in_front [] ys each = tt
-    each_in_front (y ∷ xs) ys each = (each.0, each_in_front xs ys each.1)
-
 each_at : (P : FedRow → Type 0) (xs : List FedRow) (row : FedRow) (ys : List FedRow) → AllByRecursion P (xs ++ row ∷ ys) → P row
 each_at P [] row ys each = each.0
 each_at P (x ∷ xs) row ys each = each_at P xs row ys each.1
@@ -63,17 +53,9 @@ new_bytes (x ∷ xs) row apart =
 
 -- ---- it stands before those behind it
 
-each_between : (P : FedRow → Type 0) (front back : List FedRow) (row : FedRow) → P row → AllByRecursion P (front ++ back) → AllByRecursion P (front ++ row ∷ back)
-each_between P [] back row own each = (own, each)
-each_between P (x ∷ front) back row own each = (each.0, each_between P front back row own each.1)
-
 nothing_mapped : (o : Option FedRow) → option_map (row_value false) o ≡ None → o ≡ None
 nothing_mapped None is = refl
 nothing_mapped (Some row) is = absurd cc
-
-or_nothing : (o : Option FedRow) → or_else o None ≡ o
-or_nothing None = refl
-or_nothing (Some row) = refl
 
 module _ (query : Bound) (joining : Joining) (row : FedRow) (own : IsKept query joining row) (rows : List FedRow) (new : find_row (row_key row) rows ≡ None) (fresh after : State) (key value : List ℕ)
     (key_is : key ≡ row_key row) (value_is : value ≡ row_value false row) (was : AreFresh query joining rows fresh) where
@@ -91,7 +73,7 @@ module _ (query : Bound) (joining : Joining) (row : FedRow) (own : IsKept query 
         same_more row placed.0 placed.1 rows (subst (λ (l : List FedRow). AreSameRows l rows) placed.3 was.listed.1),
         record {
           listed = entries ∙ placed.2;
-          each = each_between (IsKept query joining) placed.0 placed.1 row own (subst (AllByRecursion (IsKept query joining)) placed.3 was.listed.2.each);
+          each = all_between (IsKept query joining) placed.0 placed.1 row own (subst (AllByRecursion (IsKept query joining)) placed.3 was.listed.2.each);
         },
       )
 
@@ -108,7 +90,7 @@ module _ (query : Bound) (joining : Joining) (row : FedRow) (own : IsKept query 
       ∙ ap (λ b. option_map (row_value false) (if b then Some row else None)) (ap (λ k. is_at (by_bytes k) (row_key row)) (sym same) ∙ is_itself (row_key row))))
       (λ there.
       ap (λ b. cond b (Some (row_value false row)) (option_map (row_value false) (find_row bytes rows))) there
-      ∙ sym (ap (λ b. option_map (row_value false) (or_else (find_row bytes rows) (if b then Some row else None))) (other_way (row_key row) bytes there) ∙ ap (option_map (row_value false)) (or_nothing (find_row bytes rows))))
+      ∙ sym (ap (λ b. option_map (row_value false) (or_else (find_row bytes rows) (if b then Some row else None))) (other_way (row_key row) bytes there) ∙ ap (option_map (row_value false)) (or_none (find_row bytes rows))))
       ∙ sym (ap (option_map (row_value false)) (found_append bytes rows (row ∷ [])))
 
   pub fresh_more : after ≡ insert_entry by_bytes fresh key value → ((bytes : List ℕ) → value_at after bytes ≡ cond (is_at (by_bytes key) bytes) (Some value) (value_at fresh bytes)) → AreFresh query joining (rows ++ row ∷ []) after
@@ -137,9 +119,9 @@ pub takes_more : (query : Bound) (joining : Joining) (state : State) (rows : Lis
     → AreFresh query joining done before.fresh.entries → AreTurned query joining held (done ++ row ∷ []) after)
     → TakesTo query joining state rows at before → TakesTo query joining state rows (at + 1) after
 takes_more query joining state rows at row inside is before after next was = λ held was_met kept each apart.
-    let took : take (at + 1) rows ≡ take at rows ++ row ∷ [] = take_more rows at row inside ∙ ap (λ r. take at rows ++ r ∷ []) (sym is) in
+    let took : take (at + 1) rows ≡ take at rows ++ row ∷ [] = one_more rows at row inside is in
     let own : IsKept query joining row = subst (IsKept query joining) (sym is) (All-get_or (IsKept query joining) rows at row inside each) in
-    let front : AreApart (take (at + 1) rows) = apart_in_front (take (at + 1) rows) (drop (at + 1) rows) (subst AreApart (sym (take-append-drop (at + 1) rows)) (apart_behind held rows apart)) in
+    let front : AreApart (take (at + 1) rows) = front_apart (take (at + 1) rows) (drop (at + 1) rows) (subst AreApart (sym (take-append-drop (at + 1) rows)) (back_apart held rows apart)) in
     let so_far = was held was_met kept each apart in
     subst (λ (done : List FedRow). AreTurned query joining held done after) (sym took)
     (next held (take at rows) was_met kept own (new_bytes (take at rows) row (subst AreApart took front)) so_far.0 so_far.1)

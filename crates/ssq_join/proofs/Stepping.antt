@@ -25,6 +25,7 @@ use Rattle.ssq_step.specs.declared.shown.Shown.{Shown}
 use Rattle.ssq_step.specs.Indexing.{IsIndexBy, Timed, stands}
 use Rattle.ssq_step.specs.Rows.{IndexesRows, StandsAt}
 use Rattle.ssq_step.proofs.ByBytes.{any_by}
+use Rattle.ssq_step.proofs.Lists.{back_all, front_all}
 use Rattle.ssq_join.specs.Changing.{SaysBytes, SaysRows, find_row}
 use Rattle.ssq_join.specs.Meeting.{AreKept}
 use Rattle.ssq_join.specs.Overs.{AreOver, IsHeld, TellsAlone, alones, is_shown_alone}
@@ -35,8 +36,8 @@ use Rattle.ssq_join.proofs.After as After
 use Rattle.ssq_join.proofs.Dueing.{due_rows}
 use Rattle.ssq_join.proofs.Ends.{over_at_is}
 use Rattle.ssq_join.proofs.Finding.{found_key, found_reordered, value_found}
-use Rattle.ssq_join.proofs.MetRows.{any_turned, front_apart, held_met, new_met, none_elsewhere, others_elsewhere}
-use Rattle.ssq_join.proofs.Placed.{back_all, filtered_apart, found_has, front_all, held_each, reordered_all, reordered_apart}
+use Rattle.ssq_join.proofs.MetRows.{any_turned, held_met, new_met, none_elsewhere, others_elsewhere}
+use Rattle.ssq_join.proofs.Placed.{filtered_apart, found_has, front_apart, held_each, reordered_all, reordered_apart}
 use Rattle.ssq_join.proofs.Saying.{over_at, says_rows}
 use Rattle.ssq_join.proofs.Turning.{turns_are}
 

@@ -1,5 +1,5 @@
 -- A new row, and those before it that may be its partners.
-use Rattle.std.specs.Prelude.{◌≡◌, ◌++◌, ◌∷◌, ℕ, Bool, true, false, not, if◌then◌else◌, List, map, Option, Some, None}
+use Rattle.std.specs.Prelude.{◌≡◌, ◌++◌, ◌∷◌, ℕ, Bool, true, false, not, if◌then◌else◌, List, map}
 use Rattle.std.specs.List.{AllByRecursion, list_any}
 use Rattle.std.specs.List.Sorted.{IsPermutation}
 use Rattle.ssq_version.specs.State.{State, front_with}
@@ -11,8 +11,6 @@ use Rattle.ssq_meaning.specs.Join.{is_left, is_near, join_time, row_key, row_val
 use Rattle.ssq_meaning.specs.JoinLaws.{are_candidates}
 use Rattle.ssq_meaning.specs.Meaning.{Values}
 use Rattle.ssq_step.specs.declared.shown.Shown.{Shown}
-use Rattle.ssq_join.specs.declared.judge.Judged.{Judged}
-use Rattle.ssq_join.specs.Judging.{IsPrintable, is_met, judged_row, shown_by}
 use Rattle.ssq_join.specs.Steps.{IsKept}
 use Rattle.ssq_join.specs.Telling.{Meets, Pair, candidates_of}
 
@@ -27,15 +25,6 @@ are_near joining row false values = is_near joining.bound row.time (join_time jo
 abbrev pub joined : (left : Bool) → (own other : Values) → Values
 joined true own other = other ++ own
 joined false own other = own ++ other
-
--- what a joined row comes to
-abbrev pub IsJudged : Bound → Joining → Values → Judged → Type 0
-IsJudged query joining row judged = (judged.met ≡ is_met joining row) × (shown_by judged.shown ≡ judged_row query joining row) × IsPrintable judged.shown
-
--- what a row and the values of one of the side that is said come to: nothing where they do not meet the bound
-abbrev pub JudgedAs : Bound → Joining → FedRow → (left : Bool) → Values → Option Judged → Type 0
-JudgedAs query joining row left values None = are_near joining row left values ≡ false
-JudgedAs query joining row left values (Some judged) = (are_near joining row left values ≡ true) × IsJudged query joining (joined left row.values values) judged
 
 -- ---- rows that are kept
 

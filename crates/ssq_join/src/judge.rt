@@ -1,35 +1,20 @@
 //! What is evaluated on joined rows.
 
-ghost use Rattle.std.specs.Prelude.{◌≡◌, All, IfOk, IfSome};
-ghost use Rattle.ssq_time.specs.Time.{IsStampTime};
-ghost use Rattle.ssq_value.specs.Kind.{IfTime};
-ghost use Rattle.ssq_shape.specs.Evaluation.{both, truth_in, truth_value};
-ghost use Rattle.ssq_expr.specs.Answers.{Answers};
+ghost use Rattle.std.specs.Prelude.{◌≡◌, ◌∷◌, List, All, IfOk, OnOk};
+ghost use Rattle.ssq_shape.specs.Evaluation.{truth_in};
+ghost use Rattle.ssq_shape.specs.Plain.{shown};
+ghost use Rattle.ssq_expr.specs.Answers.{Answers, itself};
 ghost use Rattle.ssq_meaning.specs.Fit.{IsFit};
-ghost use Rattle.ssq_meaning.specs.Join.{all_of};
-ghost use Rattle.ssq_join.specs.Judging.{IsPrintable, is_met, is_shown, judged_row, shown_by};
+ghost use Rattle.ssq_meaning.specs.Join.{Considered as Told};
+ghost use Rattle.ssq_step.specs.Shown.{ArePrintable};
+ghost use Rattle.ssq_join.specs.Judging.{are_true, is_met, judged_row};
+ghost use Rattle.ssq_join.specs.Telling.{Tells};
 
 use ssq_expr::{EvalFault, eval, show};
 use ssq_shape::{Bound, Joining, Typed};
-use ssq_value::{Row, Value};
+use ssq_step::Shown;
+use ssq_value::Value;
 use std::alloc::{AllocError, Global};
-
-/// What is shown of a joined row.
-#[derive(Drop)]
-pub(crate) enum ShownRow {
-    Row(Row),
-    Nothing,
-    /// A result is outside of its type's range.
-    Overflow,
-}
-
-/// What a candidate comes to.
-#[derive(Drop)]
-pub(crate) struct Judged {
-    /// Whether ON is TRUE.
-    pub(crate) met: bool,
-    pub(crate) shown: ShownRow,
-}
 
 fn truth_in(value: &Value) -> Option<bool>
     ensures { result ≡ truth_in value.now }
@@ -40,71 +25,73 @@ fn truth_in(value: &Value) -> Option<bool>
     }
 }
 
-fn both(left: Option<bool>, right: Option<bool>) -> Option<bool>
-    ensures { result ≡ both left right }
-{
-    match (left, right) {
-        (Some(true), right) => right,
-        (Some(false), _) | (None, Some(false)) => Some(false),
-        (None, _) => None,
-    }
-}
-
-/// Whether all of some conditions hold, evaluated from the left; none is evaluated behind a FALSE.
+/// Whether all of some conditions are TRUE, evaluated from the left; none is evaluated behind a FALSE.
 #[tactic(auto, unfolding(ssq_meaning::specs::Join::all_of))]
-fn all_of(alloc: Global, conditions: &[Typed], row: &[Value]) -> Result<Option<bool>, EvalFault>
-    ensures { Answers truth_value result (all_of conditions.now row.now) }
+fn are_true(alloc: Global, conditions: &[Typed], row: &[Value]) -> Result<bool, EvalFault>
+    ensures { Answers itself result (are_true conditions.now row.now) }
 {
     let Some((condition, conditions)) = conditions.split_first() else {
-        return Ok(Some(true));
+        return Ok(true);
     };
     let first = truth_in(&eval(alloc, condition, row)?);
-    if first == Some(false) {
-        return Ok(Some(false));
+    match first {
+        Some(true) => are_true(alloc, conditions, row),
+        Some(false) => Ok(false),
+        None => {
+            // What overflows behind a NULL is told.
+            are_true(alloc, conditions, row)?;
+            Ok(false)
+        }
     }
-    let rest = all_of(alloc, conditions, row)?;
-    Ok(both(first, rest))
 }
 
-/// What is shown of a joined row: WHERE, and where it is TRUE the items of SELECT.
-pub(crate) fn show_row(alloc: Global, bound: &Bound, row: &[Value]) -> Result<ShownRow, AllocError>
-    requires { All IsFit row.now }
-    ensures shown { IfOk result (λ shown. shown_by shown ≡ is_shown bound.now row.now) }
-    ensures printable { IfOk result IsPrintable }
+/// Takes in what is shown of a joined row, for a key: WHERE is evaluated, and where it is TRUE the items of SELECT.
+pub(crate) fn show_row(
+    alloc: Global,
+    bound: &Bound,
+    key: &[Value],
+    row: &[Value],
+    found: &mut Shown,
+) -> Result<(), AllocError>
+    requires fit { All IsFit row.now }
+    requires printable { ArePrintable found.old.rows.items }
+    ensures told { (all : List Told) → Tells found.old all → OnOk result (Tells found.new (record { key = key.now; row = shown bound.now row.now } ∷ all)) }
+    ensures printable { OnOk result (ArePrintable found.new.rows.items) }
 {
     match show(alloc, bound, row) {
-        Ok(Some(row)) => Ok(ShownRow::Row(row)),
-        Ok(None) => Ok(ShownRow::Nothing),
-        Err(EvalFault::Overflow) => Ok(ShownRow::Overflow),
+        Ok(Some(shown)) => found.add_row(shown),
+        Ok(None) => Ok(()),
+        Err(EvalFault::Overflow) => found.add_fault(alloc, key),
         Err(EvalFault::NoMemory) => Err(AllocError),
     }
 }
 
-/// What a candidate comes to, by its joined row: the rest of ON, where it is TRUE WHERE, and where that is TRUE the items of SELECT.
+/// Takes in what a candidate comes to, for a key, by its joined row: the rest of ON is evaluated, where it is TRUE WHERE, and where that is TRUE
+/// the items of SELECT. Tells whether ON is TRUE.
 pub(crate) fn judge(
     alloc: Global,
     bound: &Bound,
     joining: &Joining,
+    key: &[Value],
     row: &[Value],
-) -> Result<Judged, AllocError>
-    requires { All IsFit row.now }
-    ensures met { IfOk result (λ judged. judged.met ≡ is_met joining.now row.now) }
-    ensures shown { IfOk result (λ judged. shown_by judged.shown ≡ judged_row bound.now joining.now row.now) }
-    ensures printable { IfOk result (λ judged. IsPrintable judged.shown) }
+    found: &mut Shown,
+) -> Result<bool, AllocError>
+    requires fit { All IsFit row.now }
+    requires printable { ArePrintable found.old.rows.items }
+    ensures met { IfOk result (λ met. met ≡ is_met joining.now row.now) }
+    ensures told { (all : List Told) → Tells found.old all → OnOk result (Tells found.new (record { key = key.now; row = judged_row bound.now joining.now row.now } ∷ all)) }
+    ensures printable { OnOk result (ArePrintable found.new.rows.items) }
 {
-    match all_of(alloc, joining.rest.as_slice(), row) {
-        Ok(Some(true)) => Ok(Judged {
-            met: true,
-            shown: show_row(alloc, bound, row)?,
-        }),
-        Ok(_) => Ok(Judged {
-            met: false,
-            shown: ShownRow::Nothing,
-        }),
-        Err(EvalFault::Overflow) => Ok(Judged {
-            met: false,
-            shown: ShownRow::Overflow,
-        }),
+    match are_true(alloc, joining.rest.as_slice(), row) {
+        Ok(true) => {
+            show_row(alloc, bound, key, row, found)?;
+            Ok(true)
+        }
+        Ok(false) => Ok(false),
+        Err(EvalFault::Overflow) => {
+            found.add_fault(alloc, key)?;
+            Ok(false)
+        }
         Err(EvalFault::NoMemory) => Err(AllocError),
     }
 }

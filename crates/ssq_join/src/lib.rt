@@ -4,7 +4,6 @@
 mod bytes;
 mod changed;
 mod epoch;
-mod found;
 mod judge;
 mod meet;
 mod near;

@@ -7,11 +7,10 @@ ghost use Rattle.ssq_meaning.specs.FedRows.{FedRow as Fed};
 ghost use Rattle.ssq_meaning.specs.Fit.{IsFit, IsFitRow};
 ghost use Rattle.ssq_meaning.specs.Join.{row_key};
 ghost use Rattle.ssq_step.specs.Shown.{ArePrintable};
-ghost use Rattle.ssq_join.specs.Meeting.{IsOther, JudgedAs, MeetsFront, are_near, joined, with_candidate};
+ghost use Rattle.ssq_join.specs.Meeting.{IsOther, MeetsFront, are_near, joined, with_candidate};
 ghost use Rattle.ssq_join.specs.Telling.{Meets, Pair, among};
 
-use crate::found::take_shown;
-use crate::judge::{Judged, judge};
+use crate::judge::judge;
 use crate::near::is_near;
 use ssq_field::Bytes;
 use ssq_meaning::{FedRow, join_time};
@@ -71,26 +70,6 @@ fn joined(alloc: Global, own: &[Value], other: KeptRow) -> Result<Vec<Value>, Al
     }
 }
 
-/// What a new row and one of the other side come to, if they meet the bound.
-fn judge_pair(
-    alloc: Global,
-    bound: &Bound,
-    joining: &Joining,
-    row: &FedRow,
-    other: KeptRow,
-) -> Result<Option<Judged>, AllocError>
-    requires row { IsFitRow row.now }
-    requires other { All IsFit other.values }
-    ensures { IfOk result (JudgedAs bound.now joining.now row.now other.left other.values) }
-{
-    if !are_near(joining, row, &other) {
-        return Ok(None);
-    }
-    let joined = joined(alloc, row.values(), other)?;
-    let judged = judge(alloc, bound, joining, joined.as_slice())?;
-    Ok(Some(judged))
-}
-
 /// Knows from now on that the rows with these bytes met a partner, where they did.
 fn know(
     met: &mut BTreeSet<Bytes>,
@@ -131,15 +110,18 @@ fn meet_row(
     let Some(other) = read else {
         return Ok(());
     };
-    let judged = judge_pair(alloc, bound, joining, comer.row, other)?;
-    let Some(judged) = judged else {
+    if !are_near(joining, comer.row, &other) {
         return Ok(());
-    };
-    let Judged {
-        met: is_partner,
-        shown,
-    } = judged;
-    take_shown(alloc, found, comer.row.key(), shown)?;
+    }
+    let row = joined(alloc, comer.row.values(), other)?;
+    let is_partner = judge(
+        alloc,
+        bound,
+        joining,
+        comer.row.key(),
+        row.as_slice(),
+        found,
+    )?;
     know(met, is_partner, comer.bytes, key)
 }
 

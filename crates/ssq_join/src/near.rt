@@ -8,20 +8,11 @@ ghost use Rattle.ssq_meaning.specs.Join.{is_near};
 use ssq_shape::TimeBound;
 use ssq_value::Value;
 
-fn is_null(value: &Value) -> bool
-    ensures { result ≡ is_null value.now }
-{
-    match value {
-        Value::Null => true,
-        _ => false,
-    }
-}
-
 /// Whether a join key has a NULL: no row meets it then.
 pub(crate) fn has_null(key: &[Value]) -> bool
     ensures { result ≡ list_any is_null key.now }
 {
-    key.iter().any(|value| is_null(value))
+    key.contains(&Value::Null)
 }
 
 /// Whether one time is at or below another with a shift.

@@ -15,7 +15,6 @@ ghost use Rattle.ssq_join.specs.Telling.{Tells};
 
 use crate::bytes::PLACE;
 use crate::changed::is_flagged;
-use crate::found::take_shown;
 use crate::judge::show_row;
 use ssq_field::Bytes;
 use ssq_keys::read_key;
@@ -106,8 +105,7 @@ fn show_alone(
     ensures printable { OnOk result (ArePrintable found.new.rows.items) }
 {
     let values = joined_alone(alloc, bound, row)?;
-    let shown = show_row(alloc, bound, values.as_slice())?;
-    take_shown(alloc, found, own, shown)
+    show_row(alloc, bound, own, values.as_slice(), found)
 }
 
 /// Takes in a row that met no partner, by what is kept of it.
