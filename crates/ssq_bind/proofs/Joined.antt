@@ -1,5 +1,5 @@
 -- ON, taken apart where it joins by AND.
-use Rattle.std.proofs.Common.{◌≡◌, ◌∙◌, sym, refl, ℕ, true, false, List, [], ◌∷◌, ◌++◌, append_assoc, Option, Some, None, Result, Ok, Err}
+use Rattle.std.proofs.Common.{◌≡◌, ◌∙◌, sym, refl, List, [], ◌∷◌, ◌++◌, append_assoc, Option, Some, None, Result, Ok, Err}
 use Rattle.std.specs.Prelude.{OnOk}
 use Rattle.std.specs.List.{flat_map}
 use Rattle.std.proofs.lemmas.Grind.{flat_map-append}
@@ -10,17 +10,15 @@ use Rattle.ssq_ast.specs.declared.expr.BinaryOp.{BinaryOp}
 use Rattle.ssq_ast.specs.declared.expr.BinaryOp.TheVariants as op
 use Rattle.ssq_ast.specs.declared.expr.Expr.{Expr}
 use Rattle.ssq_ast.specs.declared.expr.Expr.TheVariants as expr
-use Rattle.ssq_ast.specs.declared.expr.Expr.TheViews as view
 use Rattle.ssq_ast.specs.Expression.{only}
 use Rattle.ssq_shape.specs.declared.bound.KeyPair.{KeyPair}
-use Rattle.ssq_ast.proofs.Boxes.{binary_is, between_is}
 use Rattle.ssq_check.specs.declared.scope.Scope.{Scope}
-use Rattle.ssq_check.specs.Joined.{is_and, looked, bare_column}
+use Rattle.ssq_check.specs.Joined.{is_and}
 use Rattle.ssq_bind.specs.declared.context.Context.{Context}
 use Rattle.ssq_bind.specs.declared.join.Parts.{Parts}
-use Rattle.ssq_bind.specs.Joins.{parts_of, pair_of, key_pair, shifted_column, span_of, or_none, bound_by, time_bound, keys_in, bounds_in, rest_by, rest_in, parts_with}
+use Rattle.ssq_bind.specs.Joins.{key_pair, time_bound, keys_in, bounds_in, rest_by, rest_in, parts_with}
 use Rattle.ssq_bind.specs.Lists.{listed}
-use Rattle.ssq_bind.specs.Value.{shift_of, row_value}
+use Rattle.ssq_bind.specs.Value.{row_value}
 
 both : {A B : Type 0} (f : A → List B) (old : List B) (xs ys : List A) → (old ++ flat_map f xs) ++ flat_map f ys ≡ old ++ flat_map f (xs ++ ys)
 both f old xs ys = append_assoc old (flat_map f xs) (flat_map f ys) ∙ (λ i. old ++ sym (flat_map-append f xs ys) i)
@@ -54,46 +52,11 @@ same_and op.Multiply = refl
 same_and op.Divide = refl
 same_and op.Remainder = refl
 
-module _ (own : Expr) where
-  pub parts_binary : (left_at : ℕ) (a a' : Expr) (o : BinaryOp) (at right_at : ℕ) (b b' : Expr) → own ≡ view.Binary left_at a o at right_at b → a' ≡ a → b' ≡ b → is_and o ≡ true → parts_of own ≡ parts_of a' ++ parts_of b'
-  unfolding parts_of
-  parts_binary left_at a a' o at right_at b b' is left right joins = rw (is, left, right, binary_is left_at a o at right_at b, joins) refl
-
-  pub parts_single : (left_at : ℕ) (a : Expr) (o : BinaryOp) (at right_at : ℕ) (b : Expr) → own ≡ view.Binary left_at a o at right_at b → is_and o ≡ false → parts_of own ≡ own ∷ []
-  unfolding parts_of
-  parts_single left_at a o at right_at b is joins = rw (is, binary_is left_at a o at right_at b, joins) refl
-
-  pub pair_binary : (scope : Scope) (left_at : ℕ) (a a' : Expr) (o : BinaryOp) (at right_at : ℕ) (b b' : Expr) → own ≡ view.Binary left_at a o at right_at b → a' ≡ a → b' ≡ b → key_pair scope own ≡ pair_of o (looked scope (bare_column a')) (looked scope (bare_column b'))
-  unfolding key_pair
-  pair_binary scope left_at a a' o at right_at b b' is left right = rw (is, left, right, binary_is left_at a o at right_at b) refl
-
-  pub column_binary : (left_at : ℕ) (a a' : Expr) (o : BinaryOp) (at right_at : ℕ) (b : Expr) → own ≡ view.Binary left_at a o at right_at b → a' ≡ a → shifted_column own ≡ bare_column a'
-  unfolding shifted_column
-  column_binary left_at a a' o at right_at b is left = rw (is, left, binary_is left_at a o at right_at b) refl
-
-  pub span_binary : (left_at : ℕ) (a : Expr) (o : BinaryOp) (at right_at : ℕ) (b b' : Expr) → own ≡ view.Binary left_at a o at right_at b → b' ≡ b → span_of own ≡ or_none (shift_of o b')
-  unfolding span_of
-  span_binary left_at a o at right_at b b' is right = rw (is, right, binary_is left_at a o at right_at b) refl
-
-  pub bound_between : (scope : Scope) (a a' : Expr) (at : ℕ) (b b' c c' : Expr) → own ≡ view.Between a at b c → a' ≡ a → b' ≡ b → c' ≡ c → time_bound scope own ≡ Some (bound_by scope a' b' c')
-  unfolding time_bound
-  bound_between scope a a' at b b' c c' is one two three = rw (is, one, two, three, between_is a at b c) refl
-
 -- what is a key equality is no bound
 pair_is_no_bound : (scope : Scope) (e : Expr) (pair : KeyPair) → key_pair scope e ≡ Some pair → time_bound scope e ≡ None
 unfolding key_pair time_bound
 pair_is_no_bound scope (expr.Between' p (only a) at q (only b) r (only c)) pair is = absurd cc
-pair_is_no_bound scope (expr.Number n at) pair is = refl
-pair_is_no_bound scope (expr.Text text at) pair is = refl
-pair_is_no_bound scope (expr.Truth truth at) pair is = refl
-pair_is_no_bound scope (expr.Timestamp moment at) pair is = refl
-pair_is_no_bound scope (expr.Interval span at) pair is = refl
-pair_is_no_bound scope (expr.Column column) pair is = refl
-pair_is_no_bound scope (expr.CountRows at) pair is = refl
-pair_is_no_bound scope (expr.Aggregate' f at p (only x)) pair is = refl
-pair_is_no_bound scope (expr.Unary' o at p (only x)) pair is = refl
-pair_is_no_bound scope (expr.IsNull' p (only x) at test) pair is = refl
-pair_is_no_bound scope (expr.Binary' left_at p (only a) o at right_at q (only b)) pair is = refl
+pair_is_no_bound scope _ pair is = refl
 
 -- a key equality, behind those in front of it
 pub pair_put : {A E : Type 0} (r : Result A E) (context : Context) (parts : Parts) (keys : List KeyPair) (e : Expr) (found : Option KeyPair) (pair : KeyPair) → found ≡ key_pair context.scope e → found ≡ Some pair →

@@ -37,7 +37,7 @@ use Rattle.ssq_check.specs.Rules.{operands_of, operator_kind, unary_kind, aggreg
 use Rattle.ssq_check.specs.Scope.{bare_spot, named_spot, grouped, column_kind_by, column_kind}
 use Rattle.ssq_bind.specs.declared.context.Context.{Context}
 use Rattle.ssq_bind.specs.Typed.{column_kinds, source_kinds, row_kinds}
-use Rattle.ssq_bind.specs.Value.{width, behind, row_index, column_value, unary_value, null_value, binary_value, between_value, shift_of, shift_by, shifted_or, shifted_value, function_of, numbered, given, count, value_of, aggregates_of, row_value}
+use Rattle.ssq_bind.specs.Value.{width, behind, row_index, column_value, unary_value, null_value, binary_value, between_value, shift_of, shift_by, shifted_or, shifted_value, function_of, numbered, given, count, literal, value_of, aggregates_of, row_value}
 use Rattle.ssq_bind.proofs.Opened.{counted}
 use Rattle.ssq_bind.proofs.Spots.{OfColumns, of_spot}
 
@@ -196,7 +196,7 @@ module _ (scope : Scope) (context : Context) (w : Within) (aggregates kinds : Li
   behind_own n a ys stand = subst (λ (m : ℕ). Stand (n + m) ys) (counted context w a) (have.back n (aggregates_of context w a) ys stand)
 
   pub typed_at : (n : ℕ) (e : Expr) → Stand n (aggregates_of context w e) → Has aggregates kinds (kind scope w e) (value_of context w n e)
-  unfolding kind value_of kind_with aggregates_of
+  unfolding kind literal value_of kind_with aggregates_of
   typed_at n (expr.Number m at) stand = refl
   typed_at n (expr.Text text at) stand = refl
   typed_at n (expr.Truth truth at) stand = refl

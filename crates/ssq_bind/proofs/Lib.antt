@@ -1,4 +1,7 @@
 pub mod Boxed
+pub mod EachPart
+pub mod EachShape
+pub mod EachStream
 pub mod Events
 pub mod Joined
 pub mod Kept

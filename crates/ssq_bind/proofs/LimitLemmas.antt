@@ -1,20 +1,16 @@
 -- Groups, repeats and joins keep their limits.
-use Rattle.std.proofs.Common.{◌≡◌, sym, subst, arith, ℕ, ◌≤◌, Bool, true, false, List, [], ◌∷◌, ◌++◌, map, length, Option, Some, None}
-use Rattle.std.specs.Prelude.{if◌then◌else◌, IfSome}
+use Rattle.std.proofs.Common.{◌≡◌, sym, subst, arith, ℕ, ◌≤◌, List, [], ◌∷◌, ◌++◌, map, length, Option, Some, None}
+use Rattle.std.specs.Prelude.{IfSome}
 use Rattle.std.specs.List.{flat_map}
 use Rattle.std.proofs.lemmas.List.{length-append, length-map}
+use Rattle.ssq_shape.specs.declared.bound.Aggregate.{Aggregate}
 use Rattle.ssq_shape.specs.declared.bound.Bound.{Bound}
-use Rattle.ssq_shape.specs.declared.bound.Grouping.{Grouping}
-use Rattle.ssq_shape.specs.declared.bound.Shape.{Shape}
-use Rattle.ssq_shape.specs.declared.bound.Shape.TheVariants as shape
 use Rattle.ssq_ast.specs.declared.expr.Expr.{Expr}
 use Rattle.ssq_ast.specs.declared.expr.Expr.TheVariants as expr
 use Rattle.ssq_ast.specs.declared.query.Condition.{Condition}
-use Rattle.ssq_ast.specs.declared.query.Deduplicate.{Deduplicate}
 use Rattle.ssq_ast.specs.declared.query.GroupBy.{GroupBy}
 use Rattle.ssq_ast.specs.declared.query.Item.{Item}
 use Rattle.ssq_ast.specs.declared.query.Item.TheVariants as item
-use Rattle.ssq_ast.specs.declared.query.Join.{Join}
 use Rattle.ssq_ast.specs.declared.query.Query.{Query}
 use Rattle.ssq_ast.specs.Expression.{only}
 use Rattle.ssq_check.specs.declared.scope.Scope.{Scope}
@@ -23,15 +19,16 @@ use Rattle.ssq_check.specs.declared.scope.Within.TheVariants as within
 use Rattle.ssq_check.specs.Fault.{AreNone}
 use Rattle.ssq_check.specs.Names.{row_scope}
 use Rattle.ssq_check.specs.Shown as places
-use Rattle.ssq_check.specs.Shown.{is_group, shown_within}
+use Rattle.ssq_check.specs.Shown.{shown_within}
 use Rattle.ssq_check.specs.Sound.{IsSoundJoin, IsSoundDeduplicate, IsSoundGroup, IsSound}
 use Rattle.ssq_check.specs.Whole.{QueryFaults}
 use Rattle.ssq_check.proofs.SoundLemmas.{sound_where_none}
 use Rattle.ssq_bind.specs.declared.context.Context.{Context}
-use Rattle.ssq_bind.specs.Bound.{context_of, select_aggregates, shown_of, grouping_of, kept_by, shape_of, bound_of}
+use Rattle.ssq_bind.specs.Bound.{context_of, select_aggregates, shown_of, bound_of}
 use Rattle.ssq_bind.specs.Limits.{IsLimitedBy, HasLimits, GroupsAreLimited}
 use Rattle.ssq_bind.specs.Shapes.{bare_index, item_aggregates, having_aggregates, group_items, key_of}
-use Rattle.ssq_bind.specs.Value.{aggregates_of}
+use Rattle.ssq_bind.specs.Value.{given, aggregates_of}
+use Rattle.ssq_bind.proofs.EachShape.{shape_has, if_some_at}
 use Rattle.ssq_bind.proofs.OnLemmas.{few_pairs}
 
 -- ---- the keys are the parts of GROUP BY
@@ -45,25 +42,15 @@ few_keys names rows (Some by) sound = subst (λ (n : ℕ). n ≤ 64) (sym (lengt
 both_few : {A B : Type 0} (xs ys : List A) (us vs : List B) → length xs ≤ length us → length ys ≤ length vs → length (xs ++ ys) ≤ length (us ++ vs)
 both_few xs ys us vs first second = omega (arith, first, second, length-append xs ys, length-append us vs)
 
+one_few : (w : Within) (aggregate : Aggregate) (at : ℕ) → length (given w aggregate) ≤ length (at ∷ [])
+one_few within.Row aggregate at = omega arith
+one_few within.Group aggregate at = omega arith
+
 module _ (context : Context) (w : Within) where
   as_few : (e : Expr) → length (aggregates_of context w e) ≤ length (places.aggregates e)
   unfolding aggregates_of places.aggregates
-  as_few (expr.Number n at) = omega arith
-  as_few (expr.Text text at) = omega arith
-  as_few (expr.Truth truth at) = omega arith
-  as_few (expr.Timestamp moment at) = omega arith
-  as_few (expr.Interval span at) = omega arith
-  as_few (expr.Column column) = omega arith
-  as_few (expr.CountRows at) = one_few w
-    where
-      one_few : (w : Within) → length (aggregates_of context w (expr.CountRows at)) ≤ 1
-      one_few within.Row = omega arith
-      one_few within.Group = omega arith
-  as_few (expr.Aggregate' f at p (only x)) = one_few w
-    where
-      one_few : (w : Within) → length (aggregates_of context w (expr.Aggregate' f at p (only x))) ≤ 1
-      one_few within.Row = omega arith
-      one_few within.Group = omega arith
+  as_few (expr.CountRows at) = one_few w _ at
+  as_few (expr.Aggregate' f at p (only x)) = one_few w _ at
   as_few (expr.Unary' o at p (only x)) = as_few x
   as_few (expr.IsNull' p (only x) at test) = as_few x
   as_few (expr.Binary' left_at p (only a) o at right_at q (only b)) =
@@ -71,6 +58,7 @@ module _ (context : Context) (w : Within) where
   as_few (expr.Between' p (only a) at q (only b) r (only c)) =
       both_few (aggregates_of context w a) (aggregates_of context w b ++ aggregates_of context w c) (places.aggregates a) (places.aggregates b ++ places.aggregates c)
       (as_few a) (both_few (aggregates_of context w b) (aggregates_of context w c) (places.aggregates b) (places.aggregates c) (as_few b) (as_few c))
+  as_few _ = omega arith
 
   item_few : (x : Item) → length (item_aggregates context w x) ≤ length (places.item_aggregates x)
   item_few (item.Column column at named_at) = omega arith
@@ -98,22 +86,14 @@ few_aggregates query few =
 
 -- ---- the whole
 
-kept_has : (query : Query) (from : List ℕ) (join : Option Join) (deduplicate : Option Deduplicate) → IfSome join (IsSoundJoin (row_scope query) from) → IfSome deduplicate (IsSoundDeduplicate (row_scope query))
-    → IsLimitedBy (kept_by (context_of query) join deduplicate)
-kept_has query from (Some join) deduplicate joins sound = few_pairs query join.on.at join.on.value joins.few_keys
-kept_has query from None (Some deduplicate) joins sound = subst (λ (n : ℕ). n ≤ 64) (sym (length-map deduplicate.columns (bare_index (context_of query).scope))) sound.few
-kept_has query from None None joins sound = tt
-
-either_has : (b : Bool) (grouping : Grouping) (kept : Shape) → IsLimitedBy (shape.Group grouping) → IsLimitedBy kept → IsLimitedBy (if b then shape.Group grouping else kept)
-either_has true grouping kept grouped else_kept = grouped
-either_has false grouping kept grouped else_kept = else_kept
-
 query_has : (query : Query) → IsSound query → HasLimits (bound_of query)
-unfolding bound_of shape_of
+unfolding bound_of
 query_has query sound =
-    either_has (is_group query) (grouping_of query) (kept_by (context_of query) query.select.join query.select.deduplicate)
-    (record { keys = few_keys (context_of query).scope (row_scope query) query.select.group sound.group; aggregates = few_aggregates query sound.few_aggregates })
-    (kept_has query query.select.from.text query.select.join query.select.deduplicate sound.join sound.deduplicate)
+    shape_has IsLimitedBy query
+    (λ grouped. record { keys = few_keys (context_of query).scope (row_scope query) query.select.group sound.group; aggregates = few_aggregates query sound.few_aggregates })
+    (λ join is. few_pairs query join.on.at join.on.value (if_some_at (IsSoundJoin (row_scope query) query.select.from.text) query.select.join join sound.join is).few_keys)
+    (λ own none is. subst (λ (n : ℕ). n ≤ 64) (sym (length-map own.columns (bare_index (context_of query).scope))) (if_some_at (IsSoundDeduplicate (row_scope query)) query.select.deduplicate own sound.deduplicate is).few)
+    (λ none. tt)
 
 pub groups_are_limited : GroupsAreLimited
 groups_are_limited query none = query_has query (sound_where_none query none)

@@ -1,5 +1,5 @@
 -- ON is well typed once it is bound.
-use Rattle.std.proofs.Common.{◌≡◌, ◌∙◌, ap, sym, subst, refl, inl, inr, arith, ℕ, Bool, true, false, not, ◌&&◌, List, [], ◌∷◌, ◌++◌, map, Option, Some, None, Result, Ok, Err}
+use Rattle.std.proofs.Common.{◌≡◌, ◌∙◌, ap, sym, subst, refl, arith, ℕ, Bool, true, false, not, ◌&&◌, List, [], ◌∷◌, map, Option, Some, None, Result, Ok, Err}
 use Rattle.std.specs.Prelude.{slice_get, position, nat_eq, if◌then◌else◌, IfSome, IfOk}
 use Rattle.std.specs.List.{AllByRecursion, flat_map}
 use Rattle.std.specs.Option.{option_map, IsSomeAnd}
@@ -30,7 +30,7 @@ use Rattle.ssq_check.specs.declared.scope.Source.{Source}
 use Rattle.ssq_check.specs.declared.scope.Spot.{Spot}
 use Rattle.ssq_check.specs.declared.scope.Within.TheVariants as within
 use Rattle.ssq_check.specs.Fault.{AreNone}
-use Rattle.ssq_check.specs.Joined.{Conjunct, conjuncts, is_and, are_across, is_edge, spot_in, spot_by, looked, bare_column, is_at, is_event_by, is_event, if_so, edge_column, low_column, high_column, is_right, are_bound, is_bound, are_typed, between_at, is_misplaced, BoundRule, seen_by, BoundFaults}
+use Rattle.ssq_check.specs.Joined.{Conjunct, conjuncts, is_and, are_across, is_edge, spot_in, spot_by, looked, bare_column, is_at, is_event_by, is_event, if_so, edge_column, low_column, high_column, is_right, are_bound, is_bound, BoundFaults}
 use Rattle.ssq_check.specs.Names.{is_there}
 use Rattle.ssq_check.specs.Rules.{type_of, kind, of_one, together, is_interval, operator_kind, operands_of}
 use Rattle.ssq_check.specs.Scope.{spot_from, spot_where, in_columns, bare_spot, named_spot, is_same_side, grouped}
@@ -44,11 +44,13 @@ use Rattle.ssq_bind.specs.Bound.{context_of}
 use Rattle.ssq_bind.specs.Joins.{parts_of, pair_on, pair_by, pair_of, key_pair, spot_index, shifted_column, span_of, bound_by, time_bound, rest_by, rest_in, joining_of}
 use Rattle.ssq_bind.specs.Lists.{listed}
 use Rattle.ssq_bind.specs.Value.{row_value}
+use Rattle.ssq_bind.proofs.EachPart.{parts_have, first_has}
+use Rattle.ssq_bind.proofs.EachShape.{if_some_at}
 use Rattle.ssq_bind.proofs.GroupLemmas.{all_both}
 use Rattle.ssq_bind.proofs.Kept.{AnyStand, typed_at, rows_have, column_has}
 use Rattle.ssq_bind.proofs.OnLemmas.{value_in, values_are, same_spot}
 use Rattle.ssq_bind.proofs.Spots.{OfColumns, of_spot, side_source}
-use Rattle.ssq_bind.proofs.TimeBoundLemmas.{unbroken_bound, between_typed}
+use Rattle.ssq_bind.proofs.TimeBoundLemmas.{sides_there, column_there}
 use Rattle.ssq_bind.specs.Shapes.{spot_kind}
 use Rattle.ssq_bind.specs.Typed.{column_kinds, source_kinds, row_kinds, PairsOneType, BoundsTimes, IsTypedJoin}
 
@@ -161,10 +163,6 @@ low_is : (e : Expr) → is_there (low_column e) ≡ true → shifted_column e �
 unfolding edge_column shifted_column
 low_is (expr.Column column) there = refl
 low_is (expr.Binary' left_at p (only a) o at right_at q (only b)) there = sym (low_by (is_edge edge.Low o && is_interval b) (bare_column a) there)
-low_is (expr.Aggregate' f at p (only x)) there = absurd cc
-low_is (expr.Unary' o at p (only x)) there = absurd cc
-low_is (expr.IsNull' p (only x) at test) there = absurd cc
-low_is (expr.Between' p (only a) at q (only b) r (only c)) there = absurd cc
 low_is _ there = absurd cc
 
 -- what the test of a bound says of its sides
@@ -211,20 +209,10 @@ module _ (scope : Scope) (left_times : IfSome scope.left HasTimes) (right_times 
   spots_bound (Some r) None high p q is = absurd cc
   spots_bound None low high p q is = absurd cc
 
-  low_there : (r low high : Option Spot) → are_bound scope r low high ≡ true → is_there low ≡ true
-  low_there (Some r) (Some low) (Some high) is = refl
-  low_there (Some r) (Some low) None is = absurd cc
-  low_there (Some r) None high is = absurd cc
-  low_there None low high is = absurd cc
-
-  column_there : (o : Option ColumnRef) → is_there (looked scope o) ≡ true → is_there o ≡ true
-  column_there None is = is
-  column_there (Some column) is = refl
-
   bound_typed : (a b c : Expr) → is_bound scope a b c ≡ true → Bounds (bound_by scope a b c)
   bound_typed a b c is =
       let times = spots_bound (looked scope (bare_column a)) (looked scope (low_column b)) (looked scope (high_column c)) (looked_aside scope (bare_column a)) (looked_aside scope (low_column b)) is in
-      let there = column_there (low_column b) (low_there (looked scope (bare_column a)) (looked scope (low_column b)) (looked scope (high_column c)) is) in
+      let there = column_there scope (low_column b) (sides_there scope (looked scope (bare_column a)) (looked scope (low_column b)) (looked scope (high_column c)) is).0 in
       record {
         of_left = ap (λ o. slice_get (source_kinds scope.left) (spot_index (looked scope o))) (low_is b there) ∙ times.0;
         of_right = times.1;
@@ -252,9 +240,6 @@ and_truths (Some a) (Some b) is =
 and_truths (Some a) None is = absurd cc
 and_truths None b is = absurd cc
 
-if_some_at : {A : Type 0} (P : A → Type 0) (o : Option A) (x : A) → IfSome o P → o ≡ Some x → P x
-if_some_at P o x holds is = let all : IfSome (Some x) P = subst (λ o. IfSome o P) is holds in all
-
 module _ (rows : Scope) where
   both_truths : (a b : Expr) (o : BinaryOp) (left_at at right_at : ℕ) → is_and o ≡ true → kind rows within.Row (expr.Binary' left_at tt (only a) o at right_at tt (only b)) ≡ Some type.Bool
       → (kind rows within.Row a ≡ Some type.Bool) × (kind rows within.Row b ≡ Some type.Bool)
@@ -263,26 +248,7 @@ module _ (rows : Scope) where
   both_truths a b _ left_at at right_at joins is = absurd cc
 
   parts_truths : (at : ℕ) (e : Expr) → kind rows within.Row e ≡ Some type.Bool → AllByRecursion (IsTruth rows) (conjuncts at e)
-  unfolding conjuncts
-  parts_truths at (expr.Binary' left_at p (only a) o own right_at q (only b)) is =
-      by (is_and o) refl (parts_truths left_at a) (parts_truths right_at b)
-    where
-      whole : Expr
-      whole = expr.Binary' left_at p (only a) o own right_at q (only b)
-
-      by : (joins : Bool) → is_and o ≡ joins
-          → (kind rows within.Row a ≡ Some type.Bool → AllByRecursion (IsTruth rows) (conjuncts left_at a))
-          → (kind rows within.Row b ≡ Some type.Bool → AllByRecursion (IsTruth rows) (conjuncts right_at b))
-          → AllByRecursion (IsTruth rows) (if joins then conjuncts left_at a ++ conjuncts right_at b else record { at = at; value = whole } ∷ [])
-      by true joins left right =
-          let truths = both_truths a b o left_at own right_at joins is in
-          all_both (IsTruth rows) (conjuncts left_at a) (conjuncts right_at b) (left truths.0) (right truths.1)
-      by false joins left right = (is, tt)
-  parts_truths at (expr.Aggregate' f own p (only x)) is = (is, tt)
-  parts_truths at (expr.Unary' o own p (only x)) is = (is, tt)
-  parts_truths at (expr.IsNull' p (only x) own test) is = (is, tt)
-  parts_truths at (expr.Between' p (only a) own q (only b) r (only c)) is = (is, tt)
-  parts_truths at _ is = (is, tt)
+  parts_truths = parts_have (λ (e : Expr). kind rows within.Row e ≡ Some type.Bool) both_truths
 
   -- ---- each part
 
@@ -319,22 +285,11 @@ module _ (rows : Scope) where
       (some_listed (Pairs rows) (key_pair rows part.value) (part_pair part.value (ap is_there all.0))) (keys_typed parts all.1)
 
   module _ (left_times : IfSome rows.left HasTimes) (right_times : IfSome rows.right HasTimes) where
-    abbrev FirstBounds : List Expr → Type 0
-    FirstBounds es = IfSome (slice_get (flat_map bounds_at es) 0) (BoundsTimes (source_kinds rows.left) (source_kinds rows.right))
-
-    -- a BETWEEN that may stand there is the bound; else the first behind it is
-    value_bounds : (value : Expr) (parts : List Conjunct) → is_there (kind rows within.Row value) ≡ true → AreNone (BoundRule (between_at value) (is_misplaced rows false value))
-        → AreNone (BoundFaults rows (seen_by (between_at value) false) parts) → (AreNone (BoundFaults rows false parts) → FirstBounds (map value_in parts)) → FirstBounds (value ∷ map value_in parts)
-    unfolding time_bound between_at is_misplaced
-    value_bounds (expr.Between' p (only a) at q (only b) r (only c)) parts is here more behind =
-        bound_typed rows left_times right_times a b c (unbroken_bound rows at (is_bound rows a b c) (are_typed rows a b c) (between_typed rows a b c at is) here)
-    value_bounds _ parts is here more behind = behind more
-
-    first_bounds : (parts : List Conjunct) → AllByRecursion (IsTruth rows) parts → AreNone (BoundFaults rows false parts) → FirstBounds (map value_in parts)
-    unfolding BoundFaults
-    first_bounds [] all none = tt
-    first_bounds (part ∷ parts) all none =
-        value_bounds part.value parts (ap is_there all.0) (λ c at is. none c at (inl is)) (λ c at is. none c at (inr is)) (first_bounds parts all.1)
+    first_bounds : (parts : List Conjunct) → AllByRecursion (IsTruth rows) parts → AreNone (BoundFaults rows false parts)
+        → IfSome (slice_get (flat_map bounds_at (map value_in parts)) 0) (BoundsTimes (source_kinds rows.left) (source_kinds rows.right))
+    first_bounds =
+        first_has rows rows (λ (e : Expr). kind rows within.Row e ≡ Some type.Bool) (BoundsTimes (source_kinds rows.left) (source_kinds rows.right))
+        (λ e is. ap is_there is) (λ a b c at is may. bound_typed rows left_times right_times a b c may)
 
 -- ---- the whole
 

@@ -35,7 +35,7 @@ use Rattle.ssq_check.proofs.Erased.{kind_stays}
 use Rattle.ssq_bind.specs.declared.context.Context.{Context}
 use Rattle.ssq_bind.specs.Bound.{context_of, select_aggregates, shown_of, grouping_of, kept_by, shape_of, mode_of, filter_value, bound_of}
 use Rattle.ssq_bind.specs.Places.{PlacesAreIgnored}
-use Rattle.ssq_bind.specs.Shapes.{item_value, item_aggregates, kind_or_bigint, spot_kind, column_type, item_kind, item_column, shown_key, output_of, outputs_of, order_of, sort_key, group_items, bare_index, key_of, having_value, having_aggregates}
+use Rattle.ssq_bind.specs.Shapes.{item_value, item_aggregates, kind_or_bigint, spot_kind, column_type, item_kind, item_column, shown_key, output_of, outputs_of, order_of, is_output, sort_key, group_items, bare_index, key_of, having_value, having_aggregates}
 use Rattle.ssq_bind.specs.Value.{or_zero}
 use Rattle.ssq_bind.proofs.SameNames.{map_same, maybe_same, flat_same, position_same, streams_same, spot_same, index_same, context_same, window_same, key_index_same}
 use Rattle.ssq_bind.proofs.SameText.{text_same}
@@ -196,7 +196,7 @@ filter_same context filter = maybe_same (filter_value context) erased_condition 
 
 sort_same : (items : List Item) (by : OrderBy) → sort_key (map erased_item items) (erased_order by) ≡ sort_key items by
 sort_same items by = λ i. record {
-  output = or_zero (position_same (λ x. bytes_eq (item_name x) by.name.text) erased_item (λ x. bytes_eq (item_name x) by.name.text) (λ x. ap (λ name. bytes_eq name by.name.text) (name_same x)) items i);
+  output = or_zero (position_same (is_output by.name.text) erased_item (is_output by.name.text) (λ x. ap (λ name. bytes_eq name by.name.text) (name_same x)) items i);
   direction = order_of by.direction;
 }
 

@@ -23,7 +23,7 @@ use Rattle.ssq_check.specs.Joined.{is_and, looked, bare_column}
 use Rattle.ssq_bind.specs.declared.context.Context.{Context}
 use Rattle.ssq_bind.specs.Joins.{parts_of, pair_of, key_pair, shifted_column, spot_index, or_none, span_of, time_bound, keys_in, bounds_in, rest_by, rest_in, kind_of, joining_of}
 use Rattle.ssq_bind.specs.Lists.{listed}
-use Rattle.ssq_bind.specs.Value.{row_index, or_zero, window_value, column_value, unary_value, null_value, binary_value, between_value, shift_of, shifted_or, function_of, one, numbered, given, count, value_of, aggregates_of}
+use Rattle.ssq_bind.specs.Value.{row_index, or_zero, window_value, column_value, unary_value, null_value, binary_value, between_value, shift_of, shifted_or, function_of, one, numbered, given, count, literal, value_of, aggregates_of}
 use Rattle.ssq_bind.proofs.SameNames.{flat_same, spot_same, window_same, key_index_same}
 
 pub column_same : (context : Context) (w : Within) (column : ColumnRef) → column_value context w (erased_column column) ≡ column_value context w column
@@ -88,7 +88,7 @@ module _ (context : Context) where
   }
 
   seen_same : (e : Expr) → seen (erased_expr e) ≡ placeless (seen e)
-  unfolding shift_of count value_of aggregates_of shifted_column span_of key_pair time_bound parts_of
+  unfolding shift_of count literal value_of aggregates_of shifted_column span_of key_pair time_bound parts_of
   seen_same (expr.Column column) = λ i. record (placeless (seen (expr.Column column))) { value = λ w n. column_same context w column i }
   seen_same (expr.Aggregate' f at p (only x)) = λ i.
       operator (erased_expr (expr.Aggregate' f at p (only x))) one numbered (λ w. given w (record { function = function_of f; argument = Some ((seen_same x i).value within.Row 0) }))

@@ -1,11 +1,10 @@
 -- What holds of the bound query of a query that breaks no rule.
-use Rattle.std.proofs.Common.{◌≡◌, sym, subst, ◌<◌, ◌≤◌, true, arith, ℕ, List, [], ◌++◌, map, length, take, Option, Some, None}
+use Rattle.std.proofs.Common.{◌≡◌, sym, subst, ◌<◌, ◌≤◌, true, arith, ℕ, List, ◌++◌, map, length, take, Option, Some, None}
 use Rattle.std.specs.Prelude.{◌^◌}
 use Rattle.std.specs.List.{All}
 use Rattle.std.specs.Option.{option_map}
 use Rattle.std.specs.Str.{IsUtf8}
 use Rattle.std.proofs.lemmas.List.{length-map, length-take}
-use Rattle.std.proofs.lemmas.List.Elements.{All-append, All-cons, All-nil}
 use Rattle.ssq_shape.specs.declared.bound.Bound.{Bound}
 use Rattle.ssq_ast.specs.declared.query.ColumnDecl.{ColumnDecl}
 use Rattle.ssq_ast.specs.declared.query.Query.{Query}
@@ -14,7 +13,8 @@ use Rattle.ssq_check.specs.Names.{column_of, is_there, source_of, left_stream, r
 use Rattle.ssq_check.specs.Sound.{IsSound}
 use Rattle.ssq_bind.specs.Bound.{bound_of}
 use Rattle.ssq_bind.specs.Sound.{HasEventIfDelayed, HasFewColumns, IsSoundBound}
-use Rattle.ssq_bind.specs.Streams.{listed, stream_of}
+use Rattle.ssq_bind.specs.Streams.{listed}
+use Rattle.ssq_bind.proofs.EachStream.{any_read}
 use Rattle.ssq_bind.proofs.TimedLemmas.{events_have_delays}
 
 one_listed : (a b : Option Declared) → is_there (option_map source_of a) ≡ true → 1 ≤ length (listed a ++ listed b)
@@ -40,13 +40,8 @@ two_streams query = two_listed (left_stream query) (right_stream query)
 few_of : (most : ℕ) (columns : List ColumnDecl) → length (map column_of (take most columns)) ≤ most
 few_of most columns = omega (arith, length-map (take most columns) column_of, length-take most columns)
 
-few_listed : (o : Option Declared) → All HasFewColumns (listed o)
-few_listed None = All-nil HasFewColumns
-few_listed (Some stream) = All-cons HasFewColumns (stream_of stream) [] (few_of 64 stream.columns) (All-nil HasFewColumns)
-
 few_columns : (query : Query) → All HasFewColumns (bound_of query).streams
-unfolding bound_of
-few_columns query = All-append HasFewColumns (listed (left_stream query)) (listed (right_stream query)) (few_listed (left_stream query)) (few_listed (right_stream query))
+few_columns query = any_read HasFewColumns query (λ stream. few_of 64 stream.columns)
 
 pub sound_bound : (query : Query) (bound : Bound) → bound ≡ bound_of query → IsSound query → IsUtf8 bound.text → length bound.text < 2 ^ 64 → IsSoundBound bound
 sound_bound query bound is sound utf8 few = record {

@@ -1,6 +1,6 @@
 -- The bound of a join lies around the left row's time.
-use Rattle.std.proofs.Common.{◌≡◌, ◌∙◌, refl, sym, ap, subst, inl, inr, arith, ℕ, ℤ, pos, negsuc, Bool, true, false, not, ◌&&◌, ◌||◌, List, [], ◌∷◌, ◌++◌, map, drop, Option, Some, None, IfSome}
-use Rattle.std.specs.Prelude.{◌≤ℤ◌, neg_ℤ, if◌then◌else◌, slice_get, FitsSigned}
+use Rattle.std.proofs.Common.{◌≡◌, ◌∙◌, refl, sym, ap, subst, arith, ℕ, ℤ, pos, negsuc, true, false, ◌&&◌, List, map, drop, Option, Some, None, IfSome}
+use Rattle.std.specs.Prelude.{◌≤ℤ◌, neg_ℤ, slice_get, FitsSigned}
 use Rattle.std.specs.Int.{w64, int_wrapping_neg}
 use Rattle.std.specs.List.{AllByRecursion, flat_map}
 use Rattle.std.specs.Option.{option_map}
@@ -8,15 +8,11 @@ use Rattle.std.proofs.lemmas.Int.{ints, int_wrap_fits, wrapping_neg_is}
 use Rattle.ssq_value.specs.declared.column.ColType.{ColType}
 use Rattle.ssq_time.specs.Time.{IsSpan}
 use Rattle.ssq_shape.specs.declared.bound.Bound.{Bound}
-use Rattle.ssq_shape.specs.declared.bound.Grouping.{Grouping}
-use Rattle.ssq_shape.specs.declared.bound.Shape.{Shape}
-use Rattle.ssq_shape.specs.declared.bound.Shape.TheVariants as shape
 use Rattle.ssq_ast.specs.declared.expr.BinaryOp.{BinaryOp}
 use Rattle.ssq_ast.specs.declared.expr.BinaryOp.TheVariants as op
 use Rattle.ssq_ast.specs.declared.expr.ColumnRef.{ColumnRef}
 use Rattle.ssq_ast.specs.declared.expr.Expr.{Expr}
 use Rattle.ssq_ast.specs.declared.expr.Expr.TheVariants as expr
-use Rattle.ssq_ast.specs.declared.query.Deduplicate.{Deduplicate}
 use Rattle.ssq_ast.specs.declared.query.Join.{Join}
 use Rattle.ssq_ast.specs.declared.query.Query.{Query}
 use Rattle.ssq_ast.specs.Expression as written
@@ -26,21 +22,20 @@ use Rattle.ssq_check.specs.declared.scope.Scope.{Scope}
 use Rattle.ssq_check.specs.declared.scope.Spot.{Spot}
 use Rattle.ssq_check.specs.declared.scope.Within.TheVariants as within
 use Rattle.ssq_check.specs.declared.joined.Edge.TheVariants as edge
-use Rattle.ssq_check.specs.declared.fault.Cause.TheVariants as cause
-use Rattle.ssq_check.specs.Broken.{Rule}
 use Rattle.ssq_check.specs.Fault.{AreNone}
-use Rattle.ssq_check.specs.Joined.{Conjunct, conjuncts, is_and, is_edge, looked, bare_column, if_so, edge_column, low_column, high_column, is_bound, are_bound, are_typed, between_at, is_misplaced, BoundRule, seen_by, BoundFaults}
+use Rattle.ssq_check.specs.Joined.{Conjunct, conjuncts, is_and, is_edge, looked, bare_column, if_so, edge_column, low_column, high_column, is_bound, are_bound, BoundFaults}
 use Rattle.ssq_check.specs.Names.{is_there, row_scope}
-use Rattle.ssq_check.specs.Rules.{kind, of_one, together, is_interval, operator_kind, operands_of, between_kind}
-use Rattle.ssq_check.specs.Shown.{is_group}
+use Rattle.ssq_check.specs.Rules.{kind, of_one, together, is_interval, operator_kind, operands_of}
 use Rattle.ssq_check.specs.Sound.{IsSoundJoin, IsSound}
 use Rattle.ssq_check.specs.Whole.{QueryFaults}
 use Rattle.ssq_check.proofs.SoundLemmas.{sound_where_none}
 use Rattle.ssq_bind.specs.declared.context.Context.{Context}
-use Rattle.ssq_bind.specs.Bound.{context_of, grouping_of, kept_by, shape_of, bound_of}
-use Rattle.ssq_bind.specs.Joins.{or_none, span_of, bound_by, time_bound, bounds_in}
+use Rattle.ssq_bind.specs.Bound.{context_of, bound_of}
+use Rattle.ssq_bind.specs.Joins.{or_none, span_of, bound_by, bounds_in}
 use Rattle.ssq_bind.specs.TimeBounds.{LiesAround, HasTimeBoundBy, HasTimeBound, HasTimeBoundIfWritten, TimeBoundsLieAround}
 use Rattle.ssq_bind.specs.Value.{shift_of}
+use Rattle.ssq_bind.proofs.EachPart.{parts_have, first_has}
+use Rattle.ssq_bind.proofs.EachShape.{shape_has, if_some_at}
 use Rattle.ssq_bind.proofs.OnLemmas.{value_in, values_are}
 use Rattle.ssq_bind.proofs.SpanLemmas.{text_is}
 
@@ -121,13 +116,13 @@ unfolding edge_column span_of
 high_side (expr.Binary' left_at p (only a) o at right_at q (only b)) has there = high_by a b o has.1 there
 high_side _ has there = no_low
 
-sides_there : (scope : Scope) (r low high : Option Spot) → are_bound scope r low high ≡ true → (is_there low ≡ true) × (is_there high ≡ true)
+pub sides_there : (scope : Scope) (r low high : Option Spot) → are_bound scope r low high ≡ true → (is_there low ≡ true) × (is_there high ≡ true)
 sides_there scope (Some r) (Some low) (Some high) is = (refl, refl)
 sides_there scope (Some r) (Some low) None is = absurd cc
 sides_there scope (Some r) None high is = absurd cc
 sides_there scope None low high is = absurd cc
 
-column_there : (scope : Scope) (o : Option ColumnRef) → is_there (looked scope o) ≡ true → is_there o ≡ true
+pub column_there : (scope : Scope) (o : Option ColumnRef) → is_there (looked scope o) ≡ true → is_there o ≡ true
 column_there scope None is = is
 column_there scope (Some column) is = refl
 
@@ -142,23 +137,16 @@ bound_lies names rows a b c low high is =
 -- ---- the parts of ON
 
 -- each has a type, and its spans are spans
-abbrev IsPart : Scope → Conjunct → Type 0
-IsPart scope part = (is_there (kind scope within.Row part.value) ≡ true) × HasSpans part.value
+abbrev IsTyped : Scope → Expr → Type 0
+IsTyped scope e = (is_there (kind scope within.Row e) ≡ true) × HasSpans e
 
-all_both : {A : Type 0} (P : A → Type 0) (xs ys : List A) → AllByRecursion P xs → AllByRecursion P ys → AllByRecursion P (xs ++ ys)
-all_both P [] ys one two = two
-all_both P (x ∷ xs) ys one two = (one.0, all_both P xs ys one.1 two)
+abbrev IsPart : Scope → Conjunct → Type 0
+IsPart scope part = IsTyped scope part.value
 
 and_kinds : (a b : Option ColType) → is_there (of_one (λ pair. operator_kind (operands_of op.And) pair.0 pair.1) (together a b)) ≡ true → (is_there a ≡ true) × (is_there b ≡ true)
 and_kinds (Some a) (Some b) is = (refl, refl)
 and_kinds (Some a) None is = absurd (none_there is)
 and_kinds None b is = absurd (none_there is)
-
-between_kinds : (a b c : Option ColType) → is_there (of_one (λ triple. between_kind triple.0.0 triple.0.1 triple.1) (together (together a b) c)) ≡ true → (is_there a && is_there b && is_there c) ≡ true
-between_kinds (Some a) (Some b) (Some c) is = refl
-between_kinds (Some a) (Some b) None is = absurd (none_there is)
-between_kinds (Some a) None c is = absurd (none_there is)
-between_kinds None b c is = absurd (none_there is)
 
 module _ (rows : Scope) where
   both_typed : (a b : Expr) (o : BinaryOp) (left_at at right_at : ℕ) → is_and o ≡ true → is_there (kind rows within.Row (expr.Binary' left_at tt (only a) o at right_at tt (only b))) ≡ true
@@ -168,82 +156,33 @@ module _ (rows : Scope) where
   both_typed a b _ left_at at right_at joins is = absurd cc
 
   parts_are : (at : ℕ) (e : Expr) → is_there (kind rows within.Row e) ≡ true → HasSpans e → AllByRecursion (IsPart rows) (conjuncts at e)
-  unfolding conjuncts
-  parts_are at (expr.Binary' left_at p (only a) o own right_at q (only b)) is has =
-      by (is_and o) refl (λ typed. parts_are left_at a typed has.0) (λ typed. parts_are right_at b typed has.1)
-    where
-      whole : Expr
-      whole = expr.Binary' left_at p (only a) o own right_at q (only b)
+  parts_are at e is has =
+      parts_have (IsTyped rows)
+      (λ a b o left_at own right_at joins whole. let typed = both_typed a b o left_at own right_at joins whole.0 in ((typed.0, whole.1.0), (typed.1, whole.1.1)))
+      at e (is, has)
 
-      by : (joins : Bool) → is_and o ≡ joins
-          → (is_there (kind rows within.Row a) ≡ true → AllByRecursion (IsPart rows) (conjuncts left_at a))
-          → (is_there (kind rows within.Row b) ≡ true → AllByRecursion (IsPart rows) (conjuncts right_at b))
-          → AllByRecursion (IsPart rows) (if joins then conjuncts left_at a ++ conjuncts right_at b else record { at = at; value = whole } ∷ [])
-      by true joins left right =
-          let typed = both_typed a b o left_at own right_at joins is in
-          all_both (IsPart rows) (conjuncts left_at a) (conjuncts right_at b) (left typed.0) (right typed.1)
-      by false joins left right = ((is, has), tt)
-  parts_are at (expr.Number n own) is has = ((is, has), tt)
-  parts_are at (expr.Text text own) is has = ((is, has), tt)
-  parts_are at (expr.Truth truth own) is has = ((is, has), tt)
-  parts_are at (expr.Timestamp moment own) is has = ((is, has), tt)
-  parts_are at (expr.Interval span own) is has = ((is, has), tt)
-  parts_are at (expr.Column column) is has = ((is, has), tt)
-  parts_are at (expr.CountRows own) is has = ((is, has), tt)
-  parts_are at (expr.Aggregate' f own p (only x)) is has = ((is, has), tt)
-  parts_are at (expr.Unary' o own p (only x)) is has = ((is, has), tt)
-  parts_are at (expr.IsNull' p (only x) own test) is has = ((is, has), tt)
-  parts_are at (expr.Between' p (only a) own q (only b) r (only c)) is has = ((is, has), tt)
-
-  pub unbroken_bound : (at : ℕ) (is_bound is_typed : Bool) → is_typed ≡ true → AreNone (Rule cause.BadBound at (((false || not is_bound) && is_typed) ≡ true)) → is_bound ≡ true
-  unbroken_bound at true is_typed typed none = refl
-  unbroken_bound at false is_typed typed none = absurd (none cause.BadBound at (refl, refl, typed))
-
-  pub between_typed : (a b c : Expr) (at : ℕ) → is_there (kind rows within.Row (expr.Between' tt (only a) at tt (only b) tt (only c))) ≡ true → are_typed rows a b c ≡ true
-  unfolding kind
-  between_typed a b c at is = between_kinds (kind rows within.Row a) (kind rows within.Row b) (kind rows within.Row c) is
-
-  -- what is bound of a part, and of those behind it
-  abbrev FirstLies : Context → List Expr → Type 0
-  FirstLies context es = IfSome (slice_get (flat_map (bounds_in context) es) 0) LiesAround
-
-  -- a BETWEEN that may stand there is the bound; else the first behind it is
-  value_lies : (context : Context) (value : Expr) (parts : List Conjunct) → is_there (kind rows within.Row value) ≡ true → HasSpans value → AreNone (BoundRule (between_at value) (is_misplaced rows false value))
-      → AreNone (BoundFaults rows (seen_by (between_at value) false) parts) → (AreNone (BoundFaults rows false parts) → FirstLies context (map value_in parts)) → FirstLies context (value ∷ map value_in parts)
-  unfolding time_bound between_at is_misplaced
-  value_lies context (expr.Between' p (only a) at q (only b) r (only c)) parts is has here more behind =
-      bound_lies context.scope rows a b c has.1 has.2 (unbroken_bound at (is_bound rows a b c) (are_typed rows a b c) (between_typed a b c at is) here)
-  value_lies context _ parts is has here more behind = behind more
-
-  first_lies : (context : Context) (parts : List Conjunct) → AllByRecursion (IsPart rows) parts → AreNone (BoundFaults rows false parts) → FirstLies context (map value_in parts)
-  unfolding BoundFaults
-  first_lies context [] all none = tt
-  first_lies context (part ∷ parts) all none =
-      value_lies context part.value parts all.0.0 all.0.1 (λ c at is. none c at (inl is)) (λ c at is. none c at (inr is)) (first_lies context parts all.1)
+  first_lies : (context : Context) (parts : List Conjunct) → AllByRecursion (IsPart rows) parts → AreNone (BoundFaults rows false parts)
+      → IfSome (slice_get (flat_map (bounds_in context) (map value_in parts)) 0) LiesAround
+  first_lies context = first_has rows context.scope (IsTyped rows) LiesAround (λ e is. is.0) (λ a b c at is may. bound_lies context.scope rows a b c is.1.1 is.1.2 may)
 
 -- ---- the whole
 
 some_there : (o : Option ColType) (own : ColType) → o ≡ Some own → is_there o ≡ true
 some_there o own is = ap is_there is
 
-kept_has : (query : Query) (join : Option Join) (deduplicate : Option Deduplicate) → IfSome join (IsSoundJoin (row_scope query) query.select.from.text) → IfSome join (λ (own : Join). HasSpans own.on.value)
-    → HasTimeBoundBy (kept_by (context_of query) join deduplicate)
-kept_has query (Some join) deduplicate sound spans =
-    let parts : List Conjunct = conjuncts join.on.at join.on.value in
-    let own = first_lies (row_scope query) (context_of query) parts (parts_are (row_scope query) join.on.at join.on.value (some_there _ _ sound.condition) spans) sound.bound in
-    subst (λ (es : List Expr). IfSome (slice_get (flat_map (bounds_in (context_of query)) es) 0) LiesAround) (values_are join.on.at join.on.value) own
-kept_has query None (Some deduplicate) sound spans = tt
-kept_has query None None sound spans = tt
-
-either_has : (b : Bool) (grouping : Grouping) (kept : Shape) → HasTimeBoundBy kept → HasTimeBoundBy (if b then shape.Group grouping else kept)
-either_has true grouping kept has = tt
-either_has false grouping kept has = has
-
 query_has : (query : Query) → IfSome query.select.join (λ (own : Join). HasSpans own.on.value) → IsSound query → HasTimeBound (bound_of query)
-unfolding bound_of shape_of
+unfolding bound_of
 query_has query spans sound =
-    either_has (is_group query) (grouping_of query) (kept_by (context_of query) query.select.join query.select.deduplicate)
-    (kept_has query query.select.join query.select.deduplicate sound.join spans)
+    let rows : Scope = row_scope query in
+    shape_has HasTimeBoundBy query
+    (λ grouped. tt)
+    (λ join is.
+    let own : IsSoundJoin rows query.select.from.text join = if_some_at (IsSoundJoin rows query.select.from.text) query.select.join join sound.join is in
+    let has : HasSpans join.on.value = if_some_at (λ (own : Join). HasSpans own.on.value) query.select.join join spans is in
+    subst (λ (es : List Expr). IfSome (slice_get (flat_map (bounds_in (context_of query)) es) 0) LiesAround) (values_are join.on.at join.on.value)
+    (first_lies rows (context_of query) (conjuncts join.on.at join.on.value) (parts_are rows join.on.at join.on.value (some_there _ _ own.condition) has) own.bound))
+    (λ own none is. tt)
+    (λ none. tt)
 
 written_on : (join : Option WrittenJoin) (places : List ℕ) → IfSome join (λ (own : WrittenJoin). IsFit own.on) → IfSome (option_map (λ own. join_tree own places) join) (λ (own : Join). HasSpans own.on.value)
 written_on None places is = tt

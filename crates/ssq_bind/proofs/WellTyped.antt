@@ -3,7 +3,6 @@ use Rattle.std.proofs.Common.{◌≡◌, ◌∙◌, ap, sym, subst, refl, arith,
 use Rattle.std.specs.Prelude.{slice_get, if◌then◌else◌, All, IfSome}
 use Rattle.std.specs.List.{AllByRecursion, flat_map}
 use Rattle.std.specs.Option.{option_map, IsSomeAnd}
-use Rattle.std.specs.Str.{bytes_eq}
 use Rattle.std.proofs.lemmas.List.{append-nil}
 use Rattle.std.proofs.lemmas.List.Concat.{flat_map-append}
 use Rattle.std.proofs.lemmas.List.Elements.{All-head, All-tail, All-from_recursion}
@@ -38,8 +37,7 @@ use Rattle.ssq_check.specs.declared.scope.Within.{Within}
 use Rattle.ssq_check.specs.declared.scope.Within.TheVariants as within
 use Rattle.ssq_check.specs.Fault.{AreNone}
 use Rattle.ssq_check.specs.Joined.{spot_in}
-use Rattle.ssq_check.specs.Lists.{item_name}
-use Rattle.ssq_check.specs.Names.{is_there, declared, column_of, columns_of, watermark_name, source_of, left_stream, join_stream, right_stream, row_scope, group_keys, scope_of}
+use Rattle.ssq_check.specs.Names.{is_there, column_of, columns_of, watermark_name, source_of, left_stream, right_stream, row_scope, group_keys, scope_of}
 use Rattle.ssq_check.specs.Rules.{type_of, kind}
 use Rattle.ssq_check.specs.Scope.{in_columns, bare_spot, named_spot, is_key, is_window_here, grouped, column_kind_by, column_kind}
 use Rattle.ssq_check.specs.Shown.{is_group, within_by, shown_within}
@@ -48,12 +46,14 @@ use Rattle.ssq_check.specs.Sound.{IsSoundStream, IsCondition, IsSoundGroup, IsOr
 use Rattle.ssq_check.specs.Whole.{QueryFaults}
 use Rattle.ssq_check.proofs.SoundLemmas.{sound_where_none}
 use Rattle.ssq_bind.specs.declared.context.Context.{Context}
-use Rattle.ssq_bind.specs.Bound.{context_of, select_aggregates, shown_of, grouping_of, kept_by, shape_of, filter_value, bound_of}
-use Rattle.ssq_bind.specs.Shapes.{item_aggregates, kind_or_bigint, spot_kind, column_type, output_of, outputs_of, sort_key, group_items, key_of, having_value, having_aggregates}
+use Rattle.ssq_bind.specs.Bound.{context_of, select_aggregates, shown_of, kept_by, shape_of, filter_value, bound_of}
+use Rattle.ssq_bind.specs.Shapes.{item_aggregates, kind_or_bigint, spot_kind, column_type, output_of, outputs_of, is_output, sort_key, group_items, key_of, having_value, having_aggregates}
 use Rattle.ssq_bind.specs.Streams.{kept_columns, listed}
 use Rattle.ssq_bind.specs.Typed.{column_kinds, source_kinds, row_kinds, stream_kinds, read_kinds, key_kind, HasItsKind, IsTypedGroup, AreTypedBy, IsTypedJoin, first_kinds, second_kinds, IsJoinedBy, IsTyped, QueriesAreTyped}
 use Rattle.ssq_bind.specs.Value.{or_zero, row_value}
 use Rattle.ssq_bind.proofs.GroupLemmas.{own_kind, IsCounted, StandIn, front_in, back_in, spot_key, key_kinds, KeyStands, KeysStand, groups_have, all_both, are_counted, counted_all, items_keys, items_stand, at_each}
+use Rattle.ssq_bind.proofs.EachShape.{shape_has, if_some_at}
+use Rattle.ssq_bind.proofs.EachStream.{left_has, right_has}
 use Rattle.ssq_bind.proofs.Kept.{Has, HaveTypes, typed_at, AnyStand, rows_have, own_rows_have, column_has}
 use Rattle.ssq_bind.specs.Joins.{joining_of}
 use Rattle.ssq_bind.proofs.OnTyped.{HasTimes, on_typed}
@@ -243,27 +243,14 @@ outputs_length context w n (x ∷ xs) = ap suc (outputs_length context w (n + le
 
 key_within : (items : List Item) (by : OrderBy) → IsOrdered items by → (sort_key items by).output < length items
 key_within items by is =
-    let test : Item → Bool = λ x. bytes_eq (item_name x) by.name.text in
-    let here : IsFound test items = found test items is in
-    subst (λ o. or_zero o < length items) (sym (found_is test items here)) here.within
+    let here : IsFound (is_output by.name.text) items = found (is_output by.name.text) items is in
+    subst (λ o. or_zero o < length items) (sym (found_is (is_output by.name.text) items here)) here.within
 
 keys_within : (items : List Item) (orders : List OrderBy) → All (IsOrdered items) orders → AllByRecursion (λ (key : SortKey). key.output < length items) (map (sort_key items) orders)
 keys_within items [] all = tt
 keys_within items (x ∷ xs) all = (key_within items x (All-head (IsOrdered items) x xs all), keys_within items xs (All-tail (IsOrdered items) x xs all))
 
 -- ---- the streams that are read
-
-declared_sound : (streams : List Declared) (name : List ℕ) → All IsSoundStream streams → IfSome (declared streams name) IsSoundStream
-declared_sound [] name all = tt
-declared_sound (stream ∷ streams) name all = by (bytes_eq stream.name.text name) (declared_sound streams name (All-tail IsSoundStream stream streams all))
-  where
-    by : (b : Bool) → IfSome (declared streams name) IsSoundStream → IfSome (if b then Some stream else declared streams name) IsSoundStream
-    by true rest = All-head IsSoundStream stream streams all
-    by false rest = rest
-
-joined_sound : (streams : List Declared) (join : Option Join) → All IsSoundStream streams → IfSome (join_stream streams join) IsSoundStream
-joined_sound streams None all = tt
-joined_sound streams (Some join) all = declared_sound streams join.stream.text all
 
 take_few : {A : Type 0} (n : ℕ) (xs : List A) → length xs ≤ n → take n xs ≡ xs
 take_few zero [] few = refl
@@ -279,8 +266,8 @@ rows_are : (query : Query) → IsSound query → read_kinds (bound_of query).str
 unfolding bound_of
 rows_are query is =
     flat_map-append stream_kinds (listed (left_stream query)) (listed (right_stream query))
-    ∙ (λ i. side_kinds (left_stream query) (declared_sound query.streams query.select.from.text is.streams) i
-    ++ side_kinds (right_stream query) (joined_sound query.streams query.select.join is.streams) i)
+    ∙ (λ i. side_kinds (left_stream query) (left_has IsSoundStream query is.streams) i
+    ++ side_kinds (right_stream query) (right_has IsSoundStream query is.streams) i)
 
 -- ---- ON
 
@@ -304,38 +291,20 @@ join_typed : (query : Query) → IsSound query → (join : Join) → IsSoundJoin
     → IsTypedJoin (first_kinds (bound_of query).streams) (second_kinds (bound_of query).streams) (joining_of (context_of query) join)
 unfolding bound_of
 join_typed query is join sound =
-    let left = declared_sound query.streams query.select.from.text is.streams in
-    let right = joined_sound query.streams query.select.join is.streams in
+    let left = left_has IsSoundStream query is.streams in
+    let right = right_has IsSoundStream query is.streams in
     let kinds = apart_kinds (left_stream query) (right_stream query) is.from sound.declared left right in
     subst (λ (rows : List ColType). IsTypedJoin rows (second_kinds (bound_of query).streams) (joining_of (context_of query) join)) (sym kinds.0)
     (subst (λ (rows : List ColType). IsTypedJoin (source_kinds (row_scope query).left) rows (joining_of (context_of query) join)) (sym kinds.1)
     (on_typed query join sound (times_of (left_stream query) left) (times_of (right_stream query) right)))
 
-if_some_then : {A : Type 0} (P Q : A → Type 0) (o : Option A) → IfSome o P → ((x : A) → P x → Q x) → IfSome o Q
-if_some_then P Q None is more = tt
-if_some_then P Q (Some x) is more = more x is
-
-kept_joined : (left right : List ColType) (context : Context) (join : Option Join) (deduplicate : Option Deduplicate) → IfSome join (λ (own : Join). IsTypedJoin left right (joining_of context own))
-    → IsJoinedBy left right (kept_by context join deduplicate)
-kept_joined left right context (Some join) deduplicate is = is
-kept_joined left right context None (Some deduplicate) is = tt
-kept_joined left right context None None is = tt
-
 shape_joined : (query : Query) → IsSound query → IsJoinedBy (first_kinds (bound_of query).streams) (second_kinds (bound_of query).streams) (shape_of query)
-unfolding shape_of
-shape_joined query is = by (is_group query)
-  where
-    left : List ColType
-    left = first_kinds (bound_of query).streams
-
-    right : List ColType
-    right = second_kinds (bound_of query).streams
-
-    by : (b : Bool) → IsJoinedBy left right (if b then shape.Group (grouping_of query) else kept_by (context_of query) query.select.join query.select.deduplicate)
-    by true = tt
-    by false =
-        kept_joined left right (context_of query) query.select.join query.select.deduplicate
-        (if_some_then (IsSoundJoin (row_scope query) query.select.from.text) (λ (own : Join). IsTypedJoin left right (joining_of (context_of query) own)) query.select.join is.join (join_typed query is))
+shape_joined query is =
+    shape_has (IsJoinedBy (first_kinds (bound_of query).streams) (second_kinds (bound_of query).streams)) query
+    (λ grouped. tt)
+    (λ join same. join_typed query is join (if_some_at (IsSoundJoin (row_scope query) query.select.from.text) query.select.join join is.join same))
+    (λ own none same. tt)
+    (λ none. tt)
 
 -- ---- the whole
 

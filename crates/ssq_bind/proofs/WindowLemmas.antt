@@ -1,22 +1,17 @@
 -- Windows are fit.
-use Rattle.std.proofs.Common.{◌≡◌, refl, ap, sym, subst, arith, suc, ℕ, ◌≤◌, ℤ, Bool, true, false, List, [], ◌∷◌, map, drop, length, filter, Option, Some, None, IfSome}
-use Rattle.std.specs.Prelude.{All, if◌then◌else◌}
+use Rattle.std.proofs.Common.{◌≡◌, refl, ap, sym, subst, arith, suc, ℕ, ◌≤◌, ℤ, List, [], ◌∷◌, map, drop, length, filter, Option, Some, None, IfSome}
+use Rattle.std.specs.Prelude.{All}
 use Rattle.std.specs.List.{AllByRecursion, flat_map}
 use Rattle.std.specs.Option.{option_map}
 use Rattle.std.proofs.lemmas.List.Elements.{All-head, All-tail}
 use Rattle.ssq_time.specs.Time.{IsSpan}
 use Rattle.ssq_shape.specs.declared.bound.Bound.{Bound}
-use Rattle.ssq_shape.specs.declared.bound.Grouping.{Grouping}
-use Rattle.ssq_shape.specs.declared.bound.Shape.{Shape}
-use Rattle.ssq_shape.specs.declared.bound.Shape.TheVariants as shape
-use Rattle.ssq_shape.specs.Windows.{HasWindow, is_window, HasGroupWindows, HasWindowsBy, HasWindows}
+use Rattle.ssq_shape.specs.Windows.{HasWindow, is_window, HasWindowsBy, HasWindows}
 use Rattle.ssq_lex.specs.declared.keyword.Keyword.TheVariants as key
 use Rattle.ssq_ast.specs.declared.expr.Span.{Span}
-use Rattle.ssq_ast.specs.declared.query.Deduplicate.{Deduplicate}
 use Rattle.ssq_ast.specs.declared.query.Group.{Group}
 use Rattle.ssq_ast.specs.declared.query.Group.TheVariants as group
 use Rattle.ssq_ast.specs.declared.query.GroupBy.{GroupBy}
-use Rattle.ssq_ast.specs.declared.query.Join.{Join}
 use Rattle.ssq_ast.specs.declared.query.Query.{Query}
 use Rattle.ssq_ast.specs.Expression.{behind}
 use Rattle.ssq_ast.specs.Statement.{WrittenGroup, column_group, window_group, WrittenSelect, WrittenQuery, separated, declared_words, distinct_words, item_words, join_words, condition_words, deduplicate_words, group_item_words, group_item_tree, group_tree, query_tree, Each, IsSpanText, IsRegularGroup, IsRegularQuery, IsFit}
@@ -24,14 +19,13 @@ use Rattle.ssq_check.specs.declared.scope.Scope.{Scope}
 use Rattle.ssq_check.specs.Clauses.{slide_or, slide_of, group_windows}
 use Rattle.ssq_check.specs.Fault.{AreNone}
 use Rattle.ssq_check.specs.Names.{row_scope}
-use Rattle.ssq_check.specs.Shown.{is_group}
 use Rattle.ssq_check.specs.Sound.{IsSoundGroupItem, IsSoundGroup, IsSound}
 use Rattle.ssq_check.specs.Whole.{QueryFaults}
 use Rattle.ssq_check.proofs.SoundLemmas.{sound_where_none}
-use Rattle.ssq_bind.specs.declared.context.Context.{Context}
-use Rattle.ssq_bind.specs.Bound.{context_of, grouping_of, kept_by, shape_of, bound_of}
+use Rattle.ssq_bind.specs.Bound.{context_of, bound_of}
 use Rattle.ssq_bind.specs.Shapes.{group_items, key_of}
 use Rattle.ssq_bind.specs.Windows.{HasWindowsIfWritten, WindowsAreFit}
+use Rattle.ssq_bind.proofs.EachShape.{shape_has}
 use Rattle.ssq_bind.proofs.SpanLemmas.{text_is, trees_have}
 
 -- ---- what is written
@@ -99,22 +93,11 @@ module _ (rows names : Scope) where
 
 -- ---- the whole
 
-kept_has : (context : Context) (join : Option Join) (deduplicate : Option Deduplicate) → HasWindowsBy (kept_by context join deduplicate)
-kept_has context (Some join) deduplicate = tt
-kept_has context None (Some deduplicate) = tt
-kept_has context None None = tt
-
-either_has : (b : Bool) (grouping : Grouping) (kept : Shape) → HasGroupWindows grouping → HasWindowsBy kept → HasWindowsBy (if b then shape.Group grouping else kept)
-either_has true grouping kept grouped else_kept = grouped
-either_has false grouping kept grouped else_kept = else_kept
-
 query_has : (query : Query) → HaveSpans query.select.group → IsSound query → HasWindows (bound_of query)
-unfolding bound_of shape_of
+unfolding bound_of
 query_has query spans sound =
     let fit = fit_groups (context_of query).scope (row_scope query) query.select.group spans sound.group in
-    either_has (is_group query) (grouping_of query) (kept_by (context_of query) query.select.join query.select.deduplicate)
-    (record { each = fit.0; one = fit.1 })
-    (kept_has (context_of query) query.select.join query.select.deduplicate)
+    shape_has HasWindowsBy query (λ grouped. record { each = fit.0; one = fit.1 }) (λ join is. tt) (λ own none is. tt) (λ none. tt)
 
 pub windows_are_fit : WindowsAreFit
 windows_are_fit query none tokens is =

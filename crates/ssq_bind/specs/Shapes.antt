@@ -1,5 +1,5 @@
 -- What a bound query shows and what it keeps.
-use Rattle.std.specs.Prelude.{ℕ, ◌+◌, ℤ, pos, if◌then◌else◌, List, [], ◌∷◌, ◌++◌, length, position, Option, Some, None}
+use Rattle.std.specs.Prelude.{ℕ, ◌+◌, ℤ, pos, Bool, if◌then◌else◌, List, [], ◌∷◌, ◌++◌, length, position, Option, Some, None}
 use Rattle.std.specs.Str.{bytes_eq}
 use Rattle.ssq_value.specs.declared.column.ColType.{ColType}
 use Rattle.ssq_value.specs.declared.column.ColType.TheVariants as type
@@ -96,10 +96,13 @@ abbrev pub order_of : Direction → Order
 order_of direction.Ascending = order.Ascending
 order_of direction.Descending = order.Descending
 
+abbrev pub is_output : List ℕ → Item → Bool
+is_output name x = bytes_eq (item_name x) name
+
 -- the first output of this name
 abbrev pub sort_key : List Item → OrderBy → SortKey
 sort_key items by = record {
-  output = or_zero (position (λ x. bytes_eq (item_name x) by.name.text) items);
+  output = or_zero (position (is_output by.name.text) items);
   direction = order_of by.direction;
 }
 

@@ -201,11 +201,6 @@ literal _ = value.Null
 
 -- The expression whose names are bound, with so many aggregates in front of it.
 unfoldable pub value_of : Context → Within → ℕ → Expr → Typed
-value_of context w before (expr.Number n at) = typed.Constant (value.Int n)
-value_of context w before (expr.Text text at) = typed.Constant (value.Text text)
-value_of context w before (expr.Truth truth at) = typed.Constant (value.Truth truth)
-value_of context w before (expr.Timestamp moment at) = typed.Constant (value.Time moment.micros)
-value_of context w before (expr.Interval span at) = typed.Constant value.Null
 value_of context w before (expr.Column column) = column_value context w column
 value_of context w before (expr.CountRows at) = numbered w before
 value_of context w before (expr.Aggregate' f at p (only x)) = numbered w before
@@ -215,6 +210,7 @@ value_of context w before (expr.Binary' left_at p (only a) o at right_at q (only
     shifted_or (shift_of o b) (value_of context w before a) (binary_value o (value_of context w before a) (value_of context w (before + count w a) b))
 value_of context w before (expr.Between' p (only a) at q (only b) r (only c)) =
     between_value (value_of context w before a) (value_of context w (before + count w a) b) (value_of context w (before + (count w a + count w b)) c)
+value_of context w before e = typed.Constant (literal e)
 
 -- The aggregates of an expression from the left, those in aggregates aside.
 unfoldable pub aggregates_of : Context → Within → Expr → List Aggregate

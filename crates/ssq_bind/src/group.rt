@@ -1,12 +1,10 @@
 //! GROUP BY, DEDUPLICATE and ORDER BY.
 
 ghost use Rattle.std.specs.Prelude.{◌≡◌, map, position, IfOk};
-ghost use Rattle.std.specs.Str.{bytes_eq};
-ghost use Rattle.ssq_check.specs.Lists.{item_name};
-ghost use Rattle.ssq_bind.specs.Shapes.{order_of, sort_key, size_in, window_size, group_items, bare_index, key_of};
+ghost use Rattle.ssq_bind.specs.Value.{or_zero};
+ghost use Rattle.ssq_bind.specs.Shapes.{order_of, is_output, sort_key, size_in, window_size, group_items, bare_index, key_of};
 
 use crate::context::{bare_spot, row_index};
-use crate::value::or_zero;
 use ssq_ast::{Group, GroupBy, Ident, Item, OrderBy};
 use ssq_check::{Scope, item_name, slide_of};
 use ssq_shape::{Direction, GroupKey, SortKey};
@@ -102,19 +100,23 @@ fn order_of(direction: ssq_ast::Direction) -> Direction
     }
 }
 
-fn output_named(items: &[Item], name: &str) -> Option<usize>
-    ensures { result ≡ position (λ item. bytes_eq (item_name item) name.now) items.now }
+/// The first output of the name, the first of all where there is none, which is only in a query with a fault.
+fn output_named(items: &[Item], name: &str) -> usize
+    ensures { result ≡ or_zero (position (is_output name.now) items.now) }
 {
-    items
-        .iter()
-        .position(|item| item_name(item).as_str() == name)
+    for (at, item) in items.iter().enumerate() {
+        if item_name(item).as_str() == name {
+            return at;
+        }
+    }
+    0
 }
 
 fn sort_key(items: &[Item], by: &OrderBy) -> SortKey
     ensures { result ≡ sort_key items.now by.now }
 {
     SortKey {
-        output: or_zero(output_named(items, by.name.text.as_str())),
+        output: output_named(items, by.name.text.as_str()),
         direction: order_of(by.direction),
     }
 }

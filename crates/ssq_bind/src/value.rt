@@ -235,11 +235,6 @@ pub(crate) fn value_of(
     ensures found { OnOk result (found.new ≡ found.old ++ aggregates_of context.now within value.now) }
 {
     match value {
-        Expr::Number { .. } => literal(value),
-        Expr::Text { .. } => literal(value),
-        Expr::Truth { .. } => literal(value),
-        Expr::Timestamp { .. } => literal(value),
-        Expr::Interval { .. } => literal(value),
         Expr::Column { value } => column_value(alloc, context, within, value),
         Expr::CountRows { .. } => rows_counted(within, found),
         Expr::Aggregate {
@@ -261,9 +256,10 @@ pub(crate) fn value_of(
             right,
             ..
         } => {
+            let right = right.get();
             let a = operand_of(alloc, context, within, found, left.get())?;
-            let b = operand_of(alloc, context, within, found, right.get())?;
-            Ok(shifted_or(shift_of(*op, right.get()), *op, a, b))
+            let b = operand_of(alloc, context, within, found, right)?;
+            Ok(shifted_or(shift_of(*op, right), *op, a, b))
         }
         Expr::Between {
             operand,
@@ -276,6 +272,7 @@ pub(crate) fn value_of(
             let most = operand_of(alloc, context, within, found, high.get())?;
             Ok(between_value(tested, least, most))
         }
+        _ => literal(value),
     }
 }
 

@@ -1,6 +1,7 @@
 -- What a clause or a query breaks, put together from its parts.
-use Rattle.std.proofs.Common.{◌≡◌, ◌∙◌, ap, sym, subst, ℕ, Bool, false, List, [], ◌++◌, map, Option}
+use Rattle.std.proofs.Common.{◌≡◌, ◌∙◌, ap, sym, subst, ℕ, Bool, false, List, [], map, Option}
 use Rattle.std.specs.List.{flat_map}
+use Rattle.std.specs.Prelude.{slice_get}
 use Rattle.ssq_ast.specs.declared.expr.Ident.{Ident}
 use Rattle.ssq_ast.specs.declared.query.ColumnDecl.{ColumnDecl}
 use Rattle.ssq_ast.specs.declared.query.Deduplicate.{Deduplicate}
@@ -16,14 +17,17 @@ use Rattle.ssq_check.specs.declared.fault.Cause.TheVariants as cause
 use Rattle.ssq_check.specs.declared.scope.Scope.{Scope}
 use Rattle.ssq_check.specs.declared.scope.Within.{Within}
 use Rattle.ssq_check.specs.declared.scope.Within.TheVariants as within
+use Rattle.ssq_check.specs.declared.tally.Tally.{Tally}
+use Rattle.ssq_check.specs.Counted.{none_of, counted}
 use Rattle.ssq_check.specs.Fault.{Faults, FirstOf, sooner}
 use Rattle.ssq_check.specs.Broken.{Either, Rule}
-use Rattle.ssq_check.specs.Lists.{Where, Each, Doubled, Past, Beyond, item_first, ItemsFaults}
+use Rattle.ssq_check.specs.Lists.{Where, Each, Doubled, Standing, Past, Beyond, item_first, ItemsFaults}
 use Rattle.ssq_check.specs.Names.{is_there, row_scope, group_keys, with_keys, scope_of}
-use Rattle.ssq_check.specs.Shown.{item_aggregates, having_aggregates, shown_aggregates, group_place_by, group_place, within_by}
+use Rattle.ssq_check.specs.Shown.{shown_aggregates, group_place_at, group_place, within_by}
 use Rattle.ssq_check.specs.Clauses.{ConditionFaults, HavingFaults, WatermarkFaults, decl_name, decl_place, StreamFaults, StreamsFaults, JoinedFaults, OnFaults, JoinFaults, ident_name, ident_place, IdentFaults, DeduplicateFaults, GroupItemFaults, group_columns, group_windows, group_first, GroupFaults, OrderFaults}
 use Rattle.ssq_check.specs.Whole.{DistinctFaults, LimitFaults, StatefulFaults, WordFaults, RowFaults, ShownFaults, OwnFaults, SelectFaults, QueryFaults}
 use Rattle.ssq_check.proofs.First.{first_sooner}
+use Rattle.ssq_check.proofs.Tallied.{past_is, first_is}
 
 pub first_of_two : (P Q : Faults) (a b o : Option BindFault) → o ≡ sooner a b → FirstOf P a → FirstOf Q b → FirstOf (Either P Q) o
 first_of_two P Q a b o is p q = subst (λ (v : Option BindFault). FirstOf (Either P Q) v) (sym is) (first_sooner P Q a b p q)
@@ -62,17 +66,17 @@ AllGroups scope xs =
     (Either (Past cause.BadWindow 1 (flat_map group_windows xs))
     (Beyond (map group_first xs))))
 
-pub groups_first_of : (scope : Scope) (xs items : List Group) (windows ws : List ℕ) (a b c d p q o : Option BindFault)
-    → xs ≡ items → windows ≡ flat_map group_windows xs → ws ≡ windows
+pub groups_first_of : (scope : Scope) (xs items : List Group) (windows : Tally) (a b c d p q o : Option BindFault)
+    → xs ≡ items → windows ≡ counted (none_of 1) (flat_map group_windows xs)
     → p ≡ sooner c d → q ≡ sooner b p → o ≡ sooner a q
-    → FirstOf (Each (GroupItemFaults scope) xs) a → FirstOf (Doubled ident_name ident_place [] (flat_map group_columns xs)) b → FirstOf (Past cause.BadWindow 1 ws) c → FirstOf (Beyond (map group_first xs)) d
+    → FirstOf (Each (GroupItemFaults scope) xs) a → FirstOf (Doubled ident_name ident_place [] (flat_map group_columns xs)) b → FirstOf (Standing cause.BadWindow windows.past) c → FirstOf (Beyond (map group_first xs)) d
     → FirstOf (AllGroups scope items) o
-groups_first_of scope xs items windows ws a b c d p q o xs_is windows_is ws_is p_is q_is o_is ha hb hc hd =
+groups_first_of scope xs items windows a b c d p q o xs_is windows_are p_is q_is o_is ha hb hc hd =
     subst (λ (v : List Group). FirstOf (AllGroups scope v) o) xs_is
     (first_of_two (Each (GroupItemFaults scope) xs) _ a q o o_is ha
     (first_of_two (Doubled ident_name ident_place [] (flat_map group_columns xs)) _ b p q q_is hb
     (first_of_two (Past cause.BadWindow 1 (flat_map group_windows xs)) (Beyond (map group_first xs)) c d p p_is
-    (subst (λ (v : List ℕ). FirstOf (Past cause.BadWindow 1 v) c) (ws_is ∙ windows_is) hc) hd)))
+    (subst (λ (v : Option ℕ). FirstOf (Standing cause.BadWindow v) c) ((λ i. (windows_are i).past) ∙ past_is 1 (flat_map group_windows xs)) hc) hd)))
 
 pub words_first : (select : Select) (grouped : Option ℕ) (joins : Bool) (a b c p o : Option BindFault)
     → joins ≡ is_there select.join → p ≡ sooner b c → o ≡ sooner a p
@@ -98,36 +102,36 @@ rows_first scope select left from a b c d e p q r o left_is from_is p_is q_is r_
     (first_of_two (Where (ConditionFaults scope within.Row) select.filter) _ c p q q_is hc
     (first_of_two (Where (DeduplicateFaults scope) select.deduplicate) (Where (GroupFaults scope) select.group) d e p p_is hd he)))
 
-pub shown_first : (scope : Scope) (grouped : Option ℕ) (places : List ℕ) (select : Select) (is_group : Bool) (w : Within) (xs ys zs : List Item) (os : List OrderBy) (a b c d e p q r o : Option BindFault)
+pub shown_first : (scope : Scope) (grouped : Option ℕ) (past : Option ℕ) (select : Select) (is_group : Bool) (w : Within) (xs ys zs : List Item) (os : List OrderBy) (a b c d e p q r o : Option BindFault)
     → is_group ≡ is_there grouped → w ≡ within_by is_group → xs ≡ select.items → ys ≡ select.items → zs ≡ select.items → os ≡ select.order
     → p ≡ sooner d e → q ≡ sooner c p → r ≡ sooner b q → o ≡ sooner a r
-    → FirstOf (ItemsFaults scope w xs) a → FirstOf (Beyond (map item_first ys)) b → FirstOf (Past cause.TooMany 64 places) c
+    → FirstOf (ItemsFaults scope w xs) a → FirstOf (Beyond (map item_first ys)) b → FirstOf (Standing cause.TooMany past) c
     → FirstOf (Where (HavingFaults scope w is_group) select.having) d → FirstOf (Each (OrderFaults zs) os) e
-    → FirstOf (ShownFaults scope grouped places select) o
-shown_first scope grouped places select is_group w xs ys zs os a b c d e p q r o group_is within_is xs_is ys_is zs_is os_is p_is q_is r_is o_is ha hb hc hd he =
+    → FirstOf (ShownFaults scope grouped past select) o
+shown_first scope grouped past select is_group w xs ys zs os a b c d e p q r o group_is within_is xs_is ys_is zs_is os_is p_is q_is r_is o_is ha hb hc hd he =
     let w_is : w ≡ within_by (is_there grouped) = within_is ∙ ap within_by group_is in
     first_of_two (ItemsFaults scope (within_by (is_there grouped)) select.items) _ a r o o_is
     (subst (λ (v : Within). FirstOf (ItemsFaults scope v select.items) a) w_is (subst (λ (v : List Item). FirstOf (ItemsFaults scope w v) a) xs_is ha))
     (first_of_two (Beyond (map item_first select.items)) _ b q r r_is
     (subst (λ (v : List Item). FirstOf (Beyond (map item_first v)) b) ys_is hb)
-    (first_of_two (Beyond places) _ c p q q_is hc
+    (first_of_two (Standing cause.TooMany past) _ c p q q_is hc
     (first_of_two (Where (HavingFaults scope (within_by (is_there grouped)) (is_there grouped)) select.having) (Each (OrderFaults select.items) select.order) d e p p_is
     (subst (λ (v : Within). FirstOf (Where (HavingFaults scope v (is_there grouped)) select.having) d) w_is
     (subst (λ (v : Bool). FirstOf (Where (HavingFaults scope w v) select.having) d) group_is hd))
     (subst (λ (v : List OrderBy). FirstOf (Each (OrderFaults select.items) v) e) os_is
     (subst (λ (v : List Item). FirstOf (Each (OrderFaults v) os) e) zs_is he)))))
 
-pub own_first : (scope : Scope) (query : Query) (items : List Item) (places ps qs : List ℕ) (grouped : Option ℕ) (a b o : Option BindFault)
-    → items ≡ query.select.items → places ≡ flat_map item_aggregates items ++ having_aggregates query.select.having
-    → ps ≡ places → grouped ≡ group_place_by query.select.group ps → qs ≡ places → o ≡ sooner a b
-    → FirstOf (ShownFaults scope grouped qs query.select) a → FirstOf (WordFaults query.select grouped) b
+pub own_first : (scope : Scope) (query : Query) (tally : Tally) (grouped : Option ℕ) (a b o : Option BindFault)
+    → tally ≡ counted (none_of 64) (shown_aggregates query) → grouped ≡ group_place_at query.select.group tally.first → o ≡ sooner a b
+    → FirstOf (ShownFaults scope grouped tally.past query.select) a → FirstOf (WordFaults query.select grouped) b
     → FirstOf (OwnFaults scope query) o
-own_first scope query items places ps qs grouped a b o items_is places_is ps_is grouped_is qs_is o_is ha hb =
-    let places_are : places ≡ shown_aggregates query = places_is ∙ ap (λ (v : List Item). flat_map item_aggregates v ++ having_aggregates query.select.having) items_is in
-    let grouped_at : grouped ≡ group_place query = grouped_is ∙ ap (group_place_by query.select.group) (ps_is ∙ places_are) in
-    first_of_two (ShownFaults scope (group_place query) (shown_aggregates query) query.select) (WordFaults query.select (group_place query)) a b o o_is
-    (subst (λ (v : Option ℕ). FirstOf (ShownFaults scope v (shown_aggregates query) query.select) a) grouped_at
-    (subst (λ (v : List ℕ). FirstOf (ShownFaults scope grouped v query.select) a) (qs_is ∙ places_are) ha))
+own_first scope query tally grouped a b o tally_is grouped_is o_is ha hb =
+    let past : tally.past ≡ slice_get (shown_aggregates query) 64 = (λ i. (tally_is i).past) ∙ past_is 64 (shown_aggregates query) in
+    let first : tally.first ≡ slice_get (shown_aggregates query) 0 = (λ i. (tally_is i).first) ∙ first_is 64 (shown_aggregates query) in
+    let grouped_at : grouped ≡ group_place query = grouped_is ∙ ap (group_place_at query.select.group) first in
+    first_of_two (ShownFaults scope (group_place query) (slice_get (shown_aggregates query) 64) query.select) (WordFaults query.select (group_place query)) a b o o_is
+    (subst (λ (v : Option ℕ). FirstOf (ShownFaults scope v (slice_get (shown_aggregates query) 64) query.select) a) grouped_at
+    (subst (λ (v : Option ℕ). FirstOf (ShownFaults scope grouped v query.select) a) past ha))
     (subst (λ (v : Option ℕ). FirstOf (WordFaults query.select v) b) grouped_at hb)
 
 pub select_first : (query : Query) (rows all : Scope) (a b o : Option BindFault)

@@ -8,7 +8,7 @@ some_if : (b : Bool) (n : ℕ) → is_some (cond b (Some n) None) ≡ b
 some_if true n = refl
 some_if false n = refl
 
-one_less : (m n : ℕ) → nat_lt (1 + m) (suc n) ≡ nat_lt m n
+pub one_less : (m n : ℕ) → nat_lt (1 + m) (suc n) ≡ nat_lt m n
 one_less m n = grind (arith, nat_tests, common_steps)
 
 pub some_first : {X : Type 0} (p : X → Bool) (xs : List X) → is_some (position p xs) ≡ list_any p xs

@@ -1,3 +1,4 @@
+pub mod Behind
 pub mod Declared
 pub mod Ends
 pub mod Erased
@@ -10,5 +11,5 @@ pub mod Nodes
 pub mod OnWay
 pub mod Opened
 pub mod Outputs
-pub mod Places
 pub mod SoundLemmas
+pub mod Tallied

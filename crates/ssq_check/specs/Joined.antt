@@ -47,20 +47,10 @@ is_edge _ _ = false
 
 -- what an expression joins by AND, each part with its first token; the expression itself stands at the first token `at`
 unfoldable pub conjuncts : ℕ → Expr → List Conjunct
-conjuncts at (expr.Number n own) = record { at = at; value = expr.Number n own } ∷ []
-conjuncts at (expr.Text text own) = record { at = at; value = expr.Text text own } ∷ []
-conjuncts at (expr.Truth truth own) = record { at = at; value = expr.Truth truth own } ∷ []
-conjuncts at (expr.Timestamp moment own) = record { at = at; value = expr.Timestamp moment own } ∷ []
-conjuncts at (expr.Interval span own) = record { at = at; value = expr.Interval span own } ∷ []
-conjuncts at (expr.Column column) = record { at = at; value = expr.Column column } ∷ []
-conjuncts at (expr.CountRows own) = record { at = at; value = expr.CountRows own } ∷ []
-conjuncts at (expr.Aggregate' f own p (only x)) = record { at = at; value = expr.Aggregate' f own p (only x) } ∷ []
-conjuncts at (expr.Unary' o own p (only x)) = record { at = at; value = expr.Unary' o own p (only x) } ∷ []
-conjuncts at (expr.IsNull' p (only x) own test) = record { at = at; value = expr.IsNull' p (only x) own test } ∷ []
-conjuncts at (expr.Between' p (only a) own q (only b) r (only c)) = record { at = at; value = expr.Between' p (only a) own q (only b) r (only c) } ∷ []
 conjuncts at (expr.Binary' left_at p (only a) o own right_at q (only b)) =
     if is_and o then conjuncts left_at a ++ conjuncts right_at b
     else record { at = at; value = expr.Binary' left_at p (only a) o own right_at q (only b) } ∷ []
+conjuncts at e = record { at = at; value = e } ∷ []
 
 -- ---- columns
 

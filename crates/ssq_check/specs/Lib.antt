@@ -2,6 +2,7 @@ pub mod Broken
 pub mod Checked
 pub mod Clauses
 pub mod Columns
+pub mod Counted
 pub mod Erased
 pub mod Fault
 pub mod Joined

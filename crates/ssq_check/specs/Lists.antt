@@ -45,9 +45,13 @@ abbrev pub double_at : ℕ → Bool → Option BindFault
 double_at at false = None
 double_at at true = Some (record { at = at; cause = cause.DoubleName })
 
--- something stands behind the first so many: a rule that is broken by it, where it stands
+-- a rule that is broken by what stands at a place, where something stands there
+abbrev pub Standing : Cause → Option ℕ → Faults
+Standing own place = Where (λ at. Rule own at (Unit {0})) place
+
+-- something stands behind the first so many
 abbrev pub Past : Cause → ℕ → List ℕ → Faults
-Past own most places = Where (λ at. Rule own at (Unit {0})) (slice_get places most)
+Past own most places = Standing own (slice_get places most)
 
 -- a 65th of what stands at these places
 abbrev pub Beyond : List ℕ → Faults

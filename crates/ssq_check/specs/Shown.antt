@@ -15,18 +15,13 @@ use Rattle.ssq_check.specs.Names.{is_there}
 
 -- the places of the aggregates that stand in no other, from the left
 unfoldable pub aggregates : Expr → List ℕ
-aggregates (expr.Number n at) = []
-aggregates (expr.Text text at) = []
-aggregates (expr.Truth truth at) = []
-aggregates (expr.Timestamp moment at) = []
-aggregates (expr.Interval span at) = []
-aggregates (expr.Column column) = []
 aggregates (expr.CountRows at) = at ∷ []
 aggregates (expr.Aggregate' f at p (only x)) = at ∷ []
 aggregates (expr.Unary' o at p (only x)) = aggregates x
 aggregates (expr.IsNull' p (only x) at test) = aggregates x
 aggregates (expr.Binary' left_at p (only a) o at right_at q (only b)) = aggregates a ++ aggregates b
 aggregates (expr.Between' p (only a) at q (only b) r (only c)) = aggregates a ++ (aggregates b ++ aggregates c)
+aggregates _ = []
 
 abbrev pub item_aggregates : Item → List ℕ
 item_aggregates (item.Column column at named_at) = []
@@ -41,9 +36,12 @@ abbrev pub shown_aggregates : Query → List ℕ
 shown_aggregates query = flat_map item_aggregates query.select.items ++ having_aggregates query.select.having
 
 -- where a query says that it groups its rows: at GROUP BY, else at its first aggregate
+abbrev pub group_place_at : Option GroupBy → Option ℕ → Option ℕ
+group_place_at (Some by) aggregate = Some by.at
+group_place_at None aggregate = aggregate
+
 abbrev pub group_place_by : Option GroupBy → List ℕ → Option ℕ
-group_place_by (Some by) places = Some by.at
-group_place_by None places = slice_get places 0
+group_place_by group places = group_place_at group (slice_get places 0)
 
 abbrev pub group_place : Query → Option ℕ
 group_place query = group_place_by query.select.group (shown_aggregates query)

@@ -1,35 +1,30 @@
 -- What is met on the way through ON, by its parts.
-use Rattle.std.specs.Prelude.{ℕ, suc, zero, Bool, true, false, if◌then◌else◌, List, [], ◌∷◌, Option, Some, None}
+use Rattle.std.specs.Prelude.{ℕ, Bool, true, false, if◌then◌else◌, List, [], ◌∷◌, Option, Some, None}
 use Rattle.ssq_check.specs.declared.fault.BindFault.{BindFault}
 use Rattle.ssq_check.specs.declared.fault.Cause.TheVariants as cause
 use Rattle.ssq_check.specs.declared.joined.Walk.{Walk}
 use Rattle.ssq_check.specs.declared.scope.Scope.{Scope}
+use Rattle.ssq_check.specs.Counted.{none_of, met}
 use Rattle.ssq_check.specs.Fault.{sooner}
 use Rattle.ssq_check.specs.Joined.{Conjunct, is_key_equality, between_at, is_misplaced}
 
 abbrev pub start : Walk
-start = record { seen = false; bound = None; more = Some 64; key = None }
+start = record { seen = false; bound = None; keys = none_of 64 }
 
 abbrev pub bound_fault : Bool → ℕ → Option BindFault
 bound_fault bad at = if bad then Some (record { at = at; cause = cause.BadBound }) else None
 
 abbrev pub bound_met : ℕ → Bool → Walk → Walk
-bound_met at misplaced walk = record { seen = true; bound = sooner walk.bound (bound_fault misplaced at); more = walk.more; key = walk.key }
+bound_met at misplaced walk = record { seen = true; bound = sooner walk.bound (bound_fault misplaced at); keys = walk.keys }
 
 abbrev pub bound_step : Option ℕ → Bool → Walk → Walk
 bound_step None misplaced walk = walk
 bound_step (Some at) misplaced walk = bound_met at misplaced walk
 
--- the key equality at this place is one more, or one too many
-abbrev pub key_met : ℕ → Option ℕ → Walk → Walk
-key_met at None walk = walk
-key_met at (Some zero) walk =
-    record { seen = walk.seen; bound = walk.bound; more = None; key = sooner walk.key (Some (record { at = at; cause = cause.TooMany })) }
-key_met at (Some (suc more)) walk = record { seen = walk.seen; bound = walk.bound; more = Some more; key = walk.key }
-
+-- a key equality at this place
 abbrev pub key_step : Bool → ℕ → Walk → Walk
 key_step false at walk = walk
-key_step true at walk = key_met at walk.more walk
+key_step true at walk = record { seen = walk.seen; bound = walk.bound; keys = met walk.keys at }
 
 -- A conjunct is a key equality, or a BETWEEN, or neither.
 unfoldable pub stepped : Scope → Walk → Conjunct → Walk

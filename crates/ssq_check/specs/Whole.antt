@@ -1,5 +1,5 @@
 -- Which rules a query breaks, and where.
-use Rattle.std.specs.Prelude.{◌≡◌, ℕ, Bool, true, false, ◌||◌, List, map, Option}
+use Rattle.std.specs.Prelude.{◌≡◌, ℕ, Bool, true, false, ◌||◌, map, slice_get, Option}
 use Rattle.ssq_ast.specs.declared.query.Deduplicate.{Deduplicate}
 use Rattle.ssq_ast.specs.declared.query.Limit.{Limit}
 use Rattle.ssq_ast.specs.declared.query.Query.{Query}
@@ -11,7 +11,7 @@ use Rattle.ssq_check.specs.declared.scope.Scope.{Scope}
 use Rattle.ssq_check.specs.declared.scope.Within.TheVariants as within
 use Rattle.ssq_check.specs.Fault.{Faults, IsFirst}
 use Rattle.ssq_check.specs.Broken.{Either, Rule}
-use Rattle.ssq_check.specs.Lists.{Where, Each, Beyond, item_first, ItemsFaults}
+use Rattle.ssq_check.specs.Lists.{Where, Each, Standing, Beyond, item_first, ItemsFaults}
 use Rattle.ssq_check.specs.Names.{is_there, row_scope, scope_of}
 use Rattle.ssq_check.specs.Shown.{shown_aggregates, group_place, within_by}
 use Rattle.ssq_check.specs.Clauses.{ConditionFaults, HavingFaults, StreamsFaults, JoinFaults, DeduplicateFaults, GroupFaults, OrderFaults}
@@ -51,19 +51,19 @@ RowFaults scope select =
     (Either (Where (DeduplicateFaults scope) select.deduplicate)
     (Where (GroupFaults scope) select.group))))
 
--- what is broken in SELECT, HAVING and ORDER BY of a query that groups its rows at a place, or doesn't, and shows aggregates at these places
-abbrev pub ShownFaults : Scope → Option ℕ → List ℕ → Select → Faults
-ShownFaults scope grouped places select =
+-- what is broken in SELECT, HAVING and ORDER BY of a query that groups its rows at a place, or doesn't, and has a 65th aggregate at a place, or hasn't
+abbrev pub ShownFaults : Scope → Option ℕ → Option ℕ → Select → Faults
+ShownFaults scope grouped past select =
     Either (ItemsFaults scope (within_by (is_there grouped)) select.items)
     (Either (Beyond (map item_first select.items))
-    (Either (Beyond places)
+    (Either (Standing cause.TooMany past)
     (Either (Where (HavingFaults scope (within_by (is_there grouped)) (is_there grouped)) select.having)
     (Each (OrderFaults select.items) select.order))))
 
 -- what is broken in what a query shows, whose names are those of groups, and in its words
 abbrev pub OwnFaults : Scope → Query → Faults
 OwnFaults scope query =
-    Either (ShownFaults scope (group_place query) (shown_aggregates query) query.select)
+    Either (ShownFaults scope (group_place query) (slice_get (shown_aggregates query) 64) query.select)
     (WordFaults query.select (group_place query))
 
 -- what is broken behind the declarations

@@ -1,12 +1,13 @@
 //! The clauses of a query: the first of the rules that each of them breaks.
 
-ghost use Rattle.std.specs.Prelude.{◌≡◌, ◌++◌, ◌*ℤ◌, pos, int_lt, [], None, IfOk, OnOk};
+ghost use Rattle.std.specs.Prelude.{◌≡◌, ◌*ℤ◌, pos, int_lt, [], None, IfOk};
 ghost use Rattle.std.specs.List.{flat_map};
+ghost use Rattle.ssq_check.specs.Counted.{none_of, counted};
 ghost use Rattle.ssq_check.specs.Fault.{FirstOf};
-ghost use Rattle.ssq_check.specs.Lists.{Each, Where, has_name};
+ghost use Rattle.ssq_check.specs.Lists.{Each, Where};
 ghost use Rattle.ssq_check.specs.Rules.{type_of};
 ghost use Rattle.ssq_check.specs.Clauses as clause;
-ghost use Rattle.ssq_check.specs.Clauses.{ConditionFaults, HavingFaults, JoinedFaults, JoinFaults, IdentFaults, DeduplicateFaults, SizeFaults, WindowFaults, GroupFaults, OrderFaults, group_windows, slide_of};
+ghost use Rattle.ssq_check.specs.Clauses.{ConditionFaults, HavingFaults, JoinedFaults, JoinFaults, DeduplicateFaults, SizeFaults, WindowFaults, GroupFaults, OrderFaults, group_windows, slide_of};
 ghost use Rattle.ssq_check.specs.Scope.{is_window_name};
 ghost use Rattle.ssq_check.specs.declared.scope.Within.TheVariants as within;
 
@@ -14,11 +15,12 @@ use crate::each::{Checked, first_in};
 use crate::expr::check_expr;
 use crate::fault::{BindFault, Cause, fault_in, rule, sooner, unless};
 use crate::joined::{check_on, spot_in};
-use crate::list::{Names, beyond, first_double, first_double_column, past_places};
+use crate::list::{Names, beyond, first_double, first_double_column, standing};
 use crate::scope::{Scope, Source, Spot, Within, bare_spot, is_window_name};
+use crate::tally::Tally;
 use indexmap::IndexSet;
 use ssq_ast::{Condition, Deduplicate, Group, GroupBy, Ident, Item, Join, OrderBy, Window};
-use ssq_value::{ColType, Column, Sequence, Text};
+use ssq_value::{ColType, Column, Text};
 use std::alloc::{AllocError, Global};
 
 /// How many windows may hold one time.
@@ -113,19 +115,13 @@ pub(crate) fn check_join(scope: &Scope, from: &str, join: &Option<Join>) -> Opti
     }
 }
 
-fn ident_fault(scope: &Scope, ident: &Ident) -> Option<BindFault>
-    ensures { FirstOf (IdentFaults scope.now ident.now) result }
-{
-    fault_in(bare_spot(scope, ident))
-}
-
 impl Checked<Scope> for Ident {
     ghost use Rattle.ssq_check.specs.Clauses.{IdentFaults};
 
     ghost faults = { IdentFaults };
 
     fn first_fault(&self, _alloc: Global, scope: &Scope) -> Result<Option<BindFault>, AllocError> {
-        Ok(ident_fault(scope, self))
+        Ok(fault_in(bare_spot(scope, self)))
     }
 }
 
@@ -246,31 +242,32 @@ impl Checked<Scope> for Group {
 
     ghost faults = { GroupItemFaults };
 
-    fn first_fault(&self, _alloc: Global, scope: &Scope) -> Result<Option<BindFault>, AllocError> {
+    fn first_fault(&self, alloc: Global, scope: &Scope) -> Result<Option<BindFault>, AllocError> {
         match self {
-            Group::Column(ident) => Ok(ident_fault(scope, ident)),
+            Group::Column(ident) => ident.first_fault(alloc, scope),
             Group::Window(window) => Ok(window_fault(scope, window)),
         }
     }
 }
 
-fn add_window(item: &Group, places: &mut Sequence<usize>) -> Result<(), AllocError>
-    ensures { OnOk result (places.new ≡ places.old ++ group_windows item.now) }
+fn with_window(item: &Group, tally: Tally) -> Tally
+    ensures { result ≡ counted tally (group_windows item.now) }
 {
     match item {
-        Group::Column(_) => Ok(()),
-        Group::Window(window) => places.push(window.at),
+        Group::Column(_) => tally,
+        Group::Window(window) => tally.counting(window.at),
     }
 }
 
-fn window_places(alloc: Global, items: &[Group]) -> Result<Sequence<usize>, AllocError>
-    ensures { IfOk result (λ places. places ≡ flat_map group_windows items.now) }
+/// The places of the windows, of which there may be one.
+fn windows_in(items: &[Group]) -> Tally
+    ensures { result ≡ counted (none_of 1) (flat_map group_windows items.now) }
 {
-    let mut places = Sequence::new(alloc);
+    let mut tally = Tally::none_of(1);
     for item in items {
-        add_window(item, &mut places)?;
+        tally = with_window(item, tally);
     }
-    Ok(places)
+    tally
 }
 
 #[tactic(auto, using(crate::proofs::First::first_sooner))]
@@ -280,8 +277,7 @@ fn check_groups(alloc: Global, scope: &Scope, by: &GroupBy) -> Result<Option<Bin
     let items = by.items.as_slice();
     let each = first_in(alloc, scope, items)?;
     let doubled = first_double_column(alloc, items)?;
-    let windows = window_places(alloc, items)?;
-    let second = past_places(Cause::BadWindow, 1, windows.as_slice());
+    let second = standing(Cause::BadWindow, windows_in(items).past);
     Ok(sooner(each, sooner(doubled, sooner(second, beyond(items)))))
 }
 
@@ -299,12 +295,6 @@ pub(crate) fn check_group(
     }
 }
 
-fn is_output(names: &IndexSet<Text>, name: &Text) -> bool
-    ensures { result ≡ has_name name.now names.now.keys }
-{
-    names.contains(name)
-}
-
 impl Checked<IndexSet<Text>> for OrderBy {
     ghost use Rattle.ssq_check.specs.Clauses.{OutputFaults};
 
@@ -315,7 +305,7 @@ impl Checked<IndexSet<Text>> for OrderBy {
         _alloc: Global,
         names: &IndexSet<Text>,
     ) -> Result<Option<BindFault>, AllocError> {
-        let is_output = is_output(names, &self.name.text);
+        let is_output = names.contains(&self.name.text);
         Ok(unless(Cause::UnknownName, self.name.at, is_output))
     }
 }

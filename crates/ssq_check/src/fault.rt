@@ -8,7 +8,7 @@ ghost use Rattle.ssq_check.specs.Lists.{fault_in};
 use thiserror::Error;
 
 /// A rule of binding that is broken. Of two at one place the one that stands first here is told.
-#[derive(Clone, Copy, Debug, PartialEq, Eq)]
+#[derive(Clone, Copy, Debug)]
 pub enum Cause {
     /// A name stands for nothing.
     UnknownName,
@@ -37,7 +37,7 @@ pub enum Cause {
 }
 
 /// A rule that is broken, and where.
-#[derive(Clone, Copy, Debug, PartialEq, Eq)]
+#[derive(Clone, Copy, Debug)]
 pub struct BindFault {
     /// The place of the token at which it is told: of its first byte, counted from 0.
     pub at: usize,
@@ -45,7 +45,7 @@ pub struct BindFault {
 }
 
 /// Why a query is not bound.
-#[derive(Clone, Copy, Debug, PartialEq, Eq, Error)]
+#[derive(Clone, Copy, Debug, Error)]
 pub enum Refusal {
     /// The first of the rules that it breaks.
     #[error("a rule is broken")]

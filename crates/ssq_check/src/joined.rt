@@ -15,7 +15,9 @@ ghost use Rattle.ssq_check.specs.declared.scope.Within.TheVariants as within;
 use crate::clause::check_condition;
 use crate::expr::{check_expr, is_interval};
 use crate::fault::{BindFault, Cause, sooner};
-use crate::scope::{Scope, Side, Source, Spot, Within, bare_spot, is_same_side, named_spot};
+use crate::list::standing;
+use crate::scope::{Scope, Side, Source, Spot, Within, bare_spot, named_spot};
+use crate::tally::Tally;
 use ssq_ast::{BinaryOp, ColumnRef, Condition, Expr};
 use ssq_value::{ColType, Text};
 
@@ -29,10 +31,8 @@ pub struct Walk {
     pub seen: bool,
     /// The first BETWEEN that may not stand there.
     pub bound: Option<BindFault>,
-    /// How many more key equalities there may be, as long as there are not too many.
-    pub more: Option<usize>,
-    /// The key equality that is one too many.
-    pub key: Option<BindFault>,
+    /// The key equalities.
+    pub keys: Tally,
 }
 
 /// A side of a bound on times.
@@ -123,7 +123,7 @@ fn are_across(left: Option<Spot>, right: Option<Spot>) -> bool
     ensures { result ≡ on.are_across left right }
 {
     match (left, right) {
-        (Some(left), Some(right)) => !is_same_side(left.side, right.side),
+        (Some(left), Some(right)) => left.side != right.side,
         _ => false,
     }
 }
@@ -280,41 +280,22 @@ fn bound_met(walk: Walk, at: usize, misplaced: bool) -> Walk
     Walk {
         seen: true,
         bound: sooner(walk.bound, bound_fault(misplaced, at)),
-        more: walk.more,
-        key: walk.key,
-    }
-}
-
-fn key_met(walk: Walk, at: usize) -> Walk
-    ensures { result ≡ way.key_met at walk.more walk }
-{
-    match walk.more {
-        Some(0) => Walk {
-            seen: walk.seen,
-            bound: walk.bound,
-            more: None,
-            key: sooner(
-                walk.key,
-                Some(BindFault {
-                    at,
-                    cause: Cause::TooMany,
-                }),
-            ),
-        },
-        Some(more) => Walk {
-            seen: walk.seen,
-            bound: walk.bound,
-            more: Some(more - 1),
-            key: walk.key,
-        },
-        None => walk,
+        keys: walk.keys,
     }
 }
 
 fn key_step(walk: Walk, at: usize, is_key: bool) -> Walk
     ensures { result ≡ way.key_step is_key at walk }
 {
-    if is_key { key_met(walk, at) } else { walk }
+    if is_key {
+        Walk {
+            seen: walk.seen,
+            bound: walk.bound,
+            keys: walk.keys.counting(at),
+        }
+    } else {
+        walk
+    }
 }
 
 /// What is met in an expression that stands at the first token `at`.
@@ -347,16 +328,7 @@ fn walked(scope: &Scope, walk: Walk, at: usize, value: &Expr) -> Walk
             let misplaced = is_misplaced(scope, walk.seen, operand.get(), low.get(), high.get());
             bound_met(walk, *between_at, misplaced)
         }
-        Expr::Number { .. } => walk,
-        Expr::Text { .. } => walk,
-        Expr::Truth { .. } => walk,
-        Expr::Timestamp { .. } => walk,
-        Expr::Interval { .. } => walk,
-        Expr::Column { .. } => walk,
-        Expr::CountRows { .. } => walk,
-        Expr::Aggregate { .. } => walk,
-        Expr::Unary { .. } => walk,
-        Expr::IsNull { .. } => walk,
+        _ => walk,
     }
 }
 
@@ -366,17 +338,15 @@ fn start() -> Walk
     Walk {
         seen: false,
         bound: None,
-        more: Some(MOST_KEYS),
-        key: None,
+        keys: Tally::none_of(MOST_KEYS),
     }
 }
 
-#[tactic(auto, using(crate::proofs::OnWay::conjuncts_first))]
 fn check_conjuncts(scope: &Scope, on: &Condition) -> Option<BindFault>
     ensures { FirstOf (ConjunctFaults scope.now (conjuncts on.now.at on.now.value)) result }
 {
     let walk = walked(scope, start(), on.at, &on.value);
-    sooner(walk.key, walk.bound)
+    sooner(standing(Cause::TooMany, walk.keys.past), walk.bound)
 }
 
 /// ON.

@@ -3,7 +3,7 @@
 ghost use Rattle.std.specs.Prelude.{◌≡◌, [], position};
 ghost use Rattle.ssq_check.specs.Keys.{is_window_key, has_window, is_key, is_key_of};
 
-use crate::scope::{Key, Spot, is_same_side};
+use crate::scope::{Key, Spot};
 use ssq_value::Sequence;
 use std::alloc::Global;
 use std::marker::Model;
@@ -37,7 +37,7 @@ fn is_key_of(spot: Spot, key: &Key) -> bool
 {
     match key {
         Key::Window => false,
-        Key::Column(own) => is_same_side(own.side, spot.side) && own.index == spot.index,
+        Key::Column(own) => own.side == spot.side && own.index == spot.index,
     }
 }
 

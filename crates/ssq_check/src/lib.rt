@@ -20,6 +20,7 @@ mod names;
 mod scope;
 mod shown;
 mod stream;
+mod tally;
 mod whole;
 
 pub use clause::slide_of;

@@ -1,10 +1,9 @@
 //! Lists of a query: names that are given twice, and what stands beyond a limit.
 
-ghost use Rattle.std.specs.Prelude.{◌≡◌, ℕ, None, [], map, not, slice_get, IfOk, OnOk};
+ghost use Rattle.std.specs.Prelude.{◌≡◌, None, [], map, not, slice_get, IfOk, OnOk};
 ghost use Rattle.std.specs.List.{flat_map};
 ghost use Rattle.ssq_check.specs.Fault.{FirstOf, sooner};
-ghost use Rattle.ssq_check.specs.Broken.{Rule};
-ghost use Rattle.ssq_check.specs.Lists.{has_name, with_name, item_name, names_from, double_at, Where, Doubled, Past, Beyond};
+ghost use Rattle.ssq_check.specs.Lists.{has_name, with_name, item_name, names_from, double_at, Standing, Doubled, Past, Beyond};
 ghost use Rattle.ssq_check.specs.Clauses.{ident_name, ident_place, group_columns};
 
 use crate::fault::{BindFault, Cause, sooner};
@@ -288,28 +287,12 @@ pub(crate) fn first_double_column(
 /// A rule that is broken by what stands at a place, where something stands there.
 #[tactic(auto, using(crate::proofs::Nodes::first_rule))]
 pub(crate) fn standing(cause: Cause, at: Option<usize>) -> Option<BindFault>
-    ensures { FirstOf (Where (λ (place : ℕ). Rule cause place (Unit {0})) at) result }
+    ensures { FirstOf (Standing cause at) result }
 {
     match at {
         Some(at) => Some(BindFault { at, cause }),
         None => None,
     }
-}
-
-fn nth(places: &[usize], at: usize) -> Option<usize>
-    ensures { result ≡ slice_get places.now at }
-{
-    match places.get(at) {
-        Some(place) => Some(*place),
-        None => None,
-    }
-}
-
-/// A rule that is broken by what stands behind the first so many.
-pub(crate) fn past_places(cause: Cause, most: usize, places: &[usize]) -> Option<BindFault>
-    ensures { FirstOf (Past cause most places.now) result }
-{
-    standing(cause, nth(places, most))
 }
 
 fn place_of<P: Placed>(items: &[P], at: usize) -> Option<usize>

@@ -1,11 +1,10 @@
 //! The streams of a query, and the names that its expressions may use.
 
-ghost use Rattle.std.specs.Prelude.{◌≡◌, ◌++◌, map, position, slice_get, IfOk, OnOk};
+ghost use Rattle.std.specs.Prelude.{◌≡◌, ◌++◌, map, IfOk, OnOk};
 ghost use Rattle.std.specs.List.{flat_map};
 ghost use Rattle.std.specs.Option.{option_copied, option_map};
-ghost use Rattle.std.specs.Str.{bytes_eq};
 ghost use Rattle.ssq_check.specs.declared.scope.Side.TheVariants as side;
-ghost use Rattle.ssq_check.specs.Scope.{spot_from, in_columns};
+ghost use Rattle.ssq_check.specs.Scope.{in_columns};
 ghost use Rattle.ssq_check.specs.Names.{column_of, watermark_name, source_of, declared, left_stream, right_stream, row_scope, keys_of, group_keys, with_keys, scope_of};
 
 use crate::columns::Columns;
@@ -45,35 +44,20 @@ fn columns_of(alloc: Global, decls: &[ColumnDecl]) -> Result<Columns, AllocError
     Columns::new(alloc, list)
 }
 
-fn place_of(decls: &[ColumnDecl], name: &str) -> Option<usize>
-    ensures { result ≡ position (λ decl. bytes_eq decl.name.text name.now) decls.now }
-{
-    decls
-        .iter()
-        .position(|decl| decl.name.text.as_str() == name)
-}
-
-fn spot_at(decls: &[ColumnDecl], at: usize) -> Option<Spot>
-    ensures { result ≡ spot_from side.Left at (option_map column_of (slice_get decls.now at)) }
-{
-    match decls.get(at) {
-        Some(decl) => Some(Spot {
-            side: Side::Left,
-            index: at,
-            kind: decl.kind,
-        }),
-        None => None,
-    }
-}
-
 /// The first of the columns that has this name, as they are declared.
 pub fn declared_spot(decls: &[ColumnDecl], name: &str) -> Option<Spot>
     ensures { result ≡ in_columns side.Left (map column_of decls.now) name.now }
 {
-    match place_of(decls, name) {
-        Some(at) => spot_at(decls, at),
-        None => None,
+    for (at, decl) in decls.iter().enumerate() {
+        if decl.name.text.as_str() == name {
+            return Some(Spot {
+                side: Side::Left,
+                index: at,
+                kind: decl.kind,
+            });
+        }
     }
+    None
 }
 
 fn watermark_name(watermark: &Option<Watermark>) -> Result<Option<Text>, AllocError>

@@ -1,7 +1,7 @@
 //! The names that an expression may use.
 
 ghost use Rattle.std.specs.Prelude.{◌≡◌};
-ghost use Rattle.ssq_check.specs.Scope.{is_same_side, is_window_name, is_window_here, in_source, bare_spot, source_named, known, named_spot, grouped, column_kind};
+ghost use Rattle.ssq_check.specs.Scope.{is_window_name, is_window_here, in_source, bare_spot, source_named, known, named_spot, grouped, column_kind};
 
 use crate::columns::Columns;
 use crate::fault::{BindFault, Cause};
@@ -127,12 +127,6 @@ pub(crate) fn named_spot(scope: &Scope, stream: &Ident, column: &Ident) -> Resul
             cause: Cause::UnknownName,
         })
     }
-}
-
-pub(crate) fn is_same_side(left: Side, right: Side) -> bool
-    ensures { result ≡ is_same_side left right }
-{
-    left == right
 }
 
 /// Whether a column of this name is the start or the end of a window.

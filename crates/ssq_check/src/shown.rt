@@ -1,33 +1,31 @@
 //! The aggregates of SELECT and HAVING, and whether a query groups its rows.
 
-ghost use Rattle.std.specs.Prelude.{◌≡◌, ◌++◌, IfOk, OnOk};
+ghost use Rattle.std.specs.Prelude.{◌≡◌, IfOk};
 ghost use Rattle.std.specs.List.{flat_map};
-ghost use Rattle.ssq_check.specs.Shown.{aggregates, item_aggregates, having_aggregates, group_place_by, is_group, within_by};
+ghost use Rattle.ssq_check.specs.Counted.{none_of, counted};
+ghost use Rattle.ssq_check.specs.Shown.{aggregates, item_aggregates, having_aggregates, shown_aggregates, group_place_at, is_group, within_by};
 
 use crate::scope::Within;
+use crate::tally::Tally;
 use ssq_ast::{Condition, Expr, GroupBy, Item, Query};
-use ssq_value::Sequence;
 use std::alloc::{AllocError, Global};
 
-/// Adds the places of the aggregates that stand in no other.
+/// How many aggregates SELECT and HAVING may have together.
+const MOST_AGGREGATES: usize = 64;
+
+/// The places of the aggregates that stand in no other, behind others.
 #[tactic(auto, unfolding(crate::specs::Shown::aggregates))]
-fn add_aggregates(value: &Expr, places: &mut Sequence<usize>) -> Result<(), AllocError>
-    ensures { OnOk result (places.new ≡ places.old ++ aggregates value.now) }
+fn with_aggregates(value: &Expr, tally: Tally) -> Tally
+    ensures { result ≡ counted tally (aggregates value.now) }
 {
     match value {
-        Expr::Number { .. } => Ok(()),
-        Expr::Text { .. } => Ok(()),
-        Expr::Truth { .. } => Ok(()),
-        Expr::Timestamp { .. } => Ok(()),
-        Expr::Interval { .. } => Ok(()),
-        Expr::Column { .. } => Ok(()),
-        Expr::CountRows { at } => places.push(*at),
-        Expr::Aggregate { at, .. } => places.push(*at),
-        Expr::Unary { operand, .. } => add_aggregates(operand.get(), places),
-        Expr::IsNull { operand, .. } => add_aggregates(operand.get(), places),
+        Expr::CountRows { at } => tally.counting(*at),
+        Expr::Aggregate { at, .. } => tally.counting(*at),
+        Expr::Unary { operand, .. } => with_aggregates(operand.get(), tally),
+        Expr::IsNull { operand, .. } => with_aggregates(operand.get(), tally),
         Expr::Binary { left, right, .. } => {
-            add_aggregates(left.get(), places)?;
-            add_aggregates(right.get(), places)
+            let half = with_aggregates(left.get(), tally);
+            with_aggregates(right.get(), half)
         }
         Expr::Between {
             operand,
@@ -35,72 +33,67 @@ fn add_aggregates(value: &Expr, places: &mut Sequence<usize>) -> Result<(), Allo
             high,
             ..
         } => {
-            add_aggregates(operand.get(), places)?;
-            add_aggregates(low.get(), places)?;
-            add_aggregates(high.get(), places)
+            let tested = with_aggregates(operand.get(), tally);
+            let least = with_aggregates(low.get(), tested);
+            with_aggregates(high.get(), least)
         }
+        _ => tally,
     }
 }
 
-fn add_of_item(item: &Item, places: &mut Sequence<usize>) -> Result<(), AllocError>
-    ensures { OnOk result (places.new ≡ places.old ++ item_aggregates item.now) }
+fn with_item(item: &Item, tally: Tally) -> Tally
+    ensures { result ≡ counted tally (item_aggregates item.now) }
 {
     match item {
-        Item::Column { .. } => Ok(()),
-        Item::Named { value, .. } => add_aggregates(value, places),
+        Item::Column { .. } => tally,
+        Item::Named { value, .. } => with_aggregates(value, tally),
     }
 }
 
-fn add_of_items(items: &[Item], places: &mut Sequence<usize>) -> Result<(), AllocError>
-    ensures { OnOk result (places.new ≡ places.old ++ flat_map item_aggregates items.now) }
+fn with_items(items: &[Item], tally: Tally) -> Tally
+    ensures { result ≡ counted tally (flat_map item_aggregates items.now) }
 {
+    let mut tally = tally;
     for item in items {
-        add_of_item(item, places)?;
+        tally = with_item(item, tally);
     }
-    Ok(())
+    tally
 }
 
-fn add_of_having(having: &Option<Condition>, places: &mut Sequence<usize>) -> Result<(), AllocError>
-    ensures { OnOk result (places.new ≡ places.old ++ having_aggregates having.now) }
+fn with_having(having: &Option<Condition>, tally: Tally) -> Tally
+    ensures { result ≡ counted tally (having_aggregates having.now) }
 {
     match having {
-        Some(condition) => add_aggregates(&condition.value, places),
-        None => Ok(()),
+        Some(condition) => with_aggregates(&condition.value, tally),
+        None => tally,
     }
 }
 
 /// The places of the aggregates that SELECT and HAVING show.
-pub(crate) fn shown_aggregates(
-    alloc: Global,
-    items: &[Item],
-    having: &Option<Condition>,
-) -> Result<Sequence<usize>, AllocError>
-    ensures { IfOk result (λ places. places
-        ≡ flat_map item_aggregates items.now ++ having_aggregates having.now) }
+pub(crate) fn shown_aggregates(query: &Query) -> Tally
+    ensures { result ≡ counted (none_of 64) (shown_aggregates query.now) }
 {
-    let mut places = Sequence::new(alloc);
-    add_of_items(items, &mut places)?;
-    add_of_having(having, &mut places)?;
-    Ok(places)
+    let select = &query.select;
+    let selected = with_items(select.items.as_slice(), Tally::none_of(MOST_AGGREGATES));
+    with_having(&select.having, selected)
 }
 
-/// Where a query says that it groups its rows.
-pub(crate) fn group_place(group: &Option<GroupBy>, aggregates: &[usize]) -> Option<usize>
-    ensures { result ≡ group_place_by group.now aggregates.now }
+/// Where a query says that it groups its rows: at GROUP BY, else at its first aggregate.
+pub(crate) fn group_place(group: &Option<GroupBy>, aggregate: Option<usize>) -> Option<usize>
+    ensures { result ≡ group_place_at group.now aggregate }
 {
     match group {
         Some(by) => Some(by.at),
-        None => aggregates.first().copied(),
+        None => aggregate,
     }
 }
 
 /// Whether a query groups its rows: GROUP BY stands, or an aggregate in SELECT or HAVING.
-pub fn is_group(alloc: Global, query: &Query) -> Result<bool, AllocError>
+pub fn is_group(_alloc: Global, query: &Query) -> Result<bool, AllocError>
     ensures { IfOk result (λ is_so. is_so ≡ is_group query.now) }
 {
-    let select = &query.select;
-    let places = shown_aggregates(alloc, select.items.as_slice(), &select.having)?;
-    Ok(group_place(&select.group, places.as_slice()).is_some())
+    let aggregates = shown_aggregates(query);
+    Ok(group_place(&query.select.group, aggregates.first).is_some())
 }
 
 /// Where the expressions of SELECT and HAVING stand.

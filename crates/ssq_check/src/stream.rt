@@ -3,7 +3,7 @@
 ghost use Rattle.std.specs.Prelude.{IfOk};
 ghost use Rattle.ssq_check.specs.Fault.{FirstOf};
 ghost use Rattle.ssq_check.specs.Lists.{Where};
-ghost use Rattle.ssq_check.specs.Clauses.{EventFaults, WatermarkFaults, StreamFaults, StreamsFaults};
+ghost use Rattle.ssq_check.specs.Clauses.{EventFaults, WatermarkFaults, StreamsFaults};
 
 use crate::clause::is_no_time;
 use crate::each::{Checked, first_in};
@@ -38,22 +38,16 @@ fn watermark_fault(stream: &Stream, watermark: &Option<Watermark>) -> Option<Bin
     }
 }
 
-fn stream_fault(alloc: Global, stream: &Stream) -> Result<Option<BindFault>, AllocError>
-    ensures { IfOk result (FirstOf (StreamFaults stream.now)) }
-{
-    let columns = stream.columns.as_slice();
-    let doubled = first_double(alloc, columns)?;
-    let event = watermark_fault(stream, &stream.watermark);
-    Ok(sooner(doubled, sooner(beyond(columns), event)))
-}
-
 impl Checked<()> for Stream {
     ghost use Rattle.ssq_check.specs.Clauses.{StreamFaults};
 
     ghost faults = { λ _ stream. StreamFaults stream };
 
     fn first_fault(&self, alloc: Global, _names: &()) -> Result<Option<BindFault>, AllocError> {
-        stream_fault(alloc, self)
+        let columns = self.columns.as_slice();
+        let doubled = first_double(alloc, columns)?;
+        let event = watermark_fault(self, &self.watermark);
+        Ok(sooner(doubled, sooner(beyond(columns), event)))
     }
 }
 

@@ -14,16 +14,13 @@ use crate::clause::{
 };
 use crate::fault::{BindFault, Cause, Refusal, rule, sooner, unless};
 use crate::item::check_items;
-use crate::list::{beyond, past_places, standing};
+use crate::list::{beyond, standing};
 use crate::names::{add_keys, row_scope};
 use crate::scope::Scope;
 use crate::shown::{group_place, shown_aggregates, within};
 use crate::stream::check_streams;
 use ssq_ast::{Deduplicate, Limit, Query, Select};
 use std::alloc::{AllocError, Global};
-
-/// How many aggregates SELECT and HAVING may have together.
-const MOST_AGGREGATES: usize = 64;
 
 fn is_either(is_join: bool, deduplicate: &Option<Deduplicate>) -> bool
     ensures { result ≡ (is_join || is_there deduplicate.now) }
@@ -111,16 +108,16 @@ fn check_shown(
     alloc: Global,
     scope: &Scope,
     grouped: Option<usize>,
-    places: &[usize],
+    past: Option<usize>,
     select: &Select,
 ) -> Result<Option<BindFault>, AllocError>
-    ensures { IfOk result (FirstOf (ShownFaults scope.now grouped places.now select.now)) }
+    ensures { IfOk result (FirstOf (ShownFaults scope.now grouped past select.now)) }
 {
     let is_group = grouped.is_some();
     let within = within(is_group);
     let items = check_items(alloc, scope, within, select.items.as_slice())?;
     let many = beyond(select.items.as_slice());
-    let aggregates = past_places(Cause::TooMany, MOST_AGGREGATES, places);
+    let aggregates = standing(Cause::TooMany, past);
     let having = check_having(scope, within, is_group, &select.having);
     let order = check_order(alloc, select.items.as_slice(), select.order.as_slice())?;
     Ok(sooner(
@@ -135,9 +132,9 @@ fn check_own(alloc: Global, scope: &Scope, query: &Query) -> Result<Option<BindF
     ensures { IfOk result (FirstOf (OwnFaults scope.now query.now)) }
 {
     let select = &query.select;
-    let places = shown_aggregates(alloc, select.items.as_slice(), &select.having)?;
-    let grouped = group_place(&select.group, places.as_slice());
-    let shown = check_shown(alloc, scope, grouped, places.as_slice(), select)?;
+    let aggregates = shown_aggregates(query);
+    let grouped = group_place(&select.group, aggregates.first);
+    let shown = check_shown(alloc, scope, grouped, aggregates.past, select)?;
     let words = check_words(select, grouped);
     Ok(sooner(shown, words))
 }
