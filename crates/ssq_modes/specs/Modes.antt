@@ -36,36 +36,28 @@ abbrev pub append_without_time : Bound → Bool
 append_without_time bound = by bound.shape where
   by : Shape → Bool
   by (shape.Group grouping) = is_append bound.mode && not (is_there (time_key bound))
-  by shape.Plain = false
-  by (shape.Dedup columns) = false
-  by (shape.Join joining) = false
+  by _ = false
 
 -- Complete, and no groups
 abbrev pub complete_without_groups : Bound → Bool
 complete_without_groups bound = by bound.shape where
   by : Shape → Bool
   by (shape.Group grouping) = false
-  by shape.Plain = is_complete bound.mode
-  by (shape.Dedup columns) = is_complete bound.mode
-  by (shape.Join joining) = is_complete bound.mode
+  by _ = is_complete bound.mode
 
 -- a join in Update
 abbrev pub join_in_update : Bound → Bool
 join_in_update bound = by bound.shape where
   by : Shape → Bool
-  by (shape.Group grouping) = false
-  by shape.Plain = false
-  by (shape.Dedup columns) = false
   by (shape.Join joining) = is_update bound.mode
+  by _ = false
 
 -- an outer join without a bound
 abbrev pub outer_without_bound : Bound → Bool
 outer_without_bound bound = by bound.shape where
   by : Shape → Bool
-  by (shape.Group grouping) = false
-  by shape.Plain = false
-  by (shape.Dedup columns) = false
   by (shape.Join joining) = is_outer joining.kind && not (is_there joining.bound)
+  by _ = false
 
 -- a stream without a watermark has no event column
 abbrev pub is_unwatched : Stream → Bool
@@ -75,28 +67,22 @@ is_unwatched stream = not (is_there stream.schema.event)
 abbrev pub bound_without_watermark : Bound → Bool
 bound_without_watermark bound = by bound.shape where
   by : Shape → Bool
-  by (shape.Group grouping) = false
-  by shape.Plain = false
-  by (shape.Dedup columns) = false
   by (shape.Join joining) = is_there joining.bound && list_any is_unwatched bound.streams
+  by _ = false
 
 -- ORDER BY, and not groups in Complete
 abbrev pub sorted_elsewhere : Bound → Bool
 sorted_elsewhere bound = by bound.shape where
   by : Shape → Bool
   by (shape.Group grouping) = is_sorted bound.order && not (is_complete bound.mode)
-  by shape.Plain = is_sorted bound.order
-  by (shape.Dedup columns) = is_sorted bound.order
-  by (shape.Join joining) = is_sorted bound.order
+  by _ = is_sorted bound.order
 
 -- HAVING in Update
 abbrev pub having_in_update : Bound → Bool
 having_in_update bound = by bound.shape where
   by : Shape → Bool
   by (shape.Group grouping) = is_update bound.mode && is_there grouping.having
-  by shape.Plain = false
-  by (shape.Dedup columns) = false
-  by (shape.Join joining) = false
+  by _ = false
 
 -- the item is the key of this index
 abbrev pub is_key : ℕ → Output → Bool
@@ -115,9 +101,7 @@ abbrev pub hides_a_key : Bound → Bool
 hides_a_key bound = by bound.shape where
   by : Shape → Bool
   by (shape.Group grouping) = is_update bound.mode && not (are_shown bound.outputs (length grouping.keys))
-  by shape.Plain = false
-  by (shape.Dedup columns) = false
-  by (shape.Join joining) = false
+  by _ = false
 
 -- exactly where each refusal applies
 unfoldable pub applies : Bound → ModeFault → Bool

@@ -12,9 +12,7 @@ fn append_without_time(bound: &Bound) -> bool
 {
     match &bound.shape {
         Shape::Group(_) => bound.mode == Mode::Append && time_key(bound).is_none(),
-        Shape::Plain => false,
-        Shape::Dedup(_) => false,
-        Shape::Join(_) => false,
+        _ => false,
     }
 }
 
@@ -23,9 +21,7 @@ fn complete_without_groups(bound: &Bound) -> bool
 {
     match &bound.shape {
         Shape::Group(_) => false,
-        Shape::Plain => bound.mode == Mode::Complete,
-        Shape::Dedup(_) => bound.mode == Mode::Complete,
-        Shape::Join(_) => bound.mode == Mode::Complete,
+        _ => bound.mode == Mode::Complete,
     }
 }
 
@@ -34,9 +30,7 @@ fn join_in_update(bound: &Bound) -> bool
 {
     match &bound.shape {
         Shape::Join(_) => bound.mode == Mode::Update,
-        Shape::Plain => false,
-        Shape::Group(_) => false,
-        Shape::Dedup(_) => false,
+        _ => false,
     }
 }
 
@@ -45,9 +39,7 @@ fn outer_without_bound(bound: &Bound) -> bool
 {
     match &bound.shape {
         Shape::Join(joining) => joining.kind != JoinKind::Inner && joining.bound.is_none(),
-        Shape::Plain => false,
-        Shape::Group(_) => false,
-        Shape::Dedup(_) => false,
+        _ => false,
     }
 }
 
@@ -70,9 +62,7 @@ fn bound_without_watermark(bound: &Bound) -> bool
         Shape::Join(joining) => {
             joining.bound.is_some() && has_unwatched(bound.streams.as_slice())
         }
-        Shape::Plain => false,
-        Shape::Group(_) => false,
-        Shape::Dedup(_) => false,
+        _ => false,
     }
 }
 
@@ -81,9 +71,7 @@ fn sorted_elsewhere(bound: &Bound) -> bool
 {
     match &bound.shape {
         Shape::Group(_) => !bound.order.is_empty() && bound.mode != Mode::Complete,
-        Shape::Plain => !bound.order.is_empty(),
-        Shape::Dedup(_) => !bound.order.is_empty(),
-        Shape::Join(_) => !bound.order.is_empty(),
+        _ => !bound.order.is_empty(),
     }
 }
 
@@ -92,9 +80,7 @@ fn having_in_update(bound: &Bound) -> bool
 {
     match &bound.shape {
         Shape::Group(grouping) => bound.mode == Mode::Update && grouping.having.is_some(),
-        Shape::Plain => false,
-        Shape::Dedup(_) => false,
-        Shape::Join(_) => false,
+        _ => false,
     }
 }
 
@@ -132,9 +118,7 @@ fn hides_a_key(bound: &Bound) -> bool
         Shape::Group(grouping) => {
             bound.mode == Mode::Update && !are_shown(bound.outputs.as_slice(), grouping.keys.len())
         }
-        Shape::Plain => false,
-        Shape::Dedup(_) => false,
-        Shape::Join(_) => false,
+        _ => false,
     }
 }
 
