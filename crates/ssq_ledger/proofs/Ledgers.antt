@@ -1,5 +1,6 @@
 -- What is so of each ledger stays so after the entries of a call.
 use Rattle.std.proofs.Common.{◌≡◌, ◌+◌, ◌≤◌, ◌<◌, ◌^◌, ◌++◌, ◌∷◌, [], ℕ, Bool, true, true≢false, List, None, length, length-append, sym, refl, ap, ◌∙◌, subst, arith}
+use Rattle.ssq_outside.specs.Faults.{Rises}
 use Rattle.ssq_outside.specs.History.{History}
 use Rattle.ssq_core.specs.Course.{Cuts, Job}
 use Rattle.ssq_board.specs.declared.front.Cause.TheVariants as cause
@@ -13,7 +14,7 @@ use Rattle.ssq_board.specs.Shown.{IsSound, first}
 use Rattle.ssq_board.specs.Follows.{State, Leads, Moves, IsRight}
 use Rattle.ssq_board.proofs.Needs.{need_falls}
 use Rattle.ssq_board.proofs.Sounds.{run_sound, first_sound}
-use Rattle.ssq_ledger.specs.Shown.{Opening, Shown, state, first_state, cuts_after, shelf_after, IsLedger}
+use Rattle.ssq_ledger.specs.Shown.{Opening, Shown, state, first_state, cuts_after, shelf_after, did, IsLedger}
 
 -- what a call asks of what it is shown is so inside the ledger
 module _ {D O : Type 0} (x y : Shown D O) (same : x ≡ y) where
@@ -23,6 +24,21 @@ module _ {D O : Type 0} (x y : Shown D O) (same : x ≡ y) where
   -- of an entry with the number of an epoch, as the code has it
   pub may_inside : (of : ℕ → Entry) (number : Front → ℕ) (e : ℕ) → e ≡ number x.core.front → May y.scope y.core (of (number y.core.front)) → May x.scope x.core (of e)
   may_inside of number e is may = subst (λ n. May x.scope x.core (of n)) (sym is) (subst (λ (s : Shown D O). May s.scope s.core (of (number s.core.front))) (sym same) may)
+
+  -- what it shows after one entry more, with this disk
+  pub did_inside : (disk : D) (e : Entry) (core : Core) (now : List Entry) → core ≡ after x.scope x.core e → now ≡ x.history ++ e ∷ []
+      → ◌≡◌ {A = Shown D O} (record { opening = x.opening; opened = x.opened; scope = x.scope; disk = disk; core = core; history = now }) (did y disk (e ∷ []))
+  did_inside disk e core now known more =
+      (λ i. record { opening = x.opening; opened = x.opened; scope = x.scope; disk = disk; core = known i; history = more i }) ∙ ap (λ (s : Shown D O). did s disk (e ∷ [])) same
+
+  -- and with the disk as it was
+  pub did_still : (e : Entry) (core : Core) (now : List Entry) → core ≡ after x.scope x.core e → now ≡ x.history ++ e ∷ []
+      → ◌≡◌ {A = Shown D O} (record { opening = x.opening; opened = x.opened; scope = x.scope; disk = x.disk; core = core; history = now }) (did y y.disk (e ∷ []))
+  did_still e core now known more = did_inside x.disk e core now known more ∙ ap (λ (s : Shown D O). did y s.disk (e ∷ [])) same
+
+  -- the faults that its disk counted since
+  pub risen_inside : (faults : D → ℕ) (disk : D) → Rises (faults x.disk) (faults disk) → Rises (faults y.disk) (faults disk)
+  risen_inside faults disk = subst (λ (s : Shown D O). Rises (faults s.disk) (faults disk)) same
 
 -- an entry more, where room was made for it before
 pub pushed : (e : Entry) (old made now : List Entry) → now ≡ made ++ e ∷ [] → made ≡ old → now ≡ old ++ e ∷ []

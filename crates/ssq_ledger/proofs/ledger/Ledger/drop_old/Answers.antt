@@ -1,5 +1,4 @@
-use Rattle.std.proofs.Common.{◌≤◌, ◌<◌, [], ◌∷◌, Some, length, sym, ap, ◌∙◌, refl, subst, inl, inr, le_refl, arith}
-use Rattle.ssq_outside.specs.Faults.{Rises}
+use Rattle.std.proofs.Common.{◌≤◌, ◌<◌, Some, length, sym, ap, refl, subst, inl, inr, le_refl, arith}
 use Rattle.ssq_upkeep.specs.Upkeep.{IsLeast}
 use Rattle.ssq_board.specs.declared.front.Cause.TheVariants as cause
 use Rattle.ssq_board.specs.declared.front.Entry.TheVariants as entry
@@ -7,8 +6,8 @@ use Rattle.ssq_board.specs.Core.{Core, need}
 use Rattle.ssq_board.specs.Shelf.{last_of, there_in}
 use Rattle.ssq_board.proofs.Needs.{need_bound}
 use Rattle.ssq_core.specs.Machine.{nothing}
-use Rattle.ssq_ledger.specs.Shown.{Shown, did, shelf_of}
-use Rattle.ssq_ledger.proofs.Ledgers.{held, few_tasks, runs_inside, stop_room, pushed}
+use Rattle.ssq_ledger.specs.Shown.{Shown, shelf_of}
+use Rattle.ssq_ledger.proofs.Ledgers.{held, few_tasks, runs_inside, stop_room, pushed, did_inside, did_still, risen_inside}
 use Rattle.ssq_ledger.proofs.Shelves.{by_shelf, dropped_are, halted_both, same_are, stop_most, stops_need, upkeep_both, without_most}
 use Rattle.ssq_ledger.proofs.ledger.Ledger.drop_old.Goals as goal
 
@@ -81,8 +80,7 @@ returns-in_default-make_drop_room-clause-did g c =
     let items = pushed (entry.Stop cause.NoMemory) _ _ _ c.halt.ensures.items c.make_drop_room.ensures.items in
     inl (
       refl,
-      (λ i. record { opening = s.opening.value; opened = s.opened.value; scope = s.scope; disk = s.disk; core = c.halt.ensures.board i; history = items i })
-          ∙ ap (λ (x : Shown g.row.D.Denot g.row.O.Denot). did x x.disk (entry.Stop cause.NoMemory ∷ [])) c.self.view_is,
+      did_still _ _ c.self.view_is (entry.Stop cause.NoMemory) _ _ c.halt.ensures.board items,
     )
 
 pub returns-in-Ok-clause-did : goal.returns-in-Ok-clause-did
@@ -93,8 +91,7 @@ returns-in-Ok-clause-did g c =
     let items = pushed (entry.Drop q) _ _ _ c.push_reserved.ensures.items c.make_drop_room.ensures.items in (
       q,
       subst (λ (x : Shown g.row.D.Denot g.row.O.Denot). IsLeast (there_in (shelf_of g.O.Opening.opening x)) (shelf_of g.O.Opening.opening x).settled x.scope.partitions (last_of x.core) q) c.self.view_is least,
-      (λ i. record { opening = s.opening.value; opened = s.opened.value; scope = s.scope; disk = c.remove.new.self; core = s.board; history = items i })
-          ∙ ap (λ (x : Shown g.row.D.Denot g.row.O.Denot). did x c.remove.new.self (entry.Drop q ∷ [])) c.self.view_is,
+      did_inside _ _ c.self.view_is c.remove.new.self (entry.Drop q) _ _ refl items,
     )
 
 pub returns-in-Err-clause-did : goal.returns-in-Err-clause-did
@@ -107,7 +104,6 @@ returns-in-Err-clause-did g c =
       q,
       subst (λ (x : Shown g.row.D.Denot g.row.O.Denot). IsLeast (there_in (shelf_of g.O.Opening.opening x)) (shelf_of g.O.Opening.opening x).settled x.scope.partitions (last_of x.core) q) c.self.view_is least,
       refl,
-      (λ i. record { opening = s.opening.value; opened = s.opened.value; scope = s.scope; disk = c.remove.new.self; core = c.stop.ensures i; history = items i })
-          ∙ ap (λ (x : Shown g.row.D.Denot g.row.O.Denot). did x c.remove.new.self (entry.Undropped q ∷ [])) c.self.view_is,
-      subst (λ (x : Shown g.row.D.Denot g.row.O.Denot). Rises (g.D.Disk.faults x.disk) (g.D.Disk.faults c.remove.new.self)) c.self.view_is c.in-Err.ensures.cause,
+      did_inside _ _ c.self.view_is c.remove.new.self (entry.Undropped q) _ _ c.stop.ensures items,
+      risen_inside _ _ c.self.view_is g.D.Disk.faults c.remove.new.self c.in-Err.ensures.cause,
     )

@@ -10,7 +10,7 @@ use Rattle.ssq_board.specs.declared.front.Entry.TheVariants as entry
 use Rattle.ssq_board.specs.Core.{HasCause, after, cuts_by}
 use Rattle.ssq_board.proofs.Needs.{need_bound}
 use Rattle.ssq_ledger.specs.Shown.{Opening, Shown, HasRisen, cuts_of, did}
-use Rattle.ssq_ledger.proofs.Ledgers.{held, few_tasks, may_inside, one, stop_room, pushed}
+use Rattle.ssq_ledger.proofs.Ledgers.{held, few_tasks, may_inside, one, stop_room, pushed, did_inside, risen_inside}
 use Rattle.ssq_ledger.proofs.Shelves.{halted_both, made_room, plan_shelved}
 use Rattle.ssq_ledger.proofs.Moves.{right_inside, tried_from, went_from}
 use Rattle.ssq_ledger.proofs.Planning.{planned_sound, seal_may, seal_risen}
@@ -101,8 +101,7 @@ pub returns-in_default-clause-stopped : goal.returns-in_default-clause-stopped
 returns-in_default-clause-stopped g c =
     let s = c.self.inside in
     let items = pushed (entry.Stop cause.NoMemory) _ _ _ c.halt.ensures.items c.make_plan_room.ensures.items in (
-      (λ i. record { opening = s.opening.value; opened = s.opened.value; scope = s.scope; disk = s.disk; core = c.halt.ensures.board i; history = items i })
-          ∙ ap (λ (x : Shown g.row.D.Denot g.row.O.Denot). did x s.disk (entry.Stop cause.NoMemory ∷ [])) c.self.view_is,
+      did_inside _ _ c.self.view_is s.disk (entry.Stop cause.NoMemory) _ _ c.halt.ensures.board items,
       tt,
     )
 
@@ -110,9 +109,8 @@ pub returns-in-Err-publish-clause-stopped : goal.returns-in-Err-publish-clause-s
 returns-in-Err-publish-clause-stopped g c =
     let s = c.self.inside in
     let items = pushed (entry.Stop cause.DiskFault) _ _ _ c.halt-in-Err-publish.ensures.items c.make_plan_room.ensures.items in (
-      (λ i. record { opening = s.opening.value; opened = s.opened.value; scope = s.scope; disk = c.publish.new.self; core = c.halt-in-Err-publish.ensures.board i; history = items i })
-          ∙ ap (λ (x : Shown g.row.D.Denot g.row.O.Denot). did x c.publish.new.self (entry.Stop cause.DiskFault ∷ [])) c.self.view_is,
-      subst (λ (x : Shown g.row.D.Denot g.row.O.Denot). Rises (g.D.Disk.faults x.disk) (g.D.Disk.faults c.publish.new.self)) c.self.view_is
+      did_inside _ _ c.self.view_is c.publish.new.self (entry.Stop cause.DiskFault) _ _ c.halt-in-Err-publish.ensures.board items,
+      risen_inside _ _ c.self.view_is g.D.Disk.faults c.publish.new.self
           (let first : g.D.Disk.faults s.disk ≤ g.D.Disk.faults c.seal.new.disk = c.seal.ensures.counted in
           let rises : Rises (g.D.Disk.faults c.seal.new.disk) (g.D.Disk.faults c.publish.new.self) = c.in-Err-publish.ensures.cause in
           omega (arith, first, rises)),
@@ -124,8 +122,7 @@ returns-in-Err-clause-stopped g c =
     let f = c.from-cause.result in
     let now = c.seal.new.disk in
     let items = pushed (entry.Stop f) _ _ _ c.halt-in-Err.ensures.items c.make_plan_room.ensures.items in (
-      (λ i. record { opening = s.opening.value; opened = s.opened.value; scope = s.scope; disk = now; core = c.halt-in-Err.ensures.board i; history = items i })
-          ∙ ap (λ (x : Shown g.row.D.Denot g.row.O.Denot). did x now (entry.Stop f ∷ [])) c.self.view_is,
+      did_inside _ _ c.self.view_is now (entry.Stop f) _ _ c.halt-in-Err.ensures.board items,
       subst (λ (x : Shown g.row.D.Denot g.row.O.Denot). HasRisen f (g.D.Disk.faults x.disk) (g.D.Disk.faults now)) c.self.view_is
           (subst (λ (h : Cause). HasRisen h (g.D.Disk.faults s.disk) (g.D.Disk.faults now)) (sym c.from-cause.ensures)
           (seal_risen c.in-Err.error (g.D.Disk.faults s.disk) (g.D.Disk.faults now) (λ e. c.in-Err.ensures.cause (ap Err e)))),
@@ -137,5 +134,5 @@ returns-in-Ok-publish-clause-done g c =
     let epoch = ap (λ (f : Front). f.planned) c.front-epoch.ensures in
     let board = subst (λ (x : Shown g.row.D.Denot g.row.O.Denot). c.args.next.board ≡ after x.scope x.core (entry.Plan x.core.front.planned)) (sym c.self.view_is) c.requires.board in
     let items = pushed (entry.Plan c.front-epoch.result.planned) _ _ _ c.push_reserved.ensures.items c.make_plan_room.ensures.items ∙ ap (λ (n : ℕ). s.entries.items ++ entry.Plan n ∷ []) epoch in
-    (λ i. record { opening = s.opening.value; opened = s.opened.value; scope = s.scope; disk = c.publish.new.self; core = board i; history = items i })
-    ∙ ap (λ (x : Shown g.row.D.Denot g.row.O.Denot). did x c.publish.new.self (entry.Plan x.core.front.planned ∷ [])) c.self.view_is
+    did_inside _ _ c.self.view_is c.publish.new.self (entry.Plan s.board.front.planned) _ _ board items
+    ∙ ap (λ (x : Shown g.row.D.Denot g.row.O.Denot). did c.args.self.now c.publish.new.self (entry.Plan x.core.front.planned ∷ [])) c.self.view_is

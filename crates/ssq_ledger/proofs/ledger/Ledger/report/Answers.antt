@@ -1,8 +1,8 @@
-use Rattle.std.proofs.Common.{◌≤◌, ◌<◌, ◌∷◌, [], sym, refl, ap, ◌∙◌, subst, arith}
+use Rattle.std.proofs.Common.{◌≤◌, ◌<◌, sym, refl, subst, arith}
 use Rattle.ssq_board.specs.declared.front.Entry.TheVariants as entry
 use Rattle.ssq_board.specs.Core.{May}
-use Rattle.ssq_ledger.specs.Shown.{Shown, IsTrue, HasNone, did}
-use Rattle.ssq_ledger.proofs.Ledgers.{has_room}
+use Rattle.ssq_ledger.specs.Shown.{Shown, IsTrue, HasNone}
+use Rattle.ssq_ledger.proofs.Ledgers.{has_room, did_still}
 use Rattle.ssq_ledger.proofs.Shelves.{spent_both}
 use Rattle.ssq_ledger.proofs.ledger.Ledger.report.Goals as goal
 
@@ -36,5 +36,4 @@ invariant_of-self g c =
 pub returns-clause-did : goal.returns-clause-did
 returns-clause-did g c =
     let s = c.self.inside in
-    (λ i. record { opening = s.opening.value; opened = s.opened.value; scope = s.scope; disk = s.disk; core = c.report-stop.ensures.now s.scope i; history = c.push_reserved.ensures.items i })
-    ∙ ap (λ (x : Shown g.row.D.Denot g.row.O.Denot). did x x.disk (entry.Report c.args.id c.args.fault ∷ [])) c.self.view_is
+    did_still _ _ c.self.view_is (entry.Report c.args.id c.args.fault) _ _ (c.report-stop.ensures.now s.scope) c.push_reserved.ensures.items

@@ -1,5 +1,4 @@
 use Rattle.std.proofs.Common.{◌≡◌, ◌≤◌, ◌<◌, ◌++◌, ◌||◌, [], ◌∷◌, true, Some, None, is_some, length, if◌then◌else◌, sym, ap, ◌∙◌, refl, subst, inl, inr, le_refl, arith}
-use Rattle.ssq_outside.specs.Faults.{Rises}
 use Rattle.ssq_outside.specs.declared.name.Name.TheVariants as name
 use Rattle.ssq_core.specs.Course.{truth}
 use Rattle.ssq_upkeep.specs.Upkeep.{is_among}
@@ -7,7 +6,8 @@ use Rattle.ssq_board.specs.declared.front.Cause.TheVariants as cause
 use Rattle.ssq_board.specs.declared.front.Front.{Front}
 use Rattle.ssq_board.specs.declared.front.Entry.TheVariants as entry
 use Rattle.ssq_board.specs.Core.{Core, need}
-use Rattle.ssq_ledger.specs.Shown.{Shown, did, cuts_of, cuts_after}
+use Rattle.ssq_ledger.specs.Shown.{Shown, cuts_of, cuts_after}
+use Rattle.ssq_ledger.proofs.Ledgers.{did_inside, risen_inside}
 use Rattle.ssq_ledger.proofs.Moves.{went, tried, snapshot_went, snapshot_kept, none_of}
 use Rattle.ssq_ledger.proofs.Shelves.{claimed_inside, claimed_room, is_claimed, one_more, published_are, running_by, stop_most, stopped_by, stops_need, unclaimed_are, unclaimed_both, upkeep_both}
 use Rattle.ssq_ledger.proofs.ledger.Ledger.report_snapshot.Goals as goal
@@ -81,8 +81,7 @@ pub returns-then-is_some-clause-did : goal.returns-then-is_some-clause-did
 returns-then-is_some-clause-did g c =
     let s = c.self.inside in
     inl (
-      (λ i. record { opening = s.opening.value; opened = s.opened.value; scope = s.scope; disk = s.disk; core = s.board; history = c.push_reserved.ensures.items i })
-          ∙ ap (λ (x : Shown g.row.D.Denot g.row.O.Denot). did x s.disk (entry.Snapshot c.args.partition c.args.version ∷ [])) c.self.view_is,
+      did_inside _ _ c.self.view_is s.disk (entry.Snapshot c.args.partition c.args.version) _ _ refl c.push_reserved.ensures.items,
       refl,
     )
 
@@ -90,8 +89,7 @@ pub returns-in-Ok-clause-did : goal.returns-in-Ok-clause-did
 returns-in-Ok-clause-did g c =
     let s = c.self.inside in
     inl (
-      (λ i. record { opening = s.opening.value; opened = s.opened.value; scope = s.scope; disk = c.publish.new.self; core = s.board; history = c.push_reserved-in-Ok.ensures.items i })
-          ∙ ap (λ (x : Shown g.row.D.Denot g.row.O.Denot). did x c.publish.new.self (entry.Snapshot c.args.partition c.args.version ∷ [])) c.self.view_is,
+      did_inside _ _ c.self.view_is c.publish.new.self (entry.Snapshot c.args.partition c.args.version) _ _ refl c.push_reserved-in-Ok.ensures.items,
       refl,
     )
 
@@ -101,8 +99,7 @@ returns-in-Err-clause-did g c =
     let running : s.board.front.stop ≡ None = none_of s.board.front.stop (ap (λ (f : Front). is_some f.stop) (sym c.front.ensures) ∙ sym c.is_some.ensures ∙ c.if-is_some.false) in
     inr (
       subst (λ (x : Shown g.row.D.Denot g.row.O.Denot). x.core.front.stop ≡ None) c.self.view_is running,
-      (λ i. record { opening = s.opening.value; opened = s.opened.value; scope = s.scope; disk = c.publish.new.self; core = c.stop.ensures i; history = c.push_reserved-in-Err.ensures.items i })
-          ∙ ap (λ (x : Shown g.row.D.Denot g.row.O.Denot). did x c.publish.new.self (entry.Untaken c.args.partition c.args.version ∷ [])) c.self.view_is,
+      did_inside _ _ c.self.view_is c.publish.new.self (entry.Untaken c.args.partition c.args.version) _ _ c.stop.ensures c.push_reserved-in-Err.ensures.items,
       refl,
-      subst (λ (x : Shown g.row.D.Denot g.row.O.Denot). Rises (g.D.Disk.faults x.disk) (g.D.Disk.faults c.publish.new.self)) c.self.view_is c.in-Err.ensures.cause,
+      risen_inside _ _ c.self.view_is g.D.Disk.faults c.publish.new.self c.in-Err.ensures.cause,
     )

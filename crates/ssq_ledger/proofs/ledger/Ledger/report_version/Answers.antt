@@ -1,12 +1,11 @@
 use Rattle.std.proofs.Common.{◌≡◌, ◌≤◌, ◌++◌, ◌||◌, if◌then◌else◌, true, None, [], ◌∷◌, is_some, sym, ap, ◌∙◌, refl, subst, inl, inr, arith}
-use Rattle.ssq_outside.specs.Faults.{Rises}
 use Rattle.ssq_outside.specs.declared.name.Name.TheVariants as name
 use Rattle.ssq_upkeep.specs.Upkeep.{is_among}
 use Rattle.ssq_board.specs.declared.front.Front.{Front}
 use Rattle.ssq_board.specs.declared.front.Entry.TheVariants as entry
 use Rattle.ssq_board.specs.Core.{May, due}
-use Rattle.ssq_ledger.specs.Shown.{Shown, HasVersion, did, answer, cuts_after}
-use Rattle.ssq_ledger.proofs.Ledgers.{spent}
+use Rattle.ssq_ledger.specs.Shown.{Shown, HasVersion, answer, cuts_after}
+use Rattle.ssq_ledger.proofs.Ledgers.{spent, did_inside, risen_inside}
 use Rattle.ssq_ledger.proofs.Shelves.{spent_both, has_name_room, stopped_shelved, version_shelved}
 use Rattle.ssq_ledger.proofs.Moves.{went, tried, version_went, version_kept, none_of}
 use Rattle.ssq_ledger.proofs.ledger.Ledger.report_version.Goals as goal
@@ -56,8 +55,7 @@ pub returns-then-is_some-clause-did : goal.returns-then-is_some-clause-did
 returns-then-is_some-clause-did g c =
     let s = c.self.inside in
     inl (
-      (λ i. record { opening = s.opening.value; opened = s.opened.value; scope = s.scope; disk = s.disk; core = c.note_version.ensures.board s.scope i; history = c.note_version.ensures.items i })
-          ∙ ap (λ (x : Shown g.row.D.Denot g.row.O.Denot). did x s.disk (entry.Version c.args.id ∷ [])) c.self.view_is,
+      did_inside _ _ c.self.view_is s.disk (entry.Version c.args.id) _ _ (c.note_version.ensures.board s.scope) c.note_version.ensures.items,
       c.note_version.ensures.answer ∙ ap (λ (x : Shown g.row.D.Denot g.row.O.Denot). answer (due x.core c.args.id None)) c.self.view_is,
     )
 
@@ -65,8 +63,7 @@ pub returns-in-Ok-clause-did : goal.returns-in-Ok-clause-did
 returns-in-Ok-clause-did g c =
     let s = c.self.inside in
     inl (
-      (λ i. record { opening = s.opening.value; opened = s.opened.value; scope = s.scope; disk = c.publish.new.self; core = c.note_version-in-Ok.ensures.board s.scope i; history = c.note_version-in-Ok.ensures.items i })
-          ∙ ap (λ (x : Shown g.row.D.Denot g.row.O.Denot). did x c.publish.new.self (entry.Version c.args.id ∷ [])) c.self.view_is,
+      did_inside _ _ c.self.view_is c.publish.new.self (entry.Version c.args.id) _ _ (c.note_version-in-Ok.ensures.board s.scope) c.note_version-in-Ok.ensures.items,
       c.note_version-in-Ok.ensures.answer ∙ ap (λ (x : Shown g.row.D.Denot g.row.O.Denot). answer (due x.core c.args.id None)) c.self.view_is,
     )
 
@@ -76,10 +73,9 @@ returns-in-Err-clause-did g c =
     let running : s.board.front.stop ≡ None = none_of s.board.front.stop (ap (λ (f : Front). is_some f.stop) (sym c.front.ensures) ∙ sym c.is_some.ensures ∙ c.if-is_some.false) in
     inr (
       subst (λ (x : Shown g.row.D.Denot g.row.O.Denot). x.core.front.stop ≡ None) c.self.view_is running,
-      (λ i. record { opening = s.opening.value; opened = s.opened.value; scope = s.scope; disk = c.publish.new.self; core = c.note_missed.ensures.board s.scope i; history = c.note_missed.ensures.items i })
-          ∙ ap (λ (x : Shown g.row.D.Denot g.row.O.Denot). did x c.publish.new.self (entry.Missed c.args.id ∷ [])) c.self.view_is,
+      did_inside _ _ c.self.view_is c.publish.new.self (entry.Missed c.args.id) _ _ (c.note_missed.ensures.board s.scope) c.note_missed.ensures.items,
       refl,
-      subst (λ (x : Shown g.row.D.Denot g.row.O.Denot). Rises (g.D.Disk.faults x.disk) (g.D.Disk.faults c.publish.new.self)) c.self.view_is c.in-Err.ensures.cause,
+      risen_inside _ _ c.self.view_is g.D.Disk.faults c.publish.new.self c.in-Err.ensures.cause,
     )
 
 pub add-requires : goal.add-requires

@@ -1,14 +1,12 @@
-use Rattle.std.proofs.Common.{◌≤◌, ◌<◌, length, sym, ap, ◌∙◌, refl, subst, inl, inr, le_refl, arith, [], ◌∷◌}
+use Rattle.std.proofs.Common.{◌≤◌, ◌<◌, length, sym, ap, ◌∙◌, refl, subst, inl, inr, le_refl, arith}
 use Rattle.std.specs.Global.{Vec}
-use Rattle.ssq_outside.specs.Faults.{Rises}
 use Rattle.ssq_outside.specs.declared.name.Name.{Name}
 use Rattle.ssq_core.specs.Machine.{nothing, syncs}
 use Rattle.ssq_board.specs.declared.front.Cause.TheVariants as cause
 use Rattle.ssq_board.specs.declared.front.Entry.TheVariants as entry
 use Rattle.ssq_board.specs.Core.{need}
 use Rattle.ssq_board.proofs.Needs.{need_bound, need_sync}
-use Rattle.ssq_ledger.specs.Shown.{Shown, did}
-use Rattle.ssq_ledger.proofs.Ledgers.{held, few_tasks, one, runs_inside, stop_room, pushed}
+use Rattle.ssq_ledger.proofs.Ledgers.{held, few_tasks, one, runs_inside, stop_room, pushed, did_inside, risen_inside}
 use Rattle.ssq_ledger.proofs.Shelves.{halted_both, made_settled, sync_shelved}
 use Rattle.ssq_ledger.proofs.ledger.Ledger.sync.Goals as goal
 
@@ -67,8 +65,7 @@ pub returns-in_default-clause-stopped : goal.returns-in_default-clause-stopped
 returns-in_default-clause-stopped g c =
     let s = c.self.inside in
     let items = pushed (entry.Stop cause.NoMemory) _ _ _ c.halt.ensures.items c.make_sync_room.ensures.items in (
-      (λ i. record { opening = s.opening.value; opened = s.opened.value; scope = s.scope; disk = s.disk; core = c.halt.ensures.board i; history = items i })
-          ∙ ap (λ (x : Shown g.row.D.Denot g.row.O.Denot). did x s.disk (entry.Stop cause.NoMemory ∷ [])) c.self.view_is,
+      did_inside _ _ c.self.view_is s.disk (entry.Stop cause.NoMemory) _ _ c.halt.ensures.board items,
       tt,
     )
 
@@ -76,7 +73,6 @@ pub returns-in-Err-clause-stopped : goal.returns-in-Err-clause-stopped
 returns-in-Err-clause-stopped g c =
     let s = c.self.inside in
     let items = pushed (entry.Stop cause.DiskFault) _ _ _ c.halt-in-Err.ensures.items c.make_sync_room.ensures.items in (
-      (λ i. record { opening = s.opening.value; opened = s.opened.value; scope = s.scope; disk = c.sync_names.new.self; core = c.halt-in-Err.ensures.board i; history = items i })
-          ∙ ap (λ (x : Shown g.row.D.Denot g.row.O.Denot). did x c.sync_names.new.self (entry.Stop cause.DiskFault ∷ [])) c.self.view_is,
-      subst (λ (x : Shown g.row.D.Denot g.row.O.Denot). Rises (g.D.Disk.faults x.disk) (g.D.Disk.faults c.sync_names.new.self)) c.self.view_is c.in-Err.ensures.cause,
+      did_inside _ _ c.self.view_is c.sync_names.new.self (entry.Stop cause.DiskFault) _ _ c.halt-in-Err.ensures.board items,
+      risen_inside _ _ c.self.view_is g.D.Disk.faults c.sync_names.new.self c.in-Err.ensures.cause,
     )
