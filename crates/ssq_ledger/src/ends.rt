@@ -1,6 +1,6 @@
 //! How far the next epoch reads, and for which parts it has tasks.
 
-ghost use Rattle.std.specs.Prelude.{◌≡◌, ◌++◌, IfOk, replicate, nat_lt, if◌then◌else◌};
+ghost use Rattle.std.specs.Prelude.{◌≡◌, ◌+◌, ◌≤◌, ◌++◌, length, IfOk, replicate, nat_lt, if◌then◌else◌, vec_capacity};
 ghost use Rattle.ssq_board.specs.declared.front.Place.TheVariants as place;
 ghost use Rattle.ssq_board.specs.Core.{next_end, next_part, next_ends, is_behind, has_line, dealt};
 
@@ -31,25 +31,21 @@ fn next_part(most: Option<u64>, part: PartEnd, found: u64) -> PartEnd
     }
 }
 
-/// The next cut, behind what is there already. A part of which no length was found stays where it is.
-fn put_next(
-    next: &mut Vec<PartEnd>,
-    most: Option<u64>,
-    ends: &[PartEnd],
-    found: &[u64],
-) -> Result<(), AllocError>
-    ensures { IfOk result (λ _. next.new.items ≡ next.old.items ++ next_ends most ends.now found.now) }
+/// The next cut, behind what is there already. A part of which no length was found stays where it is. It takes no memory.
+fn put_next(next: &mut Vec<PartEnd>, most: Option<u64>, ends: &[PartEnd], found: &[u64])
+    requires { length next.old.items + length ends.now ≤ vec_capacity next.old }
+    ensures { next.new.items ≡ next.old.items ++ next_ends most ends.now found.now }
 {
     let Some((part, ends)) = ends.split_first() else {
-        return Ok(());
+        return;
     };
     match found.split_first() {
         Some((len, found)) => {
-            next.push(next_part(most, *part, *len))?;
+            next.push_reserved(next_part(most, *part, *len));
             put_next(next, most, ends, found)
         }
         None => {
-            next.push(*part)?;
+            next.push_reserved(*part);
             put_next(next, most, ends, found)
         }
     }
@@ -65,7 +61,7 @@ pub(crate) fn next_ends(
     ensures { IfOk result (λ next. next.items ≡ next_ends most ends.now found.now) }
 {
     let mut next = Vec::with_capacity(alloc, ends.len())?;
-    put_next(&mut next, most, ends, found)?;
+    put_next(&mut next, most, ends, found);
     Ok(next)
 }
 
@@ -106,20 +102,21 @@ fn dealt_to(begin: PartEnd, end: PartEnd) -> Place
     }
 }
 
-/// The map tasks of an epoch between the two cuts, behind what is there already.
-fn put_dealt(places: &mut Vec<Place>, from: &[PartEnd], to: &[PartEnd]) -> Result<(), AllocError>
-    ensures { IfOk result (λ _. places.new.items ≡ places.old.items ++ dealt from.now to.now) }
+/// The map tasks of an epoch between the two cuts, behind what is there already. It takes no memory.
+fn put_dealt(places: &mut Vec<Place>, from: &[PartEnd], to: &[PartEnd])
+    requires { length places.old.items + length from.now ≤ vec_capacity places.old }
+    ensures { places.new.items ≡ places.old.items ++ dealt from.now to.now }
 {
     let Some((begin, from)) = from.split_first() else {
-        return Ok(());
+        return;
     };
     match to.split_first() {
         Some((end, to)) => {
-            places.push(dealt_to(*begin, *end))?;
+            places.push_reserved(dealt_to(*begin, *end));
             put_dealt(places, from, to)
         }
         None => {
-            places.push(Place::Rests)?;
+            places.push_reserved(Place::Rests);
             put_dealt(places, from, to)
         }
     }
@@ -134,7 +131,7 @@ pub(crate) fn dealt(
     ensures { IfOk result (λ places. places.items ≡ dealt from.now to.now) }
 {
     let mut places = Vec::with_capacity(alloc, from.len())?;
-    put_dealt(&mut places, from, to)?;
+    put_dealt(&mut places, from, to);
     Ok(places)
 }
 
