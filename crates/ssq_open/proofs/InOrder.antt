@@ -62,6 +62,10 @@ plans_next first plans e p count order next is = record {
     here : Follows first (plans ++ p ∷ []) (length plans)
     here = rw (cut_before first plans p (length plans) (omega arith), cut_new first plans p) (next_follows (last_ends first plans) e p next)
 
+-- before the first commit there are no times
+pub no_times : (streams : List Watermarked) → AreTimesInOrder streams []
+no_times streams = record { lines = inl refl; years = All-nil HasLineTime }
+
 -- the times of a commit that is an epoch's own
 pub own_times : (streams : List Watermarked) (e : ℕ) (c : Commit) → IsTrue (is_own streams e c) → IsCommit c → AreTimesInOrder streams c.seen
 own_times streams e c own is = record {

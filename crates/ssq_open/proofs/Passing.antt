@@ -8,7 +8,6 @@ use Rattle.ssq_outside.specs.declared.name.Name.TheVariants as name
 use Rattle.ssq_outside.specs.Files.{Files}
 use Rattle.ssq_plans.specs.declared.meta.Meta.{Meta}
 use Rattle.ssq_plans.specs.declared.plan.Plan.{Plan}
-use Rattle.ssq_plans.specs.declared.commit.Commit.{Commit}
 use Rattle.ssq_plans.specs.declared.part.PartEnd.{PartEnd}
 use Rattle.ssq_plans.specs.declared.seen.SeenBy.{SeenBy}
 use Rattle.ssq_plans.specs.Records.{plan_text, commit_text}
@@ -19,22 +18,17 @@ use Rattle.ssq_open.specs.Sought.{Sought, IsJob}
 use Rattle.ssq_store.specs.Loaded.{IsDamaged as IsStateDamaged}
 use Rattle.ssq_open.specs.Stateful.{keeping_in}
 use Rattle.ssq_open.specs.Stores.{IsUnloaded}
-use Rattle.ssq_open.specs.Spelled.{IsTheMeta, IsThePlan, IsTheCommit}
-use Rattle.ssq_open.specs.Epochs.{starts, no_plan, last_ends, IsSeenAt, none_yet, by_commit, IsThere, IsGoodPlan, IsGoodCommit, IsPlanRight, IsCommitRight, IsSinkRight, is_stray, ArePlans, AreCommits, IsProgress, AreEpochs}
+use Rattle.ssq_open.specs.Spelled.{IsTheMeta}
+use Rattle.ssq_open.specs.Epochs.{starts, no_plan, last_ends, IsSeenAt, IsThere, IsGoodPlan, IsGoodCommit, IsPlanRight, IsCommitRight, IsSinkRight, is_stray, ArePlans, AreCommits, IsProgress, AreEpochs}
 use Rattle.ssq_open.specs.Refused.{JobDiffers, RecordDiffers, IsProgressDamage, in_plans, in_commits, in_watermarks, IsDamage, of_progress, in_sinks, in_state}
 use Rattle.ssq_open.specs.Opening.{Finds, Refuses, IsOutside, IsShort, IsDamaged, no_record, other_streams, in_epochs, in_states, first_short}
-
-suc_same : (a b : ℕ) → a + 1 ≡ b + 1 → a ≡ b
-suc_same a b e = omega (arith, e)
+use Rattle.ssq_open.proofs.Planning.{one_seen}
 
 none_some : {X : Type 0} (x : X) → None ≡ Some x → ⊥
 none_some x e = cc
 
 is_there : (content : Option (List ℕ)) (text : List ℕ) → content ≡ Some text → IsSome content
 is_there content text e = cc
-
-one_plan : (files : Files) (e : ℕ) (p q : Plan) → IsThePlan files e p → IsThePlan files e q → p ≡ q
-one_plan files e p q one other = other.only p one.spells
 
 plan_there : (files : Files) (first : List PartEnd) (e : ℕ) → IsGoodPlan files first e → IsThere files (name.Plan e)
 plan_there files first e good = is_there (files (name.Plan e)) (plan_text good.plan) good.is.spells.text
@@ -45,36 +39,26 @@ commit_there streams files e good = is_there (files (name.Commit e)) (commit_tex
 no_fewer : (files : Files) (first : List PartEnd) (n m : ℕ) → ArePlans files first n → ArePlans files first m → n < m → ⊥
 no_fewer files first n m one other less = absurd (omega (arith, one.all n (plan_there files first n (other.good n less))))
 
--- and as many are planned
-pub one_count : (files : Files) (first : List PartEnd) (n m : ℕ) → ArePlans files first n → ArePlans files first m → n ≡ m
-one_count files first n m one other = by_order (cases_lt n m) (cases_lt m n)
+-- a count is one where none is below another
+one_number : (Is : ℕ → Type 0) → ((n m : ℕ) → Is n → Is m → n < m → ⊥) → (n m : ℕ) → Is n → Is m → n ≡ m
+one_number Is none_fewer n m one other = by_order (cases_lt n m) (cases_lt m n)
   where
     by_order : (n < m) ⊎ (m ≤ n) → (m < n) ⊎ (n ≤ m) → n ≡ m
-    by_order (inl less) other_way = absurd (no_fewer files first n m one other less)
-    by_order (inr no_less) (inl more) = absurd (no_fewer files first m n other one more)
+    by_order (inl less) other_way = absurd (none_fewer n m one other less)
+    by_order (inr no_less) (inl more) = absurd (none_fewer m n other one more)
     by_order (inr no_less) (inr no_more) = omega (arith, no_less, no_more)
+
+-- so as many are planned
+pub one_count : (files : Files) (first : List PartEnd) (n m : ℕ) → ArePlans files first n → ArePlans files first m → n ≡ m
+one_count files first = one_number (ArePlans files first) (no_fewer files first)
 
 no_fewer_commits : (streams : List Watermarked) (files : Files) (n m k l : ℕ) → AreCommits streams files n k → AreCommits streams files m l → k < l → ⊥
 no_fewer_commits streams files n m k l one other less = absurd (omega (arith, one.all k (commit_there streams files k (other.good k less))))
 
 -- and committed
 pub one_commits : (streams : List Watermarked) (files : Files) (n m k l : ℕ) → AreCommits streams files n k → AreCommits streams files m l → k ≡ l
-one_commits streams files n m k l one other = by_order (cases_lt k l) (cases_lt l k)
-  where
-    by_order : (k < l) ⊎ (l ≤ k) → (l < k) ⊎ (k ≤ l) → k ≡ l
-    by_order (inl less) other_way = absurd (no_fewer_commits streams files n m k l one other less)
-    by_order (inr no_less) (inl more) = absurd (no_fewer_commits streams files m n l k other one more)
-    by_order (inr no_less) (inr no_more) = omega (arith, no_less, no_more)
-
--- epochs have one greatest time
-pub one_seen : (files : Files) (e : ℕ) (a b : List SeenBy) → IsSeenAt files e a → IsSeenAt files e b → a ≡ b
-one_seen files e a b (none_yet zero is) (none_yet zero' is') = is ∙ sym is'
-one_seen files e a b (none_yet zero is) (by_commit last c same the has) = absurd (omega (arith, zero, same))
-one_seen files e a b (by_commit last c same the has) (none_yet zero is) = absurd (omega (arith, zero, same))
-one_seen files e a b (by_commit last c same the has) (by_commit last' c' same' the' has') =
-    let is : last' ≡ last = suc_same last' last (sym same' ∙ same) in
-    let P : ℕ → Type 0 = λ n. IsTheCommit files n c' in
-    has ∙ ap (λ (d : Commit). d.seen) ((subst P is the').only c the.spells) ∙ sym has'
+one_commits streams files n m k l one other =
+    one_number (λ k. (n : ℕ) × AreCommits streams files n k) (λ k l one other. no_fewer_commits streams files one.0 other.0 k l one.1 other.1) k l (n, one) (m, other)
 
 -- plans and commits that are right say the same, whoever found it
 pub record AreOne (plans others : List Plan) (k l : ℕ) (seen times : List SeenBy) : Type 0 where
@@ -90,7 +74,7 @@ one_finding streams files first plans others k l seen times one other =
     let P : ℕ → Type 0 = λ k. IsSeenAt files k times in
     record {
       same_plans = ext_get_or (no_plan []) plans others count
-          (λ e less. one_plan files e (get_or plans e (no_plan [])) (get_or others e (no_plan [])) (one.spelled e (no_plan []) less) (other.spelled e (no_plan []) (omega (arith, less, count))));
+          (λ e less. (other.spelled e (no_plan []) (omega (arith, less, count))).only (get_or plans e (no_plan [])) (one.spelled e (no_plan []) less).spells);
       committed = same;
       same_seen = one_seen files k seen times one.last (subst P (sym same) other.last);
     }

@@ -14,9 +14,9 @@ use Rattle.ssq_plans.specs.declared.seen.SeenBy.{SeenBy}
 use Rattle.ssq_open.specs.declared.streams.Watermarked.{Watermarked}
 use Rattle.ssq_open.specs.declared.fault.OpenFault.{OpenFault}
 use Rattle.ssq_open.specs.declared.fault.OpenFault.TheVariants.{OtherQuery, OtherPartitions, OtherParts, LogShort, Damaged, DiskFault, NoMemory}
-use Rattle.ssq_open.specs.Spelled.{SpellsPlan, SpellsCommit, IsThePlan, IsTheCommit}
+use Rattle.ssq_open.specs.Spelled.{SpellsOnly, IsThePlan, IsTheCommit}
 use Rattle.ssq_open.specs.Watermarks.{mark_by}
-use Rattle.ssq_open.specs.Epochs.{at_start, at_plan, is_next, is_own, AreEndsAt, IsGoodPlan, ArePlannedTo, ArePlanned, ArePlansOf, no_plan, cut_of, last_ends, IsGoodCommit, none_yet, by_commit, IsMarkAt, unmarked, marked_by, AreMarks, AreCommitted, IsMarked, IsFirstBad}
+use Rattle.ssq_open.specs.Epochs.{at_start, at_plan, is_next, is_own, AreEndsAt, IsGoodPlan, ArePlannedTo, ArePlanned, ArePlansOf, no_plan, cut_of, last_ends, IsGoodCommit, IsSeenAt, none_yet, by_commit, IsMarkAt, AreMarks, AreCommitted, IsMarked, IsFirstBad}
 use Rattle.ssq_open.specs.Refused.{PlansRefuse, CommitRefuses, CommitsRefuse}
 
 -- what holds below n and at n holds below n + 1
@@ -84,6 +84,11 @@ commit_refused streams files e n (OtherPartitions kept asked) less before refuse
 commit_refused streams files e n (OtherParts stream kept found) less before refused = refused
 commit_refused streams files e n (LogShort stream part logged found) less before refused = refused
 
+-- no greatest time gives a watermark where there is none
+pub no_mark : (streams : List Watermarked) → mark_by streams [] ≡ None
+no_mark [] = refl
+no_mark (w ∷ streams) = refl
+
 pub none_committed : (streams : List Watermarked) (files : Files) → AreCommitted streams files 0 (None ∷ []) []
 none_committed streams files = record {
   good = λ f less. absurd (omega (arith, less));
@@ -93,7 +98,7 @@ none_committed streams files = record {
 }
   where
     first_mark : (e : ℕ) (default : Option ℤ) → e < 1 → IsMarkAt streams files e (get_or (None ∷ []) e default)
-    first_mark zero default less = unmarked refl refl
+    first_mark zero default less = record { seen = []; over = none_yet refl refl; is = sym (no_mark streams) }
     first_mark (suc e) default less = absurd (omega (arith, less))
 
 pub committed_next : (streams : List Watermarked) (files : Files) (e : ℕ) (marks : List (Option ℤ)) (seen : List SeenBy) (c : Commit) → AreCommitted streams files e marks seen → IsTheCommit files e c
@@ -101,22 +106,26 @@ pub committed_next : (streams : List Watermarked) (files : Files) (e : ℕ) (mar
 committed_next streams files e marks seen c committed is own = record {
   good = below_next (IsGoodCommit streams files) e committed.good (record { commit = c; is = is; own = own });
   count = longer marks (mark_by streams c.seen) ∙ ap (λ n. n + 1) committed.count;
-  each = pushed (IsMarkAt streams files) marks (mark_by streams c.seen) committed.each (marked_by e c committed.count is refl);
+  each = pushed (IsMarkAt streams files) marks (mark_by streams c.seen) committed.each (record { seen = c.seen; over = by_commit e c committed.count is refl; is = refl });
   last = by_commit e c refl is refl;
 }
 
 suc_same : (a b : ℕ) → a + 1 ≡ b + 1 → a ≡ b
 suc_same a b e = omega (arith, e)
 
--- an epoch has one watermark
-pub one_mark : (streams : List Watermarked) (files : Files) (e : ℕ) (a b : Option ℤ) → IsMarkAt streams files e a → IsMarkAt streams files e b → a ≡ b
-one_mark streams files e a b (unmarked first is) (unmarked first' is') = is ∙ sym is'
-one_mark streams files e a b (unmarked first is) (marked_by last c same the has) = absurd (omega (arith, first, same))
-one_mark streams files e a b (marked_by last c same the has) (unmarked first is) = absurd (omega (arith, first, same))
-one_mark streams files e a b (marked_by last c same the has) (marked_by last' c' same' the' has') =
+-- epochs have one greatest time
+pub one_seen : (files : Files) (e : ℕ) (a b : List SeenBy) → IsSeenAt files e a → IsSeenAt files e b → a ≡ b
+one_seen files e a b (none_yet first is) (none_yet first' is') = is ∙ sym is'
+one_seen files e a b (none_yet first is) (by_commit last c same the has) = absurd (omega (arith, first, same))
+one_seen files e a b (by_commit last c same the has) (none_yet first is) = absurd (omega (arith, first, same))
+one_seen files e a b (by_commit last c same the has) (by_commit last' c' same' the' has') =
     let is : last' ≡ last = suc_same last' last (sym same' ∙ same) in
     let P : ℕ → Type 0 = λ n. IsTheCommit files n c' in
-    has ∙ ap (λ (d : Commit). mark_by streams d.seen) ((subst P is the').only c the.spells) ∙ sym has'
+    has ∙ ap (λ (d : Commit). d.seen) ((subst P is the').only c the.spells) ∙ sym has'
+
+-- and so one watermark
+pub one_mark : (streams : List Watermarked) (files : Files) (e : ℕ) (a b : Option ℤ) → IsMarkAt streams files e a → IsMarkAt streams files e b → a ≡ b
+one_mark streams files e a b one other = one.is ∙ ap (mark_by streams) (one_seen files e one.seen other.seen one.over other.over) ∙ sym other.is
 
 -- the plan at a place has the watermark at that place
 abbrev pub AreSame : List Plan → List (Option ℤ) → ℕ → Type 0
@@ -152,8 +161,9 @@ none_same plans marks e p m less = absurd (omega (arith, less))
 
 -- ---- a plan or a commit that is not as it has to be
 
-not_both : (told : Bool) → IsTrue told → told ≡ false → ⊥
-not_both told is not = cc
+-- a record that fails a test is no record that meets it, where the file spells it alone
+pub fails : {X : Type 0} (Is : X → Type 0) (text_of : X → List ℕ) (file : Option (List ℕ)) (test : X → Bool) (x y : X) → SpellsOnly Is text_of file x → SpellsOnly Is text_of file y → test x ≡ false → IsTrue (test y) → ⊥
+fails Is text_of file test x y one other not_so met = let same = ap test (one.only y other.spells) in cc
 
 -- the epochs before one end in one place
 one_end : (files : Files) (first : List PartEnd) (e : ℕ) (a b : List PartEnd) → AreEndsAt files first e a → AreEndsAt files first e b → a ≡ b
@@ -165,22 +175,11 @@ one_end files first e a b (at_plan last p same the is) (at_plan last' p' same' t
     let P : ℕ → Type 0 = λ n. IsThePlan files n p' in
     is ∙ ap (λ (q : Plan). q.ends) ((subst P one the').only p the.spells) ∙ sym is'
 
-pub plan_not_next : (files : Files) (first before : List PartEnd) (e : ℕ) (p : Plan) (told : Bool) → ArePlannedTo files first e before → IsThePlan files e p → told ≡ is_next before e p → told ≡ false → PlansRefuse files first (e + 1) (Damaged (name.Plan e))
-plan_not_next files first before e p told planned is next not_so = (e, refl, omega arith, record { before = planned.good; bad = bad })
+-- The plan of an epoch is damaged where no plan that the file spells alone is next after the epochs before.
+pub plan_damaged : (files : Files) (first before : List PartEnd) (e : ℕ) → ArePlannedTo files first e before → ((p : Plan) → IsThePlan files e p → IsTrue (is_next before e p) → ⊥) → PlansRefuse files first (e + 1) (Damaged (name.Plan e))
+plan_damaged files first before e planned none = (e, refl, omega arith, record { before = planned.good; bad = bad })
   where
     bad : IsGoodPlan files first e → ⊥
     bad good =
-        let B : List PartEnd → Type 0 = λ ends. IsTrue (is_next ends e p) in
-        let N : Plan → Type 0 = λ q. IsTrue (is_next good.before e q) in
-        not_both (is_next before e p) (subst B (one_end files first e good.before before good.after planned.end) (subst N (is.only good.plan good.is.spells) good.next)) (sym next ∙ not_so)
-
-pub plan_missing : (files : Files) (first before : List PartEnd) (e : ℕ) → ArePlannedTo files first e before → ((p : Plan) → SpellsPlan files e p → ⊥) → PlansRefuse files first (e + 1) (Damaged (name.Plan e))
-plan_missing files first before e planned none = (e, refl, omega arith, record { before = planned.good; bad = λ good. none good.plan good.is.spells })
-
-pub commit_not_own : (streams : List Watermarked) (files : Files) (e : ℕ) (c : Commit) (told : Bool) → IsTheCommit files e c → told ≡ is_own streams e c → told ≡ false → IsGoodCommit streams files e → ⊥
-commit_not_own streams files e c told is own not_so good =
-    let O : Commit → Type 0 = λ d. IsTrue (is_own streams e d) in
-    not_both (is_own streams e c) (subst O (is.only good.commit good.is.spells) good.own) (sym own ∙ not_so)
-
-pub commit_missing : (streams : List Watermarked) (files : Files) (e : ℕ) → ((c : Commit) → SpellsCommit files e c → ⊥) → IsGoodCommit streams files e → ⊥
-commit_missing streams files e none good = none good.commit good.is.spells
+        let B : List PartEnd → Type 0 = λ ends. IsTrue (is_next ends e good.plan) in
+        none good.plan good.is (subst B (one_end files first e good.before before good.after planned.end) good.next)

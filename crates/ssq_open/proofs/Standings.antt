@@ -11,7 +11,7 @@ use Rattle.ssq_plans.specs.declared.plan.Plan.{Plan}
 use Rattle.ssq_plans.specs.declared.commit.Commit.{Commit}
 use Rattle.ssq_plans.specs.declared.part.PartEnd.{PartEnd}
 use Rattle.ssq_plans.specs.declared.seen.SeenBy.{SeenBy}
-use Rattle.ssq_plans.specs.Records.{meta_text, plan_text, commit_text}
+use Rattle.ssq_plans.specs.Records.{IsMetaRecord, IsPlan, IsCommit, meta_text, plan_text, commit_text}
 use Rattle.ssq_plans.proofs.Apart.{records_apart}
 use Rattle.ssq_store.specs.declared.store.Store.{Store}
 use Rattle.ssq_store.specs.Loaded.{Makes}
@@ -29,7 +29,7 @@ use Rattle.ssq_open.specs.Sought.{Sought}
 use Rattle.ssq_open.specs.Spelled.{IsTheMeta, IsThePlan, IsTheCommit}
 use Rattle.ssq_open.specs.declared.streams.Watermarked.{Watermarked}
 use Rattle.ssq_open.specs.Watermarks.{has_lines, mark_by}
-use Rattle.ssq_open.specs.Epochs.{starts, follows, cut_of, last_ends, no_plan, AreEndsAt, at_start, at_plan, IsThere, IsGoodPlan, IsGoodCommit, IsSinkRight, is_stray, ArePlansOf, IsSeenAt, none_yet, by_commit, IsMarkAt, unmarked, marked_by, IsProgress}
+use Rattle.ssq_open.specs.Epochs.{starts, follows, cut_of, last_ends, no_plan, AreEndsAt, at_start, at_plan, IsThere, IsGoodPlan, IsGoodCommit, IsSinkRight, is_stray, ArePlansOf, IsSeenAt, none_yet, by_commit, IsMarkAt, IsProgress}
 use Rattle.ssq_open.specs.declared.fault.OpenFault.{OpenFault}
 use Rattle.ssq_open.specs.declared.wanted.Opened.{Opened}
 use Rattle.ssq_open.specs.Opening.{Finds, Passes, first_short, first_meta, only_meta, IsOpen, kept, begun, IsRefused, unchanged, unfinished, IsOutside, IsImageOpening}
@@ -38,12 +38,10 @@ use Rattle.ssq_open.specs.Jobs.{IsWantedJob, IsJobs, is_empty, stands, IsDeskOf,
 use Rattle.ssq_open.specs.Looking.{Query, begins, IsDenied, IsLookedFor, IsRecordDenied}
 use Rattle.ssq_open.proofs.Looks.{meta_denied, not_denied}
 use Rattle.ssq_open.proofs.Walks.{short-none}
-use Rattle.ssq_open.proofs.Planning.{pushed, longer}
+use Rattle.ssq_open.proofs.Planning.{pushed, longer, no_mark}
+use Rattle.ssq_open.proofs.Reading.{the_only}
 use Rattle.ssq_open.proofs.Passing.{one_finding, not_refused}
 use Rattle.ssq_open.proofs.Stated.{AreLaws, keeping_few, makes_states}
-
-some_same : (x y : List ℕ) → Some x ≡ Some y → x ≡ y
-some_same x y e = cc
 
 below : (e n : ℕ) → e < n → nat_lt e n ≡ true
 below e n less = grind (arith, nat_tests)
@@ -92,29 +90,16 @@ module _ (s : Sought) (job : Job) (w : IsWantedJob s job) (files : Files) (st : 
 
   the_meta : IsTheMeta files course.meta
   the_meta =
-      let is = file name.Meta (st.at.needed name.Meta refl) in
-      record {
-        spells = record { canonical = w.record_is st.cuts; text = is };
-        only = λ other spells. records_apart.metas other course.meta spells.canonical (w.record_is st.cuts) (some_same (meta_text other) (meta_text course.meta) (sym spells.text ∙ is));
-      }
+      the_only IsMetaRecord meta_text (files name.Meta) course.meta records_apart.metas (w.record_is st.cuts) (file name.Meta (st.at.needed name.Meta refl))
 
   the_plan : (e : ℕ) → e < st.planned → IsThePlan files e (plan_of course e)
   the_plan e less =
-      let is = file (name.Plan e) (st.at.needed (name.Plan e) (below e st.planned less)) in
-      let can = w.plans st.cuts st.planned e st.proper few less in
-      record {
-        spells = record { canonical = can; text = is };
-        only = λ other spells. records_apart.plans other (plan_of course e) spells.canonical can (some_same (plan_text other) (plan_text (plan_of course e)) (sym spells.text ∙ is));
-      }
+      the_only IsPlan plan_text (files (name.Plan e)) (plan_of course e) records_apart.plans (w.plans st.cuts st.planned e st.proper few less) (file (name.Plan e) (st.at.needed (name.Plan e) (below e st.planned less)))
 
   the_commit : (e : ℕ) → e < st.committed → IsTheCommit files e (commit_of course e)
   the_commit e less =
-      let is = file (name.Commit e) (st.at.needed (name.Commit e) (below e st.committed less)) in
       let can = w.commits st.cuts st.planned e st.proper few (omega (arith, less, st.at.reached.planned_first)) in
-      record {
-        spells = record { canonical = can; text = is };
-        only = λ other spells. records_apart.commits other (commit_of course e) spells.canonical can (some_same (commit_text other) (commit_text (commit_of course e)) (sym spells.text ∙ is));
-      }
+      the_only IsCommit commit_text (files (name.Commit e)) (commit_of course e) records_apart.commits can (file (name.Commit e) (st.at.needed (name.Commit e) (below e st.committed less)))
 
   ends_at : (e : ℕ) → e < st.planned → AreEndsAt files (starts s.found) e (st.cuts e)
   ends_at zero less = at_start refl (w.start st.cuts 0 (st.proper 0 less))
@@ -166,14 +151,15 @@ module _ (s : Sought) (job : Job) (w : IsWantedJob s job) (files : Files) (st : 
   no_stray (name.Delta p v) stray there = not_both (nat_lt p keeping && nat_lt v st.planned) (within p v (st.at.allowed (name.Delta p v) there)) stray
   no_stray (name.Snapshot p v) stray there = not_both (nat_lt p keeping && nat_lt v st.planned) (within p v (st.at.allowed (name.Snapshot p v) there)) stray
 
-  marked_at : (e : ℕ) → e < st.planned → (p : Plan) (mark : Option ℤ) → IsThePlan files e p → IsMarkAt s.streams files e mark → p.watermark ≡ mark
-  marked_at e less p mark is (unmarked first none) =
-      ap (λ (q : Plan). q.watermark) ((the_plan e less).only p is.spells) ∙ ap course.watermark first ∙ w.first_mark st.cuts ∙ sym none
-  marked_at e less p mark is (marked_by last c next the has) =
+  watermark_at : (e : ℕ) → e < st.planned → (seen : List SeenBy) → IsSeenAt files e seen → course.watermark e ≡ mark_by s.streams seen
+  watermark_at e less seen (none_yet first none) = ap course.watermark first ∙ w.first_mark st.cuts ∙ sym (ap (mark_by s.streams) none ∙ no_mark s.streams)
+  watermark_at e less seen (by_commit last c next the has) =
       let there : last < st.committed = omega (arith, less, next, st.at.reached.one_ahead) in
       let same : c ≡ commit_of course last = (the_commit last there).only c the.spells in
-      ap (λ (q : Plan). q.watermark) ((the_plan e less).only p is.spells) ∙ ap course.watermark next ∙ w.next_mark st.cuts last
-      ∙ sym (has ∙ ap (λ (d : Commit). mark_by s.streams d.seen) same)
+      ap course.watermark next ∙ w.next_mark st.cuts last ∙ sym (ap (mark_by s.streams) (has ∙ ap (λ (d : Commit). d.seen) same))
+
+  marked_at : (e : ℕ) → e < st.planned → (p : Plan) (mark : Option ℤ) → IsThePlan files e p → IsMarkAt s.streams files e mark → p.watermark ≡ mark
+  marked_at e less p mark is at = ap (λ (q : Plan). q.watermark) ((the_plan e less).only p is.spells) ∙ watermark_at e less at.seen at.over ∙ sym at.is
 
   abbrev plans : List Plan
   plans = first_plans course st.planned

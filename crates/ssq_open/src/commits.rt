@@ -14,7 +14,7 @@ ghost use Rattle.ssq_open.specs.declared.streams.Watermarked.{Watermarked as Wat
 
 use crate::fault::OpenFault;
 use crate::listing::commit_from;
-use crate::read::commit_of;
+use crate::read::record_in;
 use crate::streams::{Watermarked, has_lines, is_mark, mark_by};
 use ssq_outside::{Disk, Name};
 use ssq_plans::{Commit, Plan, SeenBy};
@@ -43,7 +43,7 @@ fn own_commit<D: Disk>(
     ensures counted { D.faults disk.old ≤ D.faults disk.new }
     ensures cause { IfErr result (λ fault. DiskRises fault (D.faults disk.old) (D.faults disk.new)) }
 {
-    match commit_of(alloc, disk, epoch)? {
+    match record_in(alloc, disk, Name::Commit(epoch))? {
         Some(commit) => {
             if is_own(streams, epoch, &commit) {
                 Ok(commit)

@@ -10,7 +10,7 @@ ghost use Rattle.ssq_open.specs.Looking.{IsOf, QueryDiffers, MetaRefuses};
 ghost use Rattle.ssq_open.specs.Refused.{JobDiffers, JobRefuses};
 
 use crate::fault::OpenFault;
-use crate::read::meta_of;
+use crate::read::record_in;
 use crate::wanted::Wanted;
 use ssq_outside::{Disk, Name};
 use ssq_plans::Meta;
@@ -70,7 +70,7 @@ pub(crate) fn kept_query<D: Disk>(
     ensures counted { D.faults disk.old ≤ D.faults disk.new }
     ensures cause { IfErr result (λ fault. DiskRises fault (D.faults disk.old) (D.faults disk.new)) }
 {
-    match meta_of(alloc, disk)? {
+    match record_in(alloc, disk, Name::Meta)? {
         Some(meta) => same_query(meta, query, streams),
         None => Err(OpenFault::Damaged { name: Name::Meta }),
     }

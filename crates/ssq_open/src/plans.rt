@@ -13,7 +13,7 @@ ghost use Rattle.ssq_plans.specs.declared.part.PartEnd.{PartEnd as PartEndOf};
 
 use crate::cuts::is_next;
 use crate::fault::OpenFault;
-use crate::read::plan_of;
+use crate::read::record_in;
 use ssq_outside::{Disk, Name};
 use ssq_plans::{PartEnd, Plan};
 use ssq_value::Sequence;
@@ -35,7 +35,7 @@ fn next_plan<D: Disk>(
     ensures counted { D.faults disk.old ≤ D.faults disk.new }
     ensures cause { IfErr result (λ fault. DiskRises fault (D.faults disk.old) (D.faults disk.new)) }
 {
-    match plan_of(alloc, disk, epoch)? {
+    match record_in(alloc, disk, Name::Plan(epoch))? {
         Some(plan) => {
             if is_next(before, epoch, &plan) {
                 Ok(plan)

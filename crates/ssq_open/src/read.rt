@@ -1,67 +1,81 @@
 //! The records that the files of a checkpoint spell.
 
-ghost use Rattle.std.specs.Prelude.{◌≡◌, ◌≤◌, Some, IfOk, IfSome, IfNone, IsErrOf};
+ghost use Rattle.std.specs.Prelude.{◌≡◌, ◌≤◌, IfOk, IfSome, IfNone, IsErrOf};
 ghost use Rattle.ssq_outside.specs.Faults.{Rises};
 ghost use Rattle.ssq_outside.specs.History.{files_now};
-ghost use Rattle.ssq_plans.specs.declared.meta.Meta.{Meta as MetaOf};
-ghost use Rattle.ssq_plans.specs.declared.plan.Plan.{Plan as PlanOf};
-ghost use Rattle.ssq_plans.specs.declared.commit.Commit.{Commit as CommitOf};
-ghost use Rattle.ssq_plans.specs.Records.{IsMetaRecord, IsPlan, IsCommit};
-ghost use Rattle.ssq_open.specs.Spelled.{SpellsMeta, SpellsPlan, SpellsCommit, IsTheMeta, IsThePlan, IsTheCommit};
+ghost use Rattle.ssq_open.specs.Spelled.{Spells, SpellsOnly};
 
 use ssq_outside::{Disk, DiskError, Name};
 use ssq_plans::{Commit, Meta, Plan, read_commit, read_meta, read_plan};
-use std::alloc::Global;
+use std::alloc::{AllocError, Global};
 
-/// The record of the job. `None` where it is missing or malformed.
-pub(crate) fn meta_of<D: Disk>(alloc: Global, disk: &mut D) -> Result<Option<Meta>, DiskError>
-    ensures found { D.tells → IfOk result (λ read. IfSome read (IsTheMeta (files_now (D.history disk.old)))) }
-    ensures in_range { IfOk result (λ read. IfSome read IsMetaRecord) }
-    ensures none { D.tells → IfOk result (λ read. IfNone read ((m : MetaOf) → SpellsMeta (files_now (D.history disk.old)) m → ⊥)) }
-    ensures same { D.tells → D.history disk.new ≡ D.history disk.old }
-    ensures counted { D.faults disk.old ≤ D.faults disk.new }
-    ensures cause { IsErrOf result DiskError.Fault → Rises (D.faults disk.old) (D.faults disk.new) }
-{
-    match disk.read(alloc, Name::Meta)? {
-        Some(text) => Ok(read_meta(alloc, text.as_slice())?),
-        None => Ok(None),
+/// A record that a file holds.
+pub(crate) trait Record: Drop {
+    ghost use Rattle.std.specs.Prelude.{◌≡◌, List, ℕ, Some, IfOk, IfSome};
+
+    /// A record that can be read back.
+    ghost is_canonical: { Self → Type 0 };
+    /// Its text.
+    ghost text_of: { Self → List ℕ };
+
+    /// The record that has this text. `None` where none has it.
+    fn parse(alloc: Global, text: &[u8]) -> Result<Option<Self>, AllocError>
+        ensures found { IfOk result (λ read. IfSome read (λ one. text.now ≡ text_of one)) }
+        ensures in_range { IfOk result (λ read. IfSome read is_canonical) }
+        ensures each { (one : Self) → is_canonical one → text.now ≡ text_of one → IfOk result (λ read. read ≡ Some one) };
+}
+
+impl Record for Meta {
+    ghost use Rattle.ssq_plans.specs.Records.{IsMetaRecord, meta_text};
+
+    ghost is_canonical = { IsMetaRecord };
+
+    ghost text_of = { meta_text };
+
+    fn parse(alloc: Global, text: &[u8]) -> Result<Option<Meta>, AllocError> {
+        read_meta(alloc, text)
     }
 }
 
-/// The plan of an epoch. `None` where it is missing or malformed.
-pub(crate) fn plan_of<D: Disk>(
-    alloc: Global,
-    disk: &mut D,
-    epoch: u32,
-) -> Result<Option<Plan>, DiskError>
-    ensures found { D.tells → IfOk result (λ read. IfSome read (IsThePlan (files_now (D.history disk.old)) epoch)) }
-    ensures in_range { IfOk result (λ read. IfSome read IsPlan) }
-    ensures none { D.tells → IfOk result (λ read. IfNone read ((p : PlanOf) → SpellsPlan (files_now (D.history disk.old)) epoch p → ⊥)) }
-    ensures same { D.tells → D.history disk.new ≡ D.history disk.old }
-    ensures counted { D.faults disk.old ≤ D.faults disk.new }
-    ensures cause { IsErrOf result DiskError.Fault → Rises (D.faults disk.old) (D.faults disk.new) }
-{
-    match disk.read(alloc, Name::Plan(epoch))? {
-        Some(text) => Ok(read_plan(alloc, text.as_slice())?),
-        None => Ok(None),
+impl Record for Plan {
+    ghost use Rattle.ssq_plans.specs.Records.{IsPlan, plan_text};
+
+    ghost is_canonical = { IsPlan };
+
+    ghost text_of = { plan_text };
+
+    fn parse(alloc: Global, text: &[u8]) -> Result<Option<Plan>, AllocError> {
+        read_plan(alloc, text)
     }
 }
 
-/// The commit of an epoch. `None` where it is missing or malformed.
-pub(crate) fn commit_of<D: Disk>(
+impl Record for Commit {
+    ghost use Rattle.ssq_plans.specs.Records.{IsCommit, commit_text};
+
+    ghost is_canonical = { IsCommit };
+
+    ghost text_of = { commit_text };
+
+    fn parse(alloc: Global, text: &[u8]) -> Result<Option<Commit>, AllocError> {
+        read_commit(alloc, text)
+    }
+}
+
+/// The record that a file spells. `None` where the file is missing or malformed.
+pub(crate) fn record_in<D: Disk, R: Record>(
     alloc: Global,
     disk: &mut D,
-    epoch: u32,
-) -> Result<Option<Commit>, DiskError>
-    ensures found { D.tells → IfOk result (λ read. IfSome read (IsTheCommit (files_now (D.history disk.old)) epoch)) }
-    ensures in_range { IfOk result (λ read. IfSome read IsCommit) }
-    ensures none { D.tells → IfOk result (λ read. IfNone read ((c : CommitOf) → SpellsCommit (files_now (D.history disk.old)) epoch c → ⊥)) }
+    name: Name,
+) -> Result<Option<R>, DiskError>
+    ensures found { D.tells → IfOk result (λ read. IfSome read (SpellsOnly R.is_canonical R.text_of (files_now (D.history disk.old) name))) }
+    ensures in_range { IfOk result (λ read. IfSome read R.is_canonical) }
+    ensures none { D.tells → IfOk result (λ read. IfNone read ((one : R) → Spells R.is_canonical R.text_of (files_now (D.history disk.old) name) one → ⊥)) }
     ensures same { D.tells → D.history disk.new ≡ D.history disk.old }
     ensures counted { D.faults disk.old ≤ D.faults disk.new }
     ensures cause { IsErrOf result DiskError.Fault → Rises (D.faults disk.old) (D.faults disk.new) }
 {
-    match disk.read(alloc, Name::Commit(epoch))? {
-        Some(text) => Ok(read_commit(alloc, text.as_slice())?),
+    match disk.read(alloc, name)? {
+        Some(text) => Ok(R::parse(alloc, text.as_slice())?),
         None => Ok(None),
     }
 }

@@ -1,9 +1,10 @@
-use Rattle.std.proofs.Common.{◌+◌, ◌<◌, arith, ap, subst, sym, ◌∙◌}
+use Rattle.std.proofs.Common.{◌+◌, ◌<◌, arith, ap, subst, sym, ◌∙◌, refl, le_refl}
 use Rattle.std.proofs.lemmas.Result.{err_from_is_err_and}
 use Rattle.ssq_outside.specs.History.{History, files_now}
 use Rattle.ssq_open.specs.Epochs.{AreCommitted}
 use Rattle.ssq_open.specs.Refused.{CommitRefuses}
-use Rattle.ssq_open.proofs.Planning.{commit_refused}
+use Rattle.ssq_open.proofs.InOrder.{no_times}
+use Rattle.ssq_open.proofs.Planning.{commit_refused, none_committed}
 use Rattle.ssq_open.proofs.commits.commits_to.Goals as goal
 
 pub returns-in_err-advance-clause-refused : goal.returns-in_err-advance-clause-refused
@@ -12,6 +13,15 @@ returns-in_err-advance-clause-refused g c = λ tells.
     let less : c.loop-epoch.epoch < c.args.count = omega arith in
     let R : History → Type 0 = λ h. CommitRefuses c.args.streams.now (files_now h) c.loop-epoch.epoch c.in_err-advance.field-0.0 in
     rw (p.1, p.2) (commit_refused _ _ _ _ c.in_err-advance.field-0.0 less (c.loop-epoch.invariant.committed tells).good (subst R (c.loop-epoch.invariant.same tells) (c.in_err-advance.ensures.refused tells)))
+
+pub loop-epoch-init : goal.loop-epoch-init
+loop-epoch-init g c = record {
+  committed = λ tells. rw (c.in_ok-push.ensures.ok, c.new-marks.ensures, c.new.ensures) (none_committed c.args.streams.now _);
+  count = rw (c.in_ok-push.ensures.ok, c.new-marks.ensures) refl;
+  in_order = rw (c.new.ensures) (no_times c.args.streams.now);
+  same = λ tells. refl;
+  counted = le_refl _;
+}
 
 pub loop-epoch-preserved : goal.loop-epoch-preserved
 loop-epoch-preserved g c = record {

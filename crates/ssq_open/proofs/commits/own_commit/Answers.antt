@@ -1,10 +1,12 @@
-use Rattle.std.proofs.Common.{refl}
+use Rattle.std.proofs.Common.{◌∙◌, refl, sym}
 use Rattle.ssq_outside.specs.Files.{Files}
 use Rattle.ssq_outside.specs.History.{files_now}
-use Rattle.ssq_plans.specs.Records.{IsCommit}
+use Rattle.ssq_outside.specs.declared.name.Name.TheVariants as name
+use Rattle.ssq_plans.specs.Records.{IsCommit, commit_text}
+use Rattle.ssq_open.specs.Epochs.{is_own}
 use Rattle.ssq_open.specs.Spelled.{IsTheCommit}
 use Rattle.ssq_open.proofs.Finding.{of_none, of_some}
-use Rattle.ssq_open.proofs.Planning.{commit_missing, commit_not_own}
+use Rattle.ssq_open.proofs.Planning.{fails}
 use Rattle.ssq_open.proofs.commits.own_commit.Goals as goal
 
 pub returns-then-is_own-clause-commit : goal.returns-then-is_own-clause-commit
@@ -18,8 +20,8 @@ pub returns-else-is_own-clause-refused : goal.returns-else-is_own-clause-refused
 returns-else-is_own-clause-refused g c = λ tells.
     let files : Files = files_now (g.D.Disk.history c.args.disk.now) in
     let is = of_some (IsTheCommit files c.args.epoch) c.in_ok-commit.field-0 c.in-Some.commit c.in-Some.is (c.in_ok-commit.ensures.found tells) in
-    (refl, commit_not_own c.args.streams.now files c.args.epoch c.in-Some.commit c.is_own.result is c.is_own.ensures c.if-is_own.false)
+    (refl, λ good. fails IsCommit commit_text (files (name.Commit c.args.epoch)) (is_own c.args.streams.now c.args.epoch) c.in-Some.commit good.commit is good.is (sym c.is_own.ensures ∙ c.if-is_own.false) good.own)
 
 pub returns-in-None-clause-refused : goal.returns-in-None-clause-refused
 returns-in-None-clause-refused g c = λ tells.
-    (refl, commit_missing c.args.streams.now (files_now (g.D.Disk.history c.args.disk.now)) c.args.epoch (of_none _ c.in_ok-commit.field-0 c.in-None.is (c.in_ok-commit.ensures.none tells)))
+    (refl, λ good. of_none _ c.in_ok-commit.field-0 c.in-None.is (c.in_ok-commit.ensures.none tells) good.commit good.is.spells)

@@ -1,9 +1,12 @@
+use Rattle.std.proofs.Common.{◌∙◌, sym}
 use Rattle.ssq_outside.specs.Files.{Files}
 use Rattle.ssq_outside.specs.History.{files_now}
-use Rattle.ssq_plans.specs.Records.{IsPlan}
+use Rattle.ssq_outside.specs.declared.name.Name.TheVariants as name
+use Rattle.ssq_plans.specs.Records.{IsPlan, plan_text}
+use Rattle.ssq_open.specs.Epochs.{is_next}
 use Rattle.ssq_open.specs.Spelled.{IsThePlan}
 use Rattle.ssq_open.proofs.Finding.{of_none, of_some}
-use Rattle.ssq_open.proofs.Planning.{plan_missing, plan_not_next}
+use Rattle.ssq_open.proofs.Planning.{fails, plan_damaged}
 use Rattle.ssq_open.proofs.plans.next_plan.Goals as goal
 
 pub returns-then-is_next-clause-plan : goal.returns-then-is_next-clause-plan
@@ -17,8 +20,8 @@ pub returns-else-is_next-clause-refused : goal.returns-else-is_next-clause-refus
 returns-else-is_next-clause-refused g c = λ tells first planned.
     let files : Files = files_now (g.D.Disk.history c.args.disk.now) in
     let is = of_some (IsThePlan files c.args.epoch) c.in_ok-plan.field-0 c.in-Some.plan c.in-Some.is (c.in_ok-plan.ensures.found tells) in
-    plan_not_next files first c.args.before.now c.args.epoch c.in-Some.plan c.is_next.result planned is c.is_next.ensures c.if-is_next.false
+    plan_damaged files first c.args.before.now c.args.epoch planned (λ plan the. fails IsPlan plan_text (files (name.Plan c.args.epoch)) (is_next c.args.before.now c.args.epoch) c.in-Some.plan plan is the (sym c.is_next.ensures ∙ c.if-is_next.false))
 
 pub returns-in-None-clause-refused : goal.returns-in-None-clause-refused
 returns-in-None-clause-refused g c = λ tells first planned.
-    plan_missing (files_now (g.D.Disk.history c.args.disk.now)) first c.args.before.now c.args.epoch planned (of_none _ c.in_ok-plan.field-0 c.in-None.is (c.in_ok-plan.ensures.none tells))
+    plan_damaged (files_now (g.D.Disk.history c.args.disk.now)) first c.args.before.now c.args.epoch planned (λ plan the next. of_none _ c.in_ok-plan.field-0 c.in-None.is (c.in_ok-plan.ensures.none tells) plan the.spells)
