@@ -1,15 +1,38 @@
 //! What the names of a checkpoint's files say, without a look into the files.
 
-ghost use Rattle.std.specs.Prelude.{◌≡◌, ◌<◌, ◌≤◌, ◌+◌, ◌^◌, ◌↔◌, ℕ, AllPairs, Contains, IsTrue, filter};
+ghost use Rattle.std.specs.Prelude.{◌≡◌, ◌<◌, ◌≤◌, ◌+◌, ◌^◌, ◌↔◌, ℕ, AllPairs, Contains, IsTrue, IfOk, IfSome, IfNone, IsErrOf, filter};
 ghost use Rattle.std.specs.Option.{option_copied};
 ghost use Rattle.std.specs.List.{find};
-ghost use Rattle.ssq_outside.specs.Files.{name_before};
+ghost use Rattle.ssq_outside.specs.Faults.{Rises};
+ghost use Rattle.ssq_outside.specs.Files.{AreNames, IsEmpty, name_before};
+ghost use Rattle.ssq_outside.specs.History.{files_now};
 ghost use Rattle.ssq_core.specs.Sound.{is_state};
 ghost use Rattle.ssq_open.specs.Listing.{is_commit_from, is_out_from};
 ghost use Rattle.ssq_open.specs.Epochs.{is_stray};
 
-use ssq_outside::Name;
+use ssq_outside::{Disk, DiskError, Name};
 use ssq_value::Sequence;
+use std::alloc::Global;
+
+/// The names of a checkpoint's files. `None` where no file is there.
+pub(crate) fn names_in<D: Disk>(
+    alloc: Global,
+    disk: &mut D,
+) -> Result<Option<Sequence<Name>>, DiskError>
+    ensures names { D.tells → IfOk result (λ read. IfSome read (AreNames (files_now (D.history disk.old)))) }
+    ensures some { D.tells → IfOk result (λ read. IfSome read (λ _. IsEmpty (files_now (D.history disk.old)) → ⊥)) }
+    ensures none { D.tells → IfOk result (λ read. IfNone read (IsEmpty (files_now (D.history disk.old)))) }
+    ensures same { D.tells → D.history disk.new ≡ D.history disk.old }
+    ensures counted { D.faults disk.old ≤ D.faults disk.new }
+    ensures cause { IsErrOf result DiskError.Fault → Rises (D.faults disk.old) (D.faults disk.new) }
+{
+    let names = Sequence::from_vec(disk.names(alloc)?);
+    if names.is_empty() {
+        Ok(None)
+    } else {
+        Ok(Some(names))
+    }
+}
 
 /// How many epochs are planned: the greatest plan's number and one.
 pub(crate) fn planned(names: &[Name]) -> u64

@@ -17,7 +17,7 @@ use crate::cuts::begins;
 use crate::fault::OpenFault;
 use crate::job::kept_query;
 use crate::kept::kept_progress;
-use crate::listing::files_of_state;
+use crate::listing::{files_of_state, names_in};
 use crate::streams::{Watermarked, watermarked_among};
 use crate::wanted::Opened;
 use ssq_outside::{Disk, Name};
@@ -59,27 +59,6 @@ fn held<D: Disk>(
     })
 }
 
-/// What there is to find, or why it is not looked at.
-fn looked<D: Disk>(alloc: Global, disk: &mut D, bound: &Bound) -> Result<Option<Opened>, OpenFault>
-    requires { length bound.now.streams ≤ 2 ^ 32 }
-    ensures found { D.tells → IfOk result (λ read. IfSome read (Holds (query_of bound.now) (files_now (D.history disk.old)))) }
-    ensures none { D.tells → IfOk result (λ read. IfNone read (IsEmpty (files_now (D.history disk.old)))) }
-    ensures denied { D.tells → IfErr result (IsDenied (query_of bound.now) (files_now (D.history disk.old))) }
-    ensures numbers { IfOk result (λ read. IfSome read (λ found. HasNumbers (watermarked bound.now.streams) (begins found.meta.parts) found)) }
-    ensures streams { IfOk result (λ read. IfSome read (λ found. length found.meta.parts ≡ length bound.now.streams)) }
-    ensures unloaded { IfOk result (λ read. IfSome read (λ found. found.stores ≡ [])) }
-    ensures same { D.tells → D.history disk.new ≡ D.history disk.old }
-    ensures counted { D.faults disk.old ≤ D.faults disk.new }
-    ensures cause { IfErr result (λ fault. DiskRises fault (D.faults disk.old) (D.faults disk.new)) }
-{
-    let streams = watermarked_among(alloc, bound.streams.as_slice())?;
-    let names = Sequence::from_vec(disk.names(alloc)?);
-    if names.is_empty() {
-        return Ok(None);
-    }
-    Ok(Some(held(alloc, disk, names, bound, streams.as_slice())?))
-}
-
 /// Looks at the checkpoint of a query and says what it holds: nothing where no file is there. Nothing is
 /// changed, and no log is asked.
 ///
@@ -111,5 +90,9 @@ pub fn look<D: Disk>(
     ensures counted { D.faults disk.old ≤ D.faults disk.new }
     ensures cause { IfErr result (λ fault. DiskRises fault (D.faults disk.old) (D.faults disk.new)) }
 {
-    looked(alloc, disk, bound)
+    let streams = watermarked_among(alloc, bound.streams.as_slice())?;
+    match names_in(alloc, disk)? {
+        Some(names) => Ok(Some(held(alloc, disk, names, bound, streams.as_slice())?)),
+        None => Ok(None),
+    }
 }

@@ -24,7 +24,7 @@ use crate::job::kept_job;
 use crate::kept::{Epochs, kept_epochs};
 use crate::lengths::check_ends;
 use crate::lens::{counts_of, found_in};
-use crate::listing::files_of_state;
+use crate::listing::{files_of_state, names_in};
 use crate::plans::last_ends;
 use crate::stateful::{keeping_in, keeps_state};
 use crate::stores::{finding_of, load_stores};
@@ -128,11 +128,10 @@ pub(crate) fn open_wanted<D: Disk>(
     ensures cause { IfErr result (λ fault. DiskRises fault (D.faults disk.old) (D.faults disk.new)) }
 {
     disk.sync_names()?;
-    let names = Sequence::from_vec(disk.names(alloc)?);
-    if names.is_empty() {
-        return begin(alloc, disk, wanted);
+    match names_in(alloc, disk)? {
+        Some(names) => kept(alloc, disk, names, wanted),
+        None => begin(alloc, disk, wanted),
     }
-    kept(alloc, disk, names, wanted)
 }
 
 /// What an opening asks of the query and the logs.

@@ -13,31 +13,11 @@ ghost use Rattle.ssq_open.specs.Sought.{Sought};
 
 use crate::fault::OpenFault;
 use crate::job::kept_query;
+use crate::listing::names_in;
 use ssq_outside::{Disk, Name};
 use ssq_shape::Bound;
 use ssq_value::Sequence;
 use std::alloc::Global;
-
-/// The names of a checkpoint's files, or why it is not the query's.
-fn listed<D: Disk>(
-    alloc: Global,
-    disk: &mut D,
-    bound: &Bound,
-) -> Result<Option<Sequence<Name>>, OpenFault>
-    ensures found { D.tells → IfOk result (λ read. IfSome read (λ names. AreNames (files_now (D.history disk.old)) names × HasRecordOf (query_of bound.now) (files_now (D.history disk.old)))) }
-    ensures none { D.tells → IfOk result (λ read. IfNone read (IsEmpty (files_now (D.history disk.old)))) }
-    ensures denied { D.tells → IfErr result (IsRecordDenied (query_of bound.now) (files_now (D.history disk.old))) }
-    ensures same { D.tells → D.history disk.new ≡ D.history disk.old }
-    ensures counted { D.faults disk.old ≤ D.faults disk.new }
-    ensures cause { IfErr result (λ fault. DiskRises fault (D.faults disk.old) (D.faults disk.new)) }
-{
-    let names = Sequence::from_vec(disk.names(alloc)?);
-    if names.is_empty() {
-        return Ok(None);
-    }
-    kept_query(alloc, disk, &bound.text, bound.streams.len())?;
-    Ok(Some(names))
-}
 
 /// The names of a checkpoint's files, where its record is there, canonical, and of this query: none where no file is there. Nothing is changed, and
 /// no other file is read.
@@ -62,5 +42,11 @@ pub fn own_names<D: Disk>(
     ensures counted { D.faults disk.old ≤ D.faults disk.new }
     ensures cause { IfErr result (λ fault. DiskRises fault (D.faults disk.old) (D.faults disk.new)) }
 {
-    listed(alloc, disk, bound)
+    match names_in(alloc, disk)? {
+        Some(names) => {
+            kept_query(alloc, disk, &bound.text, bound.streams.len())?;
+            Ok(Some(names))
+        }
+        None => Ok(None),
+    }
 }
