@@ -138,7 +138,7 @@ fn kept_of(alloc: Global, query: &Query, context: &Context) -> Result<Kept, Allo
     requires context { context.now ≡ context_of query.now }
     ensures { IfOk result (λ kept. kept ≡ kept_of query.now) }
 {
-    if is_group(alloc, query)? {
+    if is_group(query) {
         grouped(alloc, query, context)
     } else {
         ungrouped(alloc, query, context)

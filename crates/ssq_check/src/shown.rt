@@ -1,6 +1,6 @@
 //! The aggregates of SELECT and HAVING, and whether a query groups its rows.
 
-ghost use Rattle.std.specs.Prelude.{◌≡◌, IfOk};
+ghost use Rattle.std.specs.Prelude.{◌≡◌};
 ghost use Rattle.std.specs.List.{flat_map};
 ghost use Rattle.ssq_check.specs.Counted.{none_of, counted};
 ghost use Rattle.ssq_check.specs.Shown.{aggregates, item_aggregates, having_aggregates, shown_aggregates, group_place_at, is_group, within_by};
@@ -8,7 +8,6 @@ ghost use Rattle.ssq_check.specs.Shown.{aggregates, item_aggregates, having_aggr
 use crate::scope::Within;
 use crate::tally::Tally;
 use ssq_ast::{Condition, Expr, GroupBy, Item, Query};
-use std::alloc::{AllocError, Global};
 
 /// How many aggregates SELECT and HAVING may have together.
 const MOST_AGGREGATES: usize = 64;
@@ -89,11 +88,11 @@ pub(crate) fn group_place(group: &Option<GroupBy>, aggregate: Option<usize>) -> 
 }
 
 /// Whether a query groups its rows: GROUP BY stands, or an aggregate in SELECT or HAVING.
-pub fn is_group(_alloc: Global, query: &Query) -> Result<bool, AllocError>
-    ensures { IfOk result (λ is_so. is_so ≡ is_group query.now) }
+pub fn is_group(query: &Query) -> bool
+    ensures { result ≡ is_group query.now }
 {
     let aggregates = shown_aggregates(query);
-    Ok(group_place(&query.select.group, aggregates.first).is_some())
+    group_place(&query.select.group, aggregates.first).is_some()
 }
 
 /// Where the expressions of SELECT and HAVING stand.
