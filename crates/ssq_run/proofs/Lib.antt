@@ -1,5 +1,4 @@
 pub mod Telling
-pub mod PartLines
 pub mod Passing
 pub mod Going
 pub mod Looking

@@ -48,9 +48,9 @@ stop_text FullEpochs = codes "stopped 11 Full epochs"
 abbrev pub stop_line : Stop → List ℕ
 stop_line stop = stop_text stop ++ codes "\n"
 
--- a name and a number
+-- a number behind what it is
 abbrev pub number_line : List ℕ → ℕ → List ℕ
-number_line name number = name ++ codes " " ++ decimal number ++ codes "\n"
+number_line front number = front ++ decimal number ++ codes "\n"
 
 abbrev pub watermark_line : Option ℤ → List ℕ
 watermark_line watermark = codes "watermark " ++ time_or_none watermark ++ codes "\n"
@@ -67,7 +67,7 @@ last_watermark plans = watermark_up_to plans (length plans)
 -- where the planned epochs end, part by part.
 abbrev pub status_text : Opened → List ℕ
 status_text found =
-    number_line (codes "partitions") found.meta.partitions ++ number_line (codes "planned") (length found.plans) ++ number_line (codes "committed") found.committed
+    number_line (codes "partitions ") found.meta.partitions ++ number_line (codes "planned ") (length found.plans) ++ number_line (codes "committed ") found.committed
     ++ watermark_line (last_watermark found.plans) ++ lines (λ at part. part_line part) 0 (last_ends (begins found.meta.parts) found.plans)
 
 -- what is told of an empty disk

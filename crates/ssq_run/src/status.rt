@@ -4,32 +4,21 @@ ghost use Rattle.std.specs.Prelude.{◌≡◌, ◌≤◌, ◌^◌, ◌++◌, [],
 ghost use Rattle.std.specs.Option.{ForSome};
 ghost use Rattle.ssq_time.specs.Time.{IsStampTime};
 ghost use Rattle.ssq_outside.specs.History.{files_now};
-ghost use Rattle.ssq_plans.specs.Records.{lines, part_line, time_or_none};
+ghost use Rattle.ssq_plans.specs.Records.{lines, part_line};
+ghost use Rattle.ssq_plans.specs.Written.{Adds};
 ghost use Rattle.ssq_open.specs.Looking.{begins};
 ghost use Rattle.ssq_open.specs.Epochs.{last_ends};
-ghost use Rattle.ssq_run.specs.Lines.{last_watermark, number_line, watermark_line, status_text};
+ghost use Rattle.ssq_run.specs.Lines.{last_watermark, status_text};
 ghost use Rattle.ssq_run.specs.Looked.{LookEnd};
 ghost use Rattle.ssq_run.specs.Stopping.{HasCount, IsPastWords, stop_in};
 
 use crate::faults::stop_of_open;
 use crate::stop::Stop;
-use ssq_field::put_decimal_to;
 use ssq_open::{Opened, begins, look};
 use ssq_outside::Disk;
-use ssq_plans::{PartEnd, Plan};
+use ssq_plans::{Plan, Writer, put_ends};
 use ssq_shape::Bound;
-use ssq_time::put_time;
 use std::alloc::{AllocError, Global};
-
-/// Adds a line that tells a number.
-fn put_number(text: &mut Vec<u8>, name: &[u8], number: u64) -> Result<(), AllocError>
-    ensures { OnOk result (text.new.items ≡ text.old.items ++ number_line name.now number) }
-{
-    text.extend_from_slice(name)?;
-    text.extend_from_slice(b" ")?;
-    put_decimal_to(text, number)?;
-    text.extend_from_slice(b"\n")
-}
 
 /// The watermark of the last plan, if there is one.
 fn last_watermark(plans: &[Plan]) -> Option<i64>
@@ -43,55 +32,19 @@ fn last_watermark(plans: &[Plan]) -> Option<i64>
     }
 }
 
-/// Adds the line of a watermark.
-fn put_watermark(text: &mut Vec<u8>, watermark: Option<i64>) -> Result<(), AllocError>
-    requires { ForSome watermark IsStampTime }
-    ensures { OnOk result (text.new.items ≡ text.old.items ++ watermark_line watermark) }
-{
-    text.extend_from_slice(b"watermark ")?;
-    match watermark {
-        Some(time) => put_time(text, time)?,
-        None => text.extend_from_slice(b"none")?,
-    }
-    text.extend_from_slice(b"\n")
-}
-
-/// Adds the line of a part.
-fn put_part(text: &mut Vec<u8>, part: &PartEnd) -> Result<(), AllocError>
-    ensures { OnOk result (text.new.items ≡ text.old.items ++ part_line part.now) }
-{
-    text.extend_from_slice(b"part ")?;
-    put_decimal_to(text, part.stream as u64)?;
-    text.extend_from_slice(b" ")?;
-    put_decimal_to(text, part.part as u64)?;
-    text.extend_from_slice(b" ")?;
-    put_decimal_to(text, part.end)?;
-    text.extend_from_slice(b"\n")
-}
-
-/// Adds the line of each part.
-#[tactic(auto, using(crate::proofs::PartLines::part_steps))]
-fn put_parts(text: &mut Vec<u8>, ends: &[PartEnd]) -> Result<(), AllocError>
-    ensures { OnOk result (text.new.items ≡ text.old.items ++ lines (λ at part. part_line part) 0 ends.now) }
-{
-    for part in ends {
-        put_part(text, part)?;
-    }
-    Ok(())
-}
-
 /// Adds the line of each part: where the planned epochs end.
-fn put_ends(alloc: Global, text: &mut Vec<u8>, found: &Opened) -> Result<(), AllocError>
+fn put_planned(alloc: Global, text: &mut Writer, found: &Opened) -> Result<(), AllocError>
     requires { length found.now.meta.parts ≤ 2 ^ 32 }
-    ensures { OnOk result (text.new.items ≡ text.old.items ++ lines (λ at part. part_line part) 0 (last_ends (begins found.now.meta.parts) found.now.plans)) }
+    ensures { OnOk result (Adds text.old (lines (λ at part. part_line part) 0 (last_ends (begins found.now.meta.parts) found.now.plans)) text.new) }
 {
     match found.plans.as_slice().last() {
-        Some(plan) => put_parts(text, plan.ends.as_slice()),
+        Some(plan) => put_ends(text, plan.ends.as_slice()),
         None => {
             let first = begins(alloc, found.meta.parts.as_slice())?;
-            put_parts(text, first.as_slice())
+            put_ends(text, first.as_slice());
         }
     }
+    Ok(())
 }
 
 /// What is told of a checkpoint.
@@ -100,13 +53,13 @@ fn status_text(alloc: Global, found: &Opened) -> Result<Vec<u8>, AllocError>
     requires few { length found.now.meta.parts ≤ 2 ^ 32 }
     ensures { IfOk result (λ text. text.items ≡ status_text found.now) }
 {
-    let mut text = Vec::new(alloc);
-    put_number(&mut text, b"partitions", found.meta.partitions as u64)?;
-    put_number(&mut text, b"planned", found.plans.len() as u64)?;
-    put_number(&mut text, b"committed", found.committed as u64)?;
-    put_watermark(&mut text, last_watermark(found.plans.as_slice()))?;
-    put_ends(alloc, &mut text, found)?;
-    Ok(text)
+    let mut text = Writer::new(alloc);
+    text.put_number_line(b"partitions ", found.meta.partitions as u64);
+    text.put_number_line(b"planned ", found.plans.len() as u64);
+    text.put_number_line(b"committed ", found.committed as u64);
+    text.put_time_line(b"watermark ", last_watermark(found.plans.as_slice()));
+    put_planned(alloc, &mut text, found)?;
+    text.into_vec()
 }
 
 /// Looks at the checkpoint of a query, and says what there is to tell of it.

@@ -3,42 +3,24 @@
 ghost use Rattle.std.specs.Prelude.{◌≡◌, ◌++◌, List, ℕ, All, IfOk, OnOk, OnErr};
 ghost use Rattle.std.specs.Option.{ForSome};
 ghost use Rattle.ssq_time.specs.Time.{IsStampTime};
-ghost use Rattle.ssq_plans.specs.Records.{time_or_none};
 ghost use Rattle.ssq_desk.specs.declared.told.Told.{Told as ToldOf};
 ghost use Rattle.ssq_runner.specs.Told.{told_line, told_text, done_line};
 
 use ssq_desk::Told;
-use ssq_field::put_decimal_to;
-use ssq_time::put_time;
+use ssq_plans::Writer;
 use std::alloc::{AllocError, Global};
-
-/// Adds a time, or `none` where there is none.
-fn put_time_or_none(line: &mut Vec<u8>, time: Option<i64>) -> Result<(), AllocError>
-    requires { ForSome time IsStampTime }
-    ensures { OnOk result (line.new.items ≡ line.old.items ++ time_or_none time) }
-{
-    match time {
-        Some(time) => put_time(line, time),
-        None => line.extend_from_slice(b"none"),
-    }
-}
 
 /// The line of an epoch.
 fn told_line(alloc: Global, told: Told) -> Result<Vec<u8>, AllocError>
     requires { ForSome told.watermark IsStampTime }
     ensures { IfOk result (λ line. line.items ≡ told_line told) }
 {
-    let mut line = Vec::with_capacity(alloc, 64)?;
-    line.extend_from_slice(b"epoch ")?;
-    put_decimal_to(&mut line, told.epoch as u64)?;
-    line.extend_from_slice(b" lines ")?;
-    put_decimal_to(&mut line, told.lines)?;
-    line.extend_from_slice(b" watermark ")?;
-    put_time_or_none(&mut line, told.watermark)?;
-    line.extend_from_slice(b" rows ")?;
-    put_decimal_to(&mut line, told.rows)?;
-    line.extend_from_slice(b"\n")?;
-    Ok(line)
+    let mut line = Writer::new(alloc);
+    line.put_number(b"epoch ", told.epoch as u64);
+    line.put_number(b" lines ", told.lines);
+    line.put_time(b" watermark ", told.watermark);
+    line.put_number_line(b" rows ", told.rows);
+    line.into_vec()
 }
 
 /// Adds the line of an epoch. After an `Err` the text is as before.
