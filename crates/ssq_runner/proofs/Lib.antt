@@ -17,3 +17,4 @@ pub mod Faultless
 pub mod Completing
 pub mod Overs
 pub mod Begins
+pub mod Written
