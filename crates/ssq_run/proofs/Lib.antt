@@ -2,6 +2,7 @@ pub mod Telling
 pub mod Passing
 pub mod Going
 pub mod Looking
+pub mod StatusText
 pub mod Showing
 pub mod Tabling
 pub mod TableRows
