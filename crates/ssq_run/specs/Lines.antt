@@ -1,5 +1,5 @@
 -- The lines by which the program tells how it stopped, and how far a checkpoint has come.
-use Rattle.std.specs.Prelude.{ℕ, zero, suc, ℤ, ◌+◌, ◌++◌, List, [], length, get_or, Option, None, codes, decimal}
+use Rattle.std.specs.Prelude.{ℕ, zero, suc, ℤ, ◌++◌, List, [], length, get_or, Option, None, codes, decimal}
 use Rattle.ssq_plans.specs.Names.{text_of}
 use Rattle.ssq_plans.specs.Records.{lines, part_line, time_or_none}
 use Rattle.ssq_plans.specs.declared.plan.Plan.{Plan}
