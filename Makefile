@@ -1,11 +1,11 @@
 # make           proves the program and each crate below it with all processors (JOBS=2: with two), a line for each, and leaves it at bin/ssq
 # make demo      runs a filter and a windowed count on fresh copies of their examples, in demo/
 # make examples  runs each folder of examples/ in a fresh copy, and compares its sink files with those that it keeps
-# make check     proves every crate, and no more
+# make check     proves every crate, also those that the program does not use, but no tests
 # make test      the whole gate: every proof, must-fail edit, test and program
 # make clean     removes what was built
 #
-# It needs GNU make, Python 3, a POSIX shell and the Rattle toolchain (`rt`). What is proved stays in crates/*/out, so
+# It needs GNU make, Python 3.9, a POSIX shell and the Rattle toolchain (`rt`). What is proved stays in crates/*/out, so
 # that a later make proves only what changed.
 
 # Files and folders, so that one which went counts as a change too.
@@ -15,10 +15,11 @@ SOURCES := $(shell find crates/*/src crates/*/specs crates/*/proofs) crates.txt 
 
 all: bin/ssq
 
+# It is as old as the run that made it: a file that was changed meanwhile is newer.
 bin/ssq: $(SOURCES)
-	@mkdir -p bin
+	@mkdir -p bin && touch bin/began
 	@tools/prove.py $(JOBS)
-	@cp crates/ssq_main/out/ssq_main bin/ssq.new
+	@cp crates/ssq_main/out/ssq_main bin/ssq.new && touch -r bin/began bin/ssq.new
 	@mv -f bin/ssq.new bin/ssq
 
 demo: bin/ssq
@@ -32,12 +33,14 @@ demo: bin/ssq
 		cd ../.. || exit 1; \
 	done
 
-# Each folder has a query, its logs, the words behind `ssq` and the sink files that these give.
+# Each folder has a query, its logs, the words behind `ssq` and the sink files that these give. One that fails stays in bin/example.
 examples: bin/ssq
 	@for example in examples/*/; do \
-		rm -rf demo && cp -R "$$example" demo && rm -rf demo/checkpoint && mkdir -p demo/wanted && mv demo/sink demo/wanted/ && \
-		(cd demo && ../bin/ssq $$(cat words) > told && diff -r wanted/sink checkpoint/sink) && echo "$$example gives what it keeps" || exit 1; \
-	done; rm -rf demo
+		rm -rf bin/example && cp -R "$$example" bin/example && rm -rf bin/example/checkpoint && \
+		mkdir bin/example/wanted && mv bin/example/sink bin/example/wanted/ && \
+		(cd bin/example && ../ssq $$(cat words) > told && diff -r wanted/sink checkpoint/sink) && echo "$$example gives what it keeps" || \
+		{ echo "$$example does not give what it keeps: see bin/example"; exit 1; }; \
+	done; rm -rf bin/example
 
 check:
 	@tools/prove.py --all $(JOBS)

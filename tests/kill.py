@@ -11,8 +11,8 @@ ended before its kill is judged as the last one is, and not counted as killed.
 - plain: WHERE and SELECT.
 - group: overlapping windows and a key with NULLs, in Append, Update and Complete in turn, over three partitions. Some rows are late,
   some of them for one of their windows alone.
-- dedup: rows without repeats, in Append by a key and the event time, so that keys are forgotten, and in Update by two other columns, so
-  that none is. Repeats come within an epoch and later, with other values.
+- dedup: rows without repeats, in Append by a key and the event time, so that keys are forgotten, and in Update by the key and another
+  column, so that none is. Repeats come within an epoch and later, with other values.
 - join: two parts of a left stream and one of a right, over three partitions: left, right and inner joins within a bound, and an inner join
   without one, whose rows are kept for good. Keys are NULL now and then, and some rows are late.
 
@@ -255,7 +255,7 @@ class Checkpoint:
         return epochs, commits
 
     def judge_cuts(self, epochs):
-        """Each epoch that is new has lines of its parts, as many as it may; or it has none, and is there to close windows."""
+        """Each epoch that is new has lines of its parts, of none more than it may; or it has none, and is there to close windows."""
         for e in range(len(self.cuts), len(epochs.cuts)):
             begin, end = epochs.begin(e), epochs.cuts[e]
             assert len(end) == self.job.parts, f"cut {e}: {end}"
@@ -426,7 +426,7 @@ def asked():
     words.add_argument("runs", nargs="?", type=int, default=200)
     words.add_argument("seed", nargs="?", type=int, default=int(time.time()))
     words.add_argument("--shape", choices=["plain", *MANY], default="plain")
-    words.add_argument("--epochs", type=int, default=LINES // CAP, help="of each checkpoint, about so many")
+    words.add_argument("--epochs", type=int, default=LINES // CAP, help="of each checkpoint, about so many; of a join a fifth")
     words.add_argument("--seconds", type=float, default=1.0, help="after which a run is killed at the latest")
     return words.parse_args()
 

@@ -339,7 +339,7 @@ def whole_object(fields):
 
 
 def json_of(line):
-    """The JSON that a line is. Lines that nest over a hundred deep, which serde_json refuses, are not asked for here."""
+    """The JSON that a line is. Lines that nest more than 127 deep, which serde_json refuses, are not asked for here."""
     hook = whole_object if b"\\u" in line else None
     try:
         found = json.loads(line.decode(), parse_int=number_of, parse_float=float_of, parse_constant=no_number, object_pairs_hook=hook)

@@ -121,7 +121,7 @@ class Machine:
     def play(self, call):
         """Whether it changed, synced or printed something."""
         assert call.name in PLAYED.split(","), f"the model does not know {call}"
-        number = call.words.split(",")[0]
+        number = call.words.split(",")[0].strip()
         if call.name == "openat":
             self.open(call, *paths(call))
         elif call.name == "close":

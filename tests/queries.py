@@ -592,9 +592,10 @@ class Trial:
         most = self.chance.choice([None, 1, 3, 7, 20])
         self.cuts = model.cuts_of_run(self.query, [self.logs], most, self.cuts, self.lefts)
         epochs = Epochs(self.query, self.logs, self.cuts, self.partitions, self.lefts)
-        done = subprocess.run([SSQ, "run", "q.sql", *self.options(most)], cwd=self.folder, stdout=subprocess.PIPE)
+        done = subprocess.run([SSQ, "run", "q.sql", *self.options(most)], cwd=self.folder, stdout=subprocess.PIPE, stderr=subprocess.STDOUT)
         output = epochs.output(self.commits)
-        assert done.stdout.decode().splitlines() == output, f"told\n{done.stdout.decode()}\nand not\n{output}"
+        told = "".join(f"{line}\n" for line in output)
+        assert done.stdout.decode() == told, f"told\n{done.stdout.decode()}\nand not\n{told}"
         status = 0 if output[-1].startswith("done") else int(output[-1].split()[1])
         assert done.returncode == status, f"status {done.returncode}, and not {status}"
         wanted, self.commits = wanted_files(epochs)
@@ -617,7 +618,7 @@ class Trial:
     def judge_answers(self, table=b"", status=b"no checkpoint\n"):
         """What is told between runs; before the first there is no checkpoint."""
         for verb, wanted in ("show", table), ("status", status), ("explain", explained(self.query)):
-            done = subprocess.run([SSQ, verb, "q.sql"], cwd=self.folder, stdout=subprocess.PIPE)
+            done = subprocess.run([SSQ, verb, "q.sql"], cwd=self.folder, stdout=subprocess.PIPE, stderr=subprocess.STDOUT)
             assert done.returncode == 0, f"{verb} ends with status {done.returncode}"
             assert done.stdout == wanted, f"{verb} tells\n{done.stdout.decode()}\nand not\n{wanted.decode()}"
 

@@ -409,11 +409,11 @@ class Trials:
     def judge_refusal(self, job, line, words, *changes):
         folder, status = self.folder(job, *changes), int(line.split()[1])
         before, done = contents(folder), ssq(folder, words)
-        assert done.stdout == f"{line}\n".encode(), f"told {done.stdout}"
+        assert done.stdout == f"{line}\n".encode() and not done.stderr, f"told {done.stdout}, and on standard error {done.stderr}"
         assert done.returncode == status, f"its status is {done.returncode}"
         with open("/dev/full", "wb") as full:
             done = ssq(folder, words, full)
-        assert done.returncode == status, f"where the output fails the status is {done.returncode}"
+        assert done.returncode == status and not done.stderr, f"where the output fails the status is {done.returncode}, on standard error {done.stderr}"
         assert contents(folder) == before, f"changed: {[name for name, _ in before.items() ^ contents(folder).items()]}"
         shutil.rmtree(folder)
 
@@ -465,7 +465,8 @@ class Trials:
         for folder, done in self.starved(RUN, job, more):
             assert done.stdout in ([NO_MEMORY, told + NO_MEMORY] if done.returncode else [told + end]), f"told {done.stdout}"
             whole = ssq(folder, RUN)
-            assert whole.stdout in (end, told + end) and whole.returncode == 0, f"the next run told {whole.stdout}"
+            missing = [end] if done.stdout.startswith(told) else [end, told + end]
+            assert whole.stdout in missing and whole.returncode == 0, f"the next run told {whole.stdout}"
             assert (folder / kept(f"sink/{job.epochs}")).read_text() == sink, "its sink file is another"
             refused += done.returncode == 10
         return refused

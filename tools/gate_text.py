@@ -3,38 +3,37 @@
 
     tools/gate_text.py [CHECKOUT]
 
-Names crates with files that nothing reads, with a use that stands for something else than the library's own, with another layout than
+Names folders with files that nothing reads, crates with a use that stands for something else than the library's own, with another layout than
 `rt fmt` gives, and must-fail edits that cannot be applied. The last line counts them; the status is 1 where there is one.
 It reads the toolchain's own rules (`rt` and `rtlib` beside it), so it holds for the kit that is installed.
 """
 import importlib.machinery
 import importlib.util
 import os
-import pathlib
 import re
-import shutil
 import sys
 
 sys.dont_write_bytecode = True
-KIT = pathlib.Path(os.path.realpath(shutil.which("rt"))).parent
-sys.path.insert(0, str(KIT))
+import kit  # noqa: E402
 root = os.path.abspath(sys.argv[1] if len(sys.argv) > 1 else ".")
 sys.argv = ["rt"]
 os.chdir(root)
-loader = importlib.machinery.SourceFileLoader("rt_command", str(KIT / "rt"))
+loader = importlib.machinery.SourceFileLoader("rt_command", str(kit.FOLDER / "rt"))
 rt = importlib.util.module_from_spec(importlib.util.spec_from_loader("rt_command", loader))
 loader.exec_module(rt)
 import rtlib  # noqa: E402
 
 rtlib.stop = rt.stop
-known = {}
-names = [line.split("#")[0].split(":")[0].split() for line in open("crates.txt")]
-crates = [rtlib.Crate(f"{root}/crates/{words[0]}", root, known) for words in names if words]
+crates = rtlib.crates_below(root)
 found = []
+for name in sorted(it.name for it in os.scandir(root) if it.is_dir() and it.name != ".git"):
+    try:
+        rtlib.stop_on_unread(f"{root}/{name}", crates)
+    except SystemExit:
+        found.append(f"{name}/: files that nothing reads")
 for crate in crates:
     checks = {
         "links": lambda: rtlib.stop_on_links(crate.folder),
-        "files that nothing reads": lambda: rtlib.stop_on_unread(crate.folder, crates),
         "text": lambda: rtlib.stop_on_text(crate, "verdict"),
         "words": lambda: rt.stop_on_words(crate),
     }

@@ -3,7 +3,8 @@
 
     tools/libraries.py take CLONE                    copies into CLONE what a clone beside it has built
     tools/libraries.py share FOLDER [SECONDS]        does so for all clones in FOLDER, again and again (25)
-    tools/libraries.py build CLONE SLOTS CRATE..     builds CRATE.. and all below them for CLONE, SLOTS crates at a time
+    tools/libraries.py build CLONE SLOTS CRATE..     builds CRATE.. and all below them for CLONE, as committed, SLOTS crates
+                                                     at a time
 
 A built library, crates/NAME/out/rlib, has a file `stamp`, a sum of the crate and of all below it: where a clone has the same contents, it is
 good there too. Copies are hard links, since a clone's libraries come to 4 GB. `build` works in clones of its own beside CLONE (slot0,
@@ -17,8 +18,10 @@ import sys
 import time
 
 sys.dont_write_bytecode = True
-sys.path.insert(0, str(pathlib.Path(os.path.realpath(shutil.which("rt"))).parent))
-sum_of = None
+import kit  # noqa: E402, F401
+import rtlib  # noqa: E402
+
+sum_of = rtlib.Crate.stamp
 
 
 def remembered(crate):
@@ -28,20 +31,13 @@ def remembered(crate):
     return crate.remembered
 
 
-def crates_of(clone):
-    """The crates of a clone, by name."""
-    global sum_of
-    here = os.getcwd()
-    os.chdir(clone / "crates" / "ssq_value")
-    import rtlib
+rtlib.Crate.stamp = remembered
 
-    if sum_of is None:
-        sum_of, rtlib.Crate.stamp = rtlib.Crate.stamp, remembered
-    names = [line.split("#")[0].split(":")[0].split() for line in open(clone / "crates.txt")]
-    known = {}
-    found = {words[0]: rtlib.Crate(str(clone / "crates" / words[0]), str(clone), known) for words in names if words}
-    os.chdir(here)
-    return found
+
+def crates_of(clone):
+    """The crates of a clone, by name, as its crates.txt now has them."""
+    rtlib.listed.cache_clear()
+    return {crate.name: crate for crate in rtlib.crates_below(str(clone))}
 
 
 def clones_in(folder):
@@ -90,6 +86,8 @@ def take(clone, built):
 
 def build(clone, slots, targets):
     """Builds the targets and all below them, the longest way up first."""
+    if subprocess.run(["git", "-C", clone, "status", "--porcelain", "crates", "crates.txt"], stdout=subprocess.PIPE, check=True).stdout:
+        sys.exit(f"{clone} has changes that are not committed, and what would be built is its HEAD")
     crates = crates_of(clone)
     below = {name: [it.name for it in crate.below() if it.name in crates] for name, crate in crates.items()}
     stamps = {name: crate.stamp() for name, crate in crates.items()}
@@ -109,7 +107,7 @@ def build(clone, slots, targets):
                 (done if stamp_in(slot, name) == stamps[name] else failed).add(name)
                 print(time.strftime("%H:%M:%S"), name, "built" if name in done else "FAILED", flush=True)
         built = built_in(clone.parent)
-        done |= {name for name in wanted - running.keys() if (name, stamps[name]) in built}
+        done |= {name for name in wanted - failed - running.keys() if (name, stamps[name]) in built}
         failed |= {name for name in wanted - done if failed.intersection(below[name])}
         ready = [it for it in wanted - done - failed - running.keys() if done.issuperset(below[it])]
         for name, slot in zip(sorted(ready, key=above.get, reverse=True), list(free)):
@@ -133,7 +131,11 @@ def main(verb, *words):
         while True:
             built = built_in(folder)
             for clone in clones_in(folder):
-                if taken := take(clone, built):
+                try:
+                    taken = take(clone, built)
+                except (OSError, SystemExit):  # its files are being changed: it has its turn the next time
+                    continue
+                if taken:
                     print(time.strftime("%H:%M:%S"), clone.name, "took", *taken, flush=True)
             time.sleep(float(words[1]) if len(words) > 1 else 25)
     elif verb == "build":

@@ -12,12 +12,11 @@ sources that is 2 GB in the middle of the tree, 8 GB and a thousand functions fo
 """
 import os
 import pathlib
-import shutil
 import subprocess
 import sys
 
 sys.dont_write_bytecode = True
-sys.path.insert(0, str(pathlib.Path(os.path.realpath(shutil.which("rt"))).parent))
+import kit  # noqa: E402, F401
 import rtlib  # noqa: E402
 
 RATTLE = rtlib.RATTLE

@@ -20,14 +20,15 @@ import time
 from concurrent.futures import FIRST_COMPLETED, ThreadPoolExecutor, wait
 
 sys.dont_write_bytecode = True
-sys.path.insert(0, str(pathlib.Path(os.path.realpath(shutil.which("rt"))).parent))
+import kit  # noqa: E402, F401
 import rtlib  # noqa: E402
 
 TOP = pathlib.Path(__file__).resolve().parent.parent
 PROGRAM = "ssq_main"
 
-# A crate's sum is made once: a file that is edited while this runs is proved by the next run.
-rtlib.Crate.stamp = functools.cache(rtlib.Crate.stamp)
+# A crate's sum is made once, before it is proved. It is made anew behind that, and a library whose files changed meanwhile is not kept.
+sum_now = rtlib.Crate.stamp
+rtlib.Crate.stamp = functools.cache(sum_now)
 
 
 def spelled(seconds):
@@ -44,11 +45,15 @@ def build(crate, flags):
     """Proves a library and builds it as the gate does, which is less to write and to read: what is above it loads its statements alone."""
     if is_built(crate):
         return 0
+    stamp = crate.stamp()
     shutil.rmtree(os.path.dirname(crate.rlib), ignore_errors=True)
     os.makedirs(os.path.dirname(crate.rlib))
     status = crate.call(rtlib.RATTLE, "build", *crate.words(flags), "--statements", "-o", crate.rlib)
+    if not status and sum_now(crate) != stamp:
+        print("a file of it was changed while it was proved: run this again", file=crate.out)
+        return 1
     if not status:
-        pathlib.Path(f"{crate.folder}/out/rlib/stamp").write_text(crate.stamp(), encoding="utf-8")
+        pathlib.Path(f"{crate.folder}/out/rlib/stamp").write_text(stamp, encoding="utf-8")
     return status
 
 
