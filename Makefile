@@ -33,7 +33,7 @@ demo: bin/ssq
 		cd ../.. || exit 1; \
 	done
 
-# Each folder has a query, its logs, the words behind `ssq` and the sink files that these give. One that fails stays in bin/example.
+# Each folder has a query, its logs, the words after `ssq` and the sink files that these give. One that fails stays in bin/example.
 examples: bin/ssq
 	@for example in examples/*/; do \
 		rm -rf bin/example && cp -R "$$example" bin/example && rm -rf bin/example/checkpoint && \
