@@ -26,7 +26,7 @@ import rtlib  # noqa: E402
 TOP = pathlib.Path(__file__).resolve().parent.parent
 PROGRAM = "ssq_main"
 
-# A crate's sum is made once, before it is proved. It is made anew behind that, and a library whose files changed meanwhile is not kept.
+# A crate's sum is made once, before it is proved. It is made anew after that, and a library whose files changed meanwhile is not kept.
 sum_now = rtlib.Crate.stamp
 rtlib.Crate.stamp = functools.cache(sum_now)
 
