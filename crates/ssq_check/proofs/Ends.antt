@@ -18,7 +18,7 @@ use Rattle.ssq_check.specs.declared.scope.Scope.{Scope}
 use Rattle.ssq_check.specs.declared.scope.Within.{Within}
 use Rattle.ssq_check.specs.declared.scope.Within.TheVariants as within
 use Rattle.ssq_check.specs.declared.tally.Tally.{Tally}
-use Rattle.ssq_check.specs.Counted.{none_of, counted}
+use Rattle.ssq_check.specs.Counted.{tally_of}
 use Rattle.ssq_check.specs.Fault.{Faults, FirstOf, sooner}
 use Rattle.ssq_check.specs.Broken.{Either, Rule}
 use Rattle.ssq_check.specs.Lists.{Where, Each, Doubled, Standing, Past, Beyond, item_first, ItemsFaults}
@@ -27,7 +27,6 @@ use Rattle.ssq_check.specs.Shown.{shown_aggregates, group_place_at, group_place,
 use Rattle.ssq_check.specs.Clauses.{ConditionFaults, HavingFaults, WatermarkFaults, decl_name, decl_place, StreamFaults, StreamsFaults, JoinedFaults, OnFaults, JoinFaults, ident_name, ident_place, IdentFaults, DeduplicateFaults, GroupItemFaults, group_columns, group_windows, group_first, GroupFaults, OrderFaults}
 use Rattle.ssq_check.specs.Whole.{DistinctFaults, LimitFaults, StatefulFaults, WordFaults, RowFaults, ShownFaults, OwnFaults, SelectFaults, QueryFaults}
 use Rattle.ssq_check.proofs.First.{first_sooner}
-use Rattle.ssq_check.proofs.Tallied.{past_is, first_is}
 
 pub first_of_two : (P Q : Faults) (a b o : Option BindFault) → o ≡ sooner a b → FirstOf P a → FirstOf Q b → FirstOf (Either P Q) o
 first_of_two P Q a b o is p q = subst (λ (v : Option BindFault). FirstOf (Either P Q) v) (sym is) (first_sooner P Q a b p q)
@@ -67,7 +66,7 @@ AllGroups scope xs =
     (Beyond (map group_first xs))))
 
 pub groups_first_of : (scope : Scope) (xs items : List Group) (windows : Tally) (a b c d p q o : Option BindFault)
-    → xs ≡ items → windows ≡ counted (none_of 1) (flat_map group_windows xs)
+    → xs ≡ items → windows ≡ tally_of 1 (flat_map group_windows xs)
     → p ≡ sooner c d → q ≡ sooner b p → o ≡ sooner a q
     → FirstOf (Each (GroupItemFaults scope) xs) a → FirstOf (Doubled ident_name ident_place [] (flat_map group_columns xs)) b → FirstOf (Standing cause.BadWindow windows.past) c → FirstOf (Beyond (map group_first xs)) d
     → FirstOf (AllGroups scope items) o
@@ -76,7 +75,7 @@ groups_first_of scope xs items windows a b c d p q o xs_is windows_are p_is q_is
     (first_of_two (Each (GroupItemFaults scope) xs) _ a q o o_is ha
     (first_of_two (Doubled ident_name ident_place [] (flat_map group_columns xs)) _ b p q q_is hb
     (first_of_two (Past cause.BadWindow 1 (flat_map group_windows xs)) (Beyond (map group_first xs)) c d p p_is
-    (subst (λ (v : Option ℕ). FirstOf (Standing cause.BadWindow v) c) ((λ i. (windows_are i).past) ∙ past_is 1 (flat_map group_windows xs)) hc) hd)))
+    (subst (λ (v : Option ℕ). FirstOf (Standing cause.BadWindow v) c) (λ i. (windows_are i).past) hc) hd)))
 
 pub words_first : (select : Select) (grouped : Option ℕ) (joins : Bool) (a b c p o : Option BindFault)
     → joins ≡ is_there select.join → p ≡ sooner b c → o ≡ sooner a p
@@ -122,12 +121,12 @@ shown_first scope grouped past select is_group w xs ys zs os a b c d e p q r o g
     (subst (λ (v : List Item). FirstOf (Each (OrderFaults v) os) e) zs_is he)))))
 
 pub own_first : (scope : Scope) (query : Query) (tally : Tally) (grouped : Option ℕ) (a b o : Option BindFault)
-    → tally ≡ counted (none_of 64) (shown_aggregates query) → grouped ≡ group_place_at query.select.group tally.first → o ≡ sooner a b
+    → tally ≡ tally_of 64 (shown_aggregates query) → grouped ≡ group_place_at query.select.group tally.first → o ≡ sooner a b
     → FirstOf (ShownFaults scope grouped tally.past query.select) a → FirstOf (WordFaults query.select grouped) b
     → FirstOf (OwnFaults scope query) o
 own_first scope query tally grouped a b o tally_is grouped_is o_is ha hb =
-    let past : tally.past ≡ slice_get (shown_aggregates query) 64 = (λ i. (tally_is i).past) ∙ past_is 64 (shown_aggregates query) in
-    let first : tally.first ≡ slice_get (shown_aggregates query) 0 = (λ i. (tally_is i).first) ∙ first_is 64 (shown_aggregates query) in
+    let past : tally.past ≡ slice_get (shown_aggregates query) 64 = λ i. (tally_is i).past in
+    let first : tally.first ≡ slice_get (shown_aggregates query) 0 = λ i. (tally_is i).first in
     let grouped_at : grouped ≡ group_place query = grouped_is ∙ ap (group_place_at query.select.group) first in
     first_of_two (ShownFaults scope (group_place query) (slice_get (shown_aggregates query) 64) query.select) (WordFaults query.select (group_place query)) a b o o_is
     (subst (λ (v : Option ℕ). FirstOf (ShownFaults scope v (slice_get (shown_aggregates query) 64) query.select) a) grouped_at

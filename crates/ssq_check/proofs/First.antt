@@ -16,7 +16,7 @@ before_is a b r s is = grind (arith, nat_tests)
 not_before_is : (a b r s : ℕ) → (nat_lt a b || (nat_eq a b && nat_lt r s)) ≡ false → (b < a) ⊎ ((b ≡ a) × (s ≤ r))
 not_before_is a b r s is = grind (arith, nat_tests)
 
-later_still : (a b c r s t : ℕ) → (a < b) ⊎ ((a ≡ b) × (r ≤ s)) → (b < c) ⊎ ((b ≡ c) × (s ≤ t)) → (a < c) ⊎ ((a ≡ c) × (r ≤ t))
+pub later_still : (a b c r s t : ℕ) → (a < b) ⊎ ((a ≡ b) × (r ≤ s)) → (b < c) ⊎ ((b ≡ c) × (s ≤ t)) → (a < c) ⊎ ((a ≡ c) × (r ≤ t))
 later_still a b c r s t (inl p) (inl q) = inl (omega (arith, p, q))
 later_still a b c r s t (inl p) (inr q) = inl (omega (arith, p, q.0))
 later_still a b c r s t (inr p) (inl q) = inl (omega (arith, p.0, q))

@@ -1,25 +1,12 @@
 -- Places that are counted: the first, and the one that is one too many.
-use Rattle.std.specs.Prelude.{ℕ, zero, suc, List, [], ◌∷◌, Option, Some, None}
+use Rattle.std.specs.Prelude.{◌≡◌, ℕ, ◌-◌, if◌then◌else◌, nat_le, List, ◌++◌, length, slice_get, Some, None}
 use Rattle.ssq_check.specs.declared.tally.Tally.{Tally}
 
--- no place, of which there may be so many
-abbrev pub none_of : ℕ → Tally
-none_of most = record { first = None; more = Some most; past = None }
+-- What is counted of these places, of which there may be so many: the first; how many more there may be, as long as there are not too many; and
+-- the one that is one too many.
+abbrev pub tally_of : ℕ → List ℕ → Tally
+tally_of most places = record { first = slice_get places 0; more = if nat_le (length places) most then Some (most - length places) else None; past = slice_get places most }
 
-abbrev pub first_or : Option ℕ → ℕ → Option ℕ
-first_or None at = Some at
-first_or (Some first) at = Some first
-
-abbrev pub met_by : Option ℕ → Tally → ℕ → Tally
-met_by None tally at = tally
-met_by (Some zero) tally at = record { first = first_or tally.first at; more = None; past = Some at }
-met_by (Some (suc more)) tally at = record { first = first_or tally.first at; more = Some more; past = tally.past }
-
--- one place more
-abbrev pub met : Tally → ℕ → Tally
-met tally at = met_by tally.more tally at
-
--- these places, behind others
-abbrev pub counted : Tally → List ℕ → Tally
-counted tally [] = tally
-counted tally (at ∷ places) = counted (met tally at) places
+-- These places come after all that were counted.
+abbrev pub Counts : Tally → List ℕ → Tally → Type 0
+Counts old places new = (most : ℕ) (before : List ℕ) → old ≡ tally_of most before → new ≡ tally_of most (before ++ places)

@@ -1,36 +1,21 @@
--- What is met on the way through ON, by its parts.
-use Rattle.std.specs.Prelude.{ℕ, Bool, true, false, if◌then◌else◌, List, [], ◌∷◌, Option, Some, None}
+-- What is met on the way through ON.
+use Rattle.std.specs.Prelude.{◌≡◌, ◌||◌, List, Option, Some, None}
+use Rattle.std.specs.List.{list_any}
 use Rattle.ssq_check.specs.declared.fault.BindFault.{BindFault}
-use Rattle.ssq_check.specs.declared.fault.Cause.TheVariants as cause
 use Rattle.ssq_check.specs.declared.joined.Walk.{Walk}
 use Rattle.ssq_check.specs.declared.scope.Scope.{Scope}
-use Rattle.ssq_check.specs.Counted.{none_of, met}
-use Rattle.ssq_check.specs.Fault.{sooner}
-use Rattle.ssq_check.specs.Joined.{Conjunct, is_key_equality, between_at, is_misplaced}
+use Rattle.ssq_check.specs.Broken.{Either}
+use Rattle.ssq_check.specs.Counted.{Counts}
+use Rattle.ssq_check.specs.Fault.{Faults, FirstOf}
+use Rattle.ssq_check.specs.Joined.{Conjunct, is_between, key_places, BoundFaults}
 
-abbrev pub start : Walk
-start = record { seen = false; bound = None; keys = none_of 64 }
+-- the fault that was met, if one was
+abbrev pub Met : Option BindFault → Faults
+Met None cause at = ⊥
+Met (Some fault) cause at = (cause ≡ fault.cause) × (at ≡ fault.at)
 
-abbrev pub bound_fault : Bool → ℕ → Option BindFault
-bound_fault bad at = if bad then Some (record { at = at; cause = cause.BadBound }) else None
-
-abbrev pub bound_met : ℕ → Bool → Walk → Walk
-bound_met at misplaced walk = record { seen = true; bound = sooner walk.bound (bound_fault misplaced at); keys = walk.keys }
-
-abbrev pub bound_step : Option ℕ → Bool → Walk → Walk
-bound_step None misplaced walk = walk
-bound_step (Some at) misplaced walk = bound_met at misplaced walk
-
--- a key equality at this place
-abbrev pub key_step : Bool → ℕ → Walk → Walk
-key_step false at walk = walk
-key_step true at walk = record { seen = walk.seen; bound = walk.bound; keys = met walk.keys at }
-
--- A conjunct is a key equality, or a BETWEEN, or neither.
-unfoldable pub stepped : Scope → Walk → Conjunct → Walk
-stepped scope walk part =
-    key_step (is_key_equality scope part.value) part.at (bound_step (between_at part.value) (is_misplaced scope walk.seen part.value) walk)
-
-unfoldable pub walked : Scope → Walk → List Conjunct → Walk
-walked scope walk [] = walk
-walked scope walk (part ∷ more) = walked scope (stepped scope walk part) more
+-- These parts come after all that were met: whether a BETWEEN was met, the key equalities, and the first BETWEEN that may not stand there.
+pub record Meets (scope : Scope) (old : Walk) (parts : List Conjunct) (new : Walk) : Type 0 where
+  pub seen : new.seen ≡ (old.seen || list_any (λ part. is_between part.value) parts)
+  pub keys : Counts old.keys (key_places scope parts) new.keys
+  pub bound : FirstOf (Either (Met old.bound) (BoundFaults scope old.seen parts)) new.bound

@@ -2,7 +2,7 @@
 
 ghost use Rattle.std.specs.Prelude.{◌≡◌, ◌*ℤ◌, pos, int_lt, [], None, IfOk};
 ghost use Rattle.std.specs.List.{flat_map};
-ghost use Rattle.ssq_check.specs.Counted.{none_of, counted};
+ghost use Rattle.ssq_check.specs.Counted.{tally_of, Counts};
 ghost use Rattle.ssq_check.specs.Fault.{FirstOf};
 ghost use Rattle.ssq_check.specs.Lists.{Each, Where};
 ghost use Rattle.ssq_check.specs.Rules.{type_of};
@@ -250,8 +250,9 @@ impl Checked<Scope> for Group {
     }
 }
 
+#[tactic(auto, using(crate::proofs::Tallied::counts_none))]
 fn with_window(item: &Group, tally: Tally) -> Tally
-    ensures { result ≡ counted tally (group_windows item.now) }
+    ensures { Counts tally (group_windows item.now) result }
 {
     match item {
         Group::Column(_) => tally,
@@ -261,7 +262,7 @@ fn with_window(item: &Group, tally: Tally) -> Tally
 
 /// The places of the windows, of which there may be one.
 fn windows_in(items: &[Group]) -> Tally
-    ensures { result ≡ counted (none_of 1) (flat_map group_windows items.now) }
+    ensures { result ≡ tally_of 1 (flat_map group_windows items.now) }
 {
     let mut tally = Tally::none_of(1);
     for item in items {

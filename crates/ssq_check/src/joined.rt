@@ -1,20 +1,22 @@
 //! ON: its key equalities, and which of its parts is the bound on times.
 
-ghost use Rattle.std.specs.Prelude.{◌≡◌, ◌&&◌};
+ghost use Rattle.std.specs.Prelude.{◌≡◌, ◌&&◌, true, false, if◌then◌else◌, [], ◌∷◌, None};
 ghost use Rattle.std.specs.Option.{option_copied};
+ghost use Rattle.ssq_check.specs.Broken.{Either, Rule};
 ghost use Rattle.ssq_check.specs.Fault.{FirstOf};
+ghost use Rattle.ssq_check.specs.declared.fault.Cause.TheVariants as cause;
 ghost use Rattle.ssq_check.specs.Names.{is_there};
 ghost use Rattle.ssq_check.specs.Rules.{is_interval, kind};
 ghost use Rattle.ssq_check.specs.Joined as on;
 ghost use Rattle.ssq_check.specs.Joined.{conjuncts, looked, bare_column, ConjunctFaults};
-ghost use Rattle.ssq_check.specs.Walked as way;
-ghost use Rattle.ssq_check.specs.Walked.{walked};
+ghost use Rattle.ssq_check.specs.Counted.{tally_of, Counts};
+ghost use Rattle.ssq_check.specs.Walked.{Met, Meets};
 ghost use Rattle.ssq_check.specs.Clauses.{OnFaults};
 ghost use Rattle.ssq_check.specs.declared.scope.Within.TheVariants as within;
 
 use crate::clause::check_condition;
 use crate::expr::{check_expr, is_interval};
-use crate::fault::{BindFault, Cause, sooner};
+use crate::fault::{BindFault, Cause, rule, sooner};
 use crate::list::standing;
 use crate::scope::{Scope, Side, Source, Spot, Within, bare_spot, named_spot};
 use crate::tally::Tally;
@@ -261,31 +263,24 @@ fn is_misplaced(scope: &Scope, seen: bool, time: &Expr, low: &Expr, high: &Expr)
     is_no_bound && are_typed(scope, time, low, high)
 }
 
-fn bound_fault(bad: bool, at: usize) -> Option<BindFault>
-    ensures { result ≡ way.bound_fault bad at }
-{
-    if bad {
-        Some(BindFault {
-            at,
-            cause: Cause::BadBound,
-        })
-    } else {
-        None
-    }
-}
-
+/// A BETWEEN, and whether it may not stand there.
+#[tactic(auto, using(crate::proofs::OnWay::met_sooner))]
 fn bound_met(walk: Walk, at: usize, misplaced: bool) -> Walk
-    ensures { result ≡ way.bound_met at misplaced walk }
+    ensures rest { (result.seen ≡ true) × (result.keys ≡ walk.keys) }
+    ensures bound { FirstOf (Either (Met walk.bound) (Rule cause.BadBound at (misplaced ≡ true))) result.bound }
 {
     Walk {
         seen: true,
-        bound: sooner(walk.bound, bound_fault(misplaced, at)),
+        bound: sooner(walk.bound, rule(Cause::BadBound, at, misplaced)),
         keys: walk.keys,
     }
 }
 
+/// Another part, and whether it is a key equality.
+#[tactic(auto, using(crate::proofs::Tallied::counts_none))]
 fn key_step(walk: Walk, at: usize, is_key: bool) -> Walk
-    ensures { result ≡ way.key_step is_key at walk }
+    ensures rest { (result.seen ≡ walk.seen) × (result.bound ≡ walk.bound) }
+    ensures keys { Counts walk.keys (if is_key then at ∷ [] else []) result.keys }
 {
     if is_key {
         Walk {
@@ -299,9 +294,8 @@ fn key_step(walk: Walk, at: usize, is_key: bool) -> Walk
 }
 
 /// What is met in an expression that stands at the first token `at`.
-#[tactic(auto, unfolding(crate::specs::Walked::walked, crate::specs::Walked::stepped, crate::specs::Joined::conjuncts, crate::specs::Joined::is_key_equality, crate::specs::Joined::between_at))]
 fn walked(scope: &Scope, walk: Walk, at: usize, value: &Expr) -> Walk
-    ensures { result ≡ walked scope.now walk (conjuncts at value.now) }
+    ensures { Meets scope.now walk (conjuncts at value.now) result }
 {
     match value {
         Expr::Binary {
@@ -333,7 +327,7 @@ fn walked(scope: &Scope, walk: Walk, at: usize, value: &Expr) -> Walk
 }
 
 fn start() -> Walk
-    ensures { result ≡ way.start }
+    ensures { result ≡ record { seen = false; bound = None; keys = tally_of 64 [] } }
 {
     Walk {
         seen: false,

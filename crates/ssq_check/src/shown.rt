@@ -2,7 +2,7 @@
 
 ghost use Rattle.std.specs.Prelude.{◌≡◌};
 ghost use Rattle.std.specs.List.{flat_map};
-ghost use Rattle.ssq_check.specs.Counted.{none_of, counted};
+ghost use Rattle.ssq_check.specs.Counted.{tally_of, Counts};
 ghost use Rattle.ssq_check.specs.Shown.{aggregates, item_aggregates, having_aggregates, shown_aggregates, group_place_at, is_group, within_by};
 
 use crate::scope::Within;
@@ -13,9 +13,9 @@ use ssq_ast::{Condition, Expr, GroupBy, Item, Query};
 const MOST_AGGREGATES: usize = 64;
 
 /// The places of the aggregates that stand in no other, behind others.
-#[tactic(auto, unfolding(crate::specs::Shown::aggregates))]
+#[tactic(auto, using(crate::proofs::Tallied::counts_none), unfolding(crate::specs::Shown::aggregates))]
 fn with_aggregates(value: &Expr, tally: Tally) -> Tally
-    ensures { result ≡ counted tally (aggregates value.now) }
+    ensures { Counts tally (aggregates value.now) result }
 {
     match value {
         Expr::CountRows { at } => tally.counting(*at),
@@ -40,8 +40,9 @@ fn with_aggregates(value: &Expr, tally: Tally) -> Tally
     }
 }
 
+#[tactic(auto, using(crate::proofs::Tallied::counts_none))]
 fn with_item(item: &Item, tally: Tally) -> Tally
-    ensures { result ≡ counted tally (item_aggregates item.now) }
+    ensures { Counts tally (item_aggregates item.now) result }
 {
     match item {
         Item::Column { .. } => tally,
@@ -50,7 +51,7 @@ fn with_item(item: &Item, tally: Tally) -> Tally
 }
 
 fn with_items(items: &[Item], tally: Tally) -> Tally
-    ensures { result ≡ counted tally (flat_map item_aggregates items.now) }
+    ensures { Counts tally (flat_map item_aggregates items.now) result }
 {
     let mut tally = tally;
     for item in items {
@@ -59,8 +60,9 @@ fn with_items(items: &[Item], tally: Tally) -> Tally
     tally
 }
 
+#[tactic(auto, using(crate::proofs::Tallied::counts_none))]
 fn with_having(having: &Option<Condition>, tally: Tally) -> Tally
-    ensures { result ≡ counted tally (having_aggregates having.now) }
+    ensures { Counts tally (having_aggregates having.now) result }
 {
     match having {
         Some(condition) => with_aggregates(&condition.value, tally),
@@ -70,7 +72,7 @@ fn with_having(having: &Option<Condition>, tally: Tally) -> Tally
 
 /// The places of the aggregates that SELECT and HAVING show.
 pub(crate) fn shown_aggregates(query: &Query) -> Tally
-    ensures { result ≡ counted (none_of 64) (shown_aggregates query.now) }
+    ensures { result ≡ tally_of 64 (shown_aggregates query.now) }
 {
     let select = &query.select;
     let selected = with_items(select.items.as_slice(), Tally::none_of(MOST_AGGREGATES));

@@ -1,7 +1,7 @@
 //! Places that are counted.
 
-ghost use Rattle.std.specs.Prelude.{◌≡◌};
-ghost use Rattle.ssq_check.specs.Counted.{none_of, first_or, met};
+ghost use Rattle.std.specs.Prelude.{◌≡◌, [], ◌∷◌};
+ghost use Rattle.ssq_check.specs.Counted.{tally_of, Counts};
 
 /// Of places in order what rules ask for: the first, and the one that is one too many.
 #[derive(Clone, Copy)]
@@ -12,19 +12,10 @@ pub struct Tally {
     pub past: Option<usize>,
 }
 
-fn first_or(first: Option<usize>, at: usize) -> Option<usize>
-    ensures { result ≡ first_or first at }
-{
-    match first {
-        Some(first) => Some(first),
-        None => Some(at),
-    }
-}
-
 impl Tally {
     /// No place, of which there may be so many.
     pub(crate) fn none_of(most: usize) -> Tally
-        ensures { result ≡ none_of most }
+        ensures { result ≡ tally_of most [] }
     {
         Tally {
             first: None,
@@ -33,18 +24,18 @@ impl Tally {
         }
     }
 
-    /// One place more, behind the others.
+    /// One place more, after the others.
     pub(crate) fn counting(self, at: usize) -> Tally
-        ensures { result ≡ met self at }
+        ensures { Counts self (at ∷ []) result }
     {
         match self.more {
             Some(0) => Tally {
-                first: first_or(self.first, at),
+                first: self.first.or(Some(at)),
                 more: None,
                 past: Some(at),
             },
             Some(more) => Tally {
-                first: first_or(self.first, at),
+                first: self.first.or(Some(at)),
                 more: Some(more - 1),
                 past: self.past,
             },

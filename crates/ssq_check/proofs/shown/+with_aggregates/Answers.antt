@@ -1,8 +1,7 @@
-use Rattle.std.proofs.Common.{◌∙◌, sym, refl}
-use Rattle.ssq_check.specs.Counted.{counted}
+use Rattle.std.proofs.Common.{◌++◌, refl}
 use Rattle.ssq_check.specs.Shown.{aggregates}
 use Rattle.ssq_check.proofs.Opened.{aggregate_opened, unary_opened, null_opened, binary_opened, between_opened}
-use Rattle.ssq_check.proofs.Tallied.{counted_both, counted_three}
+use Rattle.ssq_check.proofs.Tallied.{counts_both}
 use Rattle.ssq_check.proofs.shown.+with_aggregates.Goals as goal
 
 pub returns-in-Aggregate : goal.returns-in-Aggregate
@@ -23,7 +22,7 @@ returns-in-Binary t c =
     let a = c.get-in-Binary.result.now in
     let b = c.get-in-Binary-2.result.now in
     rw (binary_opened c.args.value.now c.in-Binary.left_at c.in-Binary.left a c.in-Binary.op c.in-Binary.at c.in-Binary.right_at c.in-Binary.right b c.in-Binary.is c.get-in-Binary.ensures c.get-in-Binary-2.ensures)
-    (c.with_aggregates-in-Binary.ensures ∙ (λ i. counted (c.with_aggregates-half.ensures i) (aggregates b)) ∙ sym (counted_both c.args.tally (aggregates a) (aggregates b)))
+    (counts_both (aggregates a) (aggregates b) c.args.tally c.with_aggregates-half.result c.with_aggregates-in-Binary.result c.with_aggregates-half.ensures c.with_aggregates-in-Binary.ensures)
 
 pub returns-in-Between : goal.returns-in-Between
 unfolding aggregates
@@ -32,6 +31,5 @@ returns-in-Between t c =
     let b = c.get-in-Between-2.result.now in
     let h = c.get-in-Between-3.result.now in
     rw (between_opened c.args.value.now c.in-Between.operand a c.in-Between.at c.in-Between.low b c.in-Between.high h c.in-Between.is c.get-in-Between.ensures c.get-in-Between-2.ensures c.get-in-Between-3.ensures)
-    (c.with_aggregates-in-Between.ensures
-    ∙ (λ i. counted ((c.with_aggregates-least.ensures ∙ (λ j. counted (c.with_aggregates-tested.ensures j) (aggregates b))) i) (aggregates h))
-    ∙ sym (counted_three c.args.tally (aggregates a) (aggregates b) (aggregates h)))
+    (counts_both (aggregates a) (aggregates b ++ aggregates h) c.args.tally c.with_aggregates-tested.result c.with_aggregates-in-Between.result c.with_aggregates-tested.ensures
+    (counts_both (aggregates b) (aggregates h) c.with_aggregates-tested.result c.with_aggregates-least.result c.with_aggregates-in-Between.result c.with_aggregates-least.ensures c.with_aggregates-in-Between.ensures))

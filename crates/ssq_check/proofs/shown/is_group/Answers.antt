@@ -1,9 +1,8 @@
 use Rattle.std.proofs.Common.{◌∙◌, ap, is_some}
-use Rattle.ssq_check.specs.Shown.{shown_aggregates, group_place_at}
-use Rattle.ssq_check.proofs.Tallied.{first_is}
+use Rattle.ssq_check.specs.Shown.{group_place_at}
 use Rattle.ssq_check.proofs.shown.is_group.Goals as goal
 
 pub returns : goal.returns
 returns c =
     c.is_some.ensures
-    ∙ ap is_some (c.group_place.ensures ∙ ap (group_place_at c.args.query.now.select.group) ((λ i. (c.shown_aggregates-aggregates.ensures i).first) ∙ first_is 64 (shown_aggregates c.args.query.now)))
+    ∙ ap is_some (c.group_place.ensures ∙ ap (group_place_at c.args.query.now.select.group) (λ i. (c.shown_aggregates-aggregates.ensures i).first))
