@@ -1,5 +1,5 @@
 -- Crashes by numbers: what is picked is an image, and each image is picked.
-use Rattle.std.proofs.Common.{◌≡◌, ◌++◌, ◌∷◌, [], ◌<◌, ◌≤◌, ◌+◌, ◌∙◌, ℕ, List, Bool, true, false, zero, suc, None, Some, length, take, drop, get_or, refl, ap, sym, subst, inl, inr, arith}
+use Rattle.std.proofs.Common.{◌≡◌, ◌++◌, ◌∷◌, [], ◌<◌, ◌≤◌, ◌+◌, ◌∙◌, ◌||◌, ℕ, List, Bool, true, false, zero, suc, None, Some, length, take, drop, get_or, refl, ap, sym, subst, inl, inr, arith}
 use Rattle.std.specs.Prelude.{if◌then◌else◌, slice_index, min, map, Contains}
 use Rattle.std.proofs.lemmas.List.{take_all, take-append-drop}
 use Rattle.std.proofs.lemmas.List.Elements.{Contains-append_left}
@@ -20,6 +20,7 @@ use Rattle.ssq_fakes.specs.Disks.{has_name, history_of}
 use Rattle.ssq_fakes.specs.Crashes.{content_at, index_of, picked, has_changed, filled, AreChanged, IsCrashed, EachImageIsPicked}
 use Rattle.ssq_fakes.proofs.NameLists.{has_name-Contains}
 use Rattle.ssq_fakes.proofs.Unique.{changed_once}
+use Rattle.ssq_fakes.proofs.Walks.{changed_cons}
 use Rattle.ssq_fakes.proofs.Histories.{newest-had_after, had_now-is}
 
 -- an event that is no sync changes what its name had
@@ -149,13 +150,13 @@ nothing_yet : (events : List Event) (q : Name) → is_mentioned events q ≡ fal
 nothing_yet [] q none = refl
 nothing_yet (Put name bytes ∷ older) q none = skipped (same_name q name) none (nothing_yet older q)
   where
-    skipped : (b : Bool) → (if b then true else is_mentioned older q) ≡ false → (is_mentioned older q ≡ false → had_after older q ≡ record { settled = None; since = [] })
+    skipped : (b : Bool) → (b || is_mentioned older q) ≡ false → (is_mentioned older q ≡ false → had_after older q ≡ record { settled = None; since = [] })
         → (if b then more (Some bytes.items) (had_after older q) else had_after older q) ≡ record { settled = None; since = [] }
     skipped true none later = cc
     skipped false none later = later none
 nothing_yet (Gone name ∷ older) q none = skipped (same_name q name) none (nothing_yet older q)
   where
-    skipped : (b : Bool) → (if b then true else is_mentioned older q) ≡ false → (is_mentioned older q ≡ false → had_after older q ≡ record { settled = None; since = [] })
+    skipped : (b : Bool) → (b || is_mentioned older q) ≡ false → (is_mentioned older q ≡ false → had_after older q ≡ record { settled = None; since = [] })
         → (if b then more None (had_after older q) else had_after older q) ≡ record { settled = None; since = [] }
     skipped true none later = cc
     skipped false none later = later none
@@ -168,14 +169,14 @@ has_changed-more contents content = filled_by contents.settled contents.since co
     filled_by settled [] content = refl
     filled_by settled (c ∷ cs) content = refl
 
-changes_by : (b : Bool) (contents : Contents) (content : Content) (later : Bool) → has_changed contents ≡ later → has_changed (if b then more content contents else contents) ≡ (if b then true else later)
+changes_by : (b : Bool) (contents : Contents) (content : Content) (later : Bool) → has_changed contents ≡ later → has_changed (if b then more content contents else contents) ≡ (b || later)
 changes_by true contents content later is = has_changed-more contents content
 changes_by false contents content later is = is
 
 has_changed-is : (events : List Event) (q : Name) → has_changed (had_after events q) ≡ is_changed_in events q
 has_changed-is [] q = refl
-has_changed-is (Put name bytes ∷ older) q = changes_by (same_name q name) (had_after older q) (Some bytes.items) (is_changed_in older q) (has_changed-is older q)
-has_changed-is (Gone name ∷ older) q = changes_by (same_name q name) (had_after older q) None (is_changed_in older q) (has_changed-is older q)
+has_changed-is (Put name bytes ∷ older) q = rw (changed_cons (Put name bytes) older q) (changes_by (same_name q name) (had_after older q) (Some bytes.items) (is_changed_in older q) (has_changed-is older q))
+has_changed-is (Gone name ∷ older) q = rw (changed_cons (Gone name) older q) (changes_by (same_name q name) (had_after older q) None (is_changed_in older q) (has_changed-is older q))
 has_changed-is (Synced ∷ older) q = refl
 
 are_changed : (events : List Event) (changed : List Name) → Lists (is_changed_in events) changed → AreChanged (had_after events) changed

@@ -1,5 +1,6 @@
 -- The record of a disk in memory: its events, the newest first.
-use Rattle.std.specs.Prelude.{Bool, true, false, List, [], ◌∷◌, not, Option, None, Some, if◌then◌else◌}
+use Rattle.std.specs.Prelude.{Bool, true, false, List, [], ◌∷◌, not, Option, None, Some, take_while, if◌then◌else◌}
+use Rattle.std.specs.List.{list_any}
 use Rattle.ssq_outside.specs.declared.name.Name.{Name}
 use Rattle.ssq_outside.specs.Files.{same_name, Content, Had, files_of, added, changed, settled_at}
 use Rattle.ssq_fakes.specs.declared.record.Event.{Event}
@@ -47,8 +48,7 @@ content_in (event ∷ older) q = if is_about event q then content_of event else 
 
 -- some event changes what stands at the name
 abbrev pub is_mentioned : List Event → Name → Bool
-is_mentioned [] q = false
-is_mentioned (event ∷ older) q = if is_about event q then true else is_mentioned older q
+is_mentioned events q = list_any (λ event. is_about event q) events
 
 -- the event is a sync of names
 abbrev pub is_sync : Event → Bool
@@ -61,7 +61,10 @@ abbrev pub is_unsettled : List Event → Bool
 is_unsettled [] = false
 is_unsettled (event ∷ older) = not (is_sync event)
 
+-- the events since the last sync, the newest first
+abbrev pub since_sync : List Event → List Event
+since_sync events = take_while (λ event. not (is_sync event)) events
+
 -- whether the name changed since the last sync
 abbrev pub is_changed_in : List Event → Name → Bool
-is_changed_in [] q = false
-is_changed_in (event ∷ older) q = if is_sync event then false else if is_about event q then true else is_changed_in older q
+is_changed_in events q = is_mentioned (since_sync events) q
