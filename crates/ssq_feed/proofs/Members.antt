@@ -24,7 +24,7 @@ use Rattle.ssq_meaning.specs.Placed.{placed_time}
 use Rattle.ssq_feed.specs.declared.dealer.Origin.{Origin}
 use Rattle.ssq_feed.specs.declared.query.Query.{Query}
 use Rattle.ssq_feed.specs.Dealing.{Deals, IsLonger, from_origin, member_row, member_rows, placed_member}
-use Rattle.ssq_feed.specs.Finding.{IsFoundFor}
+use Rattle.ssq_feed.specs.Finding.{IsFoundFor, IsHandedBy}
 use Rattle.ssq_feed.specs.Keys.{begun_with}
 use Rattle.ssq_feed.specs.Rows.{dealt}
 
@@ -170,31 +170,31 @@ windows_of stream query grouping found is = subst HasWindowsBy is found.windows
 
 -- the arguments of a row are dealt to each of its groups
 pub groups_dealt : (origin : Origin) (query : Query) (grouping : Grouping) (row arguments : Values) (count : ℕ) (parts : List GroupKey) (old new : List (List FedRow))
-    → IsFoundFor origin.stream query → query.bound.now.shape ≡ Group grouping
+    → IsHandedBy origin.stream query (Group grouping) row
     → passes query.bound.now.filter row ≡ Ok true → arguments_of grouping.aggregates row ≡ Ok arguments → count ≡ length arguments → parts ≡ grouping.keys
     → Deals old new (member_rows origin query.place (take count arguments) (begun_with (drop count arguments) (row_keys parts row)))
     → IsOkAnd (handed_to_groups query.bound.now grouping row) (λ rows. Deals old new (map (from_origin origin) rows))
 unfolding handed_to_groups
-groups_dealt origin query grouping row arguments count parts old new found is passing are count_is parts_is deals =
+groups_dealt origin query grouping row arguments count parts old new given passing are count_is parts_is deals =
     let P : List FedRow → Type 0 = Deals old new in
     let all : take count arguments ≡ arguments = take_all count arguments (omega (arith, count_is)) in
     let none : drop count arguments ≡ [] = drop_all count arguments (omega (arith, count_is)) in
     let keys : begun_with (drop count arguments) (row_keys parts row) ≡ row_keys grouping.keys row =
     ap (λ (front : Values). begun_with front (row_keys parts row)) none ∙ map-id (row_keys parts row) ∙ ap (λ (own : List GroupKey). row_keys own row) parts_is in
     let rows : member_rows origin query.place arguments (row_keys grouping.keys row) ≡ map (from_origin origin) (map (member query.bound.now grouping arguments) (row_keys grouping.keys row)) =
-    λ i. map (from_origin origin) (map (λ key. record { key = key; time = group_time origin.stream query grouping found is key i; values = arguments }) (row_keys grouping.keys row)) in
+    λ i. map (from_origin origin) (map (λ key. record { key = key; time = group_time origin.stream query grouping given.found given.shape key i; values = arguments }) (row_keys grouping.keys row)) in
     rw (passing, are) (subst P (ap₂ (member_rows origin query.place) all keys ∙ rows) deals)
 
 -- a row is dealt by its values in the columns
 pub repeat_dealt : (origin : Origin) (query : Query) (columns : List ℕ) (row key values : Values) (time : Option ℤ) (old new : List (List FedRow))
-    → IsFoundFor origin.stream query → query.bound.now.shape ≡ Dedup columns
+    → IsHandedBy origin.stream query (Dedup columns) row
     → shown query.bound.now row ≡ Ok (Some values) → key ≡ key_in columns row → time ≡ placed_time query.place key
     → Deals old new (from_origin origin (record { key = key; time = time; values = values }) ∷ [])
     → IsOkAnd (handed_to_dedup query.bound.now columns row) (λ rows. Deals old new (map (from_origin origin) rows))
 unfolding handed_to_dedup
-repeat_dealt origin query columns row key values time old new found is shown_is key_is time_is deals =
+repeat_dealt origin query columns row key values time old new given shown_is key_is time_is deals =
     let P : List FedRow → Type 0 = Deals old new in
     let one : Values → Option ℤ → List FedRow = λ key time. from_origin origin (record { key = key; time = time; values = values }) ∷ [] in
     let own : time ≡ repeats.closing_time query.bound.now columns (key_in columns row) =
-    time_is ∙ repeat_time origin.stream query columns found is key ∙ ap (repeats.closing_time query.bound.now columns) key_is in
+    time_is ∙ repeat_time origin.stream query columns given.found given.shape key ∙ ap (repeats.closing_time query.bound.now columns) key_is in
     rw shown_is (subst P (ap₂ one key_is own) deals)

@@ -9,7 +9,7 @@ ghost use Rattle.ssq_meaning.specs.Feeding.{handed};
 ghost use Rattle.ssq_meaning.specs.Fit.{IsFit};
 ghost use Rattle.ssq_meaning.specs.Group.{argument_of, arguments_of, handed_to_groups};
 ghost use Rattle.ssq_meaning.specs.Join.{handed_to_join, join_key, key_column};
-ghost use Rattle.ssq_feed.specs.Finding.{IsFoundFor};
+ghost use Rattle.ssq_feed.specs.Finding.{IsFoundFor, IsHandedBy};
 ghost use Rattle.ssq_feed.specs.Keys.{IsReadRow};
 ghost use Rattle.ssq_feed.specs.Handing.{HandsOn, handed_shown};
 
@@ -104,9 +104,7 @@ fn deal_distinguished(
     row: &[Value],
     dealer: &mut Dealer,
 ) -> Result<(), EvalFault>
-    requires found { IsFoundFor origin.stream query.now }
-    requires shape { query.now.bound.now.shape ≡ Dedup columns.now }
-    requires read { IsReadRow row.now }
+    requires { IsHandedBy origin.stream query.now (Dedup columns.now) row.now }
     ensures { HandsOn origin dealer.old.buckets dealer.new.buckets result (handed_to_dedup query.now.bound.now columns.now row.now) }
 {
     if let Some(values) = show(alloc, query.bound, row)? {
@@ -127,9 +125,7 @@ fn deal_grouped(
     row: &[Value],
     dealer: &mut Dealer,
 ) -> Result<(), EvalFault>
-    requires found { IsFoundFor origin.stream query.now }
-    requires shape { query.now.bound.now.shape ≡ Group grouping.now }
-    requires read { IsReadRow row.now }
+    requires { IsHandedBy origin.stream query.now (Group grouping.now) row.now }
     ensures { HandsOn origin dealer.old.buckets dealer.new.buckets result (handed_to_groups query.now.bound.now grouping.now row.now) }
 {
     if !passes(alloc, &query.bound.filter, row)? {

@@ -13,4 +13,4 @@ returns-in_ok-deal_values c =
     let values = c.in-Some.values in
     let shows : shown query.bound.now c.args.row.now ≡ Ok (Some values) = search rules in
     repeat_dealt c.args.origin query c.args.columns.now c.args.row.now c.in_ok-key.key values c.placed_time-time.result c.args.dealer.now.buckets c.deal_values.new.self.buckets
-    c.requires.found c.requires.shape shows c.in_ok-key.ensures.key (c.placed_time-time.ensures ∙ ap (placed_time query.place) c.as_slice.ensures) c.in_ok-deal_values.ensures
+    c.requires shows c.in_ok-key.ensures.key (c.placed_time-time.ensures ∙ ap (placed_time query.place) c.as_slice.ensures) c.in_ok-deal_values.ensures

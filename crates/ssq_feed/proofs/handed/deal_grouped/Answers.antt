@@ -15,7 +15,7 @@ returns c =
     let are : arguments_of grouping.aggregates c.args.row.now ≡ Ok arguments = search rules in
     let count : c.len-count.result ≡ length arguments = search rules in
     groups_dealt c.args.origin c.args.query.now grouping c.args.row.now arguments c.len-count.result c.as_slice-parts.result.now c.args.dealer.now.buckets c.deal_groups.new.self.buckets
-    c.requires.found c.requires.shape passing are count c.as_slice-parts.ensures c.in_ok-deal_groups.ensures
+    c.requires passing are count c.as_slice-parts.ensures c.in_ok-deal_groups.ensures
 
 pub deal_groups-requires-clause-span : goal.deal_groups-requires-clause-span
 deal_groups-requires-clause-span c = c.requires.found.span
