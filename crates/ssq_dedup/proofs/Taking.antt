@@ -4,10 +4,8 @@ use Rattle.std.specs.Prelude.{◌&&◌, ◌||◌, not, if◌then◌else◌, is_s
 use Rattle.std.specs.BTreeMap.{is_at}
 use Rattle.std.specs.List.{AllByRecursion}
 use Rattle.std.proofs.lemmas.List.{append_assoc, append-nil, map-append}
-use Rattle.std.proofs.lemmas.List.Elements.{All-get_or, All-push, All-weaker}
+use Rattle.std.proofs.lemmas.List.Elements.{All-get_or, All-push}
 use Rattle.ssq_time.specs.Time.{IsStampTime}
-use Rattle.ssq_value.specs.declared.value.Value.{Value}
-use Rattle.ssq_value.specs.declared.value.Value.TheVariants as value
 use Rattle.ssq_value.specs.Kind.{IfTime}
 use Rattle.ssq_value.specs.Key.{keys_of}
 use Rattle.ssq_version.specs.State.{Change, State, by_bytes, value_at}
@@ -15,7 +13,7 @@ use Rattle.ssq_version.proofs.Values.{by_case, one_key}
 use Rattle.ssq_meaning.specs.FedRows.{FedRow}
 use Rattle.ssq_meaning.specs.Dedup.{firsts, values_in}
 use Rattle.ssq_meaning.specs.DedupLaws.{entry_if}
-use Rattle.ssq_meaning.specs.Fit.{IsFit, IsFitRow}
+use Rattle.ssq_meaning.specs.Fit.{IsFitRow}
 use Rattle.ssq_meaning.specs.Group.{has_key, is_same}
 use Rattle.ssq_meaning.specs.Meaning.{Values}
 use Rattle.ssq_meaning.proofs.Coding.{AreApart}
@@ -25,6 +23,7 @@ use Rattle.ssq_meaning.proofs.Pairing.{or_false}
 use Rattle.ssq_step.specs.Indexing.{IsReadableKey}
 use Rattle.ssq_step.proofs.ByBytes.{same_bytes, spelled_key}
 use Rattle.ssq_step.proofs.Lists.{one_more}
+use Rattle.ssq_step.proofs.Printing.{fit_times}
 use Rattle.ssq_dedup.specs.Firsts.{HoldsKeys, IsKeyed, SaysFirsts, Takes, TakesIf, first_among, said_if}
 
 or_back : (a b : Bool) → (a || b) ≡ (b || a)
@@ -202,18 +201,11 @@ row_more apart count is_held state holds rows keyed at row inside is has_row has
 
 -- ---- what can be printed
 
-fit_time : (value : Value) → IsFit value → IfTime IsStampTime value
-fit_time value.Null fit = tt
-fit_time (value.Int number) fit = tt
-fit_time (value.Text text) fit = tt
-fit_time (value.Time time) fit = fit
-fit_time (value.Truth truth) fit = tt
-
 printed_by : (known : Bool) (row : FedRow) (before after : Change) (shown more : List Values) → TakesIf known row before after shown more → IsFitRow row → All (All (IfTime IsStampTime)) shown
     → All (All (IfTime IsStampTime)) more
 printed_by true row before after shown more takes fit was = subst (All (All (IfTime IsStampTime))) (sym takes.1) was
 printed_by false row before after shown more takes fit was =
-    subst (All (All (IfTime IsStampTime))) (sym takes.1) (All-push (All (IfTime IsStampTime)) shown row.values was (All-weaker IsFit (IfTime IsStampTime) fit_time row.values fit.values))
+    subst (All (All (IfTime IsStampTime))) (sym takes.1) (All-push (All (IfTime IsStampTime)) shown row.values was (fit_times row.values fit.values))
 
 pub printed_more : (state : State) (row : FedRow) (has_row : Bool) (before after : Change) (shown more : List Values) → Takes state row has_row before after shown more → IsFitRow row
     → All (All (IfTime IsStampTime)) shown → All (All (IfTime IsStampTime)) more

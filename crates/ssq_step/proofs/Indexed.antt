@@ -1,6 +1,7 @@
 -- What a state keeps by its times, made by a walk over it, and through a change.
 use Rattle.std.proofs.Common.{◌≡◌, ℕ, ℤ, [], ◌∷◌, Some, None, List, Option, false, refl, ap, sym, subst, ◌∙◌}
 use Rattle.std.specs.Prelude.{◌&&◌, is_some}
+use Rattle.std.specs.Option.{option_and}
 use Rattle.std.specs.BTreeMap.{is_at}
 use Rattle.ssq_version.specs.State.{Ascends, Change, IsAfter, State, by_bytes, value_after, value_at}
 use Rattle.ssq_version.proofs.Values.{IsRest, by_case, first_at, is_itself, less_rest, none_behind, one_key, other_way, others_at}
@@ -11,7 +12,7 @@ use Rattle.ssq_shape.specs.declared.bound.Shape.{Shape}
 use Rattle.ssq_shape.specs.declared.bound.Shape.TheVariants.{Join}
 use Rattle.ssq_meaning.specs.Keyed.{key_length, key_time}
 use Rattle.ssq_meaning.specs.Meaning.{Values}
-use Rattle.ssq_step.specs.Indexing.{Indexes, IsIndexBy, IsKeyBy, IsReadableKey, IsTimeIf, kept_time}
+use Rattle.ssq_step.specs.Indexing.{Indexes, IsIndexBy, IsKeyBy, IsReadableKey, IsTimeIf}
 use Rattle.ssq_step.specs.Rows.{StandsAt, TurnsAt}
 use Rattle.ssq_step.specs.Timed.{Timed, has, is_time}
 use Rattle.ssq_step.proofs.RowTimes.{one_time}
@@ -24,19 +25,19 @@ abbrev pub AreTimed : Shape → Bound → State → List Timed → Type 0
 AreTimed shape query state entries = (key : List ℕ) (is : IsKeyBy shape query key) → (time : Option ℤ) × IsTimeIf shape query key is (value_at state key) time × StandsAt entries key time
 
 -- where a key stands under its time
-stands_by : (t : ℤ) (value : Option (List ℕ)) (time : Option ℤ) → (is_some value && is_time t time) ≡ is_time t (kept_time value time)
+stands_by : (t : ℤ) (value : Option (List ℕ)) (time : Option ℤ) → (is_some value && is_time t time) ≡ is_time t (option_and value time)
 stands_by t None time = refl
 stands_by t (Some value) time = refl
 
 module _ (query : Bound) (state : State) (entries : List Timed) where
   by_key : Indexes (key_length query) (key_time query) state entries → (key : List ℕ) (own : Values) → IsReadableKey (key_length query) own → keys_of own ≡ key
-      → StandsAt entries key (kept_time (value_at state key) (key_time query own))
+      → StandsAt entries key (option_and (value_at state key) (key_time query own))
   by_key was key own readable same t =
       subst (λ k. has entries (t, k) ≡ (is_some (value_at state k) && is_time t (key_time query own))) same (was own readable t) ∙ stands_by t (value_at state key) (key_time query own)
 
   pub as_timed : (shape : Shape) → IsIndexBy shape query state entries → AreTimed shape query state entries
   as_timed (Join joining) was key is = was key
-  as_timed _ was key is = (kept_time (value_at state key) (key_time query is.0), refl, by_key was key is.0 is.1 is.2)
+  as_timed _ was key is = (option_and (value_at state key) (key_time query is.0), refl, by_key was key is.0 is.1 is.2)
 
   -- and back
   pub as_index : (shape : Shape) → AreTimed shape query state entries → IsIndexBy shape query state entries

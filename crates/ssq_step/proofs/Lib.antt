@@ -5,3 +5,4 @@ pub mod Indexed
 pub mod Hashed
 pub mod ByBytes
 pub mod Exceeding
+pub mod Printing

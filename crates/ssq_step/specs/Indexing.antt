@@ -1,5 +1,6 @@
 -- The keys of a state by their times.
-use Rattle.std.specs.Prelude.{◌≡◌, ◌&&◌, ℕ, ℤ, if◌then◌else◌, List, All, length, map, filter, Option, Some, None, is_some}
+use Rattle.std.specs.Prelude.{◌≡◌, ◌&&◌, ℕ, ℤ, if◌then◌else◌, List, All, length, map, filter, Option, is_some}
+use Rattle.std.specs.Option.{option_and}
 use Rattle.std.specs.Borrow.{Bor}
 use Rattle.std.specs.BTreeMap.{is_at}
 use Rattle.ssq_value.specs.Key.{keys_of}
@@ -39,15 +40,10 @@ abbrev pub IsKeyBy : Shape → Bound → List ℕ → Type 0
 IsKeyBy (Join joining) query key = Unit {0}
 IsKeyBy _ query key = (own : Values) × IsReadableKey (key_length query) own × (keys_of own ≡ key)
 
--- the time of a key of which anything is kept
-abbrev pub kept_time : Option (List ℕ) → Option ℤ → Option ℤ
-kept_time None time = None
-kept_time (Some value) time = time
-
 -- the time of what is kept under these bytes, if anything is: of a join that of the row, of any other query that of the key
 abbrev pub IsTimeIf : (shape : Shape) (query : Bound) (key : List ℕ) → IsKeyBy shape query key → Option (List ℕ) → Option ℤ → Type 0
 IsTimeIf (Join joining) query key is value time = HasTimeIf query joining key value time
-IsTimeIf _ query key is value time = time ≡ kept_time value (key_time query is.0)
+IsTimeIf _ query key is value time = time ≡ option_and value (key_time query is.0)
 
 -- ---- the keys that a watermark closes
 

@@ -5,17 +5,16 @@ use Rattle.std.specs.List.Sorted.{IsPermutation}
 use Rattle.std.proofs.lemmas.List.Elements.{All-map, All-weaker}
 use Rattle.std.proofs.lemmas.List.Sorted.{IsPermutation-refl}
 use Rattle.ssq_time.specs.Time.{IsStampTime}
-use Rattle.ssq_value.specs.declared.value.Value.{Value}
-use Rattle.ssq_value.specs.declared.value.Value.TheVariants.{Null, Int, Text, Time, Truth}
 use Rattle.ssq_value.specs.Kind.{IfTime}
 use Rattle.ssq_shape.specs.declared.bound.Bound.{Bound}
 use Rattle.ssq_shape.specs.declared.bound.Shape.{Shape}
 use Rattle.ssq_shape.specs.declared.bound.Shape.TheVariants.{Plain, Group, Dedup, Join}
 use Rattle.ssq_meaning.specs.FedRows.{FedRow}
 use Rattle.ssq_meaning.specs.Epochs.{timely}
-use Rattle.ssq_meaning.specs.Fit.{IsFit, IsFitRow}
+use Rattle.ssq_meaning.specs.Fit.{IsFitRow}
 use Rattle.ssq_meaning.specs.Meaning.{Values}
 use Rattle.ssq_meaning.specs.Operator.{Operator, operator_for, operator_of, plain}
+use Rattle.ssq_step.proofs.Printing.{fit_times}
 use Rattle.ssq_task.specs.declared.partition.Held.{Held}
 use Rattle.ssq_task.specs.declared.partition.State.{State}
 use Rattle.ssq_task.specs.declared.partition.ReduceTask.{ReduceTask}
@@ -43,17 +42,10 @@ plain_of : (S : Type 0) (query : Bound) (partition : ℕ) (old new : List FedRow
 unfolding operator_of
 plain_of S query partition old new before now given = plain_by S query.shape query partition old new before now given
 
--- a value that can be kept can be printed
-fit_time : (value : Value) → IsFit value → IfTime IsStampTime value
-fit_time Null fit = tt
-fit_time (Int number) fit = tt
-fit_time (Text text) fit = tt
-fit_time (Time time) fit = fit
-fit_time (Truth truth) fit = tt
-
+-- rows that can be kept can be printed
 printable_of : (rows : List FedRow) → All IsFitRow rows → All (All (IfTime IsStampTime)) (values_of rows)
 printable_of rows fit = All-map (All (IfTime IsStampTime)) (λ (row : FedRow). row.values) rows
-    (All-weaker IsFitRow (λ (row : FedRow). All (IfTime IsStampTime) row.values) (λ row is. All-weaker IsFit (IfTime IsStampTime) fit_time row.values is.values) rows fit)
+    (All-weaker IsFitRow (λ (row : FedRow). All (IfTime IsStampTime) row.values) (λ row is. fit_times row.values is.values) rows fit)
 
 module _ {S F : Type 0} (tells : Type 0) (written : S → List ℕ) (sealed : F → List ℕ) (faults : S → ℕ) (query : Bound) (epoch partition : ℕ) (now : Option ℤ) (rows : List FedRow) where
   all_shown : (brought : ReducedRows F) → brought.rows.items ≡ values_of rows → brought.delta ≡ None → (old : List FedRow) (before : Option ℤ)
